@@ -1,0 +1,25 @@
+//! The types that everything else of `np` stands on: texts and lists that contracts see by their contents,
+//! points that are numbers in a range, and the laws of sets of spots.
+#![tactic(auto)]
+
+mod beside;
+mod cells;
+mod ip_numbers;
+mod no_memory;
+mod point;
+mod port_num;
+mod range;
+mod seq;
+mod text;
+mod try_copy;
+
+pub use beside::{Beside, Which};
+pub use cells::Cells;
+pub use ip_numbers::{V4, V6};
+pub use no_memory::NoMemory;
+pub use point::Point;
+pub use port_num::PortNum;
+pub use range::Range;
+pub use seq::Seq;
+pub use text::Text;
+pub use try_copy::TryCopy;
