@@ -46,6 +46,11 @@ impl<T> Seq<T> {
         items
     }
 
+    /// The allocator that the list was made with, for copies in the same memory.
+    pub fn allocator(&self) -> Global {
+        *self.items.allocator()
+    }
+
     /// Puts a value last. On `NoMemory` the list is as before, and the value is dropped.
     pub fn push(&mut self, value: T) -> Result<(), NoMemory>
     where

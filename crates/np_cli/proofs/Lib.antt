@@ -1,0 +1,9 @@
+pub mod MembersLemmas
+pub mod ListsLemmas
+pub mod ValuesLemmas
+pub mod SourcesLemmas
+pub mod WrittenLemmas
+pub mod RowsLemmas
+pub mod WorkloadsLemmas
+pub mod RunsLemmas
+pub mod PromisesLemmas

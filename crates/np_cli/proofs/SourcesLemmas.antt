@@ -1,0 +1,103 @@
+-- Reading the inputs of a job one after another.
+use Rattle.std.proofs.Common.{◌≡◌, ℕ, zero, suc, ◌+◌, ◌^◌, ◌<◌, ◌≤◌, List, [], ◌∷◌, ◌++◌, length, take, get_or, map, Option, Some, None, is_some, IsSome, true, refl, sym, ap, ◌∙◌, subst, inl, inr, arith, Vec}
+use Rattle.std.specs.Prelude.{◌⊎◌, Contains}
+use Rattle.std.specs.declared.alloc.Global.{Global}
+use Rattle.std.proofs.lemmas.Bool.{lt-ltb, cases_lt, true≢false}
+use Rattle.std.proofs.lemmas.List.{take_more, map-append, get_or_read}
+use Rattle.std.proofs.lemmas.List.Elements.{Contains-get_or}
+use Rattle.std.proofs.lemmas.List.Sums.{sum_by-append, sum_by_more_le}
+use Rattle.np_io.specs.Counts.{Rose, RosePast, handed_after}
+use Rattle.np_io.specs.Source.{IsTold}
+use Rattle.np_cli.specs.Sources.{AreTold, Sourced, Unread, NextUnread, size_limit, total_size, is_too_large}
+use Rattle.np_cli.specs.declared.sources.SourceFault.{SourceFault}
+use Rattle.np_cli.specs.declared.sources.SourceFault.TheVariants.{CannotRead, TooLarge, NoMemory}
+
+-- the bytes of texts, as contracts see them
+abbrev pub bytes_of : List (Vec ℕ Global) → List (List ℕ)
+bytes_of texts = map (λ text. text.items) texts
+
+-- the count rose by so many, or stands at its end
+abbrev pub RoseBy : ℕ → ℕ → ℕ → Type 0
+RoseBy n old new = (old + n ≤ new) ⊎ (2 ^ 64 ≤ new + 1)
+
+-- as many names as texts are told
+pub AreTold-length : (holds : List ℕ → Option (List ℕ)) (left : Option (List ℕ)) (names texts : List (List ℕ)) → AreTold holds left names texts → length texts ≡ length names
+AreTold-length holds left [] [] told = refl
+AreTold-length holds left [] (text ∷ texts) told = absurd told
+AreTold-length holds left (name ∷ names) [] told = absurd told
+AreTold-length holds left (name ∷ names) (text ∷ texts) told = ap (λ (n : ℕ). suc n) (AreTold-length holds left names texts told.1)
+
+-- what is told for the name at a place
+pub AreTold-at : (holds : List ℕ → Option (List ℕ)) (left : Option (List ℕ)) (names texts : List (List ℕ)) (i : ℕ) → AreTold holds left names texts → i < length names → IsTold holds left (get_or names i []) (get_or texts i [])
+AreTold-at holds left [] [] i told below = absurd (omega arith)
+AreTold-at holds left [] (text ∷ texts) i told below = absurd told
+AreTold-at holds left (name ∷ names) [] i told below = absurd told
+AreTold-at holds left (name ∷ names) (text ∷ texts) zero told below = told.0
+AreTold-at holds left (name ∷ names) (text ∷ texts) (suc i) told below = AreTold-at holds left names texts i told.1 (omega arith)
+
+-- the bytes so far, and those of the next input
+pub bytes_of-more : (texts : List (List ℕ)) (made : List (Vec ℕ Global)) (next : Vec ℕ Global) (i : ℕ) → i < length texts → bytes_of made ≡ take i texts → next.items ≡ get_or texts i [] → bytes_of (made ++ next ∷ []) ≡ take (i + 1) texts
+bytes_of-more texts made next i below so_far is =
+    map-append (λ (text : Vec ℕ Global). text.items) made (next ∷ [])
+    ∙ ap (λ (front : List (List ℕ)). front ++ next.items ∷ []) so_far
+    ∙ ap (λ (bytes : List ℕ). take i texts ++ bytes ∷ []) is
+    ∙ sym (take_more texts i [] below)
+
+pub total_size-more : (made : List (Vec ℕ Global)) (next : Vec ℕ Global) → total_size (bytes_of (made ++ next ∷ [])) ≡ total_size (bytes_of made) + length next.items
+total_size-more made next =
+    ap total_size (map-append (λ (text : Vec ℕ Global). text.items) made (next ∷ []))
+    ∙ sum_by-append length (bytes_of made) (next.items ∷ [])
+    ∙ omega arith
+
+pub RoseBy-more : (n m old new : ℕ) → RoseBy n old new → RoseBy (n + m) old (handed_after new m)
+RoseBy-more n m old new rose = elim rose [
+  | inl by ↦ elim (cases_lt (new + m) (2 ^ 64)) [ inl below ↦ inl (omega arith) | inr above ↦ inr (omega arith) ]
+  | inr end ↦ inr (omega arith)
+]
+
+-- past the room that is left is past the limit
+pub RosePast-joined : (n room limit old mid new : ℕ) → room + n ≡ limit → RoseBy n old mid → RosePast room mid new → RosePast limit old new
+RosePast-joined n room limit old mid new whole rose past = elim past [
+  | inl by ↦ elim rose [ inl far ↦ inl (omega arith) | inr end ↦ inr (omega arith) ]
+  | inr end ↦ inr end
+]
+
+-- the inputs so far leave room for fewer bytes than the next one has
+pub is_too_large-told : (texts : List (List ℕ)) (made : List (Vec ℕ Global)) (i room : ℕ) → i < length texts → bytes_of made ≡ take i texts → room + total_size (bytes_of made) ≡ size_limit → room < length (get_or texts i []) → is_too_large texts ≡ true
+is_too_large-told texts made i room below so_far counted past =
+    let sizes : total_size (bytes_of made) ≡ total_size (take i texts) = ap total_size so_far in
+    let more = sum_by_more_le length texts i [] below in
+    lt-ltb size_limit (total_size texts) (omega arith)
+
+still_some : {X : Type 0} (old new : Option X) → is_some new ≡ is_some old → IsSome old → IsSome new
+still_some None None same is = is
+still_some None (Some y) same is = refl
+still_some (Some x) None same is = absurd (true≢false (sym same))
+still_some (Some x) (Some y) same is = refl
+
+-- what the source told of the next name at first, it tells still
+pub told-next : (holds holds_now : List ℕ → Option (List ℕ)) (left left_now : Option (List ℕ)) (names texts : List (List ℕ)) (i : ℕ) (name : List ℕ) → holds_now ≡ holds → is_some left_now ≡ is_some left → i < length names → name ≡ get_or names i name → AreTold holds left names texts → IsTold holds_now left_now name (get_or texts i [])
+told-next holds holds_now left left_now names texts i name same_holds same_left below is told =
+    let at_first = AreTold-at holds left names texts i told below in
+    let here : name ≡ get_or names i [] = get_or_read names i name below is [] in
+    record {
+      holding = ap (λ (h : List ℕ → Option (List ℕ)). h name) same_holds ∙ ap holds here ∙ at_first.holding;
+      what_is_left = still_some left left_now same_left at_first.what_is_left;
+    }
+
+-- why the next input was not read is why all were not
+pub Unread-next : (source : Sourced) (holds_now : List ℕ → Option (List ℕ)) (left_now : Option (List ℕ)) (faults_now : List ℕ → ℕ) (handed_now : ℕ) (names : List (List ℕ)) (made : List (Vec ℕ Global)) (i room : ℕ) (name : List ℕ) (fault : SourceFault) → holds_now ≡ source.holds → is_some left_now ≡ is_some source.left → faults_now ≡ source.faults_before → i < length names → name ≡ get_or names i name → ((texts : List (List ℕ)) → AreTold source.holds source.left names texts → bytes_of made ≡ take i texts) → room + total_size (bytes_of made) ≡ size_limit → RoseBy (total_size (bytes_of made)) source.handed_before handed_now → NextUnread (record { holds = holds_now; left = left_now; faults_before = faults_now; faults_after = source.faults_after; handed_before = handed_now; handed_after = source.handed_after }) name room fault → Unread source names fault
+Unread-next source holds_now left_now faults_now handed_now names made i room name (CannotRead named) same_holds same_left same_faults below is so_far counted rose why =
+    let at_name : (n : ℕ) → Rose n (source.faults_after name) → (source.faults_before name ≡ n) → Rose (source.faults_before name) (source.faults_after name) = λ n r e. subst (λ (m : ℕ). Rose m (source.faults_after name)) (sym e) r in
+    let here : Contains names name = subst (Contains names) (sym is) (Contains-get_or names i name below) in
+    let rose_here = at_name (faults_now name) why.1 (ap (λ (f : List ℕ → ℕ). f name) (sym same_faults)) in
+    subst (λ (n : List ℕ). Contains names n × Rose (source.faults_before n) (source.faults_after n)) (sym why.0) (here, rose_here)
+Unread-next source holds_now left_now faults_now handed_now names made i room name TooLarge same_holds same_left same_faults below is so_far counted rose why = (
+  RosePast-joined (total_size (bytes_of made)) room size_limit source.handed_before handed_now source.handed_after counted rose why.0,
+  why.1 ∙ same_faults,
+  λ texts told.
+      let fewer = AreTold-length source.holds source.left names texts told in
+      is_too_large-told texts made i room (omega arith) (so_far texts told) counted
+      (why.2 (get_or texts i []) (told-next source.holds holds_now source.left left_now names texts i name same_holds same_left below is told)),
+)
+Unread-next source holds_now left_now faults_now handed_now names made i room name NoMemory same_holds same_left same_faults below is so_far counted rose why = tt

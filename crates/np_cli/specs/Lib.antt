@@ -1,0 +1,15 @@
+pub mod Objects
+pub mod Gives
+pub mod Words
+pub mod Messages
+pub mod Statuses
+pub mod Narrow
+pub mod Inputs
+pub mod Sources
+pub mod Workloads
+pub mod Rows
+pub mod Answers
+pub mod Written
+pub mod Runs
+pub mod Prints
+pub mod Promises

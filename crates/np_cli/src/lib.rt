@@ -1,0 +1,20 @@
+//! The program without its outside.
+#![tactic(auto)]
+
+mod estate;
+mod fault;
+mod job;
+mod narrow;
+mod outcome;
+mod rows;
+mod run;
+mod sources;
+mod status;
+mod workloads;
+mod write_fault;
+
+pub use fault::Fault;
+pub use job::{Job, WordsFault, read_words};
+pub use outcome::Outcome;
+pub use run::np_main;
+pub use status::Status;

@@ -1,0 +1,155 @@
+//! The top call: from the words of a command line and the bytes of its inputs to a report and a status.
+ghost use Rattle.std.specs.Prelude.{◌≡◌, ◌≢◌, ◌⊎◌, Some, map};
+ghost use Rattle.np_cli.specs.Inputs.{lists_of};
+ghost use Rattle.np_cli.specs.Messages.{message};
+ghost use Rattle.np_cli.specs.Prints.{Answers, Prints};
+ghost use Rattle.np_cli.specs.Promises.{BlamesDevice, BlamesWords, Completes, RefusesFaults, RefusesTooLarge};
+ghost use Rattle.np_cli.specs.Runs.{Cause, Ends, Said, sunk};
+ghost use Rattle.np_cli.specs.Sources.{sourced};
+ghost use Rattle.np_cli.specs.Words as spec;
+ghost use Rattle.np_cli.specs.Words.{asked_by};
+
+use crate::estate::read_estate;
+use crate::fault::InputsFault;
+use crate::job::{Job, WordsFault, read_words};
+use crate::outcome::Outcome;
+use crate::rows::write_table;
+use crate::sources::{SourceFault, read_all};
+use crate::status::Status;
+use crate::write_fault::WriteFault;
+use np_base::{NoMemory, Text};
+use np_io::{Inputs, Sink, write_whole};
+use std::alloc::Global;
+
+/// Runs the program on the words after its name: reads the inputs that they ask for, writes the report to `out`
+/// and what is to be said of the run to `err`, and answers the status that the program ends with.
+///
+/// Nothing goes to `out` before all inputs are read and accepted. Where the inputs or `out` fail, the bytes that
+/// `out` took are a front of the report. A failure of `err` changes nothing else.
+pub fn np_main<I: Inputs, O: Sink, E: Sink>(
+    alloc: Global,
+    words: &[String],
+    inputs: &mut I,
+    out: &mut O,
+    err: &mut E,
+) -> Status
+    ensures ends { Ends (asked_by words.now)
+        (sourced I.holds I.left I.faults I.handed inputs.old inputs.new)
+        (sunk O.taken O.faults out.old out.new)
+        (sunk E.taken E.faults err.old err.new)
+        result }
+
+    // Where the source tells its bytes and no call failed, the answer is determined, but for want of memory.
+    ensures completes { Completes (asked_by words.now)
+        (sourced I.holds I.left I.faults I.handed inputs.old inputs.new)
+        (sunk O.taken O.faults out.old out.new)
+        result }
+    ensures refuses_too_large { RefusesTooLarge (asked_by words.now)
+        (sourced I.holds I.left I.faults I.handed inputs.old inputs.new)
+        (sunk O.taken O.faults out.old out.new)
+        (sunk E.taken E.faults err.old err.new)
+        result }
+    ensures refuses_faults { RefusesFaults (asked_by words.now)
+        (sourced I.holds I.left I.faults I.handed inputs.old inputs.new)
+        (sunk O.taken O.faults out.old out.new)
+        (sunk E.taken E.faults err.old err.new)
+        result }
+
+    // Who is at fault.
+    ensures words { BlamesWords (asked_by words.now) result }
+    ensures device { BlamesDevice (asked_by words.now)
+        (sourced I.holds I.left I.faults I.handed inputs.old inputs.new)
+        (sunk O.taken O.faults out.old out.new)
+        result }
+    ensures usage { result ≡ Status.Usage → (inputs.new ≡ inputs.old) × (out.new ≡ out.old) }
+{
+    let outcome = run(alloc, words, inputs, out);
+    say(alloc, err, outcome).status()
+}
+
+// Reads, and writes the report.
+fn run<I: Inputs, O: Sink>(alloc: Global, words: &[String], inputs: &mut I, out: &mut O) -> Outcome
+    ensures cause { Cause (asked_by words.now)
+        (sourced I.holds I.left I.faults I.handed inputs.old inputs.new)
+        (sunk O.taken O.faults out.old out.new)
+        result }
+    ensures usage { result ≡ Outcome.Usage → (inputs.new ≡ inputs.old) × (out.new ≡ out.old) }
+{
+    match read_words(alloc, words) {
+        Ok(job) => run_job(alloc, &job, inputs, out),
+        Err(WordsFault::Usage) => Outcome::Usage,
+        Err(WordsFault::NoMemory) => Outcome::NoMemory,
+    }
+}
+
+// Does what the words ask for.
+fn run_job<I: Inputs, O: Sink>(alloc: Global, job: &Job, inputs: &mut I, out: &mut O) -> Outcome
+    ensures cause { Cause (Some job.now)
+        (sourced I.holds I.left I.faults I.handed inputs.old inputs.new)
+        (sunk O.taken O.faults out.old out.new)
+        result }
+    ensures asked { result ≢ Outcome.Usage }
+{
+    match read_all(alloc, inputs, names_of(job)) {
+        Ok(texts) => answer(alloc, job, &texts, out),
+        Err(SourceFault::CannotRead(name)) => Outcome::CannotRead(name),
+        Err(SourceFault::TooLarge) => Outcome::TooLarge,
+        Err(SourceFault::NoMemory) => Outcome::NoMemory,
+    }
+}
+
+// The names of the inputs that a job reads, in order.
+fn names_of(job: &Job) -> &[Text]
+    ensures { result.now ≡ spec.names_of job.now }
+{
+    match job {
+        Job::List { files } => files.items(),
+    }
+}
+
+// Writes the report of a job on these inputs.
+#[tactic(auto, unfolding(crate::specs::Answers::refusal, crate::specs::Answers::text_of))]
+fn answer<O: Sink>(alloc: Global, job: &Job, texts: &[Vec<u8>], out: &mut O) -> Outcome
+    ensures { Answers job.now (map (λ text. text.items) texts.now)
+        (sunk O.taken O.faults out.old out.new)
+        result }
+{
+    match job {
+        Job::List { .. } => list(alloc, texts, out),
+    }
+}
+
+// Writes the table of what the inputs say.
+fn list<O: Sink>(alloc: Global, texts: &[Vec<u8>], out: &mut O) -> Outcome
+    ensures { Prints (lists_of (map (λ text. text.items) texts.now))
+        (sunk O.taken O.faults out.old out.new)
+        result }
+{
+    let estate = match read_estate(alloc, texts) {
+        Ok(estate) => estate,
+        Err(InputsFault::Refused(fault)) => return Outcome::Refused(fault),
+        Err(InputsFault::NoMemory) => return Outcome::NoMemory,
+    };
+    match write_table(alloc, out, &estate) {
+        Ok(()) => Outcome::Done,
+        Err(WriteFault::SinkFailed) => Outcome::CannotWrite,
+        Err(WriteFault::NoMemory) => Outcome::NoMemory,
+    }
+}
+
+// Says on the error sink how the run ended. Where the message wants memory that is refused, the run ended so.
+fn say<E: Sink>(alloc: Global, err: &mut E, outcome: Outcome) -> Outcome
+    ensures said { Said (sunk E.taken E.faults err.old err.new) (message result) }
+    ensures kept { (result ≡ outcome) ⊎ (result ≡ Outcome.NoMemory) }
+{
+    match outcome.message(alloc) {
+        Ok(text) => {
+            let _ = write_whole(err, text.as_bytes());
+            outcome
+        }
+        Err(NoMemory) => {
+            let _ = write_whole(err, b"error: out of memory\n");
+            Outcome::NoMemory
+        }
+    }
+}

@@ -1,0 +1,91 @@
+//! The bytes of all inputs of a job.
+ghost use Rattle.std.specs.Prelude.{◌≡◌, ◌≤◌, ◌<◌, ℕ, List, length, map, is_some, IfOk, IfErr, OnOk, IsErrOf};
+ghost use Rattle.np_io.specs.Counts.{Rose, RosePast, handed_after};
+ghost use Rattle.np_io.specs.Source.{IsTold};
+ghost use Rattle.np_cli.specs.Sources.{AreTold, Unread, NextUnread, NamesInput, size_limit, sourced, total_size};
+
+use np_base::{NoMemory, Text};
+use np_io::{Inputs, WholeFault, read_whole};
+use std::alloc::{AllocFailed, Global};
+
+/// How many bytes all inputs may have together.
+const SIZE_LIMIT: u64 = 33_554_432;
+
+/// Why inputs are not read.
+#[derive(Debug, Drop)]
+pub enum SourceFault {
+    /// A call for the input of this name failed.
+    CannotRead(Text),
+    /// They have more than 33,554,432 bytes together.
+    TooLarge,
+    /// The system refused memory.
+    NoMemory,
+}
+
+impl<T: Drop> From<AllocFailed<T>> for SourceFault {
+    ghost use Rattle.np_cli.specs.declared.sources.SourceFault.TheVariants.{NoMemory};
+
+    ghost from_gives = { λ _ fault. fault ≡ NoMemory };
+
+    fn from(_error: AllocFailed<T>) -> SourceFault {
+        SourceFault::NoMemory
+    }
+}
+
+/// The bytes of the inputs of these names, in order, of at most 33,554,432 bytes together. `CannotRead` comes only
+/// where the count of faults of its name rose, and `TooLarge` only where more bytes were handed out.
+pub fn read_all<I: Inputs>(
+    alloc: Global,
+    inputs: &mut I,
+    names: &[Text],
+) -> Result<Vec<Vec<u8>>, SourceFault>
+    ensures told { IfOk result (λ made. (texts : List (List ℕ)) →
+        AreTold (I.holds inputs.old) (I.left inputs.old) names.now texts → map (λ text. text.items) made.items ≡ texts) }
+    ensures fits { IfOk result (λ made. total_size (map (λ text. text.items) made.items) ≤ size_limit) }
+    ensures ok_faults { OnOk result (I.faults inputs.new ≡ I.faults inputs.old) }
+    ensures err { IfErr result (Unread (sourced I.holds I.left I.faults I.handed inputs.old inputs.new) names.now) }
+{
+    let mut texts = Vec::new(alloc);
+    let mut room = SIZE_LIMIT;
+    for name in names {
+        let text = read_next(alloc, inputs, name, room)?;
+        room -= text.len() as u64;
+        texts.push(text)?;
+    }
+    Ok(texts)
+}
+
+// The bytes of the input of this name, of at most `room` bytes.
+fn read_next<I: Inputs>(
+    alloc: Global,
+    inputs: &mut I,
+    name: &Text,
+    room: u64,
+) -> Result<Vec<u8>, SourceFault>
+    ensures whole { IfOk result (λ made. (bytes : List ℕ) →
+        IsTold (I.holds inputs.old) (I.left inputs.old) name.now bytes → made.items ≡ bytes) }
+    ensures fits { IfOk result (λ made. length made.items ≤ room) }
+    ensures handed { IfOk result (λ made.
+        I.handed inputs.new ≡ handed_after (I.handed inputs.old) (length made.items)) }
+    ensures ok_faults { OnOk result (I.faults inputs.new ≡ I.faults inputs.old) }
+    ensures names { I.holds inputs.new ≡ I.holds inputs.old }
+    ensures left_told { is_some (I.left inputs.new) ≡ is_some (I.left inputs.old) }
+    ensures err { IfErr result (NextUnread (sourced I.holds I.left I.faults I.handed inputs.old inputs.new) name.now room) }
+{
+    match read_whole(alloc, inputs, name.as_str(), room) {
+        Ok(text) => Ok(text),
+        Err(WholeFault::InputFailed) => Err(cannot_read(name)),
+        Err(WholeFault::TooLarge) => Err(SourceFault::TooLarge),
+        Err(WholeFault::NoMemory) => Err(SourceFault::NoMemory),
+    }
+}
+
+// The fault of an input of this name, which takes memory for the name.
+fn cannot_read(name: &Text) -> SourceFault
+    ensures { NamesInput name.now result }
+{
+    match name.copy() {
+        Ok(name) => SourceFault::CannotRead(name),
+        Err(NoMemory) => SourceFault::NoMemory,
+    }
+}

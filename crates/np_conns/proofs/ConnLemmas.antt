@@ -1,0 +1,57 @@
+-- The spans and the text of connection sets.
+use Rattle.std.proofs.Common.{◌≡◌, ℕ, List, Bool, true, false, ◌&&◌, not, MatchBool, sym, ◌∙◌, ap, subst}
+use Rattle.std.proofs.lemmas.Bool.{and_from, le-leb}
+use Rattle.np_base.specs.Ranges.{holds}
+use Rattle.np_base.specs.declared.range.Range.{Range}
+use Rattle.np_conns.specs.Conns.{Conns, ranges_of, is_spot, has_spot, AscendsInPorts, IsConns}
+use Rattle.np_conns.specs.ConnsText.{spans_of, text_of_runs, conns_text}
+use Rattle.np_conns.specs.Spots.{ranges_of-ascend, equal_by_ranges}
+use Rattle.np_conns.specs.declared.port_spot.PortSpot.{PortSpot}
+use Rattle.np_conns.specs.declared.proto.Proto.{Proto}
+use Rattle.np_conns.specs.declared.proto.Proto.TheVariants.{Tcp, Udp, Sctp}
+use Rattle.np_conns.proofs.RunLemmas.{runs-holds, runs-agree}
+
+-- sets with equal ranges of each protocol are equal, and a spot of one protocol tells two sets apart
+pub same_by_protocols : (a b : Conns) (tcp udp sctp : Bool) → MatchBool tcp (a.tcp ≡ b.tcp) ((port : ℕ) × (holds (λ p. p) a.tcp port ≡ not (holds (λ p. p) b.tcp port))) → MatchBool udp (a.udp ≡ b.udp) ((port : ℕ) × (holds (λ p. p) a.udp port ≡ not (holds (λ p. p) b.udp port))) → MatchBool sctp (a.sctp ≡ b.sctp) ((port : ℕ) × (holds (λ p. p) a.sctp port ≡ not (holds (λ p. p) b.sctp port))) → MatchBool (tcp && udp && sctp) (a ≡ b) ((spot : PortSpot) × (has_spot a spot ≡ not (has_spot b spot)))
+same_by_protocols a b true true true on_tcp on_udp on_sctp = equal_by_ranges a b (elim [ Tcp ↦ on_tcp | Udp ↦ on_udp | Sctp ↦ on_sctp ])
+same_by_protocols a b true true false on_tcp on_udp on_sctp = (record { proto = Sctp; port = on_sctp.0 }, on_sctp.1)
+same_by_protocols a b true false sctp on_tcp on_udp on_sctp = (record { proto = Udp; port = on_udp.0 }, on_udp.1)
+same_by_protocols a b false udp sctp on_tcp on_udp on_sctp = (record { proto = Tcp; port = on_tcp.0 }, on_tcp.1)
+
+-- a set without ports of any protocol has no spot
+pub empty_by_protocols : (conns : Conns) (tcp udp sctp : Bool) → MatchBool tcp ((port : ℕ) → holds (λ p. p) conns.tcp port ≡ false) ((port : ℕ) × (holds (λ p. p) conns.tcp port ≡ true)) → MatchBool udp ((port : ℕ) → holds (λ p. p) conns.udp port ≡ false) ((port : ℕ) × (holds (λ p. p) conns.udp port ≡ true)) → MatchBool sctp ((port : ℕ) → holds (λ p. p) conns.sctp port ≡ false) ((port : ℕ) × (holds (λ p. p) conns.sctp port ≡ true)) → MatchBool (tcp && udp && sctp) ((spot : PortSpot) → has_spot conns spot ≡ false) ((spot : PortSpot) × (has_spot conns spot ≡ true))
+empty_by_protocols conns true true true on_tcp on_udp on_sctp =
+    λ spot. elim spot.proto as (λ proto. holds (λ p. p) (ranges_of conns proto) spot.port ≡ false) [ Tcp ↦ on_tcp spot.port | Udp ↦ on_udp spot.port | Sctp ↦ on_sctp spot.port ]
+empty_by_protocols conns true true false on_tcp on_udp on_sctp = (record { proto = Sctp; port = on_sctp.0 }, on_sctp.1)
+empty_by_protocols conns true false sctp on_tcp on_udp on_sctp = (record { proto = Udp; port = on_udp.0 }, on_udp.1)
+empty_by_protocols conns false udp sctp on_tcp on_udp on_sctp = (record { proto = Tcp; port = on_tcp.0 }, on_tcp.1)
+
+-- the ranges of a protocol are the runs of its ports
+pub spans_of-by_ranges : (conns : Conns) (proto : Proto) (ranges : List (Range ℕ)) → ranges ≡ ranges_of conns proto → AscendsInPorts ranges → ranges ≡ spans_of (has_spot conns) proto
+spans_of-by_ranges conns proto ranges same ascends = same ∙ sym (runs-holds (ranges_of conns proto) (subst AscendsInPorts same ascends))
+
+-- the runs of a set's ports are its ranges
+pub spans_of-has_spot : (conns : Conns) → IsConns conns → (proto : Proto) → spans_of (has_spot conns) proto ≡ ranges_of conns proto
+spans_of-has_spot conns well proto = runs-holds (ranges_of conns proto) (ranges_of-ascend conns well proto)
+
+-- so its text is that of its ranges
+pub conns_text-has_spot : (conns : Conns) → IsConns conns → conns_text (has_spot conns) ≡ text_of_runs conns.tcp conns.udp conns.sctp
+unfolding conns_text
+conns_text-has_spot conns well =
+    ap (λ t. text_of_runs t (spans_of (has_spot conns) Udp) (spans_of (has_spot conns) Sctp)) (spans_of-has_spot conns well Tcp)
+    ∙ ap (λ u. text_of_runs conns.tcp u (spans_of (has_spot conns) Sctp)) (spans_of-has_spot conns well Udp)
+    ∙ ap (λ s. text_of_runs conns.tcp conns.udp s) (spans_of-has_spot conns well Sctp)
+
+-- tests that agree on all spots have equal runs
+pub spans_of-agrees : (f g : PortSpot → Bool) (proto : Proto) → ((spot : PortSpot) → is_spot spot ≡ true → f spot ≡ g spot) → spans_of f proto ≡ spans_of g proto
+spans_of-agrees f g proto alike =
+    runs-agree (λ port. f (record { proto = proto; port = port })) (λ port. g (record { proto = proto; port = port }))
+    (λ port low high. alike (record { proto = proto; port = port }) (and_from _ _ (le-leb 1 port low) (le-leb port 65535 high)))
+
+-- and equal texts
+pub conns_text-agrees : (f g : PortSpot → Bool) → ((spot : PortSpot) → is_spot spot ≡ true → f spot ≡ g spot) → conns_text f ≡ conns_text g
+unfolding conns_text
+conns_text-agrees f g alike =
+    ap (λ t. text_of_runs t (spans_of f Udp) (spans_of f Sctp)) (spans_of-agrees f g Tcp alike)
+    ∙ ap (λ u. text_of_runs (spans_of g Tcp) u (spans_of f Sctp)) (spans_of-agrees f g Udp alike)
+    ∙ ap (λ s. text_of_runs (spans_of g Tcp) (spans_of g Udp) s) (spans_of-agrees f g Sctp alike)

@@ -1,0 +1,172 @@
+//! Sets of connections.
+ghost use Rattle.std.specs.Prelude.{◌≡◌, ◌≤◌, ◌&&◌, nat_le, IfOk};
+ghost use Rattle.np_base.specs.Ranges.{holds};
+ghost use Rattle.np_conns.specs.Conns.{ranges_of, has_spot, same_proto, AscendsInPorts, IsConns};
+ghost use Rattle.np_conns.specs.ConnsText.{spans_of};
+ghost use Rattle.np_conns.specs.declared.port_spot.PortSpot.{PortSpot};
+
+use crate::port_spot::PortSpot;
+use crate::proto::Proto;
+use np_base::{Cells, NoMemory, PortNum, Range};
+use np_sets::IntervalSet;
+use std::alloc::Global;
+use std::marker::Model;
+
+/// A set of spots: for each protocol a set of ports. Contracts see it as the ascending ranges of each protocol's
+/// ports, between which at least one port is missing, so sets of the same spots are equal values.
+#[derive(Debug, Drop)]
+pub struct ConnSet {
+    tcp: IntervalSet<PortNum>,
+    udp: IntervalSet<PortNum>,
+    sctp: IntervalSet<PortNum>,
+}
+
+impl Model for ConnSet {
+    ghost use Rattle.np_conns.specs.Conns.{Conns};
+
+    ghost Value = { Conns };
+
+    ghost view = { λ set. record { tcp = set.tcp; udp = set.udp; sctp = set.sctp } };
+}
+
+impl ConnSet {
+    /// The set of the ports from `lo` to `hi`, both included, of one protocol.
+    pub fn of(alloc: Global, proto: Proto, lo: PortNum, hi: PortNum) -> Result<ConnSet, NoMemory>
+        requires { lo ≤ hi }
+        ensures members { IfOk result (λ made. (spot : PortSpot) →
+            has_spot made spot
+            ≡ (same_proto spot.proto proto && (nat_le lo spot.port && nat_le spot.port hi))) }
+        ensures well { IfOk result IsConns }
+    {
+        ConnSet::of_ports(alloc, proto, IntervalSet::of_range(alloc, lo, hi)?)
+    }
+
+    // The set of some ports of one protocol.
+    pub(crate) fn of_ports(
+        alloc: Global,
+        proto: Proto,
+        ports: IntervalSet<PortNum>,
+    ) -> Result<ConnSet, NoMemory>
+        requires { AscendsInPorts ports }
+        ensures members { IfOk result (λ made. (spot : PortSpot) →
+            has_spot made spot
+            ≡ (same_proto spot.proto proto && holds (λ port. port) ports spot.port)) }
+        ensures well { IfOk result IsConns }
+    {
+        let mut set = ConnSet::nothing(alloc)?;
+        match proto {
+            Proto::Tcp => set.tcp = ports,
+            Proto::Udp => set.udp = ports,
+            Proto::Sctp => set.sctp = ports,
+        }
+        Ok(set)
+    }
+
+    /// Whether the spot is in the set.
+    pub fn has(&self, spot: PortSpot) -> bool
+        ensures { result ≡ has_spot self.now spot }
+    {
+        self.ports(spot.proto).has(spot.port)
+    }
+
+    /// The maximal runs of one protocol's ports, in ascending order.
+    pub fn spans(&self, proto: Proto) -> &[Range<PortNum>]
+        ensures kept { result.now ≡ ranges_of self.now proto }
+        ensures runs { result.now ≡ spans_of (has_spot self.now) proto }
+        ensures ascending { AscendsInPorts result.now }
+    {
+        self.ports(proto).ranges()
+    }
+
+    // The ports of one protocol.
+    fn ports(&self, proto: Proto) -> &IntervalSet<PortNum>
+        ensures { result.now ≡ ranges_of self.now proto }
+    {
+        match proto {
+            Proto::Tcp => &self.tcp,
+            Proto::Udp => &self.udp,
+            Proto::Sctp => &self.sctp,
+        }
+    }
+}
+
+impl Cells for ConnSet {
+    ghost use Rattle.np_conns.specs.Conns.{is_spot, has_spot, IsConns};
+    ghost use Rattle.np_conns.specs.Spots.{has_spot-is_spot, equal_by_spots};
+
+    type Spot = PortSpot;
+
+    ghost in_space = { is_spot };
+
+    ghost has = { has_spot };
+
+    ghost IsWell = { IsConns };
+
+    fn nothing(alloc: Global) -> Result<ConnSet, NoMemory> {
+        Ok(ConnSet {
+            tcp: IntervalSet::nothing(alloc)?,
+            udp: IntervalSet::nothing(alloc)?,
+            sctp: IntervalSet::nothing(alloc)?,
+        })
+    }
+
+    fn everything(alloc: Global) -> Result<ConnSet, NoMemory> {
+        Ok(ConnSet {
+            tcp: IntervalSet::everything(alloc)?,
+            udp: IntervalSet::everything(alloc)?,
+            sctp: IntervalSet::everything(alloc)?,
+        })
+    }
+
+    fn join(&self, other: &ConnSet) -> Result<ConnSet, NoMemory> {
+        Ok(ConnSet {
+            tcp: self.tcp.join(&other.tcp)?,
+            udp: self.udp.join(&other.udp)?,
+            sctp: self.sctp.join(&other.sctp)?,
+        })
+    }
+
+    fn meet(&self, other: &ConnSet) -> Result<ConnSet, NoMemory> {
+        Ok(ConnSet {
+            tcp: self.tcp.meet(&other.tcp)?,
+            udp: self.udp.meet(&other.udp)?,
+            sctp: self.sctp.meet(&other.sctp)?,
+        })
+    }
+
+    fn minus(&self, other: &ConnSet) -> Result<ConnSet, NoMemory> {
+        Ok(ConnSet {
+            tcp: self.tcp.minus(&other.tcp)?,
+            udp: self.udp.minus(&other.udp)?,
+            sctp: self.sctp.minus(&other.sctp)?,
+        })
+    }
+
+    fn copy(&self) -> Result<ConnSet, NoMemory> {
+        Ok(ConnSet {
+            tcp: self.tcp.copy()?,
+            udp: self.udp.copy()?,
+            sctp: self.sctp.copy()?,
+        })
+    }
+
+    // Each protocol is asked, also where the answer is known: each call tells that its ports are
+    // well formed.
+    fn same(&self, other: &ConnSet) -> bool {
+        let tcp = self.tcp.same(&other.tcp);
+        let udp = self.udp.same(&other.udp);
+        let sctp = self.sctp.same(&other.sctp);
+        tcp & udp & sctp
+    }
+
+    fn is_empty(&self) -> bool {
+        let tcp = self.tcp.is_empty();
+        let udp = self.udp.is_empty();
+        let sctp = self.sctp.is_empty();
+        tcp & udp & sctp
+    }
+
+    ghost members_in_space = { has_spot-is_spot };
+
+    ghost equal_by_members = { equal_by_spots };
+}

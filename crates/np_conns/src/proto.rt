@@ -1,0 +1,26 @@
+//! Transport protocols.
+
+use std::fmt;
+
+/// A transport protocol of a port: `protocol` of the Kubernetes API. It prints as `TCP`, `UDP` or `SCTP`.
+#[derive(Clone, Copy, Debug, PartialEq, Eq, PartialOrd, Ord)]
+pub enum Proto {
+    Tcp,
+    Udp,
+    Sctp,
+}
+
+impl fmt::Display for Proto {
+    ghost use Rattle.std.specs.Prelude.{Some};
+    ghost use Rattle.np_conns.specs.ConnsText.{proto_name};
+
+    ghost output = { λ proto. Some (proto_name proto) };
+
+    fn fmt<W: fmt::Write>(&self, f: &mut fmt::Formatter<W>) -> fmt::Result {
+        f.write_str(match self {
+            Proto::Tcp => "TCP",
+            Proto::Udp => "UDP",
+            Proto::Sctp => "SCTP",
+        })
+    }
+}

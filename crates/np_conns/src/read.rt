@@ -1,0 +1,150 @@
+//! Reading the text of connections.
+//!
+//! The readers of the parts take what is printed, and some other texts. `read_conns` prints what they made, and takes
+//! it only where that gives the text again.
+ghost use Rattle.std.specs.Prelude.{◌≡◌, ◌≢◌, ℕ, ◌≤◌, ◌||◌, ◌∷◌, List, Some, codes, decimal, IfOk, IfSome, IsErrOf};
+ghost use Rattle.std.specs.List.{join_by, AllByRecursion};
+ghost use Rattle.np_base.specs.Ranges.{is_within, holds};
+ghost use Rattle.np_base.specs.declared.range.Range.{Range};
+ghost use Rattle.np_conns.specs.Conns.{Conns, has_spot, AscendsInPorts, IsConns, IsRun};
+ghost use Rattle.np_conns.specs.ConnsText.{proto_name, run_text, conns_text};
+ghost use Rattle.np_conns.specs.Reading.{GivesPorts, GivesSpots, in_runs, Part, IsPart, text_of_part, IsTextOfPart, in_part, in_parts};
+ghost use Rattle.np_conns.specs.declared.proto.Proto.{Proto};
+
+use crate::conn_set::ConnSet;
+use crate::conns_fault::ConnsFault;
+use crate::print::print_conns;
+use crate::proto::Proto;
+use np_base::{Cells, Point, PortNum, Range};
+use np_sets::IntervalSet;
+use std::alloc::Global;
+
+/// Reads the text of a set, as `print_conns` gives it. `BadConns` exactly where no set has this text: other orders,
+/// spaces, leading zeros, runs that touch, and an empty text are refused.
+pub fn read_conns(alloc: Global, text: &str) -> Result<ConnSet, ConnsFault>
+    ensures well { IfOk result IsConns }
+    ensures read { IfOk result (λ made. text.now ≡ conns_text (has_spot made)) }
+    ensures bad { IsErrOf result ConnsFault.BadConns →
+        (conns : Conns) → IsConns conns → text.now ≢ conns_text (has_spot conns) }
+    ensures again { (conns : Conns) → IsConns conns → text.now ≡ conns_text (has_spot conns) →
+        IfOk result (λ made. made ≡ conns) }
+{
+    let set = read_leniently(alloc, text)?;
+    let printed = print_conns(alloc, &set)?;
+    if printed.as_str() == text {
+        Ok(set)
+    } else {
+        Err(ConnsFault::BadConns)
+    }
+}
+
+// The set of a text that is printed. Some other texts give a set too.
+fn read_leniently(alloc: Global, text: &str) -> Result<ConnSet, ConnsFault>
+    ensures well { IfOk result IsConns }
+    ensures printed { (conns : Conns) → IsConns conns → text.now ≡ conns_text (has_spot conns) →
+        GivesSpots (has_spot conns) result }
+{
+    match text {
+        "All Connections" => Ok(ConnSet::everything(alloc)?),
+        "No Connections" => Ok(ConnSet::nothing(alloc)?),
+        _ => read_parts(alloc, text),
+    }
+}
+
+// Parts that are joined by `; `.
+fn read_parts(alloc: Global, text: &str) -> Result<ConnSet, ConnsFault>
+    ensures well { IfOk result IsConns }
+    ensures printed { (part : Part) (others : List Part) → AllByRecursion IsPart (part ∷ others) →
+        text.now ≡ join_by text_of_part (codes "; ") (part ∷ others) →
+        GivesSpots (in_parts (part ∷ others)) result }
+{
+    let mut set = ConnSet::nothing(alloc)?;
+    for piece in text.split(';') {
+        set = add_part(alloc, &set, piece)?;
+    }
+    Ok(set)
+}
+
+// The set joined with a part, which may have a space before it.
+fn add_part(alloc: Global, set: &ConnSet, text: &str) -> Result<ConnSet, ConnsFault>
+    ensures well { IfOk result IsConns }
+    ensures printed { (part : Part) → IsPart part →
+        IsTextOfPart text.now part →
+        GivesSpots (λ spot. has_spot set.now spot || in_part spot part) result }
+{
+    let part = read_part(alloc, text.strip_prefix(' ').unwrap_or(text))?;
+    Ok(set.join(&part)?)
+}
+
+// A protocol's name, a space, and its runs.
+fn read_part(alloc: Global, text: &str) -> Result<ConnSet, ConnsFault>
+    ensures well { IfOk result IsConns }
+    ensures printed { (part : Part) → IsPart part → text.now ≡ text_of_part part →
+        GivesSpots (λ spot. in_part spot part) result }
+{
+    let (name, runs) = text.split_once(' ').ok_or(ConnsFault::BadConns)?;
+    let proto = read_proto(name).ok_or(ConnsFault::BadConns)?;
+    let ports = read_runs(alloc, runs)?;
+    Ok(ConnSet::of_ports(alloc, proto, ports)?)
+}
+
+// A protocol's name.
+fn read_proto(text: &str) -> Option<Proto>
+    ensures { (proto : Proto) → text.now ≡ proto_name proto → result ≡ Some proto }
+{
+    match text {
+        "TCP" => Some(Proto::Tcp),
+        "UDP" => Some(Proto::Udp),
+        "SCTP" => Some(Proto::Sctp),
+        _ => None,
+    }
+}
+
+// Runs that are joined by commas.
+fn read_runs(alloc: Global, text: &str) -> Result<IntervalSet<PortNum>, ConnsFault>
+    ensures well { IfOk result AscendsInPorts }
+    ensures printed { (run : Range ℕ) (others : List (Range ℕ)) →
+        AllByRecursion IsRun (run ∷ others) →
+        text.now ≡ join_by run_text (codes ",") (run ∷ others) →
+        GivesPorts (in_runs (run ∷ others)) result }
+{
+    let mut ports: IntervalSet<PortNum> = IntervalSet::nothing(alloc)?;
+    for piece in text.split(',') {
+        ports = add_run(alloc, &ports, piece)?;
+    }
+    Ok(ports)
+}
+
+// The ports joined with those of a run.
+fn add_run(
+    alloc: Global,
+    ports: &IntervalSet<PortNum>,
+    text: &str,
+) -> Result<IntervalSet<PortNum>, ConnsFault>
+    ensures well { IfOk result AscendsInPorts }
+    ensures printed { (run : Range ℕ) → IsRun run → text.now ≡ run_text run →
+        GivesPorts (λ port. holds (λ p. p) ports.now port || is_within (λ p. p) run port) result }
+{
+    let run = read_run(text).ok_or(ConnsFault::BadConns)?;
+    let more = IntervalSet::of_range(alloc, run.lo, run.hi)?;
+    Ok(ports.join(&more)?)
+}
+
+// A run as it is printed, among other forms: a port, or `lo-hi`.
+fn read_run(text: &str) -> Option<Range<PortNum>>
+    ensures ordered { IfSome result (λ run. run.lo ≤ run.hi) }
+    ensures printed { (run : Range ℕ) → IsRun run → text.now ≡ run_text run → result ≡ Some run }
+{
+    let (lo, hi) = text.split_once('-').unwrap_or((text, text));
+    let lo = read_port(lo)?;
+    let hi = read_port(hi)?;
+    (lo <= hi).then_some(Range { lo, hi })
+}
+
+// A port as it is printed, among other forms.
+fn read_port(text: &str) -> Option<PortNum>
+    ensures { (port : ℕ) → 1 ≤ port → port ≤ 65535 → text.now ≡ decimal port → result ≡ Some port }
+{
+    let number = text.parse::<u16>().ok()?;
+    PortNum::at(u128::from(number))
+}

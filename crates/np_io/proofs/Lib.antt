@@ -1,0 +1,5 @@
+mod Adding
+mod Counting
+mod HandingOut
+mod Places
+mod Taking

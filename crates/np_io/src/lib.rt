@@ -1,0 +1,20 @@
+//! Where bytes come from and where they go: sources of named inputs and sinks, in memory and in the system, each
+//! with counts of its failures, and the calls that read a whole input and write whole bytes.
+#![tactic(auto)]
+
+mod counts;
+mod inputs;
+mod mem_inputs;
+mod mem_sink;
+mod real_inputs;
+mod real_sink;
+mod sink;
+mod whole;
+
+pub use inputs::{InputFailed, Inputs};
+pub use mem_inputs::MemInputs;
+pub use mem_sink::MemSink;
+pub use real_inputs::RealInputs;
+pub use real_sink::RealSink;
+pub use sink::{Sink, SinkFailed};
+pub use whole::{WholeFault, read_whole, write_whole};

@@ -1,0 +1,6 @@
+pub mod Ascending
+pub mod Beyond
+pub mod Listed
+pub mod MeetsAll
+pub mod PairLists
+pub mod Settling

@@ -1,0 +1,42 @@
+-- When labels meet requirements and selectors.
+use Rattle.std.specs.Prelude.{ℕ, List, Bool, true, false, not, Option, Some, None, is_some, is_none}
+use Rattle.std.specs.List.{list_any, list_all}
+use Rattle.std.specs.Str.{bytes_eq}
+use Rattle.np_labels.specs.Labels.{value_of}
+use Rattle.np_labels.specs.declared.op.Op.{Op}
+use Rattle.np_labels.specs.declared.op.Op.TheVariants.{OneOf, NoneOf, Present, Absent}
+use Rattle.np_labels.specs.declared.pair.Pair.{Pair}
+use Rattle.np_labels.specs.declared.requirement.Requirement.{Requirement}
+use Rattle.np_labels.specs.declared.selector.Selector.{Selector}
+
+-- whether a value is one of the listed ones
+abbrev pub is_listed : List (List ℕ) → List ℕ → Bool
+is_listed values value = list_any (λ listed. bytes_eq listed value) values
+
+-- whether the value that a key has, or that it has none, is as asked
+abbrev pub allows : Op → List (List ℕ) → Option (List ℕ) → Bool
+allows OneOf values (Some value) = is_listed values value
+allows OneOf values None = false
+allows NoneOf values (Some value) = not (is_listed values value)
+allows NoneOf values None = true
+allows Present values found = is_some found
+allows Absent values found = is_none found
+
+-- whether labels meet a requirement
+abbrev pub meets_requirement : Requirement → List Pair → Bool
+meets_requirement requirement labels = allows requirement.op requirement.values (value_of labels requirement.key)
+
+-- whether labels meet all the requirements of a selector
+abbrev pub meets_selector : Selector → List Pair → Bool
+meets_selector selector labels = list_all (λ requirement. meets_requirement requirement labels) selector.requirements
+
+-- what is asked by the requirement that is met exactly where one that asks this is not
+abbrev pub opposite_of : Op → Op
+opposite_of OneOf = NoneOf
+opposite_of NoneOf = OneOf
+opposite_of Present = Absent
+opposite_of Absent = Present
+
+-- the requirement that is met exactly where this one is not
+abbrev pub negation_of : Requirement → Requirement
+negation_of requirement = record requirement { op = opposite_of requirement.op }

@@ -1,0 +1,20 @@
+//! Labels, the requirements and selectors that look at them, and whether requirements can be met together.
+#![tactic(auto)]
+
+mod choice;
+mod demand;
+mod labels;
+pub mod laws;
+mod op;
+mod pair;
+mod possibility;
+mod requirement;
+mod selector;
+mod value_set;
+
+pub use labels::Labels;
+pub use op::Op;
+pub use pair::Pair;
+pub use possibility::possible;
+pub use requirement::Requirement;
+pub use selector::Selector;

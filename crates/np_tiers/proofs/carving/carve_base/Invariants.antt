@@ -1,0 +1,9 @@
+use Rattle.std.proofs.Common.{◌≡◌}
+use Rattle.np_tiers.specs.Entries.{admin_place}
+use Rattle.np_tiers.proofs.FirstMatch.{IsCarvedUpTo}
+use Rattle.np_tiers.proofs.Tiers.{base_tier}
+use Rattle.np_tiers.proofs.carving.carve_base.Given as goal
+
+-- the parts from `place` on decide the spots that are left
+abbrev pub invariant-loop-place : goal.invariant-loop-place
+invariant-loop-place g l = IsCarvedUpTo g.S.Cells.has g.S.Cells.IsWell (base_tier l.pass) (λ mark. admin_place mark ≡ l.pass) (g.S.Cells.has l.fn.within) l.parts l.place l.left l.entries.items

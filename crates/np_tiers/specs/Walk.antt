@@ -1,0 +1,32 @@
+-- The walk of a layer at one spot. `at` tells which sets have the spot.
+use Rattle.std.specs.Prelude.{Bool, true, false, if◌then◌else◌, Option, Some, None, find}
+use Rattle.std.specs.List.{list_any}
+use Rattle.np_tiers.specs.declared.layer.Action.{Action}
+use Rattle.np_tiers.specs.declared.layer.Action.TheVariants.{Allow, Deny, Pass}
+use Rattle.np_tiers.specs.declared.layer.AdminPart.{AdminPart}
+use Rattle.np_tiers.specs.declared.layer.BasePart.{BasePart}
+use Rattle.np_tiers.specs.declared.layer.Layer.{Layer}
+
+-- what the action says, where the tiers below say `below`
+abbrev pub action_allows : Action → Bool → Bool
+action_allows Allow below = true
+action_allows Deny below = false
+action_allows Pass below = below
+
+-- what the first admin part that has the spot says, and the tiers below without one
+abbrev pub admin_allows : {S : Type 0} → Option (AdminPart S) → Bool → Bool
+admin_allows None below = below
+admin_allows (Some part) below = action_allows part.action below
+
+-- what the first base part that has the spot says; without one the spot is allowed
+abbrev pub base_allows : {S : Type 0} → Option (BasePart S) → Bool
+base_allows None = true
+base_allows (Some part) = part.allow
+
+-- Below the admin tier, an isolated layer allows what some `net` set has. In any other the baseline says.
+abbrev pub lower_allows : {S : Type 0} → (S → Bool) → Layer S → Bool
+lower_allows at layer = if layer.isolated then list_any at layer.net else base_allows (find (λ part. at part.set) layer.base)
+
+-- whether the layer allows the spot
+abbrev pub walk_allows : {S : Type 0} → (S → Bool) → Layer S → Bool
+walk_allows at layer = admin_allows (find (λ part. at part.set) layer.admin) (lower_allows at layer)
