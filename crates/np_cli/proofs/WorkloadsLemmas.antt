@@ -3,9 +3,11 @@ use Rattle.std.proofs.Common.{◌≡◌, ℕ, ◌+◌, ◌<◌, List, [], ◌∷
 use Rattle.std.proofs.lemmas.List.{take_more}
 use Rattle.std.specs.BTreeMap.{insert_entry}
 use Rattle.std.specs.Borrow.{Bor}
-use Rattle.std.specs.Cmp.Lexicographic.{slice_cmp}
-use Rattle.std.specs.Ordering.{nat_cmp, match_ordering}
-use Rattle.np_cli.specs.Workloads.{entries_of, placed, workload_name}
+use Rattle.std.specs.Cmp.Lexicographic.{slice_cmp, nat_list_cmp_total}
+use Rattle.std.specs.List.{AllByRecursion}
+use Rattle.std.specs.List.Sorted.{IsStrictlySortedBy}
+use Rattle.std.specs.Ordering.{nat_cmp, match_ordering, ordering_reverse}
+use Rattle.np_cli.specs.Workloads.{entries_of, names_of, placed, workload_name, workloads_of}
 use Rattle.np_estate.specs.declared.pod.Pod.{Pod}
 
 -- a choice of lists of lent pods, seen as a choice of lists of pods
@@ -36,3 +38,41 @@ placed-next pods i pod name before after below is named so_far inserted =
     ∙ sym (placed-push [] (take i pods) pod.now)
     ∙ ap (λ (p : Pod). placed [] (take i pods ++ p ∷ [])) is
     ∙ ap (placed []) (sym (take_more pods i pod.now below))
+
+-- the order of names
+abbrev order : List ℕ → List ℕ → Ordering
+order = slice_cmp nat_cmp
+
+-- what is below a name is below all that the name is below
+below-trans : (low name : List ℕ) (names : List (List ℕ)) → order low name ≡ Less → AllByRecursion (λ other. order name other ≡ Less) names → AllByRecursion (λ other. order low other ≡ Less) names
+below-trans low name [] below all = tt
+below-trans low name (other ∷ names) below all = (nat_list_cmp_total.trans low name other below all.0, below-trans low name names below all.1)
+
+-- what is below the names of workloads and of one more is below all of them together
+below-insert : (low : List ℕ) (workloads : List (List ℕ × Pod)) (name : List ℕ) (pod : Pod) → AllByRecursion (λ other. order low other ≡ Less) (names_of workloads) → order low name ≡ Less → AllByRecursion (λ other. order low other ≡ Less) (names_of (insert_entry order workloads name pod))
+below-insert low [] name pod all below = (below, tt)
+below-insert low (first ∷ workloads) name pod all below = by (order name first.0) (below-insert low workloads name pod all.1 below)
+  where
+    by : (o : Ordering) → AllByRecursion (λ other. order low other ≡ Less) (names_of (insert_entry order workloads name pod)) → AllByRecursion (λ other. order low other ≡ Less) (names_of (match_ordering o ((name, pod) ∷ first ∷ workloads) ((first.0, pod) ∷ workloads) (first ∷ insert_entry order workloads name pod)))
+    by Less others = (below, all)
+    by Equal others = all
+    by Greater others = (all.0, others)
+
+-- workloads in order, and one more in its place, are in order
+in_order-insert : (workloads : List (List ℕ × Pod)) (name : List ℕ) (pod : Pod) → IsStrictlySortedBy order (names_of workloads) → IsStrictlySortedBy order (names_of (insert_entry order workloads name pod))
+unfolding IsStrictlySortedBy
+in_order-insert [] name pod in_order = (tt, tt)
+in_order-insert (first ∷ workloads) name pod in_order = by (order name first.0) refl (in_order-insert workloads name pod in_order.1)
+  where
+    by : (o : Ordering) → order name first.0 ≡ o → IsStrictlySortedBy order (names_of (insert_entry order workloads name pod)) → IsStrictlySortedBy order (names_of (match_ordering o ((name, pod) ∷ first ∷ workloads) ((first.0, pod) ∷ workloads) (first ∷ insert_entry order workloads name pod)))
+    by Less is others = ((is, below-trans name first.0 (names_of workloads) is in_order.0), in_order)
+    by Equal is others = in_order
+    by Greater is others = (below-insert first.0 workloads name pod in_order.0 (nat_list_cmp_total.antisymm first.0 name ∙ ap ordering_reverse is), others)
+
+in_order-placed : (workloads : List (List ℕ × Pod)) (pods : List Pod) → IsStrictlySortedBy order (names_of workloads) → IsStrictlySortedBy order (names_of (placed workloads pods))
+in_order-placed workloads [] in_order = in_order
+in_order-placed workloads (pod ∷ pods) in_order = in_order-placed (insert_entry order workloads (workload_name pod) pod) pods (in_order-insert workloads (workload_name pod) pod in_order)
+
+pub in_order-workloads_of : (pods : List Pod) → IsStrictlySortedBy order (names_of (workloads_of pods))
+unfolding IsStrictlySortedBy
+in_order-workloads_of pods = in_order-placed [] pods tt

@@ -22,3 +22,7 @@ workloads_of pods = placed [] pods
 -- the entries of a map of workloads, each with the pod that it lends
 abbrev pub entries_of : List (List ℕ × Bor Pod) → List (List ℕ × Pod)
 entries_of entries = map (λ entry. (entry.0, entry.1.now)) entries
+
+-- the names of workloads, in their order
+abbrev pub names_of : List (List ℕ × Pod) → List (List ℕ)
+names_of workloads = map (λ workload. workload.0) workloads

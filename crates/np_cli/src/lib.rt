@@ -4,6 +4,7 @@
 mod estate;
 mod fault;
 mod job;
+mod laws;
 mod narrow;
 mod outcome;
 mod rows;
@@ -15,6 +16,7 @@ mod write_fault;
 
 pub use fault::Fault;
 pub use job::{Job, WordsFault, read_words};
+pub use laws::{no_row_with_itself, workloads_stand_in_order};
 pub use outcome::Outcome;
 pub use run::np_main;
 pub use status::Status;
