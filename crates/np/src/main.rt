@@ -3,10 +3,9 @@
 
 use np_cli::{Status, np_main};
 use np_io::{RealInputs, RealSink};
-use std::env;
-use std::io;
 use std::process::ExitCode;
 use std::rt::Env;
+use std::{env, io};
 
 fn main(rt: HostRuntime) -> ExitCode {
     let status = match words(&rt) {

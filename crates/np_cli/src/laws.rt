@@ -11,12 +11,10 @@ ghost use Rattle.np_policies.specs.declared.network_policy.NetPolicy.{NetPolicy}
 /// The workloads stand in the strict byte order of their names, so no two have one name.
 pub fn workloads_stand_in_order()
     ensures { (pods : List Pod) → IsStrictlySortedBy (slice_cmp nat_cmp) (names_of (workloads_of pods)) }
-{
-}
+{}
 
 /// A workload of one pod has no row with itself.
 pub fn no_row_with_itself()
     ensures { (policies : List NetPolicy) (name : List ℕ) (source destination : Pod) →
         row policies (name, source) (name, destination) ≡ [] }
-{
-}
+{}

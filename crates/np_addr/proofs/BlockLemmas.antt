@@ -1,0 +1,84 @@
+-- Blocks of addresses.
+use Rattle.std.proofs.Common.{◌≡◌, ℕ, Bool, true, false, not, ◌&&◌, ◌||◌, List, [], ◌∷◌, ◌++◌, take, length, get_or, ◌+◌, ◌-◌, ◌*◌, ◌/◌, ◌%◌, ◌^◌, ◌<◌, ◌≤◌, bit_and, Option, Some, None, IsSome, refl, sym, ap, ◌∙◌, one-mul, arith}
+use Rattle.std.proofs.Math.Nat.{mul-mod_left, mul-le-mul_right, add-mul}
+use Rattle.std.specs.Option.{SomeIff}
+use Rattle.std.proofs.lemmas.Nat.{shr_below, shr_split, pow-add}
+use Rattle.std.proofs.lemmas.Nat.Bits.{and_high_mask}
+use Rattle.std.proofs.lemmas.List.{take_more}
+use Rattle.std.specs.List.{list_any}
+use Rattle.np_base.specs.Beside.{by_side}
+use Rattle.np_base.specs.Ranges.{holds}
+use Rattle.np_base.specs.declared.beside.Which.{Which}
+use Rattle.np_base.specs.declared.beside.Which.TheVariants.{First, Second}
+use Rattle.np_addr.specs.declared.address.Address.{Address}
+use Rattle.np_addr.specs.declared.address.Address.TheVariants.{Four, Six}
+use Rattle.np_addr.specs.declared.cidr.Cidr.{Cidr}
+use Rattle.np_addr.specs.Addresses.{cidr_has}
+use Rattle.np_addr.specs.AddressGrammar.{cleared}
+use Rattle.np_addr.specs.Blocks.{AddressRanges, set_has, block_has}
+
+-- low is the greatest number of so many bits
+pub cleared-mask : (bits n low : ℕ) → bits ≤ 128 → n < 2 ^ 128 → low + 1 ≡ 2 ^ bits → bit_and n (2 ^ 128 - 1 - low) ≡ cleared bits n
+cleared-mask bits n low within fits is =
+    let mask : 2 ^ 128 - 1 - low ≡ 2 ^ 128 - 2 ^ bits = omega arith in
+    ap (bit_and n) mask ∙ and_high_mask 128 bits within n fits
+
+pub rest_of_cleared : (bits n : ℕ) → cleared bits n % 2 ^ bits ≡ 0
+rest_of_cleared bits n = mul-mod_left _ _
+
+-- what is there where a fact holds
+pub IsSome-from : {T : Type 0} (o : Option T) (P : Type 0) (v : T) → SomeIff o P v → P → IsSome o
+IsSome-from None P v iff holds = absurd (iff holds)
+IsSome-from (Some x) P v iff holds = refl
+
+-- a block ends where its family does, or before
+pub block_end : (width len n : ℕ) → len ≤ width → n % 2 ^ (width - len) ≡ 0 → n < 2 ^ width → n + 2 ^ (width - len) ≤ 2 ^ width
+block_end width len n within rest fits =
+    let free = width - len in
+    let all : 2 ^ len * 2 ^ free ≡ 2 ^ width = sym (pow-add 2 len free) ∙ ap {A = ℕ} (λ k. 2 ^ k) {x = len + free} {y = width} (omega arith) in
+    let below : n / 2 ^ free < 2 ^ len = shr_below n len free (omega (arith, fits, pow-add 2 len free, all)) in
+    let next : (n / 2 ^ free + 1) * 2 ^ free ≤ 2 ^ len * 2 ^ free = mul-le-mul_right (2 ^ free) (omega arith) in
+    let parts : (n / 2 ^ free + 1) * 2 ^ free ≡ n / 2 ^ free * 2 ^ free + 2 ^ free = add-mul (n / 2 ^ free) 1 (2 ^ free) ∙ ap (λ k. n / 2 ^ free * 2 ^ free + k) (one-mul (2 ^ free)) in
+    omega (arith, next, parts, all, rest, shr_split n free)
+
+list_any-push : {X : Type 0} (test : X → Bool) (xs : List X) (x : X) → list_any test (xs ++ x ∷ []) ≡ (list_any test xs || test x)
+list_any-push test [] x = or_false (test x)
+  where
+    or_false : (t : Bool) → (t || false) ≡ t
+    or_false true = refl
+    or_false false = refl
+list_any-push test (y ∷ xs) x = go (test y) (list_any-push test xs x)
+  where
+    go : (t : Bool) → list_any test (xs ++ x ∷ []) ≡ (list_any test xs || test x) → (t || list_any test (xs ++ x ∷ [])) ≡ ((t || list_any test xs) || test x)
+    go true more = refl
+    go false more = more
+
+and_not_or : (inside one other : Bool) → (inside && not (one || other)) ≡ ((inside && not one) && not other)
+and_not_or true true other = refl
+and_not_or true false other = refl
+and_not_or false one other = refl
+
+-- one except more is one part less
+block_has-more : (block : Cidr) (excepts : List Cidr) (i : ℕ) (except : Cidr) (address : Address) → i < length excepts → except ≡ get_or excepts i except → block_has block (take (i + 1) excepts) address ≡ (block_has block (take i excepts) address && not (cidr_has except address))
+block_has-more block excepts i except address within is =
+    let test : Cidr → Bool = λ e. cidr_has e address in
+    let front : take (i + 1) excepts ≡ take i excepts ++ except ∷ [] = take_more excepts i except within ∙ ap (λ e. take i excepts ++ e ∷ []) (sym is) in
+    ap (λ es. cidr_has block address && not (list_any test es)) front
+    ∙ ap (λ t. cidr_has block address && not t) (list_any-push test (take i excepts) except)
+    ∙ and_not_or (cidr_has block address) (list_any test (take i excepts)) (cidr_has except address)
+
+-- the spots of both families
+abbrev pub ranges_have : AddressRanges → Which ℕ ℕ → Bool
+ranges_have set = by_side (λ n. holds (λ a. a) set.first n) (λ n. holds (λ a. a) set.second n)
+
+-- what is taken away is away
+set_has-minus : (set hole made : AddressRanges) → ((spot : Which ℕ ℕ) → ranges_have made spot ≡ (ranges_have set spot && not (ranges_have hole spot))) → (address : Address) → set_has made address ≡ (set_has set address && not (set_has hole address))
+set_has-minus set hole made minus (Four n) = minus (First n)
+set_has-minus set hole made minus (Six n) = minus (Second n)
+
+-- the set after one except more
+pub one_less : (block : Cidr) (excepts : List Cidr) (i : ℕ) (except : Cidr) (set hole made : AddressRanges) → i < length excepts → except ≡ get_or excepts i except → ((address : Address) → set_has set address ≡ block_has block (take i excepts) address) → ((address : Address) → set_has hole address ≡ cidr_has except address) → ((spot : Which ℕ ℕ) → ranges_have made spot ≡ (ranges_have set spot && not (ranges_have hole spot))) → (address : Address) → set_has made address ≡ block_has block (take (i + 1) excepts) address
+one_less block excepts i except set hole made within is so_far part minus address =
+    set_has-minus set hole made minus address
+    ∙ (λ k. so_far address k && not (part address k))
+    ∙ sym (block_has-more block excepts i except address within is)

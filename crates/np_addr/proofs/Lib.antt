@@ -1,0 +1,14 @@
+pub mod BlockLemmas
+pub mod CanonicalLemmas
+pub mod CidrLemmas
+pub mod ColonHexLemmas
+pub mod DottedLemmas
+pub mod GapLemmas
+pub mod GrammarLemmas
+pub mod GroupLemmas
+pub mod Ipv4Lemmas
+pub mod NumeralLemmas
+pub mod PieceLemmas
+pub mod SideLemmas
+pub mod SubsetLemmas
+pub mod TextLemmas

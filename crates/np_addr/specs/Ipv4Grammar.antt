@@ -1,0 +1,30 @@
+-- The texts of IPv4 addresses, each with its number.
+use Rattle.std.specs.Prelude.{ℕ, List, [], ◌∷◌, Option, Some, None, nat_le, if◌then◌else◌}
+use Rattle.std.specs.Int.Digits.{number_from_digits}
+use Rattle.np_addr.specs.Numeral.{numeral_of}
+use Rattle.np_addr.specs.Pieces.{pieces}
+use Rattle.np_addr.specs.Steps.{◌>>=◌}
+
+-- a part: one to three decimal digits, leading zeros among them, of a number of at most 255
+unfoldable pub part_of : List ℕ → Option ℕ
+part_of text = do
+  n ← numeral_of 10 3 text
+  if nat_le n 255 then Some n else None
+
+-- four parts, the first the highest
+unfoldable pub parts_of : List ℕ → List ℕ → List ℕ → List ℕ → Option ℕ
+parts_of first second third fourth = do
+  a ← part_of first
+  b ← part_of second
+  c ← part_of third
+  d ← part_of fourth
+  Some (number_from_digits 256 (a ∷ b ∷ c ∷ d ∷ []))
+
+-- what stands between dots is four parts
+abbrev pub dotted_of : List (List ℕ) → Option ℕ
+dotted_of (first ∷ second ∷ third ∷ fourth ∷ []) = parts_of first second third fourth
+dotted_of pieces = None
+
+-- the number of an IPv4 address (46 is `.`)
+unfoldable pub ipv4_of : List ℕ → Option ℕ
+ipv4_of text = dotted_of (pieces 46 text)

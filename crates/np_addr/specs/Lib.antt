@@ -1,0 +1,15 @@
+pub mod AddressGrammar
+pub mod AddressText
+pub mod Addresses
+pub mod Blocks
+pub mod Faults
+pub mod Groups
+pub mod Ipv4Grammar
+pub mod Ipv6Grammar
+pub mod Laws
+pub mod Numeral
+pub mod Pieces
+pub mod Steps
+pub mod TextForms
+pub use Rattle.np_base.specs.Beside
+pub use Rattle.np_base.specs.Ranges

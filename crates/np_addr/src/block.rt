@@ -1,0 +1,141 @@
+//! The addresses of a block without some of its parts.
+ghost use Rattle.std.specs.Prelude.{◌≡◌, ℕ, ◌↔◌, Err, Some, IfOk, All};
+ghost use Rattle.np_addr.specs.Addresses.{IsCidr, cidr_has};
+ghost use Rattle.np_addr.specs.Blocks.{set_has, IsAddressSet, bits_of, base_of, is_strict_part, first_bad_except, block_has};
+ghost use Rattle.np_addr.specs.declared.address.Address.{Address};
+
+use crate::address::Address;
+use crate::cidr::{Cidr, cidr_has, low_bits};
+use np_base::{Beside, Cells, NoMemory, Point, V4, V6};
+use np_sets::IntervalSet;
+use std::alloc::Global;
+use std::fmt;
+
+/// A set of addresses of both families. Its spots are `Which::First` of an IPv4 address and `Which::Second` of an
+/// IPv6 address.
+pub type AddrSet = Beside<IntervalSet<V4>, IntervalSet<V6>>;
+
+/// Why a block has no set.
+#[derive(Clone, Copy, Debug, PartialEq, Eq)]
+pub enum BlockFault {
+    /// The except at this place, from 0, is no strict part of the block: it is not in the block, or it is all of it.
+    BadExcept { place: u64 },
+    /// The system refused memory.
+    NoMemory,
+}
+
+impl From<NoMemory> for BlockFault {
+    ghost use Rattle.np_addr.specs.declared.block.BlockFault.TheVariants.{NoMemory};
+
+    ghost from_gives = { λ _ fault. fault ≡ NoMemory };
+
+    fn from(_error: NoMemory) -> BlockFault {
+        BlockFault::NoMemory
+    }
+}
+
+impl fmt::Display for BlockFault {
+    ghost use Rattle.std.specs.Prelude.{Some};
+    ghost use Rattle.np_addr.specs.Faults.{block_fault_text};
+
+    ghost output = { λ fault. Some (block_fault_text fault) };
+
+    fn fmt<W: fmt::Write>(&self, f: &mut fmt::Formatter<W>) -> fmt::Result {
+        match self {
+            BlockFault::BadExcept { place } => {
+                let place = *place;
+                write!(
+                    f,
+                    "the except at place {place} is no strict part of its block"
+                )
+            }
+            BlockFault::NoMemory => write!(f, "out of memory"),
+        }
+    }
+}
+
+impl std::error::Error for BlockFault {}
+
+/// The addresses that are in the block and in none of the excepts (`ipBlock` of a NetworkPolicy of the Kubernetes
+/// API). Each except is to be a strict part of the block: `BadExcept` names the first that is not.
+pub fn block_set(alloc: Global, cidr: Cidr, excepts: &[Cidr]) -> Result<AddrSet, BlockFault>
+    requires block { IsCidr cidr }
+    requires excepts { All IsCidr excepts.now }
+    ensures members { IfOk result (λ set. (address : Address) →
+        set_has set address ≡ block_has cidr excepts.now address) }
+    ensures well { IfOk result IsAddressSet }
+    ensures bad { (place : ℕ) → (result ≡ Err (BlockFault.BadExcept place)) ↔ (first_bad_except cidr excepts.now ≡ Some place) }
+{
+    if let Some(place) = first_bad_except(&cidr, excepts) {
+        return Err(BlockFault::BadExcept {
+            place: place as u64,
+        });
+    }
+    let mut set = whole_set(alloc, &cidr)?;
+    for except in excepts {
+        let hole = whole_set(alloc, except)?;
+        set = set.minus(&hole)?;
+    }
+    Ok(set)
+}
+
+// The place of the first except that is no strict part of the block.
+fn first_bad_except(block: &Cidr, excepts: &[Cidr]) -> Option<usize>
+    requires block { IsCidr block.now }
+    ensures { result ≡ first_bad_except block.now excepts.now }
+{
+    excepts
+        .iter()
+        .position(|except| !is_strict_part(block, except))
+}
+
+// Whether the second block is a part of the first, and not all of it.
+fn is_strict_part(block: &Cidr, except: &Cidr) -> bool
+    requires { IsCidr block.now }
+    ensures { result ≡ is_strict_part block.now except.now }
+{
+    bits_of(block) < bits_of(except) && cidr_has(block, base_of(except))
+}
+
+// How many first bits the addresses of the block have in common.
+fn bits_of(block: &Cidr) -> u8
+    ensures { result ≡ bits_of block.now }
+{
+    match block {
+        Cidr::Four { length, .. } | Cidr::Six { length, .. } => *length,
+    }
+}
+
+// The first address of the block.
+fn base_of(block: &Cidr) -> Address
+    ensures { result ≡ base_of block.now }
+{
+    match block {
+        Cidr::Four { base, .. } => Address::Four(*base),
+        Cidr::Six { base, .. } => Address::Six(*base),
+    }
+}
+
+// All addresses of the block.
+fn whole_set(alloc: Global, block: &Cidr) -> Result<AddrSet, NoMemory>
+    requires { IsCidr block.now }
+    ensures members { IfOk result (λ set. (address : Address) → set_has set address ≡ cidr_has block.now address) }
+    ensures well { IfOk result IsAddressSet }
+{
+    match block {
+        Cidr::Four { base, length } => {
+            let last = V4::at(base.number() + low_bits(32 - *length)).unwrap();
+            Ok(Beside {
+                first: IntervalSet::of_range(alloc, *base, last)?,
+                second: IntervalSet::nothing(alloc)?,
+            })
+        }
+        Cidr::Six { base, length } => {
+            let last = V6::at(base.number() + low_bits(128 - *length)).unwrap();
+            Ok(Beside {
+                first: IntervalSet::nothing(alloc)?,
+                second: IntervalSet::of_range(alloc, *base, last)?,
+            })
+        }
+    }
+}

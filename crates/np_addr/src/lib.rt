@@ -1,0 +1,24 @@
+//! IP addresses and blocks of them: their texts, and the sets of addresses that blocks hold.
+#![tactic(auto)]
+
+mod address;
+mod block;
+mod cidr;
+mod groups;
+mod ipv4;
+mod ipv6;
+mod laws;
+mod numeral;
+mod pieces;
+mod print;
+mod read;
+
+pub use address::{Address, Family, family_of};
+pub use block::{AddrSet, BlockFault, block_set};
+pub use cidr::{Cidr, cidr_has};
+pub use laws::{
+    block_is_first_bits, canonical_text_reads_again, canonical_texts_differ, longest_run_is_first,
+    strict_part_is_strict_subset, texts_are_read_exactly,
+};
+pub use print::print_address;
+pub use read::{BadAddress, BadCidr, read_address, read_cidr};

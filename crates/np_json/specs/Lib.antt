@@ -1,0 +1,10 @@
+pub use Rattle.serde_json.specs.Data
+pub use Rattle.serde_json.specs.Find
+pub use Rattle.serde_json.specs.View
+pub mod Faults
+pub mod Members
+pub mod Meta
+pub mod Paths
+pub mod Scalars
+pub mod Tables
+pub mod Words

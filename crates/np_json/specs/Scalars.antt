@@ -1,0 +1,59 @@
+-- Tables of single values, and of the maps of labels.
+use Rattle.std.specs.Prelude.{ℤ, ℕ, pos, negsuc, List, length, Bool, not, ◌&&◌, ◌==◌, nat_le, if◌then◌else◌, Option, Some, None, Ok}
+use Rattle.std.specs.List.{list_all}
+use Rattle.serde_json.specs.Data.{Data}
+use Rattle.serde_json.specs.Find.{as_str, as_bool}
+use Rattle.np_json.specs.Members.{as_whole, as_pairs}
+use Rattle.np_json.specs.Tables.{Read, ◌>>=◌, ◌>>◌, refuse, refuse_if}
+use Rattle.np_json.specs.Words.{is_word, is_name}
+use Rattle.np_json.specs.declared.fault.FaultKind.TheVariants.{BadField, BadName, BadPort}
+
+-- a value of the type that is asked for, else BadField
+abbrev pub of_type : {A : Type 0} → Option A → Read A
+of_type None = refuse BadField
+of_type (Some x) = Ok x
+
+abbrev pub text : Data → Read (List ℕ)
+text value = of_type (as_str value)
+
+abbrev pub whole : Data → Read ℤ
+whole value = of_type (as_whole value)
+
+abbrev pub flag : Data → Read Bool
+flag value = of_type (as_bool value)
+
+-- a text that is a name, else BadName
+unfoldable pub name : Data → Read (List ℕ)
+name value = do
+  s ← text value
+  refuse_if (not (is_name s)) BadName
+  Ok s
+
+-- a text that is a word, else BadField
+unfoldable pub word : Data → Read (List ℕ)
+word value = do
+  s ← text value
+  refuse_if (not (is_word s)) BadField
+  Ok s
+
+-- a port's number, if the number is from 1 to 65535
+abbrev pub port_number : ℤ → Read ℕ
+port_number (pos n) = if nat_le 1 n && nat_le n 65535 then Ok n else refuse BadPort
+port_number (negsuc n) = refuse BadPort
+
+-- a whole number from 1 to 65535, else BadPort
+unfoldable pub port : Data → Read ℕ
+port value = do
+  n ← whole value
+  port_number n
+
+-- whether a pair may be a label: a key that is a word and not empty, and a value that is a word
+abbrev pub is_label : List ℕ × List ℕ → Bool
+is_label pair = not (length pair.0 == 0) && is_word pair.0 && is_word pair.1
+
+-- an object from texts to texts that are labels, else BadField
+unfoldable pub labels : Data → Read (List (List ℕ × List ℕ))
+labels value = do
+  pairs ← of_type (as_pairs value)
+  refuse_if (not (list_all is_label pairs)) BadField
+  Ok pairs

@@ -1,0 +1,99 @@
+//! What every object says of itself: its type, and its name and namespace.
+ghost use Rattle.std.specs.Prelude.{◌≡◌, IfOk, unwrap_or, codes};
+ghost use Rattle.serde_json.specs.View.{view};
+ghost use Rattle.np_json.specs.Tables.{Gives};
+
+use crate::fault::FaultKind;
+use crate::flaw::TableFault;
+use crate::scalars::{AnyText, Name, of_type};
+use crate::table::{Table, must_be_object, optional, refuse_if, required};
+use crate::words::is_name;
+use np_base::{NoMemory, Text};
+use serde_json::Value;
+use std::alloc::Global;
+
+/// The type of an object (TypeMeta of the Kubernetes API reference).
+#[derive(Debug, Drop)]
+pub struct TypeMeta {
+    pub api_version: Text,
+    pub kind: Text,
+}
+
+/// The table of an object's own type: an object with the texts `apiVersion` and `kind`, else `BadField`.
+#[derive(Clone, Copy, Debug, Drop)]
+pub struct TypeMetaTable;
+
+impl Table for TypeMetaTable {
+    ghost use Rattle.np_json.specs.Meta.{type_meta};
+
+    type Row = TypeMeta;
+
+    ghost reads = { λ _. type_meta };
+
+    #[tactic(auto, unfolding(crate::specs::Meta::type_meta))]
+    fn read(&self, alloc: Global, value: &Value) -> Result<TypeMeta, TableFault> {
+        must_be_object(alloc, value)?;
+        let api_version = required(alloc, value, "apiVersion", &AnyText)?;
+        let kind = required(alloc, value, "kind", &AnyText)?;
+        Ok(TypeMeta { api_version, kind })
+    }
+}
+
+/// The name of an object and the namespace that it is in (ObjectMeta of the Kubernetes API reference).
+#[derive(Debug, Drop)]
+pub struct NamespacedName {
+    pub namespace: Text,
+    pub name: Text,
+}
+
+/// The table of the metadata of an object in a namespace: `name`, which is required and a name, and `namespace`,
+/// which is a name and `default` where it is missing or empty.
+#[derive(Clone, Copy, Debug, Drop)]
+pub struct NamespacedNameTable;
+
+impl Table for NamespacedNameTable {
+    ghost use Rattle.np_json.specs.Meta.{namespaced_name};
+
+    type Row = NamespacedName;
+
+    ghost reads = { λ _. namespaced_name };
+
+    #[tactic(auto, unfolding(crate::specs::Meta::namespaced_name))]
+    fn read(&self, alloc: Global, value: &Value) -> Result<NamespacedName, TableFault> {
+        must_be_object(alloc, value)?;
+        let name = required(alloc, value, "name", &Name)?;
+        let namespace = optional(alloc, value, "namespace", &Namespace)?;
+        let namespace = or_default(alloc, namespace)?;
+        Ok(NamespacedName { namespace, name })
+    }
+}
+
+// A namespace: a text that is a name, or empty for `default`.
+#[derive(Clone, Copy, Debug, Drop)]
+struct Namespace;
+
+impl Table for Namespace {
+    ghost use Rattle.np_json.specs.Meta as meta;
+
+    type Row = Text;
+
+    ghost reads = { λ _. meta.namespace };
+
+    #[tactic(auto, unfolding(crate::specs::Meta::namespace))]
+    fn read(&self, alloc: Global, value: &Value) -> Result<Text, TableFault> {
+        let text = of_type(alloc, value.as_str())?;
+        let text = if text.is_empty() { "default" } else { text };
+        refuse_if(alloc, !is_name(text), FaultKind::BadName)?;
+        Ok(Text::of(alloc, text)?)
+    }
+}
+
+// The namespace, or `default` where there is none.
+fn or_default(alloc: Global, namespace: Option<Text>) -> Result<Text, NoMemory>
+    ensures { IfOk result (λ made. made ≡ unwrap_or namespace (codes "default")) }
+{
+    match namespace {
+        Some(namespace) => Ok(namespace),
+        None => Text::of(alloc, "default"),
+    }
+}

@@ -1,0 +1,14 @@
+//! Worked examples of the program: runs over sources and sinks in memory, whose tables, messages and statuses were
+//! written by hand. It holds tests alone.
+#![tactic(auto)]
+
+#[cfg(test)]
+mod failures;
+#[cfg(test)]
+mod refusals;
+#[cfg(test)]
+mod runs;
+#[cfg(test)]
+mod tables;
+#[cfg(test)]
+mod texts;

@@ -1,0 +1,94 @@
+//! Words and inputs that are refused. Nothing goes to the sink of the table.
+
+use crate::runs::{Ran, expect, run_on};
+use crate::texts::{NOT_BUILT, TWO_PODS};
+use np_base::NoMemory;
+use np_cli::Status;
+use std::alloc::Global;
+use std::test::Fail;
+
+// The message of bytes that are no JSON text.
+const NOT_JSON: &str = "error: input 1: NotJson\n";
+
+// How many bytes all inputs may have together.
+const SIZE_LIMIT: usize = 33_554_432;
+
+#[test]
+fn other_words(rt: HostRuntime) -> Result<(), Fail> {
+    for words in ["", "lst", "list x", "list list"] {
+        let ran = run_on(rt.alloc(), words, TWO_PODS.as_bytes())?;
+        expect(&rt, &ran, Status::Usage, "", "usage: np list\n", words);
+    }
+    Ok(())
+}
+
+// Each row is a change of an accepted list. A change that is none would be accepted.
+#[test]
+fn other_forms(rt: HostRuntime) -> Result<(), Fail> {
+    for (old, new) in [
+        (r#""protocol":"TCP""#, r#""protocol":"UDP""#),
+        (r#""name":"b""#, r#""name":"a""#),
+        (
+            r#""spec":{"containers""#,
+            r#""status":{},"spec":{"containers""#,
+        ),
+        (r#""port":80"#, r#""port":0"#),
+        (r#""port":80"#, r#""port":65536"#),
+        (r#""labels":{"app":"a"}"#, r#""labels":{"app":"a a"}"#),
+        (r#""kind":"Pod""#, r#""kind":"ConfigMap""#),
+    ] {
+        let text = TWO_PODS.replace(rt.alloc(), old, new)?;
+        let ran = run_on(rt.alloc(), "list", text.as_bytes())?;
+        expect(&rt, &ran, Status::Refused, "", NOT_BUILT, new);
+    }
+    Ok(())
+}
+
+#[test]
+fn no_items(rt: HostRuntime) -> Result<(), Fail> {
+    let text = r#"{"apiVersion":"v1","items":null,"kind":"List"}"#;
+    let ran = run_on(rt.alloc(), "list", text.as_bytes())?;
+    expect(&rt, &ran, Status::Refused, "", NOT_BUILT, text);
+    Ok(())
+}
+
+#[test]
+fn no_whole_text(rt: HostRuntime) -> Result<(), Fail> {
+    let bytes = TWO_PODS.as_bytes();
+    for end in 0..bytes.len() {
+        let ran = run_on(rt.alloc(), "list", &bytes[..end])?;
+        expect(&rt, &ran, Status::Refused, "", NOT_JSON, "a front");
+    }
+    Ok(())
+}
+
+#[test]
+fn no_text(rt: HostRuntime) -> Result<(), Fail> {
+    for byte in [0x80u8, 0xC3, 0xFF] {
+        let ran = run_on(rt.alloc(), "list", &[b'"', byte, b'"'])?;
+        expect(&rt, &ran, Status::Refused, "", NOT_JSON, "no UTF-8");
+    }
+    Ok(())
+}
+
+#[test]
+fn many_bytes(rt: HostRuntime) -> Result<(), Fail> {
+    let most = run_on_spaces(rt.alloc(), SIZE_LIMIT)?;
+    expect(&rt, &most, Status::Refused, "", NOT_JSON, "the most");
+    let more = run_on_spaces(rt.alloc(), SIZE_LIMIT + 1)?;
+    expect(
+        &rt,
+        &more,
+        Status::Refused,
+        "",
+        "error: TooLarge\n",
+        "one more",
+    );
+    Ok(())
+}
+
+// The run on so many spaces.
+fn run_on_spaces(alloc: Global, count: usize) -> Result<Ran, NoMemory> {
+    let spaces = vec![in alloc; b' '; count]?;
+    run_on(alloc, "list", &spaces)
+}

@@ -1,0 +1,80 @@
+//! Runs of the program over sources and sinks in memory.
+
+use np_base::NoMemory;
+use np_cli::{Status, np_main};
+use np_io::{MemInputs, MemSink};
+use std::alloc::Global;
+use std::process::Abort;
+
+// More bytes than a table of the examples has.
+const AMPLE_ROOM: usize = 4096;
+
+// More bytes than a call takes.
+const LARGE_PIECE: usize = 65536;
+
+/// What a run gave.
+#[derive(Drop)]
+pub struct Ran {
+    pub status: Status,
+    pub out: MemSink,
+    pub err: MemSink,
+}
+
+/// A source whose standard input has these bytes, of which a call hands out at most `piece`.
+pub fn source(alloc: Global, bytes: &[u8], piece: usize) -> Result<MemInputs, NoMemory> {
+    let mut inputs = MemInputs::new(alloc, piece);
+    inputs.add("-", bytes)?;
+    Ok(inputs)
+}
+
+/// A sink with ample room, of which a call takes at most `piece` bytes.
+pub fn sink(alloc: Global, piece: usize) -> Result<MemSink, NoMemory> {
+    MemSink::new(alloc, AMPLE_ROOM, piece)
+}
+
+/// Runs the program on the words of this line.
+pub fn run(
+    alloc: Global,
+    line: &str,
+    mut inputs: MemInputs,
+    mut out: MemSink,
+    mut err: MemSink,
+) -> Result<Ran, NoMemory> {
+    let words = words_of(alloc, line)?;
+    let status = np_main(alloc, &words, &mut inputs, &mut out, &mut err);
+    Ok(Ran { status, out, err })
+}
+
+/// The same with these bytes as standard input, where no call fails.
+pub fn run_on(alloc: Global, line: &str, bytes: &[u8]) -> Result<Ran, NoMemory> {
+    let inputs = source(alloc, bytes, LARGE_PIECE)?;
+    let out = sink(alloc, LARGE_PIECE)?;
+    let err = sink(alloc, LARGE_PIECE)?;
+    run(alloc, line, inputs, out, err)
+}
+
+// The words of a line.
+fn words_of(alloc: Global, line: &str) -> Result<Vec<String>, NoMemory> {
+    let mut words = Vec::new(alloc);
+    for word in line.split_whitespace() {
+        words.push(String::from_str(alloc, word)?)?;
+    }
+    Ok(words)
+}
+
+/// Stops the test where the run of a case gave anything else.
+pub fn expect(rt: &impl Abort, ran: &Ran, status: Status, out: &str, err: &str, case: &str) {
+    assert_eq!(rt; ran.status, status, "{case}");
+    assert!(rt; is_text(ran.out.taken(), out), "out at {case}");
+    assert!(rt; is_text(ran.err.taken(), err), "err at {case}");
+}
+
+/// Whether these are the bytes of the text.
+pub fn is_text(bytes: &[u8], text: &str) -> bool {
+    bytes == text.as_bytes()
+}
+
+/// Whether the text begins with these bytes, and goes on.
+pub fn is_cut(bytes: &[u8], text: &str) -> bool {
+    bytes.len() < text.len() && text.as_bytes().starts_with(bytes)
+}

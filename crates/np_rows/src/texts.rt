@@ -1,0 +1,77 @@
+//! What the examples read, and what is written of it.
+
+use std::alloc::{AllocError, Global};
+
+/// The pods `a` and `b`, and a policy on `b` that permits TCP port 80 from `a`.
+pub const TWO_PODS: &str = concat!(
+    r#"{"apiVersion":"v1","items":["#,
+    r#"{"apiVersion":"v1","kind":"Pod","metadata":{"name":"a","namespace":"default","labels":{"app":"a"}},"#,
+    r#""spec":{"containers":[{"ports":[]}]}},"#,
+    r#"{"apiVersion":"v1","kind":"Pod","metadata":{"name":"b","namespace":"default","labels":{"app":"b"}},"#,
+    r#""spec":{"containers":[{"ports":[]}]}},"#,
+    r#"{"apiVersion":"networking.k8s.io/v1","kind":"NetworkPolicy","metadata":{"name":"p","namespace":"default"},"#,
+    r#""spec":{"podSelector":{"matchLabels":{"app":"b"}},"ingress":["#,
+    r#"{"from":[{"podSelector":{"matchLabels":{"app":"a"}}}],"ports":[{"protocol":"TCP","port":80}]}"#,
+    r#"]}}"#,
+    r#"],"kind":"List"}"#,
+);
+
+/// The one rule of the policy in `TWO_PODS`.
+pub const FROM_A_TO_80: &str =
+    r#"{"from":[{"podSelector":{"matchLabels":{"app":"a"}}}],"ports":[{"protocol":"TCP","port":80}]}"#;
+
+/// The table of `TWO_PODS`.
+pub const TWO_PODS_TABLE: &str = concat!(
+    "default/a[Pod] => default/b[Pod] : TCP 80\n",
+    "default/b[Pod] => default/a[Pod] : All Connections\n",
+);
+
+/// The message of a list of another form than those that are read.
+pub const NOT_BUILT: &str = "error: NotBuilt\n";
+
+/// The list of the items that the words of a line stand for, in order: a number for a policy on the pods whose label
+/// `app` is `b`, which permits that TCP port from those where it is `a`, any other word for a pod of that name, which
+/// is its label `app` too.
+pub fn list_of(alloc: Global, line: &str) -> Result<String, AllocError> {
+    let mut text = String::from_str(alloc, r#"{"apiVersion":"v1","items":["#)?;
+    for (place, word) in line.split_whitespace().enumerate() {
+        if 0 < place {
+            text.push(',')?;
+        }
+        text.push_str(item(alloc, word)?.as_str())?;
+    }
+    text.push_str(r#"],"kind":"List"}"#)?;
+    Ok(text)
+}
+
+// The item that a word stands for.
+fn item(alloc: Global, word: &str) -> Result<String, AllocError> {
+    if word.parse::<u16>().is_ok() {
+        policy(alloc, word)
+    } else {
+        pod(alloc, word)
+    }
+}
+
+// The pod of this name.
+fn pod(alloc: Global, name: &str) -> Result<String, AllocError> {
+    let between_names = [
+        r#"{"apiVersion":"v1","kind":"Pod","metadata":{"name":""#,
+        r#"","namespace":"default","labels":{"app":""#,
+        r#""}},"spec":{"containers":[{"ports":[]}]}}"#,
+    ];
+    between_names.join(alloc, name)
+}
+
+// The policy of this port, which is its name too.
+fn policy(alloc: Global, port: &str) -> Result<String, AllocError> {
+    let between_ports = [
+        r#"{"apiVersion":"networking.k8s.io/v1","kind":"NetworkPolicy","metadata":{"name":""#,
+        concat!(
+            r#"","namespace":"default"},"spec":{"podSelector":{"matchLabels":{"app":"b"}},"ingress":["#,
+            r#"{"from":[{"podSelector":{"matchLabels":{"app":"a"}}}],"ports":[{"protocol":"TCP","port":"#,
+        ),
+        "}]}]}}",
+    ];
+    between_ports.join(alloc, port)
+}

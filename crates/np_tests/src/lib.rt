@@ -1,0 +1,17 @@
+//! Tests that cross crates, on the public surface of the libraries.
+#![tactic(auto)]
+
+#[cfg(test)]
+mod addresses;
+#[cfg(test)]
+mod blocks;
+#[cfg(test)]
+mod conns;
+#[cfg(test)]
+mod four;
+#[cfg(test)]
+mod interval_sets;
+#[cfg(test)]
+mod io;
+#[cfg(test)]
+mod labels;
