@@ -1,20 +1,10 @@
 //! Sets of connections and their texts, by example.
-ghost use Rattle.std.specs.Prelude.{◌≤◌, IfOk, IsTrue};
+ghost use Rattle.std.specs.Prelude.{◌≤◌};
 
 use np_base::{Cells, NoMemory, PortNum};
 use np_conns::{ConnSet, ConnsFault, PortSpot, Proto, print_conns, read_conns};
-use np_sets::IntervalSet;
 use std::alloc::Global;
 use std::test::Fail;
-
-// Whether the join of two sets, without the second, is the first without the second.
-fn is_join_undone<S: Cells>(first: &S, second: &S) -> Result<bool, NoMemory>
-    ensures { IfOk result IsTrue }
-{
-    let left = first.join(second)?.minus(second)?;
-    let direct = first.minus(second)?;
-    Ok(left.same(&direct))
-}
 
 // The ports from `lo` to `hi` of TCP.
 fn tcp(alloc: Global, lo: u16, hi: u16) -> Result<ConnSet, NoMemory>
@@ -83,13 +73,4 @@ fn texts_that_are_refused(rt: HostRuntime) {
     assert!(rt; is_bad(rt.alloc(), "TCP 0"));
     assert!(rt; is_bad(rt.alloc(), ""));
     assert!(rt; is_bad(rt.alloc(), "TCP 1-65535; UDP 1-65535; SCTP 1-65535"));
-}
-
-#[test]
-fn generic_code_at_both_sets(rt: HostRuntime) -> Result<(), Fail> {
-    assert!(rt; is_join_undone(&tcp(rt.alloc(), 1, 90)?, &tcp(rt.alloc(), 80, 99)?)?);
-    let low = IntervalSet::of_range(rt.alloc(), PortNum::new(1), PortNum::new(90))?;
-    let high = IntervalSet::of_range(rt.alloc(), PortNum::new(80), PortNum::new(99))?;
-    assert!(rt; is_join_undone(&low, &high)?);
-    Ok(())
 }

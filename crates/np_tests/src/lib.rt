@@ -10,6 +10,8 @@ mod conns;
 #[cfg(test)]
 mod four;
 #[cfg(test)]
+mod generic;
+#[cfg(test)]
 mod interval_sets;
 #[cfg(test)]
 mod io;
