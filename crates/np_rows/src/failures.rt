@@ -9,9 +9,10 @@ use std::alloc::Global;
 use std::process::Abort;
 use std::test::Fail;
 
-// How many bytes a read hands out, and how many a write takes.
+// How many bytes a read hands out at most.
 const READ_PIECE: usize = 16;
 
+// How many bytes a write takes at most.
 const WRITE_PIECE: usize = 8;
 
 // More calls than a run makes at a place.
@@ -51,7 +52,7 @@ fn fail(
     }
 }
 
-// How many calls at a place of the source there are to fail. Each that does is said.
+// How many calls at a place of the source there are to fail. The run in which one does writes no table, and says so.
 fn unread(rt: &impl Abort, alloc: Global, place: Place) -> Result<u64, NoMemory> {
     for call in 1..MANY_CALLS {
         let ran = run_failing(alloc, TWO_PODS, place, call)?;
@@ -104,7 +105,7 @@ fn the_sink_of_the_table_fails(rt: HostRuntime) -> Result<(), Fail> {
             assert!(rt; least < call);
             return Ok(());
         }
-        assert!(rt; is_unwritten(&ran));
+        assert!(rt; is_unwritten(&ran), "at call {call}");
     }
     panic!(rt; "each run meets a failing call")
 }
@@ -128,7 +129,7 @@ fn the_sink_of_messages_fails(rt: HostRuntime) -> Result<(), Fail> {
             assert!(rt; least < call);
             return Ok(());
         }
-        assert!(rt; is_unsaid(&ran));
+        assert!(rt; is_unsaid(&ran), "at call {call}");
     }
     panic!(rt; "each run meets a failing call")
 }

@@ -22,7 +22,7 @@ fn other_words(rt: HostRuntime) -> Result<(), Fail> {
     Ok(())
 }
 
-// Each row is a change of an accepted list. A change that is none would be accepted.
+// Each row changes an accepted list.
 #[test]
 fn other_forms(rt: HostRuntime) -> Result<(), Fail> {
     for (old, new) in [
@@ -52,6 +52,7 @@ fn no_items(rt: HostRuntime) -> Result<(), Fail> {
     Ok(())
 }
 
+// Each front of a list, the empty one too.
 #[test]
 fn no_whole_text(rt: HostRuntime) -> Result<(), Fail> {
     let bytes = TWO_PODS.as_bytes();
@@ -62,6 +63,7 @@ fn no_whole_text(rt: HostRuntime) -> Result<(), Fail> {
     Ok(())
 }
 
+// A string of one byte that is no character: one that goes on, one that begins, and one that stands in none.
 #[test]
 fn no_text(rt: HostRuntime) -> Result<(), Fail> {
     for byte in [0x80u8, 0xC3, 0xFF] {

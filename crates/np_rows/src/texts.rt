@@ -29,9 +29,9 @@ pub const TWO_PODS_TABLE: &str = concat!(
 /// The message of a list of another form than those that are read.
 pub const NOT_BUILT: &str = "error: NotBuilt\n";
 
-/// The list of the items that the words of a line stand for, in order: a number for a policy on the pods whose label
-/// `app` is `b`, which permits that TCP port from those where it is `a`, any other word for a pod of that name, which
-/// is its label `app` too.
+/// The list of the items that the words of a line stand for, in order. A number stands for a policy of that name on
+/// the pods with `app` = `b`, which permits that TCP port from those with `app` = `a`. Any other word stands for a pod
+/// of that name, which has it as its label `app` too.
 pub fn list_of(alloc: Global, line: &str) -> Result<String, AllocError> {
     let mut text = String::from_str(alloc, r#"{"apiVersion":"v1","items":["#)?;
     for (place, word) in line.split_whitespace().enumerate() {

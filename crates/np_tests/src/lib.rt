@@ -17,3 +17,9 @@ mod interval_sets;
 mod io;
 #[cfg(test)]
 mod labels;
+#[cfg(test)]
+mod layers;
+#[cfg(test)]
+mod tiers;
+#[cfg(test)]
+mod walk;
