@@ -1,6 +1,7 @@
 -- The text of connections, for a test of spots.
-use Rattle.std.specs.Prelude.{ℕ, List, [], ◌∷◌, ◌++◌, Bool, false, ◌&&◌, if◌then◌else◌, ◌==◌, codes, decimal}
+use Rattle.std.specs.Prelude.{ℕ, List, [], ◌∷◌, ◌++◌, Bool, false, ◌&&◌, if◌then◌else◌, ◌==◌, codes, decimal, Option, Some, None}
 use Rattle.std.specs.List.{join_by}
+use Rattle.std.specs.Str.{bytes_eq}
 use Rattle.np_base.specs.declared.range.Range.{Range}
 use Rattle.np_conns.specs.Runs.{runs}
 use Rattle.np_conns.specs.declared.port_spot.PortSpot.{PortSpot}
@@ -11,6 +12,14 @@ abbrev pub proto_name : Proto → List ℕ
 proto_name Tcp = codes "TCP"
 proto_name Udp = codes "UDP"
 proto_name Sctp = codes "SCTP"
+
+-- the protocol of a name
+abbrev pub proto_named : List ℕ → Option Proto
+proto_named name =
+    if bytes_eq name (codes "TCP") then Some Tcp
+    else if bytes_eq name (codes "UDP") then Some Udp
+    else if bytes_eq name (codes "SCTP") then Some Sctp
+    else None
 
 -- a run of one port is the port, a longer one is `lo-hi`
 abbrev pub run_text : Range ℕ → List ℕ

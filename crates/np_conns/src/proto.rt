@@ -10,6 +10,23 @@ pub enum Proto {
     Sctp,
 }
 
+impl Proto {
+    ghost use Rattle.std.specs.Prelude.{◌≡◌};
+    ghost use Rattle.np_conns.specs.ConnsText.{proto_named};
+
+    /// The protocol of this name, in capital letters. `None` where the name is none of the three.
+    pub fn named(name: &str) -> Option<Proto>
+        ensures { result ≡ proto_named name.now }
+    {
+        match name {
+            "TCP" => Some(Proto::Tcp),
+            "UDP" => Some(Proto::Udp),
+            "SCTP" => Some(Proto::Sctp),
+            _ => None,
+        }
+    }
+}
+
 impl fmt::Display for Proto {
     ghost use Rattle.std.specs.Prelude.{Some};
     ghost use Rattle.np_conns.specs.ConnsText.{proto_name};

@@ -1,15 +1,9 @@
 //! NetworkPolicy of `networking.k8s.io/v1`.
 
+use np_addr::Cidr;
 use np_base::{PortNum, Seq, Text};
 use np_conns::Proto;
 use np_labels::Selector;
-
-/// Which way a rule looks: at who may send to the selected pods, or at whom they may send to.
-#[derive(Clone, Copy, Debug, PartialEq, Eq)]
-pub enum Direction {
-    Ingress,
-    Egress,
-}
 
 /// An entry of `from` or `to` (Kubernetes API reference, NetworkPolicyPeer).
 #[derive(Debug, Drop)]
@@ -20,6 +14,8 @@ pub enum NetPeer {
         namespaces: Option<Selector>,
         pods: Option<Selector>,
     },
+    /// The addresses of a block that are in none of its exceptions: `ipBlock`.
+    Block { cidr: Cidr, excepts: Seq<Cidr> },
 }
 
 /// An entry of `ports` (Kubernetes API reference, NetworkPolicyPort).
@@ -31,6 +27,8 @@ pub enum NetPort {
         lo: PortNum,
         hi: PortNum,
     },
+    /// The ports of that name and protocol at the destination.
+    Named { proto: Proto, name: Text },
 }
 
 /// An entry of `ingress` or `egress`. Without peers it matches every end, without port entries every protocol

@@ -1,0 +1,39 @@
+//! Controllers of pods.
+
+use crate::named_port::NamedPort;
+use crate::owner_ref::OwnerRef;
+use np_base::{Seq, Text};
+use np_labels::Labels;
+
+/// The kinds of controllers (Kubernetes API reference, Workload Resources).
+#[derive(Clone, Copy, Debug, PartialEq, Eq)]
+pub enum ControllerKind {
+    Deployment,
+    ReplicaSet,
+    StatefulSet,
+    DaemonSet,
+    ReplicationController,
+    Job,
+    CronJob,
+}
+
+/// The pods that a controller makes (Kubernetes API reference, PodTemplateSpec).
+#[derive(Debug, Drop)]
+pub struct Template {
+    pub labels: Labels,
+    /// The container ports that have a name, in order.
+    pub ports: Seq<NamedPort>,
+    pub host_network: bool,
+}
+
+/// A controller as it is listed.
+#[derive(Debug, Drop)]
+pub struct ControllerItem {
+    pub kind: ControllerKind,
+    pub namespace: Text,
+    pub name: Text,
+    pub owner: Option<OwnerRef>,
+    /// Whether `spec.replicas` is 0.
+    pub none_wanted: bool,
+    pub template: Option<Template>,
+}

@@ -1,0 +1,19 @@
+//! An object of any kind.
+
+use crate::controller::ControllerItem;
+use crate::ingress::IngressItem;
+use crate::namespace::NamespaceItem;
+use crate::pod_item::PodItem;
+use crate::service::ServiceItem;
+
+/// An object of a list.
+#[derive(Debug, Drop)]
+pub enum Object {
+    Pod(PodItem),
+    Namespace(NamespaceItem),
+    Controller(ControllerItem),
+    Service(ServiceItem),
+    Ingress(IngressItem),
+    /// An object of a kind that is not read here, policies among them.
+    Other,
+}
