@@ -1,18 +1,21 @@
 -- Blocks of addresses.
-use Rattle.std.proofs.Common.{◌≡◌, ℕ, Bool, true, false, not, ◌&&◌, ◌||◌, List, [], ◌∷◌, ◌++◌, take, length, get_or, ◌+◌, ◌-◌, ◌*◌, ◌/◌, ◌%◌, ◌^◌, ◌<◌, ◌≤◌, bit_and, Option, Some, None, IsSome, refl, sym, ap, ◌∙◌, one-mul, arith}
+use Rattle.std.proofs.Common.{◌≡◌, ℕ, Bool, true, false, not, ◌&&◌, ◌||◌, nat_le, nat_lt, min, List, [], ◌∷◌, ◌++◌, take, length, get_or, ◌+◌, ◌-◌, ◌*◌, ◌/◌, ◌%◌, ◌^◌, ◌<◌, ◌≤◌, bit_and, Option, Some, None, IsSome, refl, sym, ap, ◌∙◌, one-mul, arith}
 use Rattle.std.proofs.Math.Nat.{mul-mod_left, mul-le-mul_right, add-mul}
 use Rattle.std.specs.Option.{SomeIff}
-use Rattle.std.proofs.lemmas.Nat.{shr_below, shr_split, pow-add}
+use Rattle.std.proofs.lemmas.Nat.{pow_pos, shr_below, shr_split, pow-add}
 use Rattle.std.proofs.lemmas.Nat.Bits.{and_high_mask}
 use Rattle.std.proofs.lemmas.List.{take_more}
+use Rattle.std.proofs.lemmas.Bool.Decides.{nat_tests}
 use Rattle.std.specs.List.{list_any}
 use Rattle.np_base.specs.Beside.{by_side}
 use Rattle.np_base.specs.Ranges.{holds}
+use Rattle.np_base.specs.declared.range.Range.{Range}
 use Rattle.np_base.specs.declared.beside.Which.{Which}
 use Rattle.np_base.specs.declared.beside.Which.TheVariants.{First, Second}
 use Rattle.np_addr.specs.declared.address.Address.{Address}
 use Rattle.np_addr.specs.declared.address.Address.TheVariants.{Four, Six}
 use Rattle.np_addr.specs.declared.cidr.Cidr.{Cidr}
+use Rattle.np_addr.specs.declared.cidr.Cidr.TheVariants as cidr
 use Rattle.np_addr.specs.Addresses.{cidr_has}
 use Rattle.np_addr.specs.AddressGrammar.{cleared}
 use Rattle.np_addr.specs.Blocks.{AddressRanges, set_has, block_has}
@@ -82,3 +85,21 @@ one_less block excepts i except set hole made within is so_far part minus addres
     set_has-minus set hole made minus address
     ∙ (λ k. so_far address k && not (part address k))
     ∙ sym (block_has-more block excepts i except address within is)
+
+-- a range that ends one before the end of the block holds the block's numbers
+same_end : (base last n size : ℕ) → last + 1 ≡ base + size → nat_le n last ≡ nat_lt n (base + size)
+same_end base last n size ends = grind (arith, nat_tests)
+
+-- the ranges of a block of IPv4 addresses
+pub four_has : (base last len : ℕ) (first second : List (Range ℕ)) → last + 1 ≡ base + 2 ^ (32 - len) → ((n : ℕ) → holds (λ a. a) first n ≡ (nat_le base n && nat_le n last)) → ((n : ℕ) → holds (λ a. a) second n ≡ false) → (address : Address) → set_has (record { first = first; second = second }) address ≡ cidr_has (cidr.Four base len) address
+four_has base last len first second ends members none (Four n) = members n ∙ ap (λ t. nat_le base n && t) (same_end base last n _ ends)
+four_has base last len first second ends members none (Six n) = none n
+
+-- the ranges of a block of IPv6 addresses
+pub six_has : (base last len : ℕ) (first second : List (Range ℕ)) → last + 1 ≡ base + 2 ^ (128 - len) → ((n : ℕ) → holds (λ a. a) first n ≡ false) → ((n : ℕ) → holds (λ a. a) second n ≡ (nat_le base n && nat_le n last)) → (address : Address) → set_has (record { first = first; second = second }) address ≡ cidr_has (cidr.Six base len) address
+six_has base last len first second ends none members (Four n) = none n
+six_has base last len first second ends none members (Six n) = members n ∙ ap (λ t. nat_le base n && t) (same_end base last n _ ends)
+
+-- the last number of a well-formed block
+pub block_last : (width len base last : ℕ) → len ≤ width → base % 2 ^ (width - len) ≡ 0 → base < 2 ^ width → last ≡ min (base + 2 ^ (width - len) - 1) (2 ^ width - 1) → last + 1 ≡ base + 2 ^ (width - len)
+block_last width len base last within rest fits is = omega (arith, block_end width len base within rest fits, pow_pos (width - len), is)

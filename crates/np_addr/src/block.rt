@@ -1,11 +1,11 @@
 //! The addresses of a block without some of its parts.
-ghost use Rattle.std.specs.Prelude.{◌≡◌, ℕ, ◌↔◌, Err, Some, IfOk, All};
-ghost use Rattle.np_addr.specs.Addresses.{IsCidr, cidr_has};
+ghost use Rattle.std.specs.Prelude.{◌≡◌, ℕ, ◌+◌, ◌-◌, ◌^◌, ◌≤◌, ◌↔◌, Err, Some, IfOk, All, min};
+ghost use Rattle.np_addr.specs.Addresses.{IsAddress, IsCidr, cidr_has};
 ghost use Rattle.np_addr.specs.Blocks.{set_has, IsAddressSet, bits_of, base_of, is_strict_part, first_bad_except, block_has};
 ghost use Rattle.np_addr.specs.declared.address.Address.{Address};
 
 use crate::address::Address;
-use crate::cidr::{Cidr, cidr_has, low_bits};
+use crate::cidr::{Cidr, cidr_has, free_bits, low_bits};
 use np_base::{Beside, Cells, NoMemory, Point, V4, V6};
 use np_sets::IntervalSet;
 use std::alloc::Global;
@@ -71,9 +71,9 @@ pub fn block_set(alloc: Global, cidr: Cidr, excepts: &[Cidr]) -> Result<AddrSet,
             place: place as u64,
         });
     }
-    let mut set = whole_set(alloc, &cidr)?;
+    let mut set = cidr_set(alloc, &cidr)?;
     for except in excepts {
-        let hole = whole_set(alloc, except)?;
+        let hole = cidr_set(alloc, except)?;
         set = set.minus(&hole)?;
     }
     Ok(set)
@@ -81,7 +81,6 @@ pub fn block_set(alloc: Global, cidr: Cidr, excepts: &[Cidr]) -> Result<AddrSet,
 
 // The place of the first except that is no strict part of the block.
 fn first_bad_except(block: &Cidr, excepts: &[Cidr]) -> Option<usize>
-    requires block { IsCidr block.now }
     ensures { result ≡ first_bad_except block.now excepts.now }
 {
     excepts
@@ -91,7 +90,6 @@ fn first_bad_except(block: &Cidr, excepts: &[Cidr]) -> Option<usize>
 
 // Whether the second block is a part of the first, and not all of it.
 fn is_strict_part(block: &Cidr, except: &Cidr) -> bool
-    requires { IsCidr block.now }
     ensures { result ≡ is_strict_part block.now except.now }
 {
     bits_of(block) < bits_of(except) && cidr_has(block, base_of(except))
@@ -116,26 +114,38 @@ fn base_of(block: &Cidr) -> Address
     }
 }
 
-// All addresses of the block.
-fn whole_set(alloc: Global, block: &Cidr) -> Result<AddrSet, NoMemory>
-    requires { IsCidr block.now }
-    ensures members { IfOk result (λ set. (address : Address) → set_has set address ≡ cidr_has block.now address) }
+/// All addresses of the block. Where it is not well formed, it is cut at the greatest address of its family.
+pub fn cidr_set(alloc: Global, cidr: &Cidr) -> Result<AddrSet, NoMemory>
+    ensures members { IfOk result (λ set. (address : Address) → IsAddress address →
+        set_has set address ≡ cidr_has cidr.now address) }
+    ensures exact { IsCidr cidr.now → IfOk result (λ set. (address : Address) →
+        set_has set address ≡ cidr_has cidr.now address) }
     ensures well { IfOk result IsAddressSet }
 {
-    match block {
-        Cidr::Four { base, length } => {
-            let last = V4::at(base.number() + low_bits(32 - *length)).unwrap();
-            Ok(Beside {
-                first: IntervalSet::of_range(alloc, *base, last)?,
-                second: IntervalSet::nothing(alloc)?,
-            })
-        }
-        Cidr::Six { base, length } => {
-            let last = V6::at(base.number() + low_bits(128 - *length)).unwrap();
-            Ok(Beside {
-                first: IntervalSet::nothing(alloc)?,
-                second: IntervalSet::of_range(alloc, *base, last)?,
-            })
-        }
+    match cidr {
+        Cidr::Four { base, length } => Ok(Beside {
+            first: IntervalSet::of_range(alloc, *base, last_of(*base, free_bits(32, *length)))?,
+            second: IntervalSet::nothing(alloc)?,
+        }),
+        Cidr::Six { base, length } => Ok(Beside {
+            first: IntervalSet::nothing(alloc)?,
+            second: IntervalSet::of_range(alloc, *base, last_of(*base, free_bits(128, *length)))?,
+        }),
+    }
+}
+
+// The last point of those that begin at `base`, in which `free` bits are free, or the greatest point.
+fn last_of<P: Point>(base: P, free: u8) -> P
+    requires { free ≤ 128 }
+    ensures last { P.number_of result ≡ min (P.number_of base + 2 ^ free - 1) P.HIGH }
+    ensures ordered { P.number_of base ≤ P.number_of result }
+    ensures high { P.number_of result ≤ P.HIGH }
+{
+    let first = base.number();
+    let more = low_bits(free);
+    if more < P::HIGH - first {
+        P::at(first + more).unwrap()
+    } else {
+        P::at(P::HIGH).unwrap()
     }
 }

@@ -1,5 +1,5 @@
 //! Blocks of addresses.
-ghost use Rattle.std.specs.Prelude.{◌≡◌, ◌+◌, ◌%◌, ◌^◌, ◌≤◌, ◌&&◌, nat_le, nat_lt};
+ghost use Rattle.std.specs.Prelude.{◌≡◌, ◌+◌, ◌-◌, ◌%◌, ◌^◌, ◌≤◌, ◌&&◌, nat_le, nat_lt};
 ghost use Rattle.np_addr.specs.Addresses.{family_of, width_of, IsCidr, cidr_has};
 ghost use Rattle.np_addr.specs.AddressGrammar.{block_of, cleared};
 
@@ -17,18 +17,24 @@ pub enum Cidr {
 
 /// Whether the address is in the block. An address of the other family is not.
 pub fn cidr_has(cidr: &Cidr, address: Address) -> bool
-    requires { IsCidr cidr.now }
     ensures { result ≡ cidr_has cidr.now address }
 {
     match (cidr, address) {
         (Cidr::Four { base, length }, Address::Four(point)) => {
-            covers(base.number(), 32 - *length, point.number())
+            covers(base.number(), free_bits(32, *length), point.number())
         }
         (Cidr::Six { base, length }, Address::Six(point)) => {
-            covers(base.number(), 128 - *length, point.number())
+            covers(base.number(), free_bits(128, *length), point.number())
         }
         _ => false,
     }
+}
+
+// How many bits of so many are free behind the first `length`.
+pub(crate) fn free_bits(width: u8, length: u8) -> u8
+    ensures { result ≡ width - length }
+{
+    if length < width { width - length } else { 0 }
 }
 
 // Whether the number is one of those of the block that begins at `base`, in which `free` bits are free.

@@ -1,67 +1,105 @@
 //! The whole of what a list says.
-ghost use Rattle.std.specs.Prelude.{◌≡◌, [], ◌∷◌, ◌++◌, OnOk, OnErr};
+ghost use Rattle.std.specs.Prelude.{◌≡◌};
+ghost use Rattle.std.specs.Option.{option_copied};
+ghost use Rattle.np_estate.specs.Families.{families_of};
+ghost use Rattle.np_estate.specs.Lawful.{HasAscendingPriorities};
 
+use crate::families::families_of;
+use crate::lists::EstateLists;
+use crate::notes::Notes;
+use crate::placed_ingress::PlacedIngress;
 use crate::pod::Pod;
-use np_base::{NoMemory, Seq};
-use np_policies::NetPolicy;
-use std::alloc::Global;
+use np_addr::Family;
+use np_objects::ServiceItem;
+use np_policies::{AdminPolicy, BasePolicy, NetPolicy};
 use std::marker::Model;
 
-/// The pods of a list and the policies on them. Contracts see it as the two lists.
+/// The whole of what a list says, to be looked at. Contracts see it as its lists. Its admin policies ascend strictly
+/// in priority, so that the first of them that matches is the one that decides.
 #[derive(Debug, Drop)]
 pub struct Estate {
-    pods: Seq<Pod>,
-    net_policies: Seq<NetPolicy>,
+    lists: EstateLists,
+    families: &'static [Family],
 }
 
 impl Model for Estate {
-    ghost use Rattle.np_estate.specs.Lists.{Lists};
+    ghost use Rattle.std.specs.Prelude.{◌≡◌};
+    ghost use Rattle.np_estate.specs.declared.lists.EstateLists.{EstateLists};
 
-    ghost Value = { Lists };
+    ghost Value = { EstateLists };
 
-    ghost view = { λ e. record { pods = e.pods; net_policies = e.net_policies } };
+    ghost use Rattle.np_estate.specs.Families.{families_of};
+    ghost use Rattle.np_estate.specs.Lawful.{HasAscendingPriorities};
+
+    ghost view = { λ e. e.lists };
+
+    ghost invariant = { λ e. (e.families.now ≡ families_of e.lists.pods) × HasAscendingPriorities e.lists.admin_policies };
 }
 
 impl Estate {
-    /// The estate of nothing. It takes no memory.
-    pub fn empty(alloc: Global) -> Estate
-        ensures pods { result.pods ≡ [] }
-        ensures net_policies { result.net_policies ≡ [] }
+    /// The estate of these lists. It takes no memory.
+    pub fn of(lists: EstateLists) -> Estate
+        requires { HasAscendingPriorities lists.admin_policies }
+        ensures { result ≡ lists }
     {
-        Estate {
-            pods: Seq::new(alloc),
-            net_policies: Seq::new(alloc),
-        }
+        let families = families_of(lists.pods.items());
+        Estate { lists, families }
     }
 
-    /// Puts a pod last. On `NoMemory` the estate is as before.
-    pub fn push_pod(&mut self, pod: Pod) -> Result<(), NoMemory>
-        ensures ok { OnOk result (self.new ≡ record self.old { pods = self.old.pods ++ pod ∷ [] }) }
-        ensures err { OnErr result (self.new ≡ self.old) }
-    {
-        self.pods.push(pod)
-    }
-
-    /// Puts a NetworkPolicy last. On `NoMemory` the estate is as before.
-    pub fn push_net_policy(&mut self, policy: NetPolicy) -> Result<(), NoMemory>
-        ensures ok { OnOk result
-            (self.new ≡ record self.old { net_policies = self.old.net_policies ++ policy ∷ [] }) }
-        ensures err { OnErr result (self.new ≡ self.old) }
-    {
-        self.net_policies.push(policy)
-    }
-
-    /// The pods, in the order of the list.
+    /// The pods, in the order of the items. A template's pod stands at its controller's place.
     pub fn pods(&self) -> &[Pod]
         ensures { result.now ≡ self.now.pods }
     {
-        self.pods.items()
+        self.lists.pods.items()
     }
 
-    /// The NetworkPolicies, in the order of the list.
+    /// The families of which some pod has an address, IPv4 first, and IPv4 alone where no pod has one.
+    pub fn families(&self) -> &[Family]
+        ensures { result.now ≡ families_of self.now.pods }
+    {
+        self.families
+    }
+
+    /// The NetworkPolicies.
     pub fn net_policies(&self) -> &[NetPolicy]
         ensures { result.now ≡ self.now.net_policies }
     {
-        self.net_policies.items()
+        self.lists.net_policies.items()
+    }
+
+    /// The AdminNetworkPolicies, in the strict order of their priorities.
+    pub fn admin_policies(&self) -> &[AdminPolicy]
+        ensures value { result.now ≡ self.now.admin_policies }
+        ensures ascending { HasAscendingPriorities self.now.admin_policies }
+    {
+        self.lists.admin_policies.items()
+    }
+
+    /// The BaselineAdminNetworkPolicy, where one is listed.
+    pub fn baseline(&self) -> Option<&BasePolicy>
+        ensures { option_copied result ≡ self.now.baseline }
+    {
+        self.lists.baseline.as_ref()
+    }
+
+    /// The services, in the order of the items.
+    pub fn services(&self) -> &[ServiceItem]
+        ensures { result.now ≡ self.now.services }
+    {
+        self.lists.services.items()
+    }
+
+    /// The ingresses, in the order of the items.
+    pub fn ingresses(&self) -> &[PlacedIngress]
+        ensures { result.now ≡ self.now.ingresses }
+    {
+        self.lists.ingresses.items()
+    }
+
+    /// What was left out.
+    pub fn notes(&self) -> Notes
+        ensures { result ≡ self.now.notes }
+    {
+        self.lists.notes
     }
 }

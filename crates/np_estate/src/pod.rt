@@ -1,13 +1,24 @@
 //! Pods as ends of connections.
 
-use np_base::Text;
+use crate::owner::Owner;
+use np_addr::Address;
+use np_base::{Seq, Text};
 use np_labels::Labels;
+use np_objects::NamedPort;
 
 /// A pod (Kubernetes API reference, Pod), with the labels of its namespace.
 #[derive(Debug, Drop)]
 pub struct Pod {
     pub namespace: Text,
+    /// They say the namespace's name under `kubernetes.io/metadata.name` where they were read from JSON.
     pub namespace_labels: Labels,
     pub name: Text,
     pub labels: Labels,
+    /// The container ports that have a name, in order.
+    pub ports: Seq<NamedPort>,
+    pub addresses: Seq<Address>,
+    /// The top owner.
+    pub owner: Owner,
+    /// Whether the pod itself is listed. One that is not is made from a controller's template.
+    pub listed: bool,
 }

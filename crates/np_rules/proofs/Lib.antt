@@ -1,2 +1,4 @@
-pub mod Joins
-pub mod SidesLemmas
+pub mod PlacesLemmas
+pub mod AdminTierLemmas
+pub mod NetTierLemmas
+pub mod BaseTierLemmas

@@ -1,7 +1,13 @@
+pub mod AdminTier
+pub mod BaseTier
+pub mod Deciders
 pub mod Ends
-pub mod Selection
+pub mod NetTier
 pub mod Peers
+pub mod Places
 pub mod PortEntries
 pub mod Rules
+pub mod Selection
 pub mod Sides
 pub mod Verdict
+pub mod Views

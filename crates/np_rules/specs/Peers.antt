@@ -1,22 +1,44 @@
 -- Which ends a peer stands for.
-use Rattle.std.specs.Prelude.{Bool, false, ◌&&◌, Option, Some, None}
+use Rattle.std.specs.Prelude.{ℕ, List, Bool, false, ◌&&◌, Option, Some, None}
+use Rattle.std.specs.List.{list_any}
 use Rattle.std.specs.Str.{bytes_eq}
-use Rattle.np_estate.specs.declared.pod.Pod.{Pod}
+use Rattle.np_addr.specs.Addresses.{cidr_has}
+use Rattle.np_addr.specs.Blocks.{block_has}
+use Rattle.np_addr.specs.declared.address.Address.{Address}
+use Rattle.np_addr.specs.declared.address.Family.{Family}
+use Rattle.np_addr.specs.declared.cidr.Cidr.{Cidr}
+use Rattle.np_estate.specs.Families.{is_of}
 use Rattle.np_labels.specs.Selectors.{meets_selector}
 use Rattle.np_labels.specs.declared.selector.Selector.{Selector}
+use Rattle.np_policies.specs.declared.admin_policy.AdminPeer.{AdminPeer}
+use Rattle.np_policies.specs.declared.admin_policy.AdminPeer.TheVariants as admin
 use Rattle.np_policies.specs.declared.network_policy.NetPeer.{NetPeer}
-use Rattle.np_policies.specs.declared.network_policy.NetPeer.TheVariants.{Pods}
-use Rattle.np_policies.specs.declared.network_policy.NetPolicy.{NetPolicy}
-use Rattle.np_rules.specs.Ends.{End, pod}
+use Rattle.np_policies.specs.declared.network_policy.NetPeer.TheVariants as net
+use Rattle.np_rules.specs.Ends.{End, PodEnd, pod, address}
 
--- A pod selector without a namespace selector looks in the policy's own namespace, one with it in the namespaces
--- that it matches. A namespace selector alone stands for all pods of its namespaces.
-abbrev pub pods_match : NetPolicy → Option Selector → Option Selector → Pod → Bool
-pods_match policy None None p = false
-pods_match policy None (Some pods) p = bytes_eq policy.namespace p.namespace && meets_selector pods p.labels
-pods_match policy (Some namespaces) None p = meets_selector namespaces p.namespace_labels
-pods_match policy (Some namespaces) (Some pods) p = meets_selector namespaces p.namespace_labels && meets_selector pods p.labels
+-- whether a pod is one of those that the two selectors of a NetworkPolicy's peer stand for
+abbrev pub pods_match : List ℕ → Option Selector → Option Selector → PodEnd → Bool
+pods_match namespace None None p = false
+pods_match namespace None (Some pods) p = bytes_eq namespace p.namespace && meets_selector pods p.labels
+pods_match namespace (Some namespaces) None p = meets_selector namespaces p.namespace_labels
+pods_match namespace (Some namespaces) (Some pods) p = meets_selector namespaces p.namespace_labels && meets_selector pods p.labels
 
--- whether an end is one of a peer of a policy
-abbrev pub peer_matches : NetPolicy → NetPeer → End → Bool
-peer_matches policy (Pods namespaces pods) (pod p) = pods_match policy namespaces pods p
+-- A peer of a NetworkPolicy of this namespace. A pod selector alone stands for pods of that namespace, and a block for
+-- addresses alone.
+abbrev pub net_peer_matches : List ℕ → NetPeer → End → Bool
+net_peer_matches namespace (net.Pods namespaces pods) (pod p) = pods_match namespace namespaces pods p
+net_peer_matches namespace (net.Pods namespaces pods) (address a) = false
+net_peer_matches namespace (net.Block cidr excepts) (pod p) = false
+net_peer_matches namespace (net.Block cidr excepts) (address a) = block_has cidr excepts a
+
+-- whether an address is in some of the blocks
+abbrev pub in_some : List Cidr → Address → Bool
+in_some cidrs a = list_any (λ cidr. cidr_has cidr a) cidrs
+
+-- A peer of an admin rule, for a packet of a family. Networks stand for the addresses in them, and for the pods of
+-- which some address of that family is in them.
+abbrev pub admin_peer_matches : AdminPeer → End → Family → Bool
+admin_peer_matches (admin.Pods namespaces pods) (pod p) family = meets_selector namespaces p.namespace_labels && meets_selector pods p.labels
+admin_peer_matches (admin.Pods namespaces pods) (address a) family = false
+admin_peer_matches (admin.Networks cidrs) (pod p) family = list_any (λ a. is_of family a && in_some cidrs a) p.addresses
+admin_peer_matches (admin.Networks cidrs) (address a) family = in_some cidrs a

@@ -1,11 +1,36 @@
--- Which protocols and ports a port entry stands for.
-use Rattle.std.specs.Prelude.{Bool, ◌&&◌, nat_le}
-use Rattle.np_conns.specs.declared.port_spot.PortSpot.{PortSpot}
+-- Which protocols and ports a port entry matches.
+use Rattle.std.specs.Prelude.{ℕ, List, Bool, false, ◌&&◌, ◌==◌, nat_le}
+use Rattle.std.specs.List.{list_any}
+use Rattle.std.specs.Str.{bytes_eq}
 use Rattle.np_conns.specs.Conns.{same_proto}
+use Rattle.np_conns.specs.declared.port_spot.PortSpot.{PortSpot}
+use Rattle.np_conns.specs.declared.proto.Proto.{Proto}
+use Rattle.np_objects.specs.declared.named_port.NamedPort.{NamedPort}
+use Rattle.np_policies.specs.declared.admin_policy.AdminPort.{AdminPort}
+use Rattle.np_policies.specs.declared.admin_policy.AdminPort.TheVariants as admin
 use Rattle.np_policies.specs.declared.network_policy.NetPort.{NetPort}
-use Rattle.np_policies.specs.declared.network_policy.NetPort.TheVariants.{Span}
-use Rattle.np_rules.specs.Ends.{End}
+use Rattle.np_policies.specs.declared.network_policy.NetPort.TheVariants as net
+use Rattle.np_rules.specs.Ends.{End, pod, address}
 
--- A numeric entry matches its protocol and its ports, both ends of its range included, at every destination.
-abbrev pub entry_matches : NetPort → End → PortSpot → Bool
-entry_matches (Span proto lo hi) destination spot = same_proto spot.proto proto && (nat_le lo spot.port && nat_le spot.port hi)
+-- whether the spot has the protocol, and a port from lo to hi
+abbrev pub in_span : Proto → ℕ → ℕ → PortSpot → Bool
+in_span proto lo hi spot = same_proto spot.proto proto && (nat_le lo spot.port && nat_le spot.port hi)
+
+-- whether a container port has the name, and is the spot's port of the spot's protocol
+abbrev pub is_named : List ℕ → PortSpot → NamedPort → Bool
+is_named name spot port = bytes_eq port.name name && (same_proto spot.proto port.proto && (spot.port == port.number))
+
+-- whether the spot is a port of that name at the end; an address has none
+abbrev pub has_named : List ℕ → PortSpot → End → Bool
+has_named name spot (pod p) = list_any (is_named name spot) p.ports
+has_named name spot (address a) = false
+
+-- a port entry of a NetworkPolicy, for a packet to this destination
+abbrev pub net_entry_matches : NetPort → End → PortSpot → Bool
+net_entry_matches (net.Span proto lo hi) destination spot = in_span proto lo hi spot
+net_entry_matches (net.Named proto name) destination spot = same_proto spot.proto proto && has_named name spot destination
+
+-- a port entry of an admin rule: a named port has the protocol that it has at the destination
+abbrev pub admin_entry_matches : AdminPort → End → PortSpot → Bool
+admin_entry_matches (admin.Span proto lo hi) destination spot = in_span proto lo hi spot
+admin_entry_matches (admin.Named name) destination spot = has_named name spot destination

@@ -1,19 +1,26 @@
--- When a rule matches.
-use Rattle.std.specs.Prelude.{List, [], ◌∷◌, Bool, true, ◌&&◌}
+-- What a rule matches.
+use Rattle.std.specs.Prelude.{ℕ, List, [], ◌∷◌, Bool, true, ◌&&◌}
 use Rattle.std.specs.List.{list_any}
-use Rattle.np_conns.specs.declared.port_spot.PortSpot.{PortSpot}
-use Rattle.np_policies.specs.declared.network_policy.NetPolicy.{NetPolicy}
+use Rattle.np_policies.specs.declared.admin_policy.AdminRule.{AdminRule}
 use Rattle.np_policies.specs.declared.network_policy.NetRule.{NetRule}
-use Rattle.np_rules.specs.Ends.{End}
-use Rattle.np_rules.specs.Peers.{peer_matches}
-use Rattle.np_rules.specs.PortEntries.{entry_matches}
+use Rattle.np_rules.specs.Ends.{Contact}
+use Rattle.np_rules.specs.Peers.{net_peer_matches, admin_peer_matches}
+use Rattle.np_rules.specs.PortEntries.{net_entry_matches, admin_entry_matches}
 
--- An empty list restricts nothing.
+-- whether some item passes, where no items at all do not restrict
 abbrev pub none_or_any : {X : Type 0} → (X → Bool) → List X → Bool
-none_or_any test [] = true
-none_or_any test (x ∷ xs) = list_any test (x ∷ xs)
+none_or_any passes [] = true
+none_or_any passes (item ∷ items) = list_any passes (item ∷ items)
 
--- A rule matches where some peer matches the far end and some port entry matches the destination and the spot. A
--- rule without peers matches every end, one without port entries every spot.
-abbrev pub rule_matches : NetPolicy → End → End → PortSpot → NetRule → Bool
-rule_matches policy far destination spot rule = none_or_any (λ peer. peer_matches policy peer far) rule.peers && none_or_any (λ entry. entry_matches entry destination spot) rule.ports
+-- A rule of a NetworkPolicy of this namespace: some peer matches the far end, and some port entry matches the
+-- destination and the spot. Without peers it matches every far end, and without port entries every spot.
+abbrev pub net_rule_matches : List ℕ → NetRule → Contact → Bool
+net_rule_matches namespace rule contact =
+    none_or_any (λ peer. net_peer_matches namespace peer contact.far) rule.peers
+    && none_or_any (λ entry. net_entry_matches entry contact.destination contact.spot) rule.ports
+
+-- An admin rule: the same, but without peers it matches nothing.
+abbrev pub admin_rule_matches : AdminRule → Contact → Bool
+admin_rule_matches rule contact =
+    list_any (λ peer. admin_peer_matches peer contact.far contact.family) rule.peers
+    && none_or_any (λ entry. admin_entry_matches entry contact.destination contact.spot) rule.ports

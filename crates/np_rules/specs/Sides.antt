@@ -1,32 +1,44 @@
--- What the policies on one end of a connection say.
-use Rattle.std.specs.Prelude.{List, Bool, true, false, ◌&&◌, Option, Some, None, is_some, if◌then◌else◌}
-use Rattle.std.specs.List.{list_any}
-use Rattle.np_conns.specs.declared.port_spot.PortSpot.{PortSpot}
-use Rattle.np_policies.specs.declared.network_policy.Direction.{Direction}
-use Rattle.np_policies.specs.declared.network_policy.Direction.TheVariants.{Ingress, Egress}
-use Rattle.np_policies.specs.declared.network_policy.NetPolicy.{NetPolicy}
-use Rattle.np_policies.specs.declared.network_policy.NetRule.{NetRule}
-use Rattle.np_rules.specs.Ends.{End}
-use Rattle.np_rules.specs.Rules.{rule_matches}
-use Rattle.np_rules.specs.Selection.{selects}
+-- What a pod's own side says of a packet.
+use Rattle.std.specs.Prelude.{Bool, true, false, Option, Some, None, if◌then◌else◌}
+use Rattle.np_estate.specs.declared.lists.EstateLists.{EstateLists}
+use Rattle.np_policies.specs.declared.admin_policy.Action.{Action}
+use Rattle.np_policies.specs.declared.admin_policy.Action.TheVariants.{Allow, Deny, Pass}
+use Rattle.np_policies.specs.declared.direction.Direction.{Direction}
+use Rattle.np_rules.specs.AdminTier.{admin_decider}
+use Rattle.np_rules.specs.BaseTier.{base_decider}
+use Rattle.np_rules.specs.Ends.{Contact, PodEnd}
+use Rattle.np_rules.specs.NetTier.{is_isolated, permits}
+use Rattle.np_rules.specs.Places.{PlacedAdminRule, PlacedBaseRule}
 
--- the rules of a direction, where it is among the policy's types
-abbrev pub rules_of : Direction → NetPolicy → Option (List NetRule)
-rules_of Ingress policy = policy.ingress
-rules_of Egress policy = policy.egress
+-- what an admin rule says, where the tiers below say `below`
+abbrev pub action_says : Action → Bool → Bool
+action_says Allow below = true
+action_says Deny below = false
+action_says Pass below = below
 
--- A policy isolates the ends that it selects in the directions among its types.
-abbrev pub isolates : Direction → End → NetPolicy → Bool
-isolates direction end policy = selects policy end && is_some (rules_of direction policy)
+-- what the admin rule that decides says; without one the tiers below say
+abbrev pub admin_says : Option PlacedAdminRule → Bool → Bool
+admin_says None below = below
+admin_says (Some placed) below = action_says placed.rule.action below
 
-abbrev pub some_rule_matches : NetPolicy → End → End → PortSpot → Option (List NetRule) → Bool
-some_rule_matches policy far destination spot None = false
-some_rule_matches policy far destination spot (Some rules) = list_any (rule_matches policy far destination spot) rules
+abbrev pub is_allow : Action → Bool
+is_allow Allow = true
+is_allow Deny = false
+is_allow Pass = false
 
--- A policy permits what some rule of that direction matches, at the ends that it selects.
-abbrev pub permits : Direction → End → End → End → PortSpot → NetPolicy → Bool
-permits direction end far destination spot policy = selects policy end && some_rule_matches policy far destination spot (rules_of direction policy)
+-- what the rule of the baseline that decides says; without one everything is allowed
+abbrev pub base_says : Option PlacedBaseRule → Bool
+base_says None = true
+base_says (Some placed) = is_allow placed.rule.action
 
--- An end that some policy isolates in a direction allows what some policy permits there; any other allows all.
-abbrev pub side_allows : List NetPolicy → Direction → End → End → End → PortSpot → Bool
-side_allows policies direction end far destination spot = if list_any (isolates direction end) policies then list_any (permits direction end far destination spot) policies else true
+-- Below the admin tier, NetworkPolicies say at a pod that they isolate, and the baseline at any other.
+abbrev pub lower_allows : EstateLists → Direction → PodEnd → Contact → Bool
+lower_allows lists direction p contact =
+    if is_isolated lists.net_policies direction p
+    then permits lists.net_policies direction p contact
+    else base_says (base_decider lists.baseline direction p contact)
+
+-- whether the pod's side allows what it looks at
+unfoldable pub side_allows : EstateLists → Direction → PodEnd → Contact → Bool
+side_allows lists direction p contact =
+    admin_says (admin_decider lists.admin_policies direction p contact) (lower_allows lists direction p contact)

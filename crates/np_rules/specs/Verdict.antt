@@ -1,16 +1,54 @@
 -- Whether a packet is allowed.
-use Rattle.std.specs.Prelude.{List, Bool, ◌&&◌}
-use Rattle.np_policies.specs.declared.network_policy.Direction.TheVariants.{Ingress, Egress}
-use Rattle.np_policies.specs.declared.network_policy.NetPolicy.{NetPolicy}
-use Rattle.np_conns.specs.declared.port_spot.PortSpot.{PortSpot}
+use Rattle.std.specs.Prelude.{ℕ, ◌+◌, ◌<◌, [], length, Bool, true, ◌&&◌, Option, Some, None}
+use Rattle.std.specs.List.{slice_get}
+use Rattle.np_estate.specs.declared.lists.EstateLists.{EstateLists}
 use Rattle.np_estate.specs.declared.pod.Pod.{Pod}
-use Rattle.np_rules.specs.Ends.{Packet, pod}
+use Rattle.np_policies.specs.declared.direction.Direction.{Direction}
+use Rattle.np_policies.specs.declared.direction.Direction.TheVariants.{Ingress, Egress}
+use Rattle.np_rules.specs.Ends.{End, Contact, Packet, PodEnd, pod, address, contact_of, pod_end}
+use Rattle.np_rules.specs.Places.{end_rule_count}
 use Rattle.np_rules.specs.Sides.{side_allows}
+use Rattle.np_rules.specs.declared.packet.End.{End as PlacedEnd}
+use Rattle.np_rules.specs.declared.packet.End.TheVariants as placed
+use Rattle.np_rules.specs.declared.packet.Packet.{Packet as PlacedPacket}
+
+-- what the side of an end says; an address has no side of its own
+abbrev pub end_allows : EstateLists → Direction → End → Contact → Bool
+end_allows lists direction (pod p) contact = side_allows lists direction p contact
+end_allows lists direction (address a) contact = true
 
 -- A packet is allowed where the egress side of its source and the ingress side of its destination allow it.
-abbrev pub allows : List NetPolicy → Packet → Bool
-allows policies packet = side_allows policies Egress packet.source packet.destination packet.destination packet.spot && side_allows policies Ingress packet.destination packet.source packet.destination packet.spot
+unfoldable pub allows : EstateLists → Packet → Bool
+allows lists packet =
+    end_allows lists Egress packet.source (contact_of Egress packet)
+    && end_allows lists Ingress packet.destination (contact_of Ingress packet)
 
--- whether the packet of a spot from one pod to another is allowed
-abbrev pub pair_allows : List NetPolicy → Pod → Pod → PortSpot → Bool
-pair_allows policies source destination spot = allows policies (record { source = pod source; destination = pod destination; spot = spot })
+-- how many rules speak of the ends of a packet, each in its direction
+abbrev pub packet_rule_count : EstateLists → Packet → ℕ
+packet_rule_count lists packet = end_rule_count lists Egress packet.source + end_rule_count lists Ingress packet.destination
+
+-- ---- packets that name pods by their places in the estate
+
+-- a pod without anything, for places where there is none
+abbrev pub no_pod : PodEnd
+no_pod = record { namespace = []; namespace_labels = []; labels = []; ports = []; addresses = [] }
+
+abbrev pub pod_or_none : Option Pod → PodEnd
+pod_or_none None = no_pod
+pod_or_none (Some p) = pod_end p
+
+-- the pod at a place
+abbrev pub pod_at : EstateLists → ℕ → PodEnd
+pod_at lists place = pod_or_none (slice_get lists.pods place)
+
+abbrev pub end_of : EstateLists → PlacedEnd → End
+end_of lists (placed.Pod place) = pod (pod_at lists place)
+end_of lists (placed.At a) = address a
+
+-- the pod at the place is one of the estate
+abbrev pub IsEndOf : EstateLists → PlacedEnd → Type 0
+IsEndOf lists (placed.Pod place) = place < length lists.pods
+IsEndOf lists (placed.At a) = Unit {0}
+
+abbrev pub packet_of : EstateLists → PlacedPacket → Packet
+packet_of lists packet = record { source = end_of lists packet.source; destination = end_of lists packet.destination; family = packet.family; spot = record { proto = packet.proto; port = packet.port } }

@@ -1,15 +1,21 @@
-//! Which packets the policies allow: the model, one packet at a time, as definitions, and the same as whole sets
-//! of connections.
+//! Which packets the policies allow: the model, one packet at a time, as definitions, and the same as whole sets of
+//! connections.
 #![tactic(auto)]
 
-mod laws;
-mod pairs;
+mod admin_tier;
+mod base_tier;
+mod decider;
+mod net_tier;
+mod packet;
 mod peers;
 mod port_entries;
 mod rules;
 mod selection;
-mod sides;
+mod stranger;
+mod verdict;
+mod views;
 
-pub use laws::{no_policy_allows_all, policies_add_up, unselected_pods_are_free};
-pub use pairs::pair_set;
-pub use sides::side_set;
+pub use decider::{Decider, RuleName};
+pub use packet::{End, Packet};
+pub use stranger::Stranger;
+pub use verdict::allows;

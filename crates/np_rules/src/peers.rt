@@ -1,52 +1,108 @@
-//! Which pods a peer stands for.
-ghost use Rattle.std.specs.Prelude.{◌≡◌};
+//! Which ends a peer stands for.
+ghost use Rattle.std.specs.Prelude.{◌≡◌, ◌&&◌, not};
 ghost use Rattle.std.specs.Option.{option_copied};
 ghost use Rattle.std.specs.List.{list_any};
-ghost use Rattle.np_rules.specs.Ends.{pod};
+ghost use Rattle.np_addr.specs.Addresses.{cidr_has};
+ghost use Rattle.np_addr.specs.Blocks.{block_has};
+ghost use Rattle.np_estate.specs.Families.{is_of};
 ghost use Rattle.np_rules.specs.Peers as spec;
 ghost use Rattle.np_rules.specs.Rules.{none_or_any};
+ghost use Rattle.np_rules.specs.Views.{pod_view, end_view};
 
-use np_estate::Pod;
+use crate::views::{EndView, PodView};
+use np_addr::{Address, Cidr, Family, cidr_has, family_of};
 use np_labels::Selector;
-use np_policies::{NetPeer, NetPolicy};
+use np_policies::{AdminPeer, NetPeer};
 
-/// Whether a pod is one of the peers. No peers at all stand for every pod.
-pub fn peers_match(policy: &NetPolicy, peers: &[NetPeer], far: &Pod) -> bool
-    ensures { result ≡ none_or_any (λ peer. spec.peer_matches policy.now peer (pod far.now)) peers.now }
+/// Whether an end is one of the peers of a rule of a NetworkPolicy of this namespace. No peers at all stand for every
+/// end.
+pub(crate) fn net_peers_match(namespace: &str, peers: &[NetPeer], far: &EndView<'_>) -> bool
+    ensures { result ≡ none_or_any (λ peer. spec.net_peer_matches namespace.now peer (end_view far.now)) peers.now }
 {
-    peers.is_empty() || some_peer_matches(policy, peers, far)
+    peers.is_empty() || some_net_peer_matches(namespace, peers, far)
 }
 
-fn some_peer_matches(policy: &NetPolicy, peers: &[NetPeer], far: &Pod) -> bool
-    ensures { result ≡ list_any (λ peer. spec.peer_matches policy.now peer (pod far.now)) peers.now }
+fn some_net_peer_matches(namespace: &str, peers: &[NetPeer], far: &EndView<'_>) -> bool
+    ensures { result ≡ list_any (λ peer. spec.net_peer_matches namespace.now peer (end_view far.now)) peers.now }
 {
-    peers.iter().any(|peer| peer_matches(policy, peer, far))
+    peers
+        .iter()
+        .any(|peer| net_peer_matches(namespace, peer, far))
 }
 
-fn peer_matches(policy: &NetPolicy, peer: &NetPeer, far: &Pod) -> bool
-    ensures { result ≡ spec.peer_matches policy.now peer.now (pod far.now) }
+fn net_peer_matches(namespace: &str, peer: &NetPeer, far: &EndView<'_>) -> bool
+    ensures { result ≡ spec.net_peer_matches namespace.now peer.now (end_view far.now) }
 {
-    match peer {
-        NetPeer::Pods { namespaces, pods } => {
-            pods_match(policy, namespaces.as_ref(), pods.as_ref(), far)
+    match (peer, far) {
+        (NetPeer::Pods { namespaces, pods }, EndView::Pod(pod)) => {
+            pods_match(namespace, namespaces.as_ref(), pods.as_ref(), pod)
         }
+        (NetPeer::Block { cidr, excepts }, EndView::At(address)) => {
+            block_has(cidr, excepts.items(), address)
+        }
+        _ => false,
     }
 }
 
 fn pods_match(
-    policy: &NetPolicy,
+    namespace: &str,
     namespaces: Option<&Selector>,
     pods: Option<&Selector>,
-    far: &Pod,
+    pod: &PodView<'_>,
 ) -> bool
-    ensures { result ≡ spec.pods_match policy.now (option_copied namespaces.entry) (option_copied pods.entry) far.now }
+    ensures { result ≡ spec.pods_match namespace.now (option_copied namespaces.entry) (option_copied pods.entry) (pod_view pod.now) }
 {
     match (namespaces, pods) {
         (None, None) => false,
-        (None, Some(pods)) => policy.namespace == far.namespace && pods.meets(&far.labels),
-        (Some(namespaces), None) => namespaces.meets(&far.namespace_labels),
+        (None, Some(pods)) => namespace == pod.namespace && pods.meets(pod.labels),
+        (Some(namespaces), None) => namespaces.meets(pod.namespace_labels),
         (Some(namespaces), Some(pods)) => {
-            namespaces.meets(&far.namespace_labels) && pods.meets(&far.labels)
+            namespaces.meets(pod.namespace_labels) && pods.meets(pod.labels)
         }
     }
+}
+
+// Whether an address is in the block and in none of the exceptions.
+fn block_has(cidr: &Cidr, excepts: &[Cidr], address: &Address) -> bool
+    ensures { result ≡ block_has cidr.now excepts.now address.now }
+{
+    cidr_has(cidr, *address) && !in_some(excepts, address)
+}
+
+// Whether an address is in some of the blocks.
+fn in_some(cidrs: &[Cidr], address: &Address) -> bool
+    ensures { result ≡ spec.in_some cidrs.now address.now }
+{
+    cidrs.iter().any(|cidr| cidr_has(cidr, *address))
+}
+
+/// Whether an end is one of the peers of an admin rule, in a packet of a family.
+pub(crate) fn admin_peers_match(peers: &[AdminPeer], far: &EndView<'_>, family: Family) -> bool
+    ensures { result ≡ list_any (λ peer. spec.admin_peer_matches peer (end_view far.now) family) peers.now }
+{
+    peers
+        .iter()
+        .any(|peer| admin_peer_matches(peer, far, family))
+}
+
+fn admin_peer_matches(peer: &AdminPeer, far: &EndView<'_>, family: Family) -> bool
+    ensures { result ≡ spec.admin_peer_matches peer.now (end_view far.now) family }
+{
+    match (peer, far) {
+        (AdminPeer::Pods { namespaces, pods }, EndView::Pod(pod)) => {
+            namespaces.meets(pod.namespace_labels) && pods.meets(pod.labels)
+        }
+        (AdminPeer::Networks { cidrs }, EndView::Pod(pod)) => {
+            some_address_in(cidrs.items(), pod.addresses, family)
+        }
+        (AdminPeer::Networks { cidrs }, EndView::At(address)) => in_some(cidrs.items(), address),
+        _ => false,
+    }
+}
+
+// Whether some of the addresses is of the family and in some of the blocks.
+fn some_address_in(cidrs: &[Cidr], addresses: &[Address], family: Family) -> bool
+    ensures { result ≡ list_any (λ a. is_of family a && spec.in_some cidrs.now a) addresses.now }
+{
+    addresses.iter().any(|address| family_of(*address) == family && in_some(cidrs, address))
 }

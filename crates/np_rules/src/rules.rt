@@ -1,51 +1,25 @@
-//! What rules match, as sets.
-ghost use Rattle.std.specs.Prelude.{◌≡◌, true, IfOk};
-ghost use Rattle.std.specs.List.{list_any};
-ghost use Rattle.np_conns.specs.Conns.{is_spot, has_spot, IsConns};
-ghost use Rattle.np_conns.specs.declared.port_spot.PortSpot.{PortSpot};
-ghost use Rattle.np_rules.specs.Ends.{End, pod};
+//! Whether a rule matches.
+ghost use Rattle.std.specs.Prelude.{◌≡◌};
 ghost use Rattle.np_rules.specs.Rules as spec;
+ghost use Rattle.np_rules.specs.Views.{contact_view};
 
-use crate::peers::peers_match;
-use crate::port_entries::entries_set;
-use np_base::{Cells, NoMemory};
-use np_conns::ConnSet;
-use np_estate::Pod;
-use np_policies::{NetPolicy, NetRule};
-use std::alloc::Global;
+use crate::peers::{admin_peers_match, net_peers_match};
+use crate::port_entries::{admin_entries_match, net_entries_match};
+use crate::views::ContactView;
+use np_policies::{AdminRule, NetRule};
 
-/// The spots that some rule of a policy matches for a far end.
-pub fn rules_set(
-    alloc: Global,
-    policy: &NetPolicy,
-    rules: &[NetRule],
-    far: &Pod,
-) -> Result<ConnSet, NoMemory>
-    ensures members { IfOk result (λ made. (destination : End) (spot : PortSpot) → is_spot spot ≡ true →
-        has_spot made spot ≡ list_any (spec.rule_matches policy.now (pod far.now) destination spot) rules.now) }
-    ensures well { IfOk result IsConns }
+/// Whether a rule of a NetworkPolicy of this namespace matches.
+pub(crate) fn net_rule_matches(namespace: &str, rule: &NetRule, contact: &ContactView<'_>) -> bool
+    ensures { result ≡ spec.net_rule_matches namespace.now rule.now (contact_view contact.now) }
 {
-    let mut joined = ConnSet::nothing(alloc)?;
-    for rule in rules {
-        joined = joined.join(&rule_set(alloc, policy, rule, far)?)?;
-    }
-    Ok(joined)
+    net_peers_match(namespace, rule.peers.items(), &contact.far)
+        && net_entries_match(rule.ports.items(), &contact.destination, contact.spot)
 }
 
-// The spots that a rule matches for a far end.
-fn rule_set(
-    alloc: Global,
-    policy: &NetPolicy,
-    rule: &NetRule,
-    far: &Pod,
-) -> Result<ConnSet, NoMemory>
-    ensures members { IfOk result (λ made. (destination : End) (spot : PortSpot) → is_spot spot ≡ true →
-        has_spot made spot ≡ spec.rule_matches policy.now (pod far.now) destination spot rule.now) }
-    ensures well { IfOk result IsConns }
+/// Whether an admin rule matches.
+pub(crate) fn admin_rule_matches(rule: &AdminRule, contact: &ContactView<'_>) -> bool
+    ensures { result ≡ spec.admin_rule_matches rule.now (contact_view contact.now) }
 {
-    if peers_match(policy, rule.peers.items(), far) {
-        entries_set(alloc, rule.ports.items())
-    } else {
-        ConnSet::nothing(alloc)
-    }
+    admin_peers_match(rule.peers.items(), &contact.far, contact.family)
+        && admin_entries_match(rule.ports.items(), &contact.destination, contact.spot)
 }

@@ -1,14 +1,21 @@
 //! Which pods a policy is about.
 ghost use Rattle.std.specs.Prelude.{◌≡◌};
-ghost use Rattle.np_rules.specs.Ends.{pod};
 ghost use Rattle.np_rules.specs.Selection as spec;
+ghost use Rattle.np_rules.specs.Views.{pod_view};
 
-use np_estate::Pod;
-use np_policies::NetPolicy;
+use crate::views::PodView;
+use np_policies::{NetPolicy, Subject};
 
 /// Whether a NetworkPolicy selects a pod.
-pub fn selects(policy: &NetPolicy, selected: &Pod) -> bool
-    ensures { result ≡ spec.selects policy.now (pod selected.now) }
+pub(crate) fn net_selects(policy: &NetPolicy, pod: &PodView<'_>) -> bool
+    ensures { result ≡ spec.net_selects policy.now (pod_view pod.now) }
 {
-    policy.namespace == selected.namespace && policy.subject.meets(&selected.labels)
+    policy.namespace.as_str() == pod.namespace && policy.subject.meets(pod.labels)
+}
+
+/// Whether the subject of an admin policy or of the baseline is about a pod.
+pub(crate) fn subject_selects(subject: &Subject, pod: &PodView<'_>) -> bool
+    ensures { result ≡ spec.subject_selects subject.now (pod_view pod.now) }
+{
+    subject.namespaces.meets(pod.namespace_labels) && subject.pods.meets(pod.labels)
 }

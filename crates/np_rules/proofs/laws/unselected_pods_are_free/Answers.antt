@@ -1,5 +1,0 @@
-use Rattle.np_rules.proofs.SidesLemmas.{unselected_is_free}
-use Rattle.np_rules.proofs.laws.unselected_pods_are_free.Goals as goal
-
-pub returns : goal.returns
-returns c = unselected_is_free

@@ -1,0 +1,11 @@
+-- The baseline.
+use Rattle.std.specs.Prelude.{Option, find}
+use Rattle.np_policies.specs.declared.admin_policy.BasePolicy.{BasePolicy}
+use Rattle.np_policies.specs.declared.direction.Direction.{Direction}
+use Rattle.np_rules.specs.Ends.{Contact, PodEnd}
+use Rattle.np_rules.specs.Places.{PlacedBaseRule, base_places}
+use Rattle.np_rules.specs.Rules.{admin_rule_matches}
+
+-- The rule that decides is the first that matches, of a baseline that selects the pod.
+abbrev pub base_decider : Option BasePolicy → Direction → PodEnd → Contact → Option PlacedBaseRule
+base_decider baseline direction p contact = find (λ placed. admin_rule_matches placed.rule contact) (base_places baseline direction p)

@@ -1,0 +1,80 @@
+//! What the AdminNetworkPolicies say of one packet.
+ghost use Rattle.std.specs.Prelude.{◌≡◌, ◌+◌, [], find, length, if◌then◌else◌};
+ghost use Rattle.std.specs.Option.{option_map};
+ghost use Rattle.np_estate.specs.Lawful.{HasAscendingPriorities};
+ghost use Rattle.np_rules.specs.AdminTier.{admin_decider};
+ghost use Rattle.np_rules.specs.Places as spec;
+ghost use Rattle.np_rules.specs.Places.{admin_places, admin_places_of};
+ghost use Rattle.np_rules.specs.Rules.{admin_rule_matches};
+ghost use Rattle.np_rules.specs.Selection.{subject_selects};
+ghost use Rattle.np_rules.specs.Views.{pod_view, contact_view};
+
+use crate::rules::admin_rule_matches;
+use crate::selection::subject_selects;
+use crate::views::{ContactView, PodView};
+use np_policies::{Action, AdminPolicy, AdminRule, Direction};
+use np_steps::Steps;
+use std::sync::ledger::Ledger;
+
+/// What the rule says that decides, and `None` where no rule matches. All rules of the policies that select the pod are
+/// counted.
+pub(crate) fn admin_action<L: Ledger>(
+    policies: &[AdminPolicy],
+    direction: Direction,
+    pod: &PodView<'_>,
+    contact: &ContactView<'_>,
+    steps: &mut Steps<L>,
+) -> Option<Action>
+    requires { HasAscendingPriorities policies.now }
+    ensures action { result ≡ option_map (λ placed. placed.rule.action)
+        (admin_decider policies.now direction (pod_view pod.now) (contact_view contact.now)) }
+    ensures cost { steps.new ≡ steps.old + length (admin_places policies.now direction (pod_view pod.now)) }
+{
+    let mut decided = None;
+    for policy in policies {
+        let here = action_by(policy, direction, pod, contact, steps);
+        decided = decided.or(here);
+    }
+    decided
+}
+
+// What the first matching rule of a policy says, where the policy selects the pod.
+fn action_by<L: Ledger>(
+    policy: &AdminPolicy,
+    direction: Direction,
+    pod: &PodView<'_>,
+    contact: &ContactView<'_>,
+    steps: &mut Steps<L>,
+) -> Option<Action>
+    ensures action { result ≡ option_map (λ rule. rule.action)
+        (find (λ rule. admin_rule_matches rule (contact_view contact.now))
+        (if subject_selects policy.now.subject (pod_view pod.now) then spec.admin_rules_of direction policy.now else [])) }
+    ensures cost { steps.new ≡ steps.old
+        + length (if subject_selects policy.now.subject (pod_view pod.now) then spec.admin_rules_of direction policy.now else []) }
+{
+    if !subject_selects(&policy.subject, pod) {
+        return None;
+    }
+    let rules = admin_rules_of(policy, direction);
+    steps.add(rules.len() as u64);
+    first_action(rules, contact)
+}
+
+/// The rules of a direction.
+pub(crate) fn admin_rules_of(policy: &AdminPolicy, direction: Direction) -> &[AdminRule]
+    ensures { result.now ≡ spec.admin_rules_of direction policy.now }
+{
+    match direction {
+        Direction::Ingress => policy.ingress.items(),
+        Direction::Egress => policy.egress.items(),
+    }
+}
+
+/// What the first matching rule says.
+pub(crate) fn first_action(rules: &[AdminRule], contact: &ContactView<'_>) -> Option<Action>
+    ensures { result ≡ option_map (λ rule. rule.action)
+        (find (λ rule. admin_rule_matches rule (contact_view contact.now)) rules.now) }
+{
+    let found = rules.iter().find(|rule| admin_rule_matches(rule, contact))?;
+    Some(found.action)
+}

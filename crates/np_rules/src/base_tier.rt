@@ -1,0 +1,64 @@
+//! What the baseline says of one packet.
+ghost use Rattle.std.specs.Prelude.{◌≡◌, ◌+◌, length, Some};
+ghost use Rattle.std.specs.Option.{option_map, option_copied};
+ghost use Rattle.np_rules.specs.BaseTier.{base_decider};
+ghost use Rattle.np_rules.specs.Places.{base_places};
+ghost use Rattle.np_rules.specs.Places as spec;
+ghost use Rattle.np_rules.specs.Views.{pod_view, contact_view};
+
+use crate::admin_tier::first_action;
+use crate::selection::subject_selects;
+use crate::views::{ContactView, PodView};
+use np_policies::{Action, AdminRule, BasePolicy, Direction};
+use np_steps::Steps;
+use std::sync::ledger::Ledger;
+
+/// What the rule of the baseline says that decides, and `None` where none matches. All rules of a baseline that selects
+/// the pod are counted.
+pub(crate) fn base_action<L: Ledger>(
+    baseline: Option<&BasePolicy>,
+    direction: Direction,
+    pod: &PodView<'_>,
+    contact: &ContactView<'_>,
+    steps: &mut Steps<L>,
+) -> Option<Action>
+    ensures action { result ≡ option_map (λ placed. placed.rule.action)
+        (base_decider (option_copied baseline.entry) direction (pod_view pod.now) (contact_view contact.now)) }
+    ensures cost { steps.new ≡ steps.old
+        + length (base_places (option_copied baseline.entry) direction (pod_view pod.now)) }
+{
+    match baseline {
+        Some(policy) => action_by(policy, direction, pod, contact, steps),
+        None => None,
+    }
+}
+
+// The same of a baseline that is there.
+fn action_by<L: Ledger>(
+    policy: &BasePolicy,
+    direction: Direction,
+    pod: &PodView<'_>,
+    contact: &ContactView<'_>,
+    steps: &mut Steps<L>,
+) -> Option<Action>
+    ensures action { result ≡ option_map (λ placed. placed.rule.action)
+        (base_decider (Some policy.now) direction (pod_view pod.now) (contact_view contact.now)) }
+    ensures cost { steps.new ≡ steps.old + length (base_places (Some policy.now) direction (pod_view pod.now)) }
+{
+    if !subject_selects(&policy.subject, pod) {
+        return None;
+    }
+    let rules = base_rules_of(policy, direction);
+    steps.add(rules.len() as u64);
+    first_action(rules, contact)
+}
+
+/// The rules of a direction.
+pub(crate) fn base_rules_of(policy: &BasePolicy, direction: Direction) -> &[AdminRule]
+    ensures { result.now ≡ spec.base_rules_of direction policy.now }
+{
+    match direction {
+        Direction::Ingress => policy.ingress.items(),
+        Direction::Egress => policy.egress.items(),
+    }
+}

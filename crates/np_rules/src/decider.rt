@@ -1,0 +1,43 @@
+//! What decides a packet at one of its ends.
+
+use np_base::{Seq, Text};
+
+/// A rule, by the name of its policy and its place among the policy's rules of the direction, from 0. A NetworkPolicy is
+/// named `namespace/name`.
+#[derive(Debug, Drop)]
+pub struct RuleName {
+    pub policy: Text,
+    pub place: u64,
+}
+
+/// What decides a packet at one of its ends. Where `pass` is there, an admin rule with `Pass` was met first.
+#[derive(Debug, Drop)]
+pub enum Decider {
+    /// The end is an address, which has no side of its own.
+    NoSide,
+    /// A rule of an AdminNetworkPolicy.
+    Admin {
+        rule: RuleName,
+        allow: bool,
+    },
+    /// The first matching rule of the NetworkPolicies that select the pod, by policy name and place.
+    Net {
+        pass: Option<RuleName>,
+        rule: RuleName,
+    },
+    /// These NetworkPolicies isolate the pod, and no rule of them matches.
+    Isolated {
+        pass: Option<RuleName>,
+        policies: Seq<Text>,
+    },
+    /// A rule of the BaselineAdminNetworkPolicy.
+    Base {
+        pass: Option<RuleName>,
+        rule: RuleName,
+        allow: bool,
+    },
+    /// No rule: everything is allowed.
+    Free {
+        pass: Option<RuleName>,
+    },
+}

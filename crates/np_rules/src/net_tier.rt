@@ -1,0 +1,96 @@
+//! What the NetworkPolicies say of one packet.
+ghost use Rattle.std.specs.Prelude.{◌≡◌, ◌+◌, [], length, if◌then◌else◌, unwrap_or};
+ghost use Rattle.std.specs.List.{list_any};
+ghost use Rattle.std.specs.Option.{option_map};
+ghost use Rattle.np_rules.specs.NetTier as spec;
+ghost use Rattle.np_rules.specs.Places.{net_places, net_rules_of};
+ghost use Rattle.np_rules.specs.Rules.{net_rule_matches};
+ghost use Rattle.np_rules.specs.Selection.{net_selects};
+ghost use Rattle.np_rules.specs.Views.{pod_view, contact_view};
+
+use crate::rules::net_rule_matches;
+use crate::selection::net_selects;
+use crate::views::{ContactView, PodView};
+use np_policies::{Direction, NetPolicy, NetRule};
+use np_steps::Steps;
+use std::sync::ledger::Ledger;
+
+/// Whether some policy isolates the pod.
+pub(crate) fn is_isolated(policies: &[NetPolicy], direction: Direction, pod: &PodView<'_>) -> bool
+    ensures { result ≡ spec.is_isolated policies.now direction (pod_view pod.now) }
+{
+    policies
+        .iter()
+        .any(|policy| isolates(policy, direction, pod))
+}
+
+fn isolates(policy: &NetPolicy, direction: Direction, pod: &PodView<'_>) -> bool
+    ensures { result ≡ spec.isolates direction (pod_view pod.now) policy.now }
+{
+    net_selects(policy, pod) && net_rules_of(policy, direction).is_some()
+}
+
+/// The rules of a direction, where it is among the policy's types.
+pub(crate) fn net_rules_of(policy: &NetPolicy, direction: Direction) -> Option<&[NetRule]>
+    ensures { option_map (λ rules. rules.now) result ≡ net_rules_of direction policy.now }
+{
+    let rules = match direction {
+        Direction::Ingress => &policy.ingress,
+        Direction::Egress => &policy.egress,
+    };
+    match rules {
+        Some(rules) => Some(rules.items()),
+        None => None,
+    }
+}
+
+/// Whether some rule of a policy that selects the pod matches. All rules of those policies are counted.
+pub(crate) fn permits<L: Ledger>(
+    policies: &[NetPolicy],
+    direction: Direction,
+    pod: &PodView<'_>,
+    contact: &ContactView<'_>,
+    steps: &mut Steps<L>,
+) -> bool
+    ensures answer { result ≡ spec.permits policies.now direction (pod_view pod.now) (contact_view contact.now) }
+    ensures cost { steps.new ≡ steps.old + length (net_places policies.now direction (pod_view pod.now)) }
+{
+    let mut permitted = false;
+    for policy in policies {
+        let here = permits_by(policy, direction, pod, contact, steps);
+        permitted |= here;
+    }
+    permitted
+}
+
+// Whether some rule of a policy matches, where the policy selects the pod.
+fn permits_by<L: Ledger>(
+    policy: &NetPolicy,
+    direction: Direction,
+    pod: &PodView<'_>,
+    contact: &ContactView<'_>,
+    steps: &mut Steps<L>,
+) -> bool
+    ensures answer { result
+        ≡ list_any (λ rule. net_rule_matches policy.now.namespace rule (contact_view contact.now))
+        (if net_selects policy.now (pod_view pod.now) then unwrap_or (net_rules_of direction policy.now) [] else []) }
+    ensures cost { steps.new ≡ steps.old
+        + length (if net_selects policy.now (pod_view pod.now) then unwrap_or (net_rules_of direction policy.now) [] else []) }
+{
+    if !net_selects(policy, pod) {
+        return false;
+    }
+    let Some(rules) = net_rules_of(policy, direction) else {
+        return false;
+    };
+    steps.add(rules.len() as u64);
+    some_rule_matches(policy.namespace.as_str(), rules, contact)
+}
+
+fn some_rule_matches(namespace: &str, rules: &[NetRule], contact: &ContactView<'_>) -> bool
+    ensures { result ≡ list_any (λ rule. net_rule_matches namespace.now rule (contact_view contact.now)) rules.now }
+{
+    rules
+        .iter()
+        .any(|rule| net_rule_matches(namespace, rule, contact))
+}

@@ -1,0 +1,134 @@
+//! Whether one packet is allowed.
+ghost use Rattle.std.specs.Prelude.{◌≡◌, ◌+◌, Option};
+ghost use Rattle.std.specs.Option.{option_map};
+ghost use Rattle.np_rules.specs.Ends.{pod_end};
+ghost use Rattle.np_rules.specs.Places.{rule_count, end_rule_count, PlacedAdminRule, PlacedBaseRule};
+ghost use Rattle.np_rules.specs.Sides as spec;
+ghost use Rattle.np_rules.specs.Verdict.{allows, end_allows, end_of, packet_of, packet_rule_count, IsEndOf};
+ghost use Rattle.np_rules.specs.Views.{pod_view, end_view, contact_view};
+
+use crate::admin_tier::admin_action;
+use crate::base_tier::base_action;
+use crate::net_tier::{is_isolated, permits};
+use crate::packet::{End, Packet};
+use crate::views::{ContactView, EndView, PodView, view_of_pod};
+use np_conns::PortSpot;
+use np_estate::Estate;
+use np_policies::{Action, Direction};
+use np_steps::Steps;
+use std::sync::ledger::Ledger;
+
+/// Whether a packet is allowed: by the egress side of its source, if that is a pod, and by the ingress side of its
+/// destination, if that is a pod. It takes no memory. All rules of the policies that select a side's pod are counted, of
+/// both sides, whatever they say.
+#[tactic(auto, unfolding(crate::specs::Verdict::allows))]
+pub fn allows<L: Ledger>(estate: &Estate, packet: &Packet, steps: &mut Steps<L>) -> bool
+    requires source { IsEndOf estate.now packet.now.source }
+    requires destination { IsEndOf estate.now packet.now.destination }
+    ensures verdict { result ≡ allows estate.now (packet_of estate.now packet.now) }
+    ensures cost { steps.new ≡ steps.old + packet_rule_count estate.now (packet_of estate.now packet.now) }
+{
+    let source = view_of_end(estate, packet.source);
+    let sent = contact_of(estate, packet, packet.destination);
+    let received = contact_of(estate, packet, packet.source);
+    let leaves = end_allows(estate, Direction::Egress, &source, &sent, steps);
+    let arrives = end_allows(
+        estate,
+        Direction::Ingress,
+        &received.destination,
+        &received,
+        steps,
+    );
+    leaves && arrives
+}
+
+// What a side of a packet looks at, whose far end is this one.
+fn contact_of<'a>(estate: &'a Estate, packet: &Packet, far: End) -> ContactView<'a>
+    requires far { IsEndOf estate.now far }
+    requires destination { IsEndOf estate.now packet.now.destination }
+    ensures far { end_view result.far ≡ end_of estate.now far }
+    ensures destination { end_view result.destination ≡ end_of estate.now packet.now.destination }
+    ensures family { result.family ≡ packet.now.family }
+    ensures spot { result.spot ≡ record { proto = packet.now.proto; port = packet.now.port } }
+{
+    ContactView {
+        far: view_of_end(estate, far),
+        destination: view_of_end(estate, packet.destination),
+        family: packet.family,
+        spot: PortSpot {
+            proto: packet.proto,
+            port: packet.port,
+        },
+    }
+}
+
+// The end of a packet.
+fn view_of_end(estate: &Estate, end: End) -> EndView<'_>
+    requires { IsEndOf estate.now end }
+    ensures { end_view result ≡ end_of estate.now end }
+{
+    match end {
+        End::Pod(place) => EndView::Pod(view_of_pod(&estate.pods()[place as usize])),
+        End::At(address) => EndView::At(address),
+    }
+}
+
+// Whether the side of an end allows what it looks at. An address has no side of its own.
+fn end_allows<L: Ledger>(
+    estate: &Estate,
+    direction: Direction,
+    end: &EndView<'_>,
+    contact: &ContactView<'_>,
+    steps: &mut Steps<L>,
+) -> bool
+    ensures verdict { result ≡ end_allows estate.now direction (end_view end.now) (contact_view contact.now) }
+    ensures cost { steps.new ≡ steps.old + end_rule_count estate.now direction (end_view end.now) }
+{
+    match end {
+        EndView::Pod(pod) => side_allows(estate, direction, pod, contact, steps),
+        EndView::At(_) => true,
+    }
+}
+
+// Whether a pod's side allows what it looks at.
+#[tactic(auto, unfolding(crate::specs::Sides::side_allows))]
+fn side_allows<L: Ledger>(
+    estate: &Estate,
+    direction: Direction,
+    pod: &PodView<'_>,
+    contact: &ContactView<'_>,
+    steps: &mut Steps<L>,
+) -> bool
+    ensures verdict { result ≡ spec.side_allows estate.now direction (pod_view pod.now) (contact_view contact.now) }
+    ensures cost { steps.new ≡ steps.old + rule_count estate.now direction (pod_view pod.now) }
+{
+    let admin = admin_action(estate.admin_policies(), direction, pod, contact, steps);
+    let isolated = is_isolated(estate.net_policies(), direction, pod);
+    let permitted = permits(estate.net_policies(), direction, pod, contact, steps);
+    let base = base_action(estate.baseline(), direction, pod, contact, steps);
+    let below = if isolated { permitted } else { base_says(base) };
+    admin_says(admin, below)
+}
+
+// What an admin rule says where one decides, and else the tiers below.
+fn admin_says(action: Option<Action>, below: bool) -> bool
+    ensures { (decider : Option PlacedAdminRule) → action ≡ option_map (λ placed. placed.rule.action) decider →
+        result ≡ spec.admin_says decider below }
+{
+    match action {
+        Some(Action::Allow) => true,
+        Some(Action::Deny) => false,
+        Some(Action::Pass) | None => below,
+    }
+}
+
+// What a rule of the baseline says where one decides, and else that everything is allowed.
+fn base_says(action: Option<Action>) -> bool
+    ensures { (decider : Option PlacedBaseRule) → action ≡ option_map (λ placed. placed.rule.action) decider →
+        result ≡ spec.base_says decider }
+{
+    match action {
+        Some(action) => action == Action::Allow,
+        None => true,
+    }
+}
