@@ -1,10 +1,10 @@
 -- Rules with their policies and places.
-use Rattle.std.proofs.Common.{◌≡◌, ℕ, ◌+◌, ◌<◌, List, [], ◌∷◌, ◌++◌, Bool, true, false, ◌||◌, length, take, get_or, map, Option, Some, None, refl, sym, ap, ◌∙◌, arith, if◌then◌else◌}
+use Rattle.std.proofs.Common.{◌≡◌, ℕ, ◌+◌, ◌<◌, ◌≤◌, List, [], ◌∷◌, ◌++◌, Bool, true, false, ◌||◌, length, take, get_or, map, Option, Some, None, refl, sym, ap, ◌∙◌, arith, if◌then◌else◌}
 use Rattle.std.specs.List.{enumerate_from, flat_map, list_any, find}
 use Rattle.std.specs.Option.{option_map, option_or}
 use Rattle.std.proofs.lemmas.List.{take_more}
 use Rattle.std.proofs.lemmas.Grind.{flat_map-append}
-use Rattle.std.proofs.lemmas.List.Folds.{list_any-append, find-append}
+use Rattle.std.proofs.lemmas.List.Folds.{list_any-append, find-append, length-flat_map-take}
 
 append_nil : {X : Type 0} (xs : List X) → xs ++ [] ≡ xs
 append_nil [] = refl
@@ -64,3 +64,26 @@ option_map-or seen (Some x) b = refl
 pub if_both : {X Y : Type 0} (P : List X → List Y → Type 0) (b : Bool) (xs : List X) (ys : List Y) → P xs ys → P [] [] → P (if b then xs else []) (if b then ys else [])
 if_both P true xs ys some none = some
 if_both P false xs ys some none = none
+
+-- the items of numbered items
+pub map-numbered : {X Y : Type 0} (make : ℕ × X → Y) (item_of : Y → X) → ((numbered : ℕ × X) → item_of (make numbered) ≡ numbered.1) → (n : ℕ) (xs : List X) → map item_of (map make (enumerate_from n xs)) ≡ xs
+map-numbered make item_of same n [] = refl
+map-numbered {X} make item_of same n (x ∷ xs) =
+    ap (λ y. y ∷ map item_of (map make (enumerate_from (n + 1) xs))) (same (n, x)) ∙ ap (λ ys. x ∷ ys) (map-numbered make item_of same (n + 1) xs)
+
+-- what is seen of the first item whose image passes is what is seen of the first image
+pub find-map : {X Y Z : Type 0} (f : X → Y) (test : Y → Bool) (seen : Y → Z) (xs : List X) → option_map seen (find test (map f xs)) ≡ option_map (λ x. seen (f x)) (find (λ x. test (f x)) xs)
+find-map f test seen [] = refl
+find-map {X} {Y} {Z} f test seen (x ∷ xs) = go (test (f x)) (find-map f test seen xs)
+  where
+    go : (b : Bool) → option_map seen (find test (map f xs)) ≡ option_map (λ x. seen (f x)) (find (λ x. test (f x)) xs) → option_map seen (if b then Some (f x) else find test (map f xs)) ≡ option_map (λ x. seen (f x)) (if b then Some x else find (λ x. test (f x)) xs)
+    go true rest = refl
+    go false rest = rest
+
+-- ---- counting
+
+-- so many are counted after one item more, and that is no more than all
+pub counted : {X Y Z : Type 0} (f : X → List Y) (items : List X) (i : ℕ) (item : X) (here : List Z) (start before after : ℕ) → i < length items → item ≡ get_or items i item → length (f item) ≡ length here → before ≡ start + length (flat_map f (take i items)) → after ≡ before + length here → (after ≡ start + length (flat_map f (take (i + 1) items))) × (after ≤ start + length (flat_map f items))
+counted f items i item here start before after within is same so_far more =
+    let all : length (flat_map f (take i items)) + length (f item) ≤ length (flat_map f items) = rw is (length-flat_map-take f items i item within) in
+    (omega (arith, length-next f items i item within is), omega (arith, all))

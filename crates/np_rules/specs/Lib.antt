@@ -11,3 +11,5 @@ pub mod Selection
 pub mod Sides
 pub mod Verdict
 pub mod Views
+pub mod Layers
+pub mod OneEnd

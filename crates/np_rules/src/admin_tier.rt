@@ -52,16 +52,29 @@ fn action_by<L: Ledger>(
     ensures cost { steps.new ≡ steps.old
         + length (if subject_selects policy.now.subject (pod_view pod.now) then spec.admin_rules_of direction policy.now else []) }
 {
-    if !subject_selects(&policy.subject, pod) {
-        return None;
-    }
-    let rules = admin_rules_of(policy, direction);
+    let rules = admin_rules_for(policy, direction, pod);
     steps.add(rules.len() as u64);
     first_action(rules, contact)
 }
 
-/// The rules of a direction.
-pub(crate) fn admin_rules_of(policy: &AdminPolicy, direction: Direction) -> &[AdminRule]
+/// The rules of a direction, where the policy selects the pod.
+pub(crate) fn admin_rules_for<'a>(
+    policy: &'a AdminPolicy,
+    direction: Direction,
+    pod: &PodView<'_>,
+) -> &'a [AdminRule]
+    ensures { result.now
+        ≡ (if subject_selects policy.now.subject (pod_view pod.now) then spec.admin_rules_of direction policy.now else []) }
+{
+    if subject_selects(&policy.subject, pod) {
+        admin_rules_of(policy, direction)
+    } else {
+        &[]
+    }
+}
+
+// The rules of a direction.
+fn admin_rules_of(policy: &AdminPolicy, direction: Direction) -> &[AdminRule]
     ensures { result.now ≡ spec.admin_rules_of direction policy.now }
 {
     match direction {

@@ -1,5 +1,5 @@
 //! What the baseline says of one packet.
-ghost use Rattle.std.specs.Prelude.{◌≡◌, ◌+◌, length, Some};
+ghost use Rattle.std.specs.Prelude.{◌≡◌, ◌+◌, length, map, Some};
 ghost use Rattle.std.specs.Option.{option_map, option_copied};
 ghost use Rattle.np_rules.specs.BaseTier.{base_decider};
 ghost use Rattle.np_rules.specs.Places.{base_places};
@@ -27,34 +27,39 @@ pub(crate) fn base_action<L: Ledger>(
     ensures cost { steps.new ≡ steps.old
         + length (base_places (option_copied baseline.entry) direction (pod_view pod.now)) }
 {
-    match baseline {
-        Some(policy) => action_by(policy, direction, pod, contact, steps),
-        None => None,
-    }
-}
-
-// The same of a baseline that is there.
-fn action_by<L: Ledger>(
-    policy: &BasePolicy,
-    direction: Direction,
-    pod: &PodView<'_>,
-    contact: &ContactView<'_>,
-    steps: &mut Steps<L>,
-) -> Option<Action>
-    ensures action { result ≡ option_map (λ placed. placed.rule.action)
-        (base_decider (Some policy.now) direction (pod_view pod.now) (contact_view contact.now)) }
-    ensures cost { steps.new ≡ steps.old + length (base_places (Some policy.now) direction (pod_view pod.now)) }
-{
-    if !subject_selects(&policy.subject, pod) {
-        return None;
-    }
-    let rules = base_rules_of(policy, direction);
+    let rules = base_rules_for(baseline, direction, pod);
     steps.add(rules.len() as u64);
     first_action(rules, contact)
 }
 
-/// The rules of a direction.
-pub(crate) fn base_rules_of(policy: &BasePolicy, direction: Direction) -> &[AdminRule]
+/// The rules of a direction, where there is a baseline and it selects the pod.
+pub(crate) fn base_rules_for<'a>(
+    baseline: Option<&'a BasePolicy>,
+    direction: Direction,
+    pod: &PodView<'_>,
+) -> &'a [AdminRule]
+    ensures { result.now
+        ≡ map (λ placed. placed.rule) (base_places (option_copied baseline.entry) direction (pod_view pod.now)) }
+{
+    match baseline {
+        Some(policy) => rules_for(policy, direction, pod),
+        None => &[],
+    }
+}
+
+// The same of a baseline that is there.
+fn rules_for<'a>(policy: &'a BasePolicy, direction: Direction, pod: &PodView<'_>) -> &'a [AdminRule]
+    ensures { result.now ≡ map (λ placed. placed.rule) (base_places (Some policy.now) direction (pod_view pod.now)) }
+{
+    if subject_selects(&policy.subject, pod) {
+        base_rules_of(policy, direction)
+    } else {
+        &[]
+    }
+}
+
+// The rules of a direction.
+fn base_rules_of(policy: &BasePolicy, direction: Direction) -> &[AdminRule]
     ensures { result.now ≡ spec.base_rules_of direction policy.now }
 {
     match direction {

@@ -5,10 +5,15 @@
 mod admin_tier;
 mod base_tier;
 mod decider;
+mod far_ends;
+mod layer;
+mod layers;
 mod net_tier;
+mod one_end;
 mod packet;
 mod peers;
 mod port_entries;
+mod port_sets;
 mod rules;
 mod selection;
 mod stranger;
@@ -16,6 +21,7 @@ mod verdict;
 mod views;
 
 pub use decider::{Decider, RuleName};
+pub use layers::{pod_layer, point_layer, stranger_layer};
 pub use packet::{End, Packet};
 pub use stranger::Stranger;
 pub use verdict::allows;

@@ -30,8 +30,8 @@ fn isolates(policy: &NetPolicy, direction: Direction, pod: &PodView<'_>) -> bool
     net_selects(policy, pod) && net_rules_of(policy, direction).is_some()
 }
 
-/// The rules of a direction, where it is among the policy's types.
-pub(crate) fn net_rules_of(policy: &NetPolicy, direction: Direction) -> Option<&[NetRule]>
+// The rules of a direction, where it is among the policy's types.
+fn net_rules_of(policy: &NetPolicy, direction: Direction) -> Option<&[NetRule]>
     ensures { option_map (λ rules. rules.now) result ≡ net_rules_of direction policy.now }
 {
     let rules = match direction {
@@ -77,14 +77,24 @@ fn permits_by<L: Ledger>(
     ensures cost { steps.new ≡ steps.old
         + length (if net_selects policy.now (pod_view pod.now) then unwrap_or (net_rules_of direction policy.now) [] else []) }
 {
-    if !net_selects(policy, pod) {
-        return false;
-    }
-    let Some(rules) = net_rules_of(policy, direction) else {
-        return false;
-    };
+    let rules = net_rules_for(policy, direction, pod);
     steps.add(rules.len() as u64);
     some_rule_matches(policy.namespace.as_str(), rules, contact)
+}
+
+/// The rules of a direction, where the policy selects the pod and the direction is among its types.
+pub(crate) fn net_rules_for<'a>(
+    policy: &'a NetPolicy,
+    direction: Direction,
+    pod: &PodView<'_>,
+) -> &'a [NetRule]
+    ensures { result.now
+        ≡ (if net_selects policy.now (pod_view pod.now) then unwrap_or (net_rules_of direction policy.now) [] else []) }
+{
+    match net_rules_of(policy, direction) {
+        Some(rules) if net_selects(policy, pod) => rules,
+        _ => &[],
+    }
 }
 
 fn some_rule_matches(namespace: &str, rules: &[NetRule], contact: &ContactView<'_>) -> bool

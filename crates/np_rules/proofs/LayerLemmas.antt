@@ -1,0 +1,104 @@
+-- Layers of rules, policy by policy, and what their walk says.
+use Rattle.std.proofs.Common.{◌≡◌, ℕ, ◌+◌, ◌<◌, List, [], ◌∷◌, ◌++◌, Bool, true, false, ◌||◌, length, take, get_or, map, Some, refl, sym, ap, ◌∙◌, unwrap_or, if◌then◌else◌}
+use Rattle.std.specs.List.{list_any, find, enumerate_from}
+use Rattle.std.proofs.lemmas.List.{map-append}
+use Rattle.np_estate.specs.Lawful.{HasAscendingPriorities}
+use Rattle.np_estate.specs.declared.lists.EstateLists.{EstateLists}
+use Rattle.np_policies.specs.declared.admin_policy.Action.{Action}
+use Rattle.np_policies.specs.declared.admin_policy.Action.TheVariants as policy
+use Rattle.np_policies.specs.declared.admin_policy.AdminPolicy.{AdminPolicy}
+use Rattle.np_policies.specs.declared.admin_policy.AdminRule.{AdminRule}
+use Rattle.np_policies.specs.declared.direction.Direction.{Direction}
+use Rattle.np_policies.specs.declared.network_policy.NetPolicy.{NetPolicy}
+use Rattle.np_policies.specs.declared.network_policy.NetRule.{NetRule}
+use Rattle.np_tiers.specs.Walk.{action_allows, admin_allows, base_allows, lower_allows, walk_allows}
+use Rattle.np_tiers.specs.declared.layer.AdminPart.{AdminPart}
+use Rattle.np_tiers.specs.declared.layer.BasePart.{BasePart}
+use Rattle.np_tiers.specs.declared.layer.Layer.{Layer}
+use Rattle.np_rules.specs.Ends.{Contact, PodEnd}
+use Rattle.np_rules.specs.Layers.{Pairwise, IsSetOf, IsAdminPart, IsBasePart, IsLayer, tier_action, matches_of}
+use Rattle.np_rules.specs.NetTier.{is_isolated, placed_net_matches}
+use Rattle.np_rules.specs.Places.{PlacedAdminRule, PlacedBaseRule, PlacedNetRule, admin_places, admin_places_of, admin_rules_of, base_places, net_places, net_places_of, net_rules_of}
+use Rattle.np_rules.specs.Rules.{admin_rule_matches, net_rule_matches}
+use Rattle.np_rules.specs.Selection.{net_selects, subject_selects}
+use Rattle.np_rules.specs.Sides as sides
+use Rattle.np_rules.specs.Sides.{action_says, admin_says, base_says, side_allows}
+use Rattle.np_rules.proofs.AdminTierLemmas as admin
+use Rattle.np_rules.proofs.AdminTierLemmas.{decider_is_first}
+use Rattle.np_rules.proofs.NetTierLemmas as net
+use Rattle.np_rules.proofs.PlacesLemmas.{flat_map-next, if_both, map-numbered}
+
+-- ---- the rules of one policy more
+
+-- the rules of the admin policies, with those of one more
+pub admin_rules-next : (policies : List AdminPolicy) (direction : Direction) (p : PodEnd) (i : ℕ) (policy : AdminPolicy) → i < length policies → policy ≡ get_or policies i policy → map (λ placed. placed.rule) (admin_places (take (i + 1) policies) direction p) ≡ map (λ placed. placed.rule) (admin_places (take i policies) direction p) ++ (if subject_selects policy.subject p then admin_rules_of direction policy else [])
+admin_rules-next policies direction p i policy within is =
+    let rule_of : PlacedAdminRule → AdminRule = λ placed. placed.rule in
+    let before = map rule_of (admin_places (take i policies) direction p) in
+    ap (map rule_of) (flat_map-next (admin.places_by direction p) policies i policy within is)
+    ∙ map-append rule_of (admin_places (take i policies) direction p) (admin.places_by direction p policy)
+    ∙ ap (λ rules. before ++ rules) (if_both (λ places rules. map rule_of places ≡ rules) (subject_selects policy.subject p) (admin_places_of direction policy) (admin_rules_of direction policy) (map-numbered (λ numbered. record { policy = policy; place = numbered.0; rule = numbered.1 }) rule_of (λ numbered. refl) 0 (admin_rules_of direction policy)) refl)
+
+-- what the rules of the NetworkPolicies match, with those of one more
+pub net_matches-next : (policies : List NetPolicy) (direction : Direction) (p : PodEnd) (i : ℕ) (policy : NetPolicy) → i < length policies → policy ≡ get_or policies i policy → map matches_of (net_places (take (i + 1) policies) direction p) ≡ map matches_of (net_places (take i policies) direction p) ++ map (net_rule_matches policy.namespace) (if net_selects policy p then unwrap_or (net_rules_of direction policy) [] else [])
+net_matches-next policies direction p i policy within is =
+    let before = map matches_of (net_places (take i policies) direction p) in
+    ap (map matches_of) (flat_map-next (net.places_by direction p) policies i policy within is)
+    ∙ map-append matches_of (net_places (take i policies) direction p) (net.places_by direction p policy)
+    ∙ ap (λ matches. before ++ matches) (if_both (λ places rules. map matches_of places ≡ map (net_rule_matches policy.namespace) rules) (net_selects policy p) (net_places_of direction policy) (unwrap_or (net_rules_of direction policy) []) (numbered_matches 0 (unwrap_or (net_rules_of direction policy) [])) refl)
+  where
+    numbered_matches : (n : ℕ) (rules : List NetRule) → map matches_of (map (λ numbered. record { policy = policy; place = numbered.0; rule = numbered.1 }) (enumerate_from n rules)) ≡ map (net_rule_matches policy.namespace) rules
+    numbered_matches n [] = refl
+    numbered_matches n (rule ∷ rules) = ap (λ matches. net_rule_matches policy.namespace rule ∷ matches) (numbered_matches (n + 1) rules)
+
+-- ---- what the walk of a layer says
+
+action_same : (action : Action) (below : Bool) → action_allows (tier_action action) below ≡ action_says action below
+action_same policy.Allow below = refl
+action_same policy.Deny below = refl
+action_same policy.Pass below = refl
+
+-- the first admin part that has the spot says what the first matching rule says
+admin_same : {S Spot : Type 0} (has : S → Spot → Bool) (in_space : Spot → Bool) (contact_at : Spot → Contact) (spot : Spot) → in_space spot ≡ true → (below : Bool) (parts : List (AdminPart S)) (places : List PlacedAdminRule) → Pairwise (λ part placed. IsAdminPart has in_space contact_at part placed.rule) parts places → admin_allows (find (λ part. has part.set spot) parts) below ≡ admin_says (find (λ placed. admin_rule_matches placed.rule (contact_at spot)) places) below
+admin_same has in_space contact_at spot within below [] [] related = refl
+admin_same has in_space contact_at spot within below [] (placed ∷ places) related = absurd related
+admin_same has in_space contact_at spot within below (part ∷ parts) [] related = absurd related
+admin_same has in_space contact_at spot within below (part ∷ parts) (placed ∷ places) related =
+    rw (related.0.members spot within) (go (admin_rule_matches placed.rule (contact_at spot)) (admin_same has in_space contact_at spot within below parts places related.1))
+  where
+    go : (b : Bool) → admin_allows (find (λ part. has part.set spot) parts) below ≡ admin_says (find (λ placed. admin_rule_matches placed.rule (contact_at spot)) places) below → admin_allows (if b then Some part else find (λ part. has part.set spot) parts) below ≡ admin_says (if b then Some placed else find (λ placed. admin_rule_matches placed.rule (contact_at spot)) places) below
+    go true rest = ap (λ a. action_allows a below) related.0.action ∙ action_same placed.rule.action below
+    go false rest = rest
+
+-- some set has the spot where some rule matches
+net_same : {S Spot : Type 0} (has : S → Spot → Bool) (in_space : Spot → Bool) (contact_at : Spot → Contact) (spot : Spot) → in_space spot ≡ true → (sets : List S) (places : List PlacedNetRule) → Pairwise (λ set placed. IsSetOf has in_space contact_at set (matches_of placed)) sets places → list_any (λ set. has set spot) sets ≡ list_any (placed_net_matches (contact_at spot)) places
+net_same has in_space contact_at spot within [] [] related = refl
+net_same has in_space contact_at spot within [] (placed ∷ places) related = absurd related
+net_same has in_space contact_at spot within (set ∷ sets) [] related = absurd related
+net_same has in_space contact_at spot within (set ∷ sets) (placed ∷ places) related =
+    ap (λ b. b || list_any (λ s. has s spot) sets) (related.0 spot within) ∙ ap (λ b. placed_net_matches (contact_at spot) placed || b) (net_same has in_space contact_at spot within sets places related.1)
+
+-- the first base part that has the spot says what the first matching rule says
+base_same : {S Spot : Type 0} (has : S → Spot → Bool) (in_space : Spot → Bool) (contact_at : Spot → Contact) (spot : Spot) → in_space spot ≡ true → (parts : List (BasePart S)) (places : List PlacedBaseRule) → Pairwise (λ part placed. IsBasePart has in_space contact_at part placed.rule) parts places → base_allows (find (λ part. has part.set spot) parts) ≡ base_says (find (λ placed. admin_rule_matches placed.rule (contact_at spot)) places)
+base_same has in_space contact_at spot within [] [] related = refl
+base_same has in_space contact_at spot within [] (placed ∷ places) related = absurd related
+base_same has in_space contact_at spot within (part ∷ parts) [] related = absurd related
+base_same has in_space contact_at spot within (part ∷ parts) (placed ∷ places) related =
+    rw (related.0.members spot within) (go (admin_rule_matches placed.rule (contact_at spot)) (base_same has in_space contact_at spot within parts places related.1))
+  where
+    go : (b : Bool) → base_allows (find (λ part. has part.set spot) parts) ≡ base_says (find (λ placed. admin_rule_matches placed.rule (contact_at spot)) places) → base_allows (if b then Some part else find (λ part. has part.set spot) parts) ≡ base_says (if b then Some placed else find (λ placed. admin_rule_matches placed.rule (contact_at spot)) places)
+    go true rest = related.0.allow
+    go false rest = rest
+
+-- The walk of a layer says at each spot what the side says of what the spot stands for.
+pub walk_is_side : {S Spot : Type 0} (has : S → Spot → Bool) (in_space : Spot → Bool) (contact_at : Spot → Contact) (lists : EstateLists) (direction : Direction) (p : PodEnd) (made : Layer S) → HasAscendingPriorities lists.admin_policies → IsLayer has in_space contact_at lists direction p made → (spot : Spot) → in_space spot ≡ true → walk_allows (λ set. has set spot) made ≡ side_allows lists direction p (contact_at spot)
+unfolding side_allows
+walk_is_side has in_space contact_at lists direction p made ascending is spot within =
+    let at = contact_at spot in
+    let lower : lower_allows (λ set. has set spot) made ≡ sides.lower_allows lists direction p at = lower_same (is_isolated lists.net_policies direction p) made.isolated is.isolated (net_same has in_space contact_at spot within made.net (net_places lists.net_policies direction p) is.net) (base_same has in_space contact_at spot within made.base (base_places lists.baseline direction p) is.base) in
+    ap (admin_allows (find (λ part. has part.set spot) made.admin)) lower
+    ∙ admin_same has in_space contact_at spot within (sides.lower_allows lists direction p at) made.admin (admin_places lists.admin_policies direction p) is.admin
+    ∙ ap (λ decider. admin_says decider (sides.lower_allows lists direction p at)) (sym (decider_is_first lists.admin_policies direction p at ascending))
+  where
+    lower_same : (isolated made_isolated : Bool) → made_isolated ≡ isolated → {a b c d : Bool} → a ≡ b → c ≡ d → (if made_isolated then a else c) ≡ (if isolated then b else d)
+    lower_same isolated made_isolated same {a} {b} {c} {d} first second = ap (λ i. if i then a else c) same ∙ ap (λ x. if isolated then x else c) first ∙ ap (λ x. if isolated then b else x) second

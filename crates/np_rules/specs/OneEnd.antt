@@ -1,0 +1,9 @@
+-- One far end.
+use Rattle.np_conns.specs.declared.port_spot.PortSpot.{PortSpot}
+use Rattle.np_rules.specs.Ends.{Contact}
+use Rattle.np_rules.specs.Views.{end_view}
+use Rattle.np_rules.specs.declared.one_end.OneEnd.{OneEnd}
+
+-- what a spot stands for
+abbrev pub one_contact : OneEnd → PortSpot → Contact
+one_contact ends spot = record { far = end_view ends.far; destination = end_view ends.destination; family = ends.family; spot = spot }

@@ -1,0 +1,145 @@
+//! The protocols and ports of port entries, as sets.
+ghost use Rattle.std.specs.Prelude.{◌≡◌, Bool, true, ◌&&◌, IfOk};
+ghost use Rattle.std.specs.List.{list_any};
+ghost use Rattle.np_conns.specs.Conns.{is_spot, has_spot, same_proto};
+ghost use Rattle.np_conns.specs.declared.port_spot.PortSpot.{PortSpot};
+ghost use Rattle.np_rules.specs.Ends.{End};
+ghost use Rattle.np_rules.specs.PortEntries as spec;
+ghost use Rattle.np_rules.specs.Rules.{none_or_any};
+ghost use Rattle.np_rules.specs.Views.{end_view};
+
+use crate::views::EndView;
+use np_base::{Cells, NoMemory, PortNum};
+use np_conns::{ConnSet, Proto};
+use np_objects::NamedPort;
+use np_policies::{AdminPort, NetPort};
+use std::alloc::Global;
+
+/// A port entry of a rule.
+pub(crate) trait PortEntry {
+    /// Whether it matches, for a packet to a destination.
+    ghost matches: { Self → End → PortSpot → Bool };
+
+    /// The spots that it matches.
+    fn spots(&self, alloc: Global, destination: &EndView<'_>) -> Result<ConnSet, NoMemory>
+        ensures { IfOk result (λ made. (spot : PortSpot) → is_spot spot ≡ true →
+            has_spot made spot ≡ matches self.now (end_view destination.now) spot) };
+}
+
+impl PortEntry for NetPort {
+    ghost use Rattle.np_rules.specs.PortEntries.{net_entry_matches};
+
+    ghost matches = { net_entry_matches };
+
+    fn spots(&self, alloc: Global, destination: &EndView<'_>) -> Result<ConnSet, NoMemory> {
+        match self {
+            NetPort::Span { proto, lo, hi } => span_set(alloc, *proto, *lo, *hi),
+            NetPort::Named { proto, name } => {
+                named_of_protocol(alloc, *proto, name.as_str(), destination)
+            }
+        }
+    }
+}
+
+impl PortEntry for AdminPort {
+    ghost use Rattle.np_rules.specs.PortEntries.{admin_entry_matches};
+
+    ghost matches = { admin_entry_matches };
+
+    fn spots(&self, alloc: Global, destination: &EndView<'_>) -> Result<ConnSet, NoMemory> {
+        match self {
+            AdminPort::Span { proto, lo, hi } => span_set(alloc, *proto, *lo, *hi),
+            AdminPort::Named { name } => named_at(alloc, name.as_str(), destination),
+        }
+    }
+}
+
+/// The spots that some port entry matches. No entries at all stand for every spot.
+pub(crate) fn entries_set<E: PortEntry>(
+    alloc: Global,
+    entries: &[E],
+    destination: &EndView<'_>,
+) -> Result<ConnSet, NoMemory>
+    ensures { IfOk result (λ made. (spot : PortSpot) → is_spot spot ≡ true →
+        has_spot made spot ≡ none_or_any (λ entry. E.matches entry (end_view destination.now) spot) entries.now) }
+{
+    if entries.is_empty() {
+        ConnSet::everything(alloc)
+    } else {
+        joined_set(alloc, entries, destination)
+    }
+}
+
+// The spots that some entry matches.
+fn joined_set<E: PortEntry>(
+    alloc: Global,
+    entries: &[E],
+    destination: &EndView<'_>,
+) -> Result<ConnSet, NoMemory>
+    ensures { IfOk result (λ made. (spot : PortSpot) → is_spot spot ≡ true →
+        has_spot made spot ≡ list_any (λ entry. E.matches entry (end_view destination.now) spot) entries.now) }
+{
+    let mut joined = ConnSet::nothing(alloc)?;
+    for entry in entries {
+        joined = joined.join(&entry.spots(alloc, destination)?)?;
+    }
+    Ok(joined)
+}
+
+// The ports of a protocol from `lo` to `hi`. Where `hi` is below `lo` there are none.
+fn span_set(alloc: Global, proto: Proto, lo: PortNum, hi: PortNum) -> Result<ConnSet, NoMemory>
+    ensures { IfOk result (λ made. (spot : PortSpot) → has_spot made spot ≡ spec.in_span proto lo hi spot) }
+{
+    if lo <= hi {
+        ConnSet::of(alloc, proto, lo, hi)
+    } else {
+        ConnSet::nothing(alloc)
+    }
+}
+
+// The ports of that name at the end, of one protocol.
+fn named_of_protocol(
+    alloc: Global,
+    proto: Proto,
+    name: &str,
+    end: &EndView<'_>,
+) -> Result<ConnSet, NoMemory>
+    ensures { IfOk result (λ made. (spot : PortSpot) → is_spot spot ≡ true →
+        has_spot made spot ≡ (same_proto spot.proto proto && spec.has_named name.now spot (end_view end.now))) }
+{
+    let whole = ConnSet::of(alloc, proto, PortNum::new(1), PortNum::new(65535))?;
+    let named = named_at(alloc, name, end)?;
+    whole.meet(&named)
+}
+
+// The ports of that name at the end.
+fn named_at(alloc: Global, name: &str, end: &EndView<'_>) -> Result<ConnSet, NoMemory>
+    ensures { IfOk result (λ made. (spot : PortSpot) → has_spot made spot ≡ spec.has_named name.now spot (end_view end.now)) }
+{
+    match end {
+        EndView::Pod(pod) => named_set(alloc, name, pod.ports),
+        EndView::At(_) => ConnSet::nothing(alloc),
+    }
+}
+
+// The ports of that name.
+fn named_set(alloc: Global, name: &str, ports: &[NamedPort]) -> Result<ConnSet, NoMemory>
+    ensures { IfOk result (λ made. (spot : PortSpot) → has_spot made spot ≡ list_any (spec.is_named name.now spot) ports.now) }
+{
+    let mut joined = ConnSet::nothing(alloc)?;
+    for port in ports {
+        joined = joined.join(&port_set(alloc, name, port)?)?;
+    }
+    Ok(joined)
+}
+
+// The port, where it has that name.
+fn port_set(alloc: Global, name: &str, port: &NamedPort) -> Result<ConnSet, NoMemory>
+    ensures { IfOk result (λ made. (spot : PortSpot) → has_spot made spot ≡ spec.is_named name.now spot port.now) }
+{
+    if port.name.as_str() == name {
+        ConnSet::of(alloc, port.proto, port.number, port.number)
+    } else {
+        ConnSet::nothing(alloc)
+    }
+}
