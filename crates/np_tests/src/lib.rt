@@ -20,6 +20,8 @@ mod labels;
 #[cfg(test)]
 mod layers;
 #[cfg(test)]
+mod pieces;
+#[cfg(test)]
 mod tiers;
 #[cfg(test)]
 mod walk;
