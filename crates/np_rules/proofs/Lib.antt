@@ -6,3 +6,4 @@ pub mod JoinsLemmas
 pub mod PairwiseLemmas
 pub mod LayerLemmas
 pub mod OneEndLemmas
+pub mod AddressLemmas

@@ -17,5 +17,5 @@ same_contacts ends direction near far family is_far is_destination is_family =
     ap (λ f. contacts f (end_view ends.destination) ends.family) is_far ∙ ap (λ d. contacts far d ends.family) is_destination ∙ ap (contacts far (destination_of direction near far)) is_family
 
 -- what holds of what the spots stand for and of a pod holds of equal ones
-pub moved : (P : (PortSpot → Contact) → PodEnd → Type 0) (at at' : PortSpot → Contact) (p p' : PodEnd) → at ≡ at' → p ≡ p' → P at p → P at' p'
-moved P at at' p p' same_at same_pod holds = subst (λ (q : PodEnd). P at' q) same_pod (subst (λ (a : PortSpot → Contact). P a p) same_at holds)
+pub moved : {Spot : Type 0} (P : (Spot → Contact) → PodEnd → Type 0) (at at' : Spot → Contact) (p p' : PodEnd) → at ≡ at' → p ≡ p' → P at p → P at' p'
+moved {Spot} P at at' p p' same_at same_pod holds = subst (λ (q : PodEnd). P at' q) same_pod (subst (λ (a : Spot → Contact). P a p) same_at holds)

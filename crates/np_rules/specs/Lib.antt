@@ -13,3 +13,4 @@ pub mod Verdict
 pub mod Views
 pub mod Layers
 pub mod OneEnd
+pub mod EveryAddress

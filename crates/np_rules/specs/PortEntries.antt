@@ -1,7 +1,8 @@
 -- Which protocols and ports a port entry matches.
-use Rattle.std.specs.Prelude.{ℕ, List, Bool, false, ◌&&◌, ◌==◌, nat_le}
+use Rattle.std.specs.Prelude.{◌≡◌, ℕ, List, Bool, false, ◌&&◌, ◌==◌, nat_le, refl}
 use Rattle.std.specs.List.{list_any}
 use Rattle.std.specs.Str.{bytes_eq}
+use Rattle.np_addr.specs.declared.address.Address.{Address}
 use Rattle.np_conns.specs.Conns.{same_proto}
 use Rattle.np_conns.specs.declared.port_spot.PortSpot.{PortSpot}
 use Rattle.np_conns.specs.declared.proto.Proto.{Proto}
@@ -34,3 +35,12 @@ net_entry_matches (net.Named proto name) destination spot = same_proto spot.prot
 abbrev pub admin_entry_matches : AdminPort → End → PortSpot → Bool
 admin_entry_matches (admin.Span proto lo hi) destination spot = in_span proto lo hi spot
 admin_entry_matches (admin.Named name) destination spot = has_named name spot destination
+
+-- an address has no named ports, so it matters not which one it is
+pub net_same_at_addresses : (entry : NetPort) (a b : Address) (spot : PortSpot) → net_entry_matches entry (address a) spot ≡ net_entry_matches entry (address b) spot
+net_same_at_addresses (net.Span proto lo hi) a b spot = refl
+net_same_at_addresses (net.Named proto name) a b spot = refl
+
+pub admin_same_at_addresses : (entry : AdminPort) (a b : Address) (spot : PortSpot) → admin_entry_matches entry (address a) spot ≡ admin_entry_matches entry (address b) spot
+admin_same_at_addresses (admin.Span proto lo hi) a b spot = refl
+admin_same_at_addresses (admin.Named name) a b spot = refl

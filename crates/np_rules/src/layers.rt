@@ -6,6 +6,7 @@ ghost use Rattle.np_conns.specs.Conns.{is_spot, has_spot};
 ghost use Rattle.np_conns.specs.declared.port_spot.PortSpot.{PortSpot};
 ghost use Rattle.np_rules.specs.Ends as ends;
 ghost use Rattle.np_rules.specs.Ends.{contact, destination_of, stranger_end};
+ghost use Rattle.np_rules.specs.EveryAddress.{Place, address_contact, has_place, is_place};
 ghost use Rattle.np_rules.specs.Layers.{IsLayer};
 ghost use Rattle.np_rules.specs.Places.{rule_count};
 ghost use Rattle.np_rules.specs.Sides.{side_allows};
@@ -13,6 +14,7 @@ ghost use Rattle.np_rules.specs.Verdict.{pod_at};
 ghost use Rattle.np_rules.specs.Views.{end_view, pod_view};
 ghost use Rattle.np_tiers.specs.Walk.{walk_allows};
 
+use crate::every_address::{AddrConns, EveryAddress};
 use crate::layer::layer;
 use crate::one_end::OneEnd;
 use crate::stranger::Stranger;
@@ -194,4 +196,35 @@ fn with_stranger<'a>(
         destination: EndView::Pod(destination),
         family: Family::Four,
     }
+}
+
+/// The rules that speak of a pod in a direction, as sets of what they match with all addresses of both families as far
+/// ends: addresses with protocols and ports. One evaluation of the layer gives the verdict at every address. The pod is
+/// named by its place in the estate. All those rules are counted.
+pub fn address_layer<L: Ledger>(
+    alloc: Global,
+    estate: &Estate,
+    pod: u32,
+    direction: Direction,
+    steps: &mut Steps<L>,
+) -> Result<Layer<AddrConns>, NoMemory>
+    requires { pod < length estate.now.pods }
+    ensures layer { IfOk result (IsLayer has_place is_place
+        (address_contact direction (ends.pod (pod_at estate.now pod)))
+        estate.now direction (pod_at estate.now pod)) }
+    ensures verdict { IfOk result (λ made. (place : Place) → is_place place ≡ true →
+        walk_allows (λ set. has_place set place) made
+        ≡ side_allows estate.now direction (pod_at estate.now pod)
+        (address_contact direction (ends.pod (pod_at estate.now pod)) place)) }
+
+    ensures cost { OnOk result (steps.new ≡ steps.old + rule_count estate.now direction (pod_at estate.now pod)) }
+    ensures least { steps.old ≤ steps.new }
+    ensures most { steps.new ≤ steps.old + rule_count estate.now direction (pod_at estate.now pod) }
+{
+    let near = view_at(estate, pod);
+    let ends = EveryAddress {
+        direction,
+        near: EndView::Pod(view_at(estate, pod)),
+    };
+    layer(alloc, estate, direction, &near, &ends, steps)
 }

@@ -2,9 +2,11 @@
 //! connections.
 #![tactic(auto)]
 
+mod address_sets;
 mod admin_tier;
 mod base_tier;
 mod decider;
+mod every_address;
 mod far_ends;
 mod layer;
 mod layers;
@@ -21,7 +23,8 @@ mod verdict;
 mod views;
 
 pub use decider::{Decider, RuleName};
-pub use layers::{pod_layer, point_layer, stranger_layer};
+pub use every_address::AddrConns;
+pub use layers::{address_layer, pod_layer, point_layer, stranger_layer};
 pub use packet::{End, Packet};
 pub use stranger::Stranger;
 pub use verdict::allows;

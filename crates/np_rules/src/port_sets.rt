@@ -3,7 +3,8 @@ ghost use Rattle.std.specs.Prelude.{◌≡◌, Bool, true, ◌&&◌, IfOk};
 ghost use Rattle.std.specs.List.{list_any};
 ghost use Rattle.np_conns.specs.Conns.{is_spot, has_spot, same_proto};
 ghost use Rattle.np_conns.specs.declared.port_spot.PortSpot.{PortSpot};
-ghost use Rattle.np_rules.specs.Ends.{End};
+ghost use Rattle.np_addr.specs.declared.address.Address.{Address};
+ghost use Rattle.np_rules.specs.Ends.{End, address};
 ghost use Rattle.np_rules.specs.PortEntries as spec;
 ghost use Rattle.np_rules.specs.Rules.{none_or_any};
 ghost use Rattle.np_rules.specs.Views.{end_view};
@@ -24,12 +25,18 @@ pub(crate) trait PortEntry {
     fn spots(&self, alloc: Global, destination: &EndView<'_>) -> Result<ConnSet, NoMemory>
         ensures { IfOk result (λ made. (spot : PortSpot) → is_spot spot ≡ true →
             has_spot made spot ≡ matches self.now (end_view destination.now) spot) };
+
+    /// At an address it matters not which.
+    ghost same_at_addresses: { (entry : Self) (a b : Address) (spot : PortSpot) →
+        matches entry (address a) spot ≡ matches entry (address b) spot };
 }
 
 impl PortEntry for NetPort {
-    ghost use Rattle.np_rules.specs.PortEntries.{net_entry_matches};
+    ghost use Rattle.np_rules.specs.PortEntries.{net_entry_matches, net_same_at_addresses};
 
     ghost matches = { net_entry_matches };
+
+    ghost same_at_addresses = { net_same_at_addresses };
 
     fn spots(&self, alloc: Global, destination: &EndView<'_>) -> Result<ConnSet, NoMemory> {
         match self {
@@ -42,9 +49,11 @@ impl PortEntry for NetPort {
 }
 
 impl PortEntry for AdminPort {
-    ghost use Rattle.np_rules.specs.PortEntries.{admin_entry_matches};
+    ghost use Rattle.np_rules.specs.PortEntries.{admin_entry_matches, admin_same_at_addresses};
 
     ghost matches = { admin_entry_matches };
+
+    ghost same_at_addresses = { admin_same_at_addresses };
 
     fn spots(&self, alloc: Global, destination: &EndView<'_>) -> Result<ConnSet, NoMemory> {
         match self {

@@ -1,0 +1,121 @@
+//! The addresses that peers stand for, as sets.
+ghost use Rattle.std.specs.Prelude.{◌≡◌, Bool, true, false, not, ◌&&◌, ◌||◌, IfOk};
+ghost use Rattle.std.specs.List.{list_any};
+ghost use Rattle.np_addr.specs.Addresses.{IsAddress};
+ghost use Rattle.np_addr.specs.Blocks.{set_has, block_has};
+ghost use Rattle.np_addr.specs.declared.address.Address.{Address};
+ghost use Rattle.np_rules.specs.EveryAddress.{net_peer_has, admin_peer_has};
+ghost use Rattle.np_rules.specs.Rules.{none_or_any};
+
+use np_addr::{AddrSet, Cidr, cidr_set};
+use np_base::{Cells, NoMemory};
+use np_policies::{AdminPeer, NetPeer};
+use std::alloc::Global;
+
+/// What stands for addresses.
+pub(crate) trait Addresses {
+    /// Whether an address is one of them.
+    ghost stands_for: { Self → Address → Bool };
+
+    /// The addresses.
+    fn addresses(&self, alloc: Global) -> Result<AddrSet, NoMemory>
+        ensures { IfOk result (λ set. (a : Address) → IsAddress a → set_has set a ≡ stands_for self.now a) };
+}
+
+impl Addresses for Cidr {
+    ghost use Rattle.np_addr.specs.Addresses.{cidr_has};
+
+    ghost stands_for = { cidr_has };
+
+    fn addresses(&self, alloc: Global) -> Result<AddrSet, NoMemory> {
+        cidr_set(alloc, self)
+    }
+}
+
+impl Addresses for NetPeer {
+    ghost use Rattle.np_rules.specs.EveryAddress.{net_peer_has};
+
+    ghost stands_for = { net_peer_has };
+
+    fn addresses(&self, alloc: Global) -> Result<AddrSet, NoMemory> {
+        match self {
+            NetPeer::Pods { .. } => no_address(alloc),
+            NetPeer::Block { cidr, excepts } => block_set(alloc, cidr, excepts.items()),
+        }
+    }
+}
+
+impl Addresses for AdminPeer {
+    ghost use Rattle.np_rules.specs.EveryAddress.{admin_peer_has};
+
+    ghost stands_for = { admin_peer_has };
+
+    fn addresses(&self, alloc: Global) -> Result<AddrSet, NoMemory> {
+        match self {
+            AdminPeer::Pods { .. } => no_address(alloc),
+            AdminPeer::Networks { cidrs } => joined_set(alloc, cidrs.items()),
+        }
+    }
+}
+
+/// The addresses of the peers of a rule of a NetworkPolicy. No peers at all stand for every address.
+pub(crate) fn net_addresses(alloc: Global, peers: &[NetPeer]) -> Result<AddrSet, NoMemory>
+    ensures { IfOk result (λ set. (a : Address) → IsAddress a →
+        set_has set a ≡ none_or_any (λ peer. net_peer_has peer a) peers.now) }
+{
+    if peers.is_empty() {
+        all_addresses(alloc)
+    } else {
+        joined_set(alloc, peers)
+    }
+}
+
+/// The addresses that some item stands for.
+pub(crate) fn joined_set<A: Addresses>(alloc: Global, items: &[A]) -> Result<AddrSet, NoMemory>
+    ensures { IfOk result (λ set. (a : Address) → IsAddress a →
+        set_has set a ≡ list_any (λ item. A.stands_for item a) items.now) }
+{
+    let mut joined = no_address(alloc)?;
+    for item in items {
+        joined = join(&joined, &item.addresses(alloc)?)?;
+    }
+    Ok(joined)
+}
+
+fn no_address(alloc: Global) -> Result<AddrSet, NoMemory>
+    ensures { IfOk result (λ set. (a : Address) → set_has set a ≡ false) }
+{
+    let set = AddrSet::nothing(alloc)?;
+    Ok(set)
+}
+
+fn all_addresses(alloc: Global) -> Result<AddrSet, NoMemory>
+    ensures { IfOk result (λ set. (a : Address) → IsAddress a → set_has set a ≡ true) }
+{
+    let set = AddrSet::everything(alloc)?;
+    Ok(set)
+}
+
+fn join(one: &AddrSet, other: &AddrSet) -> Result<AddrSet, NoMemory>
+    ensures { IfOk result (λ set. (a : Address) → set_has set a ≡ (set_has one.now a || set_has other.now a)) }
+{
+    let set = one.join(other)?;
+    Ok(set)
+}
+
+fn minus(whole: &AddrSet, part: &AddrSet) -> Result<AddrSet, NoMemory>
+    ensures { IfOk result (λ set. (a : Address) → set_has set a ≡ (set_has whole.now a && not (set_has part.now a))) }
+{
+    let set = whole.minus(part)?;
+    Ok(set)
+}
+
+// The addresses of a block that are in none of the exceptions.
+fn block_set(alloc: Global, cidr: &Cidr, excepts: &[Cidr]) -> Result<AddrSet, NoMemory>
+    ensures { IfOk result (λ set. (a : Address) → IsAddress a → set_has set a ≡ block_has cidr.now excepts.now a) }
+{
+    let whole = cidr_set(alloc, cidr)?;
+    let holes = joined_set(alloc, excepts)?;
+    let set = minus(&whole, &holes)?;
+    Ok(set)
+}
