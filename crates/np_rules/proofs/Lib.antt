@@ -7,3 +7,6 @@ pub mod PairwiseLemmas
 pub mod LayerLemmas
 pub mod OneEndLemmas
 pub mod AddressLemmas
+pub mod DeciderLemmas
+pub mod SideLemmas
+pub mod FamilyLemmas

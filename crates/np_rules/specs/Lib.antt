@@ -14,3 +14,4 @@ pub mod Views
 pub mod Layers
 pub mod OneEnd
 pub mod EveryAddress
+pub mod Laws

@@ -8,6 +8,7 @@ mod base_tier;
 mod decider;
 mod every_address;
 mod far_ends;
+mod laws;
 mod layer;
 mod layers;
 mod net_tier;
@@ -24,6 +25,10 @@ mod views;
 
 pub use decider::{Decider, RuleName};
 pub use every_address::AddrConns;
+pub use laws::{
+    decider_gives_the_verdict, first_admin_rule_decides, network_policies_alone_isolate,
+    networks_alone_tell_families, policies_add_up, rules_add_up, unselected_pods_are_free,
+};
 pub use layers::{address_layer, pod_layer, point_layer, stranger_layer};
 pub use packet::{End, Packet};
 pub use stranger::Stranger;

@@ -1,0 +1,42 @@
+-- The words of the laws.
+use Rattle.std.specs.Prelude.{◌≡◌, ◌⊎◌, List, [], ◌∷◌, ◌++◌, Bool, true, false, ◌||◌}
+use Rattle.std.specs.List.{list_any}
+use Rattle.std.specs.Option.{option_map, option_map_or}
+use Rattle.np_estate.specs.declared.lists.EstateLists.{EstateLists}
+use Rattle.np_policies.specs.declared.admin_policy.AdminPeer.{AdminPeer}
+use Rattle.np_policies.specs.declared.admin_policy.AdminPeer.TheVariants.{Pods, Networks}
+use Rattle.np_policies.specs.declared.admin_policy.AdminRule.{AdminRule}
+use Rattle.np_policies.specs.declared.direction.Direction.{Direction}
+use Rattle.np_policies.specs.declared.direction.Direction.TheVariants.{Ingress, Egress}
+use Rattle.np_policies.specs.declared.network_policy.NetPolicy.{NetPolicy}
+use Rattle.np_policies.specs.declared.network_policy.NetRule.{NetRule}
+
+-- the item is one of the list
+abbrev pub IsAmong : {X : Type 0} → X → List X → Type 0
+IsAmong x [] = ⊥
+IsAmong x (y ∷ ys) = (x ≡ y) ⊎ IsAmong x ys
+
+-- the lists with other NetworkPolicies
+abbrev pub with_net_policies : EstateLists → List NetPolicy → EstateLists
+with_net_policies lists policies = record lists { net_policies = policies }
+
+-- the policy with one more rule of a direction, where that is among its types
+abbrev pub with_rule : Direction → NetRule → NetPolicy → NetPolicy
+with_rule Ingress rule policy = record policy { ingress = option_map (λ rules. rules ++ rule ∷ []) policy.ingress }
+with_rule Egress rule policy = record policy { egress = option_map (λ rules. rules ++ rule ∷ []) policy.egress }
+
+-- ---- networks
+
+abbrev pub is_networks : AdminPeer → Bool
+is_networks (Pods namespaces pods) = false
+is_networks (Networks cidrs) = true
+
+-- whether some peer of some rule lists networks
+abbrev pub rules_list_networks : List AdminRule → Bool
+rules_list_networks rules = list_any (λ rule. list_any is_networks rule.peers) rules
+
+-- whether some rule of an admin policy or of the baseline lists networks
+abbrev pub has_networks : EstateLists → Bool
+has_networks lists =
+    list_any (λ policy. rules_list_networks policy.ingress || rules_list_networks policy.egress) lists.admin_policies
+    || option_map_or (λ policy. rules_list_networks policy.ingress || rules_list_networks policy.egress) lists.baseline false
