@@ -4,9 +4,14 @@ use Rattle.std.specs.Cmp.Lexicographic.{slice_cmp}
 use Rattle.std.specs.Ordering.{nat_cmp}
 use Rattle.std.specs.declared.cmp.Ordering.{Ordering}
 use Rattle.std.specs.declared.cmp.Ordering.TheVariants.{Less, Equal, Greater}
+use Rattle.std.specs.List.{list_all}
+use Rattle.std.specs.Option.{option_map_or}
 use Rattle.std.specs.Str.{bytes_eq}
+use Rattle.np_json.specs.Words.{is_name}
 use Rattle.np_labels.specs.Labels.{value_of}
+use Rattle.np_objects.specs.WellFormed.{is_well_labels, is_well_ports, is_well_service, is_well_ingress}
 use Rattle.np_objects.specs.declared.service.ServiceItem.{ServiceItem}
+use Rattle.np_policies.specs.WellFormed.{is_well_net_policy, is_well_admin_policy, is_well_base_policy}
 use Rattle.np_policies.specs.declared.admin_policy.AdminPolicy.{AdminPolicy}
 use Rattle.np_policies.specs.declared.network_policy.NetPolicy.{NetPolicy}
 use Rattle.np_estate.specs.declared.lists.EstateLists.{EstateLists}
@@ -64,6 +69,23 @@ AreServicesApart a b = IsTrue (are_apart a.namespace a.name b.namespace b.name)
 abbrev pub IsEarlierItem : PlacedIngress → PlacedIngress → Type 0
 IsEarlierItem a b = IsTrue (nat_lt a.item b.item)
 
+-- ---- names and words
+
+-- names are names, keys and values of labels words, and names of ports words that are not empty
+abbrev pub is_well_pod : Pod → Bool
+is_well_pod pod =
+    is_name pod.namespace && is_name pod.name && is_well_labels pod.namespace_labels && is_well_labels pod.labels
+    && is_well_ports pod.ports && is_name pod.owner.kind && is_name pod.owner.name
+
+-- so it is in everything that the lists hold, no range of ports or addresses is empty, and blocks are well formed
+abbrev pub is_well : EstateLists → Bool
+is_well lists =
+    list_all is_well_pod lists.pods && list_all is_well_net_policy lists.net_policies
+    && list_all is_well_admin_policy lists.admin_policies && option_map_or is_well_base_policy lists.baseline true
+    && list_all is_well_service lists.services && list_all (λ placed. is_well_ingress placed.ingress) lists.ingresses
+
+-- ---- all of it
+
 -- no list has more items than are read
 pub record IsFew (lists : EstateLists) : Type 0 where
   pub pods : length lists.pods ≤ 20000
@@ -83,3 +105,4 @@ pub record IsLawful (lists : EstateLists) : Type 0 where
   pub admin_policies_apart : AllPairs AreNamesApart lists.admin_policies
   pub services_apart : AllPairs AreServicesApart lists.services
   pub ingresses_ascend : AllPairs IsEarlierItem lists.ingresses
+  pub well : IsTrue (is_well lists)

@@ -1,0 +1,17 @@
+pub use Rattle.np_json.specs.Meta
+pub use Rattle.np_json.specs.Scalars
+pub use Rattle.np_json.specs.Tables
+pub mod Controllers
+pub mod Ingresses
+pub mod Labels
+pub mod Lists
+pub mod Namespaces
+pub mod Objects
+pub mod Owners
+pub mod PodSpecs
+pub mod Pods
+pub mod Ports
+pub mod Services
+pub mod Statuses
+pub mod Templates
+pub mod WellFormed

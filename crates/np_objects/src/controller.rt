@@ -32,6 +32,7 @@ pub struct ControllerItem {
     pub kind: ControllerKind,
     pub namespace: Text,
     pub name: Text,
+    /// The first of its owner references that controls it, of whatever kind.
     pub owner: Option<OwnerRef>,
     /// Whether `spec.replicas` is 0.
     pub none_wanted: bool,

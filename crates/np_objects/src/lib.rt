@@ -1,20 +1,38 @@
-//! The objects of a cluster other than policies, as typed values.
+//! The objects of a cluster other than policies, as typed values, and how they are read.
 #![tactic(auto)]
 
 mod controller;
+mod controller_spec;
+mod controller_tables;
 mod ingress;
+mod ingress_tables;
+mod kind;
+mod label_map;
+mod lists;
 mod named_port;
 mod namespace;
 mod object;
+mod object_table;
 mod owner_ref;
 mod pod_item;
+mod pod_spec;
+mod pod_status;
+mod port_tables;
+#[cfg(test)]
+mod printed;
 mod service;
+mod service_spec;
+mod service_tables;
+mod template;
+#[cfg(test)]
+mod tests;
 
 pub use controller::{ControllerItem, ControllerKind, Template};
 pub use ingress::{Backend, IngressItem};
 pub use named_port::NamedPort;
 pub use namespace::NamespaceItem;
 pub use object::Object;
+pub use object_table::read_object;
 pub use owner_ref::OwnerRef;
 pub use pod_item::PodItem;
 pub use service::{PortName, ServiceItem, ServicePort};

@@ -1,11 +1,65 @@
 //! Namespaces.
 
+use crate::label_map::{LabelsTable, no_labels};
 use np_base::Text;
+use np_json::{Name, Table, TableFault, must_be_object, optional, required};
 use np_labels::Labels;
+use serde_json::Value;
+use std::alloc::Global;
 
 /// A namespace as it is listed (Kubernetes API reference, Namespace).
 #[derive(Debug, Drop)]
 pub struct NamespaceItem {
     pub name: Text,
     pub labels: Labels,
+}
+
+/// The metadata of a namespace, which is in no namespace itself (Kubernetes API reference, ObjectMeta).
+///
+/// | member | what it is |
+/// |---|---|
+/// | `name` | a name, required |
+/// | `labels` | an object from texts to texts, each a label |
+#[derive(Clone, Copy, Debug, Drop)]
+struct NamespaceMetadataTable;
+
+impl Table for NamespaceMetadataTable {
+    ghost use Rattle.np_objects.specs.Namespaces.{namespace_metadata};
+
+    type Row = NamespaceItem;
+
+    ghost reads = { λ _. namespace_metadata };
+
+    #[tactic(auto, unfolding(crate::specs::Namespaces::namespace_metadata))]
+    fn read(&self, alloc: Global, value: &Value) -> Result<NamespaceItem, TableFault> {
+        must_be_object(alloc, value)?;
+        let name = required(alloc, value, "name", &Name)?;
+        let labels = optional(alloc, value, "labels", &LabelsTable)?;
+        let none = no_labels(alloc)?;
+        Ok(NamespaceItem {
+            name,
+            labels: labels.unwrap_or(none),
+        })
+    }
+}
+
+/// A namespace (Kubernetes API reference, Namespace).
+///
+/// | member | what it is |
+/// |---|---|
+/// | `metadata` | the metadata of a namespace, required |
+#[derive(Clone, Copy, Debug, Drop)]
+pub(crate) struct NamespaceTable;
+
+impl Table for NamespaceTable {
+    ghost use Rattle.np_objects.specs.Namespaces.{namespace};
+
+    type Row = NamespaceItem;
+
+    ghost reads = { λ _. namespace };
+
+    #[tactic(auto, unfolding(crate::specs::Namespaces::namespace))]
+    fn read(&self, alloc: Global, value: &Value) -> Result<NamespaceItem, TableFault> {
+        required(alloc, value, "metadata", &NamespaceMetadataTable)
+    }
 }

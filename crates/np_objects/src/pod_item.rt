@@ -1,10 +1,19 @@
 //! Pods as they are listed.
+ghost use Rattle.std.specs.Prelude.{◌≡◌};
+ghost use Rattle.np_objects.specs.Pods as pods;
 
+use crate::label_map::{LabelsTable, no_labels};
+use crate::lists::first_some;
 use crate::named_port::NamedPort;
-use crate::owner_ref::OwnerRef;
+use crate::owner_ref::{OwnerRef, OwnerReferenceTable};
+use crate::pod_spec::{PodSpec, PodSpecTable};
+use crate::pod_status::{PodStatus, PodStatusTable};
 use np_addr::Address;
 use np_base::{Seq, Text};
+use np_json::{NamespacedName, NamespacedNameTable, Table, TableFault, listed, optional, required};
 use np_labels::Labels;
+use serde_json::Value;
+use std::alloc::Global;
 
 /// A pod as it is listed (Kubernetes API reference, Pod).
 #[derive(Debug, Drop)]
@@ -12,6 +21,7 @@ pub struct PodItem {
     pub namespace: Text,
     pub name: Text,
     pub labels: Labels,
+    /// The first of its owner references that controls it, of whatever kind.
     pub owner: Option<OwnerRef>,
     /// The container ports that have a name, in order.
     pub ports: Seq<NamedPort>,
@@ -21,4 +31,85 @@ pub struct PodItem {
     pub host_network: bool,
     /// Whether its phase is `Succeeded` or `Failed`.
     pub finished: bool,
+}
+
+/// What is read of the metadata of a pod.
+#[derive(Debug, Drop)]
+struct PodMetadata {
+    own: NamespacedName,
+    labels: Labels,
+    owner: Option<OwnerRef>,
+}
+
+/// The metadata of a pod (Kubernetes API reference, ObjectMeta).
+///
+/// | member | what it is |
+/// |---|---|
+/// | `name`, `namespace` | as for every object in a namespace |
+/// | `labels` | an object from texts to texts, each a label |
+/// | `ownerReferences` | a list of owner references, of which the first that controls the pod is kept |
+#[derive(Clone, Copy, Debug, Drop)]
+struct PodMetadataTable;
+
+impl Table for PodMetadataTable {
+    ghost use Rattle.np_objects.specs.Pods.{pod_metadata};
+
+    type Row = PodMetadata;
+
+    ghost reads = { λ _. pod_metadata };
+
+    #[tactic(auto, unfolding(crate::specs::Pods::pod_metadata))]
+    fn read(&self, alloc: Global, value: &Value) -> Result<PodMetadata, TableFault> {
+        let own = NamespacedNameTable.read(alloc, value)?;
+        let labels = optional(alloc, value, "labels", &LabelsTable)?;
+        let references = listed(alloc, value, "ownerReferences", &OwnerReferenceTable)?;
+        let none = no_labels(alloc)?;
+        Ok(PodMetadata {
+            own,
+            labels: labels.unwrap_or(none),
+            owner: first_some(references),
+        })
+    }
+}
+
+/// A pod (Kubernetes API reference, Pod).
+///
+/// | member | what it is |
+/// |---|---|
+/// | `metadata` | the metadata of a pod, required |
+/// | `spec` | the spec of a pod, required |
+/// | `status` | the status of a pod |
+#[derive(Clone, Copy, Debug, Drop)]
+pub(crate) struct PodTable;
+
+impl Table for PodTable {
+    ghost use Rattle.np_objects.specs.Pods.{pod};
+
+    type Row = PodItem;
+
+    ghost reads = { λ _. pod };
+
+    #[tactic(auto, unfolding(crate::specs::Pods::pod))]
+    fn read(&self, alloc: Global, value: &Value) -> Result<PodItem, TableFault> {
+        let metadata = required(alloc, value, "metadata", &PodMetadataTable)?;
+        let spec = required(alloc, value, "spec", &PodSpecTable)?;
+        let status = optional(alloc, value, "status", &PodStatusTable)?;
+        Ok(pod_item(metadata, spec, status.unwrap_or(PodStatus::none(alloc))))
+    }
+}
+
+// The pod of what was read of its members.
+fn pod_item(metadata: PodMetadata, spec: PodSpec, status: PodStatus) -> PodItem
+    ensures { result ≡ pods.pod_item metadata spec status }
+{
+    PodItem {
+        namespace: metadata.own.namespace,
+        name: metadata.own.name,
+        labels: metadata.labels,
+        owner: metadata.owner,
+        ports: spec.ports,
+        addresses: status.addresses,
+        host_network: spec.host_network,
+        finished: status.finished,
+    }
 }

@@ -33,7 +33,9 @@ pub enum AdminPeer {
         pods: Selector,
     },
     /// The addresses in some of the blocks, and the pods that have one of them.
-    Networks { cidrs: Seq<Cidr> },
+    Networks {
+        cidrs: Seq<Cidr>,
+    },
 }
 
 /// An entry of `ports` of an admin rule (network-policy-api reference, AdminNetworkPolicyPort).
@@ -46,7 +48,9 @@ pub enum AdminPort {
         hi: PortNum,
     },
     /// The ports of that name at the destination, each with its protocol.
-    Named { name: Text },
+    Named {
+        name: Text,
+    },
 }
 
 /// An entry of `ingress` or `egress` of an admin policy. It has at least one peer where it was read from JSON. Without

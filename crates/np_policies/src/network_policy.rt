@@ -15,7 +15,10 @@ pub enum NetPeer {
         pods: Option<Selector>,
     },
     /// The addresses of a block that are in none of its exceptions: `ipBlock`.
-    Block { cidr: Cidr, excepts: Seq<Cidr> },
+    Block {
+        cidr: Cidr,
+        excepts: Seq<Cidr>,
+    },
 }
 
 /// An entry of `ports` (Kubernetes API reference, NetworkPolicyPort).
@@ -28,7 +31,10 @@ pub enum NetPort {
         hi: PortNum,
     },
     /// The ports of that name and protocol at the destination.
-    Named { proto: Proto, name: Text },
+    Named {
+        proto: Proto,
+        name: Text,
+    },
 }
 
 /// An entry of `ingress` or `egress`. Without peers it matches every end, without port entries every protocol

@@ -1,0 +1,86 @@
+-- Controllers of pods.
+use Rattle.std.specs.Prelude.{ℤ, pos, negsuc, ◌==◌, codes, Bool, false, Option, Some, None, unwrap_or, Ok}
+use Rattle.serde_json.specs.Data.{Data}
+use Rattle.np_json.specs.Meta.{namespaced_name}
+use Rattle.np_json.specs.Scalars.{whole}
+use Rattle.np_json.specs.Tables.{Read, ◌>>=◌, ◌>>◌, must_be_object, optional, required, listed}
+use Rattle.np_objects.specs.Lists.{first_some}
+use Rattle.np_objects.specs.Owners.{owner_reference}
+use Rattle.np_objects.specs.Templates.{template}
+use Rattle.np_objects.specs.declared.controller.ControllerItem.{ControllerItem}
+use Rattle.np_objects.specs.declared.controller.ControllerKind.{ControllerKind}
+use Rattle.np_objects.specs.declared.controller.ControllerKind.TheVariants.{Deployment, ReplicaSet, StatefulSet, DaemonSet, ReplicationController, Job, CronJob}
+use Rattle.np_objects.specs.declared.controller_spec.ControllerSpec.{ControllerSpec}
+use Rattle.np_objects.specs.declared.controller_tables.ControllerMetadata.{ControllerMetadata}
+
+-- the metadata of a controller: first the name and the namespace
+unfoldable pub controller_metadata : Data → Read ControllerMetadata
+controller_metadata value = do
+  own ← namespaced_name value
+  references ← listed (codes "ownerReferences") owner_reference value
+  Ok (record { own = own; owner = first_some references })
+
+abbrev pub is_zero : Option ℤ → Bool
+is_zero None = false
+is_zero (Some (pos n)) = n == 0
+is_zero (Some (negsuc n)) = false
+
+-- what a controller without a spec has
+abbrev pub no_spec : ControllerSpec
+no_spec = record { none_wanted = false; template = None }
+
+-- the spec of a controller that is told how many pods are wanted
+unfoldable pub replicated_spec : Data → Read ControllerSpec
+replicated_spec value = do
+  must_be_object value
+  replicas ← optional (codes "replicas") whole value
+  pods ← optional (codes "template") template value
+  Ok (record { none_wanted = is_zero replicas; template = pods })
+
+-- the spec of a controller of which the template alone is read
+unfoldable pub template_spec : Data → Read ControllerSpec
+template_spec value = do
+  must_be_object value
+  pods ← optional (codes "template") template value
+  Ok (record { none_wanted = false; template = pods })
+
+-- the template of a job
+unfoldable pub job_template : Data → Read ControllerSpec
+job_template value = do
+  must_be_object value
+  spec ← optional (codes "spec") template_spec value
+  Ok (unwrap_or spec no_spec)
+
+-- the spec of a controller of jobs
+unfoldable pub cron_job_spec : Data → Read ControllerSpec
+cron_job_spec value = do
+  must_be_object value
+  job ← optional (codes "jobTemplate") job_template value
+  Ok (unwrap_or job no_spec)
+
+-- the spec of each kind of controller
+abbrev pub controller_spec : ControllerKind → Data → Read ControllerSpec
+controller_spec Deployment value = replicated_spec value
+controller_spec ReplicaSet value = replicated_spec value
+controller_spec StatefulSet value = replicated_spec value
+controller_spec ReplicationController value = replicated_spec value
+controller_spec DaemonSet value = template_spec value
+controller_spec Job value = template_spec value
+controller_spec CronJob value = cron_job_spec value
+
+abbrev pub controller_item : ControllerKind → ControllerMetadata → ControllerSpec → ControllerItem
+controller_item kind metadata spec = record {
+  kind = kind;
+  namespace = metadata.own.namespace;
+  name = metadata.own.name;
+  owner = metadata.owner;
+  none_wanted = spec.none_wanted;
+  template = spec.template;
+}
+
+-- a controller
+unfoldable pub controller : ControllerKind → Data → Read ControllerItem
+controller kind value = do
+  metadata ← required (codes "metadata") controller_metadata value
+  spec ← optional (codes "spec") (controller_spec kind) value
+  Ok (controller_item kind metadata (unwrap_or spec no_spec))

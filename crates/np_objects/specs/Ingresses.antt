@@ -1,0 +1,105 @@
+-- Ingresses.
+use Rattle.std.specs.Prelude.{ℕ, ℤ, List, [], ◌∷◌, ◌++◌, length, codes, Bool, true, false, not, ◌==◌, Some, unwrap_or, Ok}
+use Rattle.std.specs.List.{flat_map}
+use Rattle.std.specs.Option.{option_to_list}
+use Rattle.serde_json.specs.Data.{Data}
+use Rattle.np_json.specs.Members.{text_of, whole_of}
+use Rattle.np_json.specs.Meta.{namespaced_name}
+use Rattle.np_json.specs.Scalars.{text, port}
+use Rattle.np_json.specs.Tables.{Read, ◌>>=◌, ◌>>◌, has_one_of, must_be_object, optional, refuse_if, required, listed}
+use Rattle.np_json.specs.declared.fault.FaultKind.TheVariants.{BadField}
+use Rattle.np_json.specs.declared.field.Field.{Field}
+use Rattle.np_json.specs.declared.field.Field.TheVariants.{Missing, Wrong, Given}
+use Rattle.np_json.specs.declared.meta.NamespacedName.{NamespacedName}
+use Rattle.np_objects.specs.Controllers.{is_zero}
+use Rattle.np_objects.specs.declared.ingress.Backend.{Backend}
+use Rattle.np_objects.specs.declared.ingress.Backend.TheVariants.{Service, Resource}
+use Rattle.np_objects.specs.declared.ingress.IngressItem.{IngressItem}
+use Rattle.np_objects.specs.declared.service.PortName.{PortName}
+use Rattle.np_objects.specs.declared.service.PortName.TheVariants.{Number, Named}
+
+-- whether there is a number; the number 0 counts as missing
+abbrev pub is_numbered : Field ℤ → Bool
+is_numbered Missing = false
+is_numbered Wrong = true
+is_numbered (Given n) = not (is_zero (Some n))
+
+-- whether there is a name; the empty one counts as missing
+abbrev pub is_named : Field (List ℕ) → Bool
+is_named Missing = false
+is_named Wrong = true
+is_named (Given s) = not (length s == 0)
+
+-- whether exactly one of the two holds
+abbrev pub is_one : Bool → Bool → Bool
+is_one true other = not other
+is_one false other = other
+
+-- the one that is there of a number and a name
+abbrev pub number_or_name : Bool → Data → Read PortName
+number_or_name true value = do
+  number ← required (codes "number") port value
+  Ok (Number number)
+number_or_name false value = do
+  name ← required (codes "name") text value
+  Ok (Named name)
+
+-- a port of a service: exactly one of its number and its name
+unfoldable pub backend_port : Data → Read PortName
+backend_port value = do
+  must_be_object value
+  refuse_if (not (is_one (is_numbered (whole_of (codes "number") value)) (is_named (text_of (codes "name") value)))) BadField
+  number_or_name (is_numbered (whole_of (codes "number") value)) value
+
+-- a service, and one of its ports
+unfoldable pub backend_service : Data → Read Backend
+backend_service value = do
+  must_be_object value
+  name ← required (codes "name") text value
+  port ← required (codes "port") backend_port value
+  Ok (Service name port)
+
+-- a backend: exactly one of a service and a resource
+unfoldable pub backend : Data → Read Backend
+backend value = do
+  must_be_object value
+  refuse_if (not (has_one_of (codes "service" ∷ codes "resource" ∷ []) value)) BadField
+  service ← optional (codes "service") backend_service value
+  Ok (unwrap_or service Resource)
+
+-- a path of a rule
+unfoldable pub path : Data → Read Backend
+path value = do
+  must_be_object value
+  required (codes "backend") backend value
+
+-- the paths of a rule
+unfoldable pub http : Data → Read (List Backend)
+http value = do
+  must_be_object value
+  listed (codes "paths") path value
+
+-- a rule
+unfoldable pub rule : Data → Read (List Backend)
+rule value = do
+  must_be_object value
+  backends ← optional (codes "http") http value
+  Ok (unwrap_or backends [])
+
+-- the spec of an ingress: the default backend, and then those of the rules
+unfoldable pub ingress_spec : Data → Read (List Backend)
+ingress_spec value = do
+  must_be_object value
+  first ← optional (codes "defaultBackend") backend value
+  rules ← listed (codes "rules") rule value
+  Ok (option_to_list first ++ flat_map (λ backends. backends) rules)
+
+abbrev pub ingress_item : NamespacedName → List Backend → IngressItem
+ingress_item own backends = record { namespace = own.namespace; name = own.name; backends = backends }
+
+-- an ingress
+unfoldable pub ingress : Data → Read IngressItem
+ingress value = do
+  own ← required (codes "metadata") namespaced_name value
+  backends ← optional (codes "spec") ingress_spec value
+  Ok (ingress_item own (unwrap_or backends []))

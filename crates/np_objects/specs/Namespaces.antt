@@ -1,0 +1,19 @@
+-- Namespaces.
+use Rattle.std.specs.Prelude.{[], codes, unwrap_or, Ok}
+use Rattle.serde_json.specs.Data.{Data}
+use Rattle.np_json.specs.Scalars.{name}
+use Rattle.np_json.specs.Tables.{Read, ◌>>=◌, ◌>>◌, must_be_object, optional, required}
+use Rattle.np_objects.specs.Labels.{label_map}
+use Rattle.np_objects.specs.declared.namespace.NamespaceItem.{NamespaceItem}
+
+-- the metadata of a namespace, which is in no namespace itself
+unfoldable pub namespace_metadata : Data → Read NamespaceItem
+namespace_metadata value = do
+  must_be_object value
+  called ← required (codes "name") name value
+  labels ← optional (codes "labels") label_map value
+  Ok (record { name = called; labels = unwrap_or labels [] })
+
+-- a namespace, of which the metadata alone is read
+unfoldable pub namespace : Data → Read NamespaceItem
+namespace value = required (codes "metadata") namespace_metadata value

@@ -1,0 +1,24 @@
+-- Specs of pods.
+use Rattle.std.specs.Prelude.{List, codes, false, unwrap_or, Ok}
+use Rattle.std.specs.List.{filter_map, flat_map}
+use Rattle.serde_json.specs.Data.{Data}
+use Rattle.np_json.specs.Scalars.{flag}
+use Rattle.np_json.specs.Tables.{Read, ◌>>=◌, ◌>>◌, must_be_object, optional, listed}
+use Rattle.np_objects.specs.Ports.{container_port}
+use Rattle.np_objects.specs.declared.named_port.NamedPort.{NamedPort}
+use Rattle.np_objects.specs.declared.pod_spec.PodSpec.{PodSpec}
+
+-- a container: its ports that have a name
+unfoldable pub container : Data → Read (List NamedPort)
+container value = do
+  must_be_object value
+  ports ← listed (codes "ports") container_port value
+  Ok (filter_map (λ port. port) ports)
+
+-- the spec of a pod: the ports of its containers, one container after another
+unfoldable pub pod_spec : Data → Read PodSpec
+pod_spec value = do
+  must_be_object value
+  containers ← listed (codes "containers") container value
+  host_network ← optional (codes "hostNetwork") flag value
+  Ok (record { ports = flat_map (λ ports. ports) containers; host_network = unwrap_or host_network false })

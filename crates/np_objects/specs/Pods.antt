@@ -1,0 +1,42 @@
+-- Pods.
+use Rattle.std.specs.Prelude.{[], codes, unwrap_or, Ok}
+use Rattle.serde_json.specs.Data.{Data}
+use Rattle.np_json.specs.Meta.{namespaced_name}
+use Rattle.np_json.specs.Tables.{Read, ◌>>=◌, optional, required, listed}
+use Rattle.np_objects.specs.Labels.{label_map}
+use Rattle.np_objects.specs.Lists.{first_some}
+use Rattle.np_objects.specs.Owners.{owner_reference}
+use Rattle.np_objects.specs.PodSpecs.{pod_spec}
+use Rattle.np_objects.specs.Statuses.{pod_status, no_status}
+use Rattle.np_objects.specs.declared.pod_item.PodItem.{PodItem}
+use Rattle.np_objects.specs.declared.pod_item.PodMetadata.{PodMetadata}
+use Rattle.np_objects.specs.declared.pod_spec.PodSpec.{PodSpec}
+use Rattle.np_objects.specs.declared.pod_status.PodStatus.{PodStatus}
+
+-- the metadata of a pod: first the name and the namespace
+unfoldable pub pod_metadata : Data → Read PodMetadata
+pod_metadata value = do
+  own ← namespaced_name value
+  labels ← optional (codes "labels") label_map value
+  references ← listed (codes "ownerReferences") owner_reference value
+  Ok (record { own = own; labels = unwrap_or labels []; owner = first_some references })
+
+abbrev pub pod_item : PodMetadata → PodSpec → PodStatus → PodItem
+pod_item metadata spec status = record {
+  namespace = metadata.own.namespace;
+  name = metadata.own.name;
+  labels = metadata.labels;
+  owner = metadata.owner;
+  ports = spec.ports;
+  addresses = status.addresses;
+  host_network = spec.host_network;
+  finished = status.finished;
+}
+
+-- a pod
+unfoldable pub pod : Data → Read PodItem
+pod value = do
+  metadata ← required (codes "metadata") pod_metadata value
+  spec ← required (codes "spec") pod_spec value
+  status ← optional (codes "status") pod_status value
+  Ok (pod_item metadata spec (unwrap_or status no_status))

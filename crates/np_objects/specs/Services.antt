@@ -1,0 +1,93 @@
+-- Services.
+use Rattle.std.specs.Prelude.{ℕ, ℤ, List, [], ◌∷◌, map, codes, Bool, false, if◌then◌else◌, Option, Some, None, option_map, unwrap_or, Ok}
+use Rattle.std.specs.Option.{option_flatten}
+use Rattle.std.specs.Str.{bytes_eq}
+use Rattle.serde_json.specs.Data.{Data}
+use Rattle.np_conns.specs.declared.proto.Proto.TheVariants.{Tcp}
+use Rattle.np_json.specs.Members.{as_whole}
+use Rattle.np_json.specs.Meta.{namespaced_name}
+use Rattle.np_json.specs.Scalars.{text, port, port_number, labels}
+use Rattle.np_json.specs.Tables.{Read, ◌>>=◌, ◌>>◌, must_be_object, optional, required, listed}
+use Rattle.np_json.specs.declared.meta.NamespacedName.{NamespacedName}
+use Rattle.np_labels.specs.declared.op.Op.TheVariants.{OneOf}
+use Rattle.np_labels.specs.declared.requirement.Requirement.{Requirement}
+use Rattle.np_labels.specs.declared.selector.Selector.{Selector}
+use Rattle.np_objects.specs.Controllers.{is_zero}
+use Rattle.np_objects.specs.Ports.{protocol, port_name}
+use Rattle.np_objects.specs.declared.service.PortName.{PortName}
+use Rattle.np_objects.specs.declared.service.PortName.TheVariants.{Number, Named}
+use Rattle.np_objects.specs.declared.service.ServiceItem.{ServiceItem}
+use Rattle.np_objects.specs.declared.service.ServicePort.{ServicePort}
+use Rattle.np_objects.specs.declared.service_spec.ServiceSpec.{ServiceSpec}
+
+-- a port by its number
+unfoldable pub by_number : ℤ → Read (Option PortName)
+by_number n = do
+  number ← port_number n
+  Ok (Some (Number number))
+
+-- a port by its name; the empty text counts as missing
+unfoldable pub by_name : Data → Read (Option PortName)
+by_name value = do
+  name ← port_name value
+  Ok (option_map Named name)
+
+-- the number 0 counts as missing, and what is no whole number is to be a name
+abbrev pub target_by : Option ℤ → Data → Read (Option PortName)
+target_by (Some n) value = if is_zero (Some n) then Ok None else by_number n
+target_by None value = by_name value
+
+-- a port of the pods behind a service
+unfoldable pub target_port : Data → Read (Option PortName)
+target_port value = target_by (as_whole value) value
+
+-- a port of a service; it leads to the same port of the pods unless another is named
+unfoldable pub service_port : Data → Read ServicePort
+service_port value = do
+  must_be_object value
+  name ← optional (codes "name") port_name value
+  proto ← optional (codes "protocol") protocol value
+  number ← required (codes "port") port value
+  target ← optional (codes "targetPort") target_port value
+  Ok (record { name = option_flatten name; proto = unwrap_or proto Tcp; port = number; target = unwrap_or (option_flatten target) (Number number) })
+
+-- a label that is to be there with that value
+abbrev pub requirement_of : List ℕ × List ℕ → Requirement
+requirement_of entry = record { key = entry.0; op = OneOf; values = entry.1 ∷ [] }
+
+-- the labels of the pods that a service serves; it serves none where none are named
+abbrev pub selector_of : List (List ℕ × List ℕ) → Option Selector
+selector_of [] = None
+selector_of (entry ∷ entries) = Some (record { requirements = requirement_of entry ∷ map requirement_of entries })
+
+-- whether there is a text, and it is that one
+abbrev pub is_text : Option (List ℕ) → List ℕ → Bool
+is_text None text = false
+is_text (Some found) text = bytes_eq found text
+
+-- the spec of a service
+unfoldable pub service_spec : Data → Read ServiceSpec
+service_spec value = do
+  must_be_object value
+  kind ← optional (codes "type") text value
+  cluster_ip ← optional (codes "clusterIP") text value
+  selector ← optional (codes "selector") labels value
+  ports ← listed (codes "ports") service_port value
+  Ok (record { selector = selector_of (unwrap_or selector []); headless = is_text cluster_ip (codes "None"); external = is_text kind (codes "ExternalName"); ports = ports })
+
+abbrev pub service_item : NamespacedName → ServiceSpec → ServiceItem
+service_item own spec = record {
+  namespace = own.namespace;
+  name = own.name;
+  selector = spec.selector;
+  headless = spec.headless;
+  external = spec.external;
+  ports = spec.ports;
+}
+
+-- a service
+unfoldable pub service : Data → Read ServiceItem
+service value = do
+  own ← required (codes "metadata") namespaced_name value
+  spec ← required (codes "spec") service_spec value
+  Ok (service_item own spec)

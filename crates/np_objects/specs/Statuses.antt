@@ -1,0 +1,72 @@
+-- Statuses of pods.
+use Rattle.std.specs.Prelude.{ℕ, List, [], ◌∷◌, ◌++◌, fold, codes, Bool, false, ◌||◌, ◌==◌, if◌then◌else◌, Option, Some, None, Ok}
+use Rattle.std.specs.List.{list_any}
+use Rattle.std.specs.Option.{option_flatten}
+use Rattle.std.specs.Str.{bytes_eq}
+use Rattle.serde_json.specs.Data.{Data}
+use Rattle.np_addr.specs.AddressGrammar.{address_of}
+use Rattle.np_addr.specs.declared.address.Address.{Address}
+use Rattle.np_addr.specs.declared.address.Address.TheVariants.{Four, Six}
+use Rattle.np_json.specs.Scalars.{text}
+use Rattle.np_json.specs.Tables.{Read, ◌>>=◌, ◌>>◌, given, must_be_object, optional, listed}
+use Rattle.np_json.specs.declared.fault.FaultKind.TheVariants.{BadAddress}
+use Rattle.np_objects.specs.Lists.{unless_empty, or_refuse}
+use Rattle.np_objects.specs.declared.pod_status.PodStatus.{PodStatus}
+
+-- the address of a text, and none of the empty text
+abbrev pub address_by : Option (List ℕ) → Read (Option Address)
+address_by None = Ok None
+address_by (Some s) = given (or_refuse BadAddress (address_of s))
+
+-- a text that is empty or an address
+unfoldable pub address : Data → Read (Option Address)
+address value = do
+  s ← text value
+  address_by (unless_empty s)
+
+-- an object with an address
+unfoldable pub pod_ip : Data → Read (Option Address)
+pod_ip value = do
+  must_be_object value
+  ip ← optional (codes "ip") address value
+  Ok (option_flatten ip)
+
+abbrev pub is_same : Address → Address → Bool
+is_same (Four a) (Four b) = a == b
+is_same (Six a) (Six b) = a == b
+is_same (Four a) (Six b) = false
+is_same (Six a) (Four b) = false
+
+abbrev pub has_address : List Address → Address → Bool
+has_address addresses address = list_any (λ other. is_same other address) addresses
+
+-- the addresses so far and one more, unless it is among them
+abbrev pub with_address : List Address → Address → List Address
+with_address kept address = if has_address kept address then kept else kept ++ address ∷ []
+
+-- the addresses so far and one more, if there is one
+abbrev pub kept_with : List Address → Option Address → List Address
+kept_with kept None = kept
+kept_with kept (Some address) = with_address kept address
+
+-- the addresses that are there, each once, where it stands first
+abbrev pub distinct : List (Option Address) → List Address
+distinct found = fold kept_with [] found
+
+-- whether all containers of the pod have ended
+abbrev pub is_finished : Option (List ℕ) → Bool
+is_finished None = false
+is_finished (Some phase) = bytes_eq phase (codes "Succeeded") || bytes_eq phase (codes "Failed")
+
+-- the status of a pod
+unfoldable pub pod_status : Data → Read PodStatus
+pod_status value = do
+  must_be_object value
+  phase ← optional (codes "phase") text value
+  first ← optional (codes "podIP") address value
+  others ← listed (codes "podIPs") pod_ip value
+  Ok (record { finished = is_finished phase; addresses = distinct (option_flatten first ∷ others) })
+
+-- what a pod without a status has
+abbrev pub no_status : PodStatus
+no_status = record { finished = false; addresses = [] }

@@ -1,0 +1,68 @@
+//! Specs of pods.
+
+use crate::lists::{joined, somes};
+use crate::named_port::NamedPort;
+use crate::port_tables::ContainerPortTable;
+use np_base::Seq;
+use np_json::{Flag, Table, TableFault, listed, must_be_object, optional};
+use serde_json::Value;
+use std::alloc::Global;
+
+/// What is read of the spec of a pod.
+#[derive(Debug, Drop)]
+pub(crate) struct PodSpec {
+    /// The container ports that have a name, in order.
+    pub(crate) ports: Seq<NamedPort>,
+    pub(crate) host_network: bool,
+}
+
+/// An item of `containers`: its ports that have a name (Kubernetes API reference, Container).
+///
+/// | member | what it is |
+/// |---|---|
+/// | `ports` | a list of container ports |
+#[derive(Clone, Copy, Debug, Drop)]
+struct ContainerTable;
+
+impl Table for ContainerTable {
+    ghost use Rattle.np_objects.specs.PodSpecs.{container};
+
+    type Row = Seq<NamedPort>;
+
+    ghost reads = { λ _. container };
+
+    #[tactic(auto, unfolding(crate::specs::PodSpecs::container))]
+    fn read(&self, alloc: Global, value: &Value) -> Result<Seq<NamedPort>, TableFault> {
+        must_be_object(alloc, value)?;
+        let ports = listed(alloc, value, "ports", &ContainerPortTable)?;
+        Ok(somes(alloc, ports)?)
+    }
+}
+
+/// The spec of a pod (Kubernetes API reference, PodSpec).
+///
+/// | member | what it is |
+/// |---|---|
+/// | `containers` | a list of containers |
+/// | `hostNetwork` | true or false, and false where it is missing |
+#[derive(Clone, Copy, Debug, Drop)]
+pub(crate) struct PodSpecTable;
+
+impl Table for PodSpecTable {
+    ghost use Rattle.np_objects.specs.PodSpecs.{pod_spec};
+
+    type Row = PodSpec;
+
+    ghost reads = { λ _. pod_spec };
+
+    #[tactic(auto, unfolding(crate::specs::PodSpecs::pod_spec))]
+    fn read(&self, alloc: Global, value: &Value) -> Result<PodSpec, TableFault> {
+        must_be_object(alloc, value)?;
+        let containers = listed(alloc, value, "containers", &ContainerTable)?;
+        let host_network = optional(alloc, value, "hostNetwork", &Flag)?;
+        Ok(PodSpec {
+            ports: joined(alloc, containers)?,
+            host_network: host_network.unwrap_or(false),
+        })
+    }
+}

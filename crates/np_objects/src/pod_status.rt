@@ -1,0 +1,174 @@
+//! Statuses of pods.
+ghost use Rattle.std.specs.Prelude.{◌≡◌, ◌∷◌, IfOk};
+ghost use Rattle.np_json.specs.Tables.{Gives};
+ghost use Rattle.np_objects.specs.Statuses as statuses;
+ghost use Rattle.np_objects.specs.Lists as lists;
+
+use crate::lists::or_refuse;
+use np_addr::{Address, read_address};
+use np_base::{NoMemory, Seq, Text};
+use np_json::{AnyText, FaultKind, Table, TableFault, listed, must_be_object, of_type, optional};
+use serde_json::Value;
+use std::alloc::Global;
+
+/// What is read of the status of a pod.
+#[derive(Debug, Drop)]
+pub(crate) struct PodStatus {
+    /// Whether all its containers have ended for good.
+    pub(crate) finished: bool,
+    /// Each address once.
+    pub(crate) addresses: Seq<Address>,
+}
+
+impl PodStatus {
+    ghost use Rattle.np_objects.specs.Statuses.{no_status};
+
+    /// That of a pod without a status.
+    pub(crate) fn none(alloc: Global) -> PodStatus
+        ensures { result ≡ no_status }
+    {
+        PodStatus {
+            finished: false,
+            addresses: Seq::new(alloc),
+        }
+    }
+}
+
+/// The text of an address; the empty text stands for none. Another text is `BadAddress`, another type `BadField`.
+#[derive(Clone, Copy, Debug, Drop)]
+struct AddressTable;
+
+impl Table for AddressTable {
+    ghost use Rattle.np_objects.specs.Statuses.{address};
+
+    type Row = Option<Address>;
+
+    ghost reads = { λ _. address };
+
+    #[tactic(auto, unfolding(crate::specs::Statuses::address))]
+    fn read(&self, alloc: Global, value: &Value) -> Result<Option<Address>, TableFault> {
+        let text = of_type(alloc, value.as_str())?;
+        address_by(alloc, text)
+    }
+}
+
+// The address of a text, and none of the empty text.
+fn address_by(alloc: Global, text: &str) -> Result<Option<Address>, TableFault>
+    ensures { Gives result (statuses.address_by (lists.unless_empty text.now)) }
+{
+    if text.is_empty() {
+        return Ok(None);
+    }
+    let address = or_refuse(alloc, read_address(text).ok(), FaultKind::BadAddress)?;
+    Ok(Some(address))
+}
+
+/// An item of `podIPs`: its address (Kubernetes API reference, PodIP).
+///
+/// | member | what it is |
+/// |---|---|
+/// | `ip` | the text of an address, or the empty text |
+#[derive(Clone, Copy, Debug, Drop)]
+struct PodIpTable;
+
+impl Table for PodIpTable {
+    ghost use Rattle.np_objects.specs.Statuses.{pod_ip};
+
+    type Row = Option<Address>;
+
+    ghost reads = { λ _. pod_ip };
+
+    #[tactic(auto, unfolding(crate::specs::Statuses::pod_ip))]
+    fn read(&self, alloc: Global, value: &Value) -> Result<Option<Address>, TableFault> {
+        must_be_object(alloc, value)?;
+        let ip = optional(alloc, value, "ip", &AddressTable)?;
+        Ok(ip.flatten())
+    }
+}
+
+/// The status of a pod (Kubernetes API reference, PodStatus).
+///
+/// | member | what it is |
+/// |---|---|
+/// | `phase` | a text |
+/// | `podIP` | the text of an address, or the empty text |
+/// | `podIPs` | a list of objects with an address each |
+#[derive(Clone, Copy, Debug, Drop)]
+pub(crate) struct PodStatusTable;
+
+impl Table for PodStatusTable {
+    ghost use Rattle.np_objects.specs.Statuses.{pod_status};
+
+    type Row = PodStatus;
+
+    ghost reads = { λ _. pod_status };
+
+    #[tactic(auto, unfolding(crate::specs::Statuses::pod_status))]
+    fn read(&self, alloc: Global, value: &Value) -> Result<PodStatus, TableFault> {
+        must_be_object(alloc, value)?;
+        let phase = optional(alloc, value, "phase", &AnyText)?;
+        let first = optional(alloc, value, "podIP", &AddressTable)?;
+        let others = listed(alloc, value, "podIPs", &PodIpTable)?;
+        Ok(PodStatus {
+            finished: is_finished(&phase),
+            addresses: distinct(alloc, first.flatten(), others)?,
+        })
+    }
+}
+
+// Whether all containers of a pod in that phase have ended for good.
+fn is_finished(phase: &Option<Text>) -> bool
+    ensures { result ≡ statuses.is_finished phase.now }
+{
+    match phase {
+        Some(phase) => phase.as_str() == "Succeeded" || phase.as_str() == "Failed",
+        None => false,
+    }
+}
+
+// The addresses that are there, each once, where it stands first.
+fn distinct(
+    alloc: Global,
+    first: Option<Address>,
+    others: Seq<Option<Address>>,
+) -> Result<Seq<Address>, NoMemory>
+    ensures { IfOk result (λ made. made ≡ statuses.distinct (first ∷ others)) }
+{
+    let mut kept = kept_with(Seq::new(alloc), first)?;
+    for address in others.into_vec() {
+        kept = kept_with(kept, address)?;
+    }
+    Ok(kept)
+}
+
+// The addresses so far and one more, if there is one.
+fn kept_with(kept: Seq<Address>, address: Option<Address>) -> Result<Seq<Address>, NoMemory>
+    ensures { IfOk result (λ made. made ≡ statuses.kept_with kept address) }
+{
+    match address {
+        Some(address) => with_address(kept, &address),
+        None => Ok(kept),
+    }
+}
+
+// The addresses so far and one more, unless it is among them.
+fn with_address(mut kept: Seq<Address>, address: &Address) -> Result<Seq<Address>, NoMemory>
+    ensures { IfOk result (λ made. made ≡ statuses.with_address kept address.now) }
+{
+    if !has_address(kept.items(), address) {
+        kept.push(*address)?;
+    }
+    Ok(kept)
+}
+
+fn has_address(addresses: &[Address], address: &Address) -> bool
+    ensures { result ≡ statuses.has_address addresses.now address.now }
+{
+    addresses.iter().any(|other| is_same(other, address))
+}
+
+fn is_same(address: &Address, other: &Address) -> bool
+    ensures { result ≡ statuses.is_same address.now other.now }
+{
+    address == other
+}

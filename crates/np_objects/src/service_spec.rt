@@ -1,0 +1,100 @@
+//! Specs of services.
+ghost use Rattle.std.specs.Prelude.{◌≡◌, IfOk, map};
+ghost use Rattle.np_objects.specs.Services as services;
+
+use crate::service::ServicePort;
+use crate::service_tables::ServicePortTable;
+use np_base::{NoMemory, Seq, Text};
+use np_json::{AnyText, LabelMap, Table, TableFault, listed, must_be_object, optional};
+use np_labels::{Op, Requirement, Selector};
+use serde_json::Value;
+use std::alloc::Global;
+
+/// What is read of the spec of a service.
+#[derive(Debug, Drop)]
+pub(crate) struct ServiceSpec {
+    /// The labels of the pods that it serves, if it names any.
+    pub(crate) selector: Option<Selector>,
+    pub(crate) headless: bool,
+    pub(crate) external: bool,
+    pub(crate) ports: Seq<ServicePort>,
+}
+
+/// The spec of a service (Kubernetes API reference, ServiceSpec).
+///
+/// | member | what it is |
+/// |---|---|
+/// | `type` | a text |
+/// | `clusterIP` | a text |
+/// | `selector` | an object from texts to texts, each a label |
+/// | `ports` | a list of ports of services |
+#[derive(Clone, Copy, Debug, Drop)]
+pub(crate) struct ServiceSpecTable;
+
+impl Table for ServiceSpecTable {
+    ghost use Rattle.np_objects.specs.Services.{service_spec};
+
+    type Row = ServiceSpec;
+
+    ghost reads = { λ _. service_spec };
+
+    #[tactic(auto, unfolding(crate::specs::Services::service_spec))]
+    fn read(&self, alloc: Global, value: &Value) -> Result<ServiceSpec, TableFault> {
+        must_be_object(alloc, value)?;
+        let kind = optional(alloc, value, "type", &AnyText)?;
+        let cluster_ip = optional(alloc, value, "clusterIP", &AnyText)?;
+        let selector = optional(alloc, value, "selector", &LabelMap)?;
+        let ports = listed(alloc, value, "ports", &ServicePortTable)?;
+        Ok(ServiceSpec {
+            selector: selector_of(alloc, selector.unwrap_or(Seq::new(alloc)))?,
+            headless: is_text(&cluster_ip, "None"),
+            external: is_text(&kind, "ExternalName"),
+            ports,
+        })
+    }
+}
+
+// Whether there is a text, and it is that one.
+fn is_text(found: &Option<Text>, text: &str) -> bool
+    ensures { result ≡ services.is_text found.now text.now }
+{
+    match found {
+        Some(found) => found.as_str() == text,
+        None => false,
+    }
+}
+
+// The labels of the pods that a service serves, and `None` where it names none.
+fn selector_of(alloc: Global, entries: Seq<(Text, Text)>) -> Result<Option<Selector>, NoMemory>
+    ensures { IfOk result (λ made. made ≡ services.selector_of entries) }
+{
+    if entries.items().is_empty() {
+        return Ok(None);
+    }
+    let requirements = requirements_of(alloc, entries)?;
+    Ok(Some(Selector { requirements }))
+}
+
+// The labels that are to be there, in order.
+fn requirements_of(alloc: Global, entries: Seq<(Text, Text)>) -> Result<Seq<Requirement>, NoMemory>
+    ensures { IfOk result (λ made. made ≡ map services.requirement_of entries) }
+{
+    let mut requirements = Seq::new(alloc);
+    for (key, value) in entries.into_vec() {
+        requirements.push(requirement_of(alloc, key, value)?)?;
+    }
+    Ok(requirements)
+}
+
+// A label that is to be there with that value.
+fn requirement_of(alloc: Global, key: Text, value: Text) -> Result<Requirement, NoMemory>
+    ensures { IfOk result (λ made. made ≡ services.requirement_of (key, value)) }
+{
+    let mut values = Seq::new(alloc);
+    values.push(value)?;
+    Ok(Requirement {
+        key,
+        op: Op::OneOf,
+        values,
+    })
+}

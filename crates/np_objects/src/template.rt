@@ -1,0 +1,63 @@
+//! How the templates of pods are read.
+
+use crate::controller::Template;
+use crate::label_map::{LabelsTable, no_labels};
+use crate::pod_spec::PodSpecTable;
+use np_json::{Table, TableFault, must_be_object, optional, required};
+use np_labels::Labels;
+use serde_json::Value;
+use std::alloc::Global;
+
+/// The metadata of a template (Kubernetes API reference, ObjectMeta).
+///
+/// | member | what it is |
+/// |---|---|
+/// | `labels` | an object from texts to texts, each a label |
+#[derive(Clone, Copy, Debug, Drop)]
+struct TemplateMetadataTable;
+
+impl Table for TemplateMetadataTable {
+    ghost use Rattle.np_objects.specs.Templates.{template_metadata};
+
+    type Row = Labels;
+
+    ghost reads = { λ _. template_metadata };
+
+    #[tactic(auto, unfolding(crate::specs::Templates::template_metadata))]
+    fn read(&self, alloc: Global, value: &Value) -> Result<Labels, TableFault> {
+        must_be_object(alloc, value)?;
+        let labels = optional(alloc, value, "labels", &LabelsTable)?;
+        let none = no_labels(alloc)?;
+        Ok(labels.unwrap_or(none))
+    }
+}
+
+/// The template of a pod (Kubernetes API reference, PodTemplateSpec).
+///
+/// | member | what it is |
+/// |---|---|
+/// | `metadata` | the metadata of a template |
+/// | `spec` | the spec of a pod, required |
+#[derive(Clone, Copy, Debug, Drop)]
+pub(crate) struct TemplateTable;
+
+impl Table for TemplateTable {
+    ghost use Rattle.np_objects.specs.Templates.{template};
+
+    type Row = Template;
+
+    ghost reads = { λ _. template };
+
+    #[tactic(auto, unfolding(crate::specs::Templates::template))]
+    fn read(&self, alloc: Global, value: &Value) -> Result<Template, TableFault> {
+        must_be_object(alloc, value)?;
+        let labels = optional(alloc, value, "metadata", &TemplateMetadataTable)?;
+        let spec = required(alloc, value, "spec", &PodSpecTable)?;
+        let none = no_labels(alloc)?;
+        Ok(Template {
+            labels: labels.unwrap_or(none),
+            ports: spec.ports,
+            host_network: spec.host_network,
+        })
+    }
+}

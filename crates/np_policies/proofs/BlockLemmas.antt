@@ -1,0 +1,44 @@
+-- Blocks that are read are well formed.
+use Rattle.std.proofs.Common.{◌≡◌, ℕ, ◌≤◌, List, Option, Some, None, Ok, refl, sym, subst}
+use Rattle.serde_json.specs.Data.{Data}
+use Rattle.serde_json.specs.Find.{as_str}
+use Rattle.np_addr.proofs.BlockLemmas.{rest_of_cleared}
+use Rattle.np_addr.proofs.GrammarLemmas.{cidr_text_iff}
+use Rattle.np_addr.specs.AddressGrammar.{block_of, cidr_of}
+use Rattle.np_addr.specs.Addresses.{family_of, width_of, IsCidr}
+use Rattle.np_addr.specs.declared.address.Address.{Address}
+use Rattle.np_addr.specs.declared.address.Address.TheVariants.{Four, Six}
+use Rattle.np_addr.specs.declared.cidr.Cidr.{Cidr}
+use Rattle.np_json.specs.Scalars.{of_type}
+use Rattle.np_json.specs.Tables.{◌>>=◌, required}
+use Rattle.np_policies.proofs.ReadLemmas.{required-row}
+use Rattle.np_policies.specs.Blocks.{cidr, cidr_by}
+
+block_of-well : (address : Address) (len : ℕ) → len ≤ width_of (family_of address) → IsCidr (block_of address len)
+block_of-well (Four n) len within = (within, rest_of_cleared _ n)
+block_of-well (Six n) len within = (within, rest_of_cleared _ n)
+
+cidr_of-well : (text : List ℕ) (block : Cidr) → cidr_of text ≡ Some block → IsCidr block
+cidr_of-well text block is =
+    let spelled = (cidr_text_iff text block).0 is in
+    subst IsCidr (sym spelled.value) (block_of-well spelled.address spelled.len spelled.length_text.within)
+
+pub cidr-well : (value : Data) (block : Cidr) → cidr value ≡ Ok block → IsCidr block
+unfolding cidr
+cidr-well value block is = by (as_str value) is
+  where
+    by_block : (found : Option Cidr) (text : List ℕ) → cidr_of text ≡ found → cidr_by found ≡ Ok block → IsCidr block
+    by_block None text found is = cc
+    by_block (Some other) text found is =
+        let same : other ≡ block = cc in
+        subst IsCidr same (cidr_of-well text other found)
+
+    by : (read : Option (List ℕ)) → (of_type read >>= λ s. cidr_by (cidr_of s)) ≡ Ok block → IsCidr block
+    by None is = cc
+    by (Some text) is = by_block (cidr_of text) text refl is
+
+-- a required block is well formed
+pub required-cidr_well : (name : List ℕ) (value : Data) (block : Cidr) → required name cidr value ≡ Ok block → IsCidr block
+required-cidr_well name value block is =
+    let read = required-row cidr name value block is in
+    cidr-well read.found block read.read

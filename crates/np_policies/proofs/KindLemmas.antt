@@ -1,0 +1,60 @@
+-- Objects that are no policies.
+use Rattle.std.proofs.Common.{◌≡◌, ℕ, List, Bool, true, false, ◌&&◌, cond, None, codes, Ok, refl, ap}
+use Rattle.std.specs.Cmp.Lexicographic.{bytes_decides}
+use Rattle.std.specs.Str.{bytes_eq}
+use Rattle.serde_json.specs.Data.{Data}
+use Rattle.np_json.specs.Meta.{type_meta}
+use Rattle.np_json.specs.Tables.{refuse}
+use Rattle.np_json.specs.declared.fault.FaultKind.TheVariants.{ForeignPolicy}
+use Rattle.np_json.specs.declared.meta.TypeMeta.{TypeMeta}
+use Rattle.np_json.specs.declared.path.Step.TheVariants.{Field}
+use Rattle.np_policies.proofs.ReadLemmas.{bind-row, under-row}
+use Rattle.np_policies.specs.AdminPolicies.{admin_policy, base_policy}
+use Rattle.np_policies.specs.NetworkPolicies.{net_policy}
+use Rattle.np_policies.specs.Policies.{is_network_policy, is_of, kind_of, policy_by, policy_of}
+use Rattle.np_policies.specs.declared.policy_table.PolicyKind.TheVariants.{Net, Admin, Base, Foreign, NoPolicy}
+
+both_false : (b : Bool) → (b && false) ≡ false
+both_false true = refl
+both_false false = refl
+
+-- an object whose kind is no network policy is of no kind that is one
+not_of : (version kind : List ℕ) (meta : TypeMeta) → is_network_policy kind ≡ true → is_network_policy meta.kind ≡ false → is_of version kind meta ≡ false
+not_of version kind meta ends is = by (bytes_eq meta.kind kind) refl
+  where
+    by : (b : Bool) → bytes_eq meta.kind kind ≡ b → is_of version kind meta ≡ false
+    by true same =
+        let kinds : meta.kind ≡ kind = (bytes_decides meta.kind kind).0 same in
+        let tests = ap is_network_policy kinds in
+        cc
+    by false other = rw other (both_false (bytes_eq meta.api_version version))
+
+pub no_policy : (value : Data) (meta : TypeMeta) → type_meta value ≡ Ok meta → is_network_policy meta.kind ≡ false → policy_of value ≡ Ok None
+unfolding policy_of policy_by
+no_policy value meta read is =
+    let net = not_of (codes "networking.k8s.io/v1") (codes "NetworkPolicy") meta refl is in
+    let admin = not_of (codes "policy.networking.k8s.io/v1alpha1") (codes "AdminNetworkPolicy") meta refl is in
+    let base = not_of (codes "policy.networking.k8s.io/v1alpha1") (codes "BaselineAdminNetworkPolicy") meta refl is in
+    let kind : kind_of meta ≡ NoPolicy = rw (net, admin, base, is) refl in
+    rw read (ap (λ k. policy_by k value) kind)
+
+pub other_kind : (value : Data) → policy_of value ≡ Ok None → (meta : TypeMeta) × (type_meta value ≡ Ok meta) × (is_network_policy meta.kind ≡ false)
+unfolding policy_of policy_by
+other_kind value is =
+    let read = bind-row (type_meta value) (λ meta. policy_by (kind_of meta) value) None is in
+    let meta = read.first in (
+      meta,
+      read.here,
+      by
+          (is_of (codes "networking.k8s.io/v1") (codes "NetworkPolicy") meta)
+          (is_of (codes "policy.networking.k8s.io/v1alpha1") (codes "AdminNetworkPolicy") meta)
+          (is_of (codes "policy.networking.k8s.io/v1alpha1") (codes "BaselineAdminNetworkPolicy") meta)
+          (is_network_policy meta.kind) read.after,
+    )
+  where
+    by : (net admin base network : Bool) → policy_by (cond net Net (cond admin Admin (cond base Base (cond network Foreign NoPolicy)))) value ≡ Ok None → network ≡ false
+    by true admin base network is = let read = bind-row (net_policy value) _ None is in let after = read.after in cc
+    by false true base network is = let read = bind-row (admin_policy value) _ None is in let after = read.after in cc
+    by false false true network is = let read = bind-row (base_policy value) _ None is in let after = read.after in cc
+    by false false false true is = let none = under-row (Field (codes "kind")) (refuse ForeignPolicy) None is in cc
+    by false false false false is = refl

@@ -1,0 +1,9 @@
+pub mod BlockLemmas
+pub mod DistinctLemmas
+pub mod KindLemmas
+pub mod ReadLemmas
+pub mod SelectorLemmas
+pub mod WellAdmin
+pub mod WellLemmas
+pub mod WellNetwork
+pub mod WellPolicies

@@ -1,0 +1,202 @@
+-- What a selector that was read asks of labels.
+use Rattle.std.proofs.Common.{◌≡◌, ℕ, List, [], ◌∷◌, ◌++◌, length, map, fold, Bool, true, false, not, cond, ◌||◌, ◌==◌, Option, Some, None, option_and_then, option_map, unwrap_or, is_some, is_none, codes, Ok, refl, sym, ap, ◌∙◌}
+use Rattle.std.proofs.lemmas.List.Folds.{list_all-append}
+use Rattle.std.specs.BTreeSet.{insert_key}
+use Rattle.std.specs.Cmp.Lexicographic.{slice_cmp, bytes_decides}
+use Rattle.std.specs.List.{list_all}
+use Rattle.std.specs.Ordering.{nat_cmp, is_eq, match_ordering}
+use Rattle.std.specs.declared.cmp.Ordering.{Ordering}
+use Rattle.std.specs.declared.cmp.Ordering.TheVariants.{Less, Equal, Greater}
+use Rattle.std.specs.Str.{bytes_eq}
+use Rattle.serde_json.specs.Data.{Data, Members, no_members, member}
+use Rattle.serde_json.specs.Find.{as_str, as_object}
+use Rattle.np_json.specs.Members.{as_pairs, member_of, pairs_of_members}
+use Rattle.np_json.specs.Scalars.{is_label, labels, of_type, text, word}
+use Rattle.np_json.specs.Tables.{◌>>◌, listed, must_be_object, optional, refuse, refuse_if, required}
+use Rattle.np_json.specs.declared.fault.FaultKind.TheVariants.{BadField, BadSelector}
+use Rattle.np_labels.proofs.PairLists.{is_eq-slice_cmp}
+use Rattle.np_labels.specs.Labels.{value_of}
+use Rattle.np_labels.specs.Selectors.{allows, is_listed, meets_requirement, meets_selector}
+use Rattle.np_labels.specs.declared.op.Op.{Op}
+use Rattle.np_labels.specs.declared.op.Op.TheVariants.{OneOf, NoneOf, Present, Absent}
+use Rattle.np_labels.specs.declared.pair.Pair.{Pair}
+use Rattle.np_labels.specs.declared.requirement.Requirement.{Requirement}
+use Rattle.np_labels.specs.declared.selector.Selector.{Selector}
+use Rattle.np_policies.proofs.ReadLemmas.{bind-row, then-row, optional-row, listed-row, list_all-each_item, list_any-each_item, of_type-row, word-row, text_at-row, IsOptional}
+use Rattle.np_policies.specs.SelectorMeaning.{any_item, has_entries, has_text, is_among, is_text, items_at, meets_expression, meets_members, meets_operator}
+use Rattle.np_policies.specs.Selectors.{distinct, expression, fits, fitting, has_other, is_key, key, label_requirement, op_named, selector}
+
+-- ---- values in order, each once
+
+or_false : (b : Bool) → (b || false) ≡ b
+or_false true = refl
+or_false false = refl
+
+or_twice : (b more : Bool) → (b || more) ≡ ((b || more) || b)
+or_twice true more = refl
+or_twice false true = refl
+or_twice false false = refl
+
+or_swap : (first more here : Bool) → (first || (more || here)) ≡ ((first || more) || here)
+or_swap true more here = refl
+or_swap false more here = refl
+
+or_first : (here others : Bool) → (here || others) ≡ (others || here)
+or_first true true = refl
+or_first true false = refl
+or_first false true = refl
+or_first false false = refl
+
+-- one more value is listed, wherever it is put
+is_listed-insert : (values : List (List ℕ)) (value s : List ℕ) → is_listed (insert_key (slice_cmp nat_cmp) values value) s ≡ (is_listed values s || bytes_eq value s)
+is_listed-insert [] value s = or_false (bytes_eq value s)
+is_listed-insert (first ∷ values) value s = by (slice_cmp nat_cmp value first) refl (is_listed-insert values value s)
+  where
+    by : (o : Ordering) → slice_cmp nat_cmp value first ≡ o → is_listed (insert_key (slice_cmp nat_cmp) values value) s ≡ (is_listed values s || bytes_eq value s)
+        → is_listed (match_ordering o (value ∷ first ∷ values) (first ∷ values) (first ∷ insert_key (slice_cmp nat_cmp) values value)) s ≡ (is_listed (first ∷ values) s || bytes_eq value s)
+    by Less is others = or_first (bytes_eq value s) (is_listed (first ∷ values) s)
+    by Equal is others =
+        let same : value ≡ first = (bytes_decides value first).0 (sym (is_eq-slice_cmp value first) ∙ ap is_eq is) in
+        rw same (or_twice (bytes_eq first s) (is_listed values s))
+    by Greater is others = rw others (or_swap (bytes_eq first s) (is_listed values s) (bytes_eq value s))
+
+more_listed : (made values : List (List ℕ)) (s : List ℕ) → is_listed (fold (insert_key (slice_cmp nat_cmp)) made values) s ≡ (is_listed made s || is_listed values s)
+more_listed made [] s = sym (or_false (is_listed made s))
+more_listed made (value ∷ values) s =
+    more_listed (insert_key (slice_cmp nat_cmp) made value) values s
+    ∙ rw (is_listed-insert made value s) (sym (or_swap (is_listed made s) (bytes_eq value s) (is_listed values s)))
+
+-- the values in order, each once, are the values
+pub is_listed-distinct : (values : List (List ℕ)) (s : List ℕ) → is_listed (distinct values) s ≡ is_listed values s
+is_listed-distinct values s = more_listed [] values s
+
+-- ---- labels
+
+one_label : (own : List Pair) (name s : List ℕ) (value : Data) → as_str value ≡ Some s → meets_requirement (label_requirement (name, s)) own ≡ has_text (value_of own name) value
+one_label own name s value is = by (value_of own name)
+  where
+    by : (found : Option (List ℕ)) → allows OneOf (s ∷ []) found ≡ has_text found value
+    by None = refl
+    by (Some other) = rw is (or_false (bytes_eq s other))
+
+all_labels : (own : List Pair) (members : Members) (pairs : List (List ℕ × List ℕ)) → pairs_of_members members ≡ Some pairs → list_all (λ one. meets_requirement one own) (map label_requirement pairs) ≡ has_entries own members
+all_labels own no_members [] is = refl
+all_labels own no_members (pair ∷ pairs) is = cc
+all_labels own (member name value members) pairs is = by (as_str value) (pairs_of_members members) refl refl (all_labels own members) is
+  where
+    by : (read : Option (List ℕ)) (rest : Option (List (List ℕ × List ℕ))) → as_str value ≡ read → pairs_of_members members ≡ rest
+        → ((more : List (List ℕ × List ℕ)) → pairs_of_members members ≡ Some more → list_all (λ one. meets_requirement one own) (map label_requirement more) ≡ has_entries own members)
+        → option_and_then (λ s. option_map (λ more. (name, s) ∷ more) rest) read ≡ Some pairs
+        → list_all (λ one. meets_requirement one own) (map label_requirement pairs) ≡ has_entries own (member name value members)
+    by None rest here others step is = cc
+    by (Some s) None here others step is = cc
+    by (Some s) (Some more) here others step is =
+        let same : (name, s) ∷ more ≡ pairs = cc in
+        rw (← same) (rw (one_label own name s value here, step more others) refl)
+
+-- the entries of a map of labels
+labels-row : (value : Data) (pairs : List (List ℕ × List ℕ)) → labels value ≡ Ok pairs → as_pairs value ≡ Some pairs
+unfolding labels
+labels-row value pairs is =
+    let read = bind-row (of_type (as_pairs value)) (λ pairs. refuse_if (not (list_all is_label pairs)) BadField >> Ok pairs) pairs is in
+    let same : Ok read.first ≡ Ok pairs = then-row (refuse_if (not (list_all is_label read.first)) BadField) (Ok read.first) pairs read.after in
+    let first : read.first ≡ pairs = cc in
+    of_type-row (as_pairs value) read.first read.here ∙ ap Some first
+
+entries_met : (own : List Pair) (value : Data) (pairs : List (List ℕ × List ℕ)) → as_pairs value ≡ Some pairs → list_all (λ one. meets_requirement one own) (map label_requirement pairs) ≡ has_entries own (unwrap_or (as_object value) no_members)
+entries_met own value pairs is = by (as_object value) is
+  where
+    by : (found : Option Members) → option_and_then pairs_of_members found ≡ Some pairs → list_all (λ one. meets_requirement one own) (map label_requirement pairs) ≡ has_entries own (unwrap_or found no_members)
+    by None is = cc
+    by (Some members) is = all_labels own members pairs is
+
+member_met : (own : List Pair) (there : Option Data) (row : Option (List (List ℕ × List ℕ))) → IsOptional labels there row → list_all (λ one. meets_requirement one own) (map label_requirement (unwrap_or row [])) ≡ has_entries own (unwrap_or (option_and_then as_object there) no_members)
+member_met own there None is = rw is refl
+member_met own there (Some pairs) is = rw is.there (entries_met own is.found pairs (labels-row is.found pairs is.read))
+
+-- ---- expressions
+
+key-row : (value : Data) (s : List ℕ) → key value ≡ Ok s → as_str value ≡ Some s
+unfolding key
+key-row value s is =
+    let read = bind-row (text value) (λ s. refuse_if (not (is_key s)) BadField >> Ok s) s is in
+    let same : Ok read.first ≡ Ok s = then-row (refuse_if (not (is_key read.first)) BadField) (Ok read.first) s read.after in
+    let first : read.first ≡ s = cc in
+    of_type-row (as_str value) read.first read.here ∙ ap Some first
+
+fitting-row : (named : Option Op) (has_values : Bool) (op : Op) → fitting named has_values ≡ Ok op → named ≡ Some op
+fitting-row None has_values op is = cc
+fitting-row (Some other) has_values op is = by (fits other has_values) is
+  where
+    by : (b : Bool) → cond b (Ok other) (refuse BadSelector) ≡ Ok op → Some other ≡ Some op
+    by true is = cc
+    by false is = cc
+
+-- a text among the values that were read is among the items
+among : (items : _) (values : List (List ℕ)) (found : Option (List ℕ)) → ((s : List ℕ) → is_listed values s ≡ any_item (λ value. is_text value s) items) → allows OneOf (distinct values) found ≡ is_among items found
+among items values None same = refl
+among items values (Some s) same = is_listed-distinct values s ∙ same s
+
+not_among : (items : _) (values : List (List ℕ)) (found : Option (List ℕ)) → ((s : List ℕ) → is_listed values s ≡ any_item (λ value. is_text value s) items) → allows NoneOf (distinct values) found ≡ not (is_among items found)
+not_among items values None same = refl
+not_among items values (Some s) same = ap not (is_listed-distinct values s ∙ same s)
+
+operator_met : (operator : List ℕ) (items : _) (values : List (List ℕ)) (op : Op) (found : Option (List ℕ)) → op_named operator ≡ Some op → ((s : List ℕ) → is_listed values s ≡ any_item (λ value. is_text value s) items) → allows op (distinct values) found ≡ meets_operator operator items found
+operator_met operator items values op found is same =
+    by (bytes_eq operator (codes "In")) (bytes_eq operator (codes "NotIn")) (bytes_eq operator (codes "Exists")) (bytes_eq operator (codes "DoesNotExist")) op is
+  where
+    by : (one none present absent : Bool) (op : Op) → cond one (Some OneOf) (cond none (Some NoneOf) (cond present (Some Present) (cond absent (Some Absent) None))) ≡ Some op
+        → allows op (distinct values) found ≡ cond one (is_among items found) (cond none (not (is_among items found)) (cond present (is_some found) (cond absent (is_none found) false)))
+    by true none present absent OneOf is = among items values found same
+    by true none present absent NoneOf is = cc
+    by true none present absent Present is = cc
+    by true none present absent Absent is = cc
+    by false true present absent OneOf is = cc
+    by false true present absent NoneOf is = not_among items values found same
+    by false true present absent Present is = cc
+    by false true present absent Absent is = cc
+    by false false true absent OneOf is = cc
+    by false false true absent NoneOf is = cc
+    by false false true absent Present is = refl
+    by false false true absent Absent is = cc
+    by false false false true OneOf is = cc
+    by false false false true NoneOf is = cc
+    by false false false true Present is = cc
+    by false false false true Absent is = refl
+    by false false false false op is = cc
+
+-- a word is listed where its item is that text
+word_alike : (s : List ℕ) (value : Data) (listed : List ℕ) → word value ≡ Ok listed → bytes_eq listed s ≡ is_text value s
+word_alike s value listed is = rw (word-row value listed is) refl
+
+-- labels meet an expression that was read exactly where they meet its members
+pub expression_met : (own : List Pair) (value : Data) (read : Requirement) → expression value ≡ Ok read → meets_requirement read own ≡ meets_expression own value
+unfolding expression
+expression_met own value read is =
+    let past = then-row (must_be_object value) _ read is in
+    let name = bind-row (required (codes "key") key value) _ read past in
+    let operator = bind-row (required (codes "operator") text value) _ read name.after in
+    let values = bind-row (listed (codes "values") word value) _ read operator.after in
+    let op = bind-row (fitting (op_named operator.first) (not (length values.first == 0))) (λ op. Ok (record { key = name.first; op = op; values = distinct values.first })) read values.after in
+    let made : record { key = name.first; op = op.first; values = distinct values.first } ≡ read = cc in
+    let at_key = text_at-row key key-row (codes "key") value name.first name.here in
+    let at_operator = text_at-row text (λ d s e. of_type-row (as_str d) s e) (codes "operator") value operator.first operator.here in
+    let items = listed-row word (codes "values") value values.first values.here in
+    let same : (s : List ℕ) → is_listed values.first s ≡ any_item (λ d. is_text d s) (items_at (codes "values") value) =
+    λ s. list_any-each_item word (λ listed. bytes_eq listed s) (λ d. is_text d s) (word_alike s) 0 (items_at (codes "values") value) values.first items in
+    rw (← made) (rw (at_key, at_operator) (operator_met operator.first (items_at (codes "values") value) values.first op.first (value_of own name.first) (fitting-row _ _ op.first op.here) same))
+
+-- ---- selectors
+
+-- labels meet a selector that was read exactly where they meet its members
+pub selector_met : (value : Data) (read : Selector) (own : List Pair) → selector value ≡ Ok read → meets_selector read own ≡ meets_members own value
+unfolding selector
+selector_met value read own is =
+    let past = then-row (must_be_object value) _ read is in
+    let known = then-row (refuse_if (has_other (as_object value)) BadSelector) _ read past in
+    let pairs = bind-row (optional (codes "matchLabels") labels value) _ read known in
+    let expressions = bind-row (listed (codes "matchExpressions") expression value) (λ found. Ok (record { requirements = map label_requirement (unwrap_or pairs.first []) ++ found })) read pairs.after in
+    let made : record { requirements = map label_requirement (unwrap_or pairs.first []) ++ expressions.first } ≡ read = cc in
+    let first = member_met own (member_of (codes "matchLabels") value) pairs.first (optional-row labels (codes "matchLabels") value pairs.first pairs.here) in
+    let second = list_all-each_item expression (λ one. meets_requirement one own) (meets_expression own) (expression_met own) 0 (items_at (codes "matchExpressions") value) expressions.first (listed-row expression (codes "matchExpressions") value expressions.first expressions.here) in
+    rw (← made) (list_all-append (λ one. meets_requirement one own) (map label_requirement (unwrap_or pairs.first [])) expressions.first ∙ rw (first, second) refl)

@@ -1,0 +1,319 @@
+-- What is read by the tables of selectors, blocks and ports is well formed.
+use Rattle.std.proofs.Common.{◌≡◌, ◌↔◌, ℕ, ℤ, ◌-◌, ◌%◌, ◌^◌, List, [], ◌∷◌, ◌++◌, length, map, fold, Bool, true, false, not, cond, ◌&&◌, ◌==◌, nat_le, nat_lt, is_none, Option, Some, None, unwrap_or, codes, Ok, refl, ◌∙◌, arith}
+use Rattle.std.proofs.lemmas.Bool.Decides.{nat_tests}
+use Rattle.std.proofs.lemmas.List.Folds.{list_all-append}
+use Rattle.std.specs.BTreeSet.{insert_key}
+use Rattle.std.specs.Cmp.Lexicographic.{slice_cmp}
+use Rattle.std.specs.List.{list_all}
+use Rattle.std.specs.Ordering.{nat_cmp, match_ordering}
+use Rattle.std.specs.declared.cmp.Ordering.{Ordering}
+use Rattle.std.specs.declared.cmp.Ordering.TheVariants.{Less, Equal, Greater}
+use Rattle.serde_json.specs.Data.{Data, Items, no_items, item}
+use Rattle.serde_json.specs.Find.{as_object}
+use Rattle.np_addr.specs.Addresses.{IsCidr}
+use Rattle.np_addr.specs.Blocks.{first_bad_except}
+use Rattle.np_addr.specs.declared.cidr.Cidr.{Cidr}
+use Rattle.np_addr.specs.declared.cidr.Cidr.TheVariants.{Four, Six}
+use Rattle.np_conns.specs.declared.proto.Proto.{Proto}
+use Rattle.np_json.specs.Members.{as_pairs, as_whole}
+use Rattle.np_json.specs.Scalars.{is_label, labels, of_type, port, port_number, text, word}
+use Rattle.np_json.specs.Tables.{Read, ◌>>◌, has_member, has_one_of, listed, must_be_object, optional, refuse_if, refuse_member_if, required, under}
+use Rattle.np_json.specs.Words.{is_word}
+use Rattle.np_json.specs.declared.fault.FaultKind.{FaultKind}
+use Rattle.np_json.specs.declared.fault.FaultKind.TheVariants.{BadField, BadPort, BadSelector}
+use Rattle.np_labels.specs.declared.requirement.Requirement.{Requirement}
+use Rattle.np_labels.specs.declared.selector.Selector.{Selector}
+use Rattle.np_policies.proofs.BlockLemmas.{cidr-well}
+use Rattle.np_policies.proofs.ReadLemmas.{bind-row, then-row, required-row, optional-row, listed-row, list_all-each_item}
+use Rattle.np_policies.specs.Blocks.{cidr, ip_block, refuse_except}
+use Rattle.np_policies.specs.Ports.{admin_port, admin_port_member, end_port, may_end, named_port, net_port, net_port_by, number_of, one_port, port_name, port_range, port_value, port_value_by, protocol}
+use Rattle.np_policies.specs.SelectorMeaning.{all_items, items_at}
+use Rattle.np_policies.specs.Selectors.{distinct, expression, fitting, has_other, is_key, key, label_requirement, op_named, selector}
+use Rattle.np_policies.specs.WellFormed.{if_there, is_well_admin_port, is_well_block, is_well_cidr, is_well_net_port, is_well_requirement, is_well_selector}
+use Rattle.np_policies.specs.declared.admin_policy.AdminPort.{AdminPort}
+use Rattle.np_policies.specs.declared.admin_policy.AdminPort.TheVariants as admin
+use Rattle.np_policies.specs.declared.ip_block_table.IpBlock.{IpBlock}
+use Rattle.np_policies.specs.declared.net_port_table.PortValue.{PortValue}
+use Rattle.np_policies.specs.declared.net_port_table.PortValue.TheVariants.{Number, Name}
+use Rattle.np_policies.specs.declared.network_policy.NetPort.{NetPort}
+
+-- ---- tests
+
+pub both : (a b : Bool) → a ≡ true → b ≡ true → (a && b) ≡ true
+both a b left right = rw (left, right) refl
+
+left_of : (a b : Bool) → (a && b) ≡ true → a ≡ true
+left_of true b is = refl
+left_of false b is = cc
+
+right_of : (a b : Bool) → (a && b) ≡ true → b ≡ true
+right_of true b is = is
+right_of false b is = cc
+
+pub not_false : (b : Bool) → not b ≡ false → b ≡ true
+not_false true is = refl
+not_false false is = cc
+
+-- a rule before what was read is not broken
+pub unbroken-row : {B : Type 0} (broken : Bool) (kind : FaultKind) (rest : Read B) (row : B) → (refuse_if broken kind >> rest) ≡ Ok row → broken ≡ false
+unfolding refuse_if
+unbroken-row true kind rest row is = cc
+unbroken-row false kind rest row is = refl
+
+pub unbroken_member-row : {B : Type 0} (name : List ℕ) (broken : Bool) (kind : FaultKind) (rest : Read B) (row : B) → (refuse_member_if name broken kind >> rest) ≡ Ok row → broken ≡ false
+unfolding refuse_member_if refuse_if under
+unbroken_member-row name true kind rest row is = cc
+unbroken_member-row name false kind rest row is = refl
+
+all_pass : (items : Items) → all_items (λ _. true) items ≡ true
+all_pass no_items = refl
+all_pass (item value items) = all_pass items
+
+module _ {A : Type 0} (table : Data → Read A) (test : A → Bool) (well : (value : Data) (row : A) → table value ≡ Ok row → test row ≡ true) where
+  pub listed-well : (name : List ℕ) (value : Data) (rows : List A) → listed name table value ≡ Ok rows → list_all test rows ≡ true
+  listed-well name value rows is =
+      list_all-each_item table test (λ _. true) well 0 (items_at name value) rows (listed-row table name value rows is) ∙ all_pass (items_at name value)
+
+  pub required-well : (name : List ℕ) (value : Data) (row : A) → required name table value ≡ Ok row → test row ≡ true
+  required-well name value row is =
+      let read = required-row table name value row is in
+      well read.found row read.read
+
+  pub optional-well : (name : List ℕ) (value : Data) (row : Option A) → optional name table value ≡ Ok row → if_there test row ≡ true
+  optional-well name value None is = refl
+  optional-well name value (Some row) is =
+      let read = optional-row table name value (Some row) is in
+      well read.found row read.read
+
+-- ---- selectors
+
+key-well : (value : Data) (s : List ℕ) → key value ≡ Ok s → is_key s ≡ true
+unfolding key
+key-well value s is =
+    let read = bind-row (text value) (λ s. refuse_if (not (is_key s)) BadField >> Ok s) s is in
+    let test = not_false (is_key read.first) (unbroken-row (not (is_key read.first)) BadField (Ok read.first) s read.after) in
+    let end : Ok read.first ≡ Ok s = then-row (refuse_if (not (is_key read.first)) BadField) (Ok read.first) s read.after in
+    let same : read.first ≡ s = cc in
+    rw (← same) test
+
+word-well : (value : Data) (s : List ℕ) → word value ≡ Ok s → is_word s ≡ true
+unfolding word
+word-well value s is =
+    let read = bind-row (text value) (λ s. refuse_if (not (is_word s)) BadField >> Ok s) s is in
+    let test = not_false (is_word read.first) (unbroken-row (not (is_word read.first)) BadField (Ok read.first) s read.after) in
+    let end : Ok read.first ≡ Ok s = then-row (refuse_if (not (is_word read.first)) BadField) (Ok read.first) s read.after in
+    let same : read.first ≡ s = cc in
+    rw (← same) test
+
+all-insert : (test : List ℕ → Bool) (values : List (List ℕ)) (value : List ℕ) → list_all test values ≡ true → test value ≡ true → list_all test (insert_key (slice_cmp nat_cmp) values value) ≡ true
+all-insert test [] value all here = both (test value) true here refl
+all-insert test (first ∷ values) value all here =
+    by (slice_cmp nat_cmp value first) (all-insert test values value (right_of (test first) (list_all test values) all) here)
+  where
+    by : (o : Ordering) → list_all test (insert_key (slice_cmp nat_cmp) values value) ≡ true
+        → list_all test (match_ordering o (value ∷ first ∷ values) (first ∷ values) (first ∷ insert_key (slice_cmp nat_cmp) values value)) ≡ true
+    by Less others = both (test value) (list_all test (first ∷ values)) here all
+    by Equal others = all
+    by Greater others = both (test first) (list_all test (insert_key (slice_cmp nat_cmp) values value)) (left_of (test first) (list_all test values) all) others
+
+all-fold : (test : List ℕ → Bool) (made values : List (List ℕ)) → list_all test made ≡ true → list_all test values ≡ true → list_all test (fold (insert_key (slice_cmp nat_cmp)) made values) ≡ true
+all-fold test made [] before all = before
+all-fold test made (value ∷ values) before all =
+    all-fold test (insert_key (slice_cmp nat_cmp) made value) values
+    (all-insert test made value before (left_of (test value) (list_all test values) all)) (right_of (test value) (list_all test values) all)
+
+expression-well : (value : Data) (read : Requirement) → expression value ≡ Ok read → is_well_requirement read ≡ true
+unfolding expression
+expression-well value read is =
+    let past = then-row (must_be_object value) _ read is in
+    let name = bind-row (required (codes "key") key value) _ read past in
+    let operator = bind-row (required (codes "operator") text value) _ read name.after in
+    let values = bind-row (listed (codes "values") word value) _ read operator.after in
+    let op = bind-row (fitting (op_named operator.first) (not (length values.first == 0))) (λ op. Ok (record { key = name.first; op = op; values = distinct values.first })) read values.after in
+    let made : record { key = name.first; op = op.first; values = distinct values.first } ≡ read = cc in
+    let first = required-well key is_key key-well (codes "key") value name.first name.here in
+    let words = listed-well word is_word word-well (codes "values") value values.first values.here in
+    rw (← made) (both (is_key name.first) (list_all is_word (distinct values.first)) first (all-fold is_word [] values.first refl words))
+
+label-well : (pair : List ℕ × List ℕ) → is_label pair ≡ true → is_well_requirement (label_requirement pair) ≡ true
+label-well pair is =
+    both (is_key pair.0) (is_word pair.1 && true) (left_of (is_key pair.0) (is_word pair.1) is)
+    (both (is_word pair.1) true (right_of (is_key pair.0) (is_word pair.1) is) refl)
+
+each_label-well : (pairs : List (List ℕ × List ℕ)) → list_all is_label pairs ≡ true → list_all is_well_requirement (map label_requirement pairs) ≡ true
+each_label-well [] is = refl
+each_label-well (pair ∷ pairs) is =
+    both (is_well_requirement (label_requirement pair)) (list_all is_well_requirement (map label_requirement pairs))
+    (label-well pair (left_of (is_label pair) (list_all is_label pairs) is)) (each_label-well pairs (right_of (is_label pair) (list_all is_label pairs) is))
+
+labels-well : (value : Data) (pairs : List (List ℕ × List ℕ)) → labels value ≡ Ok pairs → list_all is_label pairs ≡ true
+unfolding labels
+labels-well value pairs is =
+    let read = bind-row (of_type (as_pairs value)) (λ pairs. refuse_if (not (list_all is_label pairs)) BadField >> Ok pairs) pairs is in
+    let test = not_false (list_all is_label read.first) (unbroken-row (not (list_all is_label read.first)) BadField (Ok read.first) pairs read.after) in
+    let end : Ok read.first ≡ Ok pairs = then-row (refuse_if (not (list_all is_label read.first)) BadField) (Ok read.first) pairs read.after in
+    let same : read.first ≡ pairs = cc in
+    rw (← same) test
+
+or_none-well : (pairs : Option (List (List ℕ × List ℕ))) → if_there (λ found. list_all is_label found) pairs ≡ true → list_all is_well_requirement (map label_requirement (unwrap_or pairs [])) ≡ true
+or_none-well None is = refl
+or_none-well (Some pairs) is = each_label-well pairs is
+
+-- selectors have keys and words
+pub selector-well : (value : Data) (read : Selector) → selector value ≡ Ok read → is_well_selector read ≡ true
+unfolding selector
+selector-well value read is =
+    let past = then-row (must_be_object value) _ read is in
+    let known = then-row (refuse_if (has_other (as_object value)) BadSelector) _ read past in
+    let pairs = bind-row (optional (codes "matchLabels") labels value) _ read known in
+    let expressions = bind-row (listed (codes "matchExpressions") expression value) (λ found. Ok (record { requirements = map label_requirement (unwrap_or pairs.first []) ++ found })) read pairs.after in
+    let made : record { requirements = map label_requirement (unwrap_or pairs.first []) ++ expressions.first } ≡ read = cc in
+    let first = or_none-well pairs.first (optional-well labels (λ found. list_all is_label found) labels-well (codes "matchLabels") value pairs.first pairs.here) in
+    let second = listed-well expression is_well_requirement expression-well (codes "matchExpressions") value expressions.first expressions.here in
+    rw (← made) (list_all-append is_well_requirement (map label_requirement (unwrap_or pairs.first [])) expressions.first ∙ rw (first, second) refl)
+
+-- ---- blocks
+
+cidr_test : (block : Cidr) → IsCidr block → is_well_cidr block ≡ true
+cidr_test (Four base len) is = grind (arith, nat_tests)
+cidr_test (Six base len) is = grind (arith, nat_tests)
+
+from_test : (block : Cidr) → is_well_cidr block ≡ true → IsCidr block
+from_test (Four base len) is =
+    let left = left_of (nat_le len 32) (base % 2 ^ (32 - len) == 0) is in
+    let right = right_of (nat_le len 32) (base % 2 ^ (32 - len) == 0) is in
+    (grind (arith, nat_tests), grind (arith, nat_tests))
+from_test (Six base len) is =
+    let left = left_of (nat_le len 128) (base % 2 ^ (128 - len) == 0) is in
+    let right = right_of (nat_le len 128) (base % 2 ^ (128 - len) == 0) is in
+    (grind (arith, nat_tests), grind (arith, nat_tests))
+
+-- the test of a block decides whether it is well formed
+pub cidr_test-iff : (block : Cidr) → (is_well_cidr block ≡ true) ↔ IsCidr block
+cidr_test-iff block = (from_test block, cidr_test block)
+
+pub cidr_text-well : (value : Data) (block : Cidr) → cidr value ≡ Ok block → is_well_cidr block ≡ true
+cidr_text-well value block is = cidr_test block (cidr-well value block is)
+
+no_except : {B : Type 0} (place : Option ℕ) (rest : Read B) (row : B) → (refuse_except place >> rest) ≡ Ok row → is_none place ≡ true
+unfolding under
+no_except None rest row is = refl
+no_except (Some place) rest row is = cc
+
+pub ip_block-well : (value : Data) (read : IpBlock) → ip_block value ≡ Ok read → is_well_block read.cidr read.excepts ≡ true
+unfolding ip_block
+ip_block-well value read is =
+    let past = then-row (must_be_object value) _ read is in
+    let block = bind-row (required (codes "cidr") cidr value) _ read past in
+    let excepts = bind-row (listed (codes "except") cidr value) (λ excepts. refuse_except (first_bad_except block.first excepts) >> Ok (record { cidr = block.first; excepts = excepts })) read block.after in
+    let end = then-row (refuse_except (first_bad_except block.first excepts.first)) (Ok (record { cidr = block.first; excepts = excepts.first })) read excepts.after in
+    let made : record { cidr = block.first; excepts = excepts.first } ≡ read = cc in
+    let first = required-well cidr is_well_cidr cidr_text-well (codes "cidr") value block.first block.here in
+    let others = listed-well cidr is_well_cidr cidr_text-well (codes "except") value excepts.first excepts.here in
+    let none = no_except (first_bad_except block.first excepts.first) (Ok (record { cidr = block.first; excepts = excepts.first })) read excepts.after in
+    rw (← made) (rw (first, others, none) refl)
+
+-- ---- ports
+
+port_name-well : (value : Data) (s : List ℕ) → port_name value ≡ Ok s → is_key s ≡ true
+unfolding port_name
+port_name-well value s is =
+    let read = bind-row (text value) (λ s. refuse_if (length s == 0) BadPort >> (refuse_if (not (is_word s)) BadField >> Ok s)) s is in
+    let filled = unbroken-row (length read.first == 0) BadPort _ s read.after in
+    let more = then-row (refuse_if (length read.first == 0) BadPort) (refuse_if (not (is_word read.first)) BadField >> Ok read.first) s read.after in
+    let test = not_false (is_word read.first) (unbroken-row (not (is_word read.first)) BadField (Ok read.first) s more) in
+    let end : Ok read.first ≡ Ok s = then-row (refuse_if (not (is_word read.first)) BadField) (Ok read.first) s more in
+    let same : read.first ≡ s = cc in
+    rw (← same) (rw (filled, test) refl)
+
+-- a name is a word that is not empty
+abbrev is_well_value : PortValue → Bool
+is_well_value (Number number) = true
+is_well_value (Name name) = is_key name
+
+port_value-well : (value : Data) (read : PortValue) → port_value value ≡ Ok read → is_well_value read ≡ true
+unfolding port_value
+port_value-well value read is = by (as_whole value) is
+  where
+    by : (number : Option ℤ) → port_value_by number value ≡ Ok read → is_well_value read ≡ true
+    by None is =
+        let name = bind-row (port_name value) (λ name. Ok (Name name)) read is in
+        let made : Name name.first ≡ read = let after = name.after in cc in
+        rw (← made) (port_name-well value name.first name.here)
+    by (Some n) is =
+        let number = bind-row (port_number n) (λ number. Ok (Number number)) read is in
+        let made : Number number.first ≡ read = let after = number.after in cc in
+        rw (← made) refl
+
+end_port-well : (first : Option ℕ) (value : Data) (last : ℕ) → end_port first value ≡ Ok last → may_end first last ≡ true
+unfolding end_port
+end_port-well first value last is =
+    let read = bind-row (port value) (λ last. refuse_if (not (may_end first last)) BadPort >> Ok last) last is in
+    let test = not_false (may_end first read.first) (unbroken-row (not (may_end first read.first)) BadPort (Ok read.first) last read.after) in
+    let end : Ok read.first ≡ Ok last = then-row (refuse_if (not (may_end first read.first)) BadPort) (Ok read.first) last read.after in
+    let same : read.first ≡ last = cc in
+    rw (← same) test
+
+at_most_itself : (n : ℕ) → nat_le n n ≡ true
+at_most_itself n = grind (arith, nat_tests)
+
+spans-well : (proto : Proto) (value : Option PortValue) (last : Option ℕ) → if_there is_well_value value ≡ true → if_there (may_end (number_of value)) last ≡ true → is_well_net_port (net_port_by proto value last) ≡ true
+spans-well proto None last well ends = refl
+spans-well proto (Some (Number first)) None well ends = at_most_itself first
+spans-well proto (Some (Number first)) (Some last) well ends = ends
+spans-well proto (Some (Name name)) last well ends = well
+
+pub net_port-well : (value : Data) (read : NetPort) → net_port value ≡ Ok read → is_well_net_port read ≡ true
+unfolding net_port
+net_port-well value read is =
+    let past = then-row (must_be_object value) _ read is in
+    let proto = bind-row (protocol value) _ read past in
+    let first = bind-row (optional (codes "port") port_value value) _ read proto.after in
+    let last = bind-row (optional (codes "endPort") (end_port (number_of first.first)) value) (λ last. Ok (net_port_by proto.first first.first last)) read first.after in
+    let made : net_port_by proto.first first.first last.first ≡ read = let after = last.after in cc in
+    let well = optional-well port_value is_well_value port_value-well (codes "port") value first.first first.here in
+    let ends = optional-well (end_port (number_of first.first)) (may_end (number_of first.first)) (end_port-well (number_of first.first)) (codes "endPort") value last.first last.here in
+    rw (← made) (spans-well proto.first first.first last.first well ends)
+
+one_port-well : (value : Data) (read : AdminPort) → one_port value ≡ Ok read → is_well_admin_port read ≡ true
+unfolding one_port
+one_port-well value read is =
+    let past = then-row (must_be_object value) _ read is in
+    let proto = bind-row (protocol value) _ read past in
+    let number = bind-row (required (codes "port") port value) (λ number. Ok (admin.Span proto.first number number)) read proto.after in
+    let made : admin.Span proto.first number.first number.first ≡ read = let after = number.after in cc in
+    rw (← made) (at_most_itself number.first)
+
+not_above : (lo hi : ℕ) → nat_lt hi lo ≡ false → nat_le lo hi ≡ true
+not_above lo hi is = grind (arith, nat_tests)
+
+port_range-well : (value : Data) (read : AdminPort) → port_range value ≡ Ok read → is_well_admin_port read ≡ true
+unfolding port_range
+port_range-well value read is =
+    let past = then-row (must_be_object value) _ read is in
+    let proto = bind-row (protocol value) _ read past in
+    let lo = bind-row (required (codes "start") port value) _ read proto.after in
+    let hi = bind-row (required (codes "end") port value) (λ hi. refuse_member_if (codes "end") (nat_lt hi lo.first) BadPort >> Ok (admin.Span proto.first lo.first hi)) read lo.after in
+    let test = unbroken_member-row (codes "end") (nat_lt hi.first lo.first) BadPort (Ok (admin.Span proto.first lo.first hi.first)) read hi.after in
+    let end = then-row (refuse_member_if (codes "end") (nat_lt hi.first lo.first) BadPort) (Ok (admin.Span proto.first lo.first hi.first)) read hi.after in
+    let made : admin.Span proto.first lo.first hi.first ≡ read = cc in
+    rw (← made) (not_above lo.first hi.first test)
+
+named_port-well : (value : Data) (read : AdminPort) → named_port value ≡ Ok read → is_well_admin_port read ≡ true
+unfolding named_port
+named_port-well value read is =
+    let name = bind-row (port_name value) (λ name. Ok (admin.Named name)) read is in
+    let made : admin.Named name.first ≡ read = let after = name.after in cc in
+    rw (← made) (port_name-well value name.first name.here)
+
+pub admin_port-well : (value : Data) (read : AdminPort) → admin_port value ≡ Ok read → is_well_admin_port read ≡ true
+unfolding admin_port
+admin_port-well value read is =
+    let past = then-row (must_be_object value) _ read is in
+    let shaped = then-row (refuse_if (not (has_one_of (codes "portNumber" ∷ codes "portRange" ∷ codes "namedPort" ∷ []) value)) BadPort) (admin_port_member value) read past in
+    by (has_member (codes "portNumber") value) (has_member (codes "portRange") value) shaped
+  where
+    by : (number range : Bool) → cond number (required (codes "portNumber") one_port value) (cond range (required (codes "portRange") port_range value) (required (codes "namedPort") named_port value)) ≡ Ok read → is_well_admin_port read ≡ true
+    by true range is = required-well one_port is_well_admin_port one_port-well (codes "portNumber") value read is
+    by false true is = required-well port_range is_well_admin_port port_range-well (codes "portRange") value read is
+    by false false is = required-well named_port is_well_admin_port named_port-well (codes "namedPort") value read is

@@ -1,0 +1,188 @@
+-- Tables of AdminNetworkPolicy and BaselineAdminNetworkPolicy of `policy.networking.k8s.io/v1alpha1`
+-- (network-policy-api reference).
+use Rattle.std.specs.Prelude.{ℕ, ℤ, pos, negsuc, List, [], ◌∷◌, length, not, ◌==◌, nat_le, if◌then◌else◌, Option, Some, None, codes, Ok}
+use Rattle.std.specs.Str.{bytes_eq}
+use Rattle.serde_json.specs.Data.{Data}
+use Rattle.np_json.specs.Scalars.{name, text, whole}
+use Rattle.np_json.specs.Tables.{Read, ◌>>=◌, ◌>>◌, has_member, has_one_of, listed, must_be_object, refuse, refuse_if, refuse_member_if, required}
+use Rattle.np_json.specs.declared.fault.FaultKind.TheVariants.{BadAction, BadPriority, BaselineName, DomainPeer, EmptyPeers, NodePeer, PeerShape}
+use Rattle.np_labels.specs.declared.selector.Selector.{Selector}
+use Rattle.np_policies.specs.Blocks.{cidr}
+use Rattle.np_policies.specs.NetworkPolicies.{peers_member, rules_member}
+use Rattle.np_policies.specs.Ports.{admin_port}
+use Rattle.np_policies.specs.Selectors.{selector, everything}
+use Rattle.np_policies.specs.declared.admin_policy.Action.{Action}
+use Rattle.np_policies.specs.declared.admin_policy.Action.TheVariants.{Allow, Deny, Pass}
+use Rattle.np_policies.specs.declared.admin_policy.AdminPeer.{AdminPeer}
+use Rattle.np_policies.specs.declared.admin_policy.AdminPeer.TheVariants.{Pods, Networks}
+use Rattle.np_policies.specs.declared.admin_policy.AdminPolicy.{AdminPolicy}
+use Rattle.np_policies.specs.declared.admin_policy.AdminRule.{AdminRule}
+use Rattle.np_policies.specs.declared.admin_policy.BasePolicy.{BasePolicy}
+use Rattle.np_policies.specs.declared.admin_policy.Subject.{Subject}
+use Rattle.np_policies.specs.declared.admin_policy_table.AdminSpec.{AdminSpec}
+use Rattle.np_policies.specs.declared.admin_rule_table.Tier.{Tier}
+use Rattle.np_policies.specs.declared.admin_rule_table.Tier.TheVariants.{Admin, Baseline}
+use Rattle.np_policies.specs.declared.direction.Direction.{Direction}
+use Rattle.np_policies.specs.declared.direction.Direction.TheVariants.{Ingress, Egress}
+
+-- `namespaces` of a subject or peer: all pods of the namespaces that it selects
+unfoldable pub all_pods : Data → Read Subject
+all_pods value = do
+  namespaces ← selector value
+  Ok (record { namespaces = namespaces; pods = everything })
+
+-- the namespaces of `pods`
+unfoldable pub namespace_selector : Data → Read Selector
+namespace_selector value = required (codes "namespaceSelector") selector value
+
+-- `pods` of a subject or peer
+unfoldable pub some_pods : Data → Read Subject
+some_pods value = do
+  must_be_object value
+  namespaces ← namespace_selector value
+  pods ← required (codes "podSelector") selector value
+  Ok (record { namespaces = namespaces; pods = pods })
+
+-- the one member of the two that is there
+abbrev pub pods_member : Data → Read Subject
+pods_member value =
+    if has_member (codes "namespaces") value then required (codes "namespaces") all_pods value
+    else required (codes "pods") some_pods value
+
+-- `subject`
+unfoldable pub subject : Data → Read Subject
+subject value = do
+  must_be_object value
+  refuse_if (not (has_one_of (codes "namespaces" ∷ codes "pods" ∷ []) value)) PeerShape
+  pods_member value
+
+-- an entry of `from`
+unfoldable pub ingress_peer : Data → Read AdminPeer
+ingress_peer value = do
+  peer ← subject value
+  Ok (Pods peer.namespaces peer.pods)
+
+-- `networks` of a peer: at least one block
+unfoldable pub networks : Data → Read AdminPeer
+networks value = do
+  cidrs ← listed (codes "networks") cidr value
+  refuse_member_if (codes "networks") (length cidrs == 0) EmptyPeers
+  Ok (Networks cidrs)
+
+-- the one member of the three that is there
+abbrev pub egress_member : Data → Read AdminPeer
+egress_member value =
+    if has_member (codes "networks") value then networks value
+    else (pods_member value >>= λ peer. Ok (Pods peer.namespaces peer.pods))
+
+-- an entry of `to`
+unfoldable pub egress_peer : Data → Read AdminPeer
+egress_peer value = do
+  must_be_object value
+  refuse_member_if (codes "nodes") (has_member (codes "nodes") value) NodePeer
+  refuse_member_if (codes "domainNames") (has_member (codes "domainNames") value) DomainPeer
+  refuse_if (not (has_one_of (codes "namespaces" ∷ codes "pods" ∷ codes "networks" ∷ []) value)) PeerShape
+  egress_member value
+
+abbrev pub admin_peer : Direction → Data → Read AdminPeer
+admin_peer Ingress value = ingress_peer value
+admin_peer Egress value = egress_peer value
+
+-- the peers of a rule: at least one
+unfoldable pub admin_peers : Direction → Data → Read (List AdminPeer)
+admin_peers direction value = do
+  peers ← listed (peers_member direction) (admin_peer direction) value
+  refuse_member_if (peers_member direction) (length peers == 0) EmptyPeers
+  Ok peers
+
+-- a baseline passes nothing on
+abbrev pub pass_of : Tier → Option Action
+pass_of Admin = Some Pass
+pass_of Baseline = None
+
+abbrev pub action_named : Tier → List ℕ → Option Action
+action_named tier s =
+    if bytes_eq s (codes "Allow") then Some Allow
+    else if bytes_eq s (codes "Deny") then Some Deny
+    else if bytes_eq s (codes "Pass") then pass_of tier
+    else None
+
+-- an action that the policy may have, else BadAction
+abbrev pub action_by : Option Action → Read Action
+action_by None = refuse BadAction
+action_by (Some action) = Ok action
+
+-- `action` of a rule
+unfoldable pub action : Tier → Data → Read Action
+action tier value = do
+  s ← text value
+  action_by (action_named tier s)
+
+-- an entry of `ingress` or `egress`
+unfoldable pub admin_rule : Tier → Direction → Data → Read AdminRule
+admin_rule tier direction value = do
+  must_be_object value
+  action ← required (codes "action") (action tier) value
+  peers ← admin_peers direction value
+  ports ← listed (codes "ports") admin_port value
+  Ok (record { action = action; peers = peers; ports = ports })
+
+-- the rules of a direction
+unfoldable pub admin_rules : Tier → Direction → Data → Read (List AdminRule)
+admin_rules tier direction value = listed (rules_member direction) (admin_rule tier direction) value
+
+-- a priority from 0 to 1000, else BadPriority
+abbrev pub priority_number : ℤ → Read ℕ
+priority_number (pos n) = if nat_le n 1000 then Ok n else refuse BadPriority
+priority_number (negsuc n) = refuse BadPriority
+
+-- `priority` of an AdminNetworkPolicy
+unfoldable pub priority : Data → Read ℕ
+priority value = do
+  n ← whole value
+  priority_number n
+
+-- `metadata` of an object in no namespace
+unfoldable pub object_name : Data → Read (List ℕ)
+object_name value = do
+  must_be_object value
+  required (codes "name") name value
+
+-- `metadata` of a BaselineAdminNetworkPolicy, which is named `default`
+unfoldable pub base_name : Data → Read (List ℕ)
+base_name value = do
+  s ← object_name value
+  refuse_member_if (codes "name") (not (bytes_eq s (codes "default"))) BaselineName
+  Ok s
+
+-- `spec` of an AdminNetworkPolicy
+unfoldable pub admin_spec : Data → Read AdminSpec
+admin_spec value = do
+  must_be_object value
+  priority ← required (codes "priority") priority value
+  subject ← required (codes "subject") subject value
+  ingress ← admin_rules Admin Ingress value
+  egress ← admin_rules Admin Egress value
+  Ok (record { priority = priority; subject = subject; ingress = ingress; egress = egress })
+
+-- an AdminNetworkPolicy
+unfoldable pub admin_policy : Data → Read AdminPolicy
+admin_policy value = do
+  s ← required (codes "metadata") object_name value
+  spec ← required (codes "spec") admin_spec value
+  Ok (record { name = s; priority = spec.priority; subject = spec.subject; ingress = spec.ingress; egress = spec.egress })
+
+-- `spec` of a BaselineAdminNetworkPolicy
+unfoldable pub base_spec : Data → Read BasePolicy
+base_spec value = do
+  must_be_object value
+  subject ← required (codes "subject") subject value
+  ingress ← admin_rules Baseline Ingress value
+  egress ← admin_rules Baseline Egress value
+  Ok (record { subject = subject; ingress = ingress; egress = egress })
+
+-- a BaselineAdminNetworkPolicy
+unfoldable pub base_policy : Data → Read BasePolicy
+base_policy value = do
+  required (codes "metadata") base_name value
+  required (codes "spec") base_spec value

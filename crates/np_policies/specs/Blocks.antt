@@ -1,0 +1,36 @@
+-- Tables of blocks of addresses (Kubernetes API reference, IPBlock).
+use Rattle.std.specs.Prelude.{ℕ, Option, Some, None, codes, Ok, ⊤}
+use Rattle.serde_json.specs.Data.{Data}
+use Rattle.np_addr.specs.AddressGrammar.{cidr_of}
+use Rattle.np_addr.specs.Blocks.{first_bad_except}
+use Rattle.np_addr.specs.declared.cidr.Cidr.{Cidr}
+use Rattle.np_json.specs.Scalars.{text}
+use Rattle.np_json.specs.Tables.{Read, ◌>>=◌, ◌>>◌, listed, must_be_object, refuse, required, under}
+use Rattle.np_json.specs.declared.fault.FaultKind.TheVariants.{BadCidr, BadExcept}
+use Rattle.np_json.specs.declared.path.Step.TheVariants.{Field, Item}
+use Rattle.np_policies.specs.declared.ip_block_table.IpBlock.{IpBlock}
+
+-- a block that was read, else BadCidr
+abbrev pub cidr_by : Option Cidr → Read Cidr
+cidr_by None = refuse BadCidr
+cidr_by (Some block) = Ok block
+
+-- a text that writes a block of addresses
+unfoldable pub cidr : Data → Read Cidr
+cidr value = do
+  s ← text value
+  cidr_by (cidr_of s)
+
+-- BadExcept at the except of that place, if there is one
+abbrev pub refuse_except : Option ℕ → Read ⊤
+refuse_except None = Ok tt
+refuse_except (Some place) = under (Field (codes "except")) (under (Item place) (refuse BadExcept))
+
+-- `ipBlock` of a peer: each except is a strict part of `cidr`
+unfoldable pub ip_block : Data → Read IpBlock
+ip_block value = do
+  must_be_object value
+  block ← required (codes "cidr") cidr value
+  excepts ← listed (codes "except") cidr value
+  refuse_except (first_bad_except block excepts)
+  Ok (record { cidr = block; excepts = excepts })

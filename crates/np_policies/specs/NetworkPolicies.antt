@@ -1,0 +1,127 @@
+-- Tables of NetworkPolicy of `networking.k8s.io/v1` (Kubernetes API reference, NetworkPolicy).
+use Rattle.std.specs.Prelude.{ℕ, List, [], length, Bool, true, false, not, ◌||◌, ◌==◌, if◌then◌else◌, Option, Some, None, unwrap_or, codes, Ok}
+use Rattle.std.specs.List.{list_any}
+use Rattle.std.specs.Str.{bytes_eq}
+use Rattle.serde_json.specs.Data.{Data}
+use Rattle.np_json.specs.Meta.{namespaced_name}
+use Rattle.np_json.specs.Scalars.{of_type, text}
+use Rattle.np_json.specs.Tables.{Read, ◌>>=◌, ◌>>◌, has_member, listed, must_be_object, optional, refuse_if, required}
+use Rattle.np_json.specs.declared.fault.FaultKind.TheVariants.{PeerShape}
+use Rattle.np_json.specs.declared.meta.NamespacedName.{NamespacedName}
+use Rattle.np_labels.specs.declared.selector.Selector.{Selector}
+use Rattle.np_policies.specs.Blocks.{ip_block}
+use Rattle.np_policies.specs.Ports.{net_port}
+use Rattle.np_policies.specs.Selectors.{selector, everything}
+use Rattle.np_policies.specs.declared.direction.Direction.{Direction}
+use Rattle.np_policies.specs.declared.direction.Direction.TheVariants.{Ingress, Egress}
+use Rattle.np_policies.specs.declared.ip_block_table.IpBlock.{IpBlock}
+use Rattle.np_policies.specs.declared.net_policy_table.NetSpec.{NetSpec}
+use Rattle.np_policies.specs.declared.network_policy.NetPeer.{NetPeer}
+use Rattle.np_policies.specs.declared.network_policy.NetPeer.TheVariants.{Pods, Block}
+use Rattle.np_policies.specs.declared.network_policy.NetPolicy.{NetPolicy}
+use Rattle.np_policies.specs.declared.network_policy.NetRule.{NetRule}
+
+-- the member of a rule that lists the other ends
+abbrev pub peers_member : Direction → List ℕ
+peers_member Ingress = codes "from"
+peers_member Egress = codes "to"
+
+-- the member of a spec that lists the rules
+abbrev pub rules_member : Direction → List ℕ
+rules_member Ingress = codes "ingress"
+rules_member Egress = codes "egress"
+
+-- whether the peer has none of its three members, or `ipBlock` with another
+abbrev pub is_misshapen : Data → Bool
+is_misshapen value =
+    let has_selector = has_member (codes "podSelector") value || has_member (codes "namespaceSelector") value in
+    if has_member (codes "ipBlock") value then has_selector else not has_selector
+
+abbrev pub net_peer_by : Option Selector → Option Selector → Option IpBlock → NetPeer
+net_peer_by pods namespaces None = Pods namespaces pods
+net_peer_by pods namespaces (Some block) = Block block.cidr block.excepts
+
+-- an entry of `from` or `to`
+unfoldable pub net_peer : Data → Read NetPeer
+net_peer value = do
+  must_be_object value
+  refuse_if (is_misshapen value) PeerShape
+  pods ← optional (codes "podSelector") selector value
+  namespaces ← optional (codes "namespaceSelector") selector value
+  block ← optional (codes "ipBlock") ip_block value
+  Ok (net_peer_by pods namespaces block)
+
+-- an entry of `ingress` or `egress`
+unfoldable pub net_rule : Direction → Data → Read NetRule
+net_rule direction value = do
+  must_be_object value
+  peers ← listed (peers_member direction) net_peer value
+  ports ← listed (codes "ports") net_port value
+  Ok (record { peers = peers; ports = ports })
+
+-- the rules of a direction
+unfoldable pub net_rules : Direction → Data → Read (List NetRule)
+net_rules direction value = listed (rules_member direction) (net_rule direction) value
+
+abbrev pub direction_named : List ℕ → Option Direction
+direction_named s =
+    if bytes_eq s (codes "Ingress") then Some Ingress
+    else if bytes_eq s (codes "Egress") then Some Egress
+    else None
+
+-- an entry of `policyTypes`, else BadField
+unfoldable pub policy_type : Data → Read Direction
+policy_type value = do
+  s ← text value
+  of_type (direction_named s)
+
+-- `spec` of a NetworkPolicy
+unfoldable pub net_spec : Data → Read NetSpec
+net_spec value = do
+  must_be_object value
+  subject ← optional (codes "podSelector") selector value
+  types ← listed (codes "policyTypes") policy_type value
+  ingress ← net_rules Ingress value
+  egress ← net_rules Egress value
+  Ok (record { subject = unwrap_or subject everything; types = types; ingress = ingress; egress = egress })
+
+-- the spec of no members
+abbrev pub empty_spec : NetSpec
+empty_spec = record { subject = everything; types = []; ingress = []; egress = [] }
+
+abbrev pub is_same : Direction → Direction → Bool
+is_same Ingress Ingress = true
+is_same Ingress Egress = false
+is_same Egress Ingress = false
+is_same Egress Egress = true
+
+-- whether a policy that lists no types has the direction: Egress only where it has a rule
+abbrev pub has_by_default : Direction → List NetRule → Bool
+has_by_default Ingress egress = true
+has_by_default Egress egress = not (length egress == 0)
+
+-- whether the direction is among the types of the policy
+abbrev pub has_direction : NetSpec → Direction → Bool
+has_direction spec direction =
+    if length spec.types == 0 then has_by_default direction spec.egress
+    else list_any (λ listed. is_same listed direction) spec.types
+
+-- the rules of a direction, if it is among the types
+abbrev pub rules_if : Bool → List NetRule → Option (List NetRule)
+rules_if has rules = if has then Some rules else None
+
+unfoldable pub net_policy_by : NamespacedName → NetSpec → NetPolicy
+net_policy_by meta spec = record {
+  namespace = meta.namespace;
+  name = meta.name;
+  subject = spec.subject;
+  ingress = rules_if (has_direction spec Ingress) spec.ingress;
+  egress = rules_if (has_direction spec Egress) spec.egress;
+}
+
+-- a NetworkPolicy
+unfoldable pub net_policy : Data → Read NetPolicy
+net_policy value = do
+  meta ← required (codes "metadata") namespaced_name value
+  spec ← optional (codes "spec") net_spec value
+  Ok (net_policy_by meta (unwrap_or spec empty_spec))

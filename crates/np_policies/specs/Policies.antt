@@ -1,0 +1,53 @@
+-- Which policy an object is, and what it is read as.
+use Rattle.std.specs.Prelude.{ℕ, List, Bool, ◌&&◌, if◌then◌else◌, nat_eq, Option, Some, None, codes, Ok}
+use Rattle.std.specs.List.{ends_with}
+use Rattle.std.specs.Str.{bytes_eq}
+use Rattle.serde_json.specs.Data.{Data}
+use Rattle.np_json.specs.Meta.{type_meta}
+use Rattle.np_json.specs.Tables.{Read, ◌>>=◌, refuse, under}
+use Rattle.np_json.specs.declared.fault.FaultKind.TheVariants.{ForeignPolicy}
+use Rattle.np_json.specs.declared.meta.TypeMeta.{TypeMeta}
+use Rattle.np_json.specs.declared.path.Step.TheVariants.{Field}
+use Rattle.np_policies.specs.AdminPolicies.{admin_policy, base_policy}
+use Rattle.np_policies.specs.NetworkPolicies.{net_policy}
+use Rattle.np_policies.specs.declared.policy.Policy.{Policy}
+use Rattle.np_policies.specs.declared.policy.Policy.TheVariants as policy
+use Rattle.np_policies.specs.declared.policy_table.PolicyKind.{PolicyKind}
+use Rattle.np_policies.specs.declared.policy_table.PolicyKind.TheVariants.{Net, Admin, Base, Foreign, NoPolicy}
+
+-- whether an object is of a version and kind
+abbrev pub is_of : List ℕ → List ℕ → TypeMeta → Bool
+is_of version kind meta = bytes_eq meta.api_version version && bytes_eq meta.kind kind
+
+-- whether a kind is a network policy of any sort
+abbrev pub is_network_policy : List ℕ → Bool
+is_network_policy kind = ends_with nat_eq kind (codes "NetworkPolicy")
+
+-- which policy an object is, by its version and kind
+abbrev pub kind_of : TypeMeta → PolicyKind
+kind_of meta =
+    if is_of (codes "networking.k8s.io/v1") (codes "NetworkPolicy") meta then Net
+    else if is_of (codes "policy.networking.k8s.io/v1alpha1") (codes "AdminNetworkPolicy") meta then Admin
+    else if is_of (codes "policy.networking.k8s.io/v1alpha1") (codes "BaselineAdminNetworkPolicy") meta then Base
+    else if is_network_policy meta.kind then Foreign
+    else NoPolicy
+
+-- the policy of that kind
+unfoldable pub policy_by : PolicyKind → Data → Read (Option Policy)
+policy_by Net value = do
+  net ← net_policy value
+  Ok (Some (policy.Net net))
+policy_by Admin value = do
+  admin ← admin_policy value
+  Ok (Some (policy.Admin admin))
+policy_by Base value = do
+  base ← base_policy value
+  Ok (Some (policy.Base base))
+policy_by Foreign value = under (Field (codes "kind")) (refuse ForeignPolicy)
+policy_by NoPolicy value = Ok None
+
+-- the policy that an object is, if it is one
+unfoldable pub policy_of : Data → Read (Option Policy)
+policy_of value = do
+  meta ← type_meta value
+  policy_by (kind_of meta) value

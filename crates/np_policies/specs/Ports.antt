@@ -1,0 +1,126 @@
+-- Tables of port entries (Kubernetes API reference, NetworkPolicyPort; network-policy-api reference,
+-- AdminNetworkPolicyPort).
+use Rattle.std.specs.Prelude.{ℕ, ℤ, List, [], ◌∷◌, length, Bool, false, not, ◌==◌, nat_le, nat_lt, if◌then◌else◌, Option, Some, None, unwrap_or, codes, Ok}
+use Rattle.serde_json.specs.Data.{Data}
+use Rattle.np_conns.specs.ConnsText.{proto_named}
+use Rattle.np_conns.specs.declared.proto.Proto.{Proto}
+use Rattle.np_conns.specs.declared.proto.Proto.TheVariants.{Tcp}
+use Rattle.np_json.specs.Members.{as_whole}
+use Rattle.np_json.specs.Scalars.{text, port, port_number}
+use Rattle.np_json.specs.Tables.{Read, ◌>>=◌, ◌>>◌, has_member, has_one_of, must_be_object, optional, refuse, refuse_if, refuse_member_if, required}
+use Rattle.np_json.specs.Words.{is_word}
+use Rattle.np_json.specs.declared.fault.FaultKind.TheVariants.{BadField, BadPort, BadProtocol}
+use Rattle.np_policies.specs.declared.admin_policy.AdminPort.{AdminPort}
+use Rattle.np_policies.specs.declared.admin_policy.AdminPort.TheVariants as admin
+use Rattle.np_policies.specs.declared.net_port_table.PortValue.{PortValue}
+use Rattle.np_policies.specs.declared.net_port_table.PortValue.TheVariants.{Number, Name}
+use Rattle.np_policies.specs.declared.network_policy.NetPort.{NetPort}
+use Rattle.np_policies.specs.declared.network_policy.NetPort.TheVariants as net
+
+-- a protocol that is known, else BadProtocol
+abbrev pub proto_by : Option Proto → Read Proto
+proto_by None = refuse BadProtocol
+proto_by (Some proto) = Ok proto
+
+-- a text that names a protocol
+unfoldable pub proto : Data → Read Proto
+proto value = do
+  s ← text value
+  proto_by (proto_named s)
+
+-- the member `protocol`, which is TCP where it is missing
+unfoldable pub protocol : Data → Read Proto
+protocol value = do
+  proto ← optional (codes "protocol") proto value
+  Ok (unwrap_or proto Tcp)
+
+-- the name of a container port: the empty text is BadPort, another that is no word BadField
+unfoldable pub port_name : Data → Read (List ℕ)
+port_name value = do
+  s ← text value
+  refuse_if (length s == 0) BadPort
+  refuse_if (not (is_word s)) BadField
+  Ok s
+
+abbrev pub port_value_by : Option ℤ → Data → Read PortValue
+port_value_by (Some n) value = do
+  number ← port_number n
+  Ok (Number number)
+port_value_by None value = do
+  name ← port_name value
+  Ok (Name name)
+
+-- `port` of a NetworkPolicy: a port's number or name
+unfoldable pub port_value : Data → Read PortValue
+port_value value = port_value_by (as_whole value) value
+
+-- the port's number, if it has one
+abbrev pub number_of : Option PortValue → Option ℕ
+number_of None = None
+number_of (Some (Number number)) = Some number
+number_of (Some (Name name)) = None
+
+-- whether a range may end there
+abbrev pub may_end : Option ℕ → ℕ → Bool
+may_end None last = false
+may_end (Some first) last = nat_le first last
+
+-- `endPort`, behind a `port` that is a number and not above it
+unfoldable pub end_port : Option ℕ → Data → Read ℕ
+end_port first value = do
+  last ← port value
+  refuse_if (not (may_end first last)) BadPort
+  Ok last
+
+-- one port, the ports up to another, a named port, or all ports
+abbrev pub net_port_by : Proto → Option PortValue → Option ℕ → NetPort
+net_port_by proto None last = net.Span proto 1 65535
+net_port_by proto (Some (Number first)) last = net.Span proto first (unwrap_or last first)
+net_port_by proto (Some (Name name)) last = net.Named proto name
+
+-- an entry of `ports` of a NetworkPolicy
+unfoldable pub net_port : Data → Read NetPort
+net_port value = do
+  must_be_object value
+  proto ← protocol value
+  port ← optional (codes "port") port_value value
+  last ← optional (codes "endPort") (end_port (number_of port)) value
+  Ok (net_port_by proto port last)
+
+-- `portNumber` of an admin policy
+unfoldable pub one_port : Data → Read AdminPort
+one_port value = do
+  must_be_object value
+  proto ← protocol value
+  number ← required (codes "port") port value
+  Ok (admin.Span proto number number)
+
+-- `portRange` of an admin policy
+unfoldable pub port_range : Data → Read AdminPort
+port_range value = do
+  must_be_object value
+  proto ← protocol value
+  first ← required (codes "start") port value
+  last ← required (codes "end") port value
+  refuse_member_if (codes "end") (nat_lt last first) BadPort
+  Ok (admin.Span proto first last)
+
+-- `namedPort` of an admin policy
+unfoldable pub named_port : Data → Read AdminPort
+named_port value = do
+  name ← port_name value
+  Ok (admin.Named name)
+
+-- the one member of the three that is there
+abbrev pub admin_port_member : Data → Read AdminPort
+admin_port_member value =
+    if has_member (codes "portNumber") value then required (codes "portNumber") one_port value
+    else if has_member (codes "portRange") value then required (codes "portRange") port_range value
+    else required (codes "namedPort") named_port value
+
+-- an entry of `ports` of an admin policy
+unfoldable pub admin_port : Data → Read AdminPort
+admin_port value = do
+  must_be_object value
+  refuse_if (not (has_one_of (codes "portNumber" ∷ codes "portRange" ∷ codes "namedPort" ∷ []) value)) BadPort
+  admin_port_member value

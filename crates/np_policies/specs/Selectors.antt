@@ -1,0 +1,92 @@
+-- Tables of label selectors (Kubernetes API reference, LabelSelector and LabelSelectorRequirement).
+use Rattle.std.specs.Prelude.{ℕ, List, [], ◌∷◌, ◌++◌, length, map, fold, Bool, false, not, ◌&&◌, ◌||◌, ◌==◌, if◌then◌else◌, is_some, Option, Some, None, unwrap_or, codes, Ok}
+use Rattle.std.specs.BTreeSet.{insert_key}
+use Rattle.std.specs.Cmp.Lexicographic.{slice_cmp}
+use Rattle.std.specs.Ordering.{nat_cmp}
+use Rattle.std.specs.Str.{bytes_eq}
+use Rattle.serde_json.specs.Data.{Data, Members, no_members, member}
+use Rattle.serde_json.specs.Find.{as_object}
+use Rattle.np_json.specs.Members.{unless_null}
+use Rattle.np_json.specs.Scalars.{text, word, labels}
+use Rattle.np_json.specs.Tables.{Read, ◌>>=◌, ◌>>◌, listed, must_be_object, optional, refuse, refuse_if, required}
+use Rattle.np_json.specs.Words.{is_word}
+use Rattle.np_json.specs.declared.fault.FaultKind.TheVariants.{BadField, BadSelector}
+use Rattle.np_labels.specs.declared.op.Op.{Op}
+use Rattle.np_labels.specs.declared.op.Op.TheVariants.{OneOf, NoneOf, Present, Absent}
+use Rattle.np_labels.specs.declared.requirement.Requirement.{Requirement}
+use Rattle.np_labels.specs.declared.selector.Selector.{Selector}
+
+-- a text that may be the key of a label
+abbrev pub is_key : List ℕ → Bool
+is_key s = not (length s == 0) && is_word s
+
+-- the key of an expression: a word that is not empty, else BadField
+unfoldable pub key : Data → Read (List ℕ)
+key value = do
+  s ← text value
+  refuse_if (not (is_key s)) BadField
+  Ok s
+
+-- what an operator asks
+abbrev pub op_named : List ℕ → Option Op
+op_named s =
+    if bytes_eq s (codes "In") then Some OneOf
+    else if bytes_eq s (codes "NotIn") then Some NoneOf
+    else if bytes_eq s (codes "Exists") then Some Present
+    else if bytes_eq s (codes "DoesNotExist") then Some Absent
+    else None
+
+-- whether an operator may stand there with values, or without
+abbrev pub fits : Op → Bool → Bool
+fits OneOf has_values = has_values
+fits NoneOf has_values = has_values
+fits Present has_values = not has_values
+fits Absent has_values = not has_values
+
+-- an operator that is known and fits, else BadSelector
+abbrev pub fitting : Option Op → Bool → Read Op
+fitting None has_values = refuse BadSelector
+fitting (Some op) has_values = if fits op has_values then Ok op else refuse BadSelector
+
+-- the values in the order of their bytes, each once
+abbrev pub distinct : List (List ℕ) → List (List ℕ)
+distinct values = fold (insert_key (slice_cmp nat_cmp)) [] values
+
+-- an entry of `matchExpressions`
+unfoldable pub expression : Data → Read Requirement
+expression value = do
+  must_be_object value
+  key ← required (codes "key") key value
+  operator ← required (codes "operator") text value
+  values ← listed (codes "values") word value
+  op ← fitting (op_named operator) (not (length values == 0))
+  Ok (record { key = key; op = op; values = distinct values })
+
+-- whether the member is one that a selector does not have; a null counts as missing
+abbrev pub is_other : List ℕ → Data → Bool
+is_other name value = not (bytes_eq name (codes "matchLabels") || bytes_eq name (codes "matchExpressions")) && is_some (unless_null value)
+
+abbrev pub have_other : Members → Bool
+have_other no_members = false
+have_other (member name value members) = is_other name value || have_other members
+
+abbrev pub has_other : Option Members → Bool
+has_other None = false
+has_other (Some members) = have_other members
+
+-- an entry of `matchLabels`: the key has that value
+abbrev pub label_requirement : List ℕ × List ℕ → Requirement
+label_requirement pair = record { key = pair.0; op = OneOf; values = pair.1 ∷ [] }
+
+-- a selector
+unfoldable pub selector : Data → Read Selector
+selector value = do
+  must_be_object value
+  refuse_if (has_other (as_object value)) BadSelector
+  labels ← optional (codes "matchLabels") labels value
+  expressions ← listed (codes "matchExpressions") expression value
+  Ok (record { requirements = map label_requirement (unwrap_or labels []) ++ expressions })
+
+-- the selector that everything meets
+abbrev pub everything : Selector
+everything = record { requirements = [] }

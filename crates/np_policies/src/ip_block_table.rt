@@ -1,0 +1,110 @@
+//! Blocks of addresses.
+ghost use Rattle.std.specs.Prelude.{◌≡◌};
+ghost use Rattle.np_addr.specs.Addresses.{IsCidr};
+ghost use Rattle.np_addr.specs.Blocks as blocks;
+ghost use Rattle.np_json.specs.Tables.{Gives};
+ghost use Rattle.np_policies.specs.Blocks as tables;
+
+use np_addr::{Address, Cidr, cidr_has, read_cidr};
+use np_base::Seq;
+use np_json::{
+    FaultKind, Table, TableFault, at, at_item, listed, must_be_object, of_type, refuse, required,
+};
+use serde_json::Value;
+use std::alloc::Global;
+
+/// A text that writes a block of addresses. A text that does not is `BadCidr`, another type `BadField`.
+#[derive(Drop)]
+pub(crate) struct CidrText;
+
+impl Table for CidrText {
+    type Row = Cidr;
+
+    ghost reads = { λ _. tables.cidr };
+
+    #[tactic(auto, unfolding(crate::specs::Blocks::cidr))]
+    fn read(&self, alloc: Global, value: &Value) -> Result<Cidr, TableFault> {
+        let text = of_type(alloc, value.as_str())?;
+        match read_cidr(text) {
+            Ok(cidr) => Ok(cidr),
+            Err(_) => refuse(alloc, FaultKind::BadCidr),
+        }
+    }
+}
+
+/// The addresses of a block that are in none of its exceptions.
+#[derive(Drop)]
+pub(crate) struct IpBlock {
+    pub cidr: Cidr,
+    pub excepts: Seq<Cidr>,
+}
+
+/// The table of `ipBlock` (Kubernetes API reference, IPBlock): `cidr`, which is required, and `except`, a list. The
+/// first except that is no strict part of `cidr` is `BadExcept`.
+#[derive(Drop)]
+pub(crate) struct IpBlockTable;
+
+impl Table for IpBlockTable {
+    type Row = IpBlock;
+
+    ghost reads = { λ _. tables.ip_block };
+
+    #[tactic(auto, unfolding(crate::specs::Blocks::ip_block))]
+    fn read(&self, alloc: Global, value: &Value) -> Result<IpBlock, TableFault> {
+        must_be_object(alloc, value)?;
+        let cidr = required(alloc, value, "cidr", &CidrText)?;
+        let excepts = listed(alloc, value, "except", &CidrText)?;
+        refuse_except(alloc, first_bad_except(&cidr, excepts.items()))?;
+        Ok(IpBlock { cidr, excepts })
+    }
+}
+
+// `BadExcept` at the except of that place, if there is one.
+fn refuse_except(alloc: Global, place: Option<usize>) -> Result<(), TableFault>
+    ensures { Gives result (tables.refuse_except place) }
+{
+    match place {
+        None => Ok(()),
+        Some(place) => at(
+            "except",
+            at_item(place as u64, refuse(alloc, FaultKind::BadExcept)),
+        ),
+    }
+}
+
+// The place of the first except that is no strict part of the block.
+fn first_bad_except(block: &Cidr, excepts: &[Cidr]) -> Option<usize>
+    requires { IsCidr block.now }
+    ensures { result ≡ blocks.first_bad_except block.now excepts.now }
+{
+    excepts
+        .iter()
+        .position(|except| !is_strict_part(block, except))
+}
+
+// Whether the second block is a part of the first, and not all of it.
+fn is_strict_part(block: &Cidr, except: &Cidr) -> bool
+    requires { IsCidr block.now }
+    ensures { result ≡ blocks.is_strict_part block.now except.now }
+{
+    bits_of(block) < bits_of(except) && cidr_has(block, base_of(except))
+}
+
+// How many first bits the addresses of the block have in common.
+fn bits_of(block: &Cidr) -> u8
+    ensures { result ≡ blocks.bits_of block.now }
+{
+    match block {
+        Cidr::Four { length, .. } | Cidr::Six { length, .. } => *length,
+    }
+}
+
+// The first address of the block.
+fn base_of(block: &Cidr) -> Address
+    ensures { result ≡ blocks.base_of block.now }
+{
+    match block {
+        Cidr::Four { base, .. } => Address::Four(*base),
+        Cidr::Six { base, .. } => Address::Six(*base),
+    }
+}

@@ -1,0 +1,57 @@
+//! The members that port entries of all policies have: protocols and names of ports.
+ghost use Rattle.std.specs.Prelude.{◌≡◌, codes};
+ghost use Rattle.serde_json.specs.View.{view};
+ghost use Rattle.np_json.specs.Tables.{Gives};
+ghost use Rattle.np_policies.specs.Ports as tables;
+
+use np_base::Text;
+use np_conns::Proto;
+use np_json::{FaultKind, Table, TableFault, is_word, of_type, optional, refuse, refuse_if};
+use serde_json::Value;
+use std::alloc::Global;
+
+/// The member `protocol`: `TCP`, `UDP` or `SCTP`, and TCP where it is missing. Another text is `BadProtocol`.
+#[tactic(auto, unfolding(crate::specs::Ports::protocol))]
+pub(crate) fn protocol(alloc: Global, object: &Value) -> Result<Proto, TableFault>
+    ensures { Gives result (tables.protocol (view object.now)) }
+{
+    let proto = optional(alloc, object, "protocol", &ProtoName)?;
+    Ok(proto.unwrap_or(Proto::Tcp))
+}
+
+// A text that names a protocol.
+#[derive(Drop)]
+struct ProtoName;
+
+impl Table for ProtoName {
+    type Row = Proto;
+
+    ghost reads = { λ _. tables.proto };
+
+    #[tactic(auto, unfolding(crate::specs::Ports::proto))]
+    fn read(&self, alloc: Global, value: &Value) -> Result<Proto, TableFault> {
+        let text = of_type(alloc, value.as_str())?;
+        match Proto::named(text) {
+            Some(proto) => Ok(proto),
+            None => refuse(alloc, FaultKind::BadProtocol),
+        }
+    }
+}
+
+/// The name of a container port: a word that is not empty. The empty text is `BadPort`, anything else `BadField`.
+#[derive(Drop)]
+pub(crate) struct PortName;
+
+impl Table for PortName {
+    type Row = Text;
+
+    ghost reads = { λ _. tables.port_name };
+
+    #[tactic(auto, unfolding(crate::specs::Ports::port_name))]
+    fn read(&self, alloc: Global, value: &Value) -> Result<Text, TableFault> {
+        let text = of_type(alloc, value.as_str())?;
+        refuse_if(alloc, text.is_empty(), FaultKind::BadPort)?;
+        refuse_if(alloc, !is_word(text), FaultKind::BadField)?;
+        Ok(Text::of(alloc, text)?)
+    }
+}
