@@ -2,6 +2,7 @@
 use Rattle.std.proofs.Common.{◌≡◌, ℕ, List, [], ◌∷◌, Bool, true, false, ◌&&◌, ◌||◌, MatchBool, arith, refl, sym, ◌∙◌}
 use Rattle.std.specs.Str.{bytes_eq}
 use Rattle.std.proofs.lemmas.Bool.{both_ways, or_left, and_left, and_right, and_from}
+use Rattle.np_addr.specs.declared.address.Family.TheVariants.{Four}
 use Rattle.np_base.proofs.Ranges.{is_within-inside}
 use Rattle.np_base.specs.Ranges.{holds, IsAscending}
 use Rattle.np_base.specs.declared.range.Range.{Range}
@@ -11,10 +12,8 @@ use Rattle.np_conns.specs.ConnsText.{spans_of, conns_text}
 use Rattle.np_conns.specs.declared.port_spot.PortSpot.{PortSpot}
 use Rattle.np_conns.specs.declared.proto.Proto.{Proto}
 use Rattle.np_conns.specs.declared.proto.Proto.TheVariants.{Tcp, Udp, Sctp}
-use Rattle.np_estate.specs.declared.pod.Pod.{Pod}
-use Rattle.np_policies.specs.declared.network_policy.NetPolicy.{NetPolicy}
-use Rattle.np_rules.specs.Verdict.{pair_allows}
-use Rattle.np_cli.specs.Rows.{is_none, passes_nothing, line, row}
+use Rattle.np_estate.specs.declared.lists.EstateLists.{EstateLists}
+use Rattle.np_cli.specs.Rows.{is_none, pair_allows, passes_nothing, line, row}
 
 -- ranges that hold no number are none
 is_none-holds : (from : ℕ) (ranges : List (Range ℕ)) → IsAscending (λ port. port) from 65535 ranges → ((port : ℕ) → holds (λ p. p) ranges port ≡ false) → is_none ranges ≡ true
@@ -49,12 +48,12 @@ passes_nothing-is_empty conns passes false well agrees some =
     (some_proto conns some.0.proto some.0.port some.1)
 
 -- a pair of one workload with itself, and one where nothing passes, have no row
-pub row-none : (policies : List NetPolicy) (source destination : List ℕ × Pod) → (bytes_eq source.0 destination.0 || passes_nothing (pair_allows policies source.1 destination.1)) ≡ true → row policies source destination ≡ []
+pub row-none : (lists : EstateLists) (source destination : List ℕ × ℕ) → (bytes_eq source.0 destination.0 || passes_nothing (pair_allows lists source.1 destination.1 Four)) ≡ true → row lists source destination ≡ []
 unfolding row
-row-none policies source destination none = rw none refl
+row-none lists source destination none = rw none refl
 
 -- any other pair has the line of what passes
-pub row-line : (policies : List NetPolicy) (source destination : List ℕ × Pod) (conns : Conns) → bytes_eq source.0 destination.0 ≡ false → passes_nothing (pair_allows policies source.1 destination.1) ≡ false → ((spot : PortSpot) → is_spot spot ≡ true → has_spot conns spot ≡ pair_allows policies source.1 destination.1 spot) → row policies source destination ≡ line source.0 destination.0 (conns_text (has_spot conns))
+pub row-line : (lists : EstateLists) (source destination : List ℕ × ℕ) (conns : Conns) → bytes_eq source.0 destination.0 ≡ false → passes_nothing (pair_allows lists source.1 destination.1 Four) ≡ false → ((spot : PortSpot) → is_spot spot ≡ true → has_spot conns spot ≡ pair_allows lists source.1 destination.1 Four spot) → row lists source destination ≡ line source.0 destination.0 (conns_text (has_spot conns))
 unfolding row
-row-line policies source destination conns apart some agrees =
-    rw (apart, some, conns_text-agrees (has_spot conns) (pair_allows policies source.1 destination.1) agrees) refl
+row-line lists source destination conns apart some agrees =
+    rw (apart, some, conns_text-agrees (has_spot conns) (pair_allows lists source.1 destination.1 Four) agrees) refl

@@ -1,5 +1,5 @@
 -- Writing the texts of a list one after another.
-use Rattle.std.proofs.Common.{◌≡◌, ℕ, ◌+◌, ◌<◌, ◌≤◌, List, [], ◌∷◌, ◌++◌, length, take, drop, get_or, map, flat_map, Option, Err, refl, sym, ap, ◌∙◌, append-nil, subst}
+use Rattle.std.proofs.Common.{◌≡◌, ℕ, ◌+◌, ◌<◌, ◌≤◌, List, [], ◌∷◌, ◌++◌, length, take, drop, get_or, flat_map, Option, Err, sym, ap, ◌∙◌, append-nil, subst}
 use Rattle.std.specs.Io.KnownBytes.{append_known}
 use Rattle.std.proofs.lemmas.Grind.{flat_map-append}
 use Rattle.std.proofs.lemmas.List.{take_more, take_all, take-append-drop}
@@ -24,11 +24,6 @@ flat_map-split {X} text items i =
     let texts : List X → List ℕ = λ xs. flat_map text xs in
     ap texts (sym (take-append-drop i items)) ∙ flat_map-append text (take i items) (drop i items)
 
--- the texts of lists of items that are seen as others
-pub flat_map-map : {X Y : Type 0} (text : Y → List ℕ) (seen : X → Y) (items : List X) → flat_map text (map seen items) ≡ flat_map (λ item. text (seen item)) items
-flat_map-map text seen [] = refl
-flat_map-map text seen (item ∷ items) = ap (λ (bytes : List ℕ). text (seen item) ++ bytes) (flat_map-map text seen items)
-
 -- a fault at the next text is a fault of the whole, of which a front was written
 pub Writes-fault : {X : Type 0} (text : X → List ℕ) (items : List X) (i : ℕ) (item : X) (before middle after : Option (List ℕ)) (faults_before faults_middle faults_after : ℕ) (fault : WriteFault) → i < length items → item ≡ get_or items i item → middle ≡ append_known before (flat_map text (take i items)) → faults_middle ≡ faults_before → Writes middle after faults_middle faults_after (text item) (Err fault) → Writes before after faults_before faults_after (flat_map text items) (Err fault)
 Writes-fault {X} text items i item before middle after faults_before faults_middle faults_after fault below is so_far same failed =
@@ -41,14 +36,8 @@ Writes-fault {X} text items i item before middle after faults_before faults_midd
       | NoMemory ↦ λ why. front why
     ] failed
 
--- the same where the items are seen as others
-pub Writes-fault_seen : {X Y : Type 0} (text : Y → List ℕ) (seen : X → Y) (items : List X) (i : ℕ) (item : X) (before middle after : Option (List ℕ)) (faults_before faults_middle faults_after : ℕ) (fault : WriteFault) → i < length items → item ≡ get_or items i item → middle ≡ append_known before (flat_map (λ x. text (seen x)) (take i items)) → faults_middle ≡ faults_before → Writes middle after faults_middle faults_after (text (seen item)) (Err fault) → Writes before after faults_before faults_after (flat_map text (map seen items)) (Err fault)
-Writes-fault_seen text seen items i item before middle after faults_before faults_middle faults_after fault below is so_far same failed =
-    subst (λ (bytes : List ℕ). Writes before after faults_before faults_after bytes (Err fault)) (sym (flat_map-map text seen items))
-    (Writes-fault (λ x. text (seen x)) items i item before middle after faults_before faults_middle faults_after fault below is so_far same failed)
-
 -- the texts of all items, once all were written
-pub Writes-all : {X Y : Type 0} (text : Y → List ℕ) (seen : X → Y) (items : List X) (i : ℕ) (before after : Option (List ℕ)) → length items ≤ i → after ≡ append_known before (flat_map (λ x. text (seen x)) (take i items)) → after ≡ append_known before (flat_map text (map seen items))
-Writes-all {X} text seen items i before after all so_far =
-    let texts : List X → List ℕ = λ xs. flat_map (λ x. text (seen x)) xs in
-    so_far ∙ ap (append_known before) (ap texts (take_all i items all) ∙ sym (flat_map-map text seen items))
+pub Writes-all : {X : Type 0} (text : X → List ℕ) (items : List X) (i : ℕ) (before after : Option (List ℕ)) → length items ≤ i → after ≡ append_known before (flat_map text (take i items)) → after ≡ append_known before (flat_map text items)
+Writes-all {X} text items i before after all so_far =
+    let texts : List X → List ℕ = λ xs. flat_map text xs in
+    so_far ∙ ap (append_known before) (ap texts (take_all i items all))

@@ -1,6 +1,6 @@
 -- What a job prints for its inputs, or why it refuses them.
 use Rattle.std.specs.Prelude.{ℕ, List, [], Option, Some, None, Result, Ok, Err, if◌then◌else◌}
-use Rattle.np_estate.specs.Lists.{Lists}
+use Rattle.np_estate.specs.declared.lists.EstateLists.{EstateLists}
 use Rattle.np_cli.specs.Inputs.{lists_of}
 use Rattle.np_cli.specs.Rows.{table_text}
 use Rattle.np_cli.specs.Sources.{is_too_large}
@@ -8,11 +8,11 @@ use Rattle.np_cli.specs.declared.fault.Fault.{Fault}
 use Rattle.np_cli.specs.declared.job.Job.{Job}
 use Rattle.np_cli.specs.declared.job.Job.TheVariants.{List as ListJob}
 
-abbrev pub fault_in : Result Lists Fault → Option Fault
+abbrev pub fault_in : Result EstateLists Fault → Option Fault
 fault_in (Ok lists) = None
 fault_in (Err fault) = Some fault
 
-abbrev pub table_in : Result Lists Fault → List ℕ
+abbrev pub table_in : Result EstateLists Fault → List ℕ
 table_in (Ok lists) = table_text lists
 table_in (Err fault) = []
 

@@ -1,6 +1,6 @@
 -- What a reader answers, beside what there is to read.
 use Rattle.std.specs.Prelude.{◌≡◌, Option, Some, None, Result, Ok, Err, ⊤}
-use Rattle.np_estate.specs.Lists.{Lists}
+use Rattle.np_cli.specs.declared.narrow.found.Found.{Found}
 use Rattle.np_cli.specs.declared.narrow.fault.NarrowFault.{NarrowFault}
 use Rattle.np_cli.specs.declared.narrow.fault.NarrowFault.TheVariants.{NotBuilt, NoMemory}
 
@@ -14,7 +14,7 @@ abbrev pub Gives : {X Y : Type 0} → (X → Y) → Result X NarrowFault → Opt
 Gives view (Ok x) reads = reads ≡ Some (view x)
 Gives view (Err fault) reads = Misses fault reads
 
--- The lists have what they are to have, and there is nothing where it answers so.
-abbrev pub Adds : Result ⊤ NarrowFault → Lists → Option Lists → Type 0
+-- What was found has what it is to have, and there is nothing where it answers so.
+abbrev pub Adds : Result ⊤ NarrowFault → Found → Option Found → Type 0
 Adds (Ok done) new adds = adds ≡ Some new
 Adds (Err fault) new adds = Misses fault adds

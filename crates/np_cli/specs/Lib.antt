@@ -1,4 +1,5 @@
 pub mod Objects
+pub mod Found
 pub mod Gives
 pub mod Words
 pub mod Messages

@@ -5,7 +5,7 @@ use Rattle.std.specs.Str.{bytes_eq}
 use Rattle.serde_json.specs.Data.{Data, Items, no_items, item, Members, no_members, member}
 use Rattle.serde_json.specs.Find.{get, as_array, as_number, as_object, as_str, as_u64}
 use Rattle.np_conns.specs.declared.proto.Proto.TheVariants.{Tcp}
-use Rattle.np_estate.specs.Lists.{Lists}
+use Rattle.np_estate.specs.declared.owner.Owner.{Owner}
 use Rattle.np_estate.specs.declared.pod.Pod.{Pod}
 use Rattle.np_labels.specs.Labels.{labels_of}
 use Rattle.np_labels.specs.declared.op.Op.TheVariants.{OneOf}
@@ -18,6 +18,7 @@ use Rattle.np_policies.specs.declared.network_policy.NetPolicy.{NetPolicy}
 use Rattle.np_policies.specs.declared.network_policy.NetPort.{NetPort}
 use Rattle.np_policies.specs.declared.network_policy.NetPort.TheVariants.{Span}
 use Rattle.np_policies.specs.declared.network_policy.NetRule.{NetRule}
+use Rattle.np_cli.specs.declared.narrow.found.Found.{Found}
 use Rattle.np_cli.specs.Objects.{◌>>=◌, wanted, is_word, is_name, is_empty, has_only, text_at, says, list_at, list_or_none}
 
 -- ---- labels and selectors
@@ -128,8 +129,22 @@ one_bare_container value = do
 abbrev pub default_labels : List Pair
 default_labels = record { key = codes "kubernetes.io/metadata.name"; value = codes "default" } ∷ []
 
+-- the owner of a pod of this name that is its own
+abbrev pub own_owner : List ℕ → Owner
+own_owner name = record { kind = codes "Pod"; name = name }
+
+-- a pod of the namespace `default` without named ports and addresses, which is its own owner
 abbrev pub default_pod : List ℕ → List Pair → Pod
-default_pod name labels = record { namespace = codes "default"; namespace_labels = default_labels; name = name; labels = labels }
+default_pod name labels = record {
+  namespace = codes "default";
+  namespace_labels = default_labels;
+  name = name;
+  labels = labels;
+  ports = [];
+  addresses = [];
+  owner = own_owner name;
+  listed = true;
+}
 
 unfoldable pub pod_of : Data → Option Pod
 pod_of value = do
@@ -156,35 +171,35 @@ policy_of value = do
 
 -- ---- whole lists
 
--- the lists with one more pod, whose name no earlier one has
-unfoldable pub with_pod : Lists → Data → Option Lists
-with_pod lists value = do
+-- what was found, with one more pod, whose name no earlier one has
+unfoldable pub with_pod : Found → Data → Option Found
+with_pod found value = do
   pod ← pod_of value
-  _ ← wanted (not (list_any (λ other. bytes_eq other.name pod.name) lists.pods))
-  Some (record { pods = lists.pods ++ pod ∷ []; net_policies = lists.net_policies })
+  _ ← wanted (not (list_any (λ other. bytes_eq other.name pod.name) found.pods))
+  Some (record { pods = found.pods ++ pod ∷ []; net_policies = found.net_policies })
 
--- the lists with one more policy, whose name no earlier one has
-unfoldable pub with_policy : Lists → Data → Option Lists
-with_policy lists value = do
+-- what was found, with one more policy, whose name no earlier one has
+unfoldable pub with_policy : Found → Data → Option Found
+with_policy found value = do
   policy ← policy_of value
-  _ ← wanted (not (list_any (λ other. bytes_eq other.name policy.name) lists.net_policies))
-  Some (record { pods = lists.pods; net_policies = lists.net_policies ++ policy ∷ [] })
+  _ ← wanted (not (list_any (λ other. bytes_eq other.name policy.name) found.net_policies))
+  Some (record { pods = found.pods; net_policies = found.net_policies ++ policy ∷ [] })
 
-unfoldable pub with_item : Lists → Data → Option Lists
-with_item lists value = do
+unfoldable pub with_item : Found → Data → Option Found
+with_item found value = do
   kind ← text_at (codes "kind") value
-  if bytes_eq kind (codes "Pod") then with_pod lists value else (if bytes_eq kind (codes "NetworkPolicy") then with_policy lists value else None)
+  if bytes_eq kind (codes "Pod") then with_pod found value else (if bytes_eq kind (codes "NetworkPolicy") then with_policy found value else None)
 
 -- item after item
-abbrev pub with_items : Lists → Items → Option Lists
-with_items lists no_items = Some lists
-with_items lists (item value others) = with_item lists value >>= λ more. with_items more others
+abbrev pub with_items : Found → Items → Option Found
+with_items found no_items = Some found
+with_items found (item value others) = with_item found value >>= λ more. with_items more others
 
--- the lists with the items of a `v1` List
-unfoldable pub with_list : Lists → Data → Option Lists
-with_list lists value = do
+-- what was found, with the items of a `v1` List
+unfoldable pub with_list : Found → Data → Option Found
+with_list found value = do
   _ ← wanted (has_only (codes "apiVersion" ∷ codes "kind" ∷ codes "items" ∷ []) value)
   _ ← says (codes "apiVersion") (codes "v1") value
   _ ← says (codes "kind") (codes "List") value
   items ← get (codes "items") value >>= as_array
-  with_items lists items
+  with_items found items

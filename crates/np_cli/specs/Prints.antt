@@ -1,6 +1,6 @@
 -- What a job leaves of its report, once its inputs are read.
 use Rattle.std.specs.Prelude.{◌≡◌, ℕ, List, Option, Some, None, Result}
-use Rattle.np_estate.specs.Lists.{Lists}
+use Rattle.np_estate.specs.declared.lists.EstateLists.{EstateLists}
 use Rattle.np_io.specs.Counts.{Rose}
 use Rattle.np_io.specs.Taken.{TookFront}
 use Rattle.np_cli.specs.Answers.{refusal, text_of, fault_in, table_in}
@@ -21,7 +21,7 @@ Wrote out found text TooLarge = ⊥
 Wrote out found text (CannotRead name) = ⊥
 
 -- the table of what the inputs say
-abbrev pub Prints : Result Lists Fault → Sunk → Outcome → Type 0
+abbrev pub Prints : Result EstateLists Fault → Sunk → Outcome → Type 0
 Prints said out outcome = Wrote out (fault_in said) (table_in said) outcome
 
 -- the report of a job on these inputs

@@ -1,6 +1,5 @@
 -- Pods by the names that the table gives them.
-use Rattle.std.specs.Prelude.{ℕ, List, [], ◌∷◌, ◌++◌, map, codes}
-use Rattle.std.specs.Borrow.{Bor}
+use Rattle.std.specs.Prelude.{ℕ, ◌+◌, List, [], ◌∷◌, ◌++◌, map, codes}
 use Rattle.std.specs.Ordering.{nat_cmp}
 use Rattle.std.specs.Cmp.Lexicographic.{slice_cmp}
 use Rattle.std.specs.BTreeMap.{insert_entry}
@@ -10,19 +9,16 @@ use Rattle.np_estate.specs.declared.pod.Pod.{Pod}
 abbrev pub workload_name : Pod → List ℕ
 workload_name pod = pod.namespace ++ codes "/" ++ pod.name ++ codes "[Pod]"
 
--- pods put one after another into their places by the bytes of their workloads' names
-abbrev pub placed : List (List ℕ × Pod) → List Pod → List (List ℕ × Pod)
-placed workloads [] = workloads
-placed workloads (pod ∷ pods) = placed (insert_entry (slice_cmp nat_cmp) workloads (workload_name pod) pod) pods
+-- Pods put one after another into their order by the bytes of their workloads' names, each as its place among the
+-- pods. The first of them stands at the place `next`.
+abbrev pub placed : ℕ → List (List ℕ × ℕ) → List Pod → List (List ℕ × ℕ)
+placed next workloads [] = workloads
+placed next workloads (pod ∷ pods) = placed (next + 1) (insert_entry (slice_cmp nat_cmp) workloads (workload_name pod) next) pods
 
--- the workloads in the order of their names, each with its pod
-abbrev pub workloads_of : List Pod → List (List ℕ × Pod)
-workloads_of pods = placed [] pods
-
--- the entries of a map of workloads, each with the pod that it lends
-abbrev pub entries_of : List (List ℕ × Bor Pod) → List (List ℕ × Pod)
-entries_of entries = map (λ entry. (entry.0, entry.1.now)) entries
+-- the workloads in the order of their names, each with the place of its pod
+abbrev pub workloads_of : List Pod → List (List ℕ × ℕ)
+workloads_of pods = placed 0 [] pods
 
 -- the names of workloads, in their order
-abbrev pub names_of : List (List ℕ × Pod) → List (List ℕ)
+abbrev pub names_of : List (List ℕ × ℕ) → List (List ℕ)
 names_of workloads = map (λ workload. workload.0) workloads

@@ -5,8 +5,8 @@ ghost use Rattle.std.specs.List.Sorted.{IsStrictlySortedBy};
 ghost use Rattle.std.specs.Ordering.{nat_cmp};
 ghost use Rattle.np_cli.specs.Rows.{row};
 ghost use Rattle.np_cli.specs.Workloads.{names_of, workloads_of};
+ghost use Rattle.np_estate.specs.declared.lists.EstateLists.{EstateLists};
 ghost use Rattle.np_estate.specs.declared.pod.Pod.{Pod};
-ghost use Rattle.np_policies.specs.declared.network_policy.NetPolicy.{NetPolicy};
 
 /// The workloads stand in the strict byte order of their names, so no two have one name.
 pub fn workloads_stand_in_order()
@@ -15,6 +15,6 @@ pub fn workloads_stand_in_order()
 
 /// A workload of one pod has no row with itself.
 pub fn no_row_with_itself()
-    ensures { (policies : List NetPolicy) (name : List ℕ) (source destination : Pod) →
-        row policies (name, source) (name, destination) ≡ [] }
+    ensures { (lists : EstateLists) (name : List ℕ) (source destination : ℕ) →
+        row lists (name, source) (name, destination) ≡ [] }
 {}

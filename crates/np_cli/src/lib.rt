@@ -7,6 +7,7 @@ mod job;
 mod laws;
 mod narrow;
 mod outcome;
+mod pairs;
 mod rows;
 mod run;
 mod sources;

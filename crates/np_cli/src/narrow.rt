@@ -1,6 +1,7 @@
 //! The narrow form of a list: pods and simple ingress policies of one namespace. It stands in for the whole tables.
 
 mod fault;
+mod found;
 mod items;
 mod lists;
 mod metadata;
@@ -11,4 +12,5 @@ mod selectors;
 mod words;
 
 pub use fault::NarrowFault;
+pub use found::{Found, estate_of};
 pub use items::add_list;

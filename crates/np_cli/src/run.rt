@@ -19,19 +19,24 @@ use crate::status::Status;
 use crate::write_fault::WriteFault;
 use np_base::{NoMemory, Text};
 use np_io::{Inputs, Sink, write_whole};
+use np_steps::Steps;
 use std::alloc::Global;
+use std::sync::ledger::Ledger;
 
 /// Runs the program on the words after its name: reads the inputs that they ask for, writes the report to `out`
 /// and what is to be said of the run to `err`, and answers the status that the program ends with.
 ///
+/// The rules that it looks at are counted.
+///
 /// Nothing goes to `out` before all inputs are read and accepted. Where the inputs or `out` fail, the bytes that
 /// `out` took are a front of the report. A failure of `err` changes nothing else.
-pub fn np_main<I: Inputs, O: Sink, E: Sink>(
+pub fn np_main<I: Inputs, O: Sink, E: Sink, L: Ledger>(
     alloc: Global,
     words: &[String],
     inputs: &mut I,
     out: &mut O,
     err: &mut E,
+    steps: &mut Steps<L>,
 ) -> Status
     ensures ends { Ends (asked_by words.now)
         (sourced I.holds I.left I.faults I.handed inputs.old inputs.new)
@@ -63,12 +68,18 @@ pub fn np_main<I: Inputs, O: Sink, E: Sink>(
         result }
     ensures usage { result ≡ Status.Usage → (inputs.new ≡ inputs.old) × (out.new ≡ out.old) }
 {
-    let outcome = run(alloc, words, inputs, out);
+    let outcome = run(alloc, words, inputs, out, steps);
     say(alloc, err, outcome).status()
 }
 
 // Reads, and writes the report.
-fn run<I: Inputs, O: Sink>(alloc: Global, words: &[String], inputs: &mut I, out: &mut O) -> Outcome
+fn run<I: Inputs, O: Sink, L: Ledger>(
+    alloc: Global,
+    words: &[String],
+    inputs: &mut I,
+    out: &mut O,
+    steps: &mut Steps<L>,
+) -> Outcome
     ensures cause { Cause (asked_by words.now)
         (sourced I.holds I.left I.faults I.handed inputs.old inputs.new)
         (sunk O.taken O.faults out.old out.new)
@@ -76,14 +87,20 @@ fn run<I: Inputs, O: Sink>(alloc: Global, words: &[String], inputs: &mut I, out:
     ensures usage { result ≡ Outcome.Usage → (inputs.new ≡ inputs.old) × (out.new ≡ out.old) }
 {
     match read_words(alloc, words) {
-        Ok(job) => run_job(alloc, &job, inputs, out),
+        Ok(job) => run_job(alloc, &job, inputs, out, steps),
         Err(WordsFault::Usage) => Outcome::Usage,
         Err(WordsFault::NoMemory) => Outcome::NoMemory,
     }
 }
 
 // Does what the words ask for.
-fn run_job<I: Inputs, O: Sink>(alloc: Global, job: &Job, inputs: &mut I, out: &mut O) -> Outcome
+fn run_job<I: Inputs, O: Sink, L: Ledger>(
+    alloc: Global,
+    job: &Job,
+    inputs: &mut I,
+    out: &mut O,
+    steps: &mut Steps<L>,
+) -> Outcome
     ensures cause { Cause (Some job.now)
         (sourced I.holds I.left I.faults I.handed inputs.old inputs.new)
         (sunk O.taken O.faults out.old out.new)
@@ -91,7 +108,7 @@ fn run_job<I: Inputs, O: Sink>(alloc: Global, job: &Job, inputs: &mut I, out: &m
     ensures asked { result ≢ Outcome.Usage }
 {
     match read_all(alloc, inputs, names_of(job)) {
-        Ok(texts) => answer(alloc, job, &texts, out),
+        Ok(texts) => answer(alloc, job, &texts, out, steps),
         Err(SourceFault::CannotRead(name)) => Outcome::CannotRead(name),
         Err(SourceFault::TooLarge) => Outcome::TooLarge,
         Err(SourceFault::NoMemory) => Outcome::NoMemory,
@@ -109,18 +126,29 @@ fn names_of(job: &Job) -> &[Text]
 
 // Writes the report of a job on these inputs.
 #[tactic(auto, unfolding(crate::specs::Answers::refusal, crate::specs::Answers::text_of))]
-fn answer<O: Sink>(alloc: Global, job: &Job, texts: &[Vec<u8>], out: &mut O) -> Outcome
+fn answer<O: Sink, L: Ledger>(
+    alloc: Global,
+    job: &Job,
+    texts: &[Vec<u8>],
+    out: &mut O,
+    steps: &mut Steps<L>,
+) -> Outcome
     ensures { Answers job.now (map (λ text. text.items) texts.now)
         (sunk O.taken O.faults out.old out.new)
         result }
 {
     match job {
-        Job::List { .. } => list(alloc, texts, out),
+        Job::List { .. } => list(alloc, texts, out, steps),
     }
 }
 
 // Writes the table of what the inputs say.
-fn list<O: Sink>(alloc: Global, texts: &[Vec<u8>], out: &mut O) -> Outcome
+fn list<O: Sink, L: Ledger>(
+    alloc: Global,
+    texts: &[Vec<u8>],
+    out: &mut O,
+    steps: &mut Steps<L>,
+) -> Outcome
     ensures { Prints (lists_of (map (λ text. text.items) texts.now))
         (sunk O.taken O.faults out.old out.new)
         result }
@@ -130,7 +158,7 @@ fn list<O: Sink>(alloc: Global, texts: &[Vec<u8>], out: &mut O) -> Outcome
         Err(InputsFault::Refused(fault)) => return Outcome::Refused(fault),
         Err(InputsFault::NoMemory) => return Outcome::NoMemory,
     };
-    match write_table(alloc, out, &estate) {
+    match write_table(alloc, out, &estate, steps) {
         Ok(()) => Outcome::Done,
         Err(WriteFault::SinkFailed) => Outcome::CannotWrite,
         Err(WriteFault::NoMemory) => Outcome::NoMemory,

@@ -1,10 +1,15 @@
 //! Runs of the program over sources and sinks in memory.
 
+ghost use Rattle.std.specs.Prelude.{◌≡◌, ◌<◌};
+
 use np_base::NoMemory;
 use np_cli::{Status, np_main};
 use np_io::{MemInputs, MemSink};
+use np_steps::Steps;
 use std::alloc::Global;
+use std::marker::Brand;
 use std::process::Abort;
+use std::sync::ledger::{Blank, Ledger};
 
 // More bytes than a table of the examples has.
 const AMPLE_ROOM: usize = 4096;
@@ -36,13 +41,30 @@ pub fn sink(alloc: Global, piece: usize) -> Result<MemSink, NoMemory> {
 pub fn run(
     alloc: Global,
     line: &str,
+    inputs: MemInputs,
+    out: MemSink,
+    err: MemSink,
+) -> Result<Ran, NoMemory> {
+    let words = words_of(alloc, line)?;
+    Ok(run_counted::<Brand>(alloc, &words, inputs, out, err, Blank::new(1)))
+}
+
+// The same on these words, with a counter on the ledger of this blank.
+fn run_counted<L: Ledger>(
+    alloc: Global,
+    words: &[String],
     mut inputs: MemInputs,
     mut out: MemSink,
     mut err: MemSink,
-) -> Result<Ran, NoMemory> {
-    let words = words_of(alloc, line)?;
-    let status = np_main(alloc, &words, &mut inputs, &mut out, &mut err);
-    Ok(Ran { status, out, err })
+    blank: Blank,
+) -> Ran
+    requires name { blank.name ≡ L.name }
+    requires parts { blank.parts ≡ L.parts }
+    requires some { 0 < blank.parts }
+{
+    let mut steps: Steps<L> = Steps::new(blank);
+    let status = np_main(alloc, words, &mut inputs, &mut out, &mut err, &mut steps);
+    Ran { status, out, err }
 }
 
 /// The same with these bytes as standard input, where no call fails.

@@ -10,7 +10,7 @@ use crate::narrow::metadata::{name_in, parts_of};
 use crate::narrow::objects::{has_only, items_at, wanted};
 use crate::narrow::selectors::map_at;
 use np_base::{NoMemory, Seq, Text};
-use np_estate::Pod;
+use np_estate::{Owner, Pod};
 use np_labels::{Labels, Pair};
 use serde_json::Value;
 use std::alloc::Global;
@@ -52,17 +52,32 @@ pub fn pod_of(alloc: Global, value: &Value) -> Result<Pod, NarrowFault>
     Ok(default_pod(alloc, name, labels)?)
 }
 
-// The pod of the namespace `default` with this name and these labels.
+// The pod of the namespace `default` with this name and these labels, which is its own owner.
 fn default_pod(alloc: Global, name: Text, labels: Labels) -> Result<Pod, NoMemory>
     ensures { IfOk result (λ pod. pod ≡ spec.default_pod name labels) }
 {
     let namespace = Text::of(alloc, "default")?;
     let namespace_labels = default_labels(alloc)?;
+    let owner = own_owner(alloc, &name)?;
     Ok(Pod {
         namespace,
         namespace_labels,
         name,
         labels,
+        ports: Seq::new(alloc),
+        addresses: Seq::new(alloc),
+        owner,
+        listed: true,
+    })
+}
+
+// The owner of a pod of this name that is its own.
+fn own_owner(alloc: Global, name: &Text) -> Result<Owner, NoMemory>
+    ensures { IfOk result (λ owner. owner ≡ spec.own_owner name.now) }
+{
+    Ok(Owner {
+        kind: Text::of(alloc, "Pod")?,
+        name: name.copy()?,
     })
 }
 

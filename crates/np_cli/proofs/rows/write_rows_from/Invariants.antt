@@ -6,6 +6,6 @@ use Rattle.np_cli.proofs.rows.write_rows_from.Given as goal
 -- the rows so far were written, and no write failed
 abbrev pub invariant-loop-destination : goal.invariant-loop-destination
 invariant-loop-destination g l = record {
-  taken : g.O.Sink.taken l.out ≡ append_known (g.O.Sink.taken l.fn.out) (flat_map (λ destination. row l.policies (l.source.0, l.source.1.now) (destination.0, destination.1.now)) (take l.destination-index l.workloads));
+  taken : g.O.Sink.taken l.out ≡ append_known (g.O.Sink.taken l.fn.out) (flat_map (row l.estate l.source) (take l.destination-index l.workloads));
   faults : g.O.Sink.faults l.out ≡ g.O.Sink.faults l.fn.out;
 }

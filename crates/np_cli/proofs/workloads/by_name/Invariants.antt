@@ -1,7 +1,7 @@
-use Rattle.std.proofs.Common.{◌≡◌, [], take}
-use Rattle.np_cli.specs.Workloads.{entries_of, placed}
+use Rattle.std.proofs.Common.{◌≡◌, drop}
+use Rattle.np_cli.specs.Workloads.{placed, workloads_of}
 use Rattle.np_cli.proofs.workloads.by_name.Given as goal
 
--- the pods so far stand in their places
-abbrev pub invariant-loop-pod : goal.invariant-loop-pod
-invariant-loop-pod l = entries_of l.workloads.entries ≡ placed [] (take l.pod-index l.pods)
+-- putting in the pods that are left gives the workloads of all
+abbrev pub invariant-loop-place : goal.invariant-loop-place
+invariant-loop-place l = placed l.place l.workloads.entries (drop l.place l.pods) ≡ workloads_of l.pods
