@@ -10,3 +10,4 @@ pub mod AddressLemmas
 pub mod DeciderLemmas
 pub mod SideLemmas
 pub mod FamilyLemmas
+pub mod LayerRulesLemmas

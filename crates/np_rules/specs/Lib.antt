@@ -15,3 +15,4 @@ pub mod Layers
 pub mod OneEnd
 pub mod EveryAddress
 pub mod Laws
+pub mod LayerRules

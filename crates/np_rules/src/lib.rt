@@ -17,6 +17,7 @@ mod packet;
 mod peers;
 mod port_entries;
 mod port_sets;
+mod rule_ids;
 mod rules;
 mod selection;
 mod stranger;
@@ -31,5 +32,6 @@ pub use laws::{
 };
 pub use layers::{address_layer, pod_layer, point_layer, stranger_layer};
 pub use packet::{End, Packet};
+pub use rule_ids::{LayerRules, RuleId, layer_rules};
 pub use stranger::Stranger;
 pub use verdict::allows;

@@ -24,7 +24,8 @@ pub(crate) fn is_isolated(policies: &[NetPolicy], direction: Direction, pod: &Po
         .any(|policy| isolates(policy, direction, pod))
 }
 
-fn isolates(policy: &NetPolicy, direction: Direction, pod: &PodView<'_>) -> bool
+/// Whether a policy isolates the pod.
+pub(crate) fn isolates(policy: &NetPolicy, direction: Direction, pod: &PodView<'_>) -> bool
     ensures { result ≡ spec.isolates direction (pod_view pod.now) policy.now }
 {
     net_selects(policy, pod) && net_rules_of(policy, direction).is_some()
