@@ -79,8 +79,8 @@ pub fn block_set(alloc: Global, cidr: Cidr, excepts: &[Cidr]) -> Result<AddrSet,
     Ok(set)
 }
 
-// The place of the first except that is no strict part of the block.
-fn first_bad_except(block: &Cidr, excepts: &[Cidr]) -> Option<usize>
+/// The place of the first except that is no strict part of the block, from 0: it is not in the block, or it is all of it.
+pub fn first_bad_except(block: &Cidr, excepts: &[Cidr]) -> Option<usize>
     ensures { result ≡ first_bad_except block.now excepts.now }
 {
     excepts

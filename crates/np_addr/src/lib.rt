@@ -14,7 +14,7 @@ mod print;
 mod read;
 
 pub use address::{Address, Family, family_of};
-pub use block::{AddrSet, BlockFault, block_set, cidr_set};
+pub use block::{AddrSet, BlockFault, block_set, cidr_set, first_bad_except};
 pub use cidr::{Cidr, cidr_has};
 pub use laws::{
     block_is_first_bits, canonical_text_reads_again, canonical_texts_differ, longest_run_is_first,

@@ -17,7 +17,7 @@ pub use beside::{Beside, Which};
 pub use cells::Cells;
 pub use ip_numbers::{V4, V6};
 pub use no_memory::NoMemory;
-pub use point::Point;
+pub use point::{Point, earlier, later};
 pub use port_num::PortNum;
 pub use range::Range;
 pub use seq::Seq;

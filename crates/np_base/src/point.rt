@@ -1,5 +1,5 @@
 //! Types whose values are numbers in a range.
-ghost use Rattle.std.specs.Prelude.{◌≡◌, ℕ, ◌≤◌, ◌<◌, ◌^◌};
+ghost use Rattle.std.specs.Prelude.{◌≡◌, ℕ, ◌≤◌, ◌<◌, ◌^◌, max, min};
 ghost use Rattle.std.specs.Option.{SomeIff};
 
 /// A type whose values are the numbers from `LOW` to `HIGH`, each once: ports, or the addresses of a family.
@@ -37,4 +37,26 @@ pub trait Point: Copy {
     ghost number_of_point: { (n : ℕ) → LOW ≤ n → n ≤ HIGH → number_of (point_of n) ≡ n };
 
     ghost point_of_number: { (p : Self) → LOW ≤ number_of p → number_of p ≤ HIGH → point_of (number_of p) ≡ p };
+}
+
+/// The point of the greater number.
+pub fn later<P: Point>(left: P, right: P) -> P
+    ensures { P.number_of result ≡ max (P.number_of left) (P.number_of right) }
+{
+    if left.number() < right.number() {
+        right
+    } else {
+        left
+    }
+}
+
+/// The point of the smaller number.
+pub fn earlier<P: Point>(left: P, right: P) -> P
+    ensures { P.number_of result ≡ min (P.number_of left) (P.number_of right) }
+{
+    if left.number() < right.number() {
+        left
+    } else {
+        right
+    }
 }

@@ -1,5 +1,5 @@
 -- When labels meet requirements and selectors.
-use Rattle.std.specs.Prelude.{ℕ, List, Bool, true, false, not, Option, Some, None, is_some, is_none}
+use Rattle.std.specs.Prelude.{ℕ, List, [], ◌∷◌, Bool, true, false, not, Option, Some, None, is_some, is_none}
 use Rattle.std.specs.List.{list_any, list_all}
 use Rattle.std.specs.Str.{bytes_eq}
 use Rattle.np_labels.specs.Labels.{value_of}
@@ -25,6 +25,10 @@ allows Absent values found = is_none found
 -- whether labels meet a requirement
 abbrev pub meets_requirement : Requirement → List Pair → Bool
 meets_requirement requirement labels = allows requirement.op requirement.values (value_of labels requirement.key)
+
+-- the requirement of one label: its key has its value
+abbrev pub label_requirement : List ℕ × List ℕ → Requirement
+label_requirement label = record { key = label.0; op = OneOf; values = label.1 ∷ [] }
 
 -- whether labels meet all the requirements of a selector
 abbrev pub meets_selector : Selector → List Pair → Bool

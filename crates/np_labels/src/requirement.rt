@@ -1,6 +1,6 @@
 //! What a selector asks of one key.
 ghost use Rattle.std.specs.Prelude.{◌≡◌, List, IfOk, not};
-ghost use Rattle.np_labels.specs.Selectors.{meets_requirement, negation_of};
+ghost use Rattle.np_labels.specs.Selectors.{label_requirement, meets_requirement, negation_of};
 ghost use Rattle.np_labels.specs.declared.pair.Pair.{Pair};
 
 use crate::labels::Labels;
@@ -19,6 +19,19 @@ pub struct Requirement {
 }
 
 impl Requirement {
+    /// The requirement of one label: its key has its value (Kubernetes API reference, `matchLabels`).
+    pub fn of_label(alloc: Global, key: Text, value: Text) -> Result<Requirement, NoMemory>
+        ensures { IfOk result (λ made. made ≡ label_requirement (key, value)) }
+    {
+        let mut values = Seq::new(alloc);
+        values.push(value)?;
+        Ok(Requirement {
+            key,
+            op: Op::OneOf,
+            values,
+        })
+    }
+
     /// Whether labels meet it. `NoneOf` is met where the key is absent (Kubernetes API reference, "Resources that
     /// support set-based requirements").
     pub fn meets(&self, labels: &Labels) -> bool

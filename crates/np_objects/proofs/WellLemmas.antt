@@ -17,6 +17,7 @@ use Rattle.np_json.specs.Scalars.{text, name, whole, port, labels, is_label}
 use Rattle.np_json.specs.Tables.{Read, GivesItem, must_be_object, optional, required}
 use Rattle.np_json.specs.Words.{is_word, is_name}
 use Rattle.np_json.specs.declared.fault.ReadFault.{ReadFault}
+use Rattle.np_labels.specs.Selectors.{label_requirement}
 use Rattle.np_labels.specs.Labels.{with_pair}
 use Rattle.np_labels.specs.declared.pair.Pair.{Pair}
 use Rattle.np_objects.specs.Controllers.{controller, controller_spec, controller_metadata, replicated_spec, template_spec, job_template, cron_job_spec, no_spec, is_zero}
@@ -29,7 +30,7 @@ use Rattle.np_objects.specs.Owners.{owner_reference, if_controls}
 use Rattle.np_objects.specs.PodSpecs.{container, pod_spec}
 use Rattle.np_objects.specs.Pods.{pod, pod_metadata}
 use Rattle.np_objects.specs.Ports.{port_name, protocol, container_port, if_named}
-use Rattle.np_objects.specs.Services.{service, service_spec, service_port, target_port, target_by, by_number, by_name, requirement_of, selector_of, is_text}
+use Rattle.np_objects.specs.Services.{service, service_spec, service_port, target_port, target_by, by_number, by_name, selector_of, is_text}
 use Rattle.np_objects.specs.Templates.{template, template_metadata}
 use Rattle.np_objects.specs.WellFormed.{option_all, is_whole_word, is_well_label, is_well_labels, is_well_requirement, is_well_selector, is_well_owner, is_well_port, is_well_ports, is_well_pod, is_well_namespace, is_well_template, is_well_controller, is_well_target, is_well_service_port, is_well_service, is_well_ingress, is_well_object, IsWellObject}
 use Rattle.np_objects.specs.declared.controller.ControllerKind.{ControllerKind}
@@ -314,16 +315,16 @@ service_port-well value =
     ReadsOnly-bind (option_all (option_all is_well_target)) is_well_service_port _ _ (ReadsOnly-optional (option_all is_well_target) (codes "targetPort") target_port value target_port-well) (λ target target_well.
     ReadsOnly-Ok is_well_service_port (record { name = option_flatten called; proto = unwrap_or proto Tcp; port = number; target = unwrap_or (option_flatten target) (Number number) }) (and_from _ _ (flattened is_whole_word called called_well) (unwrapped is_well_target (option_flatten target) (Number number) (flattened is_well_target target target_well) refl)))))))
 
-requirement-well : (entry : List ℕ × List ℕ) → is_label entry ≡ true → is_well_requirement (requirement_of entry) ≡ true
+requirement-well : (entry : List ℕ × List ℕ) → is_label entry ≡ true → is_well_requirement (label_requirement entry) ≡ true
 requirement-well entry is =
     let parts = and_parts (is_whole_word entry.0) (is_word entry.1) is in
     and_from (is_whole_word entry.0) (is_word entry.1 && true) parts.0 (and_from (is_word entry.1) true parts.1 refl)
 
-requirements-well : (entries : List (List ℕ × List ℕ)) → list_all is_label entries ≡ true → list_all is_well_requirement (map requirement_of entries) ≡ true
+requirements-well : (entries : List (List ℕ × List ℕ)) → list_all is_label entries ≡ true → list_all is_well_requirement (map label_requirement entries) ≡ true
 requirements-well [] all = refl
 requirements-well (entry ∷ entries) all =
     let parts = and_parts (is_label entry) (list_all is_label entries) all in
-    and_from (is_well_requirement (requirement_of entry)) (list_all is_well_requirement (map requirement_of entries)) (requirement-well entry parts.0) (requirements-well entries parts.1)
+    and_from (is_well_requirement (label_requirement entry)) (list_all is_well_requirement (map label_requirement entries)) (requirement-well entry parts.0) (requirements-well entries parts.1)
 
 selector-well : (entries : List (List ℕ × List ℕ)) → list_all is_label entries ≡ true → option_all is_well_selector (selector_of entries) ≡ true
 selector-well [] all = refl

@@ -9,8 +9,7 @@ use Rattle.np_json.specs.Meta.{namespaced_name}
 use Rattle.np_json.specs.Scalars.{text, port, port_number, labels}
 use Rattle.np_json.specs.Tables.{Read, ◌>>=◌, ◌>>◌, must_be_object, optional, required, listed}
 use Rattle.np_json.specs.declared.meta.NamespacedName.{NamespacedName}
-use Rattle.np_labels.specs.declared.op.Op.TheVariants.{OneOf}
-use Rattle.np_labels.specs.declared.requirement.Requirement.{Requirement}
+use Rattle.np_labels.specs.Selectors.{label_requirement}
 use Rattle.np_labels.specs.declared.selector.Selector.{Selector}
 use Rattle.np_objects.specs.Controllers.{is_zero}
 use Rattle.np_objects.specs.Ports.{protocol, port_name}
@@ -51,14 +50,10 @@ service_port value = do
   target ← optional (codes "targetPort") target_port value
   Ok (record { name = option_flatten name; proto = unwrap_or proto Tcp; port = number; target = unwrap_or (option_flatten target) (Number number) })
 
--- a label that is to be there with that value
-abbrev pub requirement_of : List ℕ × List ℕ → Requirement
-requirement_of entry = record { key = entry.0; op = OneOf; values = entry.1 ∷ [] }
-
 -- the labels of the pods that a service serves; it serves none where none are named
 abbrev pub selector_of : List (List ℕ × List ℕ) → Option Selector
 selector_of [] = None
-selector_of (entry ∷ entries) = Some (record { requirements = requirement_of entry ∷ map requirement_of entries })
+selector_of (entry ∷ entries) = Some (record { requirements = label_requirement entry ∷ map label_requirement entries })
 
 -- whether there is a text, and it is that one
 abbrev pub is_text : Option (List ℕ) → List ℕ → Bool

@@ -1,12 +1,12 @@
 //! Specs of services.
-ghost use Rattle.std.specs.Prelude.{◌≡◌, IfOk, map};
+ghost use Rattle.std.specs.Prelude.{◌≡◌, IfOk};
 ghost use Rattle.np_objects.specs.Services as services;
 
 use crate::service::ServicePort;
 use crate::service_tables::ServicePortTable;
 use np_base::{NoMemory, Seq, Text};
 use np_json::{AnyText, LabelMap, Table, TableFault, listed, must_be_object, optional};
-use np_labels::{Op, Requirement, Selector};
+use np_labels::Selector;
 use serde_json::Value;
 use std::alloc::Global;
 
@@ -71,30 +71,5 @@ fn selector_of(alloc: Global, entries: Seq<(Text, Text)>) -> Result<Option<Selec
     if entries.items().is_empty() {
         return Ok(None);
     }
-    let requirements = requirements_of(alloc, entries)?;
-    Ok(Some(Selector { requirements }))
-}
-
-// The labels that are to be there, in order.
-fn requirements_of(alloc: Global, entries: Seq<(Text, Text)>) -> Result<Seq<Requirement>, NoMemory>
-    ensures { IfOk result (λ made. made ≡ map services.requirement_of entries) }
-{
-    let mut requirements = Seq::new(alloc);
-    for (key, value) in entries.into_vec() {
-        requirements.push(requirement_of(alloc, key, value)?)?;
-    }
-    Ok(requirements)
-}
-
-// A label that is to be there with that value.
-fn requirement_of(alloc: Global, key: Text, value: Text) -> Result<Requirement, NoMemory>
-    ensures { IfOk result (λ made. made ≡ services.requirement_of (key, value)) }
-{
-    let mut values = Seq::new(alloc);
-    values.push(value)?;
-    Ok(Requirement {
-        key,
-        op: Op::OneOf,
-        values,
-    })
+    Ok(Some(Selector::of_labels(alloc, entries)?))
 }

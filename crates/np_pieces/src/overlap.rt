@@ -1,9 +1,9 @@
 //! Steps of one pass over two lists of pieces.
-ghost use Rattle.std.specs.Prelude.{ℕ, ◌≡◌, ◌<◌, ◌≤◌, min, max, MatchOption};
+ghost use Rattle.std.specs.Prelude.{ℕ, ◌≡◌, ◌<◌, ◌≤◌, MatchOption};
 ghost use Rattle.np_pieces.specs.Steps.{GoOn, IsOverlap};
 
 use crate::piece::Piece;
-use np_base::{Cells, Point};
+use np_base::{Cells, Point, earlier, later};
 
 /// Where the first pieces of two lists overlap, their values, and what is left to go through.
 #[derive(Drop)]
@@ -57,27 +57,5 @@ fn after<'a, P: Point, S: Cells>(
         rest
     } else {
         pieces
-    }
-}
-
-// The point of the greater number.
-fn later<P: Point>(left: P, right: P) -> P
-    ensures { P.number_of result ≡ max (P.number_of left) (P.number_of right) }
-{
-    if left.number() < right.number() {
-        right
-    } else {
-        left
-    }
-}
-
-// The point of the smaller number.
-fn earlier<P: Point>(left: P, right: P) -> P
-    ensures { P.number_of result ≡ min (P.number_of left) (P.number_of right) }
-{
-    if left.number() < right.number() {
-        left
-    } else {
-        right
     }
 }

@@ -16,7 +16,7 @@ use Rattle.np_json.specs.Tables.{◌>>◌, listed, must_be_object, optional, ref
 use Rattle.np_json.specs.declared.fault.FaultKind.TheVariants.{BadField, BadSelector}
 use Rattle.np_labels.proofs.PairLists.{is_eq-slice_cmp}
 use Rattle.np_labels.specs.Labels.{value_of}
-use Rattle.np_labels.specs.Selectors.{allows, is_listed, meets_requirement, meets_selector}
+use Rattle.np_labels.specs.Selectors.{allows, is_listed, label_requirement, meets_requirement, meets_selector}
 use Rattle.np_labels.specs.declared.op.Op.{Op}
 use Rattle.np_labels.specs.declared.op.Op.TheVariants.{OneOf, NoneOf, Present, Absent}
 use Rattle.np_labels.specs.declared.pair.Pair.{Pair}
@@ -24,7 +24,7 @@ use Rattle.np_labels.specs.declared.requirement.Requirement.{Requirement}
 use Rattle.np_labels.specs.declared.selector.Selector.{Selector}
 use Rattle.np_policies.proofs.ReadLemmas.{bind-row, then-row, optional-row, listed-row, list_all-each_item, list_any-each_item, of_type-row, word-row, text_at-row, IsOptional}
 use Rattle.np_policies.specs.SelectorMeaning.{any_item, has_entries, has_text, is_among, is_text, items_at, meets_expression, meets_members, meets_operator}
-use Rattle.np_policies.specs.Selectors.{distinct, expression, fits, fitting, has_other, is_key, key, label_requirement, op_named, selector}
+use Rattle.np_policies.specs.Selectors.{distinct, expression, fits, fitting, has_other, is_key, key, op_named, selector}
 
 -- ---- values in order, each once
 

@@ -21,6 +21,7 @@ use Rattle.np_json.specs.Tables.{Read, ◌>>◌, has_member, has_one_of, listed,
 use Rattle.np_json.specs.Words.{is_word}
 use Rattle.np_json.specs.declared.fault.FaultKind.{FaultKind}
 use Rattle.np_json.specs.declared.fault.FaultKind.TheVariants.{BadField, BadPort, BadSelector}
+use Rattle.np_labels.specs.Selectors.{label_requirement}
 use Rattle.np_labels.specs.declared.requirement.Requirement.{Requirement}
 use Rattle.np_labels.specs.declared.selector.Selector.{Selector}
 use Rattle.np_policies.proofs.BlockLemmas.{cidr-well}
@@ -28,7 +29,7 @@ use Rattle.np_policies.proofs.ReadLemmas.{bind-row, then-row, required-row, opti
 use Rattle.np_policies.specs.Blocks.{cidr, ip_block, refuse_except}
 use Rattle.np_policies.specs.Ports.{admin_port, admin_port_member, end_port, may_end, named_port, net_port, net_port_by, number_of, one_port, port_name, port_range, port_value, port_value_by, protocol}
 use Rattle.np_policies.specs.SelectorMeaning.{all_items, items_at}
-use Rattle.np_policies.specs.Selectors.{distinct, expression, fitting, has_other, is_key, key, label_requirement, op_named, selector}
+use Rattle.np_policies.specs.Selectors.{distinct, expression, fitting, has_other, is_key, key, op_named, selector}
 use Rattle.np_policies.specs.WellFormed.{if_there, is_well_admin_port, is_well_block, is_well_cidr, is_well_net_port, is_well_requirement, is_well_selector}
 use Rattle.np_policies.specs.declared.admin_policy.AdminPort.{AdminPort}
 use Rattle.np_policies.specs.declared.admin_policy.AdminPort.TheVariants as admin

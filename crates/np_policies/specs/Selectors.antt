@@ -11,6 +11,7 @@ use Rattle.np_json.specs.Scalars.{text, word, labels}
 use Rattle.np_json.specs.Tables.{Read, ◌>>=◌, ◌>>◌, listed, must_be_object, optional, refuse, refuse_if, required}
 use Rattle.np_json.specs.Words.{is_word}
 use Rattle.np_json.specs.declared.fault.FaultKind.TheVariants.{BadField, BadSelector}
+use Rattle.np_labels.specs.Selectors.{label_requirement}
 use Rattle.np_labels.specs.declared.op.Op.{Op}
 use Rattle.np_labels.specs.declared.op.Op.TheVariants.{OneOf, NoneOf, Present, Absent}
 use Rattle.np_labels.specs.declared.requirement.Requirement.{Requirement}
@@ -73,10 +74,6 @@ have_other (member name value members) = is_other name value || have_other membe
 abbrev pub has_other : Option Members → Bool
 has_other None = false
 has_other (Some members) = have_other members
-
--- an entry of `matchLabels`: the key has that value
-abbrev pub label_requirement : List ℕ × List ℕ → Requirement
-label_requirement pair = record { key = pair.0; op = OneOf; values = pair.1 ∷ [] }
 
 -- a selector
 unfoldable pub selector : Data → Read Selector

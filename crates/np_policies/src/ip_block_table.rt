@@ -1,11 +1,8 @@
 //! Blocks of addresses.
-ghost use Rattle.std.specs.Prelude.{◌≡◌};
-ghost use Rattle.np_addr.specs.Addresses.{IsCidr};
-ghost use Rattle.np_addr.specs.Blocks as blocks;
 ghost use Rattle.np_json.specs.Tables.{Gives};
 ghost use Rattle.np_policies.specs.Blocks as tables;
 
-use np_addr::{Address, Cidr, cidr_has, read_cidr};
+use np_addr::{Cidr, first_bad_except, read_cidr};
 use np_base::Seq;
 use np_json::{
     FaultKind, Table, TableFault, at, at_item, listed, must_be_object, of_type, refuse, required,
@@ -69,42 +66,5 @@ fn refuse_except(alloc: Global, place: Option<usize>) -> Result<(), TableFault>
             "except",
             at_item(place as u64, refuse(alloc, FaultKind::BadExcept)),
         ),
-    }
-}
-
-// The place of the first except that is no strict part of the block.
-fn first_bad_except(block: &Cidr, excepts: &[Cidr]) -> Option<usize>
-    requires { IsCidr block.now }
-    ensures { result ≡ blocks.first_bad_except block.now excepts.now }
-{
-    excepts
-        .iter()
-        .position(|except| !is_strict_part(block, except))
-}
-
-// Whether the second block is a part of the first, and not all of it.
-fn is_strict_part(block: &Cidr, except: &Cidr) -> bool
-    requires { IsCidr block.now }
-    ensures { result ≡ blocks.is_strict_part block.now except.now }
-{
-    bits_of(block) < bits_of(except) && cidr_has(block, base_of(except))
-}
-
-// How many first bits the addresses of the block have in common.
-fn bits_of(block: &Cidr) -> u8
-    ensures { result ≡ blocks.bits_of block.now }
-{
-    match block {
-        Cidr::Four { length, .. } | Cidr::Six { length, .. } => *length,
-    }
-}
-
-// The first address of the block.
-fn base_of(block: &Cidr) -> Address
-    ensures { result ≡ blocks.base_of block.now }
-{
-    match block {
-        Cidr::Four { base, .. } => Address::Four(*base),
-        Cidr::Six { base, .. } => Address::Six(*base),
     }
 }

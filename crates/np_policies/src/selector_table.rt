@@ -29,8 +29,8 @@ impl Table for SelectorTable {
         refuse_if(alloc, has_other(value), FaultKind::BadSelector)?;
         let labels = optional(alloc, value, "matchLabels", &LabelMap)?;
         let expressions = listed(alloc, value, "matchExpressions", &ExpressionTable)?;
-        let requirements = label_requirements(alloc, labels)?;
-        let requirements = joined(requirements, expressions)?;
+        let selector = Selector::of_labels(alloc, labels.unwrap_or(Seq::new(alloc)))?;
+        let requirements = joined(selector.requirements, expressions)?;
         Ok(Selector { requirements })
     }
 }
@@ -79,35 +79,6 @@ fn is_other(name: &str, value: &Value) -> bool
     ensures { result ≡ tables.is_other name.now (view value.now) }
 {
     name != "matchLabels" && name != "matchExpressions" && !value.is_null()
-}
-
-// A requirement for each label: its key has its value.
-fn label_requirements(
-    alloc: Global,
-    labels: Option<Seq<(Text, Text)>>,
-) -> Result<Seq<Requirement>, NoMemory>
-    ensures { IfOk result (λ made. made ≡ map tables.label_requirement (unwrap_or labels [])) }
-{
-    let mut made = Seq::new(alloc);
-    let Some(labels) = labels else {
-        return Ok(made);
-    };
-    for (key, value) in labels.into_vec() {
-        made.push(label_requirement(alloc, key, value)?)?;
-    }
-    Ok(made)
-}
-
-fn label_requirement(alloc: Global, key: Text, value: Text) -> Result<Requirement, NoMemory>
-    ensures { IfOk result (λ made. made ≡ tables.label_requirement (key, value)) }
-{
-    let mut values = Seq::new(alloc);
-    values.push(value)?;
-    Ok(Requirement {
-        key,
-        op: Op::OneOf,
-        values,
-    })
 }
 
 // The requirements, and then more of them.

@@ -1,9 +1,9 @@
 //! The numbers that both of two lists of ranges have.
-ghost use Rattle.std.specs.Prelude.{ℕ, ◌≡◌, ◌&&◌, ◌++◌, false, min, max, option_to_list, IfOk, OnOk, MatchOption};
+ghost use Rattle.std.specs.Prelude.{ℕ, ◌≡◌, ◌&&◌, ◌++◌, false, option_to_list, IfOk, OnOk, MatchOption};
 ghost use Rattle.np_base.specs.Ranges.{holds, IsAscending};
 ghost use Rattle.np_sets.specs.Steps.{IsShared, IsOverlap};
 
-use np_base::{NoMemory, Point, Range};
+use np_base::{NoMemory, Point, Range, earlier, later};
 use std::alloc::Global;
 
 // What the first ranges of two lists share, and the lists without the one of them that ends first.
@@ -80,28 +80,6 @@ fn shared<P: Point>(left: Range<P>, right: Range<P>) -> Option<Range<P>>
         Some(Range { lo, hi })
     } else {
         None
-    }
-}
-
-// The point of the greater number.
-fn later<P: Point>(left: P, right: P) -> P
-    ensures { P.number_of result ≡ max (P.number_of left) (P.number_of right) }
-{
-    if left.number() < right.number() {
-        right
-    } else {
-        left
-    }
-}
-
-// The point of the smaller number.
-fn earlier<P: Point>(left: P, right: P) -> P
-    ensures { P.number_of result ≡ min (P.number_of left) (P.number_of right) }
-{
-    if left.number() < right.number() {
-        left
-    } else {
-        right
     }
 }
 
