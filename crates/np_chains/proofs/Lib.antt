@@ -1,0 +1,4 @@
+pub mod Ends
+pub mod Pigeonhole
+pub mod Places
+pub mod Walks
