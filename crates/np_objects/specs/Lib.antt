@@ -1,6 +1,7 @@
 pub use Rattle.np_json.specs.Meta
 pub use Rattle.np_json.specs.Scalars
 pub use Rattle.np_json.specs.Tables
+pub mod ControllerKinds
 pub mod Controllers
 pub mod Ingresses
 pub mod Labels

@@ -1,4 +1,6 @@
 //! Controllers of pods.
+ghost use Rattle.std.specs.Prelude.{◌≡◌};
+ghost use Rattle.np_objects.specs.ControllerKinds.{kind_name};
 
 use crate::named_port::NamedPort;
 use crate::owner_ref::OwnerRef;
@@ -15,6 +17,23 @@ pub enum ControllerKind {
     ReplicationController,
     Job,
     CronJob,
+}
+
+impl ControllerKind {
+    /// The name of the kind, as `kind` of an object or an owner reference says it.
+    pub fn name(self) -> &'static str
+        ensures { result.now ≡ kind_name self }
+    {
+        match self {
+            ControllerKind::Deployment => "Deployment",
+            ControllerKind::ReplicaSet => "ReplicaSet",
+            ControllerKind::StatefulSet => "StatefulSet",
+            ControllerKind::DaemonSet => "DaemonSet",
+            ControllerKind::ReplicationController => "ReplicationController",
+            ControllerKind::Job => "Job",
+            ControllerKind::CronJob => "CronJob",
+        }
+    }
 }
 
 /// The pods that a controller makes (Kubernetes API reference, PodTemplateSpec).

@@ -1,0 +1,4 @@
+pub mod InputLemmas
+pub mod ItemLemmas
+pub mod LawLemmas
+pub mod ReadingLemmas

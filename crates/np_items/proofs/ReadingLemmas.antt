@@ -1,0 +1,8 @@
+-- Readings of one list after another.
+use Rattle.std.proofs.Common.{List, ◌++◌, Ok, Err}
+use Rattle.np_items.specs.Readings.{Reading}
+
+-- what was read, and then what is read of the rest
+abbrev pub after : {A : Type 0} → List A → Reading (List A) → Reading (List A)
+after front (Ok more) = Ok (front ++ more)
+after front (Err refusal) = Err refusal

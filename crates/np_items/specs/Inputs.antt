@@ -1,0 +1,84 @@
+-- What inputs list: each is a JSON text, and its value is a list of items or one item.
+use Rattle.std.specs.Prelude.{ℕ, ◌+◌, List, [], ◌∷◌, ◌++◌, Bool, ◌&&◌, if◌then◌else◌, nat_eq, Option, Some, None, codes, Ok, Err}
+use Rattle.std.specs.List.{ends_with}
+use Rattle.std.specs.Str.{bytes_eq, is_utf8}
+use Rattle.serde_json.specs.Data.{Data, Items, no_items, item}
+use Rattle.serde_json.specs.Read.{read}
+use Rattle.np_json.specs.Members.{text_of, list_of}
+use Rattle.np_json.specs.declared.field.Field.{Field}
+use Rattle.np_json.specs.declared.field.Field.TheVariants.{Missing, Wrong, Given}
+use Rattle.np_items.specs.Readings.{Reading, ◌>>=◌}
+use Rattle.np_items.specs.declared.refusal.Refusal.TheVariants.{NotJson, NotAList}
+
+-- the JSON value of a text in UTF-8, where it is one within the nesting that is read
+unfoldable pub json_of : List ℕ → Option Data
+json_of text = if is_utf8 text then read text else None
+
+abbrev pub or_not_json : ℕ → Option Data → Reading Data
+or_not_json input None = Err (NotJson input)
+or_not_json input (Some value) = Ok value
+
+-- the JSON value of the input of that number
+abbrev pub value_of : ℕ → List ℕ → Reading Data
+value_of input text = or_not_json input (json_of text)
+
+-- whether a kind is that of a list
+abbrev pub is_list_kind : List ℕ → Bool
+is_list_kind kind = ends_with nat_eq kind (codes "List")
+
+-- a member that an input's value must have
+abbrev pub or_no_list : {A : Type 0} → ℕ → Field A → Reading A
+or_no_list input Missing = Err (NotAList input)
+or_no_list input Wrong = Err (NotAList input)
+or_no_list input (Given x) = Ok x
+
+-- the text at a name
+abbrev pub text_at : ℕ → List ℕ → Data → Reading (List ℕ)
+text_at input name value = or_no_list input (text_of name value)
+
+-- the items of a JSON list, one after another
+abbrev pub values : Items → List Data
+values no_items = []
+values (item value items) = value ∷ values items
+
+-- the items of a list, and none where they are missing or null
+abbrev pub or_none : ℕ → Field Items → Reading (List Data)
+or_none input Missing = Ok []
+or_none input Wrong = Err (NotAList input)
+or_none input (Given items) = Ok (values items)
+
+-- the items of a `v1` List
+abbrev pub listed : ℕ → Data → Reading (List Data)
+listed input value = or_none input (list_of (codes "items") value)
+
+-- a `v1` List lists its items, and another value itself, unless it is another list
+unfoldable pub items_by : ℕ → List ℕ → List ℕ → Data → Reading (List Data)
+items_by input version kind value =
+    if bytes_eq version (codes "v1") && bytes_eq kind (codes "List") then listed input value
+    else if is_list_kind kind then Err (NotAList input)
+    else Ok (value ∷ [])
+
+-- what the value of an input lists
+unfoldable pub items_in : ℕ → Data → Reading (List Data)
+items_in input value = do
+  version ← text_at input (codes "apiVersion") value
+  kind ← text_at input (codes "kind") value
+  items_by input version kind value
+
+-- what an input lists
+unfoldable pub input_values : ℕ → List ℕ → Reading (List Data)
+input_values input text = do
+  value ← value_of input text
+  items_in input value
+
+-- what inputs list, numbered from `input` on
+abbrev pub values_from : ℕ → List (List ℕ) → Reading (List Data)
+values_from input [] = Ok []
+values_from input (text ∷ texts) = do
+  first ← input_values input text
+  others ← values_from (input + 1) texts
+  Ok (first ++ others)
+
+-- what all inputs list, in order
+abbrev pub all_values : List (List ℕ) → Reading (List Data)
+all_values texts = values_from 1 texts

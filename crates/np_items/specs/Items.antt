@@ -1,0 +1,60 @@
+-- The items of inputs.
+use Rattle.std.specs.Prelude.{ℕ, ◌+◌, List, [], ◌∷◌, length, nat_le, if◌then◌else◌, Option, Some, None, Ok, Err, ⊤}
+use Rattle.serde_json.specs.Data.{Data}
+use Rattle.np_json.specs.Meta.{type_meta}
+use Rattle.np_json.specs.Tables.{Read}
+use Rattle.np_objects.specs.Objects.{object_of}
+use Rattle.np_policies.specs.Policies.{policy_of}
+use Rattle.np_policies.specs.declared.policy.Policy.{Policy}
+use Rattle.np_items.specs.Inputs.{all_values, is_list_kind}
+use Rattle.np_items.specs.Readings.{Reading, ◌>>=◌, ◌>>◌}
+use Rattle.np_items.specs.declared.item.Item.{Item}
+use Rattle.np_items.specs.declared.item.Item.TheVariants as item
+use Rattle.np_items.specs.declared.refusal.Refusal.TheVariants.{TooManyItems, NestedList, Bad}
+
+-- what a table reads of the item of that number
+abbrev pub numbered : {A : Type 0} → ℕ → Read A → Reading A
+numbered number (Ok row) = Ok row
+numbered number (Err flaw) = Err (Bad (record { item = number; path = flaw.path; kind = flaw.kind }))
+
+-- the rule that an item is no list, whatever its version
+unfoldable pub must_be_no_list : ℕ → Data → Reading ⊤
+must_be_no_list number value = do
+  type ← numbered number (type_meta value)
+  if is_list_kind type.kind then Err (NestedList number) else Ok tt
+
+-- the policy that an item is, or else the object
+abbrev pub policy_or_object : ℕ → Data → Option Policy → Reading Item
+policy_or_object number value (Some policy) = Ok (item.Policy policy)
+policy_or_object number value None = do
+  object ← numbered number (object_of value)
+  Ok (item.Object object)
+
+-- the item of that number
+unfoldable pub item_of : ℕ → Data → Reading Item
+item_of number value = do
+  must_be_no_list number value
+  policy ← numbered number (policy_of value)
+  policy_or_object number value policy
+
+-- each value as an item, numbered from `number` on
+abbrev pub each_item : ℕ → List Data → Reading (List Item)
+each_item number [] = Ok []
+each_item number (value ∷ values) = do
+  item ← item_of number value
+  items ← each_item (number + 1) values
+  Ok (item ∷ items)
+
+-- how many items are read at most
+abbrev pub most_items : ℕ
+most_items = 20000
+
+unfoldable pub must_be_few : ℕ → Reading ⊤
+must_be_few count = if nat_le count most_items then Ok tt else Err (TooManyItems count)
+
+-- the items that all inputs list, numbered from 1 over all of them
+unfoldable pub items_of : List (List ℕ) → Reading (List Item)
+items_of texts = do
+  values ← all_values texts
+  must_be_few (length values)
+  each_item 1 values

@@ -1,0 +1,5 @@
+pub mod Inputs
+pub mod Items
+pub mod Readings
+pub mod Refusals
+pub mod WellFormed
