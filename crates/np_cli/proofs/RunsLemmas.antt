@@ -3,7 +3,7 @@ use Rattle.std.proofs.Common.{◌≡◌, ℕ, ◌≤◌, List, Option, Some, fal
 use Rattle.std.specs.Prelude.{◌⊎◌}
 use Rattle.std.proofs.lemmas.Bool.{le-ltb}
 use Rattle.np_io.specs.Taken.{TookFront, TookFront-none, TookFront-all}
-use Rattle.np_cli.specs.Answers.{refusal, text_of, output}
+use Rattle.np_cli.specs.Answers.{refusal, text_of, notes_of, output}
 use Rattle.np_cli.specs.Prints.{Answers}
 use Rattle.np_cli.specs.Runs.{Sunk, IsKept, TookWhole, IsUnfailed, IsAccepted, Cause}
 use Rattle.np_cli.specs.Sources.{Sourced, AreTold, is_too_large, size_limit, total_size}
@@ -22,10 +22,10 @@ fits_limit texts fits = le-ltb size_limit (total_size texts) fits
 
 -- a report on the bytes that were read is one on those that the source told
 pub Cause-from_answers : (job : Job) (source : Sourced) (out : Sunk) (texts : List (List ℕ)) (outcome : Outcome) → ((told : List (List ℕ)) → AreTold source.holds source.left (names_of job) told → texts ≡ told) → total_size texts ≤ size_limit → IsUnfailed source → Answers job texts out outcome → Cause (Some job) source out outcome
-Cause-from_answers job source out texts Done read fits unfailed answers =
+Cause-from_answers job source out texts (Done notes) read fits unfailed answers =
     let accepted : IsAccepted job texts = record { fits = fits_limit texts fits; no_fault = answers.0 } in
     let whole : TookWhole out (output (Some job) texts) = subst (TookWhole out) (sym (output-fits job texts (fits_limit texts fits))) answers.1 in
-    (job, refl, unfailed, answers.1.faults, λ told tells. (subst (IsAccepted job) (read told tells) accepted, subst (λ (ts : List (List ℕ)). TookWhole out (output (Some job) ts)) (read told tells) whole))
+    (job, refl, unfailed, answers.1.faults, λ told tells. (subst (IsAccepted job) (read told tells) accepted, subst (λ (ts : List (List ℕ)). TookWhole out (output (Some job) ts)) (read told tells) whole, subst (λ (ts : List (List ℕ)). notes ≡ notes_of job ts) (read told tells) answers.2))
 Cause-from_answers job source out texts (Refused fault) read fits unfailed answers =
     (job, refl, unfailed, answers.1, λ told tells. (subst (λ (ts : List (List ℕ)). is_too_large ts ≡ false) (read told tells) (fits_limit texts fits), subst (λ (ts : List (List ℕ)). refusal job ts ≡ Some fault) (read told tells) answers.0))
 Cause-from_answers job source out texts CannotWrite read fits unfailed answers =
@@ -45,7 +45,7 @@ TookFront-kept out bytes kept = subst (λ (after : Option (List ℕ)). TookFront
 
 -- where the message wants memory that is refused, the run ended for want of memory
 pub Cause-no_memory : (asked : Option Job) (source : Sourced) (out : Sunk) (outcome : Outcome) → Cause asked source out outcome → Cause asked source out NoMemory
-Cause-no_memory asked source out Done cause = λ texts told. TookFront-all out.before out.after (output asked texts) (cause.4 texts told).1.taken
+Cause-no_memory asked source out (Done notes) cause = λ texts told. TookFront-all out.before out.after (output asked texts) (cause.4 texts told).1.taken
 Cause-no_memory asked source out Usage cause = λ texts told. TookFront-kept out (output asked texts) cause.2
 Cause-no_memory asked source out TooLarge cause = λ texts told. TookFront-kept out (output asked texts) cause.2
 Cause-no_memory asked source out (Refused fault) cause = λ texts told. TookFront-kept out (output asked texts) cause.3

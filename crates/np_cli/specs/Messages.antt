@@ -1,5 +1,6 @@
 -- What is said of a run on the error sink.
-use Rattle.std.specs.Prelude.{ℕ, List, [], ◌++◌, codes, decimal}
+use Rattle.std.specs.Prelude.{ℕ, List, [], ◌++◌, ◌==◌, codes, decimal, if◌then◌else◌}
+use Rattle.np_estate.specs.declared.notes.Notes.{Notes}
 use Rattle.np_cli.specs.declared.fault.Fault.{Fault}
 use Rattle.np_cli.specs.declared.fault.Fault.TheVariants.{NotJson, NotBuilt}
 use Rattle.np_cli.specs.declared.outcome.Outcome.{Outcome}
@@ -9,9 +10,21 @@ abbrev pub fault_text : Fault → List ℕ
 fault_text (NotJson input) = codes "input " ++ decimal input ++ codes ": NotJson"
 fault_text NotBuilt = codes "NotBuilt"
 
--- one line for each outcome but that of a whole report
+-- the line of a note, where its number is not 0
+unfoldable pub note : List ℕ → ℕ → List ℕ
+note what count = if count == 0 then [] else codes "note: " ++ what ++ codes ": " ++ decimal count ++ codes "\n"
+
+-- what was left out of a whole report
+abbrev pub notes_text : Notes → List ℕ
+notes_text notes =
+    note (codes "host network pods left out") notes.host
+    ++ note (codes "finished pods left out") notes.finished
+    ++ note (codes "objects of other kinds skipped") notes.skipped
+    ++ note (codes "pods without an address, matched by no networks peer") notes.unaddressed
+
+-- the notes of a whole report, and one line for each other outcome
 abbrev pub message : Outcome → List ℕ
-message Done = []
+message (Done notes) = notes_text notes
 message Usage = codes "usage: np list\n"
 message TooLarge = codes "error: TooLarge\n"
 message (Refused fault) = codes "error: " ++ fault_text fault ++ codes "\n"

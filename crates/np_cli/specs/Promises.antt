@@ -1,8 +1,8 @@
 -- What follows from why a run ends as it does.
 use Rattle.std.specs.Prelude.{◌≡◌, ℕ, ◌+◌, ◌^◌, ◌<◌, ◌≤◌, ◌⊎◌, List, true, false, Option, Some, None, Contains}
 use Rattle.np_io.specs.Counts.{Rose}
-use Rattle.np_cli.specs.Answers.{refusal, output}
-use Rattle.np_cli.specs.Messages.{message}
+use Rattle.np_cli.specs.Answers.{refusal, notes_of, output}
+use Rattle.np_cli.specs.Messages.{message, notes_text}
 use Rattle.np_cli.specs.Runs.{Sunk, IsKept, TookWhole, Tells, IsAccepted, Said}
 use Rattle.np_cli.specs.Sources.{Sourced, is_too_large}
 use Rattle.np_cli.specs.Words.{names_asked}
@@ -21,12 +21,12 @@ pub record IsStill (old new : ℕ) : Type 0 where
 abbrev pub NoInputFailed : Option Job → Sourced → Type 0
 NoInputFailed asked source = (name : List ℕ) → Contains (names_asked asked) name → IsStill (source.faults_before name) (source.faults_after name)
 
--- Accepted inputs that the source tells, with no failing call, are answered with the whole text, or for want of
--- memory.
-abbrev pub Completes : Option Job → Sourced → Sunk → Status → Type 0
-Completes asked source out answer = (job : Job) (texts : List (List ℕ)) → asked ≡ Some job → Tells source asked texts → IsAccepted job texts
+-- Accepted inputs that the source tells, with no failing call, are answered with the whole text, and what was left
+-- out is said, or for want of memory.
+abbrev pub Completes : Option Job → Sourced → Sunk → Sunk → Status → Type 0
+Completes asked source out err answer = (job : Job) (texts : List (List ℕ)) → asked ≡ Some job → Tells source asked texts → IsAccepted job texts
     → NoInputFailed asked source → IsStill out.faults_before out.faults_after
-    → ((answer ≡ status.Done) × TookWhole out (output asked texts)) ⊎ (answer ≡ status.NoMemory)
+    → ((answer ≡ status.Done) × TookWhole out (output asked texts) × Said err (notes_text (notes_of job texts))) ⊎ (answer ≡ status.NoMemory)
 
 -- Inputs with too many bytes are refused for that, and nothing is written to the sink of the report.
 abbrev pub RefusesTooLarge : Option Job → Sourced → Sunk → Sunk → Status → Type 0

@@ -3,7 +3,7 @@ use Rattle.std.specs.Prelude.{◌≡◌, ℕ, ◌⊎◌, List, true, false, Opti
 use Rattle.std.specs.Io.KnownBytes.{append_known}
 use Rattle.np_io.specs.Counts.{Rose, RosePast}
 use Rattle.np_io.specs.Taken.{TookFront}
-use Rattle.np_cli.specs.Answers.{refusal, output}
+use Rattle.np_cli.specs.Answers.{refusal, notes_of, output}
 use Rattle.np_cli.specs.Messages.{message}
 use Rattle.np_cli.specs.Sources.{Sourced, AreTold, is_too_large, size_limit}
 use Rattle.np_cli.specs.Statuses.{status_of}
@@ -49,8 +49,8 @@ pub record IsAccepted (job : Job) (texts : List (List ℕ)) : Type 0 where
 
 -- Why a run of these words may end so, what the sink of the report took, and whose counts of faults stand still.
 abbrev pub Cause : Option Job → Sourced → Sunk → Outcome → Type 0
-Cause asked source out Done = (job : Job) × (asked ≡ Some job) × IsUnfailed source × (out.faults_after ≡ out.faults_before)
-    × ((texts : List (List ℕ)) → Tells source asked texts → IsAccepted job texts × TookWhole out (output asked texts))
+Cause asked source out (Done notes) = (job : Job) × (asked ≡ Some job) × IsUnfailed source × (out.faults_after ≡ out.faults_before)
+    × ((texts : List (List ℕ)) → Tells source asked texts → IsAccepted job texts × TookWhole out (output asked texts) × (notes ≡ notes_of job texts))
 Cause asked source out Usage = (asked ≡ None) × IsUnfailed source × IsKept out
 Cause asked source out TooLarge = RosePast size_limit source.handed_before source.handed_after × IsUnfailed source × IsKept out
     × (is_some asked ≡ true)

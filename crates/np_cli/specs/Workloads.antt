@@ -1,24 +1,29 @@
 -- Pods by the names that the table gives them.
-use Rattle.std.specs.Prelude.{ℕ, ◌+◌, List, [], ◌∷◌, ◌++◌, map, codes}
-use Rattle.std.specs.Ordering.{nat_cmp}
+use Rattle.std.specs.Prelude.{ℕ, ◌+◌, List, [], ◌∷◌, ◌++◌, codes}
+use Rattle.std.specs.Ordering.{nat_cmp, ordering_then}
+use Rattle.std.specs.declared.cmp.Ordering.{Ordering}
 use Rattle.std.specs.Cmp.Lexicographic.{slice_cmp}
-use Rattle.std.specs.BTreeMap.{insert_entry}
+use Rattle.std.specs.BTreeSet.{insert_key}
+use Rattle.np_cli.specs.declared.workloads.Workload.{Workload}
 use Rattle.np_estate.specs.declared.pod.Pod.{Pod}
 
--- the name of the workload of a pod that no controller owns
+-- each pod is a workload of its own
 abbrev pub workload_name : Pod → List ℕ
 workload_name pod = pod.namespace ++ codes "/" ++ pod.name ++ codes "[Pod]"
 
--- Pods put one after another into their order by the bytes of their workloads' names, each as its place among the
--- pods. The first of them stands at the place `next`.
-abbrev pub placed : ℕ → List (List ℕ × ℕ) → List Pod → List (List ℕ × ℕ)
-placed next workloads [] = workloads
-placed next workloads (pod ∷ pods) = placed (next + 1) (insert_entry (slice_cmp nat_cmp) workloads (workload_name pod) next) pods
+-- the workload of the pod at a place
+abbrev pub workload_at : ℕ → Pod → Workload
+workload_at place pod = record { name = workload_name pod; place = place }
 
--- the workloads in the order of their names, each with the place of its pod
-abbrev pub workloads_of : List Pod → List (List ℕ × ℕ)
-workloads_of pods = placed 0 [] pods
+-- by the bytes of their names, and in one name by their places
+abbrev pub order : Workload → Workload → Ordering
+order a b = ordering_then (slice_cmp nat_cmp a.name b.name) (nat_cmp a.place b.place)
 
--- the names of workloads, in their order
-abbrev pub names_of : List (List ℕ × ℕ) → List (List ℕ)
-names_of workloads = map (λ workload. workload.0) workloads
+-- Workloads with those of more pods, each put into its place. The first of the pods stands at the place `next`.
+abbrev pub with_pods : ℕ → List Workload → List Pod → List Workload
+with_pods next workloads [] = workloads
+with_pods next workloads (pod ∷ pods) = with_pods (next + 1) (insert_key order workloads (workload_at next pod)) pods
+
+-- the workloads of all pods, in their order
+abbrev pub workloads_of : List Pod → List Workload
+workloads_of pods = with_pods 0 [] pods

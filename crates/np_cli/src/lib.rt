@@ -6,6 +6,7 @@ mod fault;
 mod job;
 mod laws;
 mod narrow;
+mod notes;
 mod outcome;
 mod pairs;
 mod rows;

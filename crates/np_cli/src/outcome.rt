@@ -2,16 +2,18 @@
 ghost use Rattle.std.specs.Prelude.{◌≡◌, IfOk, string_bytes};
 
 use crate::fault::Fault;
+use crate::notes::NotesText;
 use crate::status::Status;
 use np_base::{NoMemory, Text};
+use np_estate::Notes;
 use std::alloc::Global;
 use std::fmt;
 
 /// How a run ended.
 #[derive(Debug, Drop)]
 pub enum Outcome {
-    /// The report was written whole.
-    Done,
+    /// The report was written whole, and these objects were left out of it.
+    Done(Notes),
     /// The words ask for nothing.
     Usage,
     /// The inputs have more bytes than are read.
@@ -35,7 +37,7 @@ impl Outcome {
         ensures { result ≡ status_of self.now }
     {
         match self {
-            Outcome::Done => Status::Done,
+            Outcome::Done(_) => Status::Done,
             Outcome::Usage => Status::Usage,
             Outcome::TooLarge | Outcome::Refused(_) => Status::Refused,
             Outcome::CannotRead(_) | Outcome::CannotWrite => Status::Device,
@@ -59,7 +61,7 @@ impl fmt::Display for Outcome {
 
     fn fmt<W: fmt::Write>(&self, f: &mut fmt::Formatter<W>) -> fmt::Result {
         match self {
-            Outcome::Done => Ok(()),
+            Outcome::Done(notes) => write!(f, "{}", NotesText { notes: *notes }),
             Outcome::Usage => writeln!(f, "usage: np list"),
             Outcome::TooLarge => writeln!(f, "error: TooLarge"),
             Outcome::Refused(fault) => writeln!(f, "error: {fault}"),

@@ -48,6 +48,7 @@ pub fn np_main<I: Inputs, O: Sink, E: Sink, L: Ledger>(
     ensures completes { Completes (asked_by words.now)
         (sourced I.holds I.left I.faults I.handed inputs.old inputs.new)
         (sunk O.taken O.faults out.old out.new)
+        (sunk E.taken E.faults err.old err.new)
         result }
     ensures refuses_too_large { RefusesTooLarge (asked_by words.now)
         (sourced I.holds I.left I.faults I.handed inputs.old inputs.new)
@@ -125,7 +126,7 @@ fn names_of(job: &Job) -> &[Text]
 }
 
 // Writes the report of a job on these inputs.
-#[tactic(auto, unfolding(crate::specs::Answers::refusal, crate::specs::Answers::text_of))]
+#[tactic(auto, unfolding(crate::specs::Answers::refusal, crate::specs::Answers::text_of, crate::specs::Answers::notes_of))]
 fn answer<O: Sink, L: Ledger>(
     alloc: Global,
     job: &Job,
@@ -159,7 +160,7 @@ fn list<O: Sink, L: Ledger>(
         Err(InputsFault::NoMemory) => return Outcome::NoMemory,
     };
     match write_table(alloc, out, &estate, steps) {
-        Ok(()) => Outcome::Done,
+        Ok(()) => Outcome::Done(estate.notes()),
         Err(WriteFault::SinkFailed) => Outcome::CannotWrite,
         Err(WriteFault::NoMemory) => Outcome::NoMemory,
     }

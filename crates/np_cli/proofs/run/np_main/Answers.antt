@@ -7,7 +7,7 @@ returns g c =
     let cause = Cause-said _ _ _ c.run-outcome.result c.say.result c.run-outcome.ensures.cause c.say.ensures.kept in
     record {
       ends = record { outcome = c.say.result; cause = cause; said = c.say.ensures.said; answered = c.status.ensures };
-      completes = completes _ _ _ _ c.say.result cause c.status.ensures;
+      completes = completes _ _ _ _ _ c.say.result cause c.say.ensures.said c.status.ensures;
       refuses_too_large = refuses_too_large _ _ _ _ _ c.say.result cause c.say.ensures.said c.status.ensures;
       refuses_faults = refuses_faults _ _ _ _ _ c.say.result cause c.say.ensures.said c.status.ensures;
       words = blames_words _ _ _ _ c.say.result cause c.status.ensures;

@@ -1,0 +1,87 @@
+-- The names of the objects of a list, and where they stand.
+use Rattle.std.specs.Prelude.{◌≡◌, ℕ, ◌+◌, List, [], ◌∷◌, ◌++◌, length, Bool, ◌&&◌, false, Option, Some, None, Ok, Err, ⊤, codes}
+use Rattle.std.specs.Cmp.Lexicographic.{slice_cmp}
+use Rattle.std.specs.List.{position}
+use Rattle.std.specs.Map.{lookup}
+use Rattle.std.specs.Option.{option_and_then, option_map_or}
+use Rattle.std.specs.Ordering.{nat_cmp, ordering_then, is_eq}
+use Rattle.std.specs.Str.{bytes_eq}
+use Rattle.std.specs.declared.cmp.Ordering.{Ordering}
+use Rattle.np_items.specs.Readings.{Reading}
+use Rattle.np_items.specs.declared.item.Item.{Item}
+use Rattle.np_items.specs.declared.item.Item.TheVariants as item
+use Rattle.np_items.specs.declared.refusal.Refusal.TheVariants.{Duplicate}
+use Rattle.np_objects.specs.ControllerKinds.{kind_name}
+use Rattle.np_objects.specs.declared.object.Object.{Object}
+use Rattle.np_objects.specs.declared.object.Object.TheVariants as object
+use Rattle.np_owners.specs.declared.object_name.ObjectName.{ObjectName}
+use Rattle.np_policies.specs.declared.policy.Policy.{Policy}
+use Rattle.np_policies.specs.declared.policy.Policy.TheVariants as policy
+
+abbrev pub named : List ℕ → List ℕ → List ℕ → Option ObjectName
+named kind namespace name = Some (record { kind = kind; namespace = namespace; name = name })
+
+-- the name of an object; one of the whole cluster has the empty namespace
+abbrev pub object_name : Object → Option ObjectName
+object_name (object.Pod pod) = named (codes "Pod") pod.namespace pod.name
+object_name (object.Namespace namespace) = named (codes "Namespace") [] namespace.name
+object_name (object.Controller controller) = named (kind_name controller.kind) controller.namespace controller.name
+object_name (object.Service service) = named (codes "Service") service.namespace service.name
+object_name (object.Ingress ingress) = named (codes "Ingress") ingress.namespace ingress.name
+object_name object.Other = None
+
+abbrev pub policy_name : Policy → Option ObjectName
+policy_name (policy.Net net) = named (codes "NetworkPolicy") net.namespace net.name
+policy_name (policy.Admin admin) = named (codes "AdminNetworkPolicy") [] admin.name
+policy_name (policy.Base base) = named (codes "BaselineAdminNetworkPolicy") [] (codes "default")
+
+-- the name of an item, if it is of a kind that is read
+abbrev pub name_of : Item → Option ObjectName
+name_of (item.Object object) = object_name object
+name_of (item.Policy policy) = policy_name policy
+
+abbrev pub same_name : ObjectName → ObjectName → Bool
+same_name a b = bytes_eq a.kind b.kind && (bytes_eq a.namespace b.namespace && bytes_eq a.name b.name)
+
+abbrev pub is_named : ObjectName → Item → Bool
+is_named name one = option_map_or (same_name name) (name_of one) false
+
+-- the place, from 0, of the first item of a name
+abbrev pub place_of : List Item → ObjectName → Option ℕ
+place_of items name = position (is_named name) items
+
+-- the order of names, kind by kind
+abbrev pub compare_names : ObjectName → ObjectName → Ordering
+compare_names a b = ordering_then (slice_cmp nat_cmp a.kind b.kind) (ordering_then (slice_cmp nat_cmp a.namespace b.namespace) (slice_cmp nat_cmp a.name b.name))
+
+-- the place that is noted of a name
+abbrev pub noted_place : List (ObjectName × ℕ) → ObjectName → Option ℕ
+noted_place entries name = lookup (λ other. is_eq (compare_names name other)) entries
+
+-- the places that are noted are those of the items, at each name
+abbrev pub HoldsPlaces : List Item → List (ObjectName × ℕ) → Type 0
+HoldsPlaces items entries = (name : ObjectName) → noted_place entries name ≡ place_of items name
+
+-- the numbers, from 1, of an item and of one before it that has its name
+abbrev pub repeated : List Item → Item → Option (ℕ × ℕ)
+repeated earlier one = option_and_then (λ name. option_and_then (λ first. Some (first + 1, length earlier + 1)) (place_of earlier name)) (name_of one)
+
+abbrev pub or_later : Option (ℕ × ℕ) → Option (ℕ × ℕ) → Option (ℕ × ℕ)
+or_later None later = later
+or_later (Some numbers) later = Some numbers
+
+-- the first item of a list that has the name of an earlier one
+abbrev pub repeat_after : List Item → List Item → Option (ℕ × ℕ)
+repeat_after earlier [] = None
+repeat_after earlier (one ∷ items) = or_later (repeated earlier one) (repeat_after (earlier ++ (one ∷ [])) items)
+
+abbrev pub first_repeat : List Item → Option (ℕ × ℕ)
+first_repeat items = repeat_after [] items
+
+-- no two items have one name
+abbrev pub or_duplicate : Option (ℕ × ℕ) → Reading ⊤
+or_duplicate None = Ok tt
+or_duplicate (Some numbers) = Err (Duplicate numbers.0 numbers.1)
+
+abbrev pub have_names_apart : List Item → Reading ⊤
+have_names_apart items = or_duplicate (first_repeat items)

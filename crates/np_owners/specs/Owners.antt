@@ -1,0 +1,115 @@
+-- The owners of objects, and the chains that they make.
+use Rattle.std.specs.Prelude.{ℕ, List, [], ◌∷◌, ◌++◌, length, map, Bool, not, if◌then◌else◌, Option, Some, None, Ok, Err, ⊤, codes}
+use Rattle.std.specs.List.{list_any, range_with_len, slice_get}
+use Rattle.std.specs.Option.{option_and_then, option_map}
+use Rattle.std.specs.Str.{bytes_eq}
+use Rattle.np_chains.specs.Chains.{first_cycle, top}
+use Rattle.np_items.specs.Readings.{Reading}
+use Rattle.np_items.specs.declared.item.Item.{Item}
+use Rattle.np_items.specs.declared.item.Item.TheVariants as item
+use Rattle.np_items.specs.declared.refusal.Refusal.TheVariants.{OwnerCycle}
+use Rattle.np_objects.specs.ControllerKinds.{kind_name}
+use Rattle.np_objects.specs.declared.controller.ControllerItem.{ControllerItem}
+use Rattle.np_objects.specs.declared.controller.ControllerKind.{ControllerKind}
+use Rattle.np_objects.specs.declared.controller.ControllerKind.TheVariants.{Deployment, ReplicaSet, StatefulSet, DaemonSet, ReplicationController, Job, CronJob}
+use Rattle.np_objects.specs.declared.object.Object.{Object}
+use Rattle.np_objects.specs.declared.object.Object.TheVariants as object
+use Rattle.np_objects.specs.declared.owner_ref.OwnerRef.{OwnerRef}
+use Rattle.np_objects.specs.declared.pod_item.PodItem.{PodItem}
+use Rattle.np_owners.specs.Names.{name_of, place_of}
+use Rattle.np_owners.specs.declared.object_name.ObjectName.{ObjectName}
+use Rattle.np_owners.specs.declared.owner.Owner.{Owner}
+
+-- ---- owner references that count
+
+abbrev pub kinds : List ControllerKind
+kinds = Deployment ∷ ReplicaSet ∷ StatefulSet ∷ DaemonSet ∷ ReplicationController ∷ Job ∷ CronJob ∷ []
+
+abbrev pub is_controller_kind : List ℕ → Bool
+is_controller_kind kind = list_any (λ which. bytes_eq kind (kind_name which)) kinds
+
+abbrev pub keep_if : Bool → OwnerRef → Option OwnerRef
+keep_if counts owner = if counts then Some owner else None
+
+-- a pod may be owned by anything but its node
+abbrev pub pod_owner : PodItem → Option OwnerRef
+pod_owner pod = option_and_then (λ owner. keep_if (not (bytes_eq owner.kind (codes "Node"))) owner) pod.owner
+
+-- a controller may be owned by controllers alone
+abbrev pub controller_owner : ControllerItem → Option OwnerRef
+controller_owner controller = option_and_then (λ owner. keep_if (is_controller_kind owner.kind) owner) controller.owner
+
+abbrev pub owner_in_object : Object → Option OwnerRef
+owner_in_object (object.Pod pod) = pod_owner pod
+owner_in_object (object.Controller controller) = controller_owner controller
+owner_in_object _ = None
+
+-- the owner of an item
+abbrev pub owner_of : Item → Option OwnerRef
+owner_of (item.Object object) = owner_in_object object
+owner_of (item.Policy policy) = None
+
+-- ---- chains
+
+-- the place of the listed controller of an owner's kind and name in a namespace
+abbrev pub controller_place : List Item → List ℕ → OwnerRef → Option ℕ
+controller_place items namespace owner =
+    if is_controller_kind owner.kind then place_of items (record { kind = owner.kind; namespace = namespace; name = owner.name }) else None
+
+abbrev pub place_in_namespace : List Item → Option OwnerRef → ObjectName → Option ℕ
+place_in_namespace items owner name = option_and_then (controller_place items name.namespace) owner
+
+-- the place of the listed controller that owns an item
+abbrev pub owner_place : List Item → Item → Option ℕ
+owner_place items one = option_and_then (place_in_namespace items (owner_of one)) (name_of one)
+
+-- over each item the listed controller that owns it
+abbrev pub ups : List Item → List (Option ℕ)
+ups items = map (owner_place items) items
+
+-- ---- cycles
+
+-- `namespace/name[Kind]`
+abbrev pub full_name : ObjectName → List ℕ
+full_name name = name.namespace ++ codes "/" ++ name.name ++ codes "[" ++ name.kind ++ codes "]"
+
+abbrev pub or_empty : Option (List ℕ) → List ℕ
+or_empty None = []
+or_empty (Some text) = text
+
+abbrev pub full_name_of : Item → List ℕ
+full_name_of one = or_empty (option_map full_name (name_of one))
+
+abbrev pub full_name_at : List Item → ℕ → List ℕ
+full_name_at items place = or_empty (option_map full_name_of (slice_get items place))
+
+abbrev pub or_cycle : List Item → Option ℕ → Reading ⊤
+or_cycle items None = Ok tt
+or_cycle items (Some place) = Err (OwnerCycle (full_name_at items place))
+
+-- no listed controller stands in its own chain of owners; the first that does is named
+abbrev pub have_no_cycle : List Item → Reading ⊤
+have_no_cycle items = or_cycle items (first_cycle (ups items))
+
+-- ---- top owners
+
+abbrev pub by_reference : OwnerRef → Owner
+by_reference owner = record { kind = owner.kind; name = owner.name }
+
+abbrev pub by_name : ObjectName → Owner
+by_name name = record { kind = name.kind; name = name.name }
+
+abbrev pub owner_or_itself : Option OwnerRef → Option ObjectName → Option Owner
+owner_or_itself (Some owner) name = Some (by_reference owner)
+owner_or_itself None name = option_map by_name name
+
+-- the owner that an item names, listed or not, or it itself where it names none
+abbrev pub last_owner : Item → Option Owner
+last_owner one = owner_or_itself (owner_of one) (name_of one)
+
+-- the top owner of the item at a place: the last one that its chain reaches
+abbrev pub top_owner : List Item → ℕ → Option Owner
+top_owner items place = option_and_then last_owner (slice_get items (top (ups items) place))
+
+abbrev pub top_owners : List Item → List (Option Owner)
+top_owners items = map (top_owner items) (range_with_len 0 (length items))

@@ -1,0 +1,18 @@
+//! Who owns what in a list of objects: the names of the objects, the chains of their controlling owners, and the pods
+//! that controllers make.
+#![tactic(auto)]
+
+mod chains_of_items;
+mod makers;
+mod object_name;
+mod owner;
+mod owner_refs;
+mod places;
+mod tops;
+
+pub use chains_of_items::chains_of;
+pub use makers::made_pods;
+pub use object_name::{ObjectName, name_of};
+pub use owner::Owner;
+pub use places::Places;
+pub use tops::top_owners;
