@@ -1,7 +1,7 @@
 //! The chains of owners of the items of a list.
 ghost use Rattle.std.specs.Prelude.{◌≡◌, ◌≤◌, List, length, IfOk};
 ghost use Rattle.np_items.specs.Readings.{GivesAs};
-ghost use Rattle.np_owners.specs.Names.{HoldsPlaces, name_of};
+ghost use Rattle.np_owners.specs.Names.{HoldsPlaces};
 ghost use Rattle.np_items.specs.declared.item.Item.{Item};
 ghost use Rattle.np_owners.specs.Owners as owners;
 

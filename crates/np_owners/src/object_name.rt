@@ -1,5 +1,5 @@
 //! The names of objects.
-ghost use Rattle.std.specs.Prelude.{◌≡◌, Some, IfOk};
+ghost use Rattle.std.specs.Prelude.{◌≡◌, IfOk};
 ghost use Rattle.np_owners.specs.Names as names;
 
 use np_base::{NoMemory, Text};

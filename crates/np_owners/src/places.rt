@@ -3,7 +3,6 @@ ghost use Rattle.std.specs.Prelude.{◌≡◌, ◌≤◌, [], ◌∷◌, ◌++�
 ghost use Rattle.std.specs.BTreeMap.{Updates};
 ghost use Rattle.np_items.specs.Readings.{GivesAs};
 ghost use Rattle.np_owners.specs.Names as names;
-ghost use Rattle.np_owners.specs.declared.object_name.ObjectName.{ObjectName};
 ghost use Rattle.np_items.specs.declared.item.Item.{Item};
 
 use crate::object_name::{ObjectName, name_of};
