@@ -35,6 +35,13 @@ impl Chains {
         Chains { ups }
     }
 
+    /// How many places there are.
+    pub fn len(&self) -> u32
+        ensures { result ≡ length self.now }
+    {
+        self.ups.len() as u32
+    }
+
     /// The place directly over this one, or `None` where nothing is.
     pub fn above(&self, place: u32) -> Option<u32>
         requires { place < length self.now }
