@@ -1,2 +1,9 @@
+pub mod Ends
 pub mod Families
+pub mod Gathering
 pub mod Lawful
+pub mod LeftOut
+pub mod Listed
+pub mod Namespaces
+pub mod PodPlaces
+pub mod Reading

@@ -1,8 +1,9 @@
 //! The whole of what a list says.
-ghost use Rattle.std.specs.Prelude.{◌≡◌};
+ghost use Rattle.std.specs.Prelude.{◌≡◌, ◌<◌, ◌^◌, length, IfSome};
 ghost use Rattle.std.specs.Option.{option_copied};
 ghost use Rattle.np_estate.specs.Families.{families_of};
 ghost use Rattle.np_estate.specs.Lawful.{HasAscendingPriorities};
+ghost use Rattle.np_estate.specs.PodPlaces as places;
 
 use crate::families::families_of;
 use crate::lists::EstateLists;
@@ -51,6 +52,17 @@ impl Estate {
         ensures { result.now ≡ self.now.pods }
     {
         self.lists.pods.items()
+    }
+
+    /// The place of the listed pod of a name, from 0. `None` exactly where there is none.
+    pub fn pod(&self, namespace: &str, name: &str) -> Option<u32>
+        requires { length self.now.pods < 2 ^ 32 }
+        ensures { result ≡ places.place_of_pod self.now.pods namespace.now name.now }
+    {
+        match place_of_pod(self.pods(), namespace, name) {
+            Some(place) => Some(place as u32),
+            None => None,
+        }
     }
 
     /// The families of which some pod has an address, IPv4 first, and IPv4 alone where no pod has one.
@@ -102,4 +114,19 @@ impl Estate {
     {
         self.lists.notes
     }
+}
+
+// The place of the listed pod of a name.
+fn place_of_pod(pods: &[Pod], namespace: &str, name: &str) -> Option<usize>
+    ensures value { result ≡ places.place_of_pod pods.now namespace.now name.now }
+    ensures within { IfSome result (λ place. place < length pods.now) }
+{
+    pods.iter().position(|pod| is_pod(pod, namespace, name))
+}
+
+// Whether a pod is the listed one of that name.
+fn is_pod(pod: &Pod, namespace: &str, name: &str) -> bool
+    ensures { result ≡ places.is_pod namespace.now name.now pod.now }
+{
+    pod.listed && pod.namespace.as_str() == namespace && pod.name.as_str() == name
 }

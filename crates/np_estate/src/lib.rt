@@ -3,15 +3,23 @@
 
 mod estate;
 mod families;
+mod gathered;
+mod laws;
+mod left_out;
 mod lists;
+mod namespaces;
 mod notes;
-mod owner;
 mod placed_ingress;
 mod pod;
+mod priorities;
+mod reading;
+mod setting;
 
 pub use estate::Estate;
+pub use laws::read_estates_are_lawful;
 pub use lists::EstateLists;
 pub use notes::Notes;
-pub use owner::Owner;
+pub use np_items::Refusal;
+pub use np_owners::Owner;
 pub use placed_ingress::PlacedIngress;
 pub use pod::Pod;

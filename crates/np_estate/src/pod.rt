@@ -1,10 +1,10 @@
 //! Pods as ends of connections.
 
-use crate::owner::Owner;
 use np_addr::Address;
 use np_base::{Seq, Text};
 use np_labels::Labels;
 use np_objects::NamedPort;
+use np_owners::Owner;
 
 /// A pod (Kubernetes API reference, Pod), with the labels of its namespace.
 #[derive(Debug, Drop)]

@@ -1,0 +1,15 @@
+pub mod CountLemmas
+pub mod EndLemmas
+pub mod GatherLemmas
+pub mod OrderLemmas
+pub mod LawfulApart
+pub mod LawfulEntries
+pub mod LawfulLists
+pub mod LawfulNames
+pub mod LawfulNamespaces
+pub mod LawfulOwners
+pub mod LawfulPods
+pub mod LawfulPolicies
+pub mod LawfulReading
+pub mod LawfulWell
+pub mod NamesApart

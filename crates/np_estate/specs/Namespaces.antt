@@ -1,0 +1,35 @@
+-- The labels of namespaces.
+use Rattle.std.specs.Prelude.{ℕ, List, [], ◌∷◌, ◌++◌, Option, Some, codes}
+use Rattle.std.specs.List.{slice_get}
+use Rattle.std.specs.Option.{option_and_then}
+use Rattle.np_items.specs.declared.item.Item.{Item}
+use Rattle.np_items.specs.declared.item.Item.TheVariants as item
+use Rattle.np_labels.specs.Labels.{labels_of}
+use Rattle.np_labels.specs.declared.pair.Pair.{Pair}
+use Rattle.np_objects.specs.declared.object.Object.{Object}
+use Rattle.np_objects.specs.declared.object.Object.TheVariants as object
+use Rattle.np_owners.specs.Names.{place_of}
+use Rattle.np_owners.specs.declared.object_name.ObjectName.{ObjectName}
+
+abbrev pub labels_in_object : Object → List Pair
+labels_in_object (object.Namespace namespace) = namespace.labels
+labels_in_object _ = []
+
+abbrev pub labels_in : Option Item → List Pair
+labels_in (Some (item.Object object)) = labels_in_object object
+labels_in other = []
+
+abbrev pub namespace_name : List ℕ → ObjectName
+namespace_name name = record { kind = codes "Namespace"; namespace = []; name = name }
+
+-- the labels of the Namespace object of that name, and none where it is not listed
+abbrev pub listed_labels : List Item → List ℕ → List Pair
+listed_labels items name = labels_in (option_and_then (slice_get items) (place_of items (namespace_name name)))
+
+-- the label that says the name of a namespace
+abbrev pub name_label : List ℕ → Pair
+name_label name = record { key = codes "kubernetes.io/metadata.name"; value = name }
+
+-- the labels of a namespace: those of its object, and its name, whatever its object says of that
+abbrev pub namespace_labels : List Item → List ℕ → List Pair
+namespace_labels items name = labels_of (listed_labels items name ++ (name_label name ∷ []))

@@ -1,0 +1,127 @@
+//! What the rest of a list says of a pod.
+ghost use Rattle.std.specs.Prelude.{◌≡◌, ◌≤◌, length, IfOk};
+ghost use Rattle.np_estate.specs.Ends as spec;
+ghost use Rattle.np_owners.specs.MadePods as made_pods;
+ghost use Rattle.np_owners.specs.Names.{HoldsPlaces};
+ghost use Rattle.np_owners.specs.Owners.{top_owners};
+
+use crate::namespaces::namespace_labels;
+use np_base::NoMemory;
+use np_items::Item;
+use np_labels::Labels;
+use np_objects::{ControllerItem, Object};
+use np_owners::{Owner, Places, name_of};
+use std::alloc::Global;
+
+/// What the rest of a list says of the pod that an item gives.
+#[derive(Debug, Drop)]
+pub(crate) struct Setting {
+    pub(crate) namespace_labels: Labels,
+    pub(crate) owner: Owner,
+}
+
+/// For each item what the rest of the list says of the pod that it gives, and `None` where it gives none. `makers` says
+/// of each item whether it is a controller that stands for a pod, and `owners` what its top owner is.
+pub(crate) fn settings(
+    alloc: Global,
+    items: &[Item],
+    places: &Places,
+    makers: &[bool],
+    owners: &[Option<Owner>],
+) -> Result<Vec<Option<Setting>>, NoMemory>
+    requires places { HoldsPlaces items.now places.now }
+    requires makers { makers.now ≡ made_pods.makers items.now }
+    requires owners { owners.now ≡ top_owners items.now }
+    ensures { IfOk result (λ made. made.items ≡ spec.settings_of items.now) }
+{
+    let mut made = Vec::new(alloc);
+    for (place, item) in items.iter().enumerate() {
+        let makes = makers[place];
+        let owner = &owners[place];
+        made.push(setting_if(alloc, items, places, makes, item, owner)?)?;
+    }
+    Ok(made)
+}
+
+// What the rest of the list says of the pod of an item whose top owner this is, if it gives one.
+fn setting_if(
+    alloc: Global,
+    items: &[Item],
+    places: &Places,
+    makes: bool,
+    item: &Item,
+    owner: &Option<Owner>,
+) -> Result<Option<Setting>, NoMemory>
+    requires { HoldsPlaces items.now places.now }
+    ensures { IfOk result (λ made. made ≡ spec.setting_if makes items.now item.now owner.now) }
+{
+    if gives_end(makes, item) {
+        setting_of(alloc, items, places, item, owner)
+    } else {
+        Ok(None)
+    }
+}
+
+// What the rest of the list says of the pod of an item whose top owner this is.
+fn setting_of(
+    alloc: Global,
+    items: &[Item],
+    places: &Places,
+    item: &Item,
+    owner: &Option<Owner>,
+) -> Result<Option<Setting>, NoMemory>
+    requires { HoldsPlaces items.now places.now }
+    ensures { IfOk result (λ made. made ≡ spec.setting_of items.now item.now owner.now) }
+{
+    let Some(name) = name_of(alloc, item)? else {
+        return Ok(None);
+    };
+    let Some(owner) = owner else {
+        return Ok(None);
+    };
+    let namespace_labels = namespace_labels(alloc, items, places, &name.namespace)?;
+    Ok(Some(Setting {
+        namespace_labels,
+        owner: copy_of(owner)?,
+    }))
+}
+
+// An equal owner in memory of its own.
+fn copy_of(owner: &Owner) -> Result<Owner, NoMemory>
+    ensures { IfOk result (λ made. made ≡ owner.now) }
+{
+    Ok(Owner {
+        kind: owner.kind.copy()?,
+        name: owner.name.copy()?,
+    })
+}
+
+// Whether an item gives a pod of the estate; `makes` says whether it is a controller that stands for a pod.
+fn gives_end(makes: bool, item: &Item) -> bool
+    ensures { result ≡ spec.gives_end makes item.now }
+{
+    match item {
+        Item::Object(object) => gives_end_object(makes, object),
+        Item::Policy(_) => false,
+    }
+}
+
+fn gives_end_object(makes: bool, object: &Object) -> bool
+    ensures { result ≡ spec.gives_end_object makes object.now }
+{
+    match object {
+        Object::Pod(pod) => !(pod.host_network || pod.finished),
+        Object::Controller(controller) => makes && !is_on_host(controller),
+        _ => false,
+    }
+}
+
+/// Whether the pods of a controller are on the network of their node.
+pub(crate) fn is_on_host(controller: &ControllerItem) -> bool
+    ensures { result ≡ spec.is_on_host controller.now }
+{
+    match &controller.template {
+        Some(template) => template.host_network,
+        None => false,
+    }
+}
