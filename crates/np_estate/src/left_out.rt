@@ -58,6 +58,7 @@ fn left_out(makes: bool, item: &Item) -> Option<LeftOut>
     }
 }
 
+// Why an object is left out.
 fn object_left_out(makes: bool, object: &Object) -> Option<LeftOut>
     ensures { result ≡ spec.object_left_out makes object.now }
 {
@@ -97,6 +98,7 @@ pub(crate) fn unaddressed(
     }
 }
 
+// Whether a pod has no address.
 fn has_no_address(pod: &Pod) -> bool
     ensures { result ≡ spec.has_no_address pod.now }
 {

@@ -1,5 +1,5 @@
 //! What the rest of a list says of a pod.
-ghost use Rattle.std.specs.Prelude.{◌≡◌, ◌≤◌, length, IfOk};
+ghost use Rattle.std.specs.Prelude.{◌≡◌, IfOk};
 ghost use Rattle.np_estate.specs.Ends as spec;
 ghost use Rattle.np_owners.specs.MadePods as made_pods;
 ghost use Rattle.np_owners.specs.Names.{HoldsPlaces};
@@ -62,7 +62,7 @@ fn setting_if(
     }
 }
 
-// What the rest of the list says of the pod of an item whose top owner this is.
+// The same, whether or not the item gives a pod: its top owner, and the labels of its namespace.
 fn setting_of(
     alloc: Global,
     items: &[Item],
@@ -106,6 +106,7 @@ fn gives_end(makes: bool, item: &Item) -> bool
     }
 }
 
+// Whether an object does.
 fn gives_end_object(makes: bool, object: &Object) -> bool
     ensures { result ≡ spec.gives_end_object makes object.now }
 {
