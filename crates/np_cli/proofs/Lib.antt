@@ -1,9 +1,8 @@
-pub mod MembersLemmas
-pub mod ListsLemmas
-pub mod ValuesLemmas
+pub mod InputsLemmas
 pub mod SourcesLemmas
 pub mod WrittenLemmas
 pub mod RowsLemmas
+pub mod SameLemmas
 pub mod WorkloadsLemmas
 pub mod RunsLemmas
 pub mod PromisesLemmas

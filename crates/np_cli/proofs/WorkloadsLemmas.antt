@@ -1,14 +1,15 @@
 -- Pods put into their places by name.
-use Rattle.std.proofs.Common.{◌≡◌, ℕ, ◌+◌, ◌<◌, ◌≤◌, List, [], ◌∷◌, length, Ordering, Less, Equal, Greater, refl, ap, ◌∙◌, arith}
+use Rattle.std.proofs.Common.{◌≡◌, ℕ, ◌+◌, ◌<◌, ◌≤◌, List, [], ◌∷◌, ◌++◌, length, Ordering, Less, Equal, Greater, refl, sym, ap, ◌∙◌, arith, append-nil}
 use Rattle.std.specs.Prelude.{All}
 use Rattle.std.specs.BTreeSet.{insert_key}
-use Rattle.std.specs.Cmp.{IsTotalOrder, nat_cmp_total, on_total, then_total}
-use Rattle.std.specs.Cmp.Lexicographic.{nat_list_cmp_total}
+use Rattle.std.specs.Cmp.{IsTotalOrder, nat_cmp_total, on_total, ranked, then_total}
+use Rattle.std.specs.Cmp.Lexicographic.{slice_cmp, nat_list_cmp_total}
 use Rattle.std.specs.List.{AllByRecursion}
-use Rattle.std.specs.List.Sorted.{IsStrictlySortedBy}
-use Rattle.std.specs.Ordering.{match_ordering, ordering_reverse}
+use Rattle.std.specs.List.Sorted.{IsPermutation, IsStrictlySortedBy}
+use Rattle.std.specs.Ordering.{match_ordering, nat_cmp, ordering_reverse, ordering_then}
 use Rattle.std.proofs.lemmas.List.Elements.{All-from_recursion}
-use Rattle.np_cli.specs.Workloads.{order, with_pods, workload_at, workloads_of}
+use Rattle.std.proofs.lemmas.List.Sorted.{All-permutation, IsPermutation-append_left, IsPermutation-cons, IsPermutation-middle, IsPermutation-refl, IsPermutation-sym, IsPermutation-trans}
+use Rattle.np_cli.specs.Workloads.{numbered, order, put_in, workload_at, workloads_of}
 use Rattle.np_cli.specs.declared.workloads.Workload.{Workload}
 use Rattle.np_estate.specs.declared.pod.Pod.{Pod}
 
@@ -42,23 +43,66 @@ in_order-insert (first ∷ workloads) workload in_order = by (order workload fir
     by Equal is others = in_order
     by Greater is others = (holds-insert (λ other. order first other ≡ Less) workloads workload in_order.0 (order_total.antisymm first workload ∙ ap ordering_reverse is), others)
 
-in_order-with_pods : (next : ℕ) (workloads : List Workload) (pods : List Pod) → IsStrictlySortedBy order workloads → IsStrictlySortedBy order (with_pods next workloads pods)
-in_order-with_pods next workloads [] in_order = in_order
-in_order-with_pods next workloads (pod ∷ pods) in_order = in_order-with_pods (next + 1) (insert_key order workloads (workload_at next pod)) pods (in_order-insert workloads (workload_at next pod) in_order)
+in_order-put_in : (workloads more : List Workload) → IsStrictlySortedBy order workloads → IsStrictlySortedBy order (put_in workloads more)
+in_order-put_in workloads [] in_order = in_order
+in_order-put_in workloads (first ∷ others) in_order = in_order-put_in (insert_key order workloads first) others (in_order-insert workloads first in_order)
 
 pub in_order-workloads_of : (pods : List Pod) → IsStrictlySortedBy order (workloads_of pods)
 unfolding IsStrictlySortedBy
-in_order-workloads_of pods = in_order-with_pods 0 [] pods tt
+in_order-workloads_of pods = in_order-put_in [] (numbered 0 pods) tt
 
--- all places are below the number of pods
+-- workloads of one place and more are not put into the place of another
+places-apart : (a b : Workload) → order a b ≡ Equal → a.place ≡ b.place
+places-apart a b same = ranked a.place b.place Equal (sym (second_ties (slice_cmp nat_cmp a.name b.name) (nat_cmp a.place b.place) same))
+  where
+    second_ties : (first second : Ordering) → ordering_then first second ≡ Equal → second ≡ Equal
+    second_ties Less second ties = cc
+    second_ties Equal second ties = ties
+    second_ties Greater second ties = cc
+
+-- all places are below a count
 abbrev ArePlaces : ℕ → List Workload → Type 0
 ArePlaces count workloads = AllByRecursion (λ workload. workload.place < count) workloads
 
-places-with_pods : (count next : ℕ) (workloads : List Workload) (pods : List Pod) → next + length pods ≤ count → ArePlaces count workloads → ArePlaces count (with_pods next workloads pods)
-places-with_pods count next workloads [] fits all = all
-places-with_pods count next workloads (pod ∷ pods) fits all =
-    places-with_pods count (next + 1) (insert_key order workloads (workload_at next pod)) pods (omega arith)
-    (holds-insert (λ workload. workload.place < count) workloads (workload_at next pod) all (omega arith))
+ArePlaces-more : (count : ℕ) (workloads : List Workload) → ArePlaces count workloads → ArePlaces (count + 1) workloads
+ArePlaces-more count [] all = tt
+ArePlaces-more count (first ∷ workloads) all = (omega (arith, all.0), ArePlaces-more count workloads all.1)
+
+-- a workload of a place of its own is one more
+IsPermutation-insert : (workloads : List Workload) (workload : Workload) → ArePlaces workload.place workloads → IsPermutation (workload ∷ workloads) (insert_key order workloads workload)
+IsPermutation-insert [] workload places = IsPermutation-refl (workload ∷ [])
+IsPermutation-insert (first ∷ workloads) workload places = by (order workload first) refl (IsPermutation-insert workloads workload places.1)
+  where
+    by : (o : Ordering) → order workload first ≡ o → IsPermutation (workload ∷ workloads) (insert_key order workloads workload) → IsPermutation (workload ∷ first ∷ workloads) (match_ordering o (workload ∷ first ∷ workloads) (first ∷ workloads) (first ∷ insert_key order workloads workload))
+    by Less is others = IsPermutation-refl (workload ∷ first ∷ workloads)
+    by Equal is others = absurd (omega (arith, places.0, places-apart workload first is))
+    by Greater is others =
+        IsPermutation-trans (workload ∷ first ∷ workloads) (first ∷ workload ∷ workloads) (first ∷ insert_key order workloads workload)
+        (IsPermutation-sym (first ∷ workload ∷ workloads) (workload ∷ first ∷ workloads) (IsPermutation-middle (first ∷ []) workload workloads))
+        (IsPermutation-cons first (workload ∷ workloads) (insert_key order workloads workload) others)
+
+-- so all of them are there
+IsPermutation-put_in : (next : ℕ) (workloads : List Workload) (pods : List Pod) → ArePlaces next workloads → IsPermutation (workloads ++ numbered next pods) (put_in workloads (numbered next pods))
+IsPermutation-put_in next workloads [] places = rw (append-nil workloads) (IsPermutation-refl workloads)
+IsPermutation-put_in next workloads (pod ∷ pods) places =
+    let first : Workload = workload_at next pod in
+    let others = numbered (next + 1) pods in
+    IsPermutation-trans (workloads ++ first ∷ others) (insert_key order workloads first ++ others) (put_in (insert_key order workloads first) others)
+    (IsPermutation-trans (workloads ++ first ∷ others) (first ∷ workloads ++ others) (insert_key order workloads first ++ others)
+    (IsPermutation-middle workloads first others)
+    (IsPermutation-append_left others (first ∷ workloads) (insert_key order workloads first) (IsPermutation-insert workloads first places)))
+    (IsPermutation-put_in (next + 1) (insert_key order workloads first) pods
+    (holds-insert (λ workload. workload.place < next + 1) workloads first (ArePlaces-more next workloads places) (omega arith)))
+
+pub IsPermutation-workloads_of : (pods : List Pod) → IsPermutation (numbered 0 pods) (workloads_of pods)
+IsPermutation-workloads_of pods = IsPermutation-put_in 0 [] pods tt
+
+-- the place of each is one of a pod
+places-numbered : (count next : ℕ) (pods : List Pod) → next + length pods ≤ count → ArePlaces count (numbered next pods)
+places-numbered count next [] fits = tt
+places-numbered count next (pod ∷ pods) fits = (omega arith, places-numbered count (next + 1) pods (omega arith))
 
 pub places-workloads_of : (pods : List Pod) → All (λ workload. workload.place < length pods) (workloads_of pods)
-places-workloads_of pods = All-from_recursion (λ workload. workload.place < length pods) (workloads_of pods) (places-with_pods (length pods) 0 [] pods (omega arith) tt)
+places-workloads_of pods =
+    All-permutation (λ workload. workload.place < length pods) (numbered 0 pods) (workloads_of pods) (IsPermutation-workloads_of pods)
+    (All-from_recursion (λ workload. workload.place < length pods) (numbered 0 pods) (places-numbered (length pods) 0 pods (omega arith)))

@@ -1,10 +1,6 @@
-pub mod Objects
-pub mod Found
-pub mod Gives
 pub mod Words
 pub mod Messages
 pub mod Statuses
-pub mod Narrow
 pub mod Inputs
 pub mod Sources
 pub mod Workloads

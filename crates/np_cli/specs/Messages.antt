@@ -1,14 +1,15 @@
 -- What is said of a run on the error sink.
 use Rattle.std.specs.Prelude.{ℕ, List, [], ◌++◌, ◌==◌, codes, decimal, if◌then◌else◌}
 use Rattle.np_estate.specs.declared.notes.Notes.{Notes}
+use Rattle.np_items.specs.Refusals.{refusal_text}
 use Rattle.np_cli.specs.declared.fault.Fault.{Fault}
-use Rattle.np_cli.specs.declared.fault.Fault.TheVariants.{NotJson, NotBuilt}
+use Rattle.np_cli.specs.declared.fault.Fault.TheVariants.{Inputs, TooManyWorkloads}
 use Rattle.np_cli.specs.declared.outcome.Outcome.{Outcome}
 use Rattle.np_cli.specs.declared.outcome.Outcome.TheVariants.{Done, Usage, TooLarge, Refused, CannotRead, CannotWrite, NoMemory}
 
 abbrev pub fault_text : Fault → List ℕ
-fault_text (NotJson input) = codes "input " ++ decimal input ++ codes ": NotJson"
-fault_text NotBuilt = codes "NotBuilt"
+fault_text (Inputs refusal) = refusal_text refusal
+fault_text (TooManyWorkloads count) = codes "TooManyWorkloads " ++ decimal count
 
 -- the line of a note, where its number is not 0
 unfoldable pub note : List ℕ → ℕ → List ℕ

@@ -15,15 +15,20 @@ workload_name pod = pod.namespace ++ codes "/" ++ pod.name ++ codes "[Pod]"
 abbrev pub workload_at : ℕ → Pod → Workload
 workload_at place pod = record { name = workload_name pod; place = place }
 
+-- the workloads of pods in the order of their places, of which the first is `next`
+abbrev pub numbered : ℕ → List Pod → List Workload
+numbered next [] = []
+numbered next (pod ∷ pods) = workload_at next pod ∷ numbered (next + 1) pods
+
 -- by the bytes of their names, and in one name by their places
 abbrev pub order : Workload → Workload → Ordering
 order a b = ordering_then (slice_cmp nat_cmp a.name b.name) (nat_cmp a.place b.place)
 
--- Workloads with those of more pods, each put into its place. The first of the pods stands at the place `next`.
-abbrev pub with_pods : ℕ → List Workload → List Pod → List Workload
-with_pods next workloads [] = workloads
-with_pods next workloads (pod ∷ pods) = with_pods (next + 1) (insert_key order workloads (workload_at next pod)) pods
+-- workloads in their order, and more of them, each put into it
+abbrev pub put_in : List Workload → List Workload → List Workload
+put_in workloads [] = workloads
+put_in workloads (first ∷ others) = put_in (insert_key order workloads first) others
 
 -- the workloads of all pods, in their order
 abbrev pub workloads_of : List Pod → List Workload
-workloads_of pods = with_pods 0 [] pods
+workloads_of pods = put_in [] (numbered 0 pods)

@@ -1,14 +1,15 @@
 //! Why inputs are refused for what they say.
 
+use np_items::Refusal;
 use std::fmt;
 
 /// The first fault of the inputs.
-#[derive(Clone, Copy, Debug, PartialEq, Eq)]
+#[derive(Debug, Drop)]
 pub enum Fault {
-    /// The input of this number, from 1, is no JSON text, or nests deeper than 127.
-    NotJson { input: u64 },
-    /// An input has a form that is not read yet.
-    NotBuilt,
+    /// They are read to no estate.
+    Inputs(Refusal),
+    /// Their estate has this many workloads, which is more than 2,000.
+    TooManyWorkloads { count: u64 },
 }
 
 impl fmt::Display for Fault {
@@ -19,17 +20,31 @@ impl fmt::Display for Fault {
 
     fn fmt<W: fmt::Write>(&self, f: &mut fmt::Formatter<W>) -> fmt::Result {
         match self {
-            Fault::NotJson { input } => write!(f, "input {input}: NotJson"),
-            Fault::NotBuilt => write!(f, "NotBuilt"),
+            Fault::Inputs(refusal) => write!(f, "{refusal}"),
+            Fault::TooManyWorkloads { count } => write!(f, "TooManyWorkloads {count}"),
         }
     }
 }
 
 /// Why inputs are not read to what they say.
-#[derive(Clone, Copy, Debug, PartialEq, Eq)]
+#[derive(Debug, Drop)]
 pub enum InputsFault {
     /// They have this fault first.
     Refused(Fault),
     /// The system refused memory.
     NoMemory,
+}
+
+impl From<Refusal> for InputsFault {
+    ghost use Rattle.std.specs.Prelude.{◌≡◌};
+    ghost use Rattle.np_cli.specs.Inputs.{fault_of};
+
+    ghost from_gives = { λ refusal fault. fault ≡ fault_of refusal };
+
+    fn from(refusal: Refusal) -> InputsFault {
+        match refusal {
+            Refusal::NoMemory => InputsFault::NoMemory,
+            refusal => InputsFault::Refused(Fault::Inputs(refusal)),
+        }
+    }
 }

@@ -5,7 +5,6 @@ mod estate;
 mod fault;
 mod job;
 mod laws;
-mod narrow;
 mod notes;
 mod outcome;
 mod pairs;
@@ -18,7 +17,10 @@ mod write_fault;
 
 pub use fault::Fault;
 pub use job::{Job, WordsFault, read_words};
-pub use laws::{no_row_with_itself, workloads_stand_in_order};
+pub use laws::{
+    no_row_with_itself, no_workload_is_lost, one_row_where_the_same_ports_pass,
+    workloads_stand_in_order,
+};
 pub use outcome::Outcome;
 pub use run::np_main;
 pub use status::Status;

@@ -1,7 +1,7 @@
 //! One call that fails, at each place in turn, until a run meets no such call.
 
 use crate::runs::{Ran, expect, is_cut, is_text, run, sink, source};
-use crate::texts::{NOT_BUILT, TWO_PODS, TWO_PODS_TABLE};
+use crate::texts::{BAD_PROTOCOL, TWO_PODS, TWO_PODS_TABLE};
 use np_base::NoMemory;
 use np_cli::Status;
 use np_io::{MemInputs, MemSink};
@@ -120,12 +120,19 @@ fn is_unwritten(ran: &Ran) -> bool {
 // A message that is cut changes nothing else.
 #[test]
 fn the_sink_of_messages_fails(rt: HostRuntime) -> Result<(), Fail> {
-    let least = NOT_BUILT.len().div_ceil(WRITE_PIECE) as u64;
-    let list = TWO_PODS.replace(rt.alloc(), "TCP", "UDP")?;
+    let least = BAD_PROTOCOL.len().div_ceil(WRITE_PIECE) as u64;
+    let list = TWO_PODS.replace(rt.alloc(), "TCP", "ICMP")?;
     for call in 1..MANY_CALLS {
         let ran = run_failing(rt.alloc(), list.as_str(), Place::Err, call)?;
-        if is_text(ran.err.taken(), NOT_BUILT) {
-            expect(&rt, &ran, Status::Refused, "", NOT_BUILT, "no failing call");
+        if is_text(ran.err.taken(), BAD_PROTOCOL) {
+            expect(
+                &rt,
+                &ran,
+                Status::Refused,
+                "",
+                BAD_PROTOCOL,
+                "no failing call",
+            );
             assert!(rt; least < call);
             return Ok(());
         }
@@ -138,5 +145,5 @@ fn the_sink_of_messages_fails(rt: HostRuntime) -> Result<(), Fail> {
 fn is_unsaid(ran: &Ran) -> bool {
     ran.status == Status::Refused
         && is_text(ran.out.taken(), "")
-        && is_cut(ran.err.taken(), NOT_BUILT)
+        && is_cut(ran.err.taken(), BAD_PROTOCOL)
 }

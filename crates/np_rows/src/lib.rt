@@ -3,9 +3,19 @@
 #![tactic(auto)]
 
 #[cfg(test)]
+mod cluster_lists;
+#[cfg(test)]
 mod failures;
 #[cfg(test)]
+mod limits;
+#[cfg(test)]
+mod notes;
+#[cfg(test)]
+mod objects;
+#[cfg(test)]
 mod refusals;
+#[cfg(test)]
+mod refused_lists;
 #[cfg(test)]
 mod runs;
 #[cfg(test)]

@@ -1,7 +1,7 @@
 //! Words and inputs that are refused. Nothing goes to the sink of the table.
 
 use crate::runs::{Ran, expect, run_on};
-use crate::texts::{NOT_BUILT, TWO_PODS};
+use crate::texts::{BAD_PROTOCOL, TWO_PODS};
 use np_base::NoMemory;
 use np_cli::Status;
 use std::alloc::Global;
@@ -22,33 +22,41 @@ fn other_words(rt: HostRuntime) -> Result<(), Fail> {
     Ok(())
 }
 
-// Each row changes an accepted list.
+// Each row changes an accepted list, and has the message of its fault.
 #[test]
-fn other_forms(rt: HostRuntime) -> Result<(), Fail> {
-    for (old, new) in [
-        (r#""protocol":"TCP""#, r#""protocol":"UDP""#),
-        (r#""name":"b""#, r#""name":"a""#),
+fn other_lists(rt: HostRuntime) -> Result<(), Fail> {
+    for (old, new, message) in [
+        (r#""protocol":"TCP""#, r#""protocol":"ICMP""#, BAD_PROTOCOL),
         (
-            r#""spec":{"containers""#,
-            r#""status":{},"spec":{"containers""#,
+            r#""name":"b""#,
+            r#""name":"a""#,
+            "error: items 1 and 2: Duplicate\n",
         ),
-        (r#""port":80"#, r#""port":0"#),
-        (r#""port":80"#, r#""port":65536"#),
-        (r#""labels":{"app":"a"}"#, r#""labels":{"app":"a a"}"#),
-        (r#""kind":"Pod""#, r#""kind":"ConfigMap""#),
+        (
+            r#""port":80"#,
+            r#""port":0"#,
+            "error: item 3: spec.ingress[0].ports[0].port: BadPort\n",
+        ),
+        (
+            r#""port":80"#,
+            r#""port":65536"#,
+            "error: item 3: spec.ingress[0].ports[0].port: BadPort\n",
+        ),
+        (
+            r#""labels":{"app":"a"}"#,
+            r#""labels":{"app":"a a"}"#,
+            "error: item 1: metadata.labels: BadField\n",
+        ),
+        (
+            r#""kind":"List""#,
+            r#""kind":"PodList""#,
+            "error: input 1: NotAList\n",
+        ),
     ] {
         let text = TWO_PODS.replace(rt.alloc(), old, new)?;
         let ran = run_on(rt.alloc(), "list", text.as_bytes())?;
-        expect(&rt, &ran, Status::Refused, "", NOT_BUILT, new);
+        expect(&rt, &ran, Status::Refused, "", message, new);
     }
-    Ok(())
-}
-
-#[test]
-fn no_items(rt: HostRuntime) -> Result<(), Fail> {
-    let text = r#"{"apiVersion":"v1","items":null,"kind":"List"}"#;
-    let ran = run_on(rt.alloc(), "list", text.as_bytes())?;
-    expect(&rt, &ran, Status::Refused, "", NOT_BUILT, text);
     Ok(())
 }
 

@@ -34,6 +34,25 @@ fn rules_of_a_policy(rt: HostRuntime) -> Result<(), Fail> {
     Ok(())
 }
 
+// An empty list, and one whose pods are objects of a kind that is not read, of which the notes tell.
+#[test]
+fn no_pods(rt: HostRuntime) -> Result<(), Fail> {
+    let no_items = r#"{"apiVersion":"v1","items":null,"kind":"List"}"#;
+    let ran = run_on(rt.alloc(), "list", no_items.as_bytes())?;
+    expect(&rt, &ran, Status::Done, "", "", no_items);
+    let others = TWO_PODS.replace(rt.alloc(), r#""kind":"Pod""#, r#""kind":"ConfigMap""#)?;
+    let ran = run_on(rt.alloc(), "list", others.as_bytes())?;
+    expect(
+        &rt,
+        &ran,
+        Status::Done,
+        "",
+        "note: objects of other kinds skipped: 2\n",
+        "other kinds",
+    );
+    Ok(())
+}
+
 // What is permitted by the items of the list.
 #[test]
 fn items_of_a_list(rt: HostRuntime) -> Result<(), Fail> {

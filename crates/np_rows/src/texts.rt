@@ -26,8 +26,8 @@ pub const TWO_PODS_TABLE: &str = concat!(
     "default/b[Pod] => default/a[Pod] : All Connections\n",
 );
 
-/// The message of a list of another form than those that are read.
-pub const NOT_BUILT: &str = "error: NotBuilt\n";
+/// The message of `TWO_PODS` where its rule names another protocol than the three.
+pub const BAD_PROTOCOL: &str = "error: item 3: spec.ingress[0].ports[0].protocol: BadProtocol\n";
 
 /// The list of the items that the words of a line stand for, in order. A number stands for a policy of that name on
 /// the pods with `app` = `b`, which permits that TCP port from those with `app` = `a`. Any other word stands for a pod

@@ -1,0 +1,111 @@
+//! The top owners of pods, and the pods that templates give.
+
+use crate::estates::{described, estate_of};
+use crate::lists::{DEPLOYMENT, OWNED, POD, REPLICA_SET, list_of};
+use std::alloc::{AllocError, Global};
+use std::test::Fail;
+
+// A Deployment, its ReplicaSet and its pod, in each order: one pod, which the Deployment owns.
+#[test]
+fn owners_in_every_order(rt: HostRuntime) -> Result<(), Fail> {
+    let alloc = rt.alloc();
+    for items in [
+        [DEPLOYMENT, REPLICA_SET, POD],
+        [DEPLOYMENT, POD, REPLICA_SET],
+        [REPLICA_SET, DEPLOYMENT, POD],
+        [REPLICA_SET, POD, DEPLOYMENT],
+        [POD, DEPLOYMENT, REPLICA_SET],
+        [POD, REPLICA_SET, DEPLOYMENT],
+    ] {
+        let text = list_of(alloc, &items)?;
+        let estate = estate_of(alloc, text.as_str())?;
+        let pods = described(alloc, estate.pods())?;
+        assert_eq!(rt;
+            pods.as_str(),
+            "default/web-0-a of web[Deployment], listed\n"
+        );
+    }
+    Ok(())
+}
+
+// Without its pod the Deployment stands for one pod, and its ReplicaSet for none.
+#[test]
+fn templates_of_the_topmost(rt: HostRuntime) -> Result<(), Fail> {
+    let alloc = rt.alloc();
+    let text = list_of(alloc, &[REPLICA_SET, DEPLOYMENT])?;
+    let estate = estate_of(alloc, text.as_str())?;
+    let pods = described(alloc, estate.pods())?;
+    assert_eq!(rt; pods.as_str(), "default/web of web[Deployment], made\n");
+    assert!(rt; estate.pod("default", "web").is_none());
+    Ok(())
+}
+
+// Owners that are not listed, and a node, which is none.
+#[test]
+fn owners_that_are_not_listed(rt: HostRuntime) -> Result<(), Fail> {
+    let alloc = rt.alloc();
+    for (owner, pods) in [
+        (
+            r#""kind":"StatefulSet","name":"db""#,
+            "default/a of db[StatefulSet], listed\n",
+        ),
+        (
+            r#""kind":"Workflow","name":"w""#,
+            "default/a of w[Workflow], listed\n",
+        ),
+        (
+            r#""kind":"Node","name":"n""#,
+            "default/a of a[Pod], listed\n",
+        ),
+        (
+            r#""kind":"ReplicaSet","name":"web-0""#,
+            "default/a of web[Deployment], listed\n",
+        ),
+    ] {
+        let pod = OWNED.replace(alloc, "#", owner)?;
+        let text = list_of(alloc, &[pod.as_str(), REPLICA_SET])?;
+        let estate = estate_of(alloc, text.as_str())?;
+        assert_eq!(rt; described(alloc, estate.pods())?.as_str(), pods);
+        assert!(rt; estate.pod("default", "a") == Some(0));
+    }
+    Ok(())
+}
+
+// Each of two thousand ReplicaSets is owned by the next one.
+#[test]
+fn long_chains(rt: HostRuntime) -> Result<(), Fail> {
+    let alloc = rt.alloc();
+    let text = chain(alloc, 2000)?;
+    let estate = estate_of(alloc, text.as_str())?;
+    let pods = described(alloc, estate.pods())?;
+    assert_eq!(rt; pods.as_str(), "default/a of r1999[ReplicaSet], listed\n");
+    Ok(())
+}
+
+// A pod owned by the first of so many ReplicaSets, of which each is owned by the next one.
+fn chain(alloc: Global, count: usize) -> Result<String, AllocError> {
+    let mut text = String::from_str(alloc, r#"{"apiVersion":"v1","kind":"List","items":["#)?;
+    text.push_str(
+        OWNED
+            .replace(alloc, "#", r#""kind":"ReplicaSet","name":"r0""#)?
+            .as_str(),
+    )?;
+    for place in 0..count {
+        text.push_str(link(alloc, place, count)?.as_str())?;
+    }
+    text.push_str("]}")?;
+    Ok(text)
+}
+
+// The ReplicaSet at a place of the chain, behind a comma.
+fn link(alloc: Global, place: usize, count: usize) -> Result<String, AllocError> {
+    let head = r#"{"apiVersion":"apps/v1","kind":"ReplicaSet","metadata":{"name":"#;
+    let next = place.saturating_add(1);
+    if next < count {
+        format!(in alloc;
+            ",{head}\"r{place}\",\"ownerReferences\":[{{\"controller\":true,\"kind\":\"ReplicaSet\",\"name\":\"r{next}\"}}]}}}}"
+        )
+    } else {
+        format!(in alloc; ",{head}\"r{place}\"}}}}")
+    }
+}

@@ -1,0 +1,59 @@
+//! The greatest lists that are read, and one more.
+
+use crate::objects::list_of_many;
+use crate::runs::{expect, run_on};
+use np_cli::Status;
+use std::alloc::{AllocError, Global};
+use std::test::Fail;
+
+const CONFIG_MAP: &str = r#"{"apiVersion":"v1","kind":"ConfigMap"}"#;
+
+const POD: &str = r#"{"apiVersion":"v1","kind":"Pod","metadata":{"name":"p#"},"spec":{}}"#;
+
+#[test]
+fn most_items(rt: HostRuntime) -> Result<(), Fail> {
+    let text = list_of_many(rt.alloc(), 20_000, CONFIG_MAP)?;
+    let ran = run_on(rt.alloc(), "list", text.as_bytes())?;
+    let notes = "note: objects of other kinds skipped: 20000\n";
+    expect(&rt, &ran, Status::Done, "", notes, "20000 items");
+    let text = list_of_many(rt.alloc(), 20_001, CONFIG_MAP)?;
+    let ran = run_on(rt.alloc(), "list", text.as_bytes())?;
+    let said = "error: TooManyItems 20001\n";
+    expect(&rt, &ran, Status::Refused, "", said, "20001 items");
+    Ok(())
+}
+
+#[test]
+fn many_pods(rt: HostRuntime) -> Result<(), Fail> {
+    let text = list_of_many(rt.alloc(), 2_001, POD)?;
+    let ran = run_on(rt.alloc(), "list", text.as_bytes())?;
+    let said = "error: TooManyWorkloads 2001\n";
+    expect(&rt, &ran, Status::Refused, "", said, "2001 pods");
+    Ok(())
+}
+
+// Lists in lists, in an object in a list of the list.
+#[test]
+fn deepest_nesting(rt: HostRuntime) -> Result<(), Fail> {
+    let text = nested(rt.alloc(), 124)?;
+    let ran = run_on(rt.alloc(), "list", text.as_bytes())?;
+    let notes = "note: objects of other kinds skipped: 1\n";
+    expect(&rt, &ran, Status::Done, "", notes, "124 lists");
+    let text = nested(rt.alloc(), 125)?;
+    let ran = run_on(rt.alloc(), "list", text.as_bytes())?;
+    let said = "error: input 1: NotJson\n";
+    expect(&rt, &ran, Status::Refused, "", said, "125 lists");
+    Ok(())
+}
+
+// A list of one object that is not read, in which so many lists stand in one another.
+fn nested(alloc: Global, depth: usize) -> Result<String, AllocError> {
+    let mut text = String::from_str(
+        alloc,
+        r#"{"apiVersion":"v1","kind":"List","items":[{"apiVersion":"v1","kind":"ConfigMap","x":"#,
+    )?;
+    text.push_str("[".repeat(alloc, depth)?.as_str())?;
+    text.push_str("]".repeat(alloc, depth)?.as_str())?;
+    text.push_str("}]}")?;
+    Ok(text)
+}

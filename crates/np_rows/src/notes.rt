@@ -1,0 +1,44 @@
+//! What is said of lists that are accepted: which objects were left out.
+
+use crate::objects::{CONFIG_MAP, FINISHED_HOST_POD, FINISHED_POD, HOST_POD, POD, list_text};
+use crate::runs::{expect, run_on};
+use np_cli::Status;
+use std::test::Fail;
+
+// A list without items, in its two forms.
+#[test]
+fn no_items(rt: HostRuntime) -> Result<(), Fail> {
+    for text in [
+        r#"{"apiVersion":"v1","items":[],"kind":"List"}"#,
+        r#"{"apiVersion":"v1","kind":"List"}"#,
+        r#"{"apiVersion":"v1","items":null,"kind":"List"}"#,
+    ] {
+        let ran = run_on(rt.alloc(), "list", text.as_bytes())?;
+        expect(&rt, &ran, Status::Done, "", "", text);
+    }
+    Ok(())
+}
+
+#[test]
+fn objects_left_out(rt: HostRuntime) -> Result<(), Fail> {
+    let items = [POD, HOST_POD, FINISHED_POD, CONFIG_MAP];
+    let text = list_text(rt.alloc(), &items)?;
+    let ran = run_on(rt.alloc(), "list", text.as_bytes())?;
+    let notes = concat!(
+        "note: host network pods left out: 1\n",
+        "note: finished pods left out: 1\n",
+        "note: objects of other kinds skipped: 1\n",
+    );
+    expect(&rt, &ran, Status::Done, "", notes, "three left out");
+    Ok(())
+}
+
+// A finished pod on the network of its node is counted once.
+#[test]
+fn finished_on_the_host(rt: HostRuntime) -> Result<(), Fail> {
+    let text = list_text(rt.alloc(), &[FINISHED_HOST_POD])?;
+    let ran = run_on(rt.alloc(), "list", text.as_bytes())?;
+    let notes = "note: host network pods left out: 1\n";
+    expect(&rt, &ran, Status::Done, "", notes, "both at once");
+    Ok(())
+}
