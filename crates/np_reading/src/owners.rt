@@ -40,6 +40,12 @@ fn templates_of_the_topmost(rt: HostRuntime) -> Result<(), Fail> {
     Ok(())
 }
 
+// A ReplicaSet without a template, of a Deployment that is not listed.
+const BARE_SET: &str = concat!(
+    r#"{"apiVersion":"apps/v1","kind":"ReplicaSet","metadata":{"name":"web-0","ownerReferences":["#,
+    r#"{"controller":true,"kind":"Deployment","name":"web"}]}}"#,
+);
+
 // Owners that are not listed, and a node, which is none.
 #[test]
 fn owners_that_are_not_listed(rt: HostRuntime) -> Result<(), Fail> {
@@ -63,7 +69,7 @@ fn owners_that_are_not_listed(rt: HostRuntime) -> Result<(), Fail> {
         ),
     ] {
         let pod = OWNED.replace(alloc, "#", owner)?;
-        let text = list_of(alloc, &[pod.as_str(), REPLICA_SET])?;
+        let text = list_of(alloc, &[pod.as_str(), BARE_SET])?;
         let estate = estate_of(alloc, text.as_str())?;
         assert_eq!(rt; described(alloc, estate.pods())?.as_str(), pods);
         assert!(rt; estate.pod("default", "a") == Some(0));
