@@ -13,6 +13,15 @@ pub fn estate_of(alloc: Global, text: &str) -> Result<Estate, Fail> {
     Ok(Estate::read(alloc, &texts)?)
 }
 
+/// The place of the listed pod of a name. No list that is read has more than 20,000 pods.
+pub fn place_of(estate: &Estate, namespace: &str, name: &str) -> Option<u32> {
+    if estate.pods().len() <= 20_000 {
+        estate.pod(namespace, name)
+    } else {
+        None
+    }
+}
+
 /// A line for each pod: its namespace and name, its top owner, and whether it is listed or made from a template.
 pub fn described(alloc: Global, pods: &[Pod]) -> Result<String, AllocError> {
     let mut text = String::new(alloc);

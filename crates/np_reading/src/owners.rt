@@ -1,6 +1,6 @@
 //! The top owners of pods, and the pods that templates give.
 
-use crate::estates::{described, estate_of};
+use crate::estates::{described, estate_of, place_of};
 use crate::lists::{DEPLOYMENT, OWNED, POD, REPLICA_SET, list_of};
 use std::alloc::{AllocError, Global};
 use std::test::Fail;
@@ -36,7 +36,7 @@ fn templates_of_the_topmost(rt: HostRuntime) -> Result<(), Fail> {
     let estate = estate_of(alloc, text.as_str())?;
     let pods = described(alloc, estate.pods())?;
     assert_eq!(rt; pods.as_str(), "default/web of web[Deployment], made\n");
-    assert!(rt; estate.pod("default", "web").is_none());
+    assert!(rt; place_of(&estate, "default", "web").is_none());
     Ok(())
 }
 
@@ -72,7 +72,7 @@ fn owners_that_are_not_listed(rt: HostRuntime) -> Result<(), Fail> {
         let text = list_of(alloc, &[pod.as_str(), BARE_SET])?;
         let estate = estate_of(alloc, text.as_str())?;
         assert_eq!(rt; described(alloc, estate.pods())?.as_str(), pods);
-        assert!(rt; estate.pod("default", "a") == Some(0));
+        assert!(rt; place_of(&estate, "default", "a") == Some(0));
     }
     Ok(())
 }
