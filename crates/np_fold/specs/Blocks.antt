@@ -1,0 +1,32 @@
+-- The blocks of `networks` peers.
+use Rattle.std.specs.Prelude.{List, [], ◌++◌, Option, Some, None}
+use Rattle.std.specs.List.{flat_map}
+use Rattle.np_addr.specs.declared.cidr.Cidr.{Cidr}
+use Rattle.np_estate.specs.declared.lists.EstateLists.{EstateLists}
+use Rattle.np_policies.specs.declared.admin_policy.AdminPeer.{AdminPeer}
+use Rattle.np_policies.specs.declared.admin_policy.AdminPeer.TheVariants.{Pods, Networks}
+use Rattle.np_policies.specs.declared.admin_policy.AdminPolicy.{AdminPolicy}
+use Rattle.np_policies.specs.declared.admin_policy.AdminRule.{AdminRule}
+use Rattle.np_policies.specs.declared.admin_policy.BasePolicy.{BasePolicy}
+
+abbrev pub cidrs_of_peer : AdminPeer → List Cidr
+cidrs_of_peer (Pods namespaces pods) = []
+cidrs_of_peer (Networks cidrs) = cidrs
+
+abbrev pub cidrs_of_rule : AdminRule → List Cidr
+cidrs_of_rule rule = flat_map cidrs_of_peer rule.peers
+
+abbrev pub cidrs_of_admin_policy : AdminPolicy → List Cidr
+cidrs_of_admin_policy policy = flat_map cidrs_of_rule policy.ingress ++ flat_map cidrs_of_rule policy.egress
+
+abbrev pub cidrs_of_base_policy : BasePolicy → List Cidr
+cidrs_of_base_policy policy = flat_map cidrs_of_rule policy.ingress ++ flat_map cidrs_of_rule policy.egress
+
+-- those of a baseline that may be missing
+abbrev pub cidrs_of_baseline : Option BasePolicy → List Cidr
+cidrs_of_baseline None = []
+cidrs_of_baseline (Some policy) = cidrs_of_base_policy policy
+
+-- the blocks of all `networks` peers
+abbrev pub cidrs_of_estate : EstateLists → List Cidr
+cidrs_of_estate lists = flat_map cidrs_of_admin_policy lists.admin_policies ++ cidrs_of_baseline lists.baseline

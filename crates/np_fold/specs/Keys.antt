@@ -1,0 +1,82 @@
+-- The keys of labels that selectors name.
+use Rattle.std.specs.Prelude.{ℕ, List, [], ◌++◌, map, fold, Option, Some, None}
+use Rattle.std.specs.BTreeSet.{insert_key}
+use Rattle.std.specs.Cmp.Lexicographic.{slice_cmp}
+use Rattle.std.specs.List.{flat_map}
+use Rattle.std.specs.Ordering.{nat_cmp}
+use Rattle.np_estate.specs.declared.lists.EstateLists.{EstateLists}
+use Rattle.np_labels.specs.declared.selector.Selector.{Selector}
+use Rattle.np_objects.specs.declared.service.ServiceItem.{ServiceItem}
+use Rattle.np_policies.specs.declared.admin_policy.AdminPeer.{AdminPeer}
+use Rattle.np_policies.specs.declared.admin_policy.AdminPeer.TheVariants as admin
+use Rattle.np_policies.specs.declared.admin_policy.AdminPolicy.{AdminPolicy}
+use Rattle.np_policies.specs.declared.admin_policy.AdminRule.{AdminRule}
+use Rattle.np_policies.specs.declared.admin_policy.BasePolicy.{BasePolicy}
+use Rattle.np_policies.specs.declared.admin_policy.Subject.{Subject}
+use Rattle.np_policies.specs.declared.network_policy.NetPeer.{NetPeer}
+use Rattle.np_policies.specs.declared.network_policy.NetPeer.TheVariants as net
+use Rattle.np_policies.specs.declared.network_policy.NetPolicy.{NetPolicy}
+use Rattle.np_policies.specs.declared.network_policy.NetRule.{NetRule}
+
+-- ---- selectors
+
+abbrev pub keys_of_selector : Selector → List (List ℕ)
+keys_of_selector selector = map (λ requirement. requirement.key) selector.requirements
+
+-- those of a selector that may be missing
+abbrev pub keys_of_optional : Option Selector → List (List ℕ)
+keys_of_optional None = []
+keys_of_optional (Some selector) = keys_of_selector selector
+
+-- ---- NetworkPolicies
+
+abbrev pub keys_of_net_peer : NetPeer → List (List ℕ)
+keys_of_net_peer (net.Pods namespaces pods) = keys_of_optional namespaces ++ keys_of_optional pods
+keys_of_net_peer (net.Block cidr excepts) = []
+
+abbrev pub keys_of_net_rule : NetRule → List (List ℕ)
+keys_of_net_rule rule = flat_map keys_of_net_peer rule.peers
+
+-- those of a direction that may be missing
+abbrev pub keys_of_net_direction : Option (List NetRule) → List (List ℕ)
+keys_of_net_direction None = []
+keys_of_net_direction (Some rules) = flat_map keys_of_net_rule rules
+
+abbrev pub keys_of_net_policy : NetPolicy → List (List ℕ)
+keys_of_net_policy policy = keys_of_selector policy.subject ++ keys_of_net_direction policy.ingress ++ keys_of_net_direction policy.egress
+
+-- ---- admin policies and the baseline
+
+abbrev pub keys_of_admin_peer : AdminPeer → List (List ℕ)
+keys_of_admin_peer (admin.Pods namespaces pods) = keys_of_selector namespaces ++ keys_of_selector pods
+keys_of_admin_peer (admin.Networks cidrs) = []
+
+abbrev pub keys_of_admin_rule : AdminRule → List (List ℕ)
+keys_of_admin_rule rule = flat_map keys_of_admin_peer rule.peers
+
+abbrev pub keys_of_subject : Subject → List (List ℕ)
+keys_of_subject subject = keys_of_selector subject.namespaces ++ keys_of_selector subject.pods
+
+abbrev pub keys_of_admin_policy : AdminPolicy → List (List ℕ)
+keys_of_admin_policy policy = keys_of_subject policy.subject ++ flat_map keys_of_admin_rule policy.ingress ++ flat_map keys_of_admin_rule policy.egress
+
+abbrev pub keys_of_base_policy : BasePolicy → List (List ℕ)
+keys_of_base_policy policy = keys_of_subject policy.subject ++ flat_map keys_of_admin_rule policy.ingress ++ flat_map keys_of_admin_rule policy.egress
+
+-- those of a baseline that may be missing
+abbrev pub keys_of_baseline : Option BasePolicy → List (List ℕ)
+keys_of_baseline None = []
+keys_of_baseline (Some policy) = keys_of_base_policy policy
+
+-- ---- all of an estate
+
+abbrev pub keys_of_service : ServiceItem → List (List ℕ)
+keys_of_service service = keys_of_optional service.selector
+
+-- the keys that a selector of some policy or service names
+abbrev pub keys_of_estate : EstateLists → List (List ℕ)
+keys_of_estate lists = flat_map keys_of_net_policy lists.net_policies ++ flat_map keys_of_admin_policy lists.admin_policies ++ keys_of_baseline lists.baseline ++ flat_map keys_of_service lists.services
+
+-- keys in ascending order, and more of them, each put in at its place
+abbrev pub with_keys : List (List ℕ) → List (List ℕ) → List (List ℕ)
+with_keys keys more = fold (insert_key (slice_cmp nat_cmp)) keys more

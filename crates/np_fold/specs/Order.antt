@@ -1,0 +1,51 @@
+-- The order of traits.
+use Rattle.std.specs.Prelude.{ℕ, List}
+use Rattle.std.specs.Cmp.{IsTotalOrder, bool_cmp_total, nat_cmp_total, on_total, then_total}
+use Rattle.std.specs.Cmp.Lexicographic.{slice_cmp, lists_total, nat_list_cmp_total, options_total}
+use Rattle.std.specs.Option.{option_cmp}
+use Rattle.std.specs.Ordering.{bool_cmp, nat_cmp, on, then_cmp}
+use Rattle.std.specs.declared.cmp.Ordering.{Ordering}
+use Rattle.np_conns.specs.declared.proto.Proto.{Proto}
+use Rattle.np_conns.specs.declared.proto.Proto.TheVariants.{Tcp, Udp, Sctp}
+use Rattle.np_fold.specs.declared.traits.Traits.{Traits}
+use Rattle.np_objects.specs.declared.named_port.NamedPort.{NamedPort}
+use Rattle.np_owners.specs.declared.owner.Owner.{Owner}
+
+-- by their bytes
+abbrev pub compare_texts : List ℕ → List ℕ → Ordering
+compare_texts = slice_cmp nat_cmp
+
+-- by kind, and then by name
+abbrev pub compare_owners : Owner → Owner → Ordering
+compare_owners = then_cmp (on (λ owner. owner.kind) compare_texts) (on (λ owner. owner.name) compare_texts)
+
+-- the place of a protocol among the three
+abbrev pub rank : Proto → ℕ
+rank Tcp = 0
+rank Udp = 1
+rank Sctp = 2
+
+-- by name, then by protocol, and then by number
+abbrev pub compare_ports : NamedPort → NamedPort → Ordering
+compare_ports = then_cmp (then_cmp (on (λ port. port.name) compare_texts) (on (λ port. rank port.proto) nat_cmp)) (on (λ port. port.number) nat_cmp)
+
+-- field by field: a list goes by its first difference, and a missing value stands before all others
+abbrev pub compare_traits : Traits → Traits → Ordering
+compare_traits = then_cmp (then_cmp (then_cmp (then_cmp (on (λ traits. traits.namespace) compare_texts) (on (λ traits. traits.owner) compare_owners)) (on (λ traits. traits.values) (slice_cmp (option_cmp compare_texts)))) (on (λ traits. traits.ports) (slice_cmp compare_ports))) (on (λ traits. traits.blocks) (slice_cmp bool_cmp))
+
+-- ---- these orders are total
+
+owners_total : IsTotalOrder compare_owners
+owners_total = then_total (on_total (λ (o : Owner). o.kind) nat_list_cmp_total) (on_total (λ (o : Owner). o.name) nat_list_cmp_total)
+
+ports_total : IsTotalOrder compare_ports
+ports_total = then_total (then_total (on_total (λ (p : NamedPort). p.name) nat_list_cmp_total) (on_total (λ (p : NamedPort). rank p.proto) nat_cmp_total)) (on_total (λ (p : NamedPort). p.number) nat_cmp_total)
+
+pub traits_total : IsTotalOrder compare_traits
+traits_total =
+    then_total (then_total (then_total (then_total
+    (on_total (λ (t : Traits). t.namespace) nat_list_cmp_total)
+    (on_total (λ (t : Traits). t.owner) owners_total))
+    (on_total (λ (t : Traits). t.values) (lists_total (options_total nat_list_cmp_total))))
+    (on_total (λ (t : Traits). t.ports) (lists_total ports_total)))
+    (on_total (λ (t : Traits). t.blocks) (lists_total bool_cmp_total))
