@@ -45,9 +45,9 @@ fn finished_jobs(rt: HostRuntime) -> Result<(), Fail> {
     Ok(())
 }
 
-// A named port of two pods, and an admin policy of a smaller priority that is looked at first.
+// One name of ports at two pods, each with its own number.
 #[test]
-fn named_ports_and_tiers(rt: HostRuntime) -> Result<(), Fail> {
+fn named_ports(rt: HostRuntime) -> Result<(), Fail> {
     let items = [
         r#"{"apiVersion":"v1","kind":"Pod","metadata":{"name":"x"},"spec":{"containers":[{"ports":[{"name":"http","containerPort":8080,"protocol":"TCP"}]}]}}"#,
         r#"{"apiVersion":"v1","kind":"Pod","metadata":{"name":"y"},"spec":{"containers":[{"ports":[{"name":"http","containerPort":80,"protocol":"TCP"}]}]}}"#,

@@ -10,15 +10,15 @@ pub fn list_text(alloc: Global, items: &[&str]) -> Result<String, AllocError> {
     Ok(text)
 }
 
-/// A list of so many items of one text, in which `#` stands for the number of the item, from 1.
+/// A list of so many items of one text, in which `#` stands for the place of the item, from 0.
 pub fn list_of_many(alloc: Global, count: usize, item: &str) -> Result<String, AllocError> {
     let mut text = String::from_str(alloc, r#"{"apiVersion":"v1","items":["#)?;
     for place in 0..count {
         if 0 < place {
             text.push(',')?;
         }
-        let number = format!(in alloc; "{place}")?;
-        text.push_str(item.replace(alloc, "#", number.as_str())?.as_str())?;
+        let written = format!(in alloc; "{place}")?;
+        text.push_str(item.replace(alloc, "#", written.as_str())?.as_str())?;
     }
     text.push_str(r#"],"kind":"List"}"#)?;
     Ok(text)
