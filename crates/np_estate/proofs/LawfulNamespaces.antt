@@ -19,6 +19,7 @@ use Rattle.np_json.specs.Words.{has_slash, is_name, is_word}
 use Rattle.np_labels.proofs.PairLists.{value_of-labels_of}
 use Rattle.np_labels.specs.Labels.{value_of, with_pair}
 use Rattle.np_labels.specs.declared.pair.Pair.{Pair}
+use Rattle.np_objects.proofs.WellLemmas.{with_pair-well}
 use Rattle.np_objects.specs.WellFormed.{is_well_label, is_well_labels}
 use Rattle.np_objects.specs.declared.object.Object.TheVariants as object
 use Rattle.np_owners.specs.Names.{place_of}
@@ -47,24 +48,6 @@ SaysItsNamespace-from_labels items pod has = rw has (value_of-namespace_labels i
 pub well_at : (items : List Item) → All IsWellItem items → (place : ℕ) (one : Item) → slice_get items place ≡ Some one → IsWellItem one
 well_at items all place one at =
     subst IsWellItem (get_or_from_slice_get items place one one at) (all place one (slice_get_within items place one at))
-
-with_pair-well : (pairs : List Pair) (pair : Pair) → is_well_labels pairs ≡ true → is_well_label pair ≡ true → is_well_labels (with_pair pairs pair) ≡ true
-with_pair-well [] pair all is = and_from (is_well_label pair) true is refl
-with_pair-well (first ∷ pairs) pair all is = by (slice_cmp nat_cmp pair.key first.key) (with_pair-well pairs pair parts.1 is)
-  where
-    parts : (is_well_label first ≡ true) × (is_well_labels pairs ≡ true)
-    parts = and_parts (is_well_label first) (is_well_labels pairs) all
-
-    key : (not (length first.key == 0) && is_word first.key) ≡ true
-    key = (and_parts (not (length first.key == 0) && is_word first.key) (is_word first.value) parts.0).0
-
-    value : is_word pair.value ≡ true
-    value = (and_parts (not (length pair.key == 0) && is_word pair.key) (is_word pair.value) is).1
-
-    by : (order : Ordering) → is_well_labels (with_pair pairs pair) ≡ true → is_well_labels (match_ordering order (pair ∷ first ∷ pairs) (record first { value = pair.value } ∷ pairs) (first ∷ with_pair pairs pair)) ≡ true
-    by Less later = and_from (is_well_label pair) (is_well_labels (first ∷ pairs)) is all
-    by Equal later = and_from (not (length first.key == 0) && is_word first.key && is_word pair.value) (is_well_labels pairs) (and_from (not (length first.key == 0) && is_word first.key) (is_word pair.value) key value) parts.1
-    by Greater later = and_from (is_well_label first) (is_well_labels (with_pair pairs pair)) parts.0 later
 
 fold-well : (made pairs : List Pair) → is_well_labels made ≡ true → is_well_labels pairs ≡ true → is_well_labels (fold with_pair made pairs) ≡ true
 fold-well made [] is all = is

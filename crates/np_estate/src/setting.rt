@@ -6,7 +6,7 @@ ghost use Rattle.np_owners.specs.Names.{HoldsPlaces};
 ghost use Rattle.np_owners.specs.Owners.{top_owners};
 
 use crate::namespaces::namespace_labels;
-use np_base::NoMemory;
+use np_base::{NoMemory, TryCopy};
 use np_items::Item;
 use np_labels::Labels;
 use np_objects::{ControllerItem, Object};
@@ -82,18 +82,8 @@ fn setting_of(
     let namespace_labels = namespace_labels(alloc, items, places, &name.namespace)?;
     Ok(Some(Setting {
         namespace_labels,
-        owner: copy_of(owner)?,
+        owner: owner.try_copy(alloc)?,
     }))
-}
-
-// An equal owner in memory of its own.
-fn copy_of(owner: &Owner) -> Result<Owner, NoMemory>
-    ensures { IfOk result (λ made. made ≡ owner.now) }
-{
-    Ok(Owner {
-        kind: owner.kind.copy()?,
-        name: owner.name.copy()?,
-    })
 }
 
 // Whether an item gives a pod of the estate; `makes` says whether it is a controller that stands for a pod.

@@ -76,7 +76,7 @@ flattened p (Some found) all = all
 -- ---- labels
 
 -- one more label
-with_pair-well : (pairs : List Pair) (pair : Pair) → is_well_labels pairs ≡ true → is_well_label pair ≡ true → is_well_labels (with_pair pairs pair) ≡ true
+pub with_pair-well : (pairs : List Pair) (pair : Pair) → is_well_labels pairs ≡ true → is_well_label pair ≡ true → is_well_labels (with_pair pairs pair) ≡ true
 with_pair-well [] pair all is = and_from (is_well_label pair) true is refl
 with_pair-well (first ∷ pairs) pair all is = by (slice_cmp nat_cmp pair.key first.key) (with_pair-well pairs pair (and_parts (is_well_label first) (is_well_labels pairs) all).1 is)
   where
