@@ -1,0 +1,4 @@
+pub mod ApartLemmas
+pub mod CountLemmas
+pub mod NumberLemmas
+pub mod ThingLemmas

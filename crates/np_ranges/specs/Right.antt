@@ -1,0 +1,74 @@
+-- Lists of ranges of numbers that say which ports pass at each number of a space.
+use Rattle.std.specs.Prelude.{ℕ, zero, suc, ◌≡◌, ◌≢◌, ◌≤◌, ◌+◌, ◌-◌, List, [], ◌∷◌, map, Bool, ◌&&◌, ◌==◌, nat_le, Option, Some, None, if◌then◌else◌}
+use Rattle.std.specs.Cmp.Lexicographic.{pointwise}
+use Rattle.np_base.specs.declared.range.Range.{Range}
+use Rattle.np_conns.specs.Conns.{Conns}
+use Rattle.np_conns.specs.ConnsText.{spans_of}
+use Rattle.np_conns.specs.declared.port_spot.PortSpot.{PortSpot}
+use Rattle.np_conns.specs.declared.proto.Proto.TheVariants.{Tcp, Udp, Sctp}
+use Rattle.np_pieces.specs.declared.piece.Piece.{Piece}
+
+-- ---- ranges
+
+-- the maximal runs of those ports of each protocol whose spots pass
+abbrev pub conns_of : (PortSpot → Bool) → Conns
+conns_of passes = record { tcp = spans_of passes Tcp; udp = spans_of passes Udp; sctp = spans_of passes Sctp }
+
+-- a range of numbers, ends included, and the connections that pass at each of them
+pub record Stretch : Type 0 where
+  pub lo : ℕ
+  pub hi : ℕ
+  pub conns : Conns
+
+abbrev pub is_within : ℕ → Stretch → Bool
+is_within n stretch = nat_le stretch.lo n && nat_le n stretch.hi
+
+-- ---- the right list
+
+-- A stretch begins at a number and is not empty, at each of its numbers its connections pass and no others, and they are not those of the stretch before it.
+pub record IsNext (passes : ℕ → PortSpot → Bool) (from : ℕ) (before : Option Conns) (stretch : Stretch) : Type 0 where
+  pub start : stretch.lo ≡ from
+  pub filled : stretch.lo ≤ stretch.hi
+  pub conns : (n : ℕ) → stretch.lo ≤ n → n ≤ stretch.hi → conns_of (passes n) ≡ stretch.conns
+  pub differs : before ≢ Some stretch.conns
+
+-- the first stretch begins at a number, each next one begins one past the end of the one before, and the last ends one below `to`
+abbrev pub AreRight : (ℕ → PortSpot → Bool) → ℕ → ℕ → Option Conns → List Stretch → Type 0
+AreRight passes from to before [] = from ≡ to
+AreRight passes from to before (stretch ∷ stretches) = IsNext passes from before stretch × AreRight passes (stretch.hi + 1) to (Some stretch.conns) stretches
+
+-- the stretches are the right list of a space
+abbrev pub IsRight : (ℕ → PortSpot → Bool) → ℕ → ℕ → List Stretch → Type 0
+IsRight passes low high stretches = AreRight passes low (high + 1) None stretches
+
+-- ---- the walk that builds it
+
+abbrev pub are_same_range : Range ℕ → Range ℕ → Bool
+are_same_range a b = a.lo == b.lo && a.hi == b.hi
+
+abbrev pub are_same_conns : Conns → Conns → Bool
+are_same_conns a b = pointwise are_same_range a.tcp b.tcp && pointwise are_same_range a.udp b.udp && pointwise are_same_range a.sctp b.sctp
+
+-- a number alone
+abbrev pub stretch_at : (ℕ → PortSpot → Bool) → ℕ → Stretch
+stretch_at passes n = record { lo = n; hi = n; conns = conns_of (passes n) }
+
+-- On through so many more numbers: the last stretch grows where the same connections pass, and a new one begins where they change.
+abbrev pub walk_on : (ℕ → PortSpot → Bool) → Stretch → ℕ → List Stretch
+walk_on passes last zero = last ∷ []
+walk_on passes last (suc count) =
+    if are_same_conns (conns_of (passes (last.hi + 1))) last.conns
+    then walk_on passes (record last { hi = last.hi + 1 }) count
+    else last ∷ walk_on passes (stretch_at passes (last.hi + 1)) count
+
+-- from the least number of a space to the greatest
+unfoldable pub walk : (ℕ → PortSpot → Bool) → ℕ → ℕ → List Stretch
+walk passes low high = walk_on passes (stretch_at passes low) (high - low)
+
+-- ---- pieces
+
+abbrev pub stretch_of : {P : Type 0} → (P → ℕ) → Piece P Conns → Stretch
+stretch_of number_of piece = record { lo = number_of piece.lo; hi = number_of piece.hi; conns = piece.value }
+
+abbrev pub stretches_of : {P : Type 0} → (P → ℕ) → List (Piece P Conns) → List Stretch
+stretches_of number_of pieces = map (stretch_of number_of) pieces
