@@ -1,2 +1,9 @@
+pub mod AlikeLemmas
+pub mod FoldLemmas
+pub mod MemberLemmas
+pub mod NumberLemmas
 pub mod OrderLemmas
+pub mod OwnerNameLemmas
+pub mod PartLemmas
 pub mod TraitLemmas
+pub mod WorkloadLemmas

@@ -47,7 +47,7 @@ lists R only (x ∷ xs) (y ∷ ys) ties = rw (only x y (first_ties (R x y) (slic
 texts : TiesOnlyEqual compare_texts
 texts = lists nat_cmp numbers
 
-protos : (x y : Proto) → rank x ≡ rank y → x ≡ y
+pub protos : (x y : Proto) → rank x ≡ rank y → x ≡ y
 protos Tcp Tcp same = refl
 protos Tcp Udp same = absurd (omega (arith, same))
 protos Tcp Sctp same = absurd (omega (arith, same))

@@ -1,6 +1,9 @@
 -- When no rule can tell two pods apart.
-use Rattle.std.specs.Prelude.{◌≡◌, ℕ, List, Bool, true, All}
-use Rattle.std.specs.List.{list_any}
+use Rattle.std.specs.Prelude.{◌≡◌, ℕ, List, Bool, true, ◌&&◌, ◌==◌, All}
+use Rattle.std.specs.Cmp.Lexicographic.{pointwise}
+use Rattle.std.specs.List.{list_all, list_any}
+use Rattle.std.specs.Option.{option_eq}
+use Rattle.std.specs.Str.{bytes_eq}
 use Rattle.np_addr.specs.Addresses.{cidr_has}
 use Rattle.np_addr.specs.declared.address.Address.{Address}
 use Rattle.np_addr.specs.declared.cidr.Cidr.{Cidr}
@@ -8,8 +11,12 @@ use Rattle.np_estate.specs.declared.lists.EstateLists.{EstateLists}
 use Rattle.np_estate.specs.declared.pod.Pod.{Pod}
 use Rattle.np_fold.specs.Blocks.{cidrs_of_estate}
 use Rattle.np_fold.specs.Keys.{keys_of_estate}
+use Rattle.np_fold.specs.Order.{rank}
 use Rattle.np_labels.specs.Labels.{value_of}
 use Rattle.np_labels.specs.Selectors.{is_listed}
+use Rattle.np_objects.specs.declared.named_port.NamedPort.{NamedPort}
+use Rattle.np_owners.specs.declared.owner.Owner.{Owner}
+use mathlib.Core.Bool.{beq}
 
 -- whether some of the addresses is in the block
 abbrev pub is_in : List Address → Cidr → Bool
@@ -26,3 +33,31 @@ pub record IsSameKind (lists : EstateLists) (a b : Pod) : Type 0 where
 pub record Alike (lists : EstateLists) (a b : Pod) : Type 0 where
   pub kind : IsSameKind lists a b
   pub owner : a.owner ≡ b.owner
+
+-- ---- the same as questions
+
+abbrev pub are_same_owner : Owner → Owner → Bool
+are_same_owner a b = bytes_eq a.kind b.kind && bytes_eq a.name b.name
+
+abbrev pub are_same_port : NamedPort → NamedPort → Bool
+are_same_port a b = bytes_eq a.name b.name && rank a.proto == rank b.proto && a.number == b.number
+
+-- whether two pods have the same value of a key, or neither has the key
+abbrev pub have_same_value : Pod → Pod → List ℕ → Bool
+have_same_value a b key = option_eq bytes_eq (value_of a.labels key) (value_of b.labels key)
+
+-- whether both or neither of two pods have an address in a block
+abbrev pub are_both_in : Pod → Pod → Cidr → Bool
+are_both_in a b cidr = beq (is_in a.addresses cidr) (is_in b.addresses cidr)
+
+-- whether two pods are of one kind
+unfoldable pub are_same_kind : EstateLists → Pod → Pod → Bool
+are_same_kind lists a b =
+    bytes_eq a.namespace b.namespace
+    && list_all (have_same_value a b) (keys_of_estate lists)
+    && pointwise are_same_port a.ports b.ports
+    && list_all (are_both_in a b) (cidrs_of_estate lists)
+
+-- whether two pods are alike
+unfoldable pub are_alike : EstateLists → Pod → Pod → Bool
+are_alike lists a b = are_same_kind lists a b && are_same_owner a.owner b.owner

@@ -1,5 +1,5 @@
 //! The keys of labels that rules look at.
-ghost use Rattle.std.specs.Prelude.{◌≡◌, List, ℕ, IfOk, OnOk};
+ghost use Rattle.std.specs.Prelude.{◌≡◌, [], List, ℕ, IfOk, OnOk};
 ghost use Rattle.std.specs.List.{flat_map};
 ghost use Rattle.std.specs.List.Sorted.{IsStrictlySortedBy};
 ghost use Rattle.std.specs.Option.{option_copied};
@@ -24,6 +24,7 @@ pub fn relevant_keys(alloc: Global, estate: &Estate) -> Result<Seq<Text>, NoMemo
     ensures members { IfOk result (λ made. (key : List ℕ) →
         is_listed made key ≡ is_listed (spec.keys_of_estate estate.now) key) }
     ensures ascending { IfOk result (IsStrictlySortedBy (slice_cmp nat_cmp)) }
+    ensures all { IfOk result (λ made. made ≡ spec.with_keys [] (spec.keys_of_estate estate.now)) }
 {
     let mut keys = BTreeSet::new(alloc);
     add_estate(&mut keys, estate)?;

@@ -5,7 +5,7 @@ ghost use Rattle.np_fold.specs.Traits as spec;
 ghost use Rattle.np_labels.specs.Labels.{value_of};
 
 use np_addr::{Address, Cidr, cidr_has};
-use np_base::{NoMemory, Seq, Text};
+use np_base::{NoMemory, Seq, Text, TryCopy};
 use np_estate::Pod;
 use np_labels::Labels;
 use np_objects::NamedPort;
@@ -31,9 +31,9 @@ impl Traits {
     {
         Ok(Traits {
             namespace: pod.namespace.copy()?,
-            owner: copy_owner(&pod.owner)?,
+            owner: pod.owner.try_copy(alloc)?,
             values: values_at(alloc, &pod.labels, keys)?,
-            ports: copy_ports(alloc, pod.ports.items())?,
+            ports: pod.ports.try_copy(alloc)?,
             blocks: blocks_of(alloc, pod.addresses.items(), cidrs)?,
         })
     }
@@ -53,38 +53,6 @@ impl Traits {
         }
         Ok(made)
     }
-}
-
-// A copy of an owner.
-fn copy_owner(owner: &Owner) -> Result<Owner, NoMemory>
-    ensures { IfOk result (λ made. made ≡ owner.now) }
-{
-    Ok(Owner {
-        kind: owner.kind.copy()?,
-        name: owner.name.copy()?,
-    })
-}
-
-// Copies of ports, in order.
-fn copy_ports(alloc: Global, ports: &[NamedPort]) -> Result<Seq<NamedPort>, NoMemory>
-    ensures { IfOk result (λ made. made ≡ ports.now) }
-{
-    let mut made = Seq::new(alloc);
-    for port in ports {
-        made.push(copy_port(port)?)?;
-    }
-    Ok(made)
-}
-
-// A copy of a port.
-fn copy_port(port: &NamedPort) -> Result<NamedPort, NoMemory>
-    ensures { IfOk result (λ made. made ≡ port.now) }
-{
-    Ok(NamedPort {
-        name: port.name.copy()?,
-        proto: port.proto,
-        number: port.number,
-    })
 }
 
 // The values of keys, in order.

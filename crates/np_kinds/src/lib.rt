@@ -4,4 +4,4 @@
 
 mod laws;
 
-pub use laws::{kinds_give_the_verdict, kinds_meet_each_end_alike};
+pub use laws::{kinds_give_the_deciders, kinds_give_the_rule_counts, kinds_give_the_verdict};

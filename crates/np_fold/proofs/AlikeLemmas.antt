@@ -1,0 +1,170 @@
+-- The questions about two pods, and what they say of pods at places.
+use Rattle.std.proofs.Common.{◌≡◌, ◌↔◌, ℕ, ◌<◌, List, [], ◌∷◌, map, length, get_or, slice_get, Bool, true, false, ◌&&◌, ◌==◌, Option, Some, None, refl, sym, ap, subst, ◌∙◌, arith}
+use Rattle.std.specs.Bool.{Decides}
+use Rattle.std.specs.Cmp.{Equal-is, booleans_Decides}
+use Rattle.std.specs.Cmp.Lexicographic.{bytes_decides, pointwise, pointwise_decides}
+use Rattle.std.specs.List.{list_all}
+use Rattle.std.specs.Option.{option_eq, option_map}
+use Rattle.std.specs.Ordering.{is_eq}
+use Rattle.std.proofs.lemmas.Bool.Decides.{Decides-and, Decides-eqb, Decides-like, same_from_decides}
+use Rattle.std.proofs.lemmas.Option.{same_Some, slice_get-get_or, slice_get-map}
+use Rattle.np_classes.specs.Classes.{IsAlike, keys_tie, of_both}
+use Rattle.np_estate.specs.declared.lists.EstateLists.{EstateLists}
+use Rattle.np_estate.specs.declared.pod.Pod.{Pod}
+use Rattle.np_fold.specs.Alike.{Alike, IsSameKind, are_alike, are_same_kind, are_same_owner, are_same_port, is_in}
+use Rattle.np_fold.specs.Blocks.{cidrs_of_estate}
+use Rattle.np_fold.specs.Keys.{keys_of_estate}
+use Rattle.np_fold.specs.Order.{compare_traits, rank}
+use Rattle.np_fold.specs.Traits.{traits_of, with_owner}
+use Rattle.np_fold.specs.Workloads.{first_pod, kinds_alike, pods_alike}
+use Rattle.np_fold.specs.declared.traits.Traits.{Traits}
+use Rattle.np_fold.proofs.OrderLemmas.{protos, ties-equal}
+use Rattle.np_fold.proofs.TraitLemmas.{traits-alike, traits-same_kind}
+use Rattle.np_labels.specs.Labels.{value_of}
+use Rattle.np_labels.specs.Selectors.{is_listed}
+use Rattle.np_objects.specs.declared.named_port.NamedPort.{NamedPort}
+use Rattle.np_owners.specs.declared.owner.Owner.{Owner}
+use mathlib.Core.Bool.{beq}
+
+-- ---- what a question decides
+
+owners_decide : (a b : Owner) → Decides (are_same_owner a b) (a ≡ b)
+owners_decide a b =
+    Decides-like (are_same_owner a b)
+    (λ same. rw (same.0, same.1) refl)
+    (λ same. (ap (λ (o : Owner). o.kind) same, ap (λ (o : Owner). o.name) same))
+    (Decides-and _ _ (bytes_decides a.kind b.kind) (bytes_decides a.name b.name))
+
+ports_decide : (a b : NamedPort) → Decides (are_same_port a b) (a ≡ b)
+ports_decide a b =
+    Decides-like (are_same_port a b)
+    (λ same. rw (same.0.0, protos a.proto b.proto same.0.1, same.1) refl)
+    (λ same. ((ap (λ (p : NamedPort). p.name) same, ap (λ (p : NamedPort). rank p.proto) same), ap (λ (p : NamedPort). p.number) same))
+    (Decides-and _ _ (Decides-and _ _ (bytes_decides a.name b.name) (Decides-eqb (rank a.proto) (rank b.proto))) (Decides-eqb a.number b.number))
+
+values_decide : (a b : Option (List ℕ)) → Decides (option_eq (pointwise (λ x y. x == y)) a b) (a ≡ b)
+values_decide None None = (λ _. refl, λ _. refl)
+values_decide None (Some y) = (λ is. let never : false ≡ true = is in cc, λ same. cc)
+values_decide (Some x) None = (λ is. let never : false ≡ true = is in cc, λ same. cc)
+values_decide (Some x) (Some y) = Decides-like (pointwise (λ x y. x == y) x y) (ap Some) (same_Some x y) (bytes_decides x y)
+
+-- a test of all items is one of two lists
+pointwise-maps : {X Y : Type 0} (test : Y → Y → Bool) (f g : X → Y) (xs : List X) → pointwise test (map f xs) (map g xs) ≡ list_all (λ x. test (f x) (g x)) xs
+pointwise-maps test f g [] = refl
+pointwise-maps test f g (x ∷ xs) = ap (λ (rest : Bool). test (f x) (g x) && rest) (pointwise-maps test f g xs)
+
+maps_decide : {X Y : Type 0} (test : Y → Y → Bool) → ((x y : Y) → Decides (test x y) (x ≡ y)) → (f g : X → Y) (xs : List X) → Decides (list_all (λ x. test (f x) (g x)) xs) (map f xs ≡ map g xs)
+maps_decide test each f g xs = subst (λ (b : Bool). Decides b (map f xs ≡ map g xs)) (pointwise-maps test f g xs) (pointwise_decides each (map f xs) (map g xs))
+
+module _ (lists : EstateLists) (a b : Pod) where
+  -- what rules see of a pod, with one owner put in
+  abbrev seen : Pod → Traits
+  seen pod = with_owner a.owner (traits_of (keys_of_estate lists) (cidrs_of_estate lists) pod)
+
+  seen-kind : (seen a ≡ seen b) ↔ IsSameKind lists a b
+  seen-kind = traits-same_kind lists (keys_of_estate lists) (λ key. refl) a b a.owner
+
+  pub kinds_decide : Decides (are_same_kind lists a b) (IsSameKind lists a b)
+  unfolding are_same_kind
+  kinds_decide =
+      Decides-like (are_same_kind lists a b)
+      (λ same. seen-kind.0 (rw (same.0.0.0, same.0.0.1, same.0.1, same.1) refl))
+      (λ kind.
+      let equal : seen a ≡ seen b = seen-kind.1 kind in
+      (((kind.namespace, ap (λ (t : Traits). t.values) equal), kind.ports), ap (λ (t : Traits). t.blocks) equal))
+      (Decides-and _ _ (Decides-and _ _ (Decides-and _ _ (bytes_decides a.namespace b.namespace)
+      (maps_decide (option_eq (pointwise (λ x y. x == y))) values_decide (value_of a.labels) (value_of b.labels) (keys_of_estate lists)))
+      (pointwise_decides ports_decide a.ports b.ports))
+      (maps_decide beq booleans_Decides (is_in a.addresses) (is_in b.addresses) (cidrs_of_estate lists)))
+
+  pub alike_decide : Decides (are_alike lists a b) (Alike lists a b)
+  unfolding are_alike
+  alike_decide =
+      Decides-like (are_alike lists a b)
+      (λ same. record { kind = same.0; owner = same.1 })
+      (λ alike. (alike.kind, alike.owner))
+      (Decides-and _ _ kinds_decide (owners_decide a.owner b.owner))
+
+-- ---- traits that tie
+
+ties_decide : (x y : Traits) → Decides (is_eq (compare_traits x y)) (x ≡ y)
+ties_decide x y = Decides-like (is_eq (compare_traits x y)) (ties-equal x y).0 (ties-equal x y).1 (Equal-is (compare_traits x y))
+
+of_both-map : {K X : Type 0} (ask : K → K → Bool) (ask' : X → X → Bool) (f : X → K) → ((x y : X) → ask (f x) (f y) ≡ ask' x y) → (p q : Option X) → of_both ask (option_map f p) (option_map f q) ≡ of_both ask' p q
+of_both-map ask ask' f same None None = refl
+of_both-map ask ask' f same None (Some y) = refl
+of_both-map ask ask' f same (Some x) None = refl
+of_both-map ask ask' f same (Some x) (Some y) = same x y
+
+module _ (lists : EstateLists) (keys : List (List ℕ)) (same : (key : List ℕ) → is_listed keys key ≡ is_listed (keys_of_estate lists) key) where
+  -- pods are alike where their traits tie
+  traits-tie : (a b : Pod) → is_eq (compare_traits (traits_of keys (cidrs_of_estate lists) a) (traits_of keys (cidrs_of_estate lists) b)) ≡ are_alike lists a b
+  traits-tie a b =
+      same_from_decides _ (are_alike lists a b)
+      (Decides-like _ (traits-alike lists keys same a b).0 (traits-alike lists keys same a b).1 (ties_decide (traits_of keys (cidrs_of_estate lists) a) (traits_of keys (cidrs_of_estate lists) b)))
+      (alike_decide lists a b)
+
+  -- and of one kind where they tie with one owner put in
+  kinds-tie : (owner : Owner) (a b : Pod) → is_eq (compare_traits (with_owner owner (traits_of keys (cidrs_of_estate lists) a)) (with_owner owner (traits_of keys (cidrs_of_estate lists) b))) ≡ are_same_kind lists a b
+  kinds-tie owner a b =
+      same_from_decides _ (are_same_kind lists a b)
+      (Decides-like _ (traits-same_kind lists keys same a b owner).0 (traits-same_kind lists keys same a b owner).1 (ties_decide (with_owner owner (traits_of keys (cidrs_of_estate lists) a)) (with_owner owner (traits_of keys (cidrs_of_estate lists) b))))
+      (kinds_decide lists a b)
+
+  -- so the traits of all pods tie where the pods are alike
+  pub keys_tie-pods : (a b : ℕ) → keys_tie compare_traits (map (traits_of keys (cidrs_of_estate lists)) lists.pods) a b ≡ pods_alike lists a b
+  keys_tie-pods a b =
+      rw (slice_get-map (traits_of keys (cidrs_of_estate lists)) lists.pods a, slice_get-map (traits_of keys (cidrs_of_estate lists)) lists.pods b)
+      (of_both-map (λ x y. is_eq (compare_traits x y)) (are_alike lists) (traits_of keys (cidrs_of_estate lists)) traits-tie (slice_get lists.pods a) (slice_get lists.pods b))
+
+  -- and those of the first pods of workloads, with one owner put in, where the workloads are of one kind
+  pub keys_tie-kinds : (owner : Owner) (made : List Traits) → ((number : ℕ) → slice_get made number ≡ option_map (λ pod. with_owner owner (traits_of keys (cidrs_of_estate lists) pod)) (first_pod lists number))
+      → (a b : ℕ) → keys_tie compare_traits made a b ≡ kinds_alike lists a b
+  keys_tie-kinds owner made each a b =
+      rw (each a, each b)
+      (of_both-map (λ x y. is_eq (compare_traits x y)) (are_same_kind lists) (λ pod. with_owner owner (traits_of keys (cidrs_of_estate lists) pod)) (kinds-tie owner) (first_pod lists a) (first_pod lists b))
+
+-- ---- alike places
+
+-- things are alike where they are equal in what is asked
+module _ {K X : Type 0} (ask : X → X → Bool) (seen : X → K) (decides : (x y : X) → Decides (ask x y) (seen x ≡ seen y)) where
+  asked_back : (p q : Option X) → of_both ask p q ≡ true → of_both ask q p ≡ true
+  asked_back None q tied = let never : false ≡ true = tied in cc
+  asked_back (Some x) None tied = let never : false ≡ true = tied in cc
+  asked_back (Some x) (Some y) tied = (decides y x).1 (sym ((decides x y).0 tied))
+
+  asked_onward : (p q r : Option X) → of_both ask p q ≡ true → of_both ask q r ≡ true → of_both ask p r ≡ true
+  asked_onward None q r near far = let never : false ≡ true = near in cc
+  asked_onward (Some x) None r near far = let never : false ≡ true = near in cc
+  asked_onward (Some x) (Some y) None near far = let never : false ≡ true = far in cc
+  asked_onward (Some x) (Some y) (Some z) near far = (decides x z).1 ((decides x y).0 near ∙ (decides y z).0 far)
+
+  places-alike : (at : ℕ → Option X) (count : ℕ) → ((place : ℕ) → place < count → (x : X) × (at place ≡ Some x)) → IsAlike (λ a b. of_both ask (at a) (at b)) count
+  places-alike at count there = record {
+    itself = λ a within. let (x, is) = there a within in rw is ((decides x x).1 refl);
+    both_ways = λ a b _ _ tied. asked_back (at a) (at b) tied;
+    onward = λ a b c _ _ _ near far. asked_onward (at a) (at b) (at c) near far;
+  }
+
+-- a place of a list has an item
+pub slice_get-some : {X : Type 0} (xs : List X) (place : ℕ) → place < length xs → (x : X) × (slice_get xs place ≡ Some x)
+slice_get-some [] place within = absurd (omega arith)
+slice_get-some (x ∷ xs) place within = (get_or (x ∷ xs) place x, slice_get-get_or (x ∷ xs) place x within)
+
+-- pods by their places
+pub alike-is : (lists : EstateLists) → IsAlike (pods_alike lists) (length lists.pods)
+alike-is lists =
+    places-alike (are_alike lists) (traits_of (keys_of_estate lists) (cidrs_of_estate lists))
+    (λ a b. Decides-like (are_alike lists a b) (traits-alike lists (keys_of_estate lists) (λ key. refl) a b).1 (traits-alike lists (keys_of_estate lists) (λ key. refl) a b).0 (alike_decide lists a b))
+    (slice_get lists.pods) (length lists.pods) (slice_get-some lists.pods)
+
+-- an owner of no name
+abbrev nobody : Owner
+nobody = record { kind = []; name = [] }
+
+-- first pods of one kind by the numbers of their workloads
+pub kinds-are : (lists : EstateLists) (count : ℕ) → ((number : ℕ) → number < count → (pod : Pod) × (first_pod lists number ≡ Some pod)) → IsAlike (kinds_alike lists) count
+kinds-are lists count there =
+    places-alike (are_same_kind lists) (λ pod. with_owner nobody (traits_of (keys_of_estate lists) (cidrs_of_estate lists) pod))
+    (λ a b. Decides-like (are_same_kind lists a b) (traits-same_kind lists (keys_of_estate lists) (λ key. refl) a b nobody).1 (traits-same_kind lists (keys_of_estate lists) (λ key. refl) a b nobody).0 (kinds_decide lists a b))
+    (first_pod lists) count there

@@ -1,0 +1,8 @@
+use Rattle.std.proofs.Common.{◌≡◌, map}
+use Rattle.np_fold.specs.Folded as folded
+use Rattle.np_fold.specs.Workloads as spec
+use Rattle.np_fold.proofs.members.members_by_name.Given as goal
+
+-- the workloads so far are those of the pairs so far
+abbrev pub invariant-loop-one : goal.invariant-loop-one
+invariant-loop-one l = map spec.workload_of_entry l.by_name.entries ≡ map folded.workload_of_pair l.yielded

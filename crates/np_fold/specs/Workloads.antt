@@ -1,0 +1,114 @@
+-- Workloads: classes of alike pods, by name.
+use Rattle.std.specs.Prelude.{ℕ, String, string_bytes, List, [], ◌++◌, Bool, ◌==◌, map, length, codes, Option, position, slice_get, slice_index}
+use Rattle.std.specs.List.{list_any, position_or_len}
+use Rattle.std.specs.Option.{option_and_then, option_map_or}
+use Rattle.std.specs.Str.{bytes_eq}
+use Rattle.std.specs.declared.alloc.Global.{Global}
+use Rattle.np_classes.specs.Classes.{class_of, firsts, members, of_both, places}
+use Rattle.np_estate.specs.declared.lists.EstateLists.{EstateLists}
+use Rattle.np_estate.specs.declared.pod.Pod.{Pod}
+use Rattle.np_fold.specs.Alike.{are_alike, are_same_kind}
+use Rattle.np_fold.specs.Keys.{keys_of_estate, with_keys}
+use Rattle.np_names.specs.Names.{all_by_name}
+use Rattle.np_names.specs.declared.named.Named.{Named}
+
+-- ---- what a folding is
+
+-- a workload: its name, and the places of its pods in ascending order
+pub record Workload : Type 0 where
+  pub name : List ℕ
+  pub members : List ℕ
+
+-- The workloads in the order of their names, the number of each pod's workload, the number of each workload's kind, how many kinds there are, and the keys of labels that selectors name, in ascending order.
+pub record Folding : Type 0 where
+  pub workloads : List Workload
+  pub numbers : List ℕ
+  pub kinds : List ℕ
+  pub kind_count : ℕ
+  pub relevant : List (List ℕ)
+
+-- the workload of a name and of the places of its pods
+abbrev pub workload_of_entry : String Global × List ℕ → Workload
+workload_of_entry entry = record { name = string_bytes entry.0; members = entry.1 }
+
+-- ---- pods by their places
+
+-- whether the pods at two places are alike
+abbrev pub pods_alike : EstateLists → ℕ → ℕ → Bool
+pods_alike lists a b = of_both (are_alike lists) (slice_get lists.pods a) (slice_get lists.pods b)
+
+-- the first pod of each workload, in ascending order
+abbrev pub first_pods : EstateLists → List ℕ
+first_pods lists = firsts (pods_alike lists) (length lists.pods)
+
+-- all pods that are alike to one
+abbrev pub pods_like : EstateLists → ℕ → List ℕ
+pods_like lists place = members (pods_alike lists) (length lists.pods) place
+
+-- ---- names
+
+-- `namespace/name[Kind]` of its top owner
+abbrev pub owner_name : Pod → List ℕ
+owner_name pod = pod.namespace ++ codes "/" ++ pod.owner.name ++ codes "[" ++ pod.owner.kind ++ codes "]"
+
+-- the same of the pod at a place
+abbrev pub owner_name_at : EstateLists → ℕ → List ℕ
+owner_name_at lists place = option_map_or owner_name (slice_get lists.pods place) []
+
+-- those of the first pods: where several workloads have one owner, a number follows its name
+abbrev pub owner_names : EstateLists → List (List ℕ)
+owner_names lists = map (owner_name_at lists) (first_pods lists)
+
+-- the first pods' places among themselves, by the names of their workloads
+abbrev pub named_first_pods : EstateLists → List Named
+named_first_pods lists = all_by_name (owner_names lists)
+
+-- the first pod of a named workload
+abbrev pub first_of : EstateLists → Named → ℕ
+first_of lists one = slice_index (first_pods lists) one.place
+
+abbrev pub workload : EstateLists → Named → Workload
+workload lists one = record { name = one.name; members = pods_like lists (first_of lists one) }
+
+-- the workloads in the byte order of their names, which gives them their numbers, from 0
+unfoldable pub workloads_of : EstateLists → List Workload
+workloads_of lists = map (workload lists) (named_first_pods lists)
+
+-- ---- numbers
+
+abbrev pub has_member : ℕ → Workload → Bool
+has_member place one = list_any (λ member. member == place) one.members
+
+-- the number of the workload of the pod at a place
+unfoldable pub number_of : EstateLists → ℕ → ℕ
+number_of lists place = position_or_len (has_member place) (workloads_of lists)
+
+-- the first pod of the workload of a number
+abbrev pub first_pod : EstateLists → ℕ → Option Pod
+first_pod lists number = option_and_then (λ one. slice_get lists.pods (first_of lists one)) (slice_get (named_first_pods lists) number)
+
+-- whether the workloads of two numbers are of one kind: their first pods are
+abbrev pub kinds_alike : EstateLists → ℕ → ℕ → Bool
+kinds_alike lists a b = of_both (are_same_kind lists) (first_pod lists a) (first_pod lists b)
+
+-- how many workloads there are
+abbrev pub workload_count : EstateLists → ℕ
+workload_count lists = length (first_pods lists)
+
+-- ---- what a folding says of a workload
+
+abbrev pub members_of : Folding → ℕ → List ℕ
+members_of folding number = option_map_or (λ one. one.members) (slice_get folding.workloads number) []
+
+abbrev pub name_of : Folding → ℕ → List ℕ
+name_of folding number = option_map_or (λ one. one.name) (slice_get folding.workloads number) []
+
+-- the number of the workload of a name
+abbrev pub number_named : Folding → List ℕ → Option ℕ
+number_named folding name = position (λ one. bytes_eq one.name name) folding.workloads
+
+-- ---- all of it
+
+-- the folding of an estate; kinds are numbered from 0 by the first workload of each
+unfoldable pub folding_of : EstateLists → Folding
+folding_of lists = record { workloads = workloads_of lists; numbers = map (number_of lists) (places (length lists.pods)); kinds = map (class_of (kinds_alike lists) (workload_count lists)) (places (workload_count lists)); kind_count = length (firsts (kinds_alike lists) (workload_count lists)); relevant = with_keys [] (keys_of_estate lists) }

@@ -1,0 +1,79 @@
+//! The kinds of workloads.
+ghost use Rattle.std.specs.Prelude.{◌≡◌, ◌<◌, ◌^◌, All, IfOk, List, Some, ℕ, length, map};
+ghost use Rattle.np_classes.specs.Classes.{class_of, firsts, places};
+ghost use Rattle.np_fold.specs.Blocks.{cidrs_of_estate};
+ghost use Rattle.np_fold.specs.Folded as folded;
+ghost use Rattle.np_fold.specs.Keys.{keys_of_estate};
+ghost use Rattle.np_fold.specs.Workloads as spec;
+ghost use Rattle.np_labels.specs.Selectors.{is_listed};
+
+use crate::traits::Traits;
+use np_addr::Cidr;
+use np_base::{NoMemory, Seq, Text};
+use np_classes::Classes;
+use np_estate::{Estate, Pod};
+use np_names::Named;
+use np_owners::Owner;
+use std::alloc::Global;
+
+/// The kinds of the workloads of an estate, in the order of their names: classes of first pods that are alike but for
+/// their owners.
+pub(crate) fn kinds_of_workloads(
+    alloc: Global,
+    estate: &Estate,
+    keys: &[Text],
+    cidrs: &[Cidr],
+    firsts: &[u32],
+    named: &[Named],
+) -> Result<Classes, NoMemory>
+    requires few { length named.now < 2 ^ 32 }
+    requires keys { (key : List ℕ) → is_listed keys.now key ≡ is_listed (keys_of_estate estate.now) key }
+    requires cidrs { cidrs.now ≡ cidrs_of_estate estate.now }
+    requires firsts { firsts.now ≡ spec.first_pods estate.now }
+    requires named { named.now ≡ spec.named_first_pods estate.now }
+    ensures firsts { IfOk result (λ made. made.firsts ≡ folded.first_kinds estate.now) }
+    ensures numbers { IfOk result (λ made. made.numbers ≡ folded.kinds_of_workloads estate.now) }
+{
+    let traits = traits_by_name(alloc, estate.pods(), keys, cidrs, firsts, named)?;
+    Classes::of(alloc, traits.into_vec())
+}
+
+// What rules see of the pods at the places of things, in the order of the things, without the pods' owners.
+fn traits_by_name(
+    alloc: Global,
+    pods: &[Pod],
+    keys: &[Text],
+    cidrs: &[Cidr],
+    firsts: &[u32],
+    named: &[Named],
+) -> Result<Seq<Traits>, NoMemory>
+    requires firsts { All (λ first. first < length pods.now) firsts.now }
+    requires named { All (λ one. one.place < length firsts.now) named.now }
+    ensures { IfOk result (λ made. map Some made ≡ map (folded.kind_at keys.now cidrs.now pods.now firsts.now) named.now) }
+{
+    let mut made = Seq::new(alloc);
+    for one in named {
+        let first = firsts[one.place as usize];
+        made.push(kind_traits(alloc, &pods[first as usize], keys, cidrs)?)?;
+    }
+    Ok(made)
+}
+
+// What rules see of a pod, without its owner.
+fn kind_traits(alloc: Global, pod: &Pod, keys: &[Text], cidrs: &[Cidr]) -> Result<Traits, NoMemory>
+    ensures { IfOk result (λ made. made ≡ folded.kind_traits keys.now cidrs.now pod.now) }
+{
+    let mut traits = Traits::of(alloc, pod, keys, cidrs)?;
+    traits.owner = nobody(alloc)?;
+    Ok(traits)
+}
+
+// An owner of no name.
+fn nobody(alloc: Global) -> Result<Owner, NoMemory>
+    ensures { IfOk result (λ owner. owner ≡ folded.nobody) }
+{
+    Ok(Owner {
+        kind: Text::of(alloc, "")?,
+        name: Text::of(alloc, "")?,
+    })
+}

@@ -1,0 +1,69 @@
+-- What passes at each address, as the one right list of ranges.
+use Rattle.std.proofs.Common.{◌≡◌, ◌≤◌, ◌-◌, ◌^◌, ◌++◌, ℕ, List, Bool, true, false, ◌&&◌, map, lit≤, refl, ◌∙◌}
+use Rattle.std.proofs.lemmas.Bool.{and_from, le-leb}
+use Rattle.np_addr.specs.declared.address.Family.TheVariants.{Four, Six}
+use Rattle.np_base.specs.declared.beside.Beside.{Beside}
+use Rattle.np_base.specs.declared.beside.Which.TheVariants.{First, Second}
+use Rattle.np_conns.specs.Conns.{Conns, IsConns, has_spot, is_spot}
+use Rattle.np_conns.specs.declared.port_spot.PortSpot.{PortSpot}
+use Rattle.np_estate.specs.declared.lists.EstateLists.{EstateLists}
+use Rattle.np_fold.specs.Workloads.{Folding}
+use Rattle.np_pieces.specs.Pieces.{Covers, has_at}
+use Rattle.np_pieces.specs.declared.piece.Piece.{Piece}
+use Rattle.np_policies.specs.declared.direction.Direction.{Direction}
+use Rattle.np_policies.specs.declared.direction.Direction.TheVariants.{Egress, Ingress}
+use Rattle.np_ranges.proofs.OneList.{right-walk, walk-agrees}
+use Rattle.np_ranges.proofs.PieceLists.{Covers-right}
+use Rattle.np_ranges.specs.Right.{stretches_of, walk}
+use Rattle.np_rules.specs.Ends.{PodEnd, pod}
+use Rattle.np_rules.specs.EveryAddress.{Place, address_contact, has_place, is_place}
+use Rattle.np_rules.specs.Sides.{side_allows}
+use Rattle.np_rules.specs.Verdict.{allows, pod_at}
+use Rattle.np_table.specs.Rows.{address_row, address_rows, four_of, six_of}
+use Rattle.np_table.specs.Table.{address_allows, source_pod, table_of, with_address}
+
+-- ---- pieces
+
+-- the ranges of pieces that have what passes are the right list
+stretches_of-walk : (low high : ℕ) (pieces : List (Piece ℕ Conns)) (passes : ℕ → PortSpot → Bool) → low ≤ high → Covers (λ n. n) IsConns low high pieces → ((n : ℕ) (spot : PortSpot) → low ≤ n → n ≤ high → is_spot spot ≡ true → has_at (λ n. n) has_spot pieces n spot ≡ passes n spot) → stretches_of (λ n. n) pieces ≡ walk passes low high
+stretches_of-walk low high pieces passes ordered covers agrees =
+    right-walk (has_at (λ n. n) has_spot pieces) low high (stretches_of (λ n. n) pieces) ordered (Covers-right (λ n. n) low high pieces covers)
+    ∙ walk-agrees (has_at (λ n. n) has_spot pieces) passes low high ordered agrees
+
+-- ---- the pod's side
+
+and_true : (b : Bool) → b ≡ (b && true)
+and_true true = refl
+and_true false = refl
+
+-- an address has no side of its own, so the pod's side says what passes
+side-four : (lists : EstateLists) (direction : Direction) (p : PodEnd) (n : ℕ) (spot : PortSpot) → side_allows lists direction p (address_contact direction (pod p) (First (record { point = n; spot = spot }))) ≡ with_address lists direction (pod p) Four n spot
+unfolding allows
+side-four lists Ingress p n spot = refl
+side-four lists Egress p n spot = and_true (side_allows lists Egress p (address_contact Egress (pod p) (First (record { point = n; spot = spot }))))
+
+side-six : (lists : EstateLists) (direction : Direction) (p : PodEnd) (n : ℕ) (spot : PortSpot) → side_allows lists direction p (address_contact direction (pod p) (Second (record { point = n; spot = spot }))) ≡ with_address lists direction (pod p) Six n spot
+unfolding allows
+side-six lists Ingress p n spot = refl
+side-six lists Egress p n spot = and_true (side_allows lists Egress p (address_contact Egress (pod p) (Second (record { point = n; spot = spot }))))
+
+-- ---- all addresses of a family
+
+-- the pieces of a set that has what the pod's side allows, for IPv4
+pub stretches_of-four : (lists : EstateLists) (direction : Direction) (p : PodEnd) (made : Beside (List (Piece ℕ Conns)) (List (Piece ℕ Conns))) → Covers (λ n. n) IsConns 0 (2 ^ 32 - 1) made.first → ((place : Place) → is_place place ≡ true → has_place made place ≡ side_allows lists direction p (address_contact direction (pod p) place)) → stretches_of (λ n. n) made.first ≡ walk (with_address lists direction (pod p) Four) 0 (2 ^ 32 - 1)
+stretches_of-four lists direction p made covers agrees =
+    stretches_of-walk 0 (2 ^ 32 - 1) made.first (with_address lists direction (pod p) Four) (lit≤ tt) covers (λ n spot above below is.
+    agrees (First (record { point = n; spot = spot })) (and_from _ _ (and_from _ _ (le-leb 0 n above) (le-leb n (2 ^ 32 - 1) below)) is) ∙ side-four lists direction p n spot)
+
+-- and for IPv6
+pub stretches_of-six : (lists : EstateLists) (direction : Direction) (p : PodEnd) (made : Beside (List (Piece ℕ Conns)) (List (Piece ℕ Conns))) → Covers (λ n. n) IsConns 0 (2 ^ 128 - 1) made.second → ((place : Place) → is_place place ≡ true → has_place made place ≡ side_allows lists direction p (address_contact direction (pod p) place)) → stretches_of (λ n. n) made.second ≡ walk (with_address lists direction (pod p) Six) 0 (2 ^ 128 - 1)
+stretches_of-six lists direction p made covers agrees =
+    stretches_of-walk 0 (2 ^ 128 - 1) made.second (with_address lists direction (pod p) Six) (lit≤ tt) covers (λ n spot above below is.
+    agrees (Second (record { point = n; spot = spot })) (and_from _ _ (and_from _ _ (le-leb 0 n above) (le-leb n (2 ^ 128 - 1) below)) is) ∙ side-six lists direction p n spot)
+
+-- ---- the table's rows
+
+-- the rows of the ranges of both families are those of the table
+pub address_rows-of : (lists : EstateLists) (folding : Folding) (workload : ℕ) (direction : Direction) (made : Beside (List (Piece ℕ Conns)) (List (Piece ℕ Conns))) → stretches_of (λ n. n) made.first ≡ walk (with_address lists direction (pod (pod_at lists (source_pod folding workload))) Four) 0 (2 ^ 32 - 1) → stretches_of (λ n. n) made.second ≡ walk (with_address lists direction (pod (pod_at lists (source_pod folding workload))) Six) 0 (2 ^ 128 - 1) → map (address_row four_of) (stretches_of (λ n. n) made.first) ++ map (address_row six_of) (stretches_of (λ n. n) made.second) ≡ address_rows (table_of lists folding) workload direction
+unfolding address_rows table_of address_allows
+address_rows-of lists folding workload direction made four six = rw (four, six) refl

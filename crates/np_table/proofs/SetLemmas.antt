@@ -1,0 +1,110 @@
+-- Sets of connections, and the rows of them.
+use Rattle.std.proofs.Common.{◌≡◌, ◌≢◌, ◌≤◌, ℕ, List, [], ◌∷◌, ◌++◌, Bool, true, false, not, nat_le, Option, None, Some, Result, Ok, Err, IfOk, length, get_or, arith, refl, sym, ap, ◌∙◌, subst}
+use Rattle.std.proofs.lemmas.Bool.{and_from, and_parts, both_ways, false_from_ne_true, leb-true, or_left, true≢false}
+use Rattle.np_addr.specs.declared.address.Family.{Family}
+use Rattle.np_addr.specs.declared.address.Family.TheVariants.{Four, Six}
+use Rattle.np_base.proofs.Ranges.{is_within-inside}
+use Rattle.np_base.specs.Ranges.{holds, IsAscending}
+use Rattle.np_base.specs.declared.range.Range.{Range}
+use Rattle.np_conns.proofs.RunLemmas.{runs-hold}
+use Rattle.np_conns.specs.Conns.{Conns, IsConns, has_spot, is_spot}
+use Rattle.np_conns.specs.declared.port_spot.PortSpot.{PortSpot}
+use Rattle.np_conns.specs.declared.proto.Proto.{Proto}
+use Rattle.np_conns.specs.declared.proto.Proto.TheVariants.{Tcp, Udp, Sctp}
+use Rattle.np_estate.specs.Families.{families_of}
+use Rattle.np_estate.specs.declared.lists.EstateLists.{EstateLists}
+use Rattle.np_fold.specs.Workloads.{Folding}
+use Rattle.np_ranges.proofs.Sets.{are_same_conns-Decides, conns_of-agrees, conns_of-has_spot}
+use Rattle.np_ranges.specs.Right.{are_same_conns, conns_of}
+use Rattle.np_table.specs.Rows.{is_none, is_nothing, pair_key, pair_rows, row_if, rows_in, rows_of_both}
+use Rattle.np_table.specs.Table.{pair_allows, table_of}
+use Rattle.np_table.specs.declared.rows.RowKey.{RowKey}
+
+-- ---- a set and what passes
+
+-- a set whose ports are those that pass is the connections of the test
+pub conns_of-set : (conns : Conns) (passes : PortSpot → Bool) → IsConns conns → ((spot : PortSpot) → is_spot spot ≡ true → has_spot conns spot ≡ passes spot) → conns ≡ conns_of passes
+conns_of-set conns passes well agrees = sym (conns_of-has_spot conns well) ∙ conns_of-agrees (has_spot conns) passes agrees
+
+low : (port : ℕ) (proto : Proto) → is_spot (record { proto = proto; port = port }) ≡ true → 1 ≤ port
+low port proto is = leb-true 1 port (and_parts (nat_le 1 port) (nat_le port 65535) is).0
+
+high : (port : ℕ) (proto : Proto) → is_spot (record { proto = proto; port = port }) ≡ true → port ≤ 65535
+high port proto is = leb-true port 65535 (and_parts (nat_le 1 port) (nat_le port 65535) is).1
+
+has_port : (passes : PortSpot → Bool) (proto : Proto) (port : ℕ) → is_spot (record { proto = proto; port = port }) ≡ true → has_spot (conns_of passes) (record { proto = proto; port = port }) ≡ passes (record { proto = proto; port = port })
+has_port passes Tcp port is = runs-hold (λ (p : ℕ). passes (record { proto = Tcp; port = p })) port (low port Tcp is) (high port Tcp is)
+has_port passes Udp port is = runs-hold (λ (p : ℕ). passes (record { proto = Udp; port = p })) port (low port Udp is) (high port Udp is)
+has_port passes Sctp port is = runs-hold (λ (p : ℕ). passes (record { proto = Sctp; port = p })) port (low port Sctp is) (high port Sctp is)
+
+-- the connections of a test have the ports that pass
+pub has_spot-conns_of : (passes : PortSpot → Bool) (spot : PortSpot) → is_spot spot ≡ true → has_spot (conns_of passes) spot ≡ passes spot
+has_spot-conns_of passes spot is = has_port passes spot.proto spot.port is
+
+-- ---- rows
+
+-- ranges that hold no number are none
+is_none-holds : (from : ℕ) (ranges : List (Range ℕ)) → IsAscending (λ port. port) from 65535 ranges → ((port : ℕ) → holds (λ p. p) ranges port ≡ false) → is_none ranges ≡ true
+is_none-holds from [] ascends none = refl
+is_none-holds from (range ∷ ranges) ascends none =
+    absurd (both_ways _ (none range.lo) (or_left _ _ (is_within-inside (λ p. p) range range.lo (omega arith) ascends.1)))
+
+-- a set without ports has no ranges of any protocol
+no_proto : (conns : Conns) → IsConns conns → ((spot : PortSpot) → has_spot conns spot ≡ false) → is_nothing conns ≡ true
+no_proto conns well none =
+    and_from _ _ (and_from _ _ (is_none-holds 1 conns.tcp well.tcp (λ port. none (record { proto = Tcp; port = port })))
+    (is_none-holds 1 conns.udp well.udp (λ port. none (record { proto = Udp; port = port }))))
+    (is_none-holds 1 conns.sctp well.sctp (λ port. none (record { proto = Sctp; port = port })))
+
+-- there is no row of an empty set
+pub row_if-none : (key : RowKey) (family : Option Family) (conns : Conns) → IsConns conns → ((spot : PortSpot) → has_spot conns spot ≡ false) → row_if key family conns ≡ []
+row_if-none key family conns well none = rw (no_proto conns well none) refl
+
+not_itself : (b : Bool) → b ≡ not b → ⊥
+not_itself true same = true≢false same
+not_itself false same = true≢false (sym same)
+
+-- one row where the sets of both families are equal
+pub rows_of_both-same : (key : RowKey) (four six : Conns) → four ≡ six → rows_of_both key four six ≡ row_if key None four
+rows_of_both-same key four six same = rw ((are_same_conns-Decides four six).1 same) refl
+
+-- and else one for each
+pub rows_of_both-apart : (key : RowKey) (four six : Conns) → (spot : PortSpot) × (has_spot four spot ≡ not (has_spot six spot)) → rows_of_both key four six ≡ row_if key (Some Four) four ++ row_if key (Some Six) six
+rows_of_both-apart key four six apart =
+    let differ : four ≡ six → ⊥ = λ same. not_itself (has_spot six apart.0) (subst (λ (conns : Conns). has_spot conns apart.0 ≡ not (has_spot six apart.0)) same apart.1) in
+    rw (false_from_ne_true (are_same_conns four six) (λ yes. differ ((are_same_conns-Decides four six).0 yes))) refl
+
+-- ---- the rows of the table
+
+-- without a mark where the list has one family
+rows_in-one : (families : List Family) (key : RowKey) (conns : Family → Conns) → length families ≡ 1 → row_if key None (conns (get_or families 0 Four)) ≡ rows_in families key conns
+rows_in-one [] key conns one = absurd (omega arith)
+rows_in-one (family ∷ []) key conns one = refl
+rows_in-one (family ∷ next ∷ families) key conns one = absurd (omega arith)
+
+-- and else by both
+rows_in-both : (families : List Family) (key : RowKey) (conns : Family → Conns) → length families ≢ 1 → rows_of_both key (conns Four) (conns Six) ≡ rows_in families key conns
+rows_in-both [] key conns several = refl
+rows_in-both (family ∷ []) key conns several = absurd (several refl)
+rows_in-both (family ∷ next ∷ families) key conns several = refl
+
+-- the rows of a pair of workloads, where the list has one family
+pub pair_rows-one : (lists : EstateLists) (folding : Folding) (source destination : ℕ) (families : List Family) → families ≡ families_of lists.pods → length families ≡ 1 → row_if (pair_key source destination) None (conns_of (pair_allows lists folding source destination (get_or families 0 Four))) ≡ pair_rows (table_of lists folding) source destination
+unfolding pair_rows table_of
+pair_rows-one lists folding source destination families are one =
+    rows_in-one families (pair_key source destination) (λ family. conns_of (pair_allows lists folding source destination family)) one
+    ∙ ap (λ (all : List Family). rows_in all (pair_key source destination) (λ family. conns_of (pair_allows lists folding source destination family))) are
+
+-- and where it has both
+pub pair_rows-both : (lists : EstateLists) (folding : Folding) (source destination : ℕ) (families : List Family) → families ≡ families_of lists.pods → length families ≢ 1 → rows_of_both (pair_key source destination) (conns_of (pair_allows lists folding source destination Four)) (conns_of (pair_allows lists folding source destination Six)) ≡ pair_rows (table_of lists folding) source destination
+unfolding pair_rows table_of
+pair_rows-both lists folding source destination families are several =
+    rows_in-both families (pair_key source destination) (λ family. conns_of (pair_allows lists folding source destination family)) several
+    ∙ ap (λ (all : List Family). rows_in all (pair_key source destination) (λ family. conns_of (pair_allows lists folding source destination family))) are
+
+-- ---- results
+
+-- what follows from two facts of a value that is made
+pub IfOk-both : {X E : Type 0} (made : Result X E) (P Q R : X → Type 0) → ((x : X) → P x → Q x → R x) → IfOk made P → IfOk made Q → IfOk made R
+IfOk-both (Ok x) P Q R from p q = from x p q
+IfOk-both (Err e) P Q R from p q = tt

@@ -1,0 +1,197 @@
+//! The rows of the table, one after another.
+ghost use Rattle.std.specs.Prelude.{◌≡◌, ◌<◌, ◌*◌, ◌^◌, ◌∷◌, [], IfOk, OnErr, MatchOption, length, map, reverse};
+ghost use Rattle.np_fold.specs.Workloads.{folding_of};
+ghost use Rattle.np_policies.specs.declared.direction.Direction.{Direction};
+ghost use Rattle.np_table.specs.Rows as table;
+ghost use Rattle.np_table.specs.Table.{table_of};
+ghost use Rattle.np_table.specs.ToCome as spec;
+
+use crate::rows::{AddressRow, Row, RowEnd, RowKey};
+use crate::rows_of_addresses::address_rows;
+use crate::rows_of_pairs::pair_rows;
+use np_base::{NoMemory, Seq};
+use np_estate::Estate;
+use np_fold::Workloads;
+use np_policies::Direction;
+use np_steps::Steps;
+use std::alloc::Global;
+use std::marker::Model;
+use std::sync::ledger::Ledger;
+
+/// The rows of the table that are still to come: those of all pairs of workloads, by source and then by destination, and
+/// behind them, for each workload, those of all addresses, ingress and then egress. They are made pair by pair, and never
+/// all of them are held.
+#[derive(Drop)]
+pub struct Rows<'a> {
+    alloc: Global,
+    estate: &'a Estate,
+    workloads: &'a Workloads,
+    // The place of the next rows to be made, and the one behind the last.
+    place: u64,
+    end: u64,
+    // Rows that were made and not given, the last one first.
+    ready: Vec<Row>,
+}
+
+impl<'a> Model for Rows<'a> {
+    ghost use Rattle.std.specs.Prelude.{◌≡◌, ◌++◌, ◌≤◌, ◌<◌, ◌^◌, reverse, length};
+    ghost use Rattle.np_fold.specs.Workloads.{folding_of};
+    ghost use Rattle.np_table.specs.Table.{table_of};
+    ghost use Rattle.np_table.specs.ToCome.{RowsToCome, rows_from, place_count};
+
+    ghost Value = { RowsToCome };
+
+    ghost view = { λ r. record { rows = reverse r.ready.items ++ rows_from (table_of r.estate.now r.workloads.now) r.place } };
+
+    ghost invariant = { λ r. (r.workloads.now ≡ folding_of r.estate.now) × (r.end ≡ place_count (length r.workloads.now.workloads)) × (r.place ≤ r.end) };
+}
+
+impl<'a> Rows<'a> {
+    /// All rows of the table of these workloads of an estate.
+    pub fn new(alloc: Global, estate: &'a Estate, workloads: &'a Workloads) -> Rows<'a>
+        requires { workloads.now ≡ folding_of estate.now }
+        ensures { result.rows ≡ table.all_rows (table_of estate.now workloads.now) }
+    {
+        let end = place_count(workloads);
+        Rows {
+            alloc,
+            estate,
+            workloads,
+            place: 0,
+            end,
+            ready: Vec::new(alloc),
+        }
+    }
+
+    /// The first of the rows that are still to come, and takes it off. `None` comes exactly where there is none. On
+    /// `NoMemory` the same rows are still to come.
+    pub fn next<L: Ledger>(&mut self, steps: &mut Steps<L>) -> Result<Option<Row>, NoMemory>
+        ensures given { IfOk result (λ given. MatchOption given (self.old.rows ≡ []) (λ row. self.old.rows ≡ row ∷ self.new.rows)) }
+        ensures err { OnErr result (self.new ≡ self.old) }
+    {
+        while self.ready.is_empty() {
+            if self.place == self.end {
+                return Ok(None);
+            }
+            let rows = rows_at(self.alloc, self.estate, self.workloads, self.place, steps)?;
+            self.ready = in_reverse(rows);
+            self.place += 1;
+        }
+        Ok(self.ready.pop())
+    }
+}
+
+// Rows with the last one first.
+fn in_reverse(rows: Seq<Row>) -> Vec<Row>
+    ensures { result.items ≡ reverse rows }
+{
+    let mut made = rows.into_vec();
+    made.reverse();
+    made
+}
+
+// How many places there are.
+fn place_count(workloads: &Workloads) -> u64
+    ensures { result ≡ spec.place_count (length workloads.now.workloads) }
+{
+    let count = u64::from(workloads.count());
+    count * count + 2 * count
+}
+
+// The rows at a place.
+#[tactic(auto, unfolding(crate::specs::ToCome::rows_at))]
+fn rows_at<L: Ledger>(
+    alloc: Global,
+    estate: &Estate,
+    workloads: &Workloads,
+    place: u64,
+    steps: &mut Steps<L>,
+) -> Result<Seq<Row>, NoMemory>
+    requires folded { workloads.now ≡ folding_of estate.now }
+    requires place { place < spec.place_count (length workloads.now.workloads) }
+    ensures { IfOk result (λ made. made ≡ spec.rows_at (table_of estate.now workloads.now) place) }
+{
+    let count = u64::from(workloads.count());
+    let pairs = count * count;
+    if place < pairs {
+        let source = (place / count) as u32;
+        let destination = (place % count) as u32;
+        return pair_rows(alloc, estate, workloads, source, destination, steps);
+    }
+    address_rows_at(alloc, estate, workloads, place - pairs, steps)
+}
+
+// The rows of addresses at a place behind the pairs.
+fn address_rows_at<L: Ledger>(
+    alloc: Global,
+    estate: &Estate,
+    workloads: &Workloads,
+    place: u64,
+    steps: &mut Steps<L>,
+) -> Result<Seq<Row>, NoMemory>
+    requires folded { workloads.now ≡ folding_of estate.now }
+    requires few { length workloads.now.workloads < 2 ^ 32 }
+    requires place { place < 2 * length workloads.now.workloads }
+    ensures { IfOk result (λ made. made ≡ spec.address_rows_at (table_of estate.now workloads.now) place) }
+{
+    let workload = (place / 2) as u32;
+    let direction = direction_at(place);
+    let rows = address_rows(alloc, estate, workloads, workload, direction, steps)?;
+    with_keys(alloc, rows, workload, direction)
+}
+
+// The direction of the addresses at a place.
+fn direction_at(place: u64) -> Direction
+    ensures { result ≡ spec.direction_at place }
+{
+    if place % 2 == 0 {
+        Direction::Ingress
+    } else {
+        Direction::Egress
+    }
+}
+
+// The rows of addresses with their two ends.
+fn with_keys(
+    alloc: Global,
+    rows: Seq<AddressRow>,
+    workload: u32,
+    direction: Direction,
+) -> Result<Seq<Row>, NoMemory>
+    ensures { IfOk result (λ made. made ≡ map (table.row_of workload direction) rows) }
+{
+    let mut made = Seq::new(alloc);
+    for row in rows.into_vec() {
+        made.push(row_of(row, workload, direction))?;
+    }
+    Ok(made)
+}
+
+// A row of addresses with its two ends.
+fn row_of(row: AddressRow, workload: u32, direction: Direction) -> Row
+    ensures { result ≡ table.row_of workload direction row }
+{
+    let AddressRow { span, conns } = row;
+    Row {
+        key: key_of(workload, direction, RowEnd::Span(span)),
+        family: None,
+        conns,
+    }
+}
+
+// The ends of a row of addresses: in the direction of ingress the addresses are the source.
+fn key_of(workload: u32, direction: Direction, addresses: RowEnd) -> RowKey
+    ensures { result ≡ table.key_of workload direction addresses }
+{
+    let workload = RowEnd::Work(workload);
+    match direction {
+        Direction::Ingress => RowKey {
+            source: addresses,
+            destination: workload,
+        },
+        Direction::Egress => RowKey {
+            source: workload,
+            destination: addresses,
+        },
+    }
+}

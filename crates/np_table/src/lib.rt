@@ -1,0 +1,16 @@
+//! The table: what passes between workloads, and between workloads and all addresses.
+#![tactic(auto)]
+
+mod all_rows;
+mod laws;
+mod pair_sets;
+mod rows;
+mod rows_of_addresses;
+mod rows_of_pairs;
+
+pub use all_rows::Rows;
+pub use laws::{kinds_give_the_pairs, workloads_stand_for_their_pods};
+pub use pair_sets::pair_set;
+pub use rows::{AddressRow, AddressSpan, Row, RowEnd, RowKey};
+pub use rows_of_addresses::address_rows;
+pub use rows_of_pairs::pair_rows;
