@@ -1,10 +1,14 @@
 -- What the inputs say, or why they are refused.
-use Rattle.std.specs.Prelude.{◌≡◌, ℕ, List, Result, Ok, Err, if◌then◌else◌, nat_le, length}
+use Rattle.std.specs.Prelude.{◌≡◌, ℕ, List, Result, Ok, Err, if◌then◌else◌, nat_le}
 use Rattle.np_estate.specs.Reading.{estate_of}
 use Rattle.np_estate.specs.declared.lists.EstateLists.{EstateLists}
+use Rattle.np_fold.specs.Workloads.{folding_of, workload_count}
+use Rattle.np_fold.specs.declared.fold_fault.FoldFault.{FoldFault}
+use Rattle.np_fold.specs.declared.fold_fault.FoldFault.TheVariants as fold
 use Rattle.np_items.specs.Readings.{Reading}
 use Rattle.np_items.specs.declared.refusal.Refusal.{Refusal}
 use Rattle.np_items.specs.declared.refusal.Refusal.TheVariants as why
+use Rattle.np_cli.specs.declared.folded.Folded.{Folded}
 use Rattle.np_cli.specs.declared.fault.Fault.{Fault}
 use Rattle.np_cli.specs.declared.fault.Fault.TheVariants.{Inputs, TooManyWorkloads}
 use Rattle.np_cli.specs.declared.fault.InputsFault.{InputsFault}
@@ -14,9 +18,9 @@ use Rattle.np_cli.specs.declared.fault.InputsFault.TheVariants.{Refused, NoMemor
 abbrev pub most_workloads : ℕ
 most_workloads = 2000
 
--- the estate, unless it has more workloads than that: each of its pods is one
+-- the estate, unless it has more workloads than that
 unfoldable pub small_estate : EstateLists → Result EstateLists Fault
-small_estate lists = if nat_le (length lists.pods) most_workloads then Ok lists else Err (TooManyWorkloads (length lists.pods))
+small_estate lists = if nat_le (workload_count lists) most_workloads then Ok lists else Err (TooManyWorkloads (workload_count lists))
 
 -- so for what is read
 abbrev pub small_reading : Reading EstateLists → Result EstateLists Fault
@@ -32,6 +36,10 @@ abbrev pub fault_of : Refusal → InputsFault
 fault_of why.NoMemory = NoMemory
 fault_of refusal = Refused (Inputs refusal)
 
+abbrev pub fold_fault_of : FoldFault → InputsFault
+fold_fault_of (fold.TooManyWorkloads count) = Refused (TooManyWorkloads count)
+fold_fault_of fold.NoMemory = NoMemory
+
 -- What was read is what there is to read. Memory may be refused at any time.
 abbrev pub Refuses : {X : Type 0} → InputsFault → Result X Fault → Type 0
 Refuses (Refused fault) reads = reads ≡ Err fault
@@ -40,3 +48,8 @@ Refuses NoMemory reads = Unit {0}
 abbrev pub Gives : {X : Type 0} → Result X InputsFault → Result X Fault → Type 0
 Gives (Ok x) reads = reads ≡ Ok x
 Gives (Err fault) reads = Refuses fault reads
+
+-- the same with the estate's workloads
+abbrev pub GivesFolded : Result Folded InputsFault → Result EstateLists Fault → Type 0
+GivesFolded (Ok folded) reads = (reads ≡ Ok folded.estate) × (folded.workloads ≡ folding_of folded.estate)
+GivesFolded (Err fault) reads = Refuses fault reads

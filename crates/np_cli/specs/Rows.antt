@@ -1,73 +1,60 @@
--- The rows of the table.
-use Rattle.std.specs.Prelude.{ℕ, List, [], ◌∷◌, ◌++◌, Bool, true, false, ◌&&◌, ◌==◌, codes, if◌then◌else◌, flat_map}
-use Rattle.std.specs.Str.{bytes_eq}
+-- The text of the table.
+use Rattle.std.specs.Prelude.{ℕ, List, [], ◌++◌, ◌==◌, codes, map, flat_map, slice_index_or, Option, Some, None, if◌then◌else◌}
+use Rattle.np_addr.specs.AddressText.{address_text}
+use Rattle.np_addr.specs.declared.address.Address.TheVariants as address
 use Rattle.np_addr.specs.declared.address.Family.{Family}
 use Rattle.np_addr.specs.declared.address.Family.TheVariants.{Four, Six}
-use Rattle.np_conns.specs.ConnsText.{conns_text, spans_of}
-use Rattle.np_conns.specs.declared.port_spot.PortSpot.{PortSpot}
-use Rattle.np_conns.specs.declared.proto.Proto.TheVariants.{Tcp, Udp, Sctp}
-use Rattle.np_estate.specs.Families.{families_of}
+use Rattle.np_base.specs.declared.range.Range.{Range}
+use Rattle.np_conns.specs.Conns.{has_spot}
+use Rattle.np_conns.specs.ConnsText.{conns_text}
 use Rattle.np_estate.specs.declared.lists.EstateLists.{EstateLists}
-use Rattle.np_rules.specs.Ends.{pod}
-use Rattle.np_rules.specs.Verdict.{allows, pod_at}
-use Rattle.np_cli.specs.Workloads.{workloads_of}
-use Rattle.np_cli.specs.declared.workloads.Workload.{Workload}
+use Rattle.np_fold.specs.Workloads.{Folding, folding_of}
+use Rattle.np_table.specs.Rows.{all_rows}
+use Rattle.np_table.specs.Table.{Table, table_of}
+use Rattle.np_table.specs.declared.rows.AddressSpan.{AddressSpan}
+use Rattle.np_table.specs.declared.rows.AddressSpan.TheVariants as span
+use Rattle.np_table.specs.declared.rows.Row.{Row}
+use Rattle.np_table.specs.declared.rows.RowEnd.{RowEnd}
+use Rattle.np_table.specs.declared.rows.RowEnd.TheVariants.{Work, Span, Controller}
 
 -- ---- one row
 
-abbrev pub is_none : {X : Type 0} → List X → Bool
-is_none [] = true
-is_none (x ∷ xs) = false
+-- one address as itself, more of them as `lo-hi`
+abbrev pub range_text : (ℕ → List ℕ) → Range ℕ → List ℕ
+range_text text range = if range.lo == range.hi then text range.lo else text range.lo ++ codes "-" ++ text range.hi
 
--- whether no port of any protocol passes
-abbrev pub passes_nothing : (PortSpot → Bool) → Bool
-passes_nothing passes = is_none (spans_of passes Tcp) && is_none (spans_of passes Udp) && is_none (spans_of passes Sctp)
+abbrev pub span_text : AddressSpan → List ℕ
+span_text (span.Four range) = range_text (λ n. address_text (address.Four n)) range
+span_text (span.Six range) = range_text (λ n. address_text (address.Six n)) range
 
--- `source => destination : connections`, where a mark may follow the destination's name
-abbrev pub line : List ℕ → List ℕ → List ℕ → List ℕ → List ℕ
-line source destination mark connections = source ++ codes " => " ++ destination ++ mark ++ codes " : " ++ connections ++ codes "\n"
+-- a workload by its name
+abbrev pub end_text : List (List ℕ) → RowEnd → List ℕ
+end_text names (Work number) = slice_index_or names number []
+end_text names (Span addresses) = span_text addresses
+end_text names Controller = codes "{ingress-controller}"
 
--- the row of the ports that pass, where some do
-unfoldable pub row : List ℕ → List ℕ → List ℕ → (PortSpot → Bool) → List ℕ
-row source destination mark passes = if passes_nothing passes then [] else line source destination mark (conns_text passes)
+-- the mark of a row that is of one family of two
+abbrev pub mark_text : Option Family → List ℕ
+mark_text None = []
+mark_text (Some Four) = codes " (IPv4)"
+mark_text (Some Six) = codes " (IPv6)"
 
--- ---- the rows of a pair
+-- the names of the workloads of a folding
+abbrev pub names_of : Folding → List (List ℕ)
+names_of folding = map (λ one. one.name) folding.workloads
 
--- whether the same ports pass, since equal sets have equal texts and no others have
-abbrev pub are_same : (PortSpot → Bool) → (PortSpot → Bool) → Bool
-are_same four six = bytes_eq (conns_text four) (conns_text six)
+-- `source => destination : connections`, where a mark may follow the destination
+unfoldable pub row_text : List (List ℕ) → Row → List ℕ
+row_text names row =
+    end_text names row.key.source ++ codes " => " ++ end_text names row.key.destination ++ mark_text row.family
+    ++ codes " : " ++ conns_text (has_spot row.conns) ++ codes "\n"
 
--- one row without a mark where the same ports pass in both families, else one for each with the family's mark
-unfoldable pub rows_of_both : List ℕ → List ℕ → (PortSpot → Bool) → (PortSpot → Bool) → List ℕ
-rows_of_both source destination four six =
-    if are_same four six then row source destination [] four
-    else row source destination (codes " (IPv4)") four ++ row source destination (codes " (IPv6)") six
+-- ---- all rows
 
--- one row without a mark where there is one family
-abbrev pub rows_in : List Family → List ℕ → List ℕ → (Family → PortSpot → Bool) → List ℕ
-rows_in (family ∷ []) source destination passes = row source destination [] (passes family)
-rows_in families source destination passes = rows_of_both source destination (passes Four) (passes Six)
+-- The text of a table is a function of the table alone.
+unfoldable pub list_text : Table → List ℕ
+list_text table = flat_map (row_text table.names) (all_rows table)
 
--- whether packets of a family between two pods, named by their places, are allowed
-abbrev pub pair_allows : EstateLists → ℕ → ℕ → Family → PortSpot → Bool
-pair_allows lists source destination family spot =
-    allows lists (record { source = pod (pod_at lists source); destination = pod (pod_at lists destination); family = family; spot = spot })
-
--- The rows of a pair of workloads, in the families of the list. A workload of one pod has none with itself.
-unfoldable pub pair_rows : EstateLists → Workload → Workload → List ℕ
-pair_rows lists source destination =
-    if source.place == destination.place then []
-    else rows_in (families_of lists.pods) source.name destination.name (pair_allows lists source.place destination.place)
-
--- ---- the rows of all pairs
-
--- the rows of a source, by destination
-abbrev pub rows_from : EstateLists → List Workload → Workload → List ℕ
-rows_from lists workloads source = flat_map (pair_rows lists source) workloads
-
--- all rows, by source and then by destination
-abbrev pub all_rows : EstateLists → List Workload → List ℕ
-all_rows lists workloads = flat_map (rows_from lists workloads) workloads
-
+-- that of the table of an estate
 unfoldable pub table_text : EstateLists → List ℕ
-table_text lists = all_rows lists (workloads_of lists.pods)
+table_text lists = list_text (table_of lists (folding_of lists))

@@ -1,5 +1,6 @@
 //! Why inputs are refused for what they say.
 
+use np_fold::FoldFault;
 use np_items::Refusal;
 use std::fmt;
 
@@ -45,6 +46,22 @@ impl From<Refusal> for InputsFault {
         match refusal {
             Refusal::NoMemory => InputsFault::NoMemory,
             refusal => InputsFault::Refused(Fault::Inputs(refusal)),
+        }
+    }
+}
+
+impl From<FoldFault> for InputsFault {
+    ghost use Rattle.std.specs.Prelude.{◌≡◌};
+    ghost use Rattle.np_cli.specs.Inputs.{fold_fault_of};
+
+    ghost from_gives = { λ fault made. made ≡ fold_fault_of fault };
+
+    fn from(fault: FoldFault) -> InputsFault {
+        match fault {
+            FoldFault::TooManyWorkloads { count } => {
+                InputsFault::Refused(Fault::TooManyWorkloads { count })
+            }
+            FoldFault::NoMemory => InputsFault::NoMemory,
         }
     }
 }

@@ -1,16 +1,18 @@
 //! The top call: from the words of a command line and the bytes of its inputs to a report and a status.
-ghost use Rattle.std.specs.Prelude.{◌≡◌, ◌≢◌, ◌⊎◌, Some, map};
+ghost use Rattle.std.specs.Prelude.{◌≡◌, ◌≢◌, ◌⊎◌, None, Some, map};
 ghost use Rattle.np_cli.specs.Inputs.{lists_of};
 ghost use Rattle.np_cli.specs.Messages.{message};
-ghost use Rattle.np_cli.specs.Prints.{Answers, Prints};
+ghost use Rattle.np_cli.specs.Prints.{Answers, Prints, Wrote};
 ghost use Rattle.np_cli.specs.Promises.{BlamesDevice, BlamesWords, Completes, RefusesFaults, RefusesTooLarge};
+ghost use Rattle.np_cli.specs.Rows.{table_text};
 ghost use Rattle.np_cli.specs.Runs.{Cause, Ends, Said, sunk};
 ghost use Rattle.np_cli.specs.Sources.{sourced};
 ghost use Rattle.np_cli.specs.Words as spec;
 ghost use Rattle.np_cli.specs.Words.{asked_by};
+ghost use Rattle.np_fold.specs.Workloads.{folding_of};
 
-use crate::estate::read_estate;
 use crate::fault::InputsFault;
+use crate::folded::{Folded, read_folded};
 use crate::job::{Job, WordsFault, read_words};
 use crate::outcome::Outcome;
 use crate::rows::write_table;
@@ -154,13 +156,27 @@ fn list<O: Sink, L: Ledger>(
         (sunk O.taken O.faults out.old out.new)
         result }
 {
-    let estate = match read_estate(alloc, texts) {
-        Ok(estate) => estate,
-        Err(InputsFault::Refused(fault)) => return Outcome::Refused(fault),
-        Err(InputsFault::NoMemory) => return Outcome::NoMemory,
-    };
-    match write_table(alloc, out, &estate, steps) {
-        Ok(()) => Outcome::Done(estate.notes()),
+    match read_folded(alloc, texts) {
+        Ok(folded) => list_folded(alloc, &folded, out, steps),
+        Err(InputsFault::Refused(fault)) => Outcome::Refused(fault),
+        Err(InputsFault::NoMemory) => Outcome::NoMemory,
+    }
+}
+
+// Writes the table of an estate.
+#[tactic(auto, unfolding(crate::specs::Rows::table_text))]
+fn list_folded<O: Sink, L: Ledger>(
+    alloc: Global,
+    folded: &Folded,
+    out: &mut O,
+    steps: &mut Steps<L>,
+) -> Outcome
+    requires { folded.now.workloads ≡ folding_of folded.now.estate }
+    ensures { Wrote (sunk O.taken O.faults out.old out.new) None (table_text folded.now.estate)
+        folded.now.estate.notes result }
+{
+    match write_table(alloc, out, &folded.estate, &folded.workloads, steps) {
+        Ok(()) => Outcome::Done(folded.estate.notes()),
         Err(WriteFault::SinkFailed) => Outcome::CannotWrite,
         Err(WriteFault::NoMemory) => Outcome::NoMemory,
     }

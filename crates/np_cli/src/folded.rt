@@ -1,0 +1,33 @@
+//! What the bytes of the inputs say, folded.
+ghost use Rattle.std.specs.Prelude.{◌<◌, ◌^◌, length, map};
+ghost use Rattle.np_cli.specs.Inputs as spec;
+
+use crate::fault::InputsFault;
+use np_estate::Estate;
+use np_fold::Workloads;
+use std::alloc::Global;
+
+/// An estate and its workloads.
+#[derive(Debug, Drop)]
+pub struct Folded {
+    pub estate: Estate,
+    pub workloads: Workloads,
+}
+
+/// What all inputs say together, or their first fault.
+pub fn read_folded(alloc: Global, texts: &[Vec<u8>]) -> Result<Folded, InputsFault>
+    ensures { spec.GivesFolded result (spec.lists_of (map (λ text. text.items) texts.now)) }
+{
+    let estate = Estate::read(alloc, texts)?;
+    fold(alloc, estate)
+}
+
+// The estate with its workloads, unless it has too many.
+#[tactic(auto, unfolding(crate::specs::Inputs::small_estate))]
+fn fold(alloc: Global, estate: Estate) -> Result<Folded, InputsFault>
+    requires { length estate.pods < 2 ^ 32 }
+    ensures { spec.GivesFolded result (spec.small_estate estate) }
+{
+    let workloads = Workloads::of(alloc, &estate)?;
+    Ok(Folded { estate, workloads })
+}
