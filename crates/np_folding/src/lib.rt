@@ -1,5 +1,30 @@
-//! Folding by example: what rules see of the pods of lists that are read. It holds tests alone.
+//! Folding by example: what rules see of the pods of lists that are read, the workloads that they make, and the rows of
+//! these. It holds tests alone.
 #![tactic(auto)]
 
 #[cfg(test)]
+mod address_ranges;
+#[cfg(test)]
+mod classes;
+#[cfg(test)]
+mod foldings;
+#[cfg(test)]
+mod limits;
+#[cfg(test)]
+mod lists;
+#[cfg(test)]
+mod names;
+#[cfg(test)]
+mod numbers;
+#[cfg(test)]
+mod owners;
+#[cfg(test)]
+mod pairs;
+#[cfg(test)]
+mod rows;
+#[cfg(test)]
+mod told_apart;
+#[cfg(test)]
 mod traits;
+#[cfg(test)]
+mod written;

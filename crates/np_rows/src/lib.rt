@@ -3,9 +3,17 @@
 #![tactic(auto)]
 
 #[cfg(test)]
+mod addresses;
+#[cfg(test)]
 mod cluster_lists;
 #[cfg(test)]
 mod failures;
+#[cfg(test)]
+mod families;
+#[cfg(test)]
+mod folds;
+#[cfg(test)]
+mod large;
 #[cfg(test)]
 mod limits;
 #[cfg(test)]
@@ -18,6 +26,10 @@ mod refusals;
 mod refused_lists;
 #[cfg(test)]
 mod runs;
+#[cfg(test)]
+mod sample;
+#[cfg(test)]
+mod table_text;
 #[cfg(test)]
 mod tables;
 #[cfg(test)]

@@ -1,14 +1,20 @@
 //! The greatest lists that are read, and one more.
 
-use crate::objects::list_of_many;
-use crate::runs::{expect, run_on};
+use crate::objects::{items_of_many, list_text};
+use crate::runs::{LARGE_PIECE, expect, run, run_on, sink, source};
 use np_cli::Status;
 use std::alloc::{AllocError, Global};
 use std::test::Fail;
 
-const CONFIG_MAP: &str = r#"{"apiVersion":"v1","kind":"ConfigMap"}"#;
+static CONFIG_MAP: &str = r#"{"apiVersion":"v1","kind":"ConfigMap"}"#;
 
-const POD: &str = r#"{"apiVersion":"v1","kind":"Pod","metadata":{"name":"p#"},"spec":{}}"#;
+static POD: &str = r#"{"apiVersion":"v1","kind":"Pod","metadata":{"name":"p#"},"spec":{}}"#;
+
+// The list of so many items of one text.
+fn list_of_many(alloc: Global, count: usize, item: &str) -> Result<String, AllocError> {
+    let items = items_of_many(alloc, count, item)?;
+    list_text(alloc, &[items.as_str()])
+}
 
 #[test]
 fn most_items(rt: HostRuntime) -> Result<(), Fail> {
@@ -23,10 +29,19 @@ fn most_items(rt: HostRuntime) -> Result<(), Fail> {
     Ok(())
 }
 
+// Bare pods are workloads of their own. Of the most that there may be the first row is written, which fails here.
 #[test]
-fn many_pods(rt: HostRuntime) -> Result<(), Fail> {
-    let text = list_of_many(rt.alloc(), 2_001, POD)?;
-    let ran = run_on(rt.alloc(), "list", text.as_bytes())?;
+fn most_workloads(rt: HostRuntime) -> Result<(), Fail> {
+    let alloc = rt.alloc();
+    let text = list_of_many(alloc, 2_000, POD)?;
+    let inputs = source(alloc, text.as_bytes(), LARGE_PIECE)?;
+    let mut out = sink(alloc, LARGE_PIECE)?;
+    out.fail_write(1)?;
+    let ran = run(alloc, "list", inputs, out, sink(alloc, LARGE_PIECE)?)?;
+    let said = "error: cannot write\n";
+    expect(&rt, &ran, Status::Device, "", said, "2000 pods");
+    let text = list_of_many(alloc, 2_001, POD)?;
+    let ran = run_on(alloc, "list", text.as_bytes())?;
     let said = "error: TooManyWorkloads 2001\n";
     expect(&rt, &ran, Status::Refused, "", said, "2001 pods");
     Ok(())

@@ -1,11 +1,11 @@
 //! What is said of lists that are accepted: which objects were left out.
 
 use crate::objects::{CONFIG_MAP, FINISHED_HOST_POD, FINISHED_POD, HOST_POD, POD, list_text};
-use crate::runs::{expect, run_on};
-use np_cli::Status;
+use crate::runs::expect_table;
+use crate::table_text::{FREE, table_text};
 use std::test::Fail;
 
-// A list without items, in its two forms.
+// A list without items, in its three forms.
 #[test]
 fn no_items(rt: HostRuntime) -> Result<(), Fail> {
     for text in [
@@ -13,8 +13,7 @@ fn no_items(rt: HostRuntime) -> Result<(), Fail> {
         r#"{"apiVersion":"v1","kind":"List"}"#,
         r#"{"apiVersion":"v1","items":null,"kind":"List"}"#,
     ] {
-        let ran = run_on(rt.alloc(), "list", text.as_bytes())?;
-        expect(&rt, &ran, Status::Done, "", "", text);
+        expect_table(&rt, rt.alloc(), text, "", "", text)?;
     }
     Ok(())
 }
@@ -23,13 +22,20 @@ fn no_items(rt: HostRuntime) -> Result<(), Fail> {
 fn objects_left_out(rt: HostRuntime) -> Result<(), Fail> {
     let items = [POD, HOST_POD, FINISHED_POD, CONFIG_MAP];
     let text = list_text(rt.alloc(), &items)?;
-    let ran = run_on(rt.alloc(), "list", text.as_bytes())?;
+    let table = table_text(rt.alloc(), "", &[("default/a[Pod]", FREE)])?;
     let notes = concat!(
         "note: host network pods left out: 1\n",
         "note: finished pods left out: 1\n",
         "note: objects of other kinds skipped: 1\n",
     );
-    expect(&rt, &ran, Status::Done, "", notes, "three left out");
+    expect_table(
+        &rt,
+        rt.alloc(),
+        text.as_str(),
+        table.as_str(),
+        notes,
+        "three left out",
+    )?;
     Ok(())
 }
 
@@ -37,8 +43,7 @@ fn objects_left_out(rt: HostRuntime) -> Result<(), Fail> {
 #[test]
 fn finished_on_the_host(rt: HostRuntime) -> Result<(), Fail> {
     let text = list_text(rt.alloc(), &[FINISHED_HOST_POD])?;
-    let ran = run_on(rt.alloc(), "list", text.as_bytes())?;
     let notes = "note: host network pods left out: 1\n";
-    expect(&rt, &ran, Status::Done, "", notes, "both at once");
+    expect_table(&rt, rt.alloc(), text.as_str(), "", notes, "both at once")?;
     Ok(())
 }

@@ -7,19 +7,19 @@ use std::alloc::{AllocError, Global};
 use std::test::Fail;
 
 // A NetworkPolicy whose ingress rule has these members.
-const WITH_RULE: &str = concat!(
+static WITH_RULE: &str = concat!(
     r#"{"apiVersion":"networking.k8s.io/v1","kind":"NetworkPolicy","metadata":{"name":"p"},"#,
     r#""spec":{"podSelector":{},"ingress":[{#}]}}"#,
 );
 
 // An AdminNetworkPolicy of this name and priority.
-const ADMIN: &str = concat!(
+static ADMIN: &str = concat!(
     r#"{"apiVersion":"policy.networking.k8s.io/v1alpha1","kind":"AdminNetworkPolicy","#,
     r#""metadata":{"name":"NAME"},"spec":{"priority":NUMBER,"subject":{"namespaces":{}}}}"#,
 );
 
 // A ReplicaSet that another one controls.
-const REPLICA_SET: &str = concat!(
+static REPLICA_SET: &str = concat!(
     r#"{"apiVersion":"apps/v1","kind":"ReplicaSet","metadata":{"name":"NAME","ownerReferences":["#,
     r#"{"kind":"ReplicaSet","name":"OWNER","controller":true}]},"spec":{}}"#,
 );

@@ -11,11 +11,11 @@ use std::marker::Brand;
 use std::process::Abort;
 use std::sync::ledger::{Blank, Ledger};
 
-// More bytes than a table of the examples has.
+// More bytes than a message or a table of two pods has.
 const AMPLE_ROOM: usize = 4096;
 
-// More bytes than a call takes.
-const LARGE_PIECE: usize = 65536;
+/// More bytes than a call takes.
+pub const LARGE_PIECE: usize = 65536;
 
 /// What a run gave.
 #[derive(Drop)]
@@ -69,10 +69,29 @@ fn run_counted<L: Ledger>(
 
 /// The same with these bytes as standard input, where no call fails.
 pub fn run_on(alloc: Global, line: &str, bytes: &[u8]) -> Result<Ran, NoMemory> {
+    run_in_room(alloc, line, bytes, 0)
+}
+
+// The same with room for so many bytes more in the sink of the table.
+fn run_in_room(alloc: Global, line: &str, bytes: &[u8], more: usize) -> Result<Ran, NoMemory> {
     let inputs = source(alloc, bytes, LARGE_PIECE)?;
-    let out = sink(alloc, LARGE_PIECE)?;
+    let out = MemSink::new(alloc, AMPLE_ROOM.saturating_add(more), LARGE_PIECE)?;
     let err = sink(alloc, LARGE_PIECE)?;
     run(alloc, line, inputs, out, err)
+}
+
+/// Stops the test where the run on a list is not done, or gives another table or other notes than these.
+pub fn expect_table(
+    rt: &impl Abort,
+    alloc: Global,
+    list: &str,
+    table: &str,
+    notes: &str,
+    case: &str,
+) -> Result<(), NoMemory> {
+    let ran = run_in_room(alloc, "list", list.as_bytes(), table.len())?;
+    expect(rt, &ran, Status::Done, table, notes, case);
+    Ok(())
 }
 
 // The words of a line.

@@ -3,7 +3,7 @@
 use std::alloc::{AllocError, Global};
 
 /// The pods `a` and `b`, and a policy on `b` that permits TCP port 80 from `a`.
-pub const TWO_PODS: &str = concat!(
+pub static TWO_PODS: &str = concat!(
     r#"{"apiVersion":"v1","items":["#,
     r#"{"apiVersion":"v1","kind":"Pod","metadata":{"name":"a","namespace":"default","labels":{"app":"a"}},"#,
     r#""spec":{"containers":[{"ports":[]}]}},"#,
@@ -17,17 +17,25 @@ pub const TWO_PODS: &str = concat!(
 );
 
 /// The one rule of the policy in `TWO_PODS`.
-pub const FROM_A_TO_80: &str =
+pub static FROM_A_TO_80: &str =
     r#"{"from":[{"podSelector":{"matchLabels":{"app":"a"}}}],"ports":[{"protocol":"TCP","port":80}]}"#;
 
 /// The table of `TWO_PODS`.
-pub const TWO_PODS_TABLE: &str = concat!(
+pub static TWO_PODS_TABLE: &str = concat!(
     "default/a[Pod] => default/b[Pod] : TCP 80\n",
     "default/b[Pod] => default/a[Pod] : All Connections\n",
+    "0.0.0.0-255.255.255.255 => default/a[Pod] : All Connections\n",
+    "::-ffff:ffff:ffff:ffff:ffff:ffff:ffff:ffff => default/a[Pod] : All Connections\n",
+    "default/a[Pod] => 0.0.0.0-255.255.255.255 : All Connections\n",
+    "default/a[Pod] => ::-ffff:ffff:ffff:ffff:ffff:ffff:ffff:ffff : All Connections\n",
+    "0.0.0.0-255.255.255.255 => default/b[Pod] : No Connections\n",
+    "::-ffff:ffff:ffff:ffff:ffff:ffff:ffff:ffff => default/b[Pod] : No Connections\n",
+    "default/b[Pod] => 0.0.0.0-255.255.255.255 : All Connections\n",
+    "default/b[Pod] => ::-ffff:ffff:ffff:ffff:ffff:ffff:ffff:ffff : All Connections\n",
 );
 
 /// The message of `TWO_PODS` where its rule names another protocol than the three.
-pub const BAD_PROTOCOL: &str = "error: item 3: spec.ingress[0].ports[0].protocol: BadProtocol\n";
+pub static BAD_PROTOCOL: &str = "error: item 3: spec.ingress[0].ports[0].protocol: BadProtocol\n";
 
 /// The list of the items that the words of a line stand for, in order. A number stands for a policy of that name on
 /// the pods with `app` = `b`, which permits that TCP port from those with `app` = `a`. Any other word stands for a pod

@@ -1,0 +1,165 @@
+//! Workloads by their owners.
+
+use crate::foldings::{expect_workloads, folded};
+use crate::lists::{BARE, ListedPod, OF_DB, POLICY_ON_APP, estate_of};
+use std::test::Fail;
+
+// The Deployment `web`, and two ReplicaSets that it owns.
+static WEB: &[&str] = &[
+    r#"{"apiVersion":"apps/v1","kind":"Deployment","metadata":{"name":"web"},"spec":{"replicas":3,"template":{"metadata":{},"spec":{}}}}"#,
+    r#"{"apiVersion":"apps/v1","kind":"ReplicaSet","metadata":{"name":"web-0","ownerReferences":[{"controller":true,"kind":"Deployment","name":"web"}]}}"#,
+    r#"{"apiVersion":"apps/v1","kind":"ReplicaSet","metadata":{"name":"web-1","ownerReferences":[{"controller":true,"kind":"Deployment","name":"web"}]}}"#,
+];
+
+const OF_WEB_0: &str = r#"{"controller":true,"kind":"ReplicaSet","name":"web-0"}"#;
+
+const OF_WEB_1: &str = r#"{"controller":true,"kind":"ReplicaSet","name":"web-1"}"#;
+
+// Three pods of them, whose labels differ in a key that no selector names.
+static PODS_OF_WEB: &[ListedPod] = &[
+    ListedPod {
+        name: "web-0-a",
+        labels: r#""app":"web","pod-template-hash":"0""#,
+        owners: OF_WEB_0,
+        ..BARE
+    },
+    ListedPod {
+        name: "web-1-a",
+        labels: r#""app":"web","pod-template-hash":"1""#,
+        owners: OF_WEB_1,
+        ..BARE
+    },
+    ListedPod {
+        name: "web-1-b",
+        labels: r#""app":"web","pod-template-hash":"1""#,
+        owners: OF_WEB_1,
+        ..BARE
+    },
+];
+
+#[test]
+fn replica_sets_of_one_deployment(rt: HostRuntime) -> Result<(), Fail> {
+    let alloc = rt.alloc();
+    let wanted = "default/web[Deployment] of kind 0: 0 1 2\n";
+    expect_workloads(&rt, alloc, PODS_OF_WEB, WEB, wanted)?;
+    let estate = estate_of(alloc, PODS_OF_WEB, WEB)?;
+    let workloads = folded(alloc, &estate)?;
+    assert_eq!(rt; workloads.count(), 1);
+    assert_eq!(rt; workloads.kinds(), 1);
+    assert!(rt; workloads.relevant().is_empty());
+    Ok(())
+}
+
+// A Deployment without pods stands for one, and a pod without an owner is its own. No rule tells the two apart.
+#[test]
+fn templates_and_pods_without_owners(rt: HostRuntime) -> Result<(), Fail> {
+    static PODS: &[ListedPod] = &[ListedPod { name: "c", ..BARE }];
+    let wanted = "default/c[Pod] of kind 0: 0\ndefault/web[Deployment] of kind 0: 1\n";
+    expect_workloads(&rt, rt.alloc(), PODS, WEB, wanted)
+}
+
+const OF_A: &str = r#"{"controller":true,"kind":"Deployment","name":"a"}"#;
+
+// Neither of these is listed.
+#[test]
+fn owners_of_one_kind(rt: HostRuntime) -> Result<(), Fail> {
+    static PODS: &[ListedPod] = &[
+        ListedPod {
+            name: "db-0",
+            labels: r#""app":"x""#,
+            owners: OF_DB,
+            ..BARE
+        },
+        ListedPod {
+            name: "a-0",
+            labels: r#""app":"x""#,
+            owners: OF_A,
+            ..BARE
+        },
+        ListedPod {
+            name: "a-1",
+            labels: r#""app":"x""#,
+            owners: OF_A,
+            ..BARE
+        },
+    ];
+    let alloc = rt.alloc();
+    let wanted = "default/a[Deployment] of kind 0: 1 2\ndefault/db[StatefulSet] of kind 0: 0\n";
+    expect_workloads(&rt, alloc, PODS, &[POLICY_ON_APP], wanted)?;
+    let estate = estate_of(alloc, PODS, &[POLICY_ON_APP])?;
+    let workloads = folded(alloc, &estate)?;
+    assert_eq!(rt; workloads.count(), 2);
+    assert_eq!(rt; workloads.kinds(), 1);
+    Ok(())
+}
+
+// One name of owners of different sorts, which come together nowhere.
+#[test]
+fn owners_of_one_name(rt: HostRuntime) -> Result<(), Fail> {
+    static PODS: &[ListedPod] = &[
+        ListedPod {
+            name: "x",
+            owners: r#"{"controller":true,"kind":"StatefulSet","name":"a"}"#,
+            ..BARE
+        },
+        ListedPod { name: "a", ..BARE },
+        ListedPod {
+            name: "y",
+            owners: OF_A,
+            ..BARE
+        },
+    ];
+    let wanted = concat!(
+        "default/a[Deployment] of kind 0: 2\n",
+        "default/a[Pod] of kind 0: 1\n",
+        "default/a[StatefulSet] of kind 0: 0\n",
+    );
+    expect_workloads(&rt, rt.alloc(), PODS, &[], wanted)
+}
+
+// Pods of one owner's name in two namespaces are not even of one kind.
+#[test]
+fn owners_in_two_namespaces(rt: HostRuntime) -> Result<(), Fail> {
+    static PODS: &[ListedPod] = &[
+        ListedPod {
+            namespace: "y",
+            name: "db-0",
+            owners: OF_DB,
+            ..BARE
+        },
+        ListedPod {
+            namespace: "x",
+            name: "db-0",
+            owners: OF_DB,
+            ..BARE
+        },
+    ];
+    let wanted = "x/db[StatefulSet] of kind 0: 1\ny/db[StatefulSet] of kind 1: 0\n";
+    expect_workloads(&rt, rt.alloc(), PODS, &[], wanted)
+}
+
+// Kinds are numbered by their first workloads in the order of names, and one can come again behind another.
+#[test]
+fn kinds_come_again(rt: HostRuntime) -> Result<(), Fail> {
+    static PODS: &[ListedPod] = &[
+        ListedPod { name: "d", ..BARE },
+        ListedPod {
+            name: "c",
+            labels: r#""app":"x""#,
+            ..BARE
+        },
+        ListedPod { name: "b", ..BARE },
+        ListedPod {
+            name: "a",
+            labels: r#""app":"x""#,
+            ..BARE
+        },
+    ];
+    let wanted = concat!(
+        "default/a[Pod] of kind 0: 3\n",
+        "default/b[Pod] of kind 1: 2\n",
+        "default/c[Pod] of kind 0: 1\n",
+        "default/d[Pod] of kind 1: 0\n",
+    );
+    expect_workloads(&rt, rt.alloc(), PODS, &[POLICY_ON_APP], wanted)
+}
