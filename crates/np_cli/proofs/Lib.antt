@@ -4,3 +4,4 @@ pub mod RowsLemmas
 pub mod TableLemmas
 pub mod RunsLemmas
 pub mod PromisesLemmas
+pub mod CountsLemmas

@@ -1,5 +1,6 @@
 -- What the inputs say, or why they are refused.
 use Rattle.std.specs.Prelude.{◌≡◌, ℕ, List, Result, Ok, Err, if◌then◌else◌, nat_le}
+use Rattle.np_estate.specs.Lawful.{IsLawful}
 use Rattle.np_estate.specs.Reading.{estate_of}
 use Rattle.np_estate.specs.declared.lists.EstateLists.{EstateLists}
 use Rattle.np_fold.specs.Workloads.{folding_of, workload_count}
@@ -49,7 +50,7 @@ abbrev pub Gives : {X : Type 0} → Result X InputsFault → Result X Fault → 
 Gives (Ok x) reads = reads ≡ Ok x
 Gives (Err fault) reads = Refuses fault reads
 
--- the same with the estate's workloads
+-- the same with the estate's workloads; what is read is lawful
 abbrev pub GivesFolded : Result Folded InputsFault → Result EstateLists Fault → Type 0
-GivesFolded (Ok folded) reads = (reads ≡ Ok folded.estate) × (folded.workloads ≡ folding_of folded.estate)
+GivesFolded (Ok folded) reads = (reads ≡ Ok folded.estate) × (folded.workloads ≡ folding_of folded.estate) × IsLawful folded.estate
 GivesFolded (Err fault) reads = Refuses fault reads

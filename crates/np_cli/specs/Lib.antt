@@ -7,5 +7,6 @@ pub mod Rows
 pub mod Answers
 pub mod Written
 pub mod Runs
+pub mod Counts
 pub mod Prints
 pub mod Promises

@@ -1,6 +1,7 @@
 //! What the bytes of the inputs say, folded.
-ghost use Rattle.std.specs.Prelude.{◌<◌, ◌^◌, length, map};
+ghost use Rattle.std.specs.Prelude.{map};
 ghost use Rattle.np_cli.specs.Inputs as spec;
+ghost use Rattle.np_estate.specs.Lawful.{IsLawful};
 
 use crate::fault::InputsFault;
 use np_estate::Estate;
@@ -25,7 +26,7 @@ pub fn read_folded(alloc: Global, texts: &[Vec<u8>]) -> Result<Folded, InputsFau
 // The estate with its workloads, unless it has too many.
 #[tactic(auto, unfolding(crate::specs::Inputs::small_estate))]
 fn fold(alloc: Global, estate: Estate) -> Result<Folded, InputsFault>
-    requires { length estate.pods < 2 ^ 32 }
+    requires { IsLawful estate }
     ensures { spec.GivesFolded result (spec.small_estate estate) }
 {
     let workloads = Workloads::of(alloc, &estate)?;

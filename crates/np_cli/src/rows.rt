@@ -1,7 +1,9 @@
 //! The rows of the table, written one after another.
-ghost use Rattle.std.specs.Prelude.{◌≡◌};
+ghost use Rattle.std.specs.Prelude.{◌≡◌, ◌≤◌, ◌+◌};
+ghost use Rattle.np_cli.specs.Counts.{list_steps};
 ghost use Rattle.np_cli.specs.Rows as spec;
 ghost use Rattle.np_cli.specs.Written.{Writes};
+ghost use Rattle.np_estate.specs.Lawful.{IsLawful};
 ghost use Rattle.np_fold.specs.Workloads.{folding_of};
 ghost use Rattle.np_table.specs.Table.{table_of};
 
@@ -15,7 +17,7 @@ use np_table::{Row, Rows};
 use std::alloc::Global;
 use std::sync::ledger::Ledger;
 
-/// Writes the table of an estate, row by row.
+/// Writes the table of an estate, row by row. The rules that it looks at are counted.
 #[tactic(auto, unfolding(crate::specs::Rows::list_text))]
 pub fn write_table<O: Sink, L: Ledger>(
     alloc: Global,
@@ -24,9 +26,12 @@ pub fn write_table<O: Sink, L: Ledger>(
     workloads: &Workloads,
     steps: &mut Steps<L>,
 ) -> Result<(), WriteFault>
-    requires { workloads.now ≡ folding_of estate.now }
-    ensures { Writes (O.taken out.old) (O.taken out.new) (O.faults out.old) (O.faults out.new)
+    requires folded { workloads.now ≡ folding_of estate.now }
+    requires lawful { IsLawful estate.now }
+    ensures written { Writes (O.taken out.old) (O.taken out.new) (O.faults out.old) (O.faults out.new)
         (spec.list_text (table_of estate.now workloads.now)) result }
+    ensures least { steps.old ≤ steps.new }
+    ensures most { steps.new ≤ steps.old + list_steps estate.now }
 {
     let mut rows = Rows::new(alloc, estate, workloads);
     while let Some(row) = rows.next(steps)? {

@@ -1,5 +1,6 @@
 //! The top call: from the words of a command line and the bytes of its inputs to a report and a status.
-ghost use Rattle.std.specs.Prelude.{◌≡◌, ◌≢◌, ◌⊎◌, None, Some, map};
+ghost use Rattle.std.specs.Prelude.{◌≡◌, ◌≢◌, ◌≤◌, ◌+◌, ◌⊎◌, None, Some, map};
+ghost use Rattle.np_cli.specs.Counts.{Counted, list_steps, most_steps, steps_in};
 ghost use Rattle.np_cli.specs.Inputs.{lists_of};
 ghost use Rattle.np_cli.specs.Messages.{message};
 ghost use Rattle.np_cli.specs.Prints.{Answers, Prints, Wrote};
@@ -9,6 +10,7 @@ ghost use Rattle.np_cli.specs.Runs.{Cause, Ends, Said, sunk};
 ghost use Rattle.np_cli.specs.Sources.{sourced};
 ghost use Rattle.np_cli.specs.Words as spec;
 ghost use Rattle.np_cli.specs.Words.{asked_by};
+ghost use Rattle.np_estate.specs.Lawful.{IsLawful};
 ghost use Rattle.np_fold.specs.Workloads.{folding_of};
 
 use crate::fault::InputsFault;
@@ -70,6 +72,12 @@ pub fn np_main<I: Inputs, O: Sink, E: Sink, L: Ledger>(
         (sunk O.taken O.faults out.old out.new)
         result }
     ensures usage { result ≡ Status.Usage → (inputs.new ≡ inputs.old) × (out.new ≡ out.old) }
+
+    // How many rules were looked at: for a table at most four times as many for each pair of workloads, and six times for
+    // each workload, as speak of one of them in a direction.
+    ensures counted { Counted (asked_by words.now)
+        (sourced I.holds I.left I.faults I.handed inputs.old inputs.new)
+        steps.old steps.new }
 {
     let outcome = run(alloc, words, inputs, out, steps);
     say(alloc, err, outcome).status()
@@ -88,6 +96,9 @@ fn run<I: Inputs, O: Sink, L: Ledger>(
         (sunk O.taken O.faults out.old out.new)
         result }
     ensures usage { result ≡ Outcome.Usage → (inputs.new ≡ inputs.old) × (out.new ≡ out.old) }
+    ensures counted { Counted (asked_by words.now)
+        (sourced I.holds I.left I.faults I.handed inputs.old inputs.new)
+        steps.old steps.new }
 {
     match read_words(alloc, words) {
         Ok(job) => run_job(alloc, &job, inputs, out, steps),
@@ -109,6 +120,9 @@ fn run_job<I: Inputs, O: Sink, L: Ledger>(
         (sunk O.taken O.faults out.old out.new)
         result }
     ensures asked { result ≢ Outcome.Usage }
+    ensures counted { Counted (Some job.now)
+        (sourced I.holds I.left I.faults I.handed inputs.old inputs.new)
+        steps.old steps.new }
 {
     match read_all(alloc, inputs, names_of(job)) {
         Ok(texts) => answer(alloc, job, &texts, out, steps),
@@ -128,7 +142,7 @@ fn names_of(job: &Job) -> &[Text]
 }
 
 // Writes the report of a job on these inputs.
-#[tactic(auto, unfolding(crate::specs::Answers::refusal, crate::specs::Answers::text_of, crate::specs::Answers::notes_of))]
+#[tactic(auto, unfolding(crate::specs::Answers::refusal, crate::specs::Answers::text_of, crate::specs::Answers::notes_of, crate::specs::Counts::most_steps))]
 fn answer<O: Sink, L: Ledger>(
     alloc: Global,
     job: &Job,
@@ -136,9 +150,11 @@ fn answer<O: Sink, L: Ledger>(
     out: &mut O,
     steps: &mut Steps<L>,
 ) -> Outcome
-    ensures { Answers job.now (map (λ text. text.items) texts.now)
+    ensures answers { Answers job.now (map (λ text. text.items) texts.now)
         (sunk O.taken O.faults out.old out.new)
         result }
+    ensures least { steps.old ≤ steps.new }
+    ensures most { steps.new ≤ steps.old + most_steps job.now (map (λ text. text.items) texts.now) }
 {
     match job {
         Job::List { .. } => list(alloc, texts, out, steps),
@@ -152,9 +168,11 @@ fn list<O: Sink, L: Ledger>(
     out: &mut O,
     steps: &mut Steps<L>,
 ) -> Outcome
-    ensures { Prints (lists_of (map (λ text. text.items) texts.now))
+    ensures prints { Prints (lists_of (map (λ text. text.items) texts.now))
         (sunk O.taken O.faults out.old out.new)
         result }
+    ensures least { steps.old ≤ steps.new }
+    ensures most { steps.new ≤ steps.old + steps_in (lists_of (map (λ text. text.items) texts.now)) }
 {
     match read_folded(alloc, texts) {
         Ok(folded) => list_folded(alloc, &folded, out, steps),
@@ -171,9 +189,12 @@ fn list_folded<O: Sink, L: Ledger>(
     out: &mut O,
     steps: &mut Steps<L>,
 ) -> Outcome
-    requires { folded.now.workloads ≡ folding_of folded.now.estate }
-    ensures { Wrote (sunk O.taken O.faults out.old out.new) None (table_text folded.now.estate)
+    requires folded { folded.now.workloads ≡ folding_of folded.now.estate }
+    requires lawful { IsLawful folded.now.estate }
+    ensures wrote { Wrote (sunk O.taken O.faults out.old out.new) None (table_text folded.now.estate)
         folded.now.estate.notes result }
+    ensures least { steps.old ≤ steps.new }
+    ensures most { steps.new ≤ steps.old + list_steps folded.now.estate }
 {
     match write_table(alloc, out, &folded.estate, &folded.workloads, steps) {
         Ok(()) => Outcome::Done(folded.estate.notes()),

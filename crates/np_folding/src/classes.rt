@@ -15,18 +15,6 @@ fn classes_of_numbers(rt: HostRuntime) -> Result<(), Fail> {
 }
 
 #[test]
-fn places_by_their_numbers(rt: HostRuntime) -> Result<(), Fail> {
-    let numbers: [u32; 5] = [2, 0, 2, 1, 0];
-    let made = groups(rt.alloc(), &numbers, 4)?;
-    let wanted: [&[u32]; 4] = [&[1, 4], &[3], &[0, 2], &[]];
-    assert_eq!(rt; made.items().len(), 4);
-    for (group, places) in made.items().iter().zip(wanted) {
-        assert!(rt; group.items() == places);
-    }
-    Ok(())
-}
-
-#[test]
 fn nothing_has_no_classes(rt: HostRuntime) -> Result<(), Fail> {
     let alloc = rt.alloc();
     let keys: Vec<u64> = Vec::new(alloc);

@@ -3,23 +3,15 @@
 #![tactic(auto)]
 
 #[cfg(test)]
-mod address_ranges;
-#[cfg(test)]
 mod classes;
 #[cfg(test)]
 mod foldings;
-#[cfg(test)]
-mod limits;
 #[cfg(test)]
 mod lists;
 #[cfg(test)]
 mod names;
 #[cfg(test)]
-mod numbers;
-#[cfg(test)]
 mod owners;
-#[cfg(test)]
-mod pairs;
 #[cfg(test)]
 mod rows;
 #[cfg(test)]

@@ -1,4 +1,6 @@
 //! Lists of objects, as texts and as estates.
+ghost use Rattle.std.specs.Prelude.{IfOk};
+ghost use Rattle.np_estate.specs.Lawful.{IsLawful};
 
 use np_estate::Estate;
 use std::alloc::{AllocError, Global};
@@ -29,13 +31,15 @@ pub const BARE: ListedPod = ListedPod {
 pub const OF_DB: &str = r#"{"controller":true,"kind":"StatefulSet","name":"db"}"#;
 
 /// A NetworkPolicy that names the key `app`, and takes away nothing.
-pub const POLICY_ON_APP: &str = concat!(
+pub static POLICY_ON_APP: &str = concat!(
     r#"{"apiVersion":"networking.k8s.io/v1","kind":"NetworkPolicy","metadata":{"name":"p"},"#,
     r#""spec":{"podSelector":{"matchLabels":{"app":"x"}},"ingress":[{}]}}"#,
 );
 
 /// The estate of a list of pods, with other objects behind them.
-pub fn estate_of(alloc: Global, pods: &[ListedPod], others: &[&str]) -> Result<Estate, Fail> {
+pub fn estate_of(alloc: Global, pods: &[ListedPod], others: &[&str]) -> Result<Estate, Fail>
+    ensures { IfOk result IsLawful }
+{
     let mut items = Vec::new(alloc);
     for pod in pods {
         items.push(pod_text(alloc, pod)?)?;
@@ -47,7 +51,9 @@ pub fn estate_of(alloc: Global, pods: &[ListedPod], others: &[&str]) -> Result<E
 }
 
 /// The estate of a list of these items.
-pub fn estate_of_items(alloc: Global, items: &[String]) -> Result<Estate, Fail> {
+pub fn estate_of_items(alloc: Global, items: &[String]) -> Result<Estate, Fail>
+    ensures { IfOk result IsLawful }
+{
     let mut bytes = Vec::new(alloc);
     bytes.extend_from_slice(r#"{"apiVersion":"v1","kind":"List","items":["#.as_bytes())?;
     bytes.extend_from_slice(items.join(alloc, ",")?.as_bytes())?;

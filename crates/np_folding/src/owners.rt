@@ -1,7 +1,7 @@
 //! Workloads by their owners.
 
-use crate::foldings::{expect_workloads, folded};
-use crate::lists::{BARE, ListedPod, OF_DB, POLICY_ON_APP, estate_of};
+use crate::foldings::expect_workloads;
+use crate::lists::{BARE, ListedPod, OF_DB, POLICY_ON_APP};
 use std::test::Fail;
 
 // The Deployment `web`, and two ReplicaSets that it owns.
@@ -39,23 +39,16 @@ static PODS_OF_WEB: &[ListedPod] = &[
 
 #[test]
 fn replica_sets_of_one_deployment(rt: HostRuntime) -> Result<(), Fail> {
-    let alloc = rt.alloc();
-    let wanted = "default/web[Deployment] of kind 0: 0 1 2\n";
-    expect_workloads(&rt, alloc, PODS_OF_WEB, WEB, wanted)?;
-    let estate = estate_of(alloc, PODS_OF_WEB, WEB)?;
-    let workloads = folded(alloc, &estate)?;
-    assert_eq!(rt; workloads.count(), 1);
-    assert_eq!(rt; workloads.kinds(), 1);
-    assert!(rt; workloads.relevant().is_empty());
-    Ok(())
+    static WANTED: &str = "default/web[Deployment] of kind 0: 0 1 2\n";
+    expect_workloads(&rt, rt.alloc(), PODS_OF_WEB, WEB, WANTED)
 }
 
 // A Deployment without pods stands for one, and a pod without an owner is its own. No rule tells the two apart.
 #[test]
 fn templates_and_pods_without_owners(rt: HostRuntime) -> Result<(), Fail> {
     static PODS: &[ListedPod] = &[ListedPod { name: "c", ..BARE }];
-    let wanted = "default/c[Pod] of kind 0: 0\ndefault/web[Deployment] of kind 0: 1\n";
-    expect_workloads(&rt, rt.alloc(), PODS, WEB, wanted)
+    static WANTED: &str = "default/c[Pod] of kind 0: 0\ndefault/web[Deployment] of kind 0: 1\n";
+    expect_workloads(&rt, rt.alloc(), PODS, WEB, WANTED)
 }
 
 const OF_A: &str = r#"{"controller":true,"kind":"Deployment","name":"a"}"#;
@@ -83,14 +76,9 @@ fn owners_of_one_kind(rt: HostRuntime) -> Result<(), Fail> {
             ..BARE
         },
     ];
-    let alloc = rt.alloc();
-    let wanted = "default/a[Deployment] of kind 0: 1 2\ndefault/db[StatefulSet] of kind 0: 0\n";
-    expect_workloads(&rt, alloc, PODS, &[POLICY_ON_APP], wanted)?;
-    let estate = estate_of(alloc, PODS, &[POLICY_ON_APP])?;
-    let workloads = folded(alloc, &estate)?;
-    assert_eq!(rt; workloads.count(), 2);
-    assert_eq!(rt; workloads.kinds(), 1);
-    Ok(())
+    static WANTED: &str =
+        "default/a[Deployment] of kind 0: 1 2\ndefault/db[StatefulSet] of kind 0: 0\n";
+    expect_workloads(&rt, rt.alloc(), PODS, &[POLICY_ON_APP], WANTED)
 }
 
 // One name of owners of different sorts, which come together nowhere.
@@ -109,12 +97,12 @@ fn owners_of_one_name(rt: HostRuntime) -> Result<(), Fail> {
             ..BARE
         },
     ];
-    let wanted = concat!(
+    static WANTED: &str = concat!(
         "default/a[Deployment] of kind 0: 2\n",
         "default/a[Pod] of kind 0: 1\n",
         "default/a[StatefulSet] of kind 0: 0\n",
     );
-    expect_workloads(&rt, rt.alloc(), PODS, &[], wanted)
+    expect_workloads(&rt, rt.alloc(), PODS, &[], WANTED)
 }
 
 // Pods of one owner's name in two namespaces are not even of one kind.
@@ -134,8 +122,8 @@ fn owners_in_two_namespaces(rt: HostRuntime) -> Result<(), Fail> {
             ..BARE
         },
     ];
-    let wanted = "x/db[StatefulSet] of kind 0: 1\ny/db[StatefulSet] of kind 1: 0\n";
-    expect_workloads(&rt, rt.alloc(), PODS, &[], wanted)
+    static WANTED: &str = "x/db[StatefulSet] of kind 0: 1\ny/db[StatefulSet] of kind 1: 0\n";
+    expect_workloads(&rt, rt.alloc(), PODS, &[], WANTED)
 }
 
 // Kinds are numbered by their first workloads in the order of names, and one can come again behind another.
@@ -155,11 +143,11 @@ fn kinds_come_again(rt: HostRuntime) -> Result<(), Fail> {
             ..BARE
         },
     ];
-    let wanted = concat!(
+    static WANTED: &str = concat!(
         "default/a[Pod] of kind 0: 3\n",
         "default/b[Pod] of kind 1: 2\n",
         "default/c[Pod] of kind 0: 1\n",
         "default/d[Pod] of kind 1: 0\n",
     );
-    expect_workloads(&rt, rt.alloc(), PODS, &[POLICY_ON_APP], wanted)
+    expect_workloads(&rt, rt.alloc(), PODS, &[POLICY_ON_APP], WANTED)
 }

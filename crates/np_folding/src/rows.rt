@@ -1,5 +1,6 @@
 //! All rows of a table, one after another.
 ghost use Rattle.std.specs.Prelude.{◌≡◌, ◌<◌};
+ghost use Rattle.np_estate.specs.Lawful.{IsLawful};
 ghost use Rattle.np_fold.specs.Workloads.{folding_of};
 
 use crate::foldings::folded;
@@ -22,6 +23,7 @@ fn lines_counted<L: Ledger>(
     calls: u32,
     blank: Blank,
 ) -> Result<String, Fail>
+    requires lawful { IsLawful estate.now }
     requires folded { workloads.now ≡ folding_of estate.now }
     requires name { blank.name ≡ L.name }
     requires parts { blank.parts ≡ L.parts }

@@ -1,7 +1,7 @@
 //! What tells two pods of one owner apart, and what does not.
 
-use crate::foldings::{expect_workloads, folded};
-use crate::lists::{BARE, ListedPod, OF_DB, POLICY_ON_APP, estate_of};
+use crate::foldings::expect_workloads;
+use crate::lists::{BARE, ListedPod, OF_DB, POLICY_ON_APP};
 use std::test::Fail;
 
 // Pods with one value, with another, with an empty one, with none, and with the first again.
@@ -37,7 +37,7 @@ static BY_APP: &[ListedPod] = &[
     },
 ];
 
-const FOUR_BY_APP: &str = concat!(
+static FOUR_BY_APP: &str = concat!(
     "default/db[StatefulSet]#1 of kind 0: 0 4\n",
     "default/db[StatefulSet]#2 of kind 1: 1\n",
     "default/db[StatefulSet]#3 of kind 2: 2\n",
@@ -53,14 +53,14 @@ fn labels_that_a_policy_names(rt: HostRuntime) -> Result<(), Fail> {
 // Where none does, labels do not count.
 #[test]
 fn labels_that_nothing_names(rt: HostRuntime) -> Result<(), Fail> {
-    let wanted = "default/db[StatefulSet] of kind 0: 0 1 2 3 4\n";
-    expect_workloads(&rt, rt.alloc(), BY_APP, &[], wanted)
+    static WANTED: &str = "default/db[StatefulSet] of kind 0: 0 1 2 3 4\n";
+    expect_workloads(&rt, rt.alloc(), BY_APP, &[], WANTED)
 }
 
 // The selector of a Service, of another namespace too.
 #[test]
 fn labels_that_a_service_names(rt: HostRuntime) -> Result<(), Fail> {
-    const SERVICE: &str =
+    static SERVICE: &str =
         r#"{"apiVersion":"v1","kind":"Service","metadata":{"namespace":"far","name":"s"},"spec":{"selector":{"app":"x"}}}"#;
     expect_workloads(&rt, rt.alloc(), BY_APP, &[SERVICE], FOUR_BY_APP)
 }
@@ -68,7 +68,7 @@ fn labels_that_a_service_names(rt: HostRuntime) -> Result<(), Fail> {
 // The peer of a rule that is of no type of its policy.
 #[test]
 fn labels_that_a_rule_without_effect_names(rt: HostRuntime) -> Result<(), Fail> {
-    const POLICY: &str = concat!(
+    static POLICY: &str = concat!(
         r#"{"apiVersion":"networking.k8s.io/v1","kind":"NetworkPolicy","metadata":{"name":"p"},"spec":{"#,
         r#""policyTypes":["Ingress"],"ingress":[{"from":[{"podSelector":{"matchExpressions":["#,
         r#"{"key":"app","operator":"DoesNotExist"}]}}]}]}}"#,
@@ -99,14 +99,14 @@ fn a_block_of_the_other_family(rt: HostRuntime) -> Result<(), Fail> {
             ..BARE
         },
     ];
-    const NETWORKS: &str = concat!(
+    static NETWORKS: &str = concat!(
         r#"{"apiVersion":"policy.networking.k8s.io/v1alpha1","kind":"AdminNetworkPolicy","metadata":{"name":"n"},"spec":{"#,
         r#""priority":1,"subject":{"namespaces":{}},"egress":[{"action":"Deny","to":[{"networks":["10.0.0.0/8","fd00::/16"]}]}]}}"#,
     );
-    let alloc = rt.alloc();
-    let apart =
+    static APART: &str =
         "default/db[StatefulSet]#1 of kind 0: 0 2\ndefault/db[StatefulSet]#2 of kind 1: 1\n";
-    expect_workloads(&rt, alloc, PODS, &[NETWORKS], apart)?;
+    let alloc = rt.alloc();
+    expect_workloads(&rt, alloc, PODS, &[NETWORKS], APART)?;
     expect_workloads(
         &rt,
         alloc,
@@ -157,31 +157,10 @@ fn named_ports_in_another_order(rt: HostRuntime) -> Result<(), Fail> {
             ..BARE
         },
     ];
-    let wanted = concat!(
+    static WANTED: &str = concat!(
         "default/db[StatefulSet]#1 of kind 0: 0 2\n",
         "default/db[StatefulSet]#2 of kind 1: 1\n",
         "default/db[StatefulSet]#3 of kind 2: 3\n",
     );
-    expect_workloads(&rt, rt.alloc(), PODS, &[], wanted)
-}
-
-// Three selectors that name four keys.
-#[test]
-fn keys_ascend_and_stand_once(rt: HostRuntime) -> Result<(), Fail> {
-    static OTHERS: &[&str] = &[
-        r#"{"apiVersion":"v1","kind":"Service","metadata":{"name":"s"},"spec":{"selector":{"tier":"web","app":"x"}}}"#,
-        r#"{"apiVersion":"networking.k8s.io/v1","kind":"NetworkPolicy","metadata":{"name":"p"},"spec":{"podSelector":{"matchExpressions":[{"key":"app","operator":"Exists"},{"key":"app-2","operator":"Exists"}]}}}"#,
-        r#"{"apiVersion":"networking.k8s.io/v1","kind":"NetworkPolicy","metadata":{"name":"q"},"spec":{"podSelector":{"matchLabels":{"App":"x"}}}}"#,
-    ];
-    let alloc = rt.alloc();
-    let estate = estate_of(alloc, &[], OTHERS)?;
-    let workloads = folded(alloc, &estate)?;
-    let mut keys = Vec::new(alloc);
-    for key in workloads.relevant() {
-        keys.push(key.as_str())?;
-    }
-    assert!(rt; keys.as_slice() == ["App", "app", "app-2", "tier"].as_slice());
-    assert_eq!(rt; workloads.count(), 0);
-    assert_eq!(rt; workloads.kinds(), 0);
-    Ok(())
+    expect_workloads(&rt, rt.alloc(), PODS, &[], WANTED)
 }

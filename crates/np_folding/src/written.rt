@@ -3,7 +3,7 @@
 use np_addr::{Address, Family, print_address};
 use np_conns::print_conns;
 use np_fold::Workloads;
-use np_table::{AddressRow, AddressSpan, Row, RowEnd};
+use np_table::{AddressSpan, Row, RowEnd};
 use std::alloc::Global;
 use std::test::Fail;
 
@@ -35,13 +35,6 @@ fn name_text(alloc: Global, workloads: &Workloads, number: u32) -> Result<String
         Err("no such workload")?;
     }
     Ok(String::from_str(alloc, workloads.name(number))?)
-}
-
-/// The line of a range of addresses, and of what passes there.
-pub fn range_text(alloc: Global, row: &AddressRow) -> Result<String, Fail> {
-    let span = span_text(alloc, &row.span)?;
-    let conns = print_conns(alloc, &row.conns)?;
-    Ok(format!(in alloc; "{span} : {conns}\n")?)
 }
 
 // The first address of a range and the last one.

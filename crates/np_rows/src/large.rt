@@ -60,15 +60,15 @@ static SHUT_ALL: &str = concat!(
 
 // The greatest number of workloads, each of one pod, where nothing passes: no pair row, and four rows for each.
 #[test]
-fn most_workloads(rt: HostRuntime) -> Result<(), Fail> {
+fn most_workloads_shut(rt: HostRuntime) -> Result<(), Fail> {
     let alloc = rt.alloc();
-    let pods = items_of_many(alloc, 500, BARE_POD)?;
+    let pods = items_of_many(alloc, 2_000, BARE_POD)?;
     let text = list_text(alloc, &[pods.as_str(), SHUT_ALL])?;
     let mut table = String::new(alloc);
-    for placed in &sorted_names(alloc, 500, "default/p#[Pod]")? {
+    for placed in &sorted_names(alloc, 2_000, "default/p#[Pod]")? {
         push_address_rows(&mut table, placed.name.as_str(), SHUT)?;
     }
-    expect_table(&rt, alloc, text.as_str(), table.as_str(), "", "500 pods")?;
+    expect_table(&rt, alloc, text.as_str(), table.as_str(), "", "2000 pods")?;
     Ok(())
 }
 

@@ -1,4 +1,4 @@
-//! An estate of many pods in five namespaces, and its whole table.
+//! An estate of a thousand pods in five namespaces, and its whole table.
 
 use crate::objects::{items_of_many, list_text};
 use crate::runs::expect_table;
@@ -129,14 +129,14 @@ fn table(alloc: Global, count: usize) -> Result<String, AllocError> {
 }
 
 #[test]
-fn many_pods_of_five_namespaces(rt: HostRuntime) -> Result<(), Fail> {
+fn a_thousand_pods(rt: HostRuntime) -> Result<(), Fail> {
     let alloc = rt.alloc();
-    let list = estate(alloc, 150)?;
-    let table = table(alloc, 150)?;
+    let list = estate(alloc, 1_000)?;
+    let table = table(alloc, 1_000)?;
 
-    // 129 pods are not stopped, each of which sends to 30. Each pod has six rows of addresses.
+    // 858 pods are not stopped, each of which sends to 200. Each pod has six rows of addresses.
     let lines = table.as_bytes().iter().filter(|b| **b == b'\n').count();
-    assert_eq!(rt; lines, 3_870 + 900);
-    expect_table(&rt, alloc, list.as_str(), table.as_str(), "", "150 pods")?;
+    assert_eq!(rt; lines, 171_600 + 6_000);
+    expect_table(&rt, alloc, list.as_str(), table.as_str(), "", "1000 pods")?;
     Ok(())
 }

@@ -59,7 +59,7 @@ one_kind-by lists i j a b lawful is is' kind =
     })
 
 -- there is a pod at each place
-pod_there : (lists : EstateLists) (place : ℕ) → place < length lists.pods → (a : Pod) × (slice_get lists.pods place ≡ Some a)
+pub pod_there : (lists : EstateLists) (place : ℕ) → place < length lists.pods → (a : Pod) × (slice_get lists.pods place ≡ Some a)
 pod_there lists place within = there lists.pods place within
   where
     there : (pods : List Pod) (place : ℕ) → place < length pods → (a : Pod) × (slice_get pods place ≡ Some a)
@@ -162,7 +162,7 @@ unfolding folding_of
 number-within lists place within = number-in_workloads lists place within
 
 -- the numbers below the count are those of workloads
-in_workloads : (lists : EstateLists) (number : ℕ) → number < workload_count lists → number < length (workloads_of lists)
+pub in_workloads : (lists : EstateLists) (number : ℕ) → number < workload_count lists → number < length (workloads_of lists)
 in_workloads lists number within = rw (workloads-count lists) within
 
 -- also in the folding
@@ -171,7 +171,7 @@ unfolding folding_of
 in_folding lists number within = in_workloads lists number within
 
 -- the pod that stands for a workload is one of the estate
-source-within : (lists : EstateLists) (number : ℕ) → number < workload_count lists → source_pod (folding_of lists) number < length lists.pods
+pub source-within : (lists : EstateLists) (number : ℕ) → number < workload_count lists → source_pod (folding_of lists) number < length lists.pods
 source-within lists number within =
     let folding = folding_of lists in
     let here = in_folding lists number within in
@@ -199,7 +199,7 @@ with_address-address_allows lists p direction family number spot lawful p_in =
 -- ---- kinds
 
 -- the first pod of a workload is the one that stands for it
-first_there : (members : List ℕ) (pods : List Pod) (found : Option Pod) → IsSomeAnd (slice_get members 0) (λ first. slice_get pods first ≡ found) → slice_get pods (slice_index members 0) ≡ found
+pub first_there : (members : List ℕ) (pods : List Pod) (found : Option Pod) → IsSomeAnd (slice_get members 0) (λ first. slice_get pods first ≡ found) → slice_get pods (slice_index members 0) ≡ found
 first_there [] pods found some = absurd some
 first_there (first ∷ members) pods found some = some
 

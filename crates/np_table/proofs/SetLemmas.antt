@@ -1,5 +1,5 @@
 -- Sets of connections, and the rows of them.
-use Rattle.std.proofs.Common.{◌≡◌, ◌≢◌, ◌≤◌, ℕ, List, [], ◌∷◌, ◌++◌, Bool, true, false, not, nat_le, Option, None, Some, Result, Ok, Err, IfOk, length, get_or, arith, refl, sym, ap, ◌∙◌, subst}
+use Rattle.std.proofs.Common.{◌≡◌, ◌≢◌, ◌≤◌, ℕ, List, [], ◌∷◌, ◌++◌, Bool, true, false, not, nat_le, Option, None, Some, Result, Ok, Err, IfOk, OnErr, OnOk, length, get_or, arith, refl, sym, ap, ◌∙◌, subst}
 use Rattle.std.proofs.lemmas.Bool.{and_from, and_parts, both_ways, false_from_ne_true, leb-true, or_left, true≢false}
 use Rattle.np_addr.specs.declared.address.Family.{Family}
 use Rattle.np_addr.specs.declared.address.Family.TheVariants.{Four, Six}
@@ -108,3 +108,13 @@ pair_rows-both lists folding source destination families are several =
 pub IfOk-both : {X E : Type 0} (made : Result X E) (P Q R : X → Type 0) → ((x : X) → P x → Q x → R x) → IfOk made P → IfOk made Q → IfOk made R
 IfOk-both (Ok x) P Q R from p q = from x p q
 IfOk-both (Err e) P Q R from p q = tt
+
+-- what holds holds where there is an error
+pub OnErr-from : {X E : Type 0} (made : Result X E) (P : Type 0) → P → OnErr made P
+OnErr-from (Ok x) P holds = tt
+OnErr-from (Err e) P holds = holds
+
+-- and where there is none
+pub OnOk-from : {X E : Type 0} (made : Result X E) (P : Type 0) → P → OnOk made P
+OnOk-from (Ok x) P holds = holds
+OnOk-from (Err e) P holds = tt

@@ -1,15 +1,22 @@
 -- The rows of a table one after another.
-use Rattle.std.specs.Prelude.{ℕ, ◌+◌, ◌-◌, ◌*◌, ◌/◌, ◌%◌, List, ◌==◌, flat_map, length, nat_lt, if◌then◌else◌}
+use Rattle.std.specs.Prelude.{ℕ, ◌+◌, ◌-◌, ◌*◌, ◌/◌, ◌%◌, List, [], ◌∷◌, ◌==◌, Option, flat_map, length, map, max, nat_lt, if◌then◌else◌}
 use Rattle.std.specs.List.{range_with_len}
+use Rattle.np_estate.specs.declared.lists.EstateLists.{EstateLists}
+use Rattle.np_fold.specs.Workloads.{Folding}
 use Rattle.np_policies.specs.declared.direction.Direction.{Direction}
 use Rattle.np_policies.specs.declared.direction.Direction.TheVariants.{Ingress, Egress}
+use Rattle.np_rules.specs.Places.{rule_count}
+use Rattle.np_rules.specs.Verdict.{pod_at}
+use Rattle.np_table.specs.Kept.{kept_count}
 use Rattle.np_table.specs.Rows.{pair_rows, rows_towards}
-use Rattle.np_table.specs.Table.{Table}
+use Rattle.np_table.specs.Table.{Table, source_pod}
+use Rattle.np_table.specs.declared.kept.KeptConns.{KeptConns}
 use Rattle.np_table.specs.declared.rows.Row.{Row}
 
--- what is still to come of the rows of a table
+-- what is still to come of the rows of a table, and an upper bound of the rules that are still to be looked at for them
 pub record RowsToCome : Type 0 where
   pub rows : List Row
+  pub due : ℕ
 
 -- ---- steps from row to row: first the pairs of workloads, by source and then by destination, and then for each workload its addresses in the direction of ingress and in that of egress
 
@@ -39,3 +46,32 @@ rows_at table place =
 -- the rows from a place on
 unfoldable pub rows_from : Table → ℕ → List Row
 rows_from table place = flat_map (rows_at table) (range_with_len place (place_count (length table.names) - place))
+
+-- ---- rules that are still to be looked at
+
+-- how many rules speak of the first pod of a workload
+abbrev pub rules_of : EstateLists → Folding → Direction → ℕ → ℕ
+rules_of lists folding direction workload = rule_count lists direction (pod_at lists (source_pod folding workload))
+
+-- the greatest of some numbers, 0 where there is none
+abbrev pub greatest : List ℕ → ℕ
+greatest [] = 0
+greatest (n ∷ ns) = max n (greatest ns)
+
+-- the most rules that speak of a workload in a direction
+unfoldable pub most_rules : EstateLists → Folding → ℕ
+most_rules lists folding = greatest (map (λ workload. max (rules_of lists folding Ingress workload) (rules_of lists folding Egress workload)) (range_with_len 0 (length folding.workloads)))
+
+-- what may yet be looked at for the source at hand: four times the most for each kind for which nothing is kept
+abbrev pub due_for_kinds : EstateLists → Folding → List (Option (List KeptConns)) → ℕ
+due_for_kinds lists folding kept = 4 * most_rules lists folding * (folding.kind_count - kept_count kept)
+
+-- With so many workloads and kinds, and rules at most that speak of one: among the pairs, four times the most for each kind and each source that has not begun, the same for each kind for which nothing is kept of the source at hand, and the most for each workload and direction; and behind the pairs the most for each place that is left.
+unfoldable pub due_at : ℕ → ℕ → ℕ → ℕ → ℕ → ℕ
+due_at count kinds most unkept place =
+    if nat_lt place (pair_count count) then most * (4 * (kinds * (count - 1 - place / count) + unkept) + 2 * count)
+    else most * (place_count count - place)
+
+-- the same at a place, where this is kept
+unfoldable pub due_from : EstateLists → Folding → ℕ → List (Option (List KeptConns)) → ℕ
+due_from lists folding place kept = due_at (length folding.workloads) folding.kind_count (most_rules lists folding) (folding.kind_count - kept_count kept) place

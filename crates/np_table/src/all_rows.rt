@@ -1,14 +1,17 @@
 //! The rows of the table, one after another.
-ghost use Rattle.std.specs.Prelude.{◌≡◌, ◌<◌, ◌*◌, ◌^◌, ◌∷◌, [], IfOk, OnErr, MatchOption, length, map, reverse};
+ghost use Rattle.std.specs.Prelude.{◌≡◌, ◌≤◌, ◌<◌, ◌+◌, ◌*◌, ◌/◌, ◌^◌, ◌∷◌, [], IfOk, OnErr, OnOk, MatchOption, length, map, reverse};
+ghost use Rattle.np_estate.specs.Lawful.{IsLawful};
 ghost use Rattle.np_fold.specs.Workloads.{folding_of};
 ghost use Rattle.np_policies.specs.declared.direction.Direction.{Direction};
+ghost use Rattle.np_table.specs.Kept.{IsKept};
 ghost use Rattle.np_table.specs.Rows as table;
 ghost use Rattle.np_table.specs.Table.{table_of};
 ghost use Rattle.np_table.specs.ToCome as spec;
 
+use crate::kept::Kept;
 use crate::rows::{AddressRow, Row, RowEnd, RowKey};
+use crate::rows_by_kind::rows_by_kind;
 use crate::rows_of_addresses::address_rows;
-use crate::rows_of_pairs::pair_rows;
 use np_base::{NoMemory, Seq};
 use np_estate::Estate;
 use np_fold::Workloads;
@@ -20,7 +23,8 @@ use std::sync::ledger::Ledger;
 
 /// The rows of the table that are still to come: those of all pairs of workloads, by source and then by destination, and
 /// behind them, for each workload, those of all addresses, ingress and then egress. They are made pair by pair, and never
-/// all of them are held.
+/// all of them are held. The rules are asked once for each source and each kind of destinations, and what they give is kept
+/// until the next source. Contracts see the rows, and as `due` an upper bound of the rules that are still to be looked at.
 #[derive(Drop)]
 pub struct Rows<'a> {
     alloc: Global,
@@ -29,28 +33,35 @@ pub struct Rows<'a> {
     // The place of the next rows to be made, and the one behind the last.
     place: u64,
     end: u64,
+    // What is known of the rows from the source at that place.
+    kept: Kept,
     // Rows that were made and not given, the last one first.
     ready: Vec<Row>,
 }
 
 impl<'a> Model for Rows<'a> {
-    ghost use Rattle.std.specs.Prelude.{◌≡◌, ◌++◌, ◌≤◌, ◌<◌, ◌^◌, reverse, length};
+    ghost use Rattle.std.specs.Prelude.{◌≡◌, ◌++◌, ◌≤◌, ◌<◌, ◌/◌, ◌^◌, reverse, length};
+    ghost use Rattle.np_estate.specs.Lawful.{IsLawful};
     ghost use Rattle.np_fold.specs.Workloads.{folding_of};
+    ghost use Rattle.np_table.specs.Kept.{IsKept};
     ghost use Rattle.np_table.specs.Table.{table_of};
-    ghost use Rattle.np_table.specs.ToCome.{RowsToCome, rows_from, place_count};
+    ghost use Rattle.np_table.specs.ToCome.{RowsToCome, due_from, rows_from, place_count};
 
     ghost Value = { RowsToCome };
 
-    ghost view = { λ r. record { rows = reverse r.ready.items ++ rows_from (table_of r.estate.now r.workloads.now) r.place } };
+    ghost view = { λ r. record { rows = reverse r.ready.items ++ rows_from (table_of r.estate.now r.workloads.now) r.place; due = due_from r.estate.now r.workloads.now r.place r.kept } };
 
-    ghost invariant = { λ r. (r.workloads.now ≡ folding_of r.estate.now) × (r.end ≡ place_count (length r.workloads.now.workloads)) × (r.place ≤ r.end) };
+    ghost invariant = { λ r. (IsLawful r.estate.now) × (r.workloads.now ≡ folding_of r.estate.now) × (r.end ≡ place_count (length r.workloads.now.workloads)) × (r.place ≤ r.end) × (length r.kept ≤ r.workloads.now.kind_count) × (IsKept r.estate.now r.workloads.now (r.place / length r.workloads.now.workloads) r.kept) };
 }
 
 impl<'a> Rows<'a> {
     /// All rows of the table of these workloads of an estate.
     pub fn new(alloc: Global, estate: &'a Estate, workloads: &'a Workloads) -> Rows<'a>
-        requires { workloads.now ≡ folding_of estate.now }
-        ensures { result.rows ≡ table.all_rows (table_of estate.now workloads.now) }
+        requires lawful { IsLawful estate.now }
+        requires folded { workloads.now ≡ folding_of estate.now }
+        ensures rows { result.rows ≡ table.all_rows (table_of estate.now workloads.now) }
+        ensures due { result.due ≡ (4 * length workloads.now.workloads * workloads.now.kind_count
+            + 2 * length workloads.now.workloads) * spec.most_rules estate.now workloads.now }
     {
         let end = place_count(workloads);
         Rows {
@@ -59,6 +70,7 @@ impl<'a> Rows<'a> {
             workloads,
             place: 0,
             end,
+            kept: Kept::nothing(alloc),
             ready: Vec::new(alloc),
         }
     }
@@ -67,13 +79,23 @@ impl<'a> Rows<'a> {
     /// `NoMemory` the same rows are still to come.
     pub fn next<L: Ledger>(&mut self, steps: &mut Steps<L>) -> Result<Option<Row>, NoMemory>
         ensures given { IfOk result (λ given. MatchOption given (self.old.rows ≡ []) (λ row. self.old.rows ≡ row ∷ self.new.rows)) }
-        ensures err { OnErr result (self.new ≡ self.old) }
+        ensures err { OnErr result (self.new.rows ≡ self.old.rows) }
+        ensures counted { OnOk result (steps.new + self.new.due ≤ steps.old + self.old.due) }
+        ensures most { OnErr result (steps.new ≤ steps.old + self.old.due) }
+        ensures least { steps.old ≤ steps.new }
     {
         while self.ready.is_empty() {
             if self.place == self.end {
                 return Ok(None);
             }
-            let rows = rows_at(self.alloc, self.estate, self.workloads, self.place, steps)?;
+            let rows = rows_at(
+                self.alloc,
+                self.estate,
+                self.workloads,
+                self.place,
+                &mut self.kept,
+                steps,
+            )?;
             self.ready = in_reverse(rows);
             self.place += 1;
         }
@@ -98,27 +120,41 @@ fn place_count(workloads: &Workloads) -> u64
     count * count + 2 * count
 }
 
-// The rows at a place.
-#[tactic(auto, unfolding(crate::specs::ToCome::rows_at))]
+// The rows at a place. What is kept is made ready for the next place.
 fn rows_at<L: Ledger>(
     alloc: Global,
     estate: &Estate,
     workloads: &Workloads,
     place: u64,
+    kept: &mut Kept,
     steps: &mut Steps<L>,
 ) -> Result<Seq<Row>, NoMemory>
+    requires lawful { IsLawful estate.now }
     requires folded { workloads.now ≡ folding_of estate.now }
     requires place { place < spec.place_count (length workloads.now.workloads) }
-    ensures { IfOk result (λ made. made ≡ spec.rows_at (table_of estate.now workloads.now) place) }
+    requires few { length kept.old ≤ workloads.now.kind_count }
+    requires kept { IsKept estate.now workloads.now (place / length workloads.now.workloads) kept.old }
+    ensures rows { IfOk result (λ made. made ≡ spec.rows_at (table_of estate.now workloads.now) place) }
+    ensures few { length kept.new ≤ workloads.now.kind_count }
+    ensures kept { OnOk result (IsKept estate.now workloads.now ((place + 1) / length workloads.now.workloads) kept.new) }
+    ensures kept_on_err { OnErr result (IsKept estate.now workloads.now (place / length workloads.now.workloads) kept.new) }
+    ensures counted { OnOk result (steps.new + spec.due_from estate.now workloads.now (place + 1) kept.new
+        ≤ steps.old + spec.due_from estate.now workloads.now place kept.old) }
+    ensures most { OnErr result (steps.new ≤ steps.old + spec.due_from estate.now workloads.now place kept.old) }
+    ensures least { steps.old ≤ steps.new }
 {
     let count = u64::from(workloads.count());
     let pairs = count * count;
-    if place < pairs {
-        let source = (place / count) as u32;
-        let destination = (place % count) as u32;
-        return pair_rows(alloc, estate, workloads, source, destination, steps);
+    if place >= pairs {
+        return address_rows_at(alloc, estate, workloads, place - pairs, steps);
     }
-    address_rows_at(alloc, estate, workloads, place - pairs, steps)
+    let source = (place / count) as u32;
+    let destination = (place % count) as u32;
+    let rows = rows_by_kind(alloc, estate, workloads, source, destination, kept, steps)?;
+    if place % count + 1 == count {
+        *kept = Kept::nothing(alloc);
+    }
+    Ok(rows)
 }
 
 // The rows of addresses at a place behind the pairs.
@@ -132,7 +168,9 @@ fn address_rows_at<L: Ledger>(
     requires folded { workloads.now ≡ folding_of estate.now }
     requires few { length workloads.now.workloads < 2 ^ 32 }
     requires place { place < 2 * length workloads.now.workloads }
-    ensures { IfOk result (λ made. made ≡ spec.address_rows_at (table_of estate.now workloads.now) place) }
+    ensures rows { IfOk result (λ made. made ≡ spec.address_rows_at (table_of estate.now workloads.now) place) }
+    ensures most { steps.new ≤ steps.old + spec.most_rules estate.now workloads.now }
+    ensures least { steps.old ≤ steps.new }
 {
     let workload = (place / 2) as u32;
     let direction = direction_at(place);

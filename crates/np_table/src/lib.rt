@@ -2,9 +2,11 @@
 #![tactic(auto)]
 
 mod all_rows;
+mod kept;
 mod laws;
 mod pair_sets;
 mod rows;
+mod rows_by_kind;
 mod rows_of_addresses;
 mod rows_of_pairs;
 

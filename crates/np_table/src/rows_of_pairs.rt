@@ -136,8 +136,8 @@ fn rows_of_both<L: Ledger>(
     rows_of(alloc, &key, &four, &six)
 }
 
-// The ends of the rows of two workloads.
-fn pair_key(source: u32, destination: u32) -> RowKey
+/// The ends of the rows of two workloads.
+pub(crate) fn pair_key(source: u32, destination: u32) -> RowKey
     ensures { result ≡ spec.pair_key source destination }
 {
     RowKey {

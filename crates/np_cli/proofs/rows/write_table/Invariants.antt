@@ -1,14 +1,18 @@
-use Rattle.std.proofs.Common.{flat_map, length}
+use Rattle.std.proofs.Common.{◌+◌, ◌≤◌, flat_map, length}
 use Rattle.np_cli.proofs.RowsLemmas.{HasLeft}
 use Rattle.np_cli.proofs.rows.write_table.Given as goal
+use Rattle.np_cli.specs.Counts.{list_steps}
 use Rattle.np_cli.specs.Rows.{list_text, names_of, row_text}
 use Rattle.np_table.specs.Table.{table_of}
 
--- the rows that are still to come are what is left of the text
+-- the rows that are still to come are what is left of the text, and what is due for them is what may still be counted
 abbrev pub invariant-loop-rows : goal.invariant-loop-rows
-invariant-loop-rows g l =
-    HasLeft (g.O.Sink.taken l.fn.out) (g.O.Sink.taken l.out) (g.O.Sink.faults l.fn.out) (g.O.Sink.faults l.out)
-    (list_text (table_of l.fn.estate l.fn.workloads)) (flat_map (row_text (names_of l.fn.workloads)) l.rows.rows)
+invariant-loop-rows g l = record {
+  left : HasLeft (g.O.Sink.taken l.fn.out) (g.O.Sink.taken l.out) (g.O.Sink.faults l.fn.out) (g.O.Sink.faults l.out)
+    (list_text (table_of l.fn.estate l.fn.workloads)) (flat_map (row_text (names_of l.fn.workloads)) l.rows.rows);
+  least : l.fn.steps ≤ l.steps;
+  most : l.steps + l.rows.due ≤ l.fn.steps + list_steps l.fn.estate;
+}
 
 abbrev pub decreases-loop-rows : goal.decreases-loop-rows
 decreases-loop-rows g l = length l.rows.rows

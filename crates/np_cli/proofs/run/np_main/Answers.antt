@@ -12,5 +12,6 @@ returns g c =
       refuses_faults = refuses_faults _ _ _ _ _ c.say.result cause c.say.ensures.said c.status.ensures;
       words = blames_words _ _ _ _ c.say.result cause c.status.ensures;
       device = blames_device _ _ _ _ c.say.result cause c.status.ensures;
+      counted = c.run-outcome.ensures.counted;
       usage = λ usage. c.run-outcome.ensures.usage (usage_ended c.run-outcome.result c.say.result c.status.result c.status.ensures usage c.say.ensures.kept);
     }

@@ -9,9 +9,14 @@ returns-then-self-clause-given g c =
 
 pub loop-self-preserved : goal.loop-self-preserved
 loop-self-preserved g c = record {
-  to_come = made-ready c.loop-self.self-inside.estate.now c.loop-self.self-inside.workloads.now c.loop-self.self-inside.ready.items c.in_reverse.result.items c.args.self.now.rows c.loop-self.self-inside.place (omega (arith, c.loop-self.self-inside.ready.ok, eqb-true c.loop-self.self-inside.ready.len 0 (sym c.is_empty.ensures ∙ c.loop-self-test.true))) (omega (arith, c.loop-self.invariant.end)) (c.in_reverse.ensures ∙ ap reverse c.in_ok-rows.ensures) c.loop-self.invariant.to_come;
+  to_come = made-ready c.loop-self.self-inside.estate.now c.loop-self.self-inside.workloads.now c.loop-self.self-inside.ready.items c.in_reverse.result.items c.args.self.now.rows c.loop-self.self-inside.place (omega (arith, c.loop-self.self-inside.ready.ok, eqb-true c.loop-self.self-inside.ready.len 0 (sym c.is_empty.ensures ∙ c.loop-self-test.true))) (omega (arith, c.loop-self.invariant.end)) (c.in_reverse.ensures ∙ ap reverse c.in_ok-rows.ensures.rows) c.loop-self.invariant.to_come;
+  lawful = c.loop-self.invariant.lawful;
   folded = c.loop-self.invariant.folded;
   end = c.loop-self.invariant.end;
   place = omega arith;
   fits = c.loop-self.invariant.fits;
+  few = c.in_ok-rows.ensures.few;
+  kept = c.in_ok-rows.ensures.kept;
+  counted = omega (arith, c.in_ok-rows.ensures.counted, c.loop-self.invariant.counted);
+  least = omega (arith, c.in_ok-rows.ensures.least, c.loop-self.invariant.least);
 }

@@ -1,0 +1,51 @@
+-- How many rules a run looks at.
+use Rattle.std.proofs.Common.{◌≡◌, ℕ, ◌+◌, ◌*◌, ◌≤◌, List, length, Option, Some, arith, refl, sym, subst}
+use Rattle.std.proofs.lemmas.List.FromFn.{length-range_with_len}
+use Rattle.std.proofs.lemmas.List.Sums.{count_by-le-length, length-filter}
+use Rattle.std.proofs.Math.Nat.{mul-le-mul_left, mul-le-mul_right}
+use Rattle.np_cli.specs.Counts.{Counted, list_steps, most_steps}
+use Rattle.np_cli.specs.Sources.{AreTold, Sourced}
+use Rattle.np_cli.specs.Words.{names_of}
+use Rattle.np_cli.specs.declared.job.Job.{Job}
+use Rattle.np_estate.specs.declared.lists.EstateLists.{EstateLists}
+use Rattle.np_classes.specs.Classes.{firsts, is_first, places}
+use Rattle.np_fold.proofs.WorkloadLemmas.{workloads-count}
+use Rattle.np_fold.specs.Workloads.{Folding, folding_of, kinds_alike, workload_count}
+use Rattle.np_table.specs.ToCome.{most_rules}
+
+-- no rule was looked at
+pub Counted-none : (asked : Option Job) (source : Sourced) (steps : ℕ) → Counted asked source steps steps
+Counted-none asked source steps = record { least = omega arith; most = λ job texts is tells. omega arith }
+
+-- the bytes that were read are those that the source told
+pub Counted-read : (job : Job) (source : Sourced) (texts : List (List ℕ)) (before after : ℕ) → ((told : List (List ℕ)) → AreTold source.holds source.left (names_of job) told → texts ≡ told) → before ≤ after → after ≤ before + most_steps job texts → Counted (Some job) source before after
+Counted-read job source texts before after read least most = record {
+  least = least;
+  most = λ other told is tells.
+      let same : job ≡ other = cc in
+      subst (λ (j : Job). after ≤ before + most_steps j told) same (subst (λ (ts : List (List ℕ)). after ≤ before + most_steps job ts) (read told tells) most);
+}
+
+-- what is due for all rows of a table
+pub due-within : (lists : EstateLists) (workloads kinds : ℕ) → workloads ≡ length (folding_of lists).workloads → kinds ≤ workloads → (4 * workloads * kinds + 2 * workloads) * most_rules lists (folding_of lists) ≤ list_steps lists
+unfolding list_steps
+due-within lists workloads kinds is fewer =
+    let pairs : 4 * workloads * kinds ≤ 4 * workloads * workloads = mul-le-mul_left (4 * workloads) fewer in
+    let all : 4 * workloads * kinds + 2 * workloads ≤ 4 * workloads * workloads + 6 * workloads = omega (arith, pairs) in
+    subst (λ (n : ℕ). (4 * workloads * kinds + 2 * workloads) * most_rules lists (folding_of lists) ≤ (4 * n * n + 6 * n) * most_rules lists (folding_of lists)) is (mul-le-mul_right (most_rules lists (folding_of lists)) all)
+
+-- ---- there are no more kinds than workloads
+
+length-firsts : (alike : ℕ → ℕ → Bool) (count : ℕ) → length (firsts alike count) ≤ count
+unfolding firsts
+length-firsts alike count = omega (arith, length-filter (is_first alike) (places count), count_by-le-length (is_first alike) (places count), length-range_with_len 0 count)
+
+pub kinds-fewer : (lists : EstateLists) → (folding_of lists).kind_count ≤ length (folding_of lists).workloads
+unfolding folding_of
+kinds-fewer lists = subst (λ (n : ℕ). length (firsts (kinds_alike lists) (workload_count lists)) ≤ n) (sym (workloads-count lists)) (length-firsts (kinds_alike lists) (workload_count lists))
+
+-- so what is due for all rows of a table is within what a list may count
+pub due-all : (lists : EstateLists) (folding : Folding) → folding ≡ folding_of lists → (4 * length folding.workloads * folding.kind_count + 2 * length folding.workloads) * most_rules lists folding ≤ list_steps lists
+due-all lists folding is =
+    subst (λ (f : Folding). (4 * length f.workloads * f.kind_count + 2 * length f.workloads) * most_rules lists f ≤ list_steps lists) (sym is)
+    (due-within lists (length (folding_of lists).workloads) (folding_of lists).kind_count refl (kinds-fewer lists))

@@ -1,0 +1,245 @@
+-- Rows of destinations of one kind, and what is kept of them.
+use Rattle.std.proofs.Common.{◌≡◌, ◌≢◌, ◌<◌, ◌≤◌, ◌+◌, ◌*◌, ◌-◌, ◌/◌, ◌%◌, ℕ, zero, suc, List, [], ◌∷◌, ◌++◌, Bool, true, false, Option, Some, None, length, map, max, slice_index, arith, refl, sym, ap, subst, ◌∙◌, inl, inr, if◌then◌else◌}
+use Rattle.std.specs.Option.{option_map}
+use Rattle.std.proofs.Math.Nat.{mul-le-mul_left}
+use Rattle.std.proofs.lemmas.Bool.Decides.{eqb_tells}
+use Rattle.std.proofs.lemmas.List.{length-map}
+use Rattle.std.proofs.lemmas.List.FromFn.{get_or-map-range_with_len, length-range_with_len}
+use Rattle.np_addr.specs.declared.address.Family.{Family}
+use Rattle.np_addr.specs.declared.address.Family.TheVariants.{Four, Six}
+use Rattle.np_classes.proofs.Relations.{class_within}
+use Rattle.np_classes.specs.Classes.{class_of}
+use Rattle.np_conns.specs.Conns.{Conns, has_spot}
+use Rattle.np_conns.specs.declared.port_spot.PortSpot.{PortSpot}
+use Rattle.np_conns.specs.declared.proto.Proto.TheVariants.{Tcp, Udp, Sctp}
+use Rattle.np_estate.specs.Lawful.{IsLawful}
+use Rattle.np_estate.specs.declared.lists.EstateLists.{EstateLists}
+use Rattle.np_estate.specs.declared.pod.Pod.{Pod}
+use Rattle.np_fold.proofs.AlikeLemmas.{kinds-are}
+use Rattle.np_fold.proofs.WorkloadLemmas.{first-is, workloads-count}
+use Rattle.np_fold.specs.Workloads.{Folding, first_pod, folding_of, kinds_alike, members_of, workload_count}
+use Rattle.np_policies.specs.declared.direction.Direction.{Direction}
+use Rattle.np_policies.specs.declared.direction.Direction.TheVariants.{Egress, Ingress}
+use Rattle.np_ranges.proofs.Sets.{conns_of-agrees, conns_of-has_spot}
+use Rattle.np_ranges.specs.Right.{are_same_conns, conns_of}
+use Rattle.np_table.proofs.DueLemmas.{greatest-at, same_source, source-behind}
+use Rattle.np_table.proofs.KeptLemmas.{kept_count-below}
+use Rattle.np_table.proofs.PairLemmas.{first_there, in_workloads, pair_allows-alone, pair_allows-kinds, pod_there, source-within}
+use Rattle.np_table.specs.Kept.{IsKept, KeepsAlso, KeepsTheSame, kept_at, kept_count, kept_of, row_with}
+use Rattle.np_table.specs.Rows.{is_nothing, pair_key, pair_rows, row_if, rows_in, rows_of_both}
+use Rattle.np_table.specs.Table.{is_alone, pair_allows, source_pod, table_of}
+use Rattle.np_table.specs.ToCome.{most_rules, rules_of}
+use Rattle.np_table.specs.declared.kept.KeptConns.{KeptConns}
+use Rattle.np_table.specs.declared.rows.Row.{Row}
+use Rattle.np_table.specs.declared.rows.RowKey.{RowKey}
+
+-- ---- rows with other ends
+
+-- the rows with what these have besides their ends
+abbrev with_ends : RowKey → List Row → List Row
+with_ends key rows = map (row_with key) (map kept_of rows)
+
+with_ends-append : (key : RowKey) (xs ys : List Row) → with_ends key (xs ++ ys) ≡ with_ends key xs ++ with_ends key ys
+with_ends-append key [] ys = refl
+with_ends-append key (x ∷ xs) ys = ap (λ (rows : List Row). row_with key (kept_of x) ∷ rows) (with_ends-append key xs ys)
+
+with_ends-if : (key key' : RowKey) (family : Option Family) (conns : Conns) (none : Bool) → with_ends key' (if none then [] else record { key = key; family = family; conns = conns } ∷ []) ≡ (if none then [] else record { key = key'; family = family; conns = conns } ∷ [])
+with_ends-if key key' family conns true = refl
+with_ends-if key key' family conns false = refl
+
+with_ends-row_if : (key key' : RowKey) (family : Option Family) (conns : Conns) → with_ends key' (row_if key family conns) ≡ row_if key' family conns
+with_ends-row_if key key' family conns = with_ends-if key key' family conns (is_nothing conns)
+
+with_ends-both : (key key' : RowKey) (four six : Conns) (same : Bool) → with_ends key' (if same then row_if key None four else row_if key (Some Four) four ++ row_if key (Some Six) six) ≡ (if same then row_if key' None four else row_if key' (Some Four) four ++ row_if key' (Some Six) six)
+with_ends-both key key' four six true = with_ends-row_if key key' None four
+with_ends-both key key' four six false =
+    with_ends-append key' (row_if key (Some Four) four) (row_if key (Some Six) six)
+    ∙ ap (λ (rows : List Row). rows ++ with_ends key' (row_if key (Some Six) six)) (with_ends-row_if key key' (Some Four) four)
+    ∙ ap (λ (rows : List Row). row_if key' (Some Four) four ++ rows) (with_ends-row_if key key' (Some Six) six)
+
+with_ends-rows_in : (families : List Family) (key key' : RowKey) (conns : Family → Conns) → with_ends key' (rows_in families key conns) ≡ rows_in families key' conns
+with_ends-rows_in [] key key' conns = with_ends-both key key' (conns Four) (conns Six) (are_same_conns (conns Four) (conns Six))
+with_ends-rows_in (family ∷ []) key key' conns = with_ends-row_if key key' None (conns family)
+with_ends-rows_in (family ∷ next ∷ families) key key' conns = with_ends-both key key' (conns Four) (conns Six) (are_same_conns (conns Four) (conns Six))
+
+rows_of_both-agree : (key : RowKey) (conns conns' : Family → Conns) → ((family : Family) → conns family ≡ conns' family) → rows_of_both key (conns Four) (conns Six) ≡ rows_of_both key (conns' Four) (conns' Six)
+rows_of_both-agree key conns conns' agree =
+    ap (λ (four : Conns). rows_of_both key four (conns Six)) (agree Four) ∙ ap (λ (six : Conns). rows_of_both key (conns' Four) six) (agree Six)
+
+rows_in-agree : (families : List Family) (key : RowKey) (conns conns' : Family → Conns) → ((family : Family) → conns family ≡ conns' family) → rows_in families key conns ≡ rows_in families key conns'
+rows_in-agree [] key conns conns' agree = rows_of_both-agree key conns conns' agree
+rows_in-agree (family ∷ []) key conns conns' agree = ap (row_if key None) (agree family)
+rows_in-agree (family ∷ next ∷ families) key conns conns' agree = rows_of_both-agree key conns conns' agree
+
+-- destinations to which the same passes have the same rows but for their ends
+with_ends-pair_rows : (lists : EstateLists) (folding : Folding) (source b b' : ℕ) → ((family : Family) → conns_of (pair_allows lists folding source b family) ≡ conns_of (pair_allows lists folding source b' family)) → with_ends (pair_key source b') (pair_rows (table_of lists folding) source b) ≡ pair_rows (table_of lists folding) source b'
+unfolding pair_rows table_of
+with_ends-pair_rows lists folding source b b' same =
+    with_ends-rows_in (table_of lists folding).families (pair_key source b) (pair_key source b') (λ family. conns_of (pair_allows lists folding source b family))
+    ∙ rows_in-agree (table_of lists folding).families (pair_key source b') (λ family. conns_of (pair_allows lists folding source b family)) (λ family. conns_of (pair_allows lists folding source b' family)) same
+
+-- ---- a workload of one pod with itself
+
+abbrev nothing : Conns
+nothing = record { tcp = []; udp = []; sctp = [] }
+
+nothing-has : (spot : PortSpot) → has_spot nothing spot ≡ false
+nothing-has spot = elim spot.proto as (λ proto. has_spot nothing (record { proto = proto; port = spot.port }) ≡ false) [ Tcp ↦ refl | Udp ↦ refl | Sctp ↦ refl ]
+
+conns_of-nothing : (passes : PortSpot → Bool) → ((spot : PortSpot) → passes spot ≡ false) → conns_of passes ≡ nothing
+conns_of-nothing passes none =
+    conns_of-agrees passes (has_spot nothing) (λ spot _. none spot ∙ sym (nothing-has spot))
+    ∙ conns_of-has_spot nothing (record { tcp = tt; udp = tt; sctp = tt })
+
+rows_in-nothing : (families : List Family) (key : RowKey) → rows_in families key (λ family. nothing) ≡ []
+rows_in-nothing [] key = refl
+rows_in-nothing (family ∷ []) key = refl
+rows_in-nothing (family ∷ next ∷ families) key = refl
+
+-- has no rows
+pub pair_rows-alone : (lists : EstateLists) (folding : Folding) (source destination : ℕ) → is_alone folding source destination ≡ true → [] ≡ pair_rows (table_of lists folding) source destination
+unfolding pair_rows table_of
+pair_rows-alone lists folding source destination alone =
+    sym (rows_in-agree (table_of lists folding).families (pair_key source destination) (λ family. conns_of (pair_allows lists folding source destination family)) (λ family. nothing) (λ family. conns_of-nothing _ (λ spot. pair_allows-alone lists folding source destination family spot alone))
+    ∙ rows_in-nothing (table_of lists folding).families (pair_key source destination))
+
+-- ---- kinds
+
+kinds-by : (lists : EstateLists) (number : ℕ) → number < length (folding_of lists).workloads → (number < workload_count lists) × (number < length (folding_of lists).kinds) × (slice_index (folding_of lists).kinds number ≡ class_of (kinds_alike lists) (workload_count lists) number)
+unfolding folding_of
+kinds-by lists number within =
+    let low : number < workload_count lists = subst (λ (n : ℕ). number < n) (workloads-count lists) within in
+    let kind : ℕ → ℕ = class_of (kinds_alike lists) (workload_count lists) in
+    let all : length (folding_of lists).kinds ≡ workload_count lists = length-map _ kind ∙ length-range_with_len 0 (workload_count lists) in
+    (low, subst (λ (n : ℕ). number < n) (sym all) low, get_or-map-range_with_len kind 0 (workload_count lists) number number 0 low (omega arith))
+
+-- each workload has a first pod
+first_pod-there : (lists : EstateLists) (number : ℕ) → number < workload_count lists → (pod : Pod) × (first_pod lists number ≡ Some pod)
+first_pod-there lists number within =
+    let folding = folding_of lists in
+    let first = first_there (members_of folding number) lists.pods (first_pod lists number) (first-is lists number (in_workloads lists number within)) in
+    let there = pod_there lists (source_pod folding number) (source-within lists number within) in
+    (there.0, sym first ∙ there.1)
+
+kind_count-within : (lists : EstateLists) (number : ℕ) → number < workload_count lists → class_of (kinds_alike lists) (workload_count lists) number < (folding_of lists).kind_count
+unfolding folding_of
+kind_count-within lists number within = class_within (kinds_alike lists) (workload_count lists) (kinds-are lists (workload_count lists) (first_pod-there lists)) number within
+
+-- each workload has a kind
+pub kind-there : (lists : EstateLists) (folding : Folding) (number : ℕ) → folding ≡ folding_of lists → number < length folding.workloads → number < length folding.kinds
+kind-there lists folding number folded =
+    let of : Folding → Type 0 = λ f. number < length f.workloads → number < length f.kinds in
+    subst of (sym folded) (λ within. (kinds-by lists number within).1)
+
+-- which is one of the kinds
+pub kind-within : (lists : EstateLists) (folding : Folding) (number : ℕ) → folding ≡ folding_of lists → number < length folding.workloads → slice_index folding.kinds number < folding.kind_count
+kind-within lists folding number folded =
+    let of : Folding → Type 0 = λ f. number < length f.workloads → slice_index f.kinds number < f.kind_count in
+    subst of (sym folded) (λ within.
+    let kind = kinds-by lists number within in
+    subst (λ (n : ℕ). n < (folding_of lists).kind_count) (sym kind.2) (kind_count-within lists number kind.0))
+
+-- the same passes to destinations of one kind
+conns-same_kind : (lists : EstateLists) (folding : Folding) (source b b' : ℕ) (family : Family) → folding ≡ folding_of lists → IsLawful lists → source < length folding.workloads → b < length folding.workloads → b' < length folding.workloads → slice_index folding.kinds b ≡ slice_index folding.kinds b' → is_alone folding source b ≡ false → is_alone folding source b' ≡ false → conns_of (pair_allows lists folding source b family) ≡ conns_of (pair_allows lists folding source b' family)
+conns-same_kind lists folding source b b' family folded lawful =
+    let of : Folding → Type 0 = λ f. source < length f.workloads → b < length f.workloads → b' < length f.workloads → slice_index f.kinds b ≡ slice_index f.kinds b' → is_alone f source b ≡ false → is_alone f source b' ≡ false → conns_of (pair_allows lists f source b family) ≡ conns_of (pair_allows lists f source b' family) in
+    subst of (sym folded) (λ near far far' same alone alone'.
+    let kind = kinds-by lists b far in
+    let kind' = kinds-by lists b' far' in
+    conns_of-agrees _ _ (λ spot _. pair_allows-kinds lists source source b b' family spot lawful (kinds-by lists source near).0 (kinds-by lists source near).0 kind.0 kind'.0 refl (sym kind.2 ∙ same ∙ kind'.2) alone alone'))
+
+-- ---- what is kept
+
+nothing_there : (kind : ℕ) (conns : List KeptConns) → kept_at [] kind ≡ Some conns → ⊥
+nothing_there zero conns is = absurd (cc)
+nothing_there (suc kind) conns is = absurd (cc)
+
+-- at first nothing is
+pub IsKept-nothing : (lists : EstateLists) (folding : Folding) (source : ℕ) → IsKept lists folding source []
+unfolding IsKept
+IsKept-nothing lists folding source destination conns near far alone is = absurd (nothing_there (slice_index folding.kinds destination) conns is)
+
+-- what is kept stays right
+pub IsKept-same : (lists : EstateLists) (folding : Folding) (source : ℕ) (old new : List (Option (List KeptConns))) → IsKept lists folding source old → KeepsTheSame old new → IsKept lists folding source new
+unfolding IsKept
+IsKept-same lists folding source old new kept same destination conns near far alone is =
+    kept destination conns near far alone (sym (same.all _) ∙ is)
+
+same_some : (found : Option (List KeptConns)) (a b : List KeptConns) → found ≡ Some a → found ≡ Some b → a ≡ b
+same_some found a b is is' = cc
+
+-- also with the rows to one more kind
+pub IsKept-also : (lists : EstateLists) (folding : Folding) (source destination : ℕ) (old new : List (Option (List KeptConns))) (rows : List Row) → folding ≡ folding_of lists → IsLawful lists → destination < length folding.workloads → is_alone folding source destination ≡ false → rows ≡ pair_rows (table_of lists folding) source destination → IsKept lists folding source old → KeepsAlso old new (slice_index folding.kinds destination) (map kept_of rows) → IsKept lists folding source new
+unfolding IsKept
+IsKept-also lists folding source destination old new rows folded lawful here here_alone made kept also other conns near far alone is =
+    elim (eqb_tells (slice_index folding.kinds other) (slice_index folding.kinds destination)) [
+      | inl same ↦
+          let at = subst (λ (kind : ℕ). kept_at new kind ≡ Some conns) same.1 is in
+          ap (map (row_with (pair_key source other))) (same_some _ conns (map kept_of rows) at also.one)
+          ∙ ap (with_ends (pair_key source other)) made
+          ∙ with_ends-pair_rows lists folding source destination other (λ family. conns-same_kind lists folding source destination other family folded lawful near here far (sym same.1) here_alone alone)
+      | inr apart ↦ kept other conns near far alone (sym (also.others _ apart.1) ∙ is)
+    ]
+
+some_kept : (found : Option (List KeptConns)) (f : List KeptConns → List Row) (rows : List Row) → Some rows ≡ option_map f found → (conns : List KeptConns) × (found ≡ Some conns) × (rows ≡ f conns)
+some_kept None f rows is = absurd (cc)
+some_kept (Some conns) f rows is = (conns, refl, cc)
+
+-- what is kept for the kind of a destination gives its rows
+pub rows-kept : (lists : EstateLists) (folding : Folding) (source destination : ℕ) (kept : List (Option (List KeptConns))) (rows : List Row) → source < length folding.workloads → destination < length folding.workloads → is_alone folding source destination ≡ false → IsKept lists folding source kept → Some rows ≡ option_map (map (row_with (pair_key source destination))) (kept_at kept (slice_index folding.kinds destination)) → rows ≡ pair_rows (table_of lists folding) source destination
+unfolding IsKept
+rows-kept lists folding source destination kept rows near far alone is_kept is =
+    let there = some_kept (kept_at kept (slice_index folding.kinds destination)) (map (row_with (pair_key source destination))) rows is in
+    there.2 ∙ is_kept destination there.0 near far alone there.1
+
+-- there are none exactly where nothing is kept
+pub none_kept : (found : Option (List KeptConns)) (f : List KeptConns → List Row) → None ≡ option_map f found → found ≡ None
+none_kept None f is = refl
+none_kept (Some conns) f is = absurd (cc)
+
+-- ---- the most rules
+
+-- of no workload more rules speak
+pub rules-most : (lists : EstateLists) (folding : Folding) (direction : Direction) (workload : ℕ) → workload < length folding.workloads → rules_of lists folding direction workload ≤ most_rules lists folding
+unfolding most_rules
+rules-most lists folding direction workload within =
+    let both : ℕ → ℕ = λ w. max (rules_of lists folding Ingress w) (rules_of lists folding Egress w) in
+    let here : both (0 + workload) ≡ both workload = ap both (let same : 0 + workload ≡ workload = omega arith in same) in
+    let most = greatest-at both 0 (length folding.workloads) workload within in
+    elim direction as (λ d. rules_of lists folding d workload ≤ most_rules lists folding) [ Ingress ↦ omega (arith, here, most) | Egress ↦ omega (arith, here, most) ]
+
+-- what a pair takes is at most four times the most rules
+pub pair-most : (lists : EstateLists) (folding : Folding) (source destination old new : ℕ) → source < length folding.workloads → destination < length folding.workloads → new ≤ old + 2 * (rules_of lists folding Egress source + rules_of lists folding Ingress destination) → new ≤ old + 4 * most_rules lists folding
+pair-most lists folding source destination old new near far steps =
+    omega (arith, steps, rules-most lists folding Egress source near, rules-most lists folding Ingress destination far)
+
+-- which is due for a kind for which nothing is kept
+pub pair-due : (lists : EstateLists) (folding : Folding) (old new kind : ℕ) (kept : List (Option (List KeptConns))) → kind < folding.kind_count → length kept ≤ folding.kind_count → kept_at kept kind ≡ None → new ≤ old + 4 * most_rules lists folding → new ≤ old + 4 * most_rules lists folding * (folding.kind_count - kept_count kept)
+pair-due lists folding old new kind kept within few none steps =
+    let most = 4 * most_rules lists folding in
+    let low = kept_count-below kept kind folding.kind_count few within none in
+    let one : most * 1 ≤ most * (folding.kind_count - kept_count kept) = mul-le-mul_left most (let some : 1 ≤ folding.kind_count - kept_count kept = omega (arith, low) in some) in
+    omega (arith, steps, one)
+
+-- and no more when it is kept
+pub pair-counted : (lists : EstateLists) (folding : Folding) (old new kind : ℕ) (kept kept' : List (Option (List KeptConns))) → kind < folding.kind_count → length kept ≤ folding.kind_count → kept_at kept kind ≡ None → kept_count kept' ≡ kept_count kept + 1 → new ≤ old + 4 * most_rules lists folding → new + 4 * most_rules lists folding * (folding.kind_count - kept_count kept') ≤ old + 4 * most_rules lists folding * (folding.kind_count - kept_count kept)
+pair-counted lists folding old new kind kept kept' within few none more steps =
+    let most = 4 * most_rules lists folding in
+    let low = kept_count-below kept kind folding.kind_count few within none in
+    let left : folding.kind_count - kept_count kept ≡ folding.kind_count - kept_count kept' + 1 = omega (arith, low, more) in
+    let is : most * (folding.kind_count - kept_count kept) ≡ most * (folding.kind_count - kept_count kept') + most =
+    ap (λ (n : ℕ). most * n) left ∙ (let same : most * (folding.kind_count - kept_count kept' + 1) ≡ most * (folding.kind_count - kept_count kept') + most = omega arith in same) in
+    omega (arith, steps, is)
+
+-- ---- places
+
+-- for the next place of the same source the same is kept
+pub IsKept-same_source : (lists : EstateLists) (folding : Folding) (place : ℕ) (kept : List (Option (List KeptConns))) → place < length folding.workloads * length folding.workloads → place % length folding.workloads + 1 ≢ length folding.workloads → IsKept lists folding (place / length folding.workloads) kept → IsKept lists folding ((place + 1) / length folding.workloads) kept
+IsKept-same_source lists folding place kept below more is =
+    let P : ℕ → Type 0 = λ source. IsKept lists folding source kept in
+    subst P (sym (same_source (length folding.workloads) place below more)) is
+
+-- and behind the pairs there is no source
+pub IsKept-behind : (lists : EstateLists) (folding : Folding) (place : ℕ) (kept : List (Option (List KeptConns))) → length folding.workloads * length folding.workloads ≤ place → IsKept lists folding (place / length folding.workloads) kept
+unfolding IsKept
+IsKept-behind lists folding place kept up destination conns near far alone is = absurd (source-behind (length folding.workloads) place up near)
