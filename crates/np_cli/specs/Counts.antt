@@ -7,7 +7,7 @@ use Rattle.np_cli.specs.declared.fault.Fault.{Fault}
 use Rattle.np_cli.specs.declared.job.Job.{Job}
 use Rattle.np_cli.specs.declared.job.Job.TheVariants.{List as ListJob}
 use Rattle.np_estate.specs.declared.lists.EstateLists.{EstateLists}
-use Rattle.np_fold.specs.Workloads.{Folding, folding_of}
+use Rattle.np_fold.specs.Workloads.{folding_of}
 use Rattle.np_table.specs.ToCome.{most_rules}
 
 -- with so many workloads, of each of which so many rules speak in a direction at most
