@@ -9,7 +9,7 @@ use Rattle.np_table.specs.Table.{table_of}
 abbrev pub invariant-loop-rows : goal.invariant-loop-rows
 invariant-loop-rows g l = record {
   left : HasLeft (g.O.Sink.taken l.fn.out) (g.O.Sink.taken l.out) (g.O.Sink.faults l.fn.out) (g.O.Sink.faults l.out)
-    (list_text (table_of l.fn.estate l.fn.workloads)) (flat_map (row_text (names_of l.fn.workloads)) l.rows.rows);
+      (list_text (table_of l.fn.estate l.fn.workloads)) (flat_map (row_text (names_of l.fn.workloads)) l.rows.rows);
   least : l.fn.steps ≤ l.steps;
   most : l.steps + l.rows.due ≤ l.fn.steps + list_steps l.fn.estate;
 }
