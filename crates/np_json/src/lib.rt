@@ -11,8 +11,6 @@ mod pairs;
 mod path;
 mod scalars;
 mod table;
-#[cfg(test)]
-mod tests;
 mod words;
 
 pub use fault::{Fault, FaultKind, ReadFault};

@@ -18,14 +18,10 @@ mod pod_item;
 mod pod_spec;
 mod pod_status;
 mod port_tables;
-#[cfg(test)]
-mod printed;
 mod service;
 mod service_spec;
 mod service_tables;
 mod template;
-#[cfg(test)]
-mod tests;
 
 pub use controller::{ControllerItem, ControllerKind, Template};
 pub use ingress::{Backend, IngressItem};

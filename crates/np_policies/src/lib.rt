@@ -20,8 +20,6 @@ mod policy_table;
 mod port_members;
 mod selector_table;
 mod subject_table;
-#[cfg(test)]
-mod tests;
 
 pub use admin_policy::{Action, AdminPeer, AdminPolicy, AdminPort, AdminRule, BasePolicy, Subject};
 pub use direction::Direction;

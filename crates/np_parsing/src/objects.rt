@@ -1,6 +1,6 @@
 //! Examples: the fault that each table finds first, and what is passed over.
 
-use crate::{Object, read_object};
+use np_objects::{Object, read_object};
 use serde_json::Value;
 use std::alloc::Global;
 use std::process::Abort;

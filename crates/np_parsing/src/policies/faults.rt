@@ -1,6 +1,6 @@
 //! What is told of an item, table by table.
 
-use crate::policy_table::read_policy;
+use np_policies::read_policy;
 use serde_json::Value;
 use std::alloc::Global;
 use std::process::Abort;

@@ -1,12 +1,12 @@
 //! Examples: paths, the readers on each JSON type, words, and tables.
 
-use crate::{
+use np_base::{NoMemory, Seq, Text};
+use np_json::{
     FaultKind, Field, Flag, LabelMap, Name, NamespacedNameTable, Path, Port, Table, TableFault,
     TypeMetaTable, Whole, Word, either_field, flag_field, has_one_of, is_name, is_word, list_field,
     listed, must_be_object, object_field, optional, pairs_field, read_item, refuse_if,
     refuse_member_if, required, text_field, whole_field,
 };
-use np_base::{NoMemory, Seq, Text};
 use serde_json::Value;
 use std::alloc::Global;
 use std::process::Abort;

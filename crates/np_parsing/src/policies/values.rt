@@ -1,7 +1,7 @@
 //! The policies of the references as values.
 
 use super::outline::outline;
-use crate::policy_table::read_policy;
+use np_policies::read_policy;
 use serde_json::Value;
 use std::alloc::Global;
 use std::process::Abort;

@@ -1,12 +1,12 @@
 //! Examples: an object of each kind as a cluster prints it, and what is read of it.
 
-use crate::{
-    Backend, ControllerItem, IngressItem, NamedPort, Object, OwnerRef, PodItem, PortName,
-    ServiceItem, read_object,
-};
 use np_addr::print_address;
 use np_base::Seq;
 use np_labels::{Labels, Op};
+use np_objects::{
+    Backend, ControllerItem, IngressItem, NamedPort, Object, OwnerRef, PodItem, PortName,
+    ServiceItem, read_object,
+};
 use serde_json::Value;
 use std::alloc::Global;
 use std::test::Fail;

@@ -1,11 +1,11 @@
 //! Policies in one line each, for examples.
 
-use crate::{
-    AdminPeer, AdminPort, AdminRule, NetPeer, NetPolicy, NetPort, NetRule, Policy, Subject,
-};
 use np_addr::{Address, Cidr, print_address};
 use np_base::Seq;
 use np_labels::{Op, Requirement, Selector};
+use np_policies::{
+    AdminPeer, AdminPort, AdminRule, NetPeer, NetPolicy, NetPort, NetRule, Policy, Subject,
+};
 use std::alloc::Global;
 use std::test::Fail;
 
