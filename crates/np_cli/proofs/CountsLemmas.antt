@@ -6,7 +6,7 @@ use Rattle.std.proofs.Math.Nat.{mul-le-mul_left, mul-le-mul_right}
 use Rattle.np_cli.specs.Counts.{Counted, list_steps, most_steps}
 use Rattle.np_cli.specs.Sources.{AreTold, Sourced}
 use Rattle.np_cli.specs.Words.{names_of}
-use Rattle.np_cli.specs.declared.job.Job.{Job}
+use Rattle.np_words.specs.declared.job.Job.{Job}
 use Rattle.np_estate.specs.declared.lists.EstateLists.{EstateLists}
 use Rattle.np_classes.specs.Classes.{firsts, is_first, places}
 use Rattle.np_fold.proofs.WorkloadLemmas.{workloads-count}

@@ -12,7 +12,7 @@ use Rattle.np_cli.specs.Sources.{Sourced}
 use Rattle.np_cli.specs.Statuses.{status_of}
 use Rattle.np_cli.specs.Words.{names_asked}
 use Rattle.np_cli.specs.declared.fault.Fault.{Fault}
-use Rattle.np_cli.specs.declared.job.Job.{Job}
+use Rattle.np_words.specs.declared.job.Job.{Job}
 use Rattle.np_cli.specs.declared.outcome.Outcome.{Outcome}
 use Rattle.np_cli.specs.declared.outcome.Outcome.TheVariants.{Done, Usage, TooLarge, Refused, CannotRead, CannotWrite, NoMemory}
 use Rattle.np_cli.specs.declared.status.Status.{Status}

@@ -8,7 +8,7 @@ use Rattle.np_cli.specs.Prints.{Answers}
 use Rattle.np_cli.specs.Runs.{Sunk, IsKept, TookWhole, IsUnfailed, IsAccepted, Cause}
 use Rattle.np_cli.specs.Sources.{Sourced, AreTold, is_too_large, size_limit, total_size}
 use Rattle.np_cli.specs.Words.{names_of}
-use Rattle.np_cli.specs.declared.job.Job.{Job}
+use Rattle.np_words.specs.declared.job.Job.{Job}
 use Rattle.np_cli.specs.declared.outcome.Outcome.{Outcome}
 use Rattle.np_cli.specs.declared.outcome.Outcome.TheVariants.{Done, Usage, TooLarge, Refused, CannotRead, CannotWrite, NoMemory}
 

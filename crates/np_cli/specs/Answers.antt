@@ -6,8 +6,8 @@ use Rattle.np_cli.specs.Inputs.{lists_of}
 use Rattle.np_cli.specs.Rows.{table_text}
 use Rattle.np_cli.specs.Sources.{is_too_large}
 use Rattle.np_cli.specs.declared.fault.Fault.{Fault}
-use Rattle.np_cli.specs.declared.job.Job.{Job}
-use Rattle.np_cli.specs.declared.job.Job.TheVariants.{List as ListJob}
+use Rattle.np_words.specs.declared.job.Job.{Job}
+use Rattle.np_words.specs.declared.job.Job.TheVariants.{List as ListJob}
 
 abbrev pub fault_in : Result EstateLists Fault → Option Fault
 fault_in (Ok lists) = None

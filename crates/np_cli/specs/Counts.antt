@@ -4,8 +4,8 @@ use Rattle.np_cli.specs.Inputs.{lists_of}
 use Rattle.np_cli.specs.Runs.{Tells}
 use Rattle.np_cli.specs.Sources.{Sourced}
 use Rattle.np_cli.specs.declared.fault.Fault.{Fault}
-use Rattle.np_cli.specs.declared.job.Job.{Job}
-use Rattle.np_cli.specs.declared.job.Job.TheVariants.{List as ListJob}
+use Rattle.np_words.specs.declared.job.Job.{Job}
+use Rattle.np_words.specs.declared.job.Job.TheVariants.{List as ListJob}
 use Rattle.np_estate.specs.declared.lists.EstateLists.{EstateLists}
 use Rattle.np_fold.specs.Workloads.{folding_of}
 use Rattle.np_table.specs.ToCome.{most_rules}

@@ -26,7 +26,7 @@ notes_text notes =
 -- the notes of a whole report, and one line for each other outcome
 abbrev pub message : Outcome → List ℕ
 message (Done notes) = notes_text notes
-message Usage = codes "usage: np list\n"
+message Usage = codes "usage: np list [FILE]...\n"
 message TooLarge = codes "error: TooLarge\n"
 message (Refused fault) = codes "error: " ++ fault_text fault ++ codes "\n"
 message (CannotRead name) = codes "error: cannot read " ++ name ++ codes "\n"

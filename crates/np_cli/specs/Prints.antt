@@ -7,7 +7,7 @@ use Rattle.np_io.specs.Taken.{TookFront}
 use Rattle.np_cli.specs.Answers.{refusal, text_of, notes_of, fault_in, table_in, notes_in}
 use Rattle.np_cli.specs.Runs.{Sunk, IsKept, TookWhole}
 use Rattle.np_cli.specs.declared.fault.Fault.{Fault}
-use Rattle.np_cli.specs.declared.job.Job.{Job}
+use Rattle.np_words.specs.declared.job.Job.{Job}
 use Rattle.np_cli.specs.declared.outcome.Outcome.{Outcome}
 use Rattle.np_cli.specs.declared.outcome.Outcome.TheVariants.{Done, Usage, TooLarge, Refused, CannotRead, CannotWrite, NoMemory}
 

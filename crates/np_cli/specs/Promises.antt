@@ -7,7 +7,7 @@ use Rattle.np_cli.specs.Runs.{Sunk, IsKept, TookWhole, Tells, IsAccepted, Said}
 use Rattle.np_cli.specs.Sources.{Sourced, is_too_large}
 use Rattle.np_cli.specs.Words.{names_asked}
 use Rattle.np_cli.specs.declared.fault.Fault.{Fault}
-use Rattle.np_cli.specs.declared.job.Job.{Job}
+use Rattle.np_words.specs.declared.job.Job.{Job}
 use Rattle.np_cli.specs.declared.outcome.Outcome.TheVariants as outcome
 use Rattle.np_cli.specs.declared.status.Status.{Status}
 use Rattle.np_cli.specs.declared.status.Status.TheVariants as status

@@ -3,7 +3,6 @@
 
 mod fault;
 mod folded;
-mod job;
 mod laws;
 mod notes;
 mod outcome;
@@ -15,8 +14,8 @@ mod status;
 mod write_fault;
 
 pub use fault::Fault;
-pub use job::{Job, WordsFault, read_words};
 pub use laws::equal_tables_print_equal_bytes;
+pub use np_words::{Job, WordsFault, read_words};
 pub use outcome::Outcome;
 pub use run::np_main;
 pub use status::Status;

@@ -62,7 +62,7 @@ impl fmt::Display for Outcome {
     fn fmt<W: fmt::Write>(&self, f: &mut fmt::Formatter<W>) -> fmt::Result {
         match self {
             Outcome::Done(notes) => write!(f, "{}", NotesText { notes: *notes }),
-            Outcome::Usage => writeln!(f, "usage: np list"),
+            Outcome::Usage => writeln!(f, "usage: np list [FILE]..."),
             Outcome::TooLarge => writeln!(f, "error: TooLarge"),
             Outcome::Refused(fault) => writeln!(f, "error: {fault}"),
             Outcome::CannotRead(name) => writeln!(f, "error: cannot read {name}"),

@@ -9,13 +9,12 @@ ghost use Rattle.np_cli.specs.Rows.{table_text};
 ghost use Rattle.np_cli.specs.Runs.{Cause, Ends, Said, sunk};
 ghost use Rattle.np_cli.specs.Sources.{sourced};
 ghost use Rattle.np_cli.specs.Words as spec;
-ghost use Rattle.np_cli.specs.Words.{asked_by};
+ghost use Rattle.np_words.specs.CommandLines.{asked_by};
 ghost use Rattle.np_estate.specs.Lawful.{IsLawful};
 ghost use Rattle.np_fold.specs.Workloads.{folding_of};
 
 use crate::fault::InputsFault;
 use crate::folded::{Folded, read_folded};
-use crate::job::{Job, WordsFault, read_words};
 use crate::outcome::Outcome;
 use crate::rows::write_table;
 use crate::sources::{SourceFault, read_all};
@@ -24,6 +23,7 @@ use crate::write_fault::WriteFault;
 use np_base::{NoMemory, Text};
 use np_io::{Inputs, Sink, write_whole};
 use np_steps::Steps;
+use np_words::{Job, WordsFault, read_words};
 use std::alloc::Global;
 use std::sync::ledger::Ledger;
 

@@ -1,22 +1,52 @@
 //! A source over the system.
-ghost use Rattle.std.specs.Prelude.{◌≡◌, ℕ, List};
+ghost use Rattle.std.specs.Prelude.{◌≡◌, ◌≤◌, ℕ, List, IfOk, length};
 
 use crate::counts::count;
 use crate::inputs::{InputFailed, Inputs};
+use std::fs::File;
+use std::io;
 use std::io::Read;
+use std::rt::Files;
 
-/// A source over the system, whose name `-` is standard input; it has no other name. Where `-` is begun again, it
-/// goes on where it stopped. The source does not tell its bytes or which name is begun. It counts its failures, and
-/// that number is its count for every name.
+/// A source over the system, whose name `-` is standard input; any other name is that of a file. Where `-` is begun
+/// again, it goes on where it stopped, and a file is read from its front. The source does not tell its bytes or which
+/// name is begun. It counts its failures, and that number is its count for every name.
 #[derive(Drop)]
-pub struct RealInputs<R: Input + Drop> {
+pub struct RealInputs<R: Input + Files + Drop> {
     runtime: R,
-    begun: Option<R::Reader>,
+    begun: Option<Begun<R>>,
     faults: u64,
     handed: u64,
 }
 
-impl<R: Input + Drop> RealInputs<R> {
+// What is read.
+#[derive(Drop)]
+enum Begun<R: Input + Files> {
+    Standard(R::Reader),
+    File(R::File),
+}
+
+impl<R: Input + Files> Begun<R> {
+    // What stands behind a name.
+    fn of(runtime: &R, name: &str) -> io::Result<Begun<R>> {
+        if name == "-" {
+            return Ok(Begun::Standard(runtime.reader()));
+        }
+        Ok(Begun::File(File::open(runtime, name)?))
+    }
+
+    // The next bytes.
+    fn read(&mut self, into: &mut [u8]) -> io::Result<usize>
+        ensures within { IfOk result (λ n. n ≤ length into.old) }
+    {
+        match self {
+            Begun::Standard(reader) => reader.read(into),
+            Begun::File(file) => file.read(into),
+        }
+    }
+}
+
+impl<R: Input + Files + Drop> RealInputs<R> {
     /// A source over the system that the runtime stands for. No name is begun, and no call failed yet.
     pub fn new(runtime: R) -> RealInputs<R>
         ensures faults { (name : List ℕ) → ⟦<RealInputs<R> as Inputs>⟧.faults result name ≡ 0 }
@@ -31,7 +61,7 @@ impl<R: Input + Drop> RealInputs<R> {
     }
 }
 
-impl<R: Input + Drop> Inputs for RealInputs<R> {
+impl<R: Input + Files + Drop> Inputs for RealInputs<R> {
     ghost use Rattle.std.specs.Prelude.{None};
 
     ghost holds = { λ s name. None };
@@ -47,24 +77,24 @@ impl<R: Input + Drop> Inputs for RealInputs<R> {
     ghost none_left = { λ s none. tt };
 
     fn begin(&mut self, name: &str) -> Result<(), InputFailed> {
-        if name != "-" {
-            self.begun = None;
+        self.begun = None;
+        let Ok(begun) = Begun::of(&self.runtime, name) else {
             count(&mut self.faults);
             return Err(InputFailed);
-        }
-        self.begun = Some(self.runtime.reader());
+        };
+        self.begun = Some(begun);
         Ok(())
     }
 
     fn read(&mut self, into: &mut [u8]) -> Result<usize, InputFailed> {
         let handed = self.handed;
-        let Some(reader) = &mut self.begun else {
+        let Some(begun) = &mut self.begun else {
             return Ok(0);
         };
         if into.is_empty() {
             return Ok(0);
         }
-        match reader.read(into) {
+        match begun.read(into) {
             Ok(n) => {
                 self.handed = handed.saturating_add(n as u64);
                 Ok(n)

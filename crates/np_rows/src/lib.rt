@@ -11,6 +11,8 @@ mod failures;
 #[cfg(test)]
 mod families;
 #[cfg(test)]
+mod files;
+#[cfg(test)]
 mod folds;
 #[cfg(test)]
 mod large;

@@ -15,9 +15,29 @@ const SIZE_LIMIT: usize = 33_554_432;
 
 #[test]
 fn other_words(rt: HostRuntime) -> Result<(), Fail> {
-    for words in ["", "lst", "list x", "list list"] {
+    for words in [
+        "",
+        "lst",
+        "-",
+        "--",
+        "-- list",
+        "list -x",
+        "list -h",
+        "list --help",
+        "list --version",
+        "list x --unknown y",
+        "list - -",
+        "list - x -- -",
+    ] {
         let ran = run_on(rt.alloc(), words, TWO_PODS.as_bytes())?;
-        expect(&rt, &ran, Status::Usage, "", "usage: np list\n", words);
+        expect(
+            &rt,
+            &ran,
+            Status::Usage,
+            "",
+            "usage: np list [FILE]...\n",
+            words,
+        );
     }
     Ok(())
 }

@@ -1,0 +1,5 @@
+use Rattle.np_words.proofs.FileLemmas.{plain_job}
+use Rattle.np_words.proofs.laws.words_without_options_are_files.Goals as goal
+
+pub returns : goal.returns
+returns c = plain_job

@@ -1,0 +1,20 @@
+//! The command lines of the program.
+ghost use Rattle.std.specs.Prelude.{◌≡◌, Some, None, IfOk, IsErrOf};
+ghost use Rattle.np_words.specs.CommandLines.{asked_by};
+
+use crate::job::Job;
+use crate::list_words::read_list;
+use crate::words_fault::WordsFault;
+use std::alloc::Global;
+
+/// The job that the words after the program's name ask for: a command, and then what it is to be done on. `Usage` comes
+/// exactly where they ask for none.
+pub fn read_words(alloc: Global, words: &[String]) -> Result<Job, WordsFault>
+    ensures job { IfOk result (λ job. asked_by words.now ≡ Some job) }
+    ensures usage { IsErrOf result WordsFault.Usage → asked_by words.now ≡ None }
+{
+    match words.first() {
+        Some(command) if command.as_str() == "list" => read_list(alloc, words),
+        _ => Err(WordsFault::Usage),
+    }
+}
