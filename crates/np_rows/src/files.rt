@@ -25,10 +25,10 @@ static POLICY: &str = concat!(
     r#""ingress":[{"from":[{"podSelector":{"matchLabels":{"app":"a"}}}],"ports":[{"port":80}]}]}}"#,
 );
 
-// A policy whose labels are none.
+// A policy whose selector has a member that selectors do not have.
 static BAD_POLICY: &str = concat!(
     r#"{"apiVersion":"networking.k8s.io/v1","kind":"NetworkPolicy","metadata":{"name":"p"},"#,
-    r#""spec":{"podSelector":{"matchLabels":1}}}"#,
+    r#""spec":{"podSelector":{"labels":{}}}}"#,
 );
 
 // A source of these.

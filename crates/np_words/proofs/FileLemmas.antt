@@ -105,11 +105,11 @@ next_passes false done last word names = let no = plain_words word names in rw (
 -- ---- many words
 
 -- all files but the last, and the last
-abbrev front : List Text → Text → List Text → List Text
+abbrev pub front : List Text → Text → List Text → List Text
 front done last [] = done
 front done last (word ∷ words) = front (done ++ last ∷ []) word words
 
-abbrev end : Text → List Text → Text
+abbrev pub end : Text → List Text → Text
 end last [] = last
 end last (word ∷ words) = end word words
 
@@ -121,13 +121,13 @@ in_order done last (word ∷ words) = in_order (done ++ last ∷ []) word words 
 abbrev pub name_files : Bool → List Text → Bool
 name_files trailing words = trailing || list_all is_plain words
 
-split : (trailing : Bool) (word : Text) (words : List Text) → name_files trailing (word ∷ words) ≡ true → ((trailing || is_plain word) ≡ true) × (name_files trailing words ≡ true)
+pub split : (trailing : Bool) (word : Text) (words : List Text) → name_files trailing (word ∷ words) ≡ true → ((trailing || is_plain word) ≡ true) × (name_files trailing words ≡ true)
 split true word words names = (refl, refl)
 split false word words names = both (is_plain word) (list_all is_plain words) names
 
 -- Words that name files are walked over, whatever stands behind them.
 module _ (tail : List Text) where
-  walks : (trailing : Bool) (done : List Text) (last : Text) (words : List Text) → name_files trailing words ≡ true
+  pub walks : (trailing : Bool) (done : List Text) (last : Text) (words : List Text) → name_files trailing words ≡ true
       → fold (walked (rule ∷ []) []) (after trailing done last) (words ++ tail) ≡ fold (walked (rule ∷ []) []) (after trailing (front done last words) (end last words)) tail
   walks trailing done last [] names = refl
   walks trailing done last (word ∷ words) names =
@@ -135,7 +135,7 @@ module _ (tail : List Text) where
       ap (λ (walk : Walk). fold (walked (rule ∷ []) []) walk (words ++ tail)) (next_file trailing done last word parts.0)
       ∙ walks trailing (done ++ last ∷ []) word words parts.1
 
-  passes : (trailing : Bool) (done : List Text) (last : Text) (words : List Text) → name_files trailing words ≡ true
+  pub passes : (trailing : Bool) (done : List Text) (last : Text) (words : List Text) → name_files trailing words ≡ true
       → walk_fault shape [] (after trailing done last) (words ++ tail) ≡ walk_fault shape [] (after trailing (front done last words) (end last words)) tail
   unfolding walk_fault
   passes trailing done last [] names = refl
@@ -160,7 +160,7 @@ abbrev whole : App
 whole = built list_command
 
 -- the faults of a walk, of its end and of what is missing there
-abbrev faults_from : Kinds → Walk → Kinds
+abbrev pub faults_from : Kinds → Walk → Kinds
 faults_from faults final =
     or_else faults
     (or_else (entered_fault whole final.stopped)

@@ -1,2 +1,3 @@
 pub mod FileLemmas
 pub mod ListLemmas
+pub mod OptionLemmas
