@@ -1,69 +1,114 @@
 //! Sources and sinks in memory, by example.
 
+use np_base::NoMemory;
 use np_io::{
     InputFailed, Inputs, MemInputs, MemSink, Sink, SinkFailed, WholeFault, read_whole, write_whole,
 };
+use std::alloc::Global;
 use std::test::Fail;
 
-// A piece of 16 bytes: the second of three reads fails, and what it would have handed out comes next.
+// A source of pieces of 16 bytes, the second of whose reads fails.
+fn failing_source(alloc: Global) -> Result<MemInputs, NoMemory> {
+    let mut inputs = MemInputs::new(alloc, 16);
+    inputs.add("-", b"The quick brown fox jumps over the lazy dog.")?;
+    inputs.fail_read(2)?;
+    Ok(inputs)
+}
+
+// What its reads hand out, `None` for the one that fails: what that would have handed out comes next. The end is a read
+// of nothing.
+static READS: &[Option<&[u8]>] = &[
+    Some(b"The quick brown "),
+    None,
+    Some(b"fox jumps over t"),
+    Some(b"he lazy dog."),
+    Some(b""),
+];
+
+// Whether the next read hands out these bytes, or fails where there are none.
+fn hands_out(inputs: &mut MemInputs, wanted: Option<&[u8]>) -> bool {
+    let mut buffer = [0u8; 64];
+    match inputs.read(&mut buffer) {
+        Ok(count) => buffer.get(..count) == wanted,
+        Err(InputFailed) => wanted.is_none(),
+    }
+}
+
 #[test]
 fn a_read_fails(rt: HostRuntime) -> Result<(), Fail> {
-    let alloc = rt.alloc();
-    let text = b"The quick brown fox jumps over the lazy dog.";
-    let mut inputs = MemInputs::new(alloc, 16);
-    inputs.add("-", text)?;
-    inputs.fail_read(2)?;
-    let mut buffer = [0u8; 64];
-    assert_eq!(rt; inputs.read(&mut buffer), Ok(0), "no name is begun");
-    assert_eq!(rt; inputs.begin("other"), Err(InputFailed));
-    assert_eq!(rt; inputs.begin("-"), Ok(()));
-    assert_eq!(rt; inputs.read(&mut buffer), Ok(16));
-    assert_eq!(rt; buffer[..16], text[..16]);
-    assert_eq!(rt; inputs.read(&mut buffer), Err(InputFailed));
-    assert_eq!(rt; inputs.read(&mut buffer), Ok(16));
-    assert_eq!(rt; buffer[..16], text[16..32]);
-    assert_eq!(rt; inputs.read(&mut buffer), Ok(12));
-    assert_eq!(rt; buffer[..12], text[32..]);
-    assert_eq!(rt; inputs.read(&mut buffer), Ok(0), "the end");
+    let mut inputs = failing_source(rt.alloc())?;
+    assert!(rt; hands_out(&mut inputs, Some(b"")), "no name is begun");
+    assert!(rt; inputs.begin("other") == Err(InputFailed));
+    assert!(rt; inputs.begin("-") == Ok(()));
+    for wanted in READS {
+        assert!(rt; hands_out(&mut inputs, *wanted), "{wanted:?}");
+    }
     Ok(())
 }
 
-// 40 bytes are read whole where there is room for 40, and are too many for 39.
-#[test]
-fn at_room_and_past_it(rt: HostRuntime) -> Result<(), Fail> {
-    let alloc = rt.alloc();
+// A source of 40 bytes under one name and of none under another, whose fourth beginning fails.
+fn source_of_forty(alloc: Global) -> Result<MemInputs, NoMemory> {
     let mut inputs = MemInputs::new(alloc, 16);
     inputs.add("-", &[7u8; 40])?;
     inputs.add("none", &[])?;
     inputs.fail_begin(4)?;
-    let whole = read_whole(alloc, &mut inputs, "-", 40)?;
-    assert_eq!(rt; whole.as_slice(), [7u8; 40].as_slice());
-    let refused = read_whole(alloc, &mut inputs, "-", 39);
-    assert_eq!(rt; refused.err(), Some(WholeFault::TooLarge));
-    let whole = read_whole(alloc, &mut inputs, "none", 0)?;
-    assert_eq!(rt; whole.len(), 0);
-    let refused = read_whole(alloc, &mut inputs, "-", 40);
-    assert_eq!(rt; refused.err(), Some(WholeFault::InputFailed));
+    Ok(inputs)
+}
+
+// Names, each with the room for its bytes, and what is read whole.
+type Whole = (&'static str, u64, Result<&'static [u8], WholeFault>);
+
+// 40 bytes are read whole where there is room for 40, and are too many for 39.
+static WHOLES: &[Whole] = &[
+    ("-", 40, Ok(&[7; 40])),
+    ("-", 39, Err(WholeFault::TooLarge)),
+    ("none", 0, Ok(&[])),
+    ("-", 40, Err(WholeFault::InputFailed)),
+];
+
+// Whether that is read.
+fn is_read(alloc: Global, inputs: &mut MemInputs, whole: &Whole) -> bool {
+    let (name, room, wanted) = whole;
+    match (read_whole(alloc, inputs, name, *room), wanted) {
+        (Ok(bytes), Ok(wanted)) => bytes.as_slice() == *wanted,
+        (Err(fault), Err(wanted)) => fault == *wanted,
+        _ => false,
+    }
+}
+
+#[test]
+fn at_room_and_past_it(rt: HostRuntime) -> Result<(), Fail> {
+    let mut inputs = source_of_forty(rt.alloc())?;
+    for whole in WHOLES {
+        assert!(rt; is_read(rt.alloc(), &mut inputs, whole), "{whole:?}");
+    }
     Ok(())
 }
 
-// A piece of 8 bytes: the second write fails, after which the sink holds the first piece alone.
-#[test]
-fn a_write_fails(rt: HostRuntime) -> Result<(), Fail> {
-    let alloc = rt.alloc();
-    let text = b"twenty bytes of text";
+// A sink of room for 30 bytes in pieces of 8, whose second write fails.
+fn failing_sink(alloc: Global) -> Result<MemSink, NoMemory> {
     let mut out = MemSink::new(alloc, 30, 8)?;
     out.fail_write(2)?;
-    assert_eq!(rt; out.write(b""), Ok(0));
-    assert_eq!(rt; write_whole(&mut out, text), Err(SinkFailed));
-    assert_eq!(rt; out.taken(), b"twenty b".as_slice());
-    assert_eq!(rt; write_whole(&mut out, text), Ok(()));
-    assert_eq!(rt; out.taken(), b"twenty btwenty bytes of text".as_slice());
-    assert_eq!(rt;
-        out.write(b"abc"),
-        Err(SinkFailed),
+    Ok(out)
+}
+
+// Whether a write of the text ends so, and the sink holds these bytes then.
+fn writes(out: &mut MemSink, text: &[u8], ends: Result<(), SinkFailed>, taken: &[u8]) -> bool {
+    write_whole(out, text) == ends && out.taken() == taken
+}
+
+// After the second write the sink holds the first piece alone.
+#[test]
+fn a_write_fails(rt: HostRuntime) -> Result<(), Fail> {
+    let text = b"twenty bytes of text";
+    let mut out = failing_sink(rt.alloc())?;
+    assert!(rt; out.write(b"") == Ok(0));
+    assert!(rt; writes(&mut out, text, Err(SinkFailed), b"twenty b"));
+    assert!(rt; writes(&mut out, text, Ok(()), b"twenty btwenty bytes of text"));
+    assert!(rt;
+        out.write(b"abc") == Err(SinkFailed),
         "three bytes do not fit"
     );
-    assert_eq!(rt; out.write(b"ab"), Ok(2));
+    assert!(rt; out.write(b"ab") == Ok(2));
     Ok(())
 }

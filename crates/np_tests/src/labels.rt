@@ -5,144 +5,170 @@ use np_labels::{Labels, Op, Pair, Requirement, Selector, possible};
 use std::alloc::Global;
 use std::test::Fail;
 
+fn pair(alloc: Global, key: &str, value: &str) -> Result<Pair, NoMemory> {
+    Ok(Pair {
+        key: Text::of(alloc, key)?,
+        value: Text::of(alloc, value)?,
+    })
+}
+
 fn labels(alloc: Global, pairs: &[(&str, &str)]) -> Result<Labels, NoMemory> {
     let mut made = Seq::new(alloc);
     for (key, value) in pairs {
-        made.push(Pair {
-            key: Text::of(alloc, key)?,
-            value: Text::of(alloc, value)?,
-        })?;
+        made.push(pair(alloc, key, value)?)?;
     }
     Labels::of(alloc, made)
 }
 
-fn requirement(alloc: Global, key: &str, op: Op, values: &[&str]) -> Result<Requirement, NoMemory> {
+fn texts(alloc: Global, values: &[&str]) -> Result<Seq<Text>, NoMemory> {
     let mut made = Seq::new(alloc);
     for value in values {
         made.push(Text::of(alloc, value)?)?;
     }
+    Ok(made)
+}
+
+// A requirement as it is written down: its key, what it asks, and its values.
+type Demand = (&'static str, Op, &'static [&'static str]);
+
+fn requirement(alloc: Global, demand: &Demand) -> Result<Requirement, NoMemory> {
+    let (key, op, values) = *demand;
     Ok(Requirement {
         key: Text::of(alloc, key)?,
         op,
-        values: made,
+        values: texts(alloc, values)?,
     })
 }
 
-// Whether an object with this one label meets a requirement on the key `app`.
-fn is_met(
-    alloc: Global,
-    op: Op,
-    values: &[&str],
-    key: &str,
-    value: &str,
-) -> Result<bool, NoMemory> {
-    let labels = labels(alloc, &[(key, value)])?;
-    Ok(requirement(alloc, "app", op, values)?.meets(&labels))
+fn selector(alloc: Global, demands: &[Demand]) -> Result<Selector, NoMemory> {
+    let mut requirements = Seq::new(alloc);
+    for demand in demands {
+        requirements.push(requirement(alloc, demand)?)?;
+    }
+    Ok(Selector { requirements })
 }
 
-// Kubernetes API reference, "Resources that support set-based requirements": `NotIn` is met where the key is absent.
+const NOT_IN_A: Demand = ("app", Op::NoneOf, &["a"]);
+
+const IS_ABSENT: Demand = ("app", Op::Absent, &[]);
+
+// A requirement, the labels of an object, and whether it meets it.
+type Meeting = (Demand, &'static [(&'static str, &'static str)], bool);
+
+// Kubernetes API reference, "Resources that support set-based requirements": `NotIn` is met where the key is absent, as
+// `DoesNotExist` is.
+static MEETINGS: &[Meeting] = &[
+    (NOT_IN_A, &[("tier", "web")], true),
+    (NOT_IN_A, &[("app", "b")], true),
+    (NOT_IN_A, &[("app", "a")], false),
+    (NOT_IN_A, &[], true),
+    (IS_ABSENT, &[("tier", "a")], true),
+    (IS_ABSENT, &[("app", "a")], false),
+];
+
+// Whether labels meet a requirement as is said, and its negation exactly where they do not.
+fn is_as_said(alloc: Global, meeting: &Meeting) -> Result<bool, NoMemory> {
+    let (demand, pairs, met) = *meeting;
+    let labels = labels(alloc, pairs)?;
+    let requirement = requirement(alloc, &demand)?;
+    Ok(requirement.meets(&labels) == met && requirement.negated()?.meets(&labels) != met)
+}
+
 #[test]
-fn absence_meets_not_in(rt: HostRuntime) -> Result<(), Fail> {
-    for (key, value, met) in [
-        ("tier", "web", true),
-        ("app", "b", true),
-        ("app", "a", false),
-    ] {
-        assert_eq!(rt;
-            is_met(rt.alloc(), Op::NoneOf, &["a"], key, value)?,
-            met,
-            "{key}: {value}"
-        );
+fn absence_meets_what_asks_for_no_value(rt: HostRuntime) -> Result<(), Fail> {
+    for meeting in MEETINGS {
+        assert!(rt; is_as_said(rt.alloc(), meeting)?, "{meeting:?}");
     }
     Ok(())
 }
 
-// The same of `DoesNotExist`.
-#[test]
-fn absence_meets_does_not_exist(rt: HostRuntime) -> Result<(), Fail> {
-    for (key, met) in [("tier", true), ("app", false)] {
-        assert_eq!(rt;
-            is_met(rt.alloc(), Op::Absent, &[], key, "a")?,
-            met,
-            "{key}"
-        );
-    }
-    Ok(())
-}
-
-#[test]
-fn no_labels_meet_not_in_alone(rt: HostRuntime) -> Result<(), Fail> {
-    let bare = labels(rt.alloc(), &[])?;
-    let not_in = requirement(rt.alloc(), "app", Op::NoneOf, &["a"])?;
-    assert!(rt; not_in.meets(&bare));
-    assert!(rt; !not_in.negated()?.meets(&bare));
-    Ok(())
+// Whether there are two pairs, and these are the values of these keys.
+fn has_two(labels: &Labels, wanted: &[(&str, Option<&str>)]) -> bool {
+    labels.pairs().len() == 2 && wanted.iter().all(|(key, value)| labels.get(key) == *value)
 }
 
 #[test]
 fn later_pair_replaces_earlier(rt: HostRuntime) -> Result<(), Fail> {
-    let made = labels(rt.alloc(), &[("b", "1"), ("a", "2"), ("b", "3")])?;
-    assert_eq!(rt; made.get("b"), Some("3"));
-    assert_eq!(rt; made.get("a"), Some("2"));
-    assert_eq!(rt; made.get("c"), None);
-    assert_eq!(rt; made.pairs().len(), 2);
-    assert_eq!(rt; made.copy()?.get("b"), Some("3"));
+    static PAIRS: &[(&str, &str)] = &[("b", "1"), ("a", "2"), ("b", "3")];
+    static WANTED: &[(&str, Option<&str>)] = &[("b", Some("3")), ("a", Some("2")), ("c", None)];
+    let made = labels(rt.alloc(), PAIRS)?;
+    assert!(rt; has_two(&made, WANTED));
+    assert!(rt; has_two(&made.copy()?, WANTED), "copy");
     Ok(())
 }
 
-#[test]
-fn one_listed_value_is_left(rt: HostRuntime) -> Result<(), Fail> {
-    let all = [
-        requirement(rt.alloc(), "app", Op::OneOf, &["a", "b"])?,
-        requirement(rt.alloc(), "app", Op::NoneOf, &["a"])?,
-    ];
-    let found = possible(rt.alloc(), &all)?.ok_or("possible")?;
-    assert_eq!(rt; found.get("app"), Some("b"));
-    Ok(())
+// Requirements, and the value of a key in labels that meet them all, where there are such labels.
+type Search = (&'static [Demand], Option<(&'static str, &'static str)>);
+
+static SEARCHES: &[Search] = &[
+    // one listed value is left, and none
+    (
+        &[("app", Op::OneOf, &["a", "b"]), ("app", Op::NoneOf, &["a"])],
+        Some(("app", "b")),
+    ),
+    (
+        &[
+            ("app", Op::OneOf, &["a", "b"]),
+            ("app", Op::NoneOf, &["a", "b"]),
+        ],
+        None,
+    ),
+    // a key that exists gets an unlisted value, and is not absent
+    (
+        &[("k", Op::Present, &[]), ("k", Op::NoneOf, &["a", "aa"])],
+        Some(("k", "aaa")),
+    ),
+    (&[("k", Op::Present, &[]), ("k", Op::Absent, &[])], None),
+];
+
+// Whether the labels that are found are such.
+fn is_found(alloc: Global, search: &Search) -> Result<bool, NoMemory> {
+    let (demands, wanted) = *search;
+    let all = selector(alloc, demands)?;
+    let found = possible(alloc, all.requirements.items())?;
+    Ok(match (&found, wanted) {
+        (Some(labels), Some((key, value))) => labels.get(key) == Some(value),
+        (None, None) => true,
+        _ => false,
+    })
 }
 
 #[test]
-fn no_listed_value_is_left(rt: HostRuntime) -> Result<(), Fail> {
-    let all = [
-        requirement(rt.alloc(), "app", Op::OneOf, &["a", "b"])?,
-        requirement(rt.alloc(), "app", Op::NoneOf, &["a", "b"])?,
-    ];
-    assert!(rt; possible(rt.alloc(), &all)?.is_none());
+fn labels_that_meet_requirements_are_found(rt: HostRuntime) -> Result<(), Fail> {
+    for search in SEARCHES {
+        assert!(rt; is_found(rt.alloc(), search)?, "{search:?}");
+    }
     Ok(())
 }
 
-#[test]
-fn a_key_that_exists_gets_an_unlisted_value(rt: HostRuntime) -> Result<(), Fail> {
-    let all = [
-        requirement(rt.alloc(), "k", Op::Present, &[])?,
-        requirement(rt.alloc(), "k", Op::NoneOf, &["a", "aa"])?,
-    ];
-    let found = possible(rt.alloc(), &all)?.ok_or("possible")?;
-    assert_eq!(rt; found.get("k"), Some("aaa"));
-    Ok(())
+static EIGHT_KEYS: &[Demand] = &[
+    ("k0", Op::OneOf, &["x", "y"]),
+    ("k1", Op::OneOf, &["x", "y"]),
+    ("k2", Op::OneOf, &["x", "y"]),
+    ("k3", Op::OneOf, &["x", "y"]),
+    ("k4", Op::OneOf, &["x", "y"]),
+    ("k5", Op::OneOf, &["x", "y"]),
+    ("k6", Op::OneOf, &["x", "y"]),
+    ("k7", Op::OneOf, &["x", "y"]),
+];
+
+// Whether there are eight labels, the last key has its first value, and they meet the selector and its copy.
+fn are_eight(all: &Selector, labels: &Labels) -> Result<bool, NoMemory> {
+    let is_apart = labels.pairs().len() == 8 && labels.get("k7") == Some("x");
+    Ok(is_apart && all.meets(labels) && all.copy()?.meets(labels))
 }
 
-#[test]
-fn a_key_is_not_both_there_and_absent(rt: HostRuntime) -> Result<(), Fail> {
-    let all = [
-        requirement(rt.alloc(), "k", Op::Present, &[])?,
-        requirement(rt.alloc(), "k", Op::Absent, &[])?,
-    ];
-    assert!(rt; possible(rt.alloc(), &all)?.is_none());
-    Ok(())
+// Whether such labels are found.
+fn eight_are_found(alloc: Global) -> Result<bool, NoMemory> {
+    let all = selector(alloc, EIGHT_KEYS)?;
+    match possible(alloc, all.requirements.items())? {
+        Some(labels) => are_eight(&all, &labels),
+        None => Ok(false),
+    }
 }
 
 #[test]
 fn keys_are_decided_apart(rt: HostRuntime) -> Result<(), Fail> {
-    let mut requirements = Seq::new(rt.alloc());
-    for key in ["k0", "k1", "k2", "k3", "k4", "k5", "k6", "k7"] {
-        requirements.push(requirement(rt.alloc(), key, Op::OneOf, &["x", "y"])?)?;
-    }
-    let all = Selector { requirements };
-    let found = possible(rt.alloc(), all.requirements.items())?.ok_or("possible")?;
-    assert_eq!(rt; found.pairs().len(), 8);
-    assert_eq!(rt; found.get("k7"), Some("x"));
-    assert!(rt; all.meets(&found));
-    assert!(rt; all.copy()?.meets(&found));
+    assert!(rt; eight_are_found(rt.alloc())?);
     Ok(())
 }

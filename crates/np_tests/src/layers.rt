@@ -1,8 +1,8 @@
 //! Layers of tiers over a few blocks of spots.
 ghost use Rattle.std.specs.Prelude.{◌≤◌};
 
-use crate::four::Four;
-use np_base::{Cells, NoMemory, Point, PortNum, Seq};
+use crate::four::{self, Four};
+use np_base::{Cells, NoMemory, PortNum, Seq};
 use np_conns::{ConnSet, PortSpot, Proto};
 use np_sets::IntervalSet;
 use np_tiers::{Action, AdminPart, BasePart, Layer};
@@ -19,17 +19,11 @@ pub trait Sampled: Cells {
 
 impl Sampled for IntervalSet<Four> {
     fn block(alloc: Global, block: u8) -> Result<IntervalSet<Four>, NoMemory> {
-        match Four::at(u128::from(block)) {
-            Some(point) => IntervalSet::of_range(alloc, point, point),
-            None => IntervalSet::nothing(alloc),
-        }
+        four::only(alloc, block)
     }
 
     fn holds(&self, block: u8, _last: bool) -> bool {
-        match Four::at(u128::from(block)) {
-            Some(point) => self.has(point),
-            None => false,
-        }
+        four::has(self, block)
     }
 }
 
@@ -60,8 +54,8 @@ impl Sampled for ConnSet {
     }
 }
 
-// The union of the blocks whose bit is set.
-fn blocks<S: Sampled>(alloc: Global, bits: u8) -> Result<S, NoMemory> {
+/// The union of the blocks whose bit is set.
+pub fn blocks<S: Sampled>(alloc: Global, bits: u8) -> Result<S, NoMemory> {
     let mut set = S::nothing(alloc)?;
     for block in 0u8..4 {
         if bits & (1 << block) != 0 {
@@ -71,8 +65,8 @@ fn blocks<S: Sampled>(alloc: Global, bits: u8) -> Result<S, NoMemory> {
     Ok(set)
 }
 
-/// The set and a block of spots.
-pub fn with_block<S: Sampled>(alloc: Global, set: &S, block: u8) -> Result<S, NoMemory> {
+// The set and a block of spots.
+fn with_block<S: Sampled>(alloc: Global, set: &S, block: u8) -> Result<S, NoMemory> {
     let more = S::block(alloc, block)?;
     set.join(&more)
 }

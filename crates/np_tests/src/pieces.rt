@@ -2,58 +2,41 @@
 //! connections at addresses, up to the greatest one; and both families of addresses side by side, in tiers.
 ghost use Rattle.std.specs.Prelude.{◌≤◌};
 
-use crate::four::Four;
-use crate::layers::{Sampled, layer_of, with_block};
+use crate::four::{self, Four, bits_of};
+use crate::layers::{Sampled, blocks, layer_of};
 use crate::walk::walk;
 use np_base::{Beside, Cells, NoMemory, Point, PortNum, V4, V6};
 use np_conns::{ConnSet, PortSpot, Proto};
 use np_pieces::Pieces;
 use np_sets::IntervalSet;
-use np_tiers::verdict_set;
+use np_tiers::{Layer, verdict_set};
 use std::alloc::Global;
-use std::process::Abort;
 use std::test::Fail;
 
 type Sets = Pieces<Four, IntervalSet<Four>>;
 
 type Both = Beside<Pieces<V4, ConnSet>, Pieces<V6, ConnSet>>;
 
-// The set of the points whose bits are set.
-fn set_of(alloc: Global, bits: u8) -> Result<IntervalSet<Four>, NoMemory> {
-    let mut set = IntervalSet::nothing(alloc)?;
-    for point in 0u8..4 {
-        if bits & (1 << point) != 0 {
-            set = with_block(alloc, &set, point)?;
-        }
-    }
-    Ok(set)
-}
-
-// The bits of the points of the set.
-fn bits_of(set: &IntervalSet<Four>) -> u8 {
-    let mut bits = 0;
-    for point in 0u8..4 {
-        if set.holds(point, false) {
-            bits |= 1 << point;
-        }
-    }
-    bits
-}
-
 // One set at the point of that number, and no spot elsewhere.
 fn set_at(alloc: Global, point: u8, bits: u8) -> Result<Sets, NoMemory> {
-    let there = IntervalSet::block(alloc, point)?;
-    let inside = set_of(alloc, bits)?;
-    let outside = set_of(alloc, 0)?;
+    let there = four::only(alloc, point)?;
+    let inside = blocks(alloc, bits)?;
+    let outside = blocks(alloc, 0)?;
     Pieces::over(alloc, &there, inside, outside)
 }
 
+// The sets, and one at the point of that number.
+fn with_set_at(alloc: Global, sets: &Sets, point: u8, bits: u8) -> Result<Sets, NoMemory> {
+    sets.join(&set_at(alloc, point, bits)?)
+}
+
 // The sets of four rows of bits, one at each point.
-fn sets_of(alloc: Global, rows: [u8; 4]) -> Result<Sets, NoMemory> {
-    let first = set_at(alloc, 0, rows[0])?;
-    let second = first.join(&set_at(alloc, 1, rows[1])?)?;
-    let third = second.join(&set_at(alloc, 2, rows[2])?)?;
-    third.join(&set_at(alloc, 3, rows[3])?)
+fn sets_of(alloc: Global, rows: &[u8; 4]) -> Result<Sets, NoMemory> {
+    let mut sets = Sets::nothing(alloc)?;
+    for point in 0u8..4 {
+        sets = with_set_at(alloc, &sets, point, rows[usize::from(point)])?;
+    }
+    Ok(sets)
 }
 
 // The row of bits at the point of that number.
@@ -104,7 +87,7 @@ fn rows_over(points: u8, inside: u8, outside: u8) -> [u8; 4] {
 }
 
 // Rows with equal and unequal neighbours, full, empty and mixed ones, at each end and between.
-const SAMPLES: [[u8; 4]; 12] = [
+static SAMPLES: &[[u8; 4]] = &[
     [0, 0, 0, 0],
     [15, 15, 15, 15],
     [15, 0, 0, 0],
@@ -119,63 +102,58 @@ const SAMPLES: [[u8; 4]; 12] = [
     [14, 9, 9, 6],
 ];
 
-// Each operation on the sets of two lists of rows, beside the plain one on their bits.
-fn try_pair(rt: &impl Abort, alloc: Global, a: [u8; 4], b: [u8; 4]) -> Result<(), NoMemory> {
+// The rows of bits of the points that a set is given at, and of the others.
+static INSIDE: &[u8] = &[0, 6, 9, 15];
+
+static OUTSIDE: &[u8] = &[0, 6, 15];
+
+// Whether each operation on the sets of two lists of rows gives what the plain one gives on their bits.
+fn operations_agree(first: &Sets, second: &Sets, a: [u8; 4], b: [u8; 4]) -> Result<bool, NoMemory> {
+    Ok(
+        is_of(&first.join(second)?, either(a, b))
+            && is_of(&first.meet(second)?, shared(a, b))
+            && is_of(&first.minus(second)?, shared(a, flipped(b)))
+            && first.same(second) == (a == b),
+    )
+}
+
+// The same of the rows alone.
+fn agree_with_bits(alloc: Global, a: &[u8; 4], b: &[u8; 4]) -> Result<bool, NoMemory> {
     let first = sets_of(alloc, a)?;
     let second = sets_of(alloc, b)?;
-    assert!(rt;
-        is_of(&first.join(&second)?, either(a, b)),
-        "{a:?} or {b:?}"
-    );
-    assert!(rt;
-        is_of(&first.meet(&second)?, shared(a, b)),
-        "{a:?} and {b:?}"
-    );
-    let less = first.minus(&second)?;
-    assert!(rt; is_of(&less, shared(a, flipped(b))), "{a:?} less {b:?}");
-    assert_eq!(rt; first.same(&second), a == b);
-    Ok(())
+    operations_agree(&first, &second, *a, *b)
 }
 
-// The calls on the sets of one list of rows.
-fn try_one(rt: &impl Abort, alloc: Global, rows: [u8; 4]) -> Result<(), NoMemory> {
+// Whether the sets of a list of rows are as the rows say, and their copy.
+fn are_as_their_rows(alloc: Global, rows: &[u8; 4]) -> Result<bool, NoMemory> {
     let sets = sets_of(alloc, rows)?;
-    assert!(rt; is_of(&sets, rows), "of {rows:?}");
-    assert!(rt; is_of(&sets.copy()?, rows), "copy of {rows:?}");
-    assert_eq!(rt; sets.is_empty(), rows == [0, 0, 0, 0]);
-    Ok(())
+    let is_empty = *rows == [0, 0, 0, 0];
+    Ok(is_of(&sets, *rows) && is_of(&sets.copy()?, *rows) && sets.is_empty() == is_empty)
 }
 
-// One set at some points and another at the others, and the first at all points.
-fn try_over(
-    rt: &impl Abort,
-    alloc: Global,
-    points: u8,
-    inside: u8,
-    outside: u8,
-) -> Result<(), NoMemory> {
-    let there = set_of(alloc, points)?;
+// Whether one set at some points and another at the others are as they say.
+fn is_over(alloc: Global, points: u8, inside: u8, outside: u8) -> Result<bool, NoMemory> {
+    let there = blocks(alloc, points)?;
     let sets = Pieces::over(
         alloc,
         &there,
-        set_of(alloc, inside)?,
-        set_of(alloc, outside)?,
+        blocks(alloc, inside)?,
+        blocks(alloc, outside)?,
     )?;
-    let rows = rows_over(points, inside, outside);
-    assert!(rt;
-        is_of(&sets, rows),
-        "{inside} over {points}, else {outside}"
-    );
-    let constant = Pieces::constant(alloc, set_of(alloc, inside)?)?;
-    assert!(rt; is_of(&constant, [inside; 4]), "{inside} everywhere");
-    Ok(())
+    Ok(is_of(&sets, rows_over(points, inside, outside)))
+}
+
+// Whether one set at all points is as it says.
+fn is_constant(alloc: Global, bits: u8) -> Result<bool, NoMemory> {
+    let sets = Pieces::constant(alloc, blocks(alloc, bits)?)?;
+    Ok(is_of(&sets, [bits; 4]))
 }
 
 #[test]
 fn two_sets_agree_with_bits(rt: HostRuntime) -> Result<(), Fail> {
     for a in SAMPLES {
         for b in SAMPLES {
-            try_pair(&rt, rt.alloc(), a, b)?;
+            assert!(rt; agree_with_bits(rt.alloc(), a, b)?, "{a:?} and {b:?}");
         }
     }
     Ok(())
@@ -184,7 +162,7 @@ fn two_sets_agree_with_bits(rt: HostRuntime) -> Result<(), Fail> {
 #[test]
 fn one_set_agrees_with_bits(rt: HostRuntime) -> Result<(), Fail> {
     for rows in SAMPLES {
-        try_one(&rt, rt.alloc(), rows)?;
+        assert!(rt; are_as_their_rows(rt.alloc(), rows)?, "{rows:?}");
     }
     assert!(rt; is_of(&Sets::nothing(rt.alloc())?, [0; 4]));
     assert!(rt; is_of(&Sets::everything(rt.alloc())?, [15; 4]));
@@ -194,26 +172,43 @@ fn one_set_agrees_with_bits(rt: HostRuntime) -> Result<(), Fail> {
 #[test]
 fn a_set_over_points_agrees_with_bits(rt: HostRuntime) -> Result<(), Fail> {
     for points in 0u8..16 {
-        for inside in [0u8, 6, 9, 15] {
-            for outside in [0u8, 6, 15] {
-                try_over(&rt, rt.alloc(), points, inside, outside)?;
+        for inside in INSIDE {
+            for outside in OUTSIDE {
+                let agrees = is_over(rt.alloc(), points, *inside, *outside)?;
+                assert!(rt; agrees, "{inside} over {points}, else {outside}");
             }
         }
     }
     Ok(())
 }
 
+#[test]
+fn a_set_everywhere_agrees_with_bits(rt: HostRuntime) -> Result<(), Fail> {
+    for bits in INSIDE {
+        assert!(rt; is_constant(rt.alloc(), *bits)?, "{bits} everywhere");
+    }
+    Ok(())
+}
+
+// All connections at these addresses, and none at the others.
+fn all_over(alloc: Global, there: &IntervalSet<V6>) -> Result<Pieces<V6, ConnSet>, NoMemory> {
+    let inside = ConnSet::everything(alloc)?;
+    let outside = ConnSet::nothing(alloc)?;
+    Pieces::over(alloc, there, inside, outside)
+}
+
+// How many pieces there are with all connections at one address alone, and at all addresses too.
+fn pieces_at(alloc: Global, address: V6) -> Result<(usize, usize), NoMemory> {
+    let made = all_over(alloc, &IntervalSet::of_range(alloc, address, address)?)?;
+    let whole = Pieces::constant(alloc, ConnSet::everything(alloc)?)?;
+    Ok((made.pieces().len(), made.join(&whole)?.pieces().len()))
+}
+
 // At the greatest address, which no other follows.
 #[test]
 fn pieces_end_at_the_greatest_address(rt: HostRuntime) -> Result<(), Fail> {
     let last = V6::at(u128::MAX).ok_or("none")?;
-    let end = IntervalSet::of_range(rt.alloc(), last, last)?;
-    let all = ConnSet::everything(rt.alloc())?;
-    let none = ConnSet::nothing(rt.alloc())?;
-    let made = Pieces::<V6, ConnSet>::over(rt.alloc(), &end, all, none)?;
-    assert_eq!(rt; made.pieces().len(), 2);
-    let whole = Pieces::<V6, ConnSet>::constant(rt.alloc(), ConnSet::everything(rt.alloc())?)?;
-    assert_eq!(rt; made.join(&whole)?.pieces().len(), 1);
+    assert_eq!(rt; pieces_at(rt.alloc(), last)?, (2, 1));
     Ok(())
 }
 
@@ -272,10 +267,7 @@ fn half_of(alloc: Global, upper: bool) -> Result<IntervalSet<V6>, NoMemory> {
 
 // All connections at one half of the addresses of IPv6.
 fn at_half(alloc: Global, upper: bool) -> Result<Pieces<V6, ConnSet>, NoMemory> {
-    let there = half_of(alloc, upper)?;
-    let inside = ConnSet::everything(alloc)?;
-    let outside = ConnSet::nothing(alloc)?;
-    Pieces::over(alloc, &there, inside, outside)
+    all_over(alloc, &half_of(alloc, upper)?)
 }
 
 // Whether the set at the point of that number has the spot.
@@ -314,28 +306,27 @@ impl Sampled for Both {
     }
 }
 
-// The set of the spots that a layer allows, beside the plain walk at the ends of each block.
-fn try_layer(rt: &impl Abort, alloc: Global, above: u32, below: u32) -> Result<(), NoMemory> {
+// Whether the set of the spots that a layer allows is as the plain walk says at both ends of a block.
+fn agrees_at(verdict: &Both, layer: &Layer<Both>, block: u8) -> bool {
+    verdict.holds(block, false) == walk(layer, block, false).1
+        && verdict.holds(block, true) == walk(layer, block, true).1
+}
+
+// The same at all blocks of a layer.
+fn is_verdict(alloc: Global, above: u32, below: u32) -> Result<bool, NoMemory> {
     let layer = layer_of::<Both>(alloc, above, below)?;
     let verdict = verdict_set(alloc, &layer)?;
-    for block in 0u8..4 {
-        for last in [false, true] {
-            let (_mark, allowed) = walk(&layer, block, last);
-            assert_eq!(rt;
-                verdict.holds(block, last),
-                allowed,
-                "block {block} of layer {above}, {below}"
-            );
-        }
-    }
-    Ok(())
+    Ok((0u8..4).all(|block| agrees_at(&verdict, &layer, block)))
 }
 
 #[test]
 fn tiers_over_both_families(rt: HostRuntime) -> Result<(), Fail> {
     for above in 0u32..8 {
         for below in 0u32..6 {
-            try_layer(&rt, rt.alloc(), above, below)?;
+            assert!(rt;
+                is_verdict(rt.alloc(), above, below)?,
+                "layer {above}, {below}"
+            );
         }
     }
     Ok(())

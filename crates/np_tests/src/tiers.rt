@@ -2,7 +2,7 @@
 //! the walk is one over a block, and a comparison with a union of blocks speaks of every spot.
 
 use crate::four::Four;
-use crate::layers::{Sampled, layer_of, with_block};
+use crate::layers::{Sampled, blocks, layer_of};
 use crate::walk::walk;
 use np_base::NoMemory;
 use np_conns::ConnSet;
@@ -12,38 +12,39 @@ use std::alloc::Global;
 use std::process::Abort;
 use std::test::Fail;
 
-// The blocks that the walk allows.
-fn allowed_blocks<S: Sampled>(alloc: Global, layer: &Layer<S>) -> Result<S, NoMemory> {
-    let mut set = S::nothing(alloc)?;
+// The bits of the blocks that the walk allows.
+fn allowed_bits<S: Sampled>(layer: &Layer<S>) -> u8 {
+    let mut bits = 0;
     for block in 0u8..4 {
         if walk(layer, block, false).1 {
-            set = with_block(alloc, &set, block)?;
+            bits |= 1 << block;
         }
     }
-    Ok(set)
+    bits
 }
 
-// The blocks that have this mark on the walk.
-fn marked_blocks<S: Sampled>(alloc: Global, layer: &Layer<S>, mark: Mark) -> Result<S, NoMemory> {
-    let mut set = S::nothing(alloc)?;
+// The bits of the blocks that have this mark on the walk.
+fn marked_bits<S: Sampled>(layer: &Layer<S>, mark: Mark) -> u8 {
+    let mut bits = 0;
     for block in 0u8..4 {
         if walk(layer, block, false).0 == mark {
-            set = with_block(alloc, &set, block)?;
+            bits |= 1 << block;
         }
     }
-    Ok(set)
+    bits
+}
+
+// Whether no block before this one has its mark.
+fn is_first_of_mark<S: Sampled>(layer: &Layer<S>, block: u8) -> bool {
+    let mark = walk(layer, block, false).0;
+    (0..block).all(|earlier| walk(layer, earlier, false).0 != mark)
 }
 
 // How many marks decide some block.
-fn count_marks<S: Sampled>(alloc: Global, layer: &Layer<S>) -> Result<usize, NoMemory> {
-    let mut marks = Vec::new(alloc);
-    for block in 0u8..4 {
-        let (mark, _allowed) = walk(layer, block, false);
-        if !marks.contains(&mark) {
-            marks.push(mark)?;
-        }
-    }
-    Ok(marks.len())
+fn count_marks<S: Sampled>(layer: &Layer<S>) -> usize {
+    (0u8..4)
+        .filter(|block| is_first_of_mark(layer, *block))
+        .count()
 }
 
 // Whether the walk says the same of the last spot of each block as of its first.
@@ -54,7 +55,7 @@ fn is_even<S: Sampled>(layer: &Layer<S>) -> bool {
 // Whether the set of the spots that are allowed is that of the walk.
 fn is_verdict<S: Sampled>(alloc: Global, layer: &Layer<S>) -> Result<bool, NoMemory> {
     let verdict = verdict_set(alloc, layer)?;
-    let allowed = allowed_blocks(alloc, layer)?;
+    let allowed = blocks(alloc, allowed_bits(layer))?;
     Ok(verdict.same(&allowed))
 }
 
@@ -64,46 +65,56 @@ fn is_entry<S: Sampled>(
     layer: &Layer<S>,
     entry: &Marked<S>,
 ) -> Result<bool, NoMemory> {
-    let marked = marked_blocks(alloc, layer, entry.mark)?;
+    let marked = blocks(alloc, marked_bits(layer, entry.mark))?;
     Ok(entry.set.same(&marked) && !entry.set.is_empty())
+}
+
+fn are_entries<S: Sampled>(
+    alloc: Global,
+    layer: &Layer<S>,
+    entries: &[Marked<S>],
+) -> Result<bool, NoMemory> {
+    for entry in entries {
+        if !is_entry(alloc, layer, entry)? {
+            return Ok(false);
+        }
+    }
+    Ok(true)
 }
 
 // Whether all entries are such, and as many as there are marks.
 fn is_carving<S: Sampled>(alloc: Global, layer: &Layer<S>) -> Result<bool, NoMemory> {
     let carved = carve(alloc, layer)?;
-    for entry in carved.items() {
-        if !is_entry(alloc, layer, entry)? {
-            return Ok(false);
-        }
-    }
-    Ok(carved.items().len() == count_marks(alloc, layer)?)
+    let entries = carved.items();
+    Ok(are_entries(alloc, layer, entries)? && entries.len() == count_marks(layer))
 }
 
-// Both calls on a layer.
-fn compare<S: Sampled>(
-    rt: &impl Abort,
-    alloc: Global,
-    above: u32,
-    below: u32,
-) -> Result<(), NoMemory> {
+// What of the layer is not as the walk says, if anything.
+fn difference_in<S: Sampled>(alloc: Global, layer: &Layer<S>) -> Result<&'static str, NoMemory> {
+    if !is_even(layer) {
+        return Ok("blocks");
+    }
+    if !is_verdict(alloc, layer)? {
+        return Ok("verdict");
+    }
+    if !is_carving(alloc, layer)? {
+        return Ok("carving");
+    }
+    Ok("nothing")
+}
+
+// The same of the layer of these numbers.
+fn difference<S: Sampled>(alloc: Global, above: u32, below: u32) -> Result<&'static str, NoMemory> {
     let layer = layer_of::<S>(alloc, above, below)?;
-    assert!(rt; is_even(&layer), "layer {above}, {below}");
-    assert!(rt;
-        is_verdict(alloc, &layer)?,
-        "verdict of layer {above}, {below}"
-    );
-    assert!(rt;
-        is_carving(alloc, &layer)?,
-        "carving of layer {above}, {below}"
-    );
-    Ok(())
+    difference_in(alloc, &layer)
 }
 
 // All 48 layers.
 fn compare_all<S: Sampled>(rt: &impl Abort, alloc: Global) -> Result<(), NoMemory> {
     for above in 0u32..8 {
         for below in 0u32..6 {
-            compare::<S>(rt, alloc, above, below)?;
+            let found = difference::<S>(alloc, above, below)?;
+            assert!(rt; found == "nothing", "{found} of layer {above}, {below}");
         }
     }
     Ok(())
