@@ -5,4 +5,5 @@ pub mod KindLemmas
 pub mod MemberLemmas
 pub mod PairLemmas
 pub mod PlaceLemmas
+pub mod SaidLemmas
 pub mod SetLemmas

@@ -1,4 +1,5 @@
 pub mod Kept
 pub mod Rows
+pub mod Said
 pub mod Table
 pub mod ToCome

@@ -1,15 +1,21 @@
 //! What follows from the definitions. Each law is the contract of a call that does nothing.
-ghost use Rattle.std.specs.Prelude.{◌≡◌, ◌≢◌, ◌<◌, ℕ, false, length};
+ghost use Rattle.std.specs.Prelude.{◌≡◌, ◌≢◌, ◌<◌, ◌≤◌, ◌↔◌, ℕ, [], Bool, true, false, All, Contains, length};
 ghost use Rattle.np_addr.specs.declared.address.Family.{Family};
+ghost use Rattle.np_addr.specs.declared.address.Family.TheVariants.{Four, Six};
 ghost use Rattle.np_classes.specs.Classes.{class_of};
+ghost use Rattle.np_conns.specs.Conns.{is_spot};
 ghost use Rattle.np_conns.specs.declared.port_spot.PortSpot.{PortSpot};
+ghost use Rattle.np_estate.specs.Families.{families_of};
 ghost use Rattle.np_estate.specs.Lawful.{IsLawful};
 ghost use Rattle.np_estate.specs.declared.lists.EstateLists.{EstateLists};
-ghost use Rattle.np_fold.specs.Workloads.{folding_of, kinds_alike, number_of, workload_count};
+ghost use Rattle.np_fold.specs.Workloads.{Folding, folding_of, kinds_alike, members_of, number_of, workload_count};
 ghost use Rattle.np_policies.specs.declared.direction.Direction.{Direction};
+ghost use Rattle.np_ranges.specs.Right.{are_same_conns, conns_of};
 ghost use Rattle.np_rules.specs.Ends.{pod};
 ghost use Rattle.np_rules.specs.Verdict.{pod_at};
-ghost use Rattle.np_table.specs.Table.{address_allows, between_pods, is_alone, pair_allows, with_address};
+ghost use Rattle.np_table.specs.Rows.{all_rows, pair_rows};
+ghost use Rattle.np_table.specs.Said.{AllowSamePorts, IsUnmarked, allows_in, rows_between};
+ghost use Rattle.np_table.specs.Table.{Table, address_allows, between_pods, is_alone, pair_allows, table_of, with_address};
 
 /// Folding loses no verdict: between every two different pods passes what passes between their workloads.
 pub fn workloads_stand_for_their_pods()
@@ -31,4 +37,44 @@ pub fn kinds_give_the_pairs()
         class_of (kinds_alike lists) (workload_count lists) b ≡ class_of (kinds_alike lists) (workload_count lists) b' →
         is_alone (folding_of lists) a b ≡ false → is_alone (folding_of lists) a' b' ≡ false →
         pair_allows lists (folding_of lists) a b family spot ≡ pair_allows lists (folding_of lists) a' b' family spot }
+{}
+
+/// The rows of two workloads say exactly which ports pass between them in each family of the table, and so between
+/// every two different pods of them.
+pub fn rows_say_what_passes()
+    ensures pair { (table : Table) (source destination : ℕ) (family : Family) (spot : PortSpot) →
+        Contains table.families family → is_spot spot ≡ true →
+        allows_in (pair_rows table source destination) family spot ≡ table.pairs source destination family spot }
+    // Of all rows of the table those from the one workload to the other are the pair's.
+    ensures among_all { (table : Table) (source destination : ℕ) →
+        source < length table.names → destination < length table.names →
+        rows_between source destination (all_rows table) ≡ pair_rows table source destination }
+    ensures pods { (lists : EstateLists) (p q : ℕ) (family : Family) (spot : PortSpot) → IsLawful lists →
+        p < length lists.pods → q < length lists.pods → p ≢ q →
+        Contains (families_of lists.pods) family → is_spot spot ≡ true →
+        allows_in (rows_between (number_of lists p) (number_of lists q)
+        (all_rows (table_of lists (folding_of lists)))) family spot
+        ≡ between_pods lists p q family spot }
+{}
+
+/// In a table of both families no row of two workloads has a mark exactly where the same ports pass in both, and then
+/// there is one row at most.
+pub fn one_row_where_the_same_ports_pass()
+    // The test by which the rows are made tells it.
+    ensures test { (four six : PortSpot → Bool) →
+        (are_same_conns (conns_of four) (conns_of six) ≡ true) ↔ AllowSamePorts four six }
+    ensures unmarked { (table : Table) (source destination : ℕ) →
+        Contains table.families Four → Contains table.families Six →
+        (All IsUnmarked (pair_rows table source destination))
+        ↔ AllowSamePorts (table.pairs source destination Four) (table.pairs source destination Six) }
+    ensures one { (table : Table) (source destination : ℕ) →
+        Contains table.families Four → Contains table.families Six →
+        AllowSamePorts (table.pairs source destination Four) (table.pairs source destination Six) →
+        length (pair_rows table source destination) ≤ 1 }
+{}
+
+/// A workload of one pod has no row with itself.
+pub fn no_row_with_itself()
+    ensures { (lists : EstateLists) (folding : Folding) (source : ℕ) → length (members_of folding source) ≡ 1 →
+        pair_rows (table_of lists folding) source source ≡ [] }
 {}

@@ -11,7 +11,10 @@ mod rows_of_addresses;
 mod rows_of_pairs;
 
 pub use all_rows::Rows;
-pub use laws::{kinds_give_the_pairs, workloads_stand_for_their_pods};
+pub use laws::{
+    kinds_give_the_pairs, no_row_with_itself, one_row_where_the_same_ports_pass,
+    rows_say_what_passes, workloads_stand_for_their_pods,
+};
 pub use pair_sets::pair_set;
 pub use rows::{AddressRow, AddressSpan, Row, RowEnd, RowKey};
 pub use rows_of_addresses::address_rows;
