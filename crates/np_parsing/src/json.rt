@@ -74,6 +74,19 @@ fn letters(alloc: Global, object: &Value, name: &str) -> Result<String, Fail> {
     Ok(letters)
 }
 
+static READERS: &[(&str, &str)] = &[
+    ("absent", "mmmmmmm"),
+    ("null", "mmmmmmm"),
+    ("text", "gwwwwgw"),
+    ("whole", "wgwwwgw"),
+    ("float", "wwwwwww"),
+    ("flag", "wwgwwww"),
+    ("list", "wwwgwww"),
+    ("map", "wwwwgwg"),
+    ("mixed", "wwwwgww"),
+    ("empty", "wwwwgwg"),
+];
+
 #[test]
 fn each_reader_takes_its_own_type(rt: HostRuntime) -> Result<(), Fail> {
     let object = Value::from_str(
@@ -81,21 +94,10 @@ fn each_reader_takes_its_own_type(rt: HostRuntime) -> Result<(), Fail> {
         r#"{"null": null, "text": "a", "whole": 7, "float": 1.5, "flag": false, "list": [1, 2],
             "map": {"b": "2", "a": "1"}, "mixed": {"a": "1", "b": null}, "empty": {}}"#,
     )?;
-    for (name, want) in [
-        ("absent", "mmmmmmm"),
-        ("null", "mmmmmmm"),
-        ("text", "gwwwwgw"),
-        ("whole", "wgwwwgw"),
-        ("float", "wwwwwww"),
-        ("flag", "wwgwwww"),
-        ("list", "wwwgwww"),
-        ("map", "wwwwgwg"),
-        ("mixed", "wwwwgww"),
-        ("empty", "wwwwgwg"),
-    ] {
+    for (name, want) in READERS {
         assert_eq!(rt;
             letters(rt.alloc(), &object, name)?.as_str(),
-            want,
+            *want,
             "at {name}"
         );
     }
@@ -145,22 +147,24 @@ fn whole_numbers_fit_64_bits_and_have_no_fraction(rt: HostRuntime) -> Result<(),
     Ok(())
 }
 
+static WORDS_AND_NAMES: &[(&str, bool, bool)] = &[
+    ("", true, false),
+    ("aZ-_09.:", true, true),
+    ("app.kubernetes.io/name", true, false),
+    ("a b", false, false),
+    ("@", false, false),
+    ("[", false, false),
+    ("`", false, false),
+    ("{", false, false),
+    (";", false, false),
+    ("é", false, false),
+];
+
 #[test]
 fn words_and_names_have_few_characters(rt: HostRuntime) {
-    for (text, word, name) in [
-        ("", true, false),
-        ("aZ-_09.:", true, true),
-        ("app.kubernetes.io/name", true, false),
-        ("a b", false, false),
-        ("@", false, false),
-        ("[", false, false),
-        ("`", false, false),
-        ("{", false, false),
-        (";", false, false),
-        ("é", false, false),
-    ] {
-        assert_eq!(rt; is_word(text), word, "is {text} a word");
-        assert_eq!(rt; is_name(text), name, "is {text} a name");
+    for (text, word, name) in WORDS_AND_NAMES {
+        assert_eq!(rt; is_word(text), *word, "is {text} a word");
+        assert_eq!(rt; is_name(text), *name, "is {text} a name");
     }
 }
 
@@ -235,88 +239,93 @@ fn tells<T: Table>(
     Ok(())
 }
 
+static PARCELS: &[(&str, &str)] = &[
+    (
+        r#"{"shop": "s", "name": "a", "weight": 3, "tags": ["x", ""]}"#,
+        "read",
+    ),
+    (
+        r#"{"sender": 1, "shop": null, "name": "a", "tags": [""]}"#,
+        "read",
+    ),
+    (
+        r#"{"sender": 1, "name": "a", "tags": null}"#,
+        "item 3: tags: EmptyPeers",
+    ),
+    (r#"[]"#, "item 3: (whole): BadField"),
+    (r#"{"name": 1}"#, "item 3: (whole): PeerShape"),
+    (
+        r#"{"shop": "s", "sender": "t", "name": "a"}"#,
+        "item 3: (whole): PeerShape",
+    ),
+    (r#"{"shop": "s", "weight": 1.5}"#, "item 3: name: BadField"),
+    (
+        r#"{"shop": "s", "name": "a/b", "weight": 1.5}"#,
+        "item 3: name: BadName",
+    ),
+    (
+        r#"{"shop": "s", "name": "a", "weight": 1.5, "tags": 1}"#,
+        "item 3: weight: BadField",
+    ),
+    (
+        r#"{"shop": "s", "name": "a", "tags": {}}"#,
+        "item 3: tags: BadField",
+    ),
+    (
+        r#"{"shop": "s", "name": "a", "tags": ["x", null]}"#,
+        "item 3: tags[1]: BadField",
+    ),
+];
+
 #[test]
 fn a_table_gives_its_row_or_its_first_flaw(rt: HostRuntime) -> Result<(), Fail> {
-    let cases = [
-        (
-            r#"{"shop": "s", "name": "a", "weight": 3, "tags": ["x", ""]}"#,
-            "read",
-        ),
-        (
-            r#"{"sender": 1, "shop": null, "name": "a", "tags": [""]}"#,
-            "read",
-        ),
-        (
-            r#"{"sender": 1, "name": "a", "tags": null}"#,
-            "item 3: tags: EmptyPeers",
-        ),
-        (r#"[]"#, "item 3: (whole): BadField"),
-        (r#"{"name": 1}"#, "item 3: (whole): PeerShape"),
-        (
-            r#"{"shop": "s", "sender": "t", "name": "a"}"#,
-            "item 3: (whole): PeerShape",
-        ),
-        (r#"{"shop": "s", "weight": 1.5}"#, "item 3: name: BadField"),
-        (
-            r#"{"shop": "s", "name": "a/b", "weight": 1.5}"#,
-            "item 3: name: BadName",
-        ),
-        (
-            r#"{"shop": "s", "name": "a", "weight": 1.5, "tags": 1}"#,
-            "item 3: weight: BadField",
-        ),
-        (
-            r#"{"shop": "s", "name": "a", "tags": {}}"#,
-            "item 3: tags: BadField",
-        ),
-        (
-            r#"{"shop": "s", "name": "a", "tags": ["x", null]}"#,
-            "item 3: tags[1]: BadField",
-        ),
-    ];
-    tells(&rt, rt.alloc(), &ParcelTable, &cases)
+    tells(&rt, rt.alloc(), &ParcelTable, PARCELS)
 }
+
+static PORTS: &[(&str, &str)] = &[
+    ("1", "read"),
+    ("65535", "read"),
+    ("0", "item 3: (whole): BadPort"),
+    ("65536", "item 3: (whole): BadPort"),
+    ("-1", "item 3: (whole): BadPort"),
+    ("80.0", "item 3: (whole): BadField"),
+];
+
+static MAPS: &[(&str, &str)] = &[
+    (r#"{"app": "", "a/b": "c"}"#, "read"),
+    (r#"{"": "c"}"#, "item 3: (whole): BadField"),
+    (r#"{"a": "b c"}"#, "item 3: (whole): BadField"),
+    (r#"{"a": null}"#, "item 3: (whole): BadField"),
+];
 
 #[test]
 fn tables_of_values_refuse_the_rest(rt: HostRuntime) -> Result<(), Fail> {
-    let ports = [
-        ("1", "read"),
-        ("65535", "read"),
-        ("0", "item 3: (whole): BadPort"),
-        ("65536", "item 3: (whole): BadPort"),
-        ("-1", "item 3: (whole): BadPort"),
-        ("80.0", "item 3: (whole): BadField"),
-    ];
-    tells(&rt, rt.alloc(), &Port, &ports)?;
-    let maps = [
-        (r#"{"app": "", "a/b": "c"}"#, "read"),
-        (r#"{"": "c"}"#, "item 3: (whole): BadField"),
-        (r#"{"a": "b c"}"#, "item 3: (whole): BadField"),
-        (r#"{"a": null}"#, "item 3: (whole): BadField"),
-    ];
-    tells(&rt, rt.alloc(), &LabelMap, &maps)?;
+    tells(&rt, rt.alloc(), &Port, PORTS)?;
+    tells(&rt, rt.alloc(), &LabelMap, MAPS)?;
     let flags = [("true", "read"), ("0", "item 3: (whole): BadField")];
     tells(&rt, rt.alloc(), &Flag, &flags)
 }
 
+static TYPES: &[(&str, &str)] = &[
+    (r#"{"apiVersion": "v1", "kind": "Pod"}"#, "read"),
+    (r#"{"kind": 1}"#, "item 3: apiVersion: BadField"),
+    (
+        r#"{"apiVersion": "v1", "kind": 1}"#,
+        "item 3: kind: BadField",
+    ),
+];
+
+static NAMES: &[(&str, &str)] = &[
+    (r#"{"name": "a", "namespace": ""}"#, "read"),
+    (r#"{"namespace": "b"}"#, "item 3: name: BadField"),
+    (
+        r#"{"name": "a", "namespace": "b/c"}"#,
+        "item 3: namespace: BadName",
+    ),
+];
+
 #[test]
 fn objects_have_a_type_and_a_name(rt: HostRuntime) -> Result<(), Fail> {
-    let types = [
-        (r#"{"apiVersion": "v1", "kind": "Pod"}"#, "read"),
-        (r#"{"kind": 1}"#, "item 3: apiVersion: BadField"),
-        (
-            r#"{"apiVersion": "v1", "kind": 1}"#,
-            "item 3: kind: BadField",
-        ),
-    ];
-    tells(&rt, rt.alloc(), &TypeMetaTable, &types)?;
-    let names = [
-        (r#"{"name": "a", "namespace": ""}"#, "read"),
-        (r#"{"namespace": "b"}"#, "item 3: name: BadField"),
-        (
-            r#"{"name": "a", "namespace": "b/c"}"#,
-            "item 3: namespace: BadName",
-        ),
-    ];
-    tells(&rt, rt.alloc(), &NamespacedNameTable, &names)
+    tells(&rt, rt.alloc(), &TypeMetaTable, TYPES)?;
+    tells(&rt, rt.alloc(), &NamespacedNameTable, NAMES)
 }

@@ -146,148 +146,151 @@ fn described(alloc: Global, json: &str) -> Result<String, Fail> {
     Ok(text)
 }
 
+static PODS: &[(&str, &str)] = &[
+    (
+        r#"{"apiVersion": "v1", "kind": "Pod",
+            "metadata": {"annotations": {"note": "a b"}, "creationTimestamp": "2024-01-01T00:00:00Z",
+                "generateName": "web-7d4-", "labels": {"tier": "front", "app": "web"},
+                "managedFields": [{"manager": "kubelet", "fieldsV1": {"f:status": {}}}],
+                "name": "web-7d4-x", "namespace": "shop",
+                "ownerReferences": [
+                    {"apiVersion": "v1", "kind": "ConfigMap", "name": "c", "uid": "1"},
+                    {"apiVersion": "apps/v1", "blockOwnerDeletion": true, "controller": true,
+                        "kind": "ReplicaSet", "name": "web-7d4", "uid": "2"},
+                    {"apiVersion": "v1", "controller": true, "kind": "Node", "name": "n", "uid": "3"}]},
+            "spec": {"containers": [
+                    {"image": "web", "ports": [
+                        {"containerPort": 8080, "name": "http", "protocol": "TCP"},
+                        {"containerPort": 9090, "protocol": "TCP"}]},
+                    {"image": "dns", "ports": [
+                        {"containerPort": 53, "name": "dns", "protocol": "UDP"},
+                        {"containerPort": 65535, "name": "last"}]}],
+                "initContainers": [{"ports": [{"containerPort": 0, "name": "a b"}]}],
+                "nodeName": "n", "restartPolicy": "Always"},
+            "status": {"conditions": [{"lastProbeTime": null, "status": "True", "type": "Ready"}],
+                "hostIP": "x", "phase": "Running", "podIP": "10.0.0.7",
+                "podIPs": [{"ip": "10.0.0.7"}, {"ip": "FD00::7"}, {"ip": ""}, {"ip": "fd00::7"}]}}"#,
+        "shop/web-7d4-x app=web tier=front of ReplicaSet web-7d4 http=8080/TCP dns=53/UDP last=65535/TCP 10.0.0.7 fd00::7 false false",
+    ),
+    (
+        r#"{"apiVersion": "v1", "kind": "Pod",
+            "metadata": {"creationTimestamp": null, "name": "proxy", "namespace": ""},
+            "spec": {"containers": [], "hostNetwork": true},
+            "status": {"phase": "Failed"}}"#,
+        "default/proxy true true",
+    ),
+    (
+        r#"{"apiVersion": "v1", "kind": "Pod", "metadata": {"name": "job-a"}, "spec": {},
+            "status": {"phase": "Succeeded"}}"#,
+        "default/job-a false true",
+    ),
+    (
+        r#"{"apiVersion": "v1", "kind": "Namespace",
+            "metadata": {"labels": {"kubernetes.io/metadata.name": "shop"}, "name": "shop"},
+            "spec": {"finalizers": ["kubernetes"]}, "status": {"phase": "Active"}}"#,
+        "shop kubernetes.io/metadata.name=shop",
+    ),
+];
+
 #[test]
 fn pods_are_read_as_a_cluster_prints_them(rt: HostRuntime) -> Result<(), Fail> {
-    let pods = [
-        (
-            r#"{"apiVersion": "v1", "kind": "Pod",
-                "metadata": {"annotations": {"note": "a b"}, "creationTimestamp": "2024-01-01T00:00:00Z",
-                    "generateName": "web-7d4-", "labels": {"tier": "front", "app": "web"},
-                    "managedFields": [{"manager": "kubelet", "fieldsV1": {"f:status": {}}}],
-                    "name": "web-7d4-x", "namespace": "shop",
-                    "ownerReferences": [
-                        {"apiVersion": "v1", "kind": "ConfigMap", "name": "c", "uid": "1"},
-                        {"apiVersion": "apps/v1", "blockOwnerDeletion": true, "controller": true,
-                            "kind": "ReplicaSet", "name": "web-7d4", "uid": "2"},
-                        {"apiVersion": "v1", "controller": true, "kind": "Node", "name": "n", "uid": "3"}]},
-                "spec": {"containers": [
-                        {"image": "web", "ports": [
-                            {"containerPort": 8080, "name": "http", "protocol": "TCP"},
-                            {"containerPort": 9090, "protocol": "TCP"}]},
-                        {"image": "dns", "ports": [
-                            {"containerPort": 53, "name": "dns", "protocol": "UDP"},
-                            {"containerPort": 65535, "name": "last"}]}],
-                    "initContainers": [{"ports": [{"containerPort": 0, "name": "a b"}]}],
-                    "nodeName": "n", "restartPolicy": "Always"},
-                "status": {"conditions": [{"lastProbeTime": null, "status": "True", "type": "Ready"}],
-                    "hostIP": "x", "phase": "Running", "podIP": "10.0.0.7",
-                    "podIPs": [{"ip": "10.0.0.7"}, {"ip": "FD00::7"}, {"ip": ""}, {"ip": "fd00::7"}]}}"#,
-            "shop/web-7d4-x app=web tier=front of ReplicaSet web-7d4 http=8080/TCP dns=53/UDP last=65535/TCP 10.0.0.7 fd00::7 false false",
-        ),
-        (
-            r#"{"apiVersion": "v1", "kind": "Pod",
-                "metadata": {"creationTimestamp": null, "name": "proxy", "namespace": ""},
-                "spec": {"containers": [], "hostNetwork": true},
-                "status": {"phase": "Failed"}}"#,
-            "default/proxy true true",
-        ),
-        (
-            r#"{"apiVersion": "v1", "kind": "Pod", "metadata": {"name": "job-a"}, "spec": {},
-                "status": {"phase": "Succeeded"}}"#,
-            "default/job-a false true",
-        ),
-        (
-            r#"{"apiVersion": "v1", "kind": "Namespace",
-                "metadata": {"labels": {"kubernetes.io/metadata.name": "shop"}, "name": "shop"},
-                "spec": {"finalizers": ["kubernetes"]}, "status": {"phase": "Active"}}"#,
-            "shop kubernetes.io/metadata.name=shop",
-        ),
-    ];
-    for (json, want) in pods {
-        assert_eq!(rt; described(rt.alloc(), json)?.as_str(), want);
+    for (json, want) in PODS {
+        assert_eq!(rt; described(rt.alloc(), json)?.as_str(), *want);
     }
     Ok(())
 }
+
+static CONTROLLERS: &[(&str, &str)] = &[
+    (
+        r#"{"apiVersion": "apps/v1", "kind": "Deployment",
+            "metadata": {"generation": 2, "labels": {"app": "web"}, "name": "web", "namespace": "shop"},
+            "spec": {"replicas": 0, "selector": {"matchLabels": {"app": "web"}}, "strategy": {},
+                "template": {"metadata": {"creationTimestamp": null, "labels": {"app": "web"}},
+                    "spec": {"containers": [{"ports": [{"containerPort": 80, "name": "http"}]}],
+                        "hostNetwork": true}}},
+            "status": {"replicas": 1}}"#,
+        "Deployment shop/web true app=web http=80/TCP true",
+    ),
+    (
+        r#"{"apiVersion": "apps/v1", "kind": "ReplicaSet",
+            "metadata": {"name": "web-7d4", "ownerReferences": [
+                {"apiVersion": "apps/v1", "controller": true, "kind": "Deployment", "name": "web"}]},
+            "spec": {"replicas": 2}}"#,
+        "ReplicaSet default/web-7d4 false of Deployment web",
+    ),
+    (
+        r#"{"apiVersion": "apps/v1", "kind": "StatefulSet", "metadata": {"name": "db"}, "spec": {"replicas": -1}}"#,
+        "StatefulSet default/db false",
+    ),
+    (
+        r#"{"apiVersion": "v1", "kind": "ReplicationController", "metadata": {"name": "rc"}}"#,
+        "ReplicationController default/rc false",
+    ),
+    (
+        r#"{"apiVersion": "apps/v1", "kind": "DaemonSet", "metadata": {"name": "log"},
+            "spec": {"replicas": 0, "template": {"spec": {}}}}"#,
+        "DaemonSet default/log false false",
+    ),
+    (
+        r#"{"apiVersion": "batch/v1", "kind": "Job", "metadata": {"name": "one"},
+            "spec": {"template": {"metadata": {"labels": {"job": "one"}}, "spec": {}}}}"#,
+        "Job default/one false job=one false",
+    ),
+    (
+        r#"{"apiVersion": "batch/v1", "kind": "CronJob", "metadata": {"name": "each"},
+            "spec": {"schedule": "* * * * *", "template": {"spec": {}}, "jobTemplate": {"spec":
+                {"template": {"metadata": {"labels": {"job": "each"}}, "spec": {}}}}}}"#,
+        "CronJob default/each false job=each false",
+    ),
+];
 
 #[test]
 fn controllers_are_read_as_a_cluster_prints_them(rt: HostRuntime) -> Result<(), Fail> {
-    let controllers = [
-        (
-            r#"{"apiVersion": "apps/v1", "kind": "Deployment",
-                "metadata": {"generation": 2, "labels": {"app": "web"}, "name": "web", "namespace": "shop"},
-                "spec": {"replicas": 0, "selector": {"matchLabels": {"app": "web"}}, "strategy": {},
-                    "template": {"metadata": {"creationTimestamp": null, "labels": {"app": "web"}},
-                        "spec": {"containers": [{"ports": [{"containerPort": 80, "name": "http"}]}],
-                            "hostNetwork": true}}},
-                "status": {"replicas": 1}}"#,
-            "Deployment shop/web true app=web http=80/TCP true",
-        ),
-        (
-            r#"{"apiVersion": "apps/v1", "kind": "ReplicaSet",
-                "metadata": {"name": "web-7d4", "ownerReferences": [
-                    {"apiVersion": "apps/v1", "controller": true, "kind": "Deployment", "name": "web"}]},
-                "spec": {"replicas": 2}}"#,
-            "ReplicaSet default/web-7d4 false of Deployment web",
-        ),
-        (
-            r#"{"apiVersion": "apps/v1", "kind": "StatefulSet", "metadata": {"name": "db"}, "spec": {"replicas": -1}}"#,
-            "StatefulSet default/db false",
-        ),
-        (
-            r#"{"apiVersion": "v1", "kind": "ReplicationController", "metadata": {"name": "rc"}}"#,
-            "ReplicationController default/rc false",
-        ),
-        (
-            r#"{"apiVersion": "apps/v1", "kind": "DaemonSet", "metadata": {"name": "log"},
-                "spec": {"replicas": 0, "template": {"spec": {}}}}"#,
-            "DaemonSet default/log false false",
-        ),
-        (
-            r#"{"apiVersion": "batch/v1", "kind": "Job", "metadata": {"name": "one"},
-                "spec": {"template": {"metadata": {"labels": {"job": "one"}}, "spec": {}}}}"#,
-            "Job default/one false job=one false",
-        ),
-        (
-            r#"{"apiVersion": "batch/v1", "kind": "CronJob", "metadata": {"name": "each"},
-                "spec": {"schedule": "* * * * *", "template": {"spec": {}}, "jobTemplate": {"spec":
-                    {"template": {"metadata": {"labels": {"job": "each"}}, "spec": {}}}}}}"#,
-            "CronJob default/each false job=each false",
-        ),
-    ];
-    for (json, want) in controllers {
-        assert_eq!(rt; described(rt.alloc(), json)?.as_str(), want);
+    for (json, want) in CONTROLLERS {
+        assert_eq!(rt; described(rt.alloc(), json)?.as_str(), *want);
     }
     Ok(())
 }
 
+static SERVICES_AND_INGRESSES: &[(&str, &str)] = &[
+    (
+        r#"{"apiVersion": "v1", "kind": "Service", "metadata": {"name": "web", "namespace": "shop"},
+            "spec": {"clusterIP": "10.96.0.1", "clusterIPs": ["10.96.0.1"],
+                "ports": [
+                    {"name": "http", "nodePort": 30080, "port": 80, "protocol": "TCP", "targetPort": "web"},
+                    {"name": "", "port": 53, "protocol": "UDP", "targetPort": 0},
+                    {"port": 81, "targetPort": ""}, {"port": 82, "targetPort": 8082}, {"port": 83}],
+                "selector": {"tier": "front", "app": "web"}, "sessionAffinity": "None", "type": "ClusterIP"},
+            "status": {"loadBalancer": {}}}"#,
+        "shop/web false false app true web tier true front 80/TCP->web http 53/UDP->53 81/TCP->81 82/TCP->8082 83/TCP->83",
+    ),
+    (
+        r#"{"apiVersion": "v1", "kind": "Service", "metadata": {"name": "db"},
+            "spec": {"clusterIP": "None", "selector": {}, "type": "ClusterIP"}}"#,
+        "default/db true false",
+    ),
+    (
+        r#"{"apiVersion": "v1", "kind": "Service", "metadata": {"name": "away"},
+            "spec": {"externalName": "example.com", "type": "ExternalName"}}"#,
+        "default/away false true",
+    ),
+    (
+        r#"{"apiVersion": "networking.k8s.io/v1", "kind": "Ingress", "metadata": {"name": "in", "namespace": "shop"},
+            "spec": {"ingressClassName": "nginx", "rules": [
+                    {"host": "a.example", "http": {"paths": [
+                        {"backend": {"service": {"name": "web", "port": {"number": 80}}}, "path": "/", "pathType": "Prefix"},
+                        {"backend": {"resource": {"apiGroup": "a", "kind": "B", "name": "c"}}}]}},
+                    {"host": "b.example"},
+                    {"http": {"paths": [{"backend": {"service": {"name": "b/c", "port": {"name": "h t", "number": 0}}}}]}}],
+                "defaultBackend": {"service": {"name": "rest", "port": {"name": "", "number": 8080}}}}}"#,
+        "shop/in rest:8080 web:80 resource b/c:h t",
+    ),
+];
+
 #[test]
 fn services_and_ingresses_are_read_as_a_cluster_prints_them(rt: HostRuntime) -> Result<(), Fail> {
-    let objects = [
-        (
-            r#"{"apiVersion": "v1", "kind": "Service", "metadata": {"name": "web", "namespace": "shop"},
-                "spec": {"clusterIP": "10.96.0.1", "clusterIPs": ["10.96.0.1"],
-                    "ports": [
-                        {"name": "http", "nodePort": 30080, "port": 80, "protocol": "TCP", "targetPort": "web"},
-                        {"name": "", "port": 53, "protocol": "UDP", "targetPort": 0},
-                        {"port": 81, "targetPort": ""}, {"port": 82, "targetPort": 8082}, {"port": 83}],
-                    "selector": {"tier": "front", "app": "web"}, "sessionAffinity": "None", "type": "ClusterIP"},
-                "status": {"loadBalancer": {}}}"#,
-            "shop/web false false app true web tier true front 80/TCP->web http 53/UDP->53 81/TCP->81 82/TCP->8082 83/TCP->83",
-        ),
-        (
-            r#"{"apiVersion": "v1", "kind": "Service", "metadata": {"name": "db"},
-                "spec": {"clusterIP": "None", "selector": {}, "type": "ClusterIP"}}"#,
-            "default/db true false",
-        ),
-        (
-            r#"{"apiVersion": "v1", "kind": "Service", "metadata": {"name": "away"},
-                "spec": {"externalName": "example.com", "type": "ExternalName"}}"#,
-            "default/away false true",
-        ),
-        (
-            r#"{"apiVersion": "networking.k8s.io/v1", "kind": "Ingress", "metadata": {"name": "in", "namespace": "shop"},
-                "spec": {"ingressClassName": "nginx", "rules": [
-                        {"host": "a.example", "http": {"paths": [
-                            {"backend": {"service": {"name": "web", "port": {"number": 80}}}, "path": "/", "pathType": "Prefix"},
-                            {"backend": {"resource": {"apiGroup": "a", "kind": "B", "name": "c"}}}]}},
-                        {"host": "b.example"},
-                        {"http": {"paths": [{"backend": {"service": {"name": "b/c", "port": {"name": "h t", "number": 0}}}}]}}],
-                    "defaultBackend": {"service": {"name": "rest", "port": {"name": "", "number": 8080}}}}}"#,
-            "shop/in rest:8080 web:80 resource b/c:h t",
-        ),
-    ];
-    for (json, want) in objects {
-        assert_eq!(rt; described(rt.alloc(), json)?.as_str(), want);
+    for (json, want) in SERVICES_AND_INGRESSES {
+        assert_eq!(rt; described(rt.alloc(), json)?.as_str(), *want);
     }
     Ok(())
 }

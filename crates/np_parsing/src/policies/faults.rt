@@ -31,30 +31,31 @@ pub(super) fn tells(
     Ok(())
 }
 
+static TYPES: &[(&str, &str)] = &[
+    ("[]", "item 1: (whole): BadField"),
+    ("null", "item 1: (whole): BadField"),
+    ("{}", "item 1: apiVersion: BadField"),
+    (
+        r#"{"kind":1,"apiVersion":2}"#,
+        "item 1: apiVersion: BadField",
+    ),
+    (
+        r#"{"apiVersion":"v1","kind":null}"#,
+        "item 1: kind: BadField",
+    ),
+    (r#"{"apiVersion":"v1","kind":"Pod"}"#, "none"),
+    (r#"{"apiVersion":"v1","kind":"NetworkPolicyList"}"#, "none"),
+    (
+        r#"{"apiVersion":"policy.networking.k8s.io/v1alpha2","kind":"ClusterNetworkPolicy"}"#,
+        "item 1: kind: ForeignPolicy",
+    ),
+    (
+        r#"{"apiVersion":"networking.k8s.io/v1beta1","kind":"NetworkPolicy"}"#,
+        "item 1: kind: ForeignPolicy",
+    ),
+];
+
 #[test]
 fn items_have_a_type(rt: HostRuntime) -> Result<(), Fail> {
-    let cases = [
-        ("[]", "item 1: (whole): BadField"),
-        ("null", "item 1: (whole): BadField"),
-        ("{}", "item 1: apiVersion: BadField"),
-        (
-            r#"{"kind":1,"apiVersion":2}"#,
-            "item 1: apiVersion: BadField",
-        ),
-        (
-            r#"{"apiVersion":"v1","kind":null}"#,
-            "item 1: kind: BadField",
-        ),
-        (r#"{"apiVersion":"v1","kind":"Pod"}"#, "none"),
-        (r#"{"apiVersion":"v1","kind":"NetworkPolicyList"}"#, "none"),
-        (
-            r#"{"apiVersion":"policy.networking.k8s.io/v1alpha2","kind":"ClusterNetworkPolicy"}"#,
-            "item 1: kind: ForeignPolicy",
-        ),
-        (
-            r#"{"apiVersion":"networking.k8s.io/v1beta1","kind":"NetworkPolicy"}"#,
-            "item 1: kind: ForeignPolicy",
-        ),
-    ];
-    tells(&rt, rt.alloc(), ("", ""), &cases)
+    tells(&rt, rt.alloc(), ("", ""), TYPES)
 }
