@@ -55,18 +55,20 @@ fn run_over(alloc: Global, line: &str, inputs: MemInputs) -> Result<Ran, NoMemor
 }
 
 // The inputs are read in the order of the words, and their items are one list.
+static ONE_LIST: &[&str] = &[
+    "list pods policy",
+    "list policy pods",
+    "list pods -",
+    "list - pods",
+    "list pods -- policy",
+    "list -- pods policy",
+    "list pods -- --policy",
+    "list -- - pods",
+];
+
 #[test]
 fn files_are_one_list(rt: HostRuntime) -> Result<(), Fail> {
-    for line in [
-        "list pods policy",
-        "list policy pods",
-        "list pods -",
-        "list - pods",
-        "list pods -- policy",
-        "list -- pods policy",
-        "list pods -- --policy",
-        "list -- - pods",
-    ] {
+    for line in ONE_LIST {
         let ran = run_over(rt.alloc(), line, source(rt.alloc())?)?;
         expect(&rt, &ran, Status::Done, TWO_PODS_TABLE, "", line);
     }
@@ -74,21 +76,23 @@ fn files_are_one_list(rt: HostRuntime) -> Result<(), Fail> {
 }
 
 // Items are numbered over all inputs, and inputs by the words.
+static REFUSED: &[(&str, &str)] = &[
+    (
+        "list pods bad",
+        "error: item 3: spec.podSelector: BadSelector\n",
+    ),
+    (
+        "list bad pods",
+        "error: item 1: spec.podSelector: BadSelector\n",
+    ),
+    ("list pods values", "error: input 2: NotAList\n"),
+    ("list pods pods", "error: items 1 and 3: Duplicate\n"),
+    ("list policy - pods", "error: items 1 and 2: Duplicate\n"),
+];
+
 #[test]
 fn files_are_refused(rt: HostRuntime) -> Result<(), Fail> {
-    for (line, message) in [
-        (
-            "list pods bad",
-            "error: item 3: spec.podSelector: BadSelector\n",
-        ),
-        (
-            "list bad pods",
-            "error: item 1: spec.podSelector: BadSelector\n",
-        ),
-        ("list pods values", "error: input 2: NotAList\n"),
-        ("list pods pods", "error: items 1 and 3: Duplicate\n"),
-        ("list policy - pods", "error: items 1 and 2: Duplicate\n"),
-    ] {
+    for (line, message) in REFUSED {
         let ran = run_over(rt.alloc(), line, source(rt.alloc())?)?;
         expect(&rt, &ran, Status::Refused, "", message, line);
     }
@@ -96,14 +100,16 @@ fn files_are_refused(rt: HostRuntime) -> Result<(), Fail> {
 }
 
 // The first name that is not there, and none behind it.
+static NOT_THERE: &[(&str, &str)] = &[
+    ("list absent", "error: cannot read absent\n"),
+    ("list pods absent missing", "error: cannot read absent\n"),
+    ("list list", "error: cannot read list\n"),
+    ("list bad absent", "error: cannot read absent\n"),
+];
+
 #[test]
 fn files_that_are_not_there(rt: HostRuntime) -> Result<(), Fail> {
-    for (line, message) in [
-        ("list absent", "error: cannot read absent\n"),
-        ("list pods absent missing", "error: cannot read absent\n"),
-        ("list list", "error: cannot read list\n"),
-        ("list bad absent", "error: cannot read absent\n"),
-    ] {
+    for (line, message) in NOT_THERE {
         let ran = run_over(rt.alloc(), line, source(rt.alloc())?)?;
         expect(&rt, &ran, Status::Device, "", message, line);
     }

@@ -13,22 +13,24 @@ const NOT_JSON: &str = "error: input 1: NotJson\n";
 // How many bytes all inputs may have together.
 const SIZE_LIMIT: usize = 33_554_432;
 
+static OTHER_WORDS: &[&str] = &[
+    "",
+    "lst",
+    "-",
+    "--",
+    "-- list",
+    "list -x",
+    "list -h",
+    "list --help",
+    "list --version",
+    "list x --unknown y",
+    "list - -",
+    "list - x -- -",
+];
+
 #[test]
 fn other_words(rt: HostRuntime) -> Result<(), Fail> {
-    for words in [
-        "",
-        "lst",
-        "-",
-        "--",
-        "-- list",
-        "list -x",
-        "list -h",
-        "list --help",
-        "list --version",
-        "list x --unknown y",
-        "list - -",
-        "list - x -- -",
-    ] {
+    for words in OTHER_WORDS {
         let ran = run_on(rt.alloc(), words, TWO_PODS.as_bytes())?;
         expect(
             &rt,

@@ -25,25 +25,27 @@ static REPLICA_SET: &str = concat!(
 );
 
 // The first fault of an item, in the member that a rule of a policy has.
+static FAULTS_OF_RULES: &[(&str, &str)] = &[
+    (
+        r#""ports":[{"port":80,"endPort":70}]"#,
+        "ports[0].endPort: BadPort",
+    ),
+    (r#""ports":[{"port":65536}]"#, "ports[0].port: BadPort"),
+    (r#""ports":[{"port":0}]"#, "ports[0].port: BadPort"),
+    (
+        r#""ports":[{"port":9223372036854775808}]"#,
+        "ports[0].port: BadField",
+    ),
+    (
+        r#""from":[{"ipBlock":{"cidr":"10.0.0.0/8","except":["10.0.0.0/8"]}}]"#,
+        "from[0].ipBlock.except[0]: BadExcept",
+    ),
+    (r#""from":[{}],"ports":[{"port":0}]"#, "from[0]: PeerShape"),
+];
+
 #[test]
 fn faults_of_rules(rt: HostRuntime) -> Result<(), Fail> {
-    for (rule, fault) in [
-        (
-            r#""ports":[{"port":80,"endPort":70}]"#,
-            "ports[0].endPort: BadPort",
-        ),
-        (r#""ports":[{"port":65536}]"#, "ports[0].port: BadPort"),
-        (r#""ports":[{"port":0}]"#, "ports[0].port: BadPort"),
-        (
-            r#""ports":[{"port":9223372036854775808}]"#,
-            "ports[0].port: BadField",
-        ),
-        (
-            r#""from":[{"ipBlock":{"cidr":"10.0.0.0/8","except":["10.0.0.0/8"]}}]"#,
-            "from[0].ipBlock.except[0]: BadExcept",
-        ),
-        (r#""from":[{}],"ports":[{"port":0}]"#, "from[0]: PeerShape"),
-    ] {
+    for (rule, fault) in FAULTS_OF_RULES {
         let text = WITH_RULE.replace(rt.alloc(), "#", rule)?;
         let ran = run_on(rt.alloc(), "list", text.as_bytes())?;
         let said = format!(in rt.alloc(); "error: item 1: spec.ingress[0].{fault}\n")?;
@@ -53,35 +55,37 @@ fn faults_of_rules(rt: HostRuntime) -> Result<(), Fail> {
 }
 
 // Single objects that are refused.
+static FAULTS_OF_OBJECTS: &[(&str, &str)] = &[
+    (
+        r#"{"apiVersion":"policy.networking.k8s.io/v1alpha2","kind":"ClusterNetworkPolicy","metadata":{"name":"x"}}"#,
+        "error: item 1: kind: ForeignPolicy\n",
+    ),
+    (
+        r#"{"apiVersion":"networking.k8s.io/v1","kind":"NetworkPolicy","metadata":{"name":"p"},"spec":{"podSelector":{"matchExpressions":[{"key":"a","operator":"In"}]}}}"#,
+        "error: item 1: spec.podSelector.matchExpressions[0]: BadSelector\n",
+    ),
+    (
+        r#"{"apiVersion":"policy.networking.k8s.io/v1alpha1","kind":"BaselineAdminNetworkPolicy","metadata":{"name":"other"},"spec":{"subject":{"namespaces":{}}}}"#,
+        "error: item 1: metadata.name: BaselineName\n",
+    ),
+    (
+        r#"{"apiVersion":"policy.networking.k8s.io/v1alpha1","kind":"AdminNetworkPolicy","metadata":{"name":"n"},"spec":{"priority":1,"subject":{"namespaces":{}},"egress":[{"action":"Deny","to":[{"nodes":{}}]}]}}"#,
+        "error: item 1: spec.egress[0].to[0].nodes: NodePeer\n",
+    ),
+    (
+        r#"{"apiVersion":"v1","kind":"PodList","items":[]}"#,
+        "error: input 1: NotAList\n",
+    ),
+    ("[]", "error: input 1: NotAList\n"),
+    (
+        r#"{"apiVersion":"v1","items":[{"apiVersion":"v1","kind":"List"}],"kind":"List"}"#,
+        "error: item 1: NestedList\n",
+    ),
+];
+
 #[test]
 fn faults_of_objects(rt: HostRuntime) -> Result<(), Fail> {
-    for (text, said) in [
-        (
-            r#"{"apiVersion":"policy.networking.k8s.io/v1alpha2","kind":"ClusterNetworkPolicy","metadata":{"name":"x"}}"#,
-            "error: item 1: kind: ForeignPolicy\n",
-        ),
-        (
-            r#"{"apiVersion":"networking.k8s.io/v1","kind":"NetworkPolicy","metadata":{"name":"p"},"spec":{"podSelector":{"matchExpressions":[{"key":"a","operator":"In"}]}}}"#,
-            "error: item 1: spec.podSelector.matchExpressions[0]: BadSelector\n",
-        ),
-        (
-            r#"{"apiVersion":"policy.networking.k8s.io/v1alpha1","kind":"BaselineAdminNetworkPolicy","metadata":{"name":"other"},"spec":{"subject":{"namespaces":{}}}}"#,
-            "error: item 1: metadata.name: BaselineName\n",
-        ),
-        (
-            r#"{"apiVersion":"policy.networking.k8s.io/v1alpha1","kind":"AdminNetworkPolicy","metadata":{"name":"n"},"spec":{"priority":1,"subject":{"namespaces":{}},"egress":[{"action":"Deny","to":[{"nodes":{}}]}]}}"#,
-            "error: item 1: spec.egress[0].to[0].nodes: NodePeer\n",
-        ),
-        (
-            r#"{"apiVersion":"v1","kind":"PodList","items":[]}"#,
-            "error: input 1: NotAList\n",
-        ),
-        ("[]", "error: input 1: NotAList\n"),
-        (
-            r#"{"apiVersion":"v1","items":[{"apiVersion":"v1","kind":"List"}],"kind":"List"}"#,
-            "error: item 1: NestedList\n",
-        ),
-    ] {
+    for (text, said) in FAULTS_OF_OBJECTS {
         let ran = run_on(rt.alloc(), "list", text.as_bytes())?;
         expect(&rt, &ran, Status::Refused, "", said, text);
     }
