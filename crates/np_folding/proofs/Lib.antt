@@ -1,1 +1,2 @@
+mod RulesLemmas
 mod ShapeLemmas

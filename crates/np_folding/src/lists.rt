@@ -1,10 +1,17 @@
-//! Lists of objects, as texts and as estates.
-ghost use Rattle.std.specs.Prelude.{IfOk};
-ghost use Rattle.np_estate.specs.Lawful.{IsLawful};
+//! Lists of objects as texts.
 
-use np_estate::Estate;
+use np_base::NoMemory;
 use std::alloc::{AllocError, Global};
-use std::test::Fail;
+
+/// A list.
+#[derive(Clone, Copy)]
+pub enum List {
+    /// These pods, and other objects behind them.
+    Of(&'static [ListedPod], &'static [&'static str]),
+    /// So many objects of this text, in which a number stands for `#`, and other objects behind them. The numbers descend,
+    /// from 9,999, so that they say nothing of the order.
+    Many(u32, &'static str, &'static [&'static str]),
+}
 
 /// A pod of a list. All but its namespace and its name is written as the members of a JSON object or list.
 #[derive(Drop)]
@@ -31,36 +38,57 @@ pub const BARE: ListedPod = ListedPod {
 pub const OF_DB: &str = r#"{"controller":true,"kind":"StatefulSet","name":"db"}"#;
 
 /// A NetworkPolicy that names the key `app`, and takes away nothing.
-pub static POLICY_ON_APP: &str = concat!(
+pub static POLICY_ON_APP: &[&str] = &[concat!(
     r#"{"apiVersion":"networking.k8s.io/v1","kind":"NetworkPolicy","metadata":{"name":"p"},"#,
     r#""spec":{"podSelector":{"matchLabels":{"app":"x"}},"ingress":[{}]}}"#,
-);
+)];
 
-/// The estate of a list of pods, with other objects behind them.
-pub fn estate_of(alloc: Global, pods: &[ListedPod], others: &[&str]) -> Result<Estate, Fail>
-    ensures { IfOk result IsLawful }
-{
+/// The text of a list.
+pub fn list_text(alloc: Global, list: List) -> Result<String, NoMemory> {
+    let items = items_of(alloc, list)?.join(alloc, ",")?;
+    Ok(format!(in alloc; r#"{{"apiVersion":"v1","kind":"List","items":[{items}]}}"#)?)
+}
+
+// The objects of a list.
+fn items_of(alloc: Global, list: List) -> Result<Vec<String>, NoMemory> {
     let mut items = Vec::new(alloc);
-    for pod in pods {
-        items.push(pod_text(alloc, pod)?)?;
-    }
+    let others = match list {
+        List::Of(pods, others) => {
+            add_pods(alloc, &mut items, pods)?;
+            others
+        }
+        List::Many(count, text, others) => {
+            add_many(alloc, &mut items, count, text)?;
+            others
+        }
+    };
     for other in others {
         items.push(String::from_str(alloc, other)?)?;
     }
-    estate_of_items(alloc, &items)
+    Ok(items)
 }
 
-/// The estate of a list of these items.
-pub fn estate_of_items(alloc: Global, items: &[String]) -> Result<Estate, Fail>
-    ensures { IfOk result IsLawful }
-{
-    let mut bytes = Vec::new(alloc);
-    bytes.extend_from_slice(r#"{"apiVersion":"v1","kind":"List","items":["#.as_bytes())?;
-    bytes.extend_from_slice(items.join(alloc, ",")?.as_bytes())?;
-    bytes.extend_from_slice("]}".as_bytes())?;
-    let mut texts = Vec::new(alloc);
-    texts.push(bytes)?;
-    Ok(Estate::read(alloc, &texts)?)
+// Adds pods.
+fn add_pods(alloc: Global, items: &mut Vec<String>, pods: &[ListedPod]) -> Result<(), NoMemory> {
+    for pod in pods {
+        items.push(pod_text(alloc, pod)?)?;
+    }
+    Ok(())
+}
+
+// Adds so many objects of a text.
+fn add_many(
+    alloc: Global,
+    items: &mut Vec<String>,
+    count: u32,
+    text: &str,
+) -> Result<(), NoMemory> {
+    for place in 0..count {
+        let number = 9999u32.saturating_sub(place);
+        let number = format!(in alloc; "{number}")?;
+        items.push(text.replace(alloc, "#", number.as_str())?)?;
+    }
+    Ok(())
 }
 
 // The object of a pod.
@@ -73,12 +101,7 @@ fn pod_text(alloc: Global, pod: &ListedPod) -> Result<String, AllocError> {
         ports,
         addresses,
     } = pod;
-    let metadata = format!(in alloc;
-        r#"{{"namespace":"{namespace}","name":"{name}","labels":{{{labels}}},"ownerReferences":[{owners}]}}"#
-    )?;
-    let spec = format!(in alloc; r#"{{"containers":[{{"ports":[{ports}]}}]}}"#)?;
-    let status = format!(in alloc; r#"{{"podIPs":[{addresses}]}}"#)?;
     format!(in alloc;
-        r#"{{"apiVersion":"v1","kind":"Pod","metadata":{metadata},"spec":{spec},"status":{status}}}"#
+        r#"{{"apiVersion":"v1","kind":"Pod","metadata":{{"namespace":"{namespace}","name":"{name}","labels":{{{labels}}},"ownerReferences":[{owners}]}},"spec":{{"containers":[{{"ports":[{ports}]}}]}},"status":{{"podIPs":[{addresses}]}}}}"#
     )
 }

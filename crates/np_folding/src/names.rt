@@ -1,12 +1,21 @@
 //! Names for things of which several wish for one name.
 
-use np_base::Text;
+use np_base::{NoMemory, Text};
 use np_names::all_by_name;
-use std::test::Fail;
+use std::alloc::Global;
+
+// The texts of some wishes.
+fn texts(alloc: Global, wishes: &[&str]) -> Result<Vec<Text>, NoMemory> {
+    let mut texts = Vec::new(alloc);
+    for wish in wishes {
+        texts.push(Text::of(alloc, wish)?)?;
+    }
+    Ok(texts)
+}
 
 // The byte of `#` stands between those of `!` and `$`, and `#10` stands before `#2`.
 #[test]
-fn eleven_wishes_for_one_name(rt: HostRuntime) -> Result<(), Fail> {
+fn eleven_wishes_for_one_name(rt: HostRuntime) {
     static WISHES: &[&str] = &[
         "b", "b$", "b", "b", "b", "b", "a", "b", "b", "b", "b", "b", "b!", "b",
     ];
@@ -26,17 +35,11 @@ fn eleven_wishes_for_one_name(rt: HostRuntime) -> Result<(), Fail> {
         ("b#9", 10),
         ("b$", 1),
     ];
-    let alloc = rt.alloc();
-    let mut wishes = Vec::new(alloc);
-    for wish in WISHES {
-        wishes.push(Text::of(alloc, wish)?)?;
-    }
+    let wishes = texts(rt.alloc(), WISHES).expect(&rt, "wishes");
     assert!(rt; wishes.len() == 14);
-    let made = all_by_name(alloc, &wishes)?;
-    let mut seen = Vec::new(alloc);
-    for one in made.items() {
-        seen.push((one.name.as_str(), one.place))?;
+    let made = all_by_name(rt.alloc(), &wishes).expect(&rt, "names");
+    assert!(rt; made.items().len() == 14);
+    for (one, (name, place)) in made.items().iter().zip(WANTED) {
+        assert!(rt; one.name.as_str() == *name && one.place == *place, "{name}");
     }
-    assert!(rt; seen.as_slice() == WANTED);
-    Ok(())
 }

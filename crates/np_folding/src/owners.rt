@@ -1,8 +1,8 @@
 //! Workloads by their owners.
 
-use crate::foldings::expect_workloads;
-use crate::lists::{BARE, ListedPod, OF_DB, POLICY_ON_APP};
-use std::test::Fail;
+use crate::answers::expect_answers;
+use crate::lists::{BARE, List, ListedPod, OF_DB, POLICY_ON_APP};
+use crate::question::Question;
 
 // The Deployment `web`, and two ReplicaSets that it owns.
 static WEB: &[&str] = &[
@@ -38,24 +38,34 @@ static PODS_OF_WEB: &[ListedPod] = &[
 ];
 
 #[test]
-fn replica_sets_of_one_deployment(rt: HostRuntime) -> Result<(), Fail> {
-    static WANTED: &str = "default/web[Deployment] of kind 0: 0 1 2\n";
-    expect_workloads(&rt, rt.alloc(), PODS_OF_WEB, WEB, WANTED)
+fn replica_sets_of_one_deployment(rt: HostRuntime) {
+    static WANTED: &[(Question, &str)] = &[
+        (
+            Question::Workloads,
+            "default/web[Deployment] of kind 0: 0 1 2\n",
+        ),
+        (Question::Counts, "workloads: 1, kinds: 1"),
+        (Question::Relevant, ""),
+    ];
+    expect_answers(&rt, rt.alloc(), List::Of(PODS_OF_WEB, WEB), WANTED);
 }
 
 // A Deployment without pods stands for one, and a pod without an owner is its own. No rule tells the two apart.
 #[test]
-fn templates_and_pods_without_owners(rt: HostRuntime) -> Result<(), Fail> {
+fn templates_and_pods_without_owners(rt: HostRuntime) {
     static PODS: &[ListedPod] = &[ListedPod { name: "c", ..BARE }];
-    static WANTED: &str = "default/c[Pod] of kind 0: 0\ndefault/web[Deployment] of kind 0: 1\n";
-    expect_workloads(&rt, rt.alloc(), PODS, WEB, WANTED)
+    static WANTED: &[(Question, &str)] = &[(
+        Question::Workloads,
+        "default/c[Pod] of kind 0: 0\ndefault/web[Deployment] of kind 0: 1\n",
+    )];
+    expect_answers(&rt, rt.alloc(), List::Of(PODS, WEB), WANTED);
 }
 
 const OF_A: &str = r#"{"controller":true,"kind":"Deployment","name":"a"}"#;
 
 // Neither of these is listed.
 #[test]
-fn owners_of_one_kind(rt: HostRuntime) -> Result<(), Fail> {
+fn owners_of_one_kind(rt: HostRuntime) {
     static PODS: &[ListedPod] = &[
         ListedPod {
             name: "db-0",
@@ -76,14 +86,19 @@ fn owners_of_one_kind(rt: HostRuntime) -> Result<(), Fail> {
             ..BARE
         },
     ];
-    static WANTED: &str =
-        "default/a[Deployment] of kind 0: 1 2\ndefault/db[StatefulSet] of kind 0: 0\n";
-    expect_workloads(&rt, rt.alloc(), PODS, &[POLICY_ON_APP], WANTED)
+    static WANTED: &[(Question, &str)] = &[
+        (
+            Question::Workloads,
+            "default/a[Deployment] of kind 0: 1 2\ndefault/db[StatefulSet] of kind 0: 0\n",
+        ),
+        (Question::Counts, "workloads: 2, kinds: 1"),
+    ];
+    expect_answers(&rt, rt.alloc(), List::Of(PODS, POLICY_ON_APP), WANTED);
 }
 
 // One name of owners of different sorts, which come together nowhere.
 #[test]
-fn owners_of_one_name(rt: HostRuntime) -> Result<(), Fail> {
+fn owners_of_one_name(rt: HostRuntime) {
     static PODS: &[ListedPod] = &[
         ListedPod {
             name: "x",
@@ -97,17 +112,20 @@ fn owners_of_one_name(rt: HostRuntime) -> Result<(), Fail> {
             ..BARE
         },
     ];
-    static WANTED: &str = concat!(
-        "default/a[Deployment] of kind 0: 2\n",
-        "default/a[Pod] of kind 0: 1\n",
-        "default/a[StatefulSet] of kind 0: 0\n",
-    );
-    expect_workloads(&rt, rt.alloc(), PODS, &[], WANTED)
+    static WANTED: &[(Question, &str)] = &[(
+        Question::Workloads,
+        concat!(
+            "default/a[Deployment] of kind 0: 2\n",
+            "default/a[Pod] of kind 0: 1\n",
+            "default/a[StatefulSet] of kind 0: 0\n",
+        ),
+    )];
+    expect_answers(&rt, rt.alloc(), List::Of(PODS, &[]), WANTED);
 }
 
 // Pods of one owner's name in two namespaces are not even of one kind.
 #[test]
-fn owners_in_two_namespaces(rt: HostRuntime) -> Result<(), Fail> {
+fn owners_in_two_namespaces(rt: HostRuntime) {
     static PODS: &[ListedPod] = &[
         ListedPod {
             namespace: "y",
@@ -122,13 +140,16 @@ fn owners_in_two_namespaces(rt: HostRuntime) -> Result<(), Fail> {
             ..BARE
         },
     ];
-    static WANTED: &str = "x/db[StatefulSet] of kind 0: 1\ny/db[StatefulSet] of kind 1: 0\n";
-    expect_workloads(&rt, rt.alloc(), PODS, &[], WANTED)
+    static WANTED: &[(Question, &str)] = &[(
+        Question::Workloads,
+        "x/db[StatefulSet] of kind 0: 1\ny/db[StatefulSet] of kind 1: 0\n",
+    )];
+    expect_answers(&rt, rt.alloc(), List::Of(PODS, &[]), WANTED);
 }
 
 // Kinds are numbered by their first workloads in the order of names, and one can come again behind another.
 #[test]
-fn kinds_come_again(rt: HostRuntime) -> Result<(), Fail> {
+fn kinds_come_again(rt: HostRuntime) {
     static PODS: &[ListedPod] = &[
         ListedPod { name: "d", ..BARE },
         ListedPod {
@@ -143,11 +164,14 @@ fn kinds_come_again(rt: HostRuntime) -> Result<(), Fail> {
             ..BARE
         },
     ];
-    static WANTED: &str = concat!(
-        "default/a[Pod] of kind 0: 3\n",
-        "default/b[Pod] of kind 1: 2\n",
-        "default/c[Pod] of kind 0: 1\n",
-        "default/d[Pod] of kind 1: 0\n",
-    );
-    expect_workloads(&rt, rt.alloc(), PODS, &[POLICY_ON_APP], WANTED)
+    static WANTED: &[(Question, &str)] = &[(
+        Question::Workloads,
+        concat!(
+            "default/a[Pod] of kind 0: 3\n",
+            "default/b[Pod] of kind 1: 2\n",
+            "default/c[Pod] of kind 0: 1\n",
+            "default/d[Pod] of kind 1: 0\n",
+        ),
+    )];
+    expect_answers(&rt, rt.alloc(), List::Of(PODS, POLICY_ON_APP), WANTED);
 }

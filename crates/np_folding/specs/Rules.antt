@@ -1,0 +1,14 @@
+-- How many rules are looked at for the rows of a table.
+use Rattle.std.specs.Prelude.{◌≡◌, ℕ, ◌+◌, ◌*◌, [], None, length}
+use Rattle.np_estate.specs.declared.lists.EstateLists.{EstateLists}
+use Rattle.np_fold.specs.Workloads.{Folding}
+
+-- no policy of any sort is listed
+pub record HasNoPolicies (lists : EstateLists) : Type 0 where
+  pub admin : lists.admin_policies ≡ []
+  pub net : lists.net_policies ≡ []
+  pub baseline : lists.baseline ≡ None
+
+-- what is due for all rows, where so many rules speak of a workload at most
+abbrev pub all_due : Folding → ℕ → ℕ
+all_due folding most = (4 * length folding.workloads * folding.kind_count + 2 * length folding.workloads) * most
