@@ -85,22 +85,34 @@ fn expect_ranges(
     let estate = estate(alloc, written)?;
     let set = set_of(alloc, &estate, "default/a", direction)?;
     assert!(rt; counts_of(&set) == counts, "pieces");
-    for (address, conns) in rows {
-        let same = is_same(alloc, &estate, &set, direction, address, conns)?;
-        assert!(rt; same, "{address} : {conns}");
+    expect_rows(rt, alloc, &estate, &set, direction, rows)
+}
+
+// The same of each row.
+fn expect_rows(
+    rt: &impl Abort,
+    alloc: Global,
+    estate: &Estate,
+    set: &AddrConns,
+    direction: Direction,
+    rows: &[Cell],
+) -> Result<(), Fail> {
+    for row in rows {
+        let same = is_same(alloc, estate, set, direction, row)?;
+        assert!(rt; same, "{row:?}");
     }
     Ok(())
 }
 
-// Whether the set has these connections at the address, and `allows` the packets of them.
+// Whether the set has the connections of a row at its address, and `allows` the packets of them.
 fn is_same(
     alloc: Global,
     estate: &Estate,
     set: &AddrConns,
     direction: Direction,
-    address: &str,
-    conns: &str,
+    row: &Cell,
 ) -> Result<bool, Fail> {
+    let (address, conns) = *row;
     let point = read_address(address)?;
     let at = conns_at(set, point);
     let (source, destination) = match direction {
@@ -108,8 +120,7 @@ fn is_same(
         Direction::Egress => ("default/a", address),
     };
     let packets = agrees_with(estate, source, destination, family_of(point), at);
-    let wanted = read_conns(alloc, conns)?;
-    Ok(packets && at.same(&wanted))
+    Ok(packets && at.same(&read_conns(alloc, conns)?))
 }
 
 #[test]

@@ -1,8 +1,8 @@
 //! Verdicts of admin policies and of the baseline.
 
-use crate::built::estate;
 use crate::clusters::{DENIED_BEFORE_ALLOWED, NETWORKS_OF_ONE_FAMILY, PASSED_TO_BASELINE};
-use crate::packets::{Row, expect, expect_rows_in_six};
+use crate::packets::{Row, expect, expect_in_family};
+use np_addr::Family;
 use std::test::Fail;
 
 const ALL: &str = "All Connections";
@@ -66,6 +66,11 @@ fn networks_match_pods_in_their_family(rt: HostRuntime) -> Result<(), Fail> {
         ("default/b", "default/a", ALL_BUT_HTTP),
     ];
     expect(&rt, rt.alloc(), &NETWORKS_OF_ONE_FAMILY, ROWS)?;
-    let estate = estate(rt.alloc(), &NETWORKS_OF_ONE_FAMILY)?;
-    expect_rows_in_six(&rt, rt.alloc(), &estate, MORE_ROWS)
+    expect_in_family(
+        &rt,
+        rt.alloc(),
+        &NETWORKS_OF_ONE_FAMILY,
+        Family::Six,
+        MORE_ROWS,
+    )
 }

@@ -49,15 +49,11 @@ fn all_if_there<W: Written>(
 
 /// The estate that is written down.
 pub fn estate(alloc: Global, written: &WrittenEstate) -> Result<Estate, Fail> {
-    let baseline = match written.baseline {
-        Some(baseline) => Some(baseline.value(alloc)?),
-        None => None,
-    };
     in_order(EstateLists {
         pods: all_of(alloc, written.pods)?,
         net_policies: all_of(alloc, written.policies)?,
         admin_policies: all_of(alloc, written.admin)?,
-        baseline,
+        baseline: baseline(alloc, written.baseline)?,
         services: Seq::new(alloc),
         ingresses: Seq::new(alloc),
         notes: nothing_left_out(),
@@ -100,6 +96,14 @@ pub fn estate_of_admin(
         ingresses: Seq::new(alloc),
         notes: nothing_left_out(),
     })
+}
+
+// The baseline, where there is one.
+fn baseline(alloc: Global, written: Option<&WrittenBase>) -> Result<Option<BasePolicy>, Fail> {
+    match written {
+        Some(written) => Ok(Some(written.value(alloc)?)),
+        None => Ok(None),
+    }
 }
 
 // The estate of lists whose admin policies ascend.

@@ -65,74 +65,79 @@ fn are_named(rules: &[RuleId], names: &[Name]) -> bool {
         && rules.iter().zip(names).all(|(rule, name)| rule.policy == name.0 && rule.place == name.1)
 }
 
-// Stops the test unless the rules of the pod are those of these names.
+// What of the rules has other names, if anything.
+fn difference(rules: &LayerRules, names: &Names) -> &'static str {
+    if !are_named(rules.admin.items(), names.admin) {
+        "admin rules"
+    } else if !are_named(rules.net.items(), names.net) {
+        "rules"
+    } else if rules.isolating.items() != names.isolating {
+        "policies"
+    } else if !are_named(rules.base.items(), names.base) {
+        "baseline's rules"
+    } else {
+        "nothing"
+    }
+}
+
+// A pod, a direction, and the names of the rules of the pod.
+type Case = (&'static str, Direction, Names);
+
+// Stops the test unless the rules of the pod of each case are those of its names.
 fn expect_names(
     rt: &impl Abort,
     alloc: Global,
     written: &WrittenEstate,
-    pod: &str,
-    direction: Direction,
-    names: &Names,
+    cases: &[Case],
 ) -> Result<(), Fail> {
     let estate = estate(alloc, written)?;
-    let rules = rules_of(alloc, &estate, pod, direction)?;
-    assert!(rt;
-        are_named(rules.admin.items(), names.admin),
-        "admin rules of {pod}"
-    );
-    assert!(rt; are_named(rules.net.items(), names.net), "rules of {pod}");
-    assert!(rt;
-        rules.isolating.items() == names.isolating,
-        "policies of {pod}"
-    );
-    assert!(rt;
-        are_named(rules.base.items(), names.base),
-        "baseline's rules of {pod}"
-    );
+    expect_cases(rt, alloc, &estate, cases)
+}
+
+// The same of an estate that stands.
+fn expect_cases(
+    rt: &impl Abort,
+    alloc: Global,
+    estate: &Estate,
+    cases: &[Case],
+) -> Result<(), Fail> {
+    for (pod, direction, names) in cases {
+        let found = difference(&rules_of(alloc, estate, pod, *direction)?, names);
+        assert!(rt; found == "nothing", "{found} of {pod}, {direction:?}");
+    }
     Ok(())
 }
 
 #[test]
 fn places_of_admin_rules(rt: HostRuntime) -> Result<(), Fail> {
-    static TO_B: Names = Names {
-        admin: &[(0, 0), (1, 0)],
-        net: &[(0, 0)],
-        isolating: &[0],
-        base: &[],
-    };
-    static FROM_A: Names = Names {
-        admin: &[(0, 0), (1, 0)],
-        base: &[(0, 0)],
-        ..NO_NAMES
-    };
-    let alloc = rt.alloc();
-    let (ingress, egress) = (Direction::Ingress, Direction::Egress);
-    expect_names(&rt, alloc, &DENIED_BEFORE_ALLOWED, "y/b", ingress, &TO_B)?;
-    expect_names(&rt, alloc, &DENIED_BEFORE_ALLOWED, "y/b", egress, &NO_NAMES)?;
-    expect_names(
-        &rt,
-        alloc,
-        &DENIED_BEFORE_ALLOWED,
-        "x/a",
-        ingress,
-        &NO_NAMES,
-    )?;
-    expect_names(
-        &rt,
-        alloc,
-        &PASSED_TO_BASELINE,
-        "default/a",
-        egress,
-        &FROM_A,
-    )?;
-    expect_names(
-        &rt,
-        alloc,
-        &PASSED_TO_BASELINE,
-        "default/a",
-        ingress,
-        &NO_NAMES,
-    )
+    static CASES: &[Case] = &[
+        (
+            "y/b",
+            Direction::Ingress,
+            Names {
+                admin: &[(0, 0), (1, 0)],
+                net: &[(0, 0)],
+                isolating: &[0],
+                base: &[],
+            },
+        ),
+        ("y/b", Direction::Egress, NO_NAMES),
+        ("x/a", Direction::Ingress, NO_NAMES),
+    ];
+    static MORE_CASES: &[Case] = &[
+        (
+            "default/a",
+            Direction::Egress,
+            Names {
+                admin: &[(0, 0), (1, 0)],
+                base: &[(0, 0)],
+                ..NO_NAMES
+            },
+        ),
+        ("default/a", Direction::Ingress, NO_NAMES),
+    ];
+    expect_names(&rt, rt.alloc(), &DENIED_BEFORE_ALLOWED, CASES)?;
+    expect_names(&rt, rt.alloc(), &PASSED_TO_BASELINE, MORE_CASES)
 }
 
 // A rule that matches everything.
@@ -183,38 +188,37 @@ static FOUR_POLICIES: WrittenEstate = WrittenEstate {
 
 #[test]
 fn places_of_rules_of_selecting_policies(rt: HostRuntime) -> Result<(), Fail> {
-    static TO_A: Names = Names {
-        net: &[(1, 0), (1, 1)],
-        isolating: &[1, 3],
-        ..NO_NAMES
-    };
-    static FROM_A: Names = Names {
-        net: &[(3, 0)],
-        isolating: &[3],
-        ..NO_NAMES
-    };
-    static SHUT: Names = Names {
-        isolating: &[0],
-        ..NO_NAMES
-    };
-    let alloc = rt.alloc();
-    let (ingress, egress) = (Direction::Ingress, Direction::Egress);
-    expect_names(&rt, alloc, &FOUR_POLICIES, "default/a", ingress, &TO_A)?;
-    expect_names(&rt, alloc, &FOUR_POLICIES, "default/a", egress, &FROM_A)?;
-    expect_names(
-        &rt,
-        alloc,
-        &SAME_PORT_OF_TWO_PROTOCOLS,
-        "default/a",
-        ingress,
-        &SHUT,
-    )?;
-    expect_names(
-        &rt,
-        alloc,
-        &SAME_PORT_OF_TWO_PROTOCOLS,
-        "default/b",
-        ingress,
-        &NO_NAMES,
-    )
+    static CASES: &[Case] = &[
+        (
+            "default/a",
+            Direction::Ingress,
+            Names {
+                net: &[(1, 0), (1, 1)],
+                isolating: &[1, 3],
+                ..NO_NAMES
+            },
+        ),
+        (
+            "default/a",
+            Direction::Egress,
+            Names {
+                net: &[(3, 0)],
+                isolating: &[3],
+                ..NO_NAMES
+            },
+        ),
+    ];
+    static MORE_CASES: &[Case] = &[
+        (
+            "default/a",
+            Direction::Ingress,
+            Names {
+                isolating: &[0],
+                ..NO_NAMES
+            },
+        ),
+        ("default/b", Direction::Ingress, NO_NAMES),
+    ];
+    expect_names(&rt, rt.alloc(), &FOUR_POLICIES, CASES)?;
+    expect_names(&rt, rt.alloc(), &SAME_PORT_OF_TWO_PROTOCOLS, MORE_CASES)
 }

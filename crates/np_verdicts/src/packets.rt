@@ -81,8 +81,19 @@ pub fn expect(
     written: &WrittenEstate,
     rows: &[Row],
 ) -> Result<(), Fail> {
+    expect_in_family(rt, alloc, written, Family::Four, rows)
+}
+
+/// The same, where the packets between two pods are of this family.
+pub fn expect_in_family(
+    rt: &impl Abort,
+    alloc: Global,
+    written: &WrittenEstate,
+    of_pods: Family,
+    rows: &[Row],
+) -> Result<(), Fail> {
     let estate = estate(alloc, written)?;
-    expect_rows(rt, alloc, &estate, rows)
+    expect_rows(rt, alloc, &estate, of_pods, rows)
 }
 
 /// The same of an estate that stands.
@@ -90,47 +101,28 @@ pub fn expect_rows(
     rt: &impl Abort,
     alloc: Global,
     estate: &Estate,
+    of_pods: Family,
     rows: &[Row],
 ) -> Result<(), Fail> {
-    for (source, destination, conns) in rows {
-        let family = family_between(source, destination);
-        let agrees = agrees(alloc, estate, source, destination, family, conns)?;
-        assert!(rt; agrees, "{source} => {destination} : {conns}");
+    for row in rows {
+        let agrees = agrees(alloc, estate, of_pods, row)?;
+        assert!(rt; agrees, "{row:?}, {of_pods:?} between pods");
     }
     Ok(())
 }
 
-/// The same for packets of IPv6 between pods.
-pub fn expect_rows_in_six(
-    rt: &impl Abort,
-    alloc: Global,
-    estate: &Estate,
-    rows: &[Row],
-) -> Result<(), Fail> {
-    for (source, destination, conns) in rows {
-        let agrees = agrees(alloc, estate, source, destination, Family::Six, conns)?;
-        assert!(rt; agrees, "{source} => {destination} (IPv6) : {conns}");
-    }
-    Ok(())
-}
-
-/// The family of the first of the ends that is an address, and else IPv4.
-pub fn family_between(source: &str, destination: &str) -> Family {
+/// The family of the first of the ends that is an address, and of packets between two pods this one.
+pub fn family_between(source: &str, destination: &str, of_pods: Family) -> Family {
     match read_address(source).or_else(|_| read_address(destination)) {
         Ok(address) => family_of(address),
-        Err(_) => Family::Four,
+        Err(_) => of_pods,
     }
 }
 
-// Whether the packets of a family that are allowed between the ends are those of the connections.
-fn agrees(
-    alloc: Global,
-    estate: &Estate,
-    source: &str,
-    destination: &str,
-    family: Family,
-    conns: &str,
-) -> Result<bool, Fail> {
+// Whether the packets that are allowed between the ends of a row are those of its connections.
+fn agrees(alloc: Global, estate: &Estate, of_pods: Family, row: &Row) -> Result<bool, Fail> {
+    let (source, destination, conns) = *row;
+    let family = family_between(source, destination, of_pods);
     let wanted = read_conns(alloc, conns)?;
     Ok(agrees_with(estate, source, destination, family, &wanted))
 }

@@ -1,11 +1,12 @@
 //! What each kind of peer matches, and each way in which it does not.
 
 use crate::built::{estate_of_admin, estate_of_policy};
-use crate::packets::{Row, expect_rows, expect_rows_in_six};
+use crate::packets::{Row, expect_rows};
 use crate::written::{
     BARE, WrittenAdmin, WrittenAdminPeer, WrittenAdminRule, WrittenPeer, WrittenPod, WrittenPolicy,
     WrittenRule,
 };
+use np_addr::Family;
 use np_policies::Action;
 use std::alloc::Global;
 use std::process::Abort;
@@ -64,7 +65,7 @@ fn expect_of_net(
         egress: None,
     };
     let estate = estate_of_policy(alloc, PODS, &policy)?;
-    expect_rows(rt, alloc, &estate, rows)
+    expect_rows(rt, alloc, &estate, Family::Four, rows)
 }
 
 #[test]
@@ -217,27 +218,17 @@ fn no_peers_are_every_end(rt: HostRuntime) -> Result<(), Fail> {
     expect_of_net(&rt, rt.alloc(), RULES, ROWS)
 }
 
-// The rows of an admin policy with these rules of egress on `default/end`, in packets of IPv4 between pods: what they
-// match may not leave.
+// The rows of an admin policy with these rules of egress on `default/end`, in packets of this family between pods: what
+// they match may not leave.
 fn expect_of_admin(
     rt: &impl Abort,
     alloc: Global,
     rules: &'static [WrittenAdminRule],
+    of_pods: Family,
     rows: &[Row],
 ) -> Result<(), Fail> {
     let estate = estate_of_admin(alloc, PODS, &denying(rules))?;
-    expect_rows(rt, alloc, &estate, rows)
-}
-
-// The same in packets of IPv6.
-fn expect_of_admin_in_six(
-    rt: &impl Abort,
-    alloc: Global,
-    rules: &'static [WrittenAdminRule],
-    rows: &[Row],
-) -> Result<(), Fail> {
-    let estate = estate_of_admin(alloc, PODS, &denying(rules))?;
-    expect_rows_in_six(rt, alloc, &estate, rows)
+    expect_rows(rt, alloc, &estate, of_pods, rows)
 }
 
 // An admin policy with these rules of egress on `default/end`.
@@ -269,7 +260,7 @@ fn admin_selectors_are_to_be_met(rt: HostRuntime) -> Result<(), Fail> {
         )],
         ports: &[],
     }];
-    expect_of_admin(&rt, rt.alloc(), RULES, ROWS)
+    expect_of_admin(&rt, rt.alloc(), RULES, Family::Four, ROWS)
 }
 
 // A block of each family, and one that is a single address.
@@ -295,7 +286,7 @@ fn networks_match_addresses(rt: HostRuntime) -> Result<(), Fail> {
         ("default/end", "fd00::4", ALL),
         ("default/end", "::a01:2", ALL),
     ];
-    expect_of_admin(&rt, rt.alloc(), NETWORKS, ROWS)
+    expect_of_admin(&rt, rt.alloc(), NETWORKS, Family::Four, ROWS)
 }
 
 // `default/a` has an address in them in IPv6 alone, `default/b` in IPv4 alone. `other/b` has no address at all.
@@ -313,6 +304,6 @@ fn networks_match_pods_by_the_family_of_the_packet(rt: HostRuntime) -> Result<()
         ("default/end", "other/a", NONE),
         ("default/end", "other/b", ALL),
     ];
-    expect_of_admin(&rt, rt.alloc(), NETWORKS, ROWS)?;
-    expect_of_admin_in_six(&rt, rt.alloc(), NETWORKS, MORE_ROWS)
+    expect_of_admin(&rt, rt.alloc(), NETWORKS, Family::Four, ROWS)?;
+    expect_of_admin(&rt, rt.alloc(), NETWORKS, Family::Six, MORE_ROWS)
 }

@@ -6,6 +6,7 @@ use crate::written::{
     BARE, NOTHING, WrittenAdmin, WrittenAdminPeer, WrittenAdminPort, WrittenAdminRule,
     WrittenEstate, WrittenNamedPort, WrittenPod, WrittenPolicy, WrittenPort, WrittenRule,
 };
+use np_addr::Family;
 use np_conns::Proto;
 use np_policies::Action;
 use std::alloc::Global;
@@ -76,7 +77,7 @@ fn expect_of_net(
         egress: Some(rules),
     };
     let estate = estate_of_policy(alloc, PODS, &policy)?;
-    expect_rows(rt, alloc, &estate, rows)
+    expect_rows(rt, alloc, &estate, Family::Four, rows)
 }
 
 #[test]
@@ -203,7 +204,7 @@ fn expect_of_admin(
         egress: rules,
     };
     let estate = estate_of_admin(alloc, PODS, &policy)?;
-    expect_rows(rt, alloc, &estate, rows)
+    expect_rows(rt, alloc, &estate, Family::Four, rows)
 }
 
 // All pods and all addresses of both families.

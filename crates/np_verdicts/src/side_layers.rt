@@ -24,35 +24,51 @@ const ALL_BUT_TELNET: &str = "TCP 1-22,24-65535; UDP 1-65535; SCTP 1-65535";
 
 const ALL_BUT_HTTP: &str = "TCP 1-79,81-65535; UDP 1-65535; SCTP 1-65535";
 
-// Stops the test unless the layers allow the connections of each row, and `allows` the packets of them.
+// Stops the test unless the layers allow the connections of each row, and `allows` the packets of them. Between two pods
+// they are packets of IPv4.
 fn expect_sets(
     rt: &impl Abort,
     alloc: Global,
     written: &WrittenEstate,
     rows: &[Row],
 ) -> Result<(), Fail> {
+    expect_sets_in_family(rt, alloc, written, Family::Four, rows)
+}
+
+// The same, where the packets between two pods are of this family.
+fn expect_sets_in_family(
+    rt: &impl Abort,
+    alloc: Global,
+    written: &WrittenEstate,
+    of_pods: Family,
+    rows: &[Row],
+) -> Result<(), Fail> {
     let estate = estate(alloc, written)?;
-    for (source, destination, conns) in rows {
-        let family = family_between(source, destination);
-        let same = is_same(alloc, &estate, source, destination, family, conns)?;
-        assert!(rt; same, "{source} => {destination} : {conns}");
+    expect_rows(rt, alloc, &estate, of_pods, rows)
+}
+
+// The same of an estate that stands.
+fn expect_rows(
+    rt: &impl Abort,
+    alloc: Global,
+    estate: &Estate,
+    of_pods: Family,
+    rows: &[Row],
+) -> Result<(), Fail> {
+    for row in rows {
+        let same = is_same(alloc, estate, of_pods, row)?;
+        assert!(rt; same, "{row:?}, {of_pods:?} between pods");
     }
     Ok(())
 }
 
-// Whether the layers allow these connections, and `allows` the packets of them.
-fn is_same(
-    alloc: Global,
-    estate: &Estate,
-    source: &str,
-    destination: &str,
-    family: Family,
-    conns: &str,
-) -> Result<bool, Fail> {
+// Whether the layers allow the connections of a row, and `allows` the packets of them.
+fn is_same(alloc: Global, estate: &Estate, of_pods: Family, row: &Row) -> Result<bool, Fail> {
+    let (source, destination, conns) = *row;
+    let family = family_between(source, destination, of_pods);
     let set = set_between(alloc, estate, source, destination, family)?;
     let packets = agrees_with(estate, source, destination, family, &set);
-    let wanted = read_conns(alloc, conns)?;
-    Ok(packets && set.same(&wanted))
+    Ok(packets && set.same(&read_conns(alloc, conns)?))
 }
 
 #[test]
@@ -121,17 +137,8 @@ fn layers_in_each_family(rt: HostRuntime) -> Result<(), Fail> {
         ("default/a", "fd00::2", ALL_BUT_HTTP),
         ("default/a", "10.0.0.2", ALL),
     ];
-    expect_sets(&rt, rt.alloc(), &NETWORKS_OF_ONE_FAMILY, ROWS)?;
-    let estate = estate(rt.alloc(), &NETWORKS_OF_ONE_FAMILY)?;
-    let (source, destination) = ("default/a", "default/b");
-    let same = is_same(
-        rt.alloc(),
-        &estate,
-        source,
-        destination,
-        Family::Six,
-        ALL_BUT_HTTP,
-    )?;
-    assert!(rt; same, "in IPv6");
-    Ok(())
+    static MORE_ROWS: &[Row] = &[("default/a", "default/b", ALL_BUT_HTTP)];
+    let alloc = rt.alloc();
+    expect_sets(&rt, alloc, &NETWORKS_OF_ONE_FAMILY, ROWS)?;
+    expect_sets_in_family(&rt, alloc, &NETWORKS_OF_ONE_FAMILY, Family::Six, MORE_ROWS)
 }

@@ -90,19 +90,42 @@ fn expect_likeness(
     rows: &[Likeness],
 ) -> Result<(), Fail> {
     let estate = estate(alloc, written)?;
-    for (namespace, labels, alike, conns) in rows {
-        let stranger = stranger(alloc, namespace, labels)?;
-        let set = set_of(alloc, &estate, pod, direction, &stranger)?;
-        let (source, destination) = match direction {
-            Direction::Ingress => (*alike, pod),
-            Direction::Egress => (pod, *alike),
-        };
-        let packets = agrees_with(&estate, source, destination, Family::Four, &set);
-        assert!(rt; packets, "{alike}");
-        let wanted = read_conns(alloc, conns)?;
-        assert!(rt; set.same(&wanted), "{alike} : {conns}");
+    expect_rows(rt, alloc, &estate, pod, direction, rows)
+}
+
+// The same of an estate that stands.
+fn expect_rows(
+    rt: &impl Abort,
+    alloc: Global,
+    estate: &Estate,
+    pod: &str,
+    direction: Direction,
+    rows: &[Likeness],
+) -> Result<(), Fail> {
+    for row in rows {
+        let alike = is_alike(alloc, estate, pod, direction, row)?;
+        assert!(rt; alike, "{row:?}");
     }
     Ok(())
+}
+
+// The same of a row.
+fn is_alike(
+    alloc: Global,
+    estate: &Estate,
+    pod: &str,
+    direction: Direction,
+    row: &Likeness,
+) -> Result<bool, Fail> {
+    let (namespace, labels, alike, conns) = *row;
+    let stranger = stranger(alloc, namespace, labels)?;
+    let set = set_of(alloc, estate, pod, direction, &stranger)?;
+    let (source, destination) = match direction {
+        Direction::Ingress => (alike, pod),
+        Direction::Egress => (pod, alike),
+    };
+    let packets = agrees_with(estate, source, destination, Family::Four, &set);
+    Ok(packets && set.same(&read_conns(alloc, conns)?))
 }
 
 // The policy selects `shop/bare` too, but not in egress, so that what leaves it is free, as it is of a stranger.

@@ -99,11 +99,11 @@ pub enum WrittenAdminPort {
 
 /// All of an estate that verdicts look at. The admin policies, of which there are two at most, ascend in priority.
 #[derive(Drop)]
-pub struct WrittenEstate {
-    pub pods: &'static [WrittenPod],
-    pub policies: &'static [WrittenPolicy],
-    pub admin: &'static [WrittenAdmin],
-    pub baseline: Option<&'static WrittenBase>,
+pub struct WrittenEstate<'a> {
+    pub pods: &'a [WrittenPod],
+    pub policies: &'a [WrittenPolicy],
+    pub admin: &'a [WrittenAdmin],
+    pub baseline: Option<&'a WrittenBase>,
 }
 
 /// An estate without anything.
