@@ -1,42 +1,106 @@
-//! Estates that are read, and what is seen of them.
+//! Lists that are read, and what is seen of them. An estate lives nowhere else, so that few functions let one go.
 
+use np_base::NoMemory;
 use np_estate::{Estate, Pod};
-use std::alloc::{AllocError, Global};
-use std::test::Fail;
+use std::alloc::Global;
+use std::process::Abort;
 
-/// The estate of a list.
-pub fn estate_of(alloc: Global, text: &str) -> Result<Estate, Fail> {
-    let mut bytes = Vec::new(alloc);
-    bytes.extend_from_slice(text.as_bytes())?;
-    let mut texts = Vec::new(alloc);
-    texts.push(bytes)?;
-    Ok(Estate::read(alloc, &texts)?)
+/// What is seen of an estate.
+#[derive(Clone, Copy)]
+pub enum Seen {
+    /// A line for each pod: its namespace and name, its top owner, and whether it is listed or made from a template.
+    Pods,
+    /// The place of the listed pod of a namespace and a name.
+    Place(&'static str, &'static str),
+    /// A line for each pod: the labels `kubernetes.io/metadata.name` and `team` of its namespace.
+    NamespaceLabels,
+    /// The names of the NetworkPolicies, and then those of the admin policies.
+    Policies,
 }
 
-/// The place of the listed pod of a name. No list that is read has more than 20,000 pods.
-pub fn place_of(estate: &Estate, namespace: &str, name: &str) -> Option<u32> {
-    if estate.pods().len() <= 20_000 {
-        estate.pod(namespace, name)
-    } else {
-        None
+/// Stops the test unless a list is read to an estate of which this is seen.
+pub fn expect_seen(rt: &impl Abort, alloc: Global, list: &str, wanted: &[(Seen, &str)]) {
+    for (seen, wanted) in wanted {
+        let given = seen_in(alloc, list, seen).expect(rt, "an answer");
+        assert_eq!(rt; given.as_str(), *wanted);
     }
 }
 
-/// A line for each pod: its namespace and name, its top owner, and whether it is listed or made from a template.
-pub fn described(alloc: Global, pods: &[Pod]) -> Result<String, AllocError> {
+// What is seen of the estate of a list, or why the list is refused.
+fn seen_in(alloc: Global, list: &str, seen: &Seen) -> Result<String, NoMemory> {
+    let mut bytes = Vec::new(alloc);
+    bytes.extend_from_slice(list.as_bytes())?;
+    let mut texts = Vec::new(alloc);
+    texts.push(bytes)?;
+    match Estate::read(alloc, &texts) {
+        Ok(estate) => seen_of(alloc, &estate, seen),
+        Err(refusal) => Ok(format!(in alloc; "{refusal}")?),
+    }
+}
+
+// What is seen of an estate.
+fn seen_of(alloc: Global, estate: &Estate, seen: &Seen) -> Result<String, NoMemory> {
+    match *seen {
+        Seen::Pods => pods(alloc, estate),
+        Seen::Place(namespace, name) => place(alloc, estate, namespace, name),
+        Seen::NamespaceLabels => namespace_labels(alloc, estate),
+        Seen::Policies => policies(alloc, estate),
+    }
+}
+
+fn pods(alloc: Global, estate: &Estate) -> Result<String, NoMemory> {
     let mut text = String::new(alloc);
-    for pod in pods {
-        text.push_str(described_pod(alloc, pod)?.as_str())?;
+    for pod in estate.pods() {
+        write_pod(&mut text, pod)?;
     }
     Ok(text)
 }
 
-// The line of a pod.
-fn described_pod(alloc: Global, pod: &Pod) -> Result<String, AllocError> {
+fn write_pod(text: &mut String, pod: &Pod) -> Result<(), NoMemory> {
     let namespace = &pod.namespace;
     let name = &pod.name;
     let kind = &pod.owner.kind;
     let owner = &pod.owner.name;
     let origin = if pod.listed { "listed" } else { "made" };
-    format!(in alloc; "{namespace}/{name} of {owner}[{kind}], {origin}\n")
+    writeln!(text, "{namespace}/{name} of {owner}[{kind}], {origin}")?;
+    Ok(())
+}
+
+// No list that is read has more than 20,000 pods.
+fn place(alloc: Global, estate: &Estate, namespace: &str, name: &str) -> Result<String, NoMemory> {
+    if estate.pods().len() > 20_000 {
+        return Ok(String::from_str(alloc, "too many pods")?);
+    }
+    match estate.pod(namespace, name) {
+        Some(place) => Ok(format!(in alloc; "{place}")?),
+        None => Ok(String::from_str(alloc, "none")?),
+    }
+}
+
+fn namespace_labels(alloc: Global, estate: &Estate) -> Result<String, NoMemory> {
+    let mut text = String::new(alloc);
+    for pod in estate.pods() {
+        let name = pod.namespace_labels.get("kubernetes.io/metadata.name");
+        let team = pod.namespace_labels.get("team");
+        writeln!(
+            text,
+            "{} {}",
+            name.unwrap_or("none"),
+            team.unwrap_or("none")
+        )?;
+    }
+    Ok(text)
+}
+
+fn policies(alloc: Global, estate: &Estate) -> Result<String, NoMemory> {
+    let mut text = String::new(alloc);
+    for policy in estate.net_policies() {
+        let name = &policy.name;
+        write!(text, "{name} ")?;
+    }
+    for policy in estate.admin_policies() {
+        let name = &policy.name;
+        write!(text, "{name} ")?;
+    }
+    Ok(text)
 }

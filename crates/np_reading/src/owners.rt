@@ -1,6 +1,6 @@
 //! The top owners of pods, and the pods that templates give.
 
-use crate::estates::{described, estate_of, place_of};
+use crate::estates::{Seen, expect_seen};
 use crate::lists::{DEPLOYMENT, OWNED, POD, REPLICA_SET, list_of};
 use std::alloc::{AllocError, Global};
 use std::test::Fail;
@@ -8,7 +8,10 @@ use std::test::Fail;
 // A Deployment, its ReplicaSet and its pod, in each order: one pod, which the Deployment owns.
 #[test]
 fn owners_in_every_order(rt: HostRuntime) -> Result<(), Fail> {
-    let alloc = rt.alloc();
+    static WANTED: &[(Seen, &str)] = &[(
+        Seen::Pods,
+        "default/web-0-a of web[Deployment], listed\n",
+    )];
     for items in [
         [DEPLOYMENT, REPLICA_SET, POD],
         [DEPLOYMENT, POD, REPLICA_SET],
@@ -17,13 +20,8 @@ fn owners_in_every_order(rt: HostRuntime) -> Result<(), Fail> {
         [POD, DEPLOYMENT, REPLICA_SET],
         [POD, REPLICA_SET, DEPLOYMENT],
     ] {
-        let text = list_of(alloc, &items)?;
-        let estate = estate_of(alloc, text.as_str())?;
-        let pods = described(alloc, estate.pods())?;
-        assert_eq!(rt;
-            pods.as_str(),
-            "default/web-0-a of web[Deployment], listed\n"
-        );
+        let list = list_of(rt.alloc(), &items)?;
+        expect_seen(&rt, rt.alloc(), list.as_str(), WANTED);
     }
     Ok(())
 }
@@ -31,12 +29,12 @@ fn owners_in_every_order(rt: HostRuntime) -> Result<(), Fail> {
 // Without its pod the Deployment stands for one pod, and its ReplicaSet for none.
 #[test]
 fn templates_of_the_topmost(rt: HostRuntime) -> Result<(), Fail> {
-    let alloc = rt.alloc();
-    let text = list_of(alloc, &[REPLICA_SET, DEPLOYMENT])?;
-    let estate = estate_of(alloc, text.as_str())?;
-    let pods = described(alloc, estate.pods())?;
-    assert_eq!(rt; pods.as_str(), "default/web of web[Deployment], made\n");
-    assert!(rt; place_of(&estate, "default", "web").is_none());
+    static WANTED: &[(Seen, &str)] = &[
+        (Seen::Pods, "default/web of web[Deployment], made\n"),
+        (Seen::Place("default", "web"), "none"),
+    ];
+    let list = list_of(rt.alloc(), &[REPLICA_SET, DEPLOYMENT])?;
+    expect_seen(&rt, rt.alloc(), list.as_str(), WANTED);
     Ok(())
 }
 
@@ -46,33 +44,34 @@ const BARE_SET: &str = concat!(
     r#"{"controller":true,"kind":"Deployment","name":"web"}]}}"#,
 );
 
+// Owners of the pod `a`, and its top owner.
+static OWNERS: &[(&str, &str)] = &[
+    (
+        r#""kind":"StatefulSet","name":"db""#,
+        "default/a of db[StatefulSet], listed\n",
+    ),
+    (
+        r#""kind":"Workflow","name":"w""#,
+        "default/a of w[Workflow], listed\n",
+    ),
+    (
+        r#""kind":"Node","name":"n""#,
+        "default/a of a[Pod], listed\n",
+    ),
+    (
+        r#""kind":"ReplicaSet","name":"web-0""#,
+        "default/a of web[Deployment], listed\n",
+    ),
+];
+
 // Owners that are not listed, and a node, which is none.
 #[test]
 fn owners_that_are_not_listed(rt: HostRuntime) -> Result<(), Fail> {
-    let alloc = rt.alloc();
-    for (owner, pods) in [
-        (
-            r#""kind":"StatefulSet","name":"db""#,
-            "default/a of db[StatefulSet], listed\n",
-        ),
-        (
-            r#""kind":"Workflow","name":"w""#,
-            "default/a of w[Workflow], listed\n",
-        ),
-        (
-            r#""kind":"Node","name":"n""#,
-            "default/a of a[Pod], listed\n",
-        ),
-        (
-            r#""kind":"ReplicaSet","name":"web-0""#,
-            "default/a of web[Deployment], listed\n",
-        ),
-    ] {
-        let pod = OWNED.replace(alloc, "#", owner)?;
-        let text = list_of(alloc, &[pod.as_str(), BARE_SET])?;
-        let estate = estate_of(alloc, text.as_str())?;
-        assert_eq!(rt; described(alloc, estate.pods())?.as_str(), pods);
-        assert!(rt; place_of(&estate, "default", "a") == Some(0));
+    for (owner, pods) in OWNERS {
+        let pod = OWNED.replace(rt.alloc(), "#", owner)?;
+        let list = list_of(rt.alloc(), &[pod.as_str(), BARE_SET])?;
+        let wanted = [(Seen::Pods, *pods), (Seen::Place("default", "a"), "0")];
+        expect_seen(&rt, rt.alloc(), list.as_str(), &wanted);
     }
     Ok(())
 }
@@ -80,11 +79,9 @@ fn owners_that_are_not_listed(rt: HostRuntime) -> Result<(), Fail> {
 // Each of two thousand ReplicaSets is owned by the next one.
 #[test]
 fn long_chains(rt: HostRuntime) -> Result<(), Fail> {
-    let alloc = rt.alloc();
-    let text = chain(alloc, 2000)?;
-    let estate = estate_of(alloc, text.as_str())?;
-    let pods = described(alloc, estate.pods())?;
-    assert_eq!(rt; pods.as_str(), "default/a of r1999[ReplicaSet], listed\n");
+    static WANTED: &[(Seen, &str)] = &[(Seen::Pods, "default/a of r1999[ReplicaSet], listed\n")];
+    let list = chain(rt.alloc(), 2000)?;
+    expect_seen(&rt, rt.alloc(), list.as_str(), WANTED);
     Ok(())
 }
 
