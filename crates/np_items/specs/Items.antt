@@ -2,7 +2,7 @@
 use Rattle.std.specs.Prelude.{ℕ, ◌+◌, List, [], ◌∷◌, length, nat_le, if◌then◌else◌, Option, Some, None, Ok, Err, ⊤}
 use Rattle.serde_json.specs.Data.{Data}
 use Rattle.np_json.specs.Meta.{type_meta}
-use Rattle.np_json.specs.Tables.{Read}
+use Rattle.np_json.specs.Shapes.{Read}
 use Rattle.np_objects.specs.Objects.{object_of}
 use Rattle.np_policies.specs.Policies.{policy_of}
 use Rattle.np_policies.specs.declared.policy.Policy.{Policy}
@@ -12,9 +12,9 @@ use Rattle.np_items.specs.declared.item.Item.{Item}
 use Rattle.np_items.specs.declared.item.Item.TheVariants as item
 use Rattle.np_items.specs.declared.refusal.Refusal.TheVariants.{TooManyItems, NestedList, Bad}
 
--- what a table reads of the item of that number
+-- what a shape reads of the item of that number
 abbrev pub numbered : {A : Type 0} → ℕ → Read A → Reading A
-numbered number (Ok row) = Ok row
+numbered number (Ok output) = Ok output
 numbered number (Err flaw) = Err (Bad (record { item = number; path = flaw.path; kind = flaw.kind }))
 
 -- the rule that an item is no list, whatever its version

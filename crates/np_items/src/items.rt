@@ -9,7 +9,7 @@ use crate::item::Item;
 use crate::list::is_list_kind;
 use crate::refusal::Refusal;
 use np_base::Seq;
-use np_json::{TypeMetaTable, read_item};
+use np_json::{TypeMetaShape, read_item};
 use np_objects::read_object;
 use np_policies::read_policy;
 use serde_json::Value;
@@ -46,7 +46,7 @@ fn item_of(alloc: Global, number: u64, value: &Value) -> Result<Item, Refusal>
 fn must_be_no_list(alloc: Global, number: u64, value: &Value) -> Result<(), Refusal>
     ensures { Gives result (spec.must_be_no_list number (view value.now)) }
 {
-    let meta = read_item(alloc, number, value, &TypeMetaTable)?;
+    let meta = read_item(alloc, number, value, &TypeMetaShape)?;
     if is_list_kind(meta.kind.as_str()) {
         Err(Refusal::NestedList { item: number })
     } else {

@@ -1,2 +1,2 @@
 pub mod PairLemmas
-pub mod TableLemmas
+pub mod ShapeLemmas

@@ -6,8 +6,8 @@ use Rattle.np_json.specs.declared.fault.Fault.{Fault}
 use Rattle.np_json.specs.declared.fault.ReadFault.{ReadFault}
 use Rattle.np_json.specs.declared.fault.ReadFault.TheVariants.{Bad, NoMemory}
 use Rattle.np_json.specs.declared.flaw.Flaw.{Flaw}
-use Rattle.np_json.specs.declared.flaw.TableFault.{TableFault}
-use Rattle.np_json.specs.declared.flaw.TableFault.TheVariants as part
+use Rattle.np_json.specs.declared.flaw.ShapeFault.{ShapeFault}
+use Rattle.np_json.specs.declared.flaw.ShapeFault.TheVariants as part
 use Rattle.np_json.specs.Paths.{path_text}
 
 -- a kind's name
@@ -41,6 +41,6 @@ read_fault_text NoMemory = codes "out of memory"
 abbrev pub flaw_text : Flaw → List ℕ
 flaw_text flaw = path_text flaw.path ++ codes ": " ++ kind_text flaw.kind
 
-abbrev pub table_fault_text : TableFault → List ℕ
-table_fault_text (part.Bad flaw) = flaw_text flaw
-table_fault_text part.NoMemory = codes "out of memory"
+abbrev pub shape_fault_text : ShapeFault → List ℕ
+shape_fault_text (part.Bad flaw) = flaw_text flaw
+shape_fault_text part.NoMemory = codes "out of memory"

@@ -6,5 +6,5 @@ pub mod Members
 pub mod Meta
 pub mod Paths
 pub mod Scalars
-pub mod Tables
+pub mod Shapes
 pub mod Words

@@ -1,10 +1,10 @@
--- Tables of single values, and of the maps of labels.
+-- Shapes of single values, and of the maps of labels.
 use Rattle.std.specs.Prelude.{ℤ, ℕ, pos, negsuc, List, length, Bool, not, ◌&&◌, ◌==◌, nat_le, if◌then◌else◌, Option, Some, None, Ok}
 use Rattle.std.specs.List.{list_all}
 use Rattle.serde_json.specs.Data.{Data}
 use Rattle.serde_json.specs.Find.{as_str, as_bool}
 use Rattle.np_json.specs.Members.{as_whole, as_pairs}
-use Rattle.np_json.specs.Tables.{Read, ◌>>=◌, ◌>>◌, refuse, refuse_if}
+use Rattle.np_json.specs.Shapes.{Read, ◌>>=◌, ◌>>◌, refuse, refuse_if}
 use Rattle.np_json.specs.Words.{is_word, is_name}
 use Rattle.np_json.specs.declared.fault.FaultKind.TheVariants.{BadField, BadName, BadPort}
 

@@ -1,6 +1,6 @@
 //! Flaws: what is wrong in a value, seen from that value.
 ghost use Rattle.std.specs.Prelude.{◌≡◌, IfOk};
-ghost use Rattle.np_json.specs.Tables.{Read, Gives, refuse, under};
+ghost use Rattle.np_json.specs.Shapes.{Read, Gives, refuse, under};
 ghost use Rattle.np_json.specs.declared.path.Step.TheVariants.{Field, Item};
 
 use crate::fault::{Fault, FaultKind, ReadFault};
@@ -20,7 +20,7 @@ pub struct Flaw {
 
 /// Why a value was not read.
 #[derive(Debug, Drop)]
-pub enum TableFault {
+pub enum ShapeFault {
     /// Its first flaw.
     Bad(Flaw),
     /// The system refused memory.
@@ -40,8 +40,8 @@ impl fmt::Display for Flaw {
     }
 }
 
-impl TableFault {
-    ghost use Rattle.np_json.specs.Tables.{IsUnder, IsFlawAt, fault_of};
+impl ShapeFault {
+    ghost use Rattle.np_json.specs.Shapes.{IsUnder, IsFlawAt, fault_of};
     ghost use Rattle.np_json.specs.declared.path.Step.TheVariants.{Field, Item};
 
     /// The same fault of the item of that number in a list of objects.
@@ -49,80 +49,80 @@ impl TableFault {
         ensures { result ≡ fault_of item self }
     {
         match self {
-            TableFault::Bad(Flaw { path, kind }) => ReadFault::Bad(Fault { item, path, kind }),
-            TableFault::NoMemory => ReadFault::NoMemory,
+            ShapeFault::Bad(Flaw { path, kind }) => ReadFault::Bad(Fault { item, path, kind }),
+            ShapeFault::NoMemory => ReadFault::NoMemory,
         }
     }
 
     // This fault of a member, seen from its object.
-    fn under_field(self, name: &str) -> TableFault
+    fn under_field(self, name: &str) -> ShapeFault
         ensures { IsUnder (Field name.now) self result }
     {
         match self {
-            TableFault::Bad(Flaw { path, kind }) => TableFault::at_path(
+            ShapeFault::Bad(Flaw { path, kind }) => ShapeFault::at_path(
                 path.under_field(name),
                 kind,
             ),
-            TableFault::NoMemory => TableFault::NoMemory,
+            ShapeFault::NoMemory => ShapeFault::NoMemory,
         }
     }
 
     // This fault of an item, seen from its list.
-    fn under_item(self, place: u64) -> TableFault
+    fn under_item(self, place: u64) -> ShapeFault
         ensures { IsUnder (Item place) self result }
     {
         match self {
-            TableFault::Bad(Flaw { path, kind }) => TableFault::at_path(
+            ShapeFault::Bad(Flaw { path, kind }) => ShapeFault::at_path(
                 path.under_item(place),
                 kind,
             ),
-            TableFault::NoMemory => TableFault::NoMemory,
+            ShapeFault::NoMemory => ShapeFault::NoMemory,
         }
     }
 
     // The flaw at a path, if there was memory for the path.
-    fn at_path(path: Result<Path, NoMemory>, kind: FaultKind) -> TableFault
+    fn at_path(path: Result<Path, NoMemory>, kind: FaultKind) -> ShapeFault
         ensures { IsFlawAt path kind result }
     {
         match path {
-            Ok(path) => TableFault::Bad(Flaw { path, kind }),
-            Err(NoMemory) => TableFault::NoMemory,
+            Ok(path) => ShapeFault::Bad(Flaw { path, kind }),
+            Err(NoMemory) => ShapeFault::NoMemory,
         }
     }
 }
 
-impl fmt::Display for TableFault {
+impl fmt::Display for ShapeFault {
     ghost use Rattle.std.specs.Prelude.{Some};
-    ghost use Rattle.np_json.specs.Faults.{table_fault_text};
+    ghost use Rattle.np_json.specs.Faults.{shape_fault_text};
 
-    ghost output = { λ fault. Some (table_fault_text fault) };
+    ghost output = { λ fault. Some (shape_fault_text fault) };
 
     fn fmt<W: fmt::Write>(&self, f: &mut fmt::Formatter<W>) -> fmt::Result {
         match self {
-            TableFault::Bad(flaw) => write!(f, "{flaw}"),
-            TableFault::NoMemory => write!(f, "out of memory"),
+            ShapeFault::Bad(flaw) => write!(f, "{flaw}"),
+            ShapeFault::NoMemory => write!(f, "out of memory"),
         }
     }
 }
 
-impl std::error::Error for TableFault {}
+impl std::error::Error for ShapeFault {}
 
-impl From<NoMemory> for TableFault {
+impl From<NoMemory> for ShapeFault {
     ghost use Rattle.std.specs.Prelude.{◌≡◌};
-    ghost use Rattle.np_json.specs.declared.flaw.TableFault.TheVariants as fault;
+    ghost use Rattle.np_json.specs.declared.flaw.ShapeFault.TheVariants as fault;
 
     ghost from_gives = { λ _ made. made ≡ fault.NoMemory };
 
-    fn from(_error: NoMemory) -> TableFault {
-        TableFault::NoMemory
+    fn from(_error: NoMemory) -> ShapeFault {
+        ShapeFault::NoMemory
     }
 }
 
-/// The answer of a table that refuses the whole value.
-pub fn refuse<T>(alloc: Global, kind: FaultKind) -> Result<T, TableFault>
+/// The answer of a shape that refuses the whole value.
+pub fn refuse<T>(alloc: Global, kind: FaultKind) -> Result<T, ShapeFault>
     ensures { Gives result (refuse kind) }
 {
-    Err(TableFault::Bad(Flaw {
+    Err(ShapeFault::Bad(Flaw {
         path: Path::empty(alloc),
         kind,
     }))
@@ -130,24 +130,24 @@ pub fn refuse<T>(alloc: Global, kind: FaultKind) -> Result<T, TableFault>
 
 /// What was read of a member, seen from its object: a flaw gets the member's name in front of its path. Nothing
 /// is allocated unless there is a flaw.
-pub fn at<T>(name: &str, read: Result<T, TableFault>) -> Result<T, TableFault>
-    ensures row { IfOk read (λ row. result ≡ Ok row) }
-    ensures flaw { (table : Read T) → Gives read table → Gives result (under (Field name.now) table) }
+pub fn at<T>(name: &str, read: Result<T, ShapeFault>) -> Result<T, ShapeFault>
+    ensures output { IfOk read (λ output. result ≡ Ok output) }
+    ensures flaw { (shape : Read T) → Gives read shape → Gives result (under (Field name.now) shape) }
 {
     match read {
-        Ok(row) => Ok(row),
+        Ok(output) => Ok(output),
         Err(fault) => Err(fault.under_field(name)),
     }
 }
 
 /// What was read of an item of a list, seen from the list: a flaw gets the item's place in front of its path.
 /// Nothing is allocated unless there is a flaw.
-pub fn at_item<T>(place: u64, read: Result<T, TableFault>) -> Result<T, TableFault>
-    ensures row { IfOk read (λ row. result ≡ Ok row) }
-    ensures flaw { (table : Read T) → Gives read table → Gives result (under (Item place) table) }
+pub fn at_item<T>(place: u64, read: Result<T, ShapeFault>) -> Result<T, ShapeFault>
+    ensures output { IfOk read (λ output. result ≡ Ok output) }
+    ensures flaw { (shape : Read T) → Gives read shape → Gives result (under (Item place) shape) }
 {
     match read {
-        Ok(row) => Ok(row),
+        Ok(output) => Ok(output),
         Err(fault) => Err(fault.under_item(place)),
     }
 }

@@ -1,16 +1,16 @@
-//! What follows from the definitions of paths, members and tables.
+//! What follows from the definitions of paths, members and shapes.
 ghost use Rattle.std.specs.Prelude.{◌≡◌, ◌↔◌, ◌⊎◌, ℕ, ◌^◌, ◌<◌, ◌≤◌, ℤ, pos, Float, List, [], ◌∷◌, ◌++◌, length, codes, decimal, Some, None, Err, All, IsOk};
 ghost use Rattle.serde_json.specs.Data.{Data, null, number, unsigned, negative, float};
 ghost use Rattle.serde_json.specs.Find.{get};
 ghost use Rattle.serde_json.specs.View.{items_of};
 ghost use Rattle.np_json.specs.Members.{member_of, as_whole};
 ghost use Rattle.np_json.specs.Paths.{path_text};
-ghost use Rattle.np_json.specs.Tables.{each_item, under};
+ghost use Rattle.np_json.specs.Shapes.{each_item, under};
 ghost use Rattle.np_json.specs.declared.flaw.Flaw.{Flaw};
 ghost use Rattle.np_json.specs.declared.path.Step.{Step};
 ghost use Rattle.np_json.specs.declared.path.Step.TheVariants.{Field, Item};
 
-use crate::table::Table;
+use crate::shape::Shape;
 
 /// The text of a path grows at its end: by the bare name of its first member, then by `.` and the name of each
 /// further member, and by `[n]` for the place of an item.
@@ -38,9 +38,9 @@ pub fn whole_numbers_fit_64_bits()
 {}
 
 /// A list whose items are not all read is refused with the flaw of the first that is not, under its place.
-pub fn first_flaw_of_a_list_stands<T: Table>()
-    ensures { (table : T) (before others : List Data) (item : Data) (flaw : Flaw) →
-        All (λ value. IsOk (T.reads table value)) before → T.reads table item ≡ Err flaw →
-        each_item (T.reads table) 0 (items_of (before ++ item ∷ others))
+pub fn first_flaw_of_a_list_stands<T: Shape>()
+    ensures { (shape : T) (before others : List Data) (item : Data) (flaw : Flaw) →
+        All (λ value. IsOk (T.reads shape value)) before → T.reads shape item ≡ Err flaw →
+        each_item (T.reads shape) 0 (items_of (before ++ item ∷ others))
         ≡ under (Item (length before)) (Err flaw) }
 {}

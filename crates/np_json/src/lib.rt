@@ -1,4 +1,4 @@
-//! Reading of JSON objects: members by their type, paths and faults, and the form that a table of members is
+//! Reading of JSON objects: members by their type, paths and faults, and the form that a shape of members is
 //! written in.
 #![tactic(auto)]
 
@@ -10,7 +10,7 @@ mod meta;
 mod pairs;
 mod path;
 mod scalars;
-mod table;
+mod shape;
 mod words;
 
 pub use fault::{Fault, FaultKind, ReadFault};
@@ -18,13 +18,13 @@ pub use field::{
     Field, NumberOrText, either_field, flag_field, list_field, member, object_field, text_field,
     whole_field,
 };
-pub use flaw::{Flaw, TableFault, at, at_item, refuse};
-pub use meta::{NamespacedName, NamespacedNameTable, TypeMeta, TypeMetaTable};
+pub use flaw::{Flaw, ShapeFault, at, at_item, refuse};
+pub use meta::{NamespacedName, NamespacedNameShape, TypeMeta, TypeMetaShape};
 pub use pairs::pairs_field;
 pub use path::{Path, Step};
 pub use scalars::{AnyText, Flag, LabelMap, Name, Port, Whole, Word, of_type, port_of};
-pub use table::{
-    Table, has_member, has_one_of, listed, must_be_object, optional, read_item, refuse_if,
+pub use shape::{
+    Shape, has_member, has_one_of, listed, must_be_object, optional, read_item, refuse_if,
     refuse_member_if, required,
 };
 pub use words::{is_name, is_word};

@@ -1,12 +1,12 @@
 //! What every object says of itself: its type, and its name and namespace.
 ghost use Rattle.std.specs.Prelude.{◌≡◌, IfOk, unwrap_or, codes};
 ghost use Rattle.serde_json.specs.View.{view};
-ghost use Rattle.np_json.specs.Tables.{Gives};
+ghost use Rattle.np_json.specs.Shapes.{Gives};
 
 use crate::fault::FaultKind;
-use crate::flaw::TableFault;
+use crate::flaw::ShapeFault;
 use crate::scalars::{AnyText, Name, of_type};
-use crate::table::{Table, must_be_object, optional, refuse_if, required};
+use crate::shape::{Shape, must_be_object, optional, refuse_if, required};
 use crate::words::is_name;
 use np_base::{NoMemory, Text};
 use serde_json::Value;
@@ -19,19 +19,19 @@ pub struct TypeMeta {
     pub kind: Text,
 }
 
-/// The table of an object's own type: an object with the texts `apiVersion` and `kind`, else `BadField`.
+/// The shape of an object's own type: an object with the texts `apiVersion` and `kind`, else `BadField`.
 #[derive(Clone, Copy, Debug, Drop)]
-pub struct TypeMetaTable;
+pub struct TypeMetaShape;
 
-impl Table for TypeMetaTable {
+impl Shape for TypeMetaShape {
     ghost use Rattle.np_json.specs.Meta.{type_meta};
 
-    type Row = TypeMeta;
+    type Output = TypeMeta;
 
     ghost reads = { λ _. type_meta };
 
     #[tactic(auto, unfolding(crate::specs::Meta::type_meta))]
-    fn read(&self, alloc: Global, value: &Value) -> Result<TypeMeta, TableFault> {
+    fn read(&self, alloc: Global, value: &Value) -> Result<TypeMeta, ShapeFault> {
         must_be_object(alloc, value)?;
         let api_version = required(alloc, value, "apiVersion", &AnyText)?;
         let kind = required(alloc, value, "kind", &AnyText)?;
@@ -46,20 +46,20 @@ pub struct NamespacedName {
     pub name: Text,
 }
 
-/// The table of the metadata of an object in a namespace: `name`, which is required and a name, and `namespace`,
+/// The shape of the metadata of an object in a namespace: `name`, which is required and a name, and `namespace`,
 /// which is a name and `default` where it is missing or empty.
 #[derive(Clone, Copy, Debug, Drop)]
-pub struct NamespacedNameTable;
+pub struct NamespacedNameShape;
 
-impl Table for NamespacedNameTable {
+impl Shape for NamespacedNameShape {
     ghost use Rattle.np_json.specs.Meta.{namespaced_name};
 
-    type Row = NamespacedName;
+    type Output = NamespacedName;
 
     ghost reads = { λ _. namespaced_name };
 
     #[tactic(auto, unfolding(crate::specs::Meta::namespaced_name))]
-    fn read(&self, alloc: Global, value: &Value) -> Result<NamespacedName, TableFault> {
+    fn read(&self, alloc: Global, value: &Value) -> Result<NamespacedName, ShapeFault> {
         must_be_object(alloc, value)?;
         let name = required(alloc, value, "name", &Name)?;
         let namespace = optional(alloc, value, "namespace", &Namespace)?;
@@ -72,15 +72,15 @@ impl Table for NamespacedNameTable {
 #[derive(Clone, Copy, Debug, Drop)]
 struct Namespace;
 
-impl Table for Namespace {
+impl Shape for Namespace {
     ghost use Rattle.np_json.specs.Meta as meta;
 
-    type Row = Text;
+    type Output = Text;
 
     ghost reads = { λ _. meta.namespace };
 
     #[tactic(auto, unfolding(crate::specs::Meta::namespace))]
-    fn read(&self, alloc: Global, value: &Value) -> Result<Text, TableFault> {
+    fn read(&self, alloc: Global, value: &Value) -> Result<Text, ShapeFault> {
         let text = of_type(alloc, value.as_str())?;
         let text = if text.is_empty() { "default" } else { text };
         refuse_if(alloc, !is_name(text), FaultKind::BadName)?;

@@ -1,14 +1,14 @@
-//! Tables of single values: texts, words, names, whole numbers, ports, flags and maps of labels.
+//! Shapes of single values: texts, words, names, whole numbers, ports, flags and maps of labels.
 ghost use Rattle.std.specs.Prelude.{◌≡◌};
 ghost use Rattle.std.specs.List.{list_all};
 ghost use Rattle.serde_json.specs.View.{view};
 ghost use Rattle.np_json.specs.Scalars.{of_type, is_label, port_number};
-ghost use Rattle.np_json.specs.Tables.{Gives};
+ghost use Rattle.np_json.specs.Shapes.{Gives};
 
 use crate::fault::FaultKind;
-use crate::flaw::{TableFault, refuse};
+use crate::flaw::{ShapeFault, refuse};
 use crate::pairs::pairs;
-use crate::table::{Table, refuse_if};
+use crate::shape::{Shape, refuse_if};
 use crate::words::{is_name, is_word};
 use np_base::{PortNum, Seq, Text};
 use serde_json::Value;
@@ -18,14 +18,14 @@ use std::alloc::Global;
 #[derive(Clone, Copy, Debug, Drop)]
 pub struct AnyText;
 
-impl Table for AnyText {
+impl Shape for AnyText {
     ghost use Rattle.np_json.specs.Scalars as scalars;
 
-    type Row = Text;
+    type Output = Text;
 
     ghost reads = { λ _. scalars.text };
 
-    fn read(&self, alloc: Global, value: &Value) -> Result<Text, TableFault> {
+    fn read(&self, alloc: Global, value: &Value) -> Result<Text, ShapeFault> {
         let text = of_type(alloc, value.as_str())?;
         Ok(Text::of(alloc, text)?)
     }
@@ -35,15 +35,15 @@ impl Table for AnyText {
 #[derive(Clone, Copy, Debug, Drop)]
 pub struct Word;
 
-impl Table for Word {
+impl Shape for Word {
     ghost use Rattle.np_json.specs.Scalars as scalars;
 
-    type Row = Text;
+    type Output = Text;
 
     ghost reads = { λ _. scalars.word };
 
     #[tactic(auto, unfolding(crate::specs::Scalars::word))]
-    fn read(&self, alloc: Global, value: &Value) -> Result<Text, TableFault> {
+    fn read(&self, alloc: Global, value: &Value) -> Result<Text, ShapeFault> {
         let text = of_type(alloc, value.as_str())?;
         refuse_if(alloc, !is_word(text), FaultKind::BadField)?;
         Ok(Text::of(alloc, text)?)
@@ -54,15 +54,15 @@ impl Table for Word {
 #[derive(Clone, Copy, Debug, Drop)]
 pub struct Name;
 
-impl Table for Name {
+impl Shape for Name {
     ghost use Rattle.np_json.specs.Scalars as scalars;
 
-    type Row = Text;
+    type Output = Text;
 
     ghost reads = { λ _. scalars.name };
 
     #[tactic(auto, unfolding(crate::specs::Scalars::name))]
-    fn read(&self, alloc: Global, value: &Value) -> Result<Text, TableFault> {
+    fn read(&self, alloc: Global, value: &Value) -> Result<Text, ShapeFault> {
         let text = of_type(alloc, value.as_str())?;
         refuse_if(alloc, !is_name(text), FaultKind::BadName)?;
         Ok(Text::of(alloc, text)?)
@@ -73,14 +73,14 @@ impl Table for Name {
 #[derive(Clone, Copy, Debug, Drop)]
 pub struct Whole;
 
-impl Table for Whole {
+impl Shape for Whole {
     ghost use Rattle.np_json.specs.Scalars as scalars;
 
-    type Row = i64;
+    type Output = i64;
 
     ghost reads = { λ _. scalars.whole };
 
-    fn read(&self, alloc: Global, value: &Value) -> Result<i64, TableFault> {
+    fn read(&self, alloc: Global, value: &Value) -> Result<i64, ShapeFault> {
         of_type(alloc, value.as_i64())
     }
 }
@@ -89,14 +89,14 @@ impl Table for Whole {
 #[derive(Clone, Copy, Debug, Drop)]
 pub struct Flag;
 
-impl Table for Flag {
+impl Shape for Flag {
     ghost use Rattle.np_json.specs.Scalars as scalars;
 
-    type Row = bool;
+    type Output = bool;
 
     ghost reads = { λ _. scalars.flag };
 
-    fn read(&self, alloc: Global, value: &Value) -> Result<bool, TableFault> {
+    fn read(&self, alloc: Global, value: &Value) -> Result<bool, ShapeFault> {
         of_type(alloc, value.as_bool())
     }
 }
@@ -105,22 +105,22 @@ impl Table for Flag {
 #[derive(Clone, Copy, Debug, Drop)]
 pub struct Port;
 
-impl Table for Port {
+impl Shape for Port {
     ghost use Rattle.np_json.specs.Scalars as scalars;
 
-    type Row = PortNum;
+    type Output = PortNum;
 
     ghost reads = { λ _. scalars.port };
 
     #[tactic(auto, unfolding(crate::specs::Scalars::port))]
-    fn read(&self, alloc: Global, value: &Value) -> Result<PortNum, TableFault> {
+    fn read(&self, alloc: Global, value: &Value) -> Result<PortNum, ShapeFault> {
         let number = of_type(alloc, value.as_i64())?;
         port_of(alloc, number)
     }
 }
 
 /// The port of a number from 1 to 65535. Any other number is `BadPort`.
-pub fn port_of(alloc: Global, number: i64) -> Result<PortNum, TableFault>
+pub fn port_of(alloc: Global, number: i64) -> Result<PortNum, ShapeFault>
     ensures { Gives result (port_number number) }
 {
     if 1 <= number && number <= 65535 {
@@ -135,15 +135,15 @@ pub fn port_of(alloc: Global, number: i64) -> Result<PortNum, TableFault>
 #[derive(Clone, Copy, Debug, Drop)]
 pub struct LabelMap;
 
-impl Table for LabelMap {
+impl Shape for LabelMap {
     ghost use Rattle.np_json.specs.Scalars as scalars;
 
-    type Row = Seq<(Text, Text)>;
+    type Output = Seq<(Text, Text)>;
 
     ghost reads = { λ _. scalars.labels };
 
     #[tactic(auto, unfolding(crate::specs::Scalars::labels))]
-    fn read(&self, alloc: Global, value: &Value) -> Result<Seq<(Text, Text)>, TableFault> {
+    fn read(&self, alloc: Global, value: &Value) -> Result<Seq<(Text, Text)>, ShapeFault> {
         let pairs = of_type(alloc, pairs(alloc, value)?)?;
         refuse_if(alloc, !are_labels(pairs.items()), FaultKind::BadField)?;
         Ok(pairs)
@@ -166,7 +166,7 @@ fn is_label(key: &str, value: &str) -> bool
 }
 
 /// A value that was read as the type that it is to have: it is `BadField` where it has another.
-pub fn of_type<T>(alloc: Global, read: Option<T>) -> Result<T, TableFault>
+pub fn of_type<T>(alloc: Global, read: Option<T>) -> Result<T, ShapeFault>
     ensures { Gives result (of_type read) }
 {
     match read {

@@ -1,4 +1,4 @@
--- What the tables of members read passes a test, if each member that is read does.
+-- What the shapes of members read passes a test, if each member that is read does.
 use Rattle.std.proofs.Common.{◌≡◌, ℕ, ◌+◌, List, [], ◌∷◌, Bool, true, false, not, ◌&&◌, Option, Some, None, Ok, Err, codes, unwrap_or, refl, subst}
 use Rattle.std.specs.List.{list_all}
 use Rattle.std.proofs.lemmas.Bool.{and_from}
@@ -7,7 +7,7 @@ use Rattle.serde_json.specs.Find.{as_array}
 use Rattle.np_json.specs.Members.{member_of}
 use Rattle.np_json.specs.Meta as meta
 use Rattle.np_json.specs.Scalars.{name, word, labels, is_label}
-use Rattle.np_json.specs.Tables.{Read, ◌>>=◌, ◌>>◌, each_item, given, list_by, listed, optional, read_member, refuse, refuse_if, required, under}
+use Rattle.np_json.specs.Shapes.{Read, ◌>>=◌, ◌>>◌, each_item, given, list_by, listed, optional, read_member, refuse, refuse_if, required, under}
 use Rattle.np_json.specs.Words.{is_word, is_name}
 use Rattle.np_json.specs.declared.fault.FaultKind.{FaultKind}
 use Rattle.np_json.specs.declared.fault.FaultKind.TheVariants.{BadField, BadName}
@@ -19,21 +19,21 @@ use Rattle.np_objects.specs.WellFormed.{option_all}
 
 -- what is read, if anything is, passes the test
 pub record ReadsOnly {A : Type 0} (passes : A → Bool) (read : Read A) : Type 0 where
-  pub row : (x : A) → read ≡ Ok x → passes x ≡ true
+  pub output : (x : A) → read ≡ Ok x → passes x ≡ true
 
 pub ReadsOnly-Ok : {A : Type 0} (p : A → Bool) (x : A) → p x ≡ true → ReadsOnly p (Ok x)
-ReadsOnly-Ok p x is = record { row = λ y same. let equal : x ≡ y = cc in subst (λ z. p z ≡ true) equal is }
+ReadsOnly-Ok p x is = record { output = λ y same. let equal : x ≡ y = cc in subst (λ z. p z ≡ true) equal is }
 
 pub ReadsOnly-Err : {A : Type 0} (p : A → Bool) (flaw : Flaw) → ReadsOnly p (Err flaw)
-ReadsOnly-Err p flaw = record { row = λ y same. cc }
+ReadsOnly-Err p flaw = record { output = λ y same. cc }
 
 -- any value is read
 pub ReadsOnly-any : {A : Type 0} (read : Read A) → ReadsOnly (λ _. true) read
-ReadsOnly-any read = record { row = λ y same. refl }
+ReadsOnly-any read = record { output = λ y same. refl }
 
 -- one line after another, of which the first gives a value
 pub ReadsOnly-bind : {A B : Type 0} (p : A → Bool) (q : B → Bool) (read : Read A) (rest : A → Read B) → ReadsOnly p read → ((x : A) → p x ≡ true → ReadsOnly q (rest x)) → ReadsOnly q (read >>= rest)
-ReadsOnly-bind p q (Ok x) rest is next = next x (is.row x refl)
+ReadsOnly-bind p q (Ok x) rest is next = next x (is.output x refl)
 ReadsOnly-bind p q (Err flaw) rest is next = ReadsOnly-Err q flaw
 
 -- one line after another, of which the first gives a value that nothing is asked of
@@ -57,44 +57,44 @@ unfolding under
 ReadsOnly-under p step (Ok x) is = is
 ReadsOnly-under p step (Err flaw) is = ReadsOnly-Err p _
 
-required_by : {A : Type 0} (p : A → Bool) (table : Data → Read A) (found : Option Data) → ((value : Data) → ReadsOnly p (table value)) → ReadsOnly p (read_member (refuse BadField) table found)
-required_by p table None is = ReadsOnly-Err p _
-required_by p table (Some value) is = is value
+required_by : {A : Type 0} (p : A → Bool) (shape : Data → Read A) (found : Option Data) → ((value : Data) → ReadsOnly p (shape value)) → ReadsOnly p (read_member (refuse BadField) shape found)
+required_by p shape None is = ReadsOnly-Err p _
+required_by p shape (Some value) is = is value
 
-pub ReadsOnly-required : {A : Type 0} (p : A → Bool) (name : List ℕ) (table : Data → Read A) (value : Data) → ((found : Data) → ReadsOnly p (table found)) → ReadsOnly p (required name table value)
+pub ReadsOnly-required : {A : Type 0} (p : A → Bool) (name : List ℕ) (shape : Data → Read A) (value : Data) → ((found : Data) → ReadsOnly p (shape found)) → ReadsOnly p (required name shape value)
 unfolding required
-ReadsOnly-required p name table value is = ReadsOnly-under p (Field name) _ (required_by p table (member_of name value) is)
+ReadsOnly-required p name shape value is = ReadsOnly-under p (Field name) _ (required_by p shape (member_of name value) is)
 
 given_by : {A : Type 0} (p : A → Bool) (read : Read A) → ReadsOnly p read → ReadsOnly (option_all p) (given read)
-given_by p (Ok x) is = ReadsOnly-Ok (option_all p) (Some x) (is.row x refl)
+given_by p (Ok x) is = ReadsOnly-Ok (option_all p) (Some x) (is.output x refl)
 given_by p (Err flaw) is = ReadsOnly-Err (option_all p) flaw
 
-optional_by : {A : Type 0} (p : A → Bool) (table : Data → Read A) (found : Option Data) → ((value : Data) → ReadsOnly p (table value)) → ReadsOnly (option_all p) (read_member (Ok None) (λ value. given (table value)) found)
-optional_by p table None is = ReadsOnly-Ok (option_all p) None refl
-optional_by p table (Some value) is = given_by p (table value) (is value)
+optional_by : {A : Type 0} (p : A → Bool) (shape : Data → Read A) (found : Option Data) → ((value : Data) → ReadsOnly p (shape value)) → ReadsOnly (option_all p) (read_member (Ok None) (λ value. given (shape value)) found)
+optional_by p shape None is = ReadsOnly-Ok (option_all p) None refl
+optional_by p shape (Some value) is = given_by p (shape value) (is value)
 
-pub ReadsOnly-optional : {A : Type 0} (p : A → Bool) (name : List ℕ) (table : Data → Read A) (value : Data) → ((found : Data) → ReadsOnly p (table found)) → ReadsOnly (option_all p) (optional name table value)
+pub ReadsOnly-optional : {A : Type 0} (p : A → Bool) (name : List ℕ) (shape : Data → Read A) (value : Data) → ((found : Data) → ReadsOnly p (shape found)) → ReadsOnly (option_all p) (optional name shape value)
 unfolding optional
-ReadsOnly-optional p name table value is = ReadsOnly-under (option_all p) (Field name) _ (optional_by p table (member_of name value) is)
+ReadsOnly-optional p name shape value is = ReadsOnly-under (option_all p) (Field name) _ (optional_by p shape (member_of name value) is)
 
-each_by : {A : Type 0} (p : A → Bool) (table : Data → Read A) (place : ℕ) (items : Items) → ((value : Data) → ReadsOnly p (table value)) → ReadsOnly (list_all p) (each_item table place items)
-each_by p table place no_items is = ReadsOnly-Ok (list_all p) [] refl
-each_by p table place (item value items) is =
-    ReadsOnly-bind p (list_all p) _ _ (ReadsOnly-under p (Item place) (table value) (is value)) (λ row first.
-    ReadsOnly-bind (list_all p) (list_all p) _ _ (each_by p table (place + 1) items is) (λ rows rest.
-    ReadsOnly-Ok (list_all p) (row ∷ rows) (and_from (p row) (list_all p rows) first rest)))
+each_by : {A : Type 0} (p : A → Bool) (shape : Data → Read A) (place : ℕ) (items : Items) → ((value : Data) → ReadsOnly p (shape value)) → ReadsOnly (list_all p) (each_item shape place items)
+each_by p shape place no_items is = ReadsOnly-Ok (list_all p) [] refl
+each_by p shape place (item value items) is =
+    ReadsOnly-bind p (list_all p) _ _ (ReadsOnly-under p (Item place) (shape value) (is value)) (λ output first.
+    ReadsOnly-bind (list_all p) (list_all p) _ _ (each_by p shape (place + 1) items is) (λ outputs rest.
+    ReadsOnly-Ok (list_all p) (output ∷ outputs) (and_from (p output) (list_all p outputs) first rest)))
 
-list_by_by : {A : Type 0} (p : A → Bool) (table : Data → Read A) (items : Option Items) → ((value : Data) → ReadsOnly p (table value)) → ReadsOnly (list_all p) (list_by table items)
-list_by_by p table None is = ReadsOnly-Err (list_all p) _
-list_by_by p table (Some items) is = each_by p table 0 items is
+list_by_by : {A : Type 0} (p : A → Bool) (shape : Data → Read A) (items : Option Items) → ((value : Data) → ReadsOnly p (shape value)) → ReadsOnly (list_all p) (list_by shape items)
+list_by_by p shape None is = ReadsOnly-Err (list_all p) _
+list_by_by p shape (Some items) is = each_by p shape 0 items is
 
-listed_by : {A : Type 0} (p : A → Bool) (table : Data → Read A) (found : Option Data) → ((value : Data) → ReadsOnly p (table value)) → ReadsOnly (list_all p) (read_member (Ok []) (λ value. list_by table (as_array value)) found)
-listed_by p table None is = ReadsOnly-Ok (list_all p) [] refl
-listed_by p table (Some value) is = list_by_by p table (as_array value) is
+listed_by : {A : Type 0} (p : A → Bool) (shape : Data → Read A) (found : Option Data) → ((value : Data) → ReadsOnly p (shape value)) → ReadsOnly (list_all p) (read_member (Ok []) (λ value. list_by shape (as_array value)) found)
+listed_by p shape None is = ReadsOnly-Ok (list_all p) [] refl
+listed_by p shape (Some value) is = list_by_by p shape (as_array value) is
 
-pub ReadsOnly-listed : {A : Type 0} (p : A → Bool) (name : List ℕ) (table : Data → Read A) (value : Data) → ((found : Data) → ReadsOnly p (table found)) → ReadsOnly (list_all p) (listed name table value)
+pub ReadsOnly-listed : {A : Type 0} (p : A → Bool) (name : List ℕ) (shape : Data → Read A) (value : Data) → ((found : Data) → ReadsOnly p (shape found)) → ReadsOnly (list_all p) (listed name shape value)
 unfolding listed
-ReadsOnly-listed p name table value is = ReadsOnly-under (list_all p) (Field name) _ (listed_by p table (member_of name value) is)
+ReadsOnly-listed p name shape value is = ReadsOnly-under (list_all p) (Field name) _ (listed_by p shape (member_of name value) is)
 
 pub not-broken : (b : Bool) → not b ≡ false → b ≡ true
 not-broken true is = refl

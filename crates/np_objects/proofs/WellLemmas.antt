@@ -1,4 +1,4 @@
--- What the tables of objects read is well formed.
+-- What the shapes of objects read is well formed.
 use Rattle.std.proofs.Common.{◌≡◌, ℕ, List, [], ◌∷◌, length, map, fold, Bool, true, false, not, ◌&&◌, ◌==◌, if◌then◌else◌, IfOk, Option, Some, None, option_map, Ok, Err, Result, ℤ, codes, unwrap_or, refl, ap, ◌∙◌}
 use Rattle.std.specs.List.{list_all, filter_map, flat_map}
 use Rattle.std.specs.Option.{option_flatten}
@@ -14,7 +14,7 @@ use Rattle.np_conns.specs.declared.proto.Proto.TheVariants.{Tcp}
 use Rattle.np_json.specs.Meta.{namespaced_name}
 use Rattle.np_json.specs.Members.{as_whole}
 use Rattle.np_json.specs.Scalars.{text, name, whole, port, labels, is_label}
-use Rattle.np_json.specs.Tables.{Read, GivesItem, must_be_object, optional, required}
+use Rattle.np_json.specs.Shapes.{Read, GivesItem, must_be_object, optional, required}
 use Rattle.np_json.specs.Words.{is_word, is_name}
 use Rattle.np_json.specs.declared.fault.ReadFault.{ReadFault}
 use Rattle.np_labels.specs.Selectors.{label_requirement}
@@ -36,7 +36,7 @@ use Rattle.np_objects.specs.WellFormed.{option_all, is_whole_word, is_well_label
 use Rattle.np_objects.specs.declared.controller.ControllerKind.{ControllerKind}
 use Rattle.np_objects.specs.declared.controller.ControllerKind.TheVariants.{Deployment, ReplicaSet, StatefulSet, DaemonSet, ReplicationController, Job, CronJob}
 use Rattle.np_objects.specs.declared.controller_spec.ControllerSpec.{ControllerSpec}
-use Rattle.np_objects.specs.declared.controller_tables.ControllerMetadata.{ControllerMetadata}
+use Rattle.np_objects.specs.declared.controller_shapes.ControllerMetadata.{ControllerMetadata}
 use Rattle.np_objects.specs.declared.kind.ObjectKind.{ObjectKind}
 use Rattle.np_objects.specs.declared.kind.ObjectKind.TheVariants as kind
 use Rattle.np_objects.specs.declared.object.Object.{Object}
@@ -377,5 +377,5 @@ object_of-well value = ReadsOnly-after is_well_object _ _ (λ type. object_by-we
 
 -- what the code gives of an item is well formed, if what is read of it is
 pub IsWellObject-of_item : (number : ℕ) (given : Result Object ReadFault) (read : Read Object) → ReadsOnly is_well_object read → GivesItem number given read → IfOk given IsWellObject
-IsWellObject-of_item number (Ok item) read is gives = is.row item gives
+IsWellObject-of_item number (Ok item) read is gives = is.output item gives
 IsWellObject-of_item number (Err fault) read is gives = tt

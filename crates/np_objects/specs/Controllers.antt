@@ -3,7 +3,7 @@ use Rattle.std.specs.Prelude.{ℤ, pos, negsuc, ◌==◌, codes, Bool, false, Op
 use Rattle.serde_json.specs.Data.{Data}
 use Rattle.np_json.specs.Meta.{namespaced_name}
 use Rattle.np_json.specs.Scalars.{whole}
-use Rattle.np_json.specs.Tables.{Read, ◌>>=◌, ◌>>◌, must_be_object, optional, required, listed}
+use Rattle.np_json.specs.Shapes.{Read, ◌>>=◌, ◌>>◌, must_be_object, optional, required, listed}
 use Rattle.np_objects.specs.Lists.{first_some}
 use Rattle.np_objects.specs.Owners.{owner_reference}
 use Rattle.np_objects.specs.Templates.{template}
@@ -11,7 +11,7 @@ use Rattle.np_objects.specs.declared.controller.ControllerItem.{ControllerItem}
 use Rattle.np_objects.specs.declared.controller.ControllerKind.{ControllerKind}
 use Rattle.np_objects.specs.declared.controller.ControllerKind.TheVariants.{Deployment, ReplicaSet, StatefulSet, DaemonSet, ReplicationController, Job, CronJob}
 use Rattle.np_objects.specs.declared.controller_spec.ControllerSpec.{ControllerSpec}
-use Rattle.np_objects.specs.declared.controller_tables.ControllerMetadata.{ControllerMetadata}
+use Rattle.np_objects.specs.declared.controller_shapes.ControllerMetadata.{ControllerMetadata}
 
 -- the metadata of a controller: first the name and the namespace
 unfoldable pub controller_metadata : Data → Read ControllerMetadata

@@ -6,7 +6,7 @@ use Rattle.serde_json.specs.Data.{Data}
 use Rattle.np_json.specs.Members.{text_of, whole_of}
 use Rattle.np_json.specs.Meta.{namespaced_name}
 use Rattle.np_json.specs.Scalars.{text, port}
-use Rattle.np_json.specs.Tables.{Read, ◌>>=◌, ◌>>◌, has_one_of, must_be_object, optional, refuse_if, required, listed}
+use Rattle.np_json.specs.Shapes.{Read, ◌>>=◌, ◌>>◌, has_one_of, must_be_object, optional, refuse_if, required, listed}
 use Rattle.np_json.specs.declared.fault.FaultKind.TheVariants.{BadField}
 use Rattle.np_json.specs.declared.field.Field.{Field}
 use Rattle.np_json.specs.declared.field.Field.TheVariants.{Missing, Wrong, Given}

@@ -2,7 +2,7 @@
 use Rattle.std.specs.Prelude.{ℕ, List, map, Ok}
 use Rattle.serde_json.specs.Data.{Data}
 use Rattle.np_json.specs.Scalars.{labels}
-use Rattle.np_json.specs.Tables.{Read, ◌>>=◌}
+use Rattle.np_json.specs.Shapes.{Read, ◌>>=◌}
 use Rattle.np_labels.specs.Labels.{labels_of}
 use Rattle.np_labels.specs.declared.pair.Pair.{Pair}
 

@@ -1,6 +1,6 @@
 pub use Rattle.np_json.specs.Meta
 pub use Rattle.np_json.specs.Scalars
-pub use Rattle.np_json.specs.Tables
+pub use Rattle.np_json.specs.Shapes
 pub mod ControllerKinds
 pub mod Controllers
 pub mod Ingresses

@@ -1,6 +1,6 @@
 -- Values that may be missing, alone and in lists.
 use Rattle.std.specs.Prelude.{ℕ, List, [], ◌∷◌, length, ◌==◌, if◌then◌else◌, Option, Some, None, Ok}
-use Rattle.np_json.specs.Tables.{Read, refuse}
+use Rattle.np_json.specs.Shapes.{Read, refuse}
 use Rattle.np_json.specs.declared.fault.FaultKind.{FaultKind}
 
 -- the empty text counts as missing

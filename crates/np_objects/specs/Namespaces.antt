@@ -2,7 +2,7 @@
 use Rattle.std.specs.Prelude.{[], codes, unwrap_or, Ok}
 use Rattle.serde_json.specs.Data.{Data}
 use Rattle.np_json.specs.Scalars.{name}
-use Rattle.np_json.specs.Tables.{Read, ◌>>=◌, ◌>>◌, must_be_object, optional, required}
+use Rattle.np_json.specs.Shapes.{Read, ◌>>=◌, ◌>>◌, must_be_object, optional, required}
 use Rattle.np_objects.specs.Labels.{label_map}
 use Rattle.np_objects.specs.declared.namespace.NamespaceItem.{NamespaceItem}
 

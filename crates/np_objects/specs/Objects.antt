@@ -3,7 +3,7 @@ use Rattle.std.specs.Prelude.{ℕ, List, codes, if◌then◌else◌, Option, Som
 use Rattle.std.specs.Str.{bytes_eq}
 use Rattle.serde_json.specs.Data.{Data}
 use Rattle.np_json.specs.Meta.{type_meta}
-use Rattle.np_json.specs.Tables.{Read, ◌>>=◌}
+use Rattle.np_json.specs.Shapes.{Read, ◌>>=◌}
 use Rattle.np_objects.specs.Controllers.{controller}
 use Rattle.np_objects.specs.Ingresses.{ingress}
 use Rattle.np_objects.specs.Namespaces.{namespace}
@@ -53,7 +53,7 @@ kind_of version name =
     else if bytes_eq version (codes "networking.k8s.io/v1") then networking_kind name
     else None
 
--- the table of each kind; an object of another kind is not read
+-- the shape of each kind; an object of another kind is not read
 unfoldable pub object_by : Option ObjectKind → Data → Read Object
 object_by None value = Ok object.Other
 object_by (Some kind.Pod) value = do

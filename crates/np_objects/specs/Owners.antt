@@ -2,7 +2,7 @@
 use Rattle.std.specs.Prelude.{codes, Bool, true, false, Option, Some, None, unwrap_or, Ok}
 use Rattle.serde_json.specs.Data.{Data}
 use Rattle.np_json.specs.Scalars.{name, flag}
-use Rattle.np_json.specs.Tables.{Read, ◌>>=◌, ◌>>◌, must_be_object, optional, required}
+use Rattle.np_json.specs.Shapes.{Read, ◌>>=◌, ◌>>◌, must_be_object, optional, required}
 use Rattle.np_objects.specs.declared.owner_ref.OwnerRef.{OwnerRef}
 
 -- an owner that controls the object

@@ -3,7 +3,7 @@ use Rattle.std.specs.Prelude.{List, codes, false, unwrap_or, Ok}
 use Rattle.std.specs.List.{filter_map, flat_map}
 use Rattle.serde_json.specs.Data.{Data}
 use Rattle.np_json.specs.Scalars.{flag}
-use Rattle.np_json.specs.Tables.{Read, ◌>>=◌, ◌>>◌, must_be_object, optional, listed}
+use Rattle.np_json.specs.Shapes.{Read, ◌>>=◌, ◌>>◌, must_be_object, optional, listed}
 use Rattle.np_objects.specs.Ports.{container_port}
 use Rattle.np_objects.specs.declared.named_port.NamedPort.{NamedPort}
 use Rattle.np_objects.specs.declared.pod_spec.PodSpec.{PodSpec}

@@ -2,7 +2,7 @@
 use Rattle.std.specs.Prelude.{[], codes, unwrap_or, Ok}
 use Rattle.serde_json.specs.Data.{Data}
 use Rattle.np_json.specs.Meta.{namespaced_name}
-use Rattle.np_json.specs.Tables.{Read, ◌>>=◌, optional, required, listed}
+use Rattle.np_json.specs.Shapes.{Read, ◌>>=◌, optional, required, listed}
 use Rattle.np_objects.specs.Labels.{label_map}
 use Rattle.np_objects.specs.Lists.{first_some}
 use Rattle.np_objects.specs.Owners.{owner_reference}

@@ -6,7 +6,7 @@ use Rattle.np_conns.specs.ConnsText.{proto_named}
 use Rattle.np_conns.specs.declared.proto.Proto.{Proto}
 use Rattle.np_conns.specs.declared.proto.Proto.TheVariants.{Tcp}
 use Rattle.np_json.specs.Scalars.{text, word, port}
-use Rattle.np_json.specs.Tables.{Read, ◌>>=◌, ◌>>◌, must_be_object, optional, required}
+use Rattle.np_json.specs.Shapes.{Read, ◌>>=◌, ◌>>◌, must_be_object, optional, required}
 use Rattle.np_json.specs.declared.fault.FaultKind.TheVariants.{BadProtocol}
 use Rattle.np_objects.specs.Lists.{unless_empty, or_refuse}
 use Rattle.np_objects.specs.declared.named_port.NamedPort.{NamedPort}

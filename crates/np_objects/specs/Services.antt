@@ -7,7 +7,7 @@ use Rattle.np_conns.specs.declared.proto.Proto.TheVariants.{Tcp}
 use Rattle.np_json.specs.Members.{as_whole}
 use Rattle.np_json.specs.Meta.{namespaced_name}
 use Rattle.np_json.specs.Scalars.{text, port, port_number, labels}
-use Rattle.np_json.specs.Tables.{Read, ◌>>=◌, ◌>>◌, must_be_object, optional, required, listed}
+use Rattle.np_json.specs.Shapes.{Read, ◌>>=◌, ◌>>◌, must_be_object, optional, required, listed}
 use Rattle.np_json.specs.declared.meta.NamespacedName.{NamespacedName}
 use Rattle.np_labels.specs.Selectors.{label_requirement}
 use Rattle.np_labels.specs.declared.selector.Selector.{Selector}

@@ -8,7 +8,7 @@ use Rattle.np_addr.specs.AddressGrammar.{address_of}
 use Rattle.np_addr.specs.declared.address.Address.{Address}
 use Rattle.np_addr.specs.declared.address.Address.TheVariants.{Four, Six}
 use Rattle.np_json.specs.Scalars.{text}
-use Rattle.np_json.specs.Tables.{Read, ◌>>=◌, ◌>>◌, given, must_be_object, optional, listed}
+use Rattle.np_json.specs.Shapes.{Read, ◌>>=◌, ◌>>◌, given, must_be_object, optional, listed}
 use Rattle.np_json.specs.declared.fault.FaultKind.TheVariants.{BadAddress}
 use Rattle.np_objects.specs.Lists.{unless_empty, or_refuse}
 use Rattle.np_objects.specs.declared.pod_status.PodStatus.{PodStatus}

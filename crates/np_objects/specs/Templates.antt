@@ -1,7 +1,7 @@
 -- Templates of pods.
 use Rattle.std.specs.Prelude.{List, [], codes, unwrap_or, Ok}
 use Rattle.serde_json.specs.Data.{Data}
-use Rattle.np_json.specs.Tables.{Read, ◌>>=◌, ◌>>◌, must_be_object, optional, required}
+use Rattle.np_json.specs.Shapes.{Read, ◌>>=◌, ◌>>◌, must_be_object, optional, required}
 use Rattle.np_labels.specs.declared.pair.Pair.{Pair}
 use Rattle.np_objects.specs.Labels.{label_map}
 use Rattle.np_objects.specs.PodSpecs.{pod_spec}

@@ -1,12 +1,12 @@
 //! Specs of controllers.
 ghost use Rattle.std.specs.Prelude.{◌≡◌};
-ghost use Rattle.np_json.specs.Tables.{Gives};
+ghost use Rattle.np_json.specs.Shapes.{Gives};
 ghost use Rattle.serde_json.specs.View.{view};
 ghost use Rattle.np_objects.specs.Controllers as controllers;
 
 use crate::controller::{ControllerKind, Template};
-use crate::template::TemplateTable;
-use np_json::{Table, TableFault, Whole, must_be_object, optional};
+use crate::template::TemplateShape;
+use np_json::{Shape, ShapeFault, Whole, must_be_object, optional};
 use serde_json::Value;
 use std::alloc::Global;
 
@@ -40,20 +40,20 @@ impl ControllerSpec {
 /// | `replicas` | a whole number |
 /// | `template` | the template of a pod |
 #[derive(Clone, Copy, Debug, Drop)]
-struct ReplicatedSpecTable;
+struct ReplicatedSpecShape;
 
-impl Table for ReplicatedSpecTable {
+impl Shape for ReplicatedSpecShape {
     ghost use Rattle.np_objects.specs.Controllers.{replicated_spec};
 
-    type Row = ControllerSpec;
+    type Output = ControllerSpec;
 
     ghost reads = { λ _. replicated_spec };
 
     #[tactic(auto, unfolding(crate::specs::Controllers::replicated_spec))]
-    fn read(&self, alloc: Global, value: &Value) -> Result<ControllerSpec, TableFault> {
+    fn read(&self, alloc: Global, value: &Value) -> Result<ControllerSpec, ShapeFault> {
         must_be_object(alloc, value)?;
         let replicas = optional(alloc, value, "replicas", &Whole)?;
-        let template = optional(alloc, value, "template", &TemplateTable)?;
+        let template = optional(alloc, value, "template", &TemplateShape)?;
         Ok(ControllerSpec {
             none_wanted: is_zero(replicas),
             template,
@@ -68,19 +68,19 @@ impl Table for ReplicatedSpecTable {
 /// |---|---|
 /// | `template` | the template of a pod |
 #[derive(Clone, Copy, Debug, Drop)]
-struct TemplateSpecTable;
+struct TemplateSpecShape;
 
-impl Table for TemplateSpecTable {
+impl Shape for TemplateSpecShape {
     ghost use Rattle.np_objects.specs.Controllers.{template_spec};
 
-    type Row = ControllerSpec;
+    type Output = ControllerSpec;
 
     ghost reads = { λ _. template_spec };
 
     #[tactic(auto, unfolding(crate::specs::Controllers::template_spec))]
-    fn read(&self, alloc: Global, value: &Value) -> Result<ControllerSpec, TableFault> {
+    fn read(&self, alloc: Global, value: &Value) -> Result<ControllerSpec, ShapeFault> {
         must_be_object(alloc, value)?;
-        let template = optional(alloc, value, "template", &TemplateTable)?;
+        let template = optional(alloc, value, "template", &TemplateShape)?;
         Ok(ControllerSpec {
             none_wanted: false,
             template,
@@ -94,19 +94,19 @@ impl Table for TemplateSpecTable {
 /// |---|---|
 /// | `spec` | the spec of a job |
 #[derive(Clone, Copy, Debug, Drop)]
-struct JobTemplateTable;
+struct JobTemplateShape;
 
-impl Table for JobTemplateTable {
+impl Shape for JobTemplateShape {
     ghost use Rattle.np_objects.specs.Controllers.{job_template};
 
-    type Row = ControllerSpec;
+    type Output = ControllerSpec;
 
     ghost reads = { λ _. job_template };
 
     #[tactic(auto, unfolding(crate::specs::Controllers::job_template))]
-    fn read(&self, alloc: Global, value: &Value) -> Result<ControllerSpec, TableFault> {
+    fn read(&self, alloc: Global, value: &Value) -> Result<ControllerSpec, ShapeFault> {
         must_be_object(alloc, value)?;
-        let spec = optional(alloc, value, "spec", &TemplateSpecTable)?;
+        let spec = optional(alloc, value, "spec", &TemplateSpecShape)?;
         Ok(spec.unwrap_or(ControllerSpec::none()))
     }
 }
@@ -117,44 +117,44 @@ impl Table for JobTemplateTable {
 /// |---|---|
 /// | `jobTemplate` | the template of a job |
 #[derive(Clone, Copy, Debug, Drop)]
-struct CronJobSpecTable;
+struct CronJobSpecShape;
 
-impl Table for CronJobSpecTable {
+impl Shape for CronJobSpecShape {
     ghost use Rattle.np_objects.specs.Controllers.{cron_job_spec};
 
-    type Row = ControllerSpec;
+    type Output = ControllerSpec;
 
     ghost reads = { λ _. cron_job_spec };
 
     #[tactic(auto, unfolding(crate::specs::Controllers::cron_job_spec))]
-    fn read(&self, alloc: Global, value: &Value) -> Result<ControllerSpec, TableFault> {
+    fn read(&self, alloc: Global, value: &Value) -> Result<ControllerSpec, ShapeFault> {
         must_be_object(alloc, value)?;
-        let job = optional(alloc, value, "jobTemplate", &JobTemplateTable)?;
+        let job = optional(alloc, value, "jobTemplate", &JobTemplateShape)?;
         Ok(job.unwrap_or(ControllerSpec::none()))
     }
 }
 
 /// The spec of a controller of that kind.
 #[derive(Clone, Copy, Debug, Drop)]
-pub(crate) struct ControllerSpecTable {
+pub(crate) struct ControllerSpecShape {
     pub(crate) kind: ControllerKind,
 }
 
-impl Table for ControllerSpecTable {
+impl Shape for ControllerSpecShape {
     ghost use Rattle.np_objects.specs.Controllers.{controller_spec};
 
-    type Row = ControllerSpec;
+    type Output = ControllerSpec;
 
-    ghost reads = { λ table. controller_spec table.kind };
+    ghost reads = { λ shape. controller_spec shape.kind };
 
-    fn read(&self, alloc: Global, value: &Value) -> Result<ControllerSpec, TableFault> {
+    fn read(&self, alloc: Global, value: &Value) -> Result<ControllerSpec, ShapeFault> {
         match self.kind {
             ControllerKind::Deployment
             | ControllerKind::ReplicaSet
             | ControllerKind::StatefulSet
-            | ControllerKind::ReplicationController => ReplicatedSpecTable.read(alloc, value),
-            ControllerKind::DaemonSet | ControllerKind::Job => TemplateSpecTable.read(alloc, value),
-            ControllerKind::CronJob => CronJobSpecTable.read(alloc, value),
+            | ControllerKind::ReplicationController => ReplicatedSpecShape.read(alloc, value),
+            ControllerKind::DaemonSet | ControllerKind::Job => TemplateSpecShape.read(alloc, value),
+            ControllerKind::CronJob => CronJobSpecShape.read(alloc, value),
         }
     }
 }

@@ -3,24 +3,24 @@ ghost use Rattle.std.specs.Prelude.{◌≡◌, [], IfOk, map};
 ghost use Rattle.np_objects.specs.Labels.{pair_of};
 
 use np_base::{NoMemory, Seq, Text};
-use np_json::{LabelMap, Table, TableFault};
+use np_json::{LabelMap, Shape, ShapeFault};
 use np_labels::{Labels, Pair};
 use serde_json::Value;
 use std::alloc::Global;
 
 /// An object from texts to texts, each a label. Anything else is `BadField` of the object.
 #[derive(Clone, Copy, Debug, Drop)]
-pub(crate) struct LabelsTable;
+pub(crate) struct LabelsShape;
 
-impl Table for LabelsTable {
+impl Shape for LabelsShape {
     ghost use Rattle.np_objects.specs.Labels.{label_map};
 
-    type Row = Labels;
+    type Output = Labels;
 
     ghost reads = { λ _. label_map };
 
     #[tactic(auto, unfolding(crate::specs::Labels::label_map))]
-    fn read(&self, alloc: Global, value: &Value) -> Result<Labels, TableFault> {
+    fn read(&self, alloc: Global, value: &Value) -> Result<Labels, ShapeFault> {
         let entries = LabelMap.read(alloc, value)?;
         let pairs = pairs_of(alloc, entries)?;
         Ok(Labels::of(alloc, pairs)?)

@@ -2,25 +2,25 @@
 #![tactic(auto)]
 
 mod controller;
+mod controller_shapes;
 mod controller_spec;
-mod controller_tables;
 mod ingress;
-mod ingress_tables;
+mod ingress_shapes;
 mod kind;
 mod label_map;
 mod lists;
 mod named_port;
 mod namespace;
 mod object;
-mod object_table;
+mod object_shape;
 mod owner_ref;
 mod pod_item;
 mod pod_spec;
 mod pod_status;
-mod port_tables;
+mod port_shapes;
 mod service;
+mod service_shapes;
 mod service_spec;
-mod service_tables;
 mod template;
 
 pub use controller::{ControllerItem, ControllerKind, Template};
@@ -28,7 +28,7 @@ pub use ingress::{Backend, IngressItem};
 pub use named_port::NamedPort;
 pub use namespace::NamespaceItem;
 pub use object::Object;
-pub use object_table::read_object;
+pub use object_shape::read_object;
 pub use owner_ref::OwnerRef;
 pub use pod_item::PodItem;
 pub use service::{PortName, ServiceItem, ServicePort};

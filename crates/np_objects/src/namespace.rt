@@ -1,8 +1,8 @@
 //! Namespaces.
 
-use crate::label_map::{LabelsTable, no_labels};
+use crate::label_map::{LabelsShape, no_labels};
 use np_base::Text;
-use np_json::{Name, Table, TableFault, must_be_object, optional, required};
+use np_json::{Name, Shape, ShapeFault, must_be_object, optional, required};
 use np_labels::Labels;
 use serde_json::Value;
 use std::alloc::Global;
@@ -21,20 +21,20 @@ pub struct NamespaceItem {
 /// | `name` | a name, required |
 /// | `labels` | an object from texts to texts, each a label |
 #[derive(Clone, Copy, Debug, Drop)]
-struct NamespaceMetadataTable;
+struct NamespaceMetadataShape;
 
-impl Table for NamespaceMetadataTable {
+impl Shape for NamespaceMetadataShape {
     ghost use Rattle.np_objects.specs.Namespaces.{namespace_metadata};
 
-    type Row = NamespaceItem;
+    type Output = NamespaceItem;
 
     ghost reads = { λ _. namespace_metadata };
 
     #[tactic(auto, unfolding(crate::specs::Namespaces::namespace_metadata))]
-    fn read(&self, alloc: Global, value: &Value) -> Result<NamespaceItem, TableFault> {
+    fn read(&self, alloc: Global, value: &Value) -> Result<NamespaceItem, ShapeFault> {
         must_be_object(alloc, value)?;
         let name = required(alloc, value, "name", &Name)?;
-        let labels = optional(alloc, value, "labels", &LabelsTable)?;
+        let labels = optional(alloc, value, "labels", &LabelsShape)?;
         let none = no_labels(alloc)?;
         Ok(NamespaceItem {
             name,
@@ -49,17 +49,17 @@ impl Table for NamespaceMetadataTable {
 /// |---|---|
 /// | `metadata` | the metadata of a namespace, required |
 #[derive(Clone, Copy, Debug, Drop)]
-pub(crate) struct NamespaceTable;
+pub(crate) struct NamespaceShape;
 
-impl Table for NamespaceTable {
+impl Shape for NamespaceShape {
     ghost use Rattle.np_objects.specs.Namespaces.{namespace};
 
-    type Row = NamespaceItem;
+    type Output = NamespaceItem;
 
     ghost reads = { λ _. namespace };
 
     #[tactic(auto, unfolding(crate::specs::Namespaces::namespace))]
-    fn read(&self, alloc: Global, value: &Value) -> Result<NamespaceItem, TableFault> {
-        required(alloc, value, "metadata", &NamespaceMetadataTable)
+    fn read(&self, alloc: Global, value: &Value) -> Result<NamespaceItem, ShapeFault> {
+        required(alloc, value, "metadata", &NamespaceMetadataShape)
     }
 }

@@ -3,7 +3,7 @@ ghost use Rattle.std.specs.Prelude.{◌≡◌};
 ghost use Rattle.np_objects.specs.Owners as owners;
 
 use np_base::Text;
-use np_json::{Flag, Name, Table, TableFault, must_be_object, optional, required};
+use np_json::{Flag, Name, Shape, ShapeFault, must_be_object, optional, required};
 use serde_json::Value;
 use std::alloc::Global;
 
@@ -23,17 +23,17 @@ pub struct OwnerRef {
 /// | `name` | a name, required |
 /// | `controller` | true or false, and false where it is missing |
 #[derive(Clone, Copy, Debug, Drop)]
-pub(crate) struct OwnerReferenceTable;
+pub(crate) struct OwnerReferenceShape;
 
-impl Table for OwnerReferenceTable {
+impl Shape for OwnerReferenceShape {
     ghost use Rattle.np_objects.specs.Owners.{owner_reference};
 
-    type Row = Option<OwnerRef>;
+    type Output = Option<OwnerRef>;
 
     ghost reads = { λ _. owner_reference };
 
     #[tactic(auto, unfolding(crate::specs::Owners::owner_reference))]
-    fn read(&self, alloc: Global, value: &Value) -> Result<Option<OwnerRef>, TableFault> {
+    fn read(&self, alloc: Global, value: &Value) -> Result<Option<OwnerRef>, ShapeFault> {
         must_be_object(alloc, value)?;
         let kind = required(alloc, value, "kind", &Name)?;
         let name = required(alloc, value, "name", &Name)?;

@@ -2,15 +2,15 @@
 ghost use Rattle.std.specs.Prelude.{◌≡◌};
 ghost use Rattle.np_objects.specs.Pods as pods;
 
-use crate::label_map::{LabelsTable, no_labels};
+use crate::label_map::{LabelsShape, no_labels};
 use crate::lists::first_some;
 use crate::named_port::NamedPort;
-use crate::owner_ref::{OwnerRef, OwnerReferenceTable};
-use crate::pod_spec::{PodSpec, PodSpecTable};
-use crate::pod_status::{PodStatus, PodStatusTable};
+use crate::owner_ref::{OwnerRef, OwnerReferenceShape};
+use crate::pod_spec::{PodSpec, PodSpecShape};
+use crate::pod_status::{PodStatus, PodStatusShape};
 use np_addr::Address;
 use np_base::{Seq, Text};
-use np_json::{NamespacedName, NamespacedNameTable, Table, TableFault, listed, optional, required};
+use np_json::{NamespacedName, NamespacedNameShape, Shape, ShapeFault, listed, optional, required};
 use np_labels::Labels;
 use serde_json::Value;
 use std::alloc::Global;
@@ -49,20 +49,20 @@ struct PodMetadata {
 /// | `labels` | an object from texts to texts, each a label |
 /// | `ownerReferences` | a list of owner references, of which the first that controls the pod is kept |
 #[derive(Clone, Copy, Debug, Drop)]
-struct PodMetadataTable;
+struct PodMetadataShape;
 
-impl Table for PodMetadataTable {
+impl Shape for PodMetadataShape {
     ghost use Rattle.np_objects.specs.Pods.{pod_metadata};
 
-    type Row = PodMetadata;
+    type Output = PodMetadata;
 
     ghost reads = { λ _. pod_metadata };
 
     #[tactic(auto, unfolding(crate::specs::Pods::pod_metadata))]
-    fn read(&self, alloc: Global, value: &Value) -> Result<PodMetadata, TableFault> {
-        let own = NamespacedNameTable.read(alloc, value)?;
-        let labels = optional(alloc, value, "labels", &LabelsTable)?;
-        let references = listed(alloc, value, "ownerReferences", &OwnerReferenceTable)?;
+    fn read(&self, alloc: Global, value: &Value) -> Result<PodMetadata, ShapeFault> {
+        let own = NamespacedNameShape.read(alloc, value)?;
+        let labels = optional(alloc, value, "labels", &LabelsShape)?;
+        let references = listed(alloc, value, "ownerReferences", &OwnerReferenceShape)?;
         let none = no_labels(alloc)?;
         Ok(PodMetadata {
             own,
@@ -80,20 +80,20 @@ impl Table for PodMetadataTable {
 /// | `spec` | the spec of a pod, required |
 /// | `status` | the status of a pod |
 #[derive(Clone, Copy, Debug, Drop)]
-pub(crate) struct PodTable;
+pub(crate) struct PodShape;
 
-impl Table for PodTable {
+impl Shape for PodShape {
     ghost use Rattle.np_objects.specs.Pods.{pod};
 
-    type Row = PodItem;
+    type Output = PodItem;
 
     ghost reads = { λ _. pod };
 
     #[tactic(auto, unfolding(crate::specs::Pods::pod))]
-    fn read(&self, alloc: Global, value: &Value) -> Result<PodItem, TableFault> {
-        let metadata = required(alloc, value, "metadata", &PodMetadataTable)?;
-        let spec = required(alloc, value, "spec", &PodSpecTable)?;
-        let status = optional(alloc, value, "status", &PodStatusTable)?;
+    fn read(&self, alloc: Global, value: &Value) -> Result<PodItem, ShapeFault> {
+        let metadata = required(alloc, value, "metadata", &PodMetadataShape)?;
+        let spec = required(alloc, value, "spec", &PodSpecShape)?;
+        let status = optional(alloc, value, "status", &PodStatusShape)?;
         Ok(pod_item(metadata, spec, status.unwrap_or(PodStatus::none(alloc))))
     }
 }

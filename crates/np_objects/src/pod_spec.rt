@@ -2,9 +2,9 @@
 
 use crate::lists::{joined, somes};
 use crate::named_port::NamedPort;
-use crate::port_tables::ContainerPortTable;
+use crate::port_shapes::ContainerPortShape;
 use np_base::Seq;
-use np_json::{Flag, Table, TableFault, listed, must_be_object, optional};
+use np_json::{Flag, Shape, ShapeFault, listed, must_be_object, optional};
 use serde_json::Value;
 use std::alloc::Global;
 
@@ -22,19 +22,19 @@ pub(crate) struct PodSpec {
 /// |---|---|
 /// | `ports` | a list of container ports |
 #[derive(Clone, Copy, Debug, Drop)]
-struct ContainerTable;
+struct ContainerShape;
 
-impl Table for ContainerTable {
+impl Shape for ContainerShape {
     ghost use Rattle.np_objects.specs.PodSpecs.{container};
 
-    type Row = Seq<NamedPort>;
+    type Output = Seq<NamedPort>;
 
     ghost reads = { λ _. container };
 
     #[tactic(auto, unfolding(crate::specs::PodSpecs::container))]
-    fn read(&self, alloc: Global, value: &Value) -> Result<Seq<NamedPort>, TableFault> {
+    fn read(&self, alloc: Global, value: &Value) -> Result<Seq<NamedPort>, ShapeFault> {
         must_be_object(alloc, value)?;
-        let ports = listed(alloc, value, "ports", &ContainerPortTable)?;
+        let ports = listed(alloc, value, "ports", &ContainerPortShape)?;
         Ok(somes(alloc, ports)?)
     }
 }
@@ -46,19 +46,19 @@ impl Table for ContainerTable {
 /// | `containers` | a list of containers |
 /// | `hostNetwork` | true or false, and false where it is missing |
 #[derive(Clone, Copy, Debug, Drop)]
-pub(crate) struct PodSpecTable;
+pub(crate) struct PodSpecShape;
 
-impl Table for PodSpecTable {
+impl Shape for PodSpecShape {
     ghost use Rattle.np_objects.specs.PodSpecs.{pod_spec};
 
-    type Row = PodSpec;
+    type Output = PodSpec;
 
     ghost reads = { λ _. pod_spec };
 
     #[tactic(auto, unfolding(crate::specs::PodSpecs::pod_spec))]
-    fn read(&self, alloc: Global, value: &Value) -> Result<PodSpec, TableFault> {
+    fn read(&self, alloc: Global, value: &Value) -> Result<PodSpec, ShapeFault> {
         must_be_object(alloc, value)?;
-        let containers = listed(alloc, value, "containers", &ContainerTable)?;
+        let containers = listed(alloc, value, "containers", &ContainerShape)?;
         let host_network = optional(alloc, value, "hostNetwork", &Flag)?;
         Ok(PodSpec {
             ports: joined(alloc, containers)?,

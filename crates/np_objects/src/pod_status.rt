@@ -1,13 +1,13 @@
 //! Statuses of pods.
 ghost use Rattle.std.specs.Prelude.{◌≡◌, ◌∷◌, IfOk};
-ghost use Rattle.np_json.specs.Tables.{Gives};
+ghost use Rattle.np_json.specs.Shapes.{Gives};
 ghost use Rattle.np_objects.specs.Statuses as statuses;
 ghost use Rattle.np_objects.specs.Lists as lists;
 
 use crate::lists::or_refuse;
 use np_addr::{Address, read_address};
 use np_base::{NoMemory, Seq, Text};
-use np_json::{AnyText, FaultKind, Table, TableFault, listed, must_be_object, of_type, optional};
+use np_json::{AnyText, FaultKind, Shape, ShapeFault, listed, must_be_object, of_type, optional};
 use serde_json::Value;
 use std::alloc::Global;
 
@@ -36,24 +36,24 @@ impl PodStatus {
 
 /// The text of an address; the empty text stands for none. Another text is `BadAddress`, another type `BadField`.
 #[derive(Clone, Copy, Debug, Drop)]
-struct AddressTable;
+struct AddressShape;
 
-impl Table for AddressTable {
+impl Shape for AddressShape {
     ghost use Rattle.np_objects.specs.Statuses.{address};
 
-    type Row = Option<Address>;
+    type Output = Option<Address>;
 
     ghost reads = { λ _. address };
 
     #[tactic(auto, unfolding(crate::specs::Statuses::address))]
-    fn read(&self, alloc: Global, value: &Value) -> Result<Option<Address>, TableFault> {
+    fn read(&self, alloc: Global, value: &Value) -> Result<Option<Address>, ShapeFault> {
         let text = of_type(alloc, value.as_str())?;
         address_by(alloc, text)
     }
 }
 
 // The address of a text, and none of the empty text.
-fn address_by(alloc: Global, text: &str) -> Result<Option<Address>, TableFault>
+fn address_by(alloc: Global, text: &str) -> Result<Option<Address>, ShapeFault>
     ensures { Gives result (statuses.address_by (lists.unless_empty text.now)) }
 {
     if text.is_empty() {
@@ -69,19 +69,19 @@ fn address_by(alloc: Global, text: &str) -> Result<Option<Address>, TableFault>
 /// |---|---|
 /// | `ip` | the text of an address, or the empty text |
 #[derive(Clone, Copy, Debug, Drop)]
-struct PodIpTable;
+struct PodIpShape;
 
-impl Table for PodIpTable {
+impl Shape for PodIpShape {
     ghost use Rattle.np_objects.specs.Statuses.{pod_ip};
 
-    type Row = Option<Address>;
+    type Output = Option<Address>;
 
     ghost reads = { λ _. pod_ip };
 
     #[tactic(auto, unfolding(crate::specs::Statuses::pod_ip))]
-    fn read(&self, alloc: Global, value: &Value) -> Result<Option<Address>, TableFault> {
+    fn read(&self, alloc: Global, value: &Value) -> Result<Option<Address>, ShapeFault> {
         must_be_object(alloc, value)?;
-        let ip = optional(alloc, value, "ip", &AddressTable)?;
+        let ip = optional(alloc, value, "ip", &AddressShape)?;
         Ok(ip.flatten())
     }
 }
@@ -94,21 +94,21 @@ impl Table for PodIpTable {
 /// | `podIP` | the text of an address, or the empty text |
 /// | `podIPs` | a list of objects with an address each |
 #[derive(Clone, Copy, Debug, Drop)]
-pub(crate) struct PodStatusTable;
+pub(crate) struct PodStatusShape;
 
-impl Table for PodStatusTable {
+impl Shape for PodStatusShape {
     ghost use Rattle.np_objects.specs.Statuses.{pod_status};
 
-    type Row = PodStatus;
+    type Output = PodStatus;
 
     ghost reads = { λ _. pod_status };
 
     #[tactic(auto, unfolding(crate::specs::Statuses::pod_status))]
-    fn read(&self, alloc: Global, value: &Value) -> Result<PodStatus, TableFault> {
+    fn read(&self, alloc: Global, value: &Value) -> Result<PodStatus, ShapeFault> {
         must_be_object(alloc, value)?;
         let phase = optional(alloc, value, "phase", &AnyText)?;
-        let first = optional(alloc, value, "podIP", &AddressTable)?;
-        let others = listed(alloc, value, "podIPs", &PodIpTable)?;
+        let first = optional(alloc, value, "podIP", &AddressShape)?;
+        let others = listed(alloc, value, "podIPs", &PodIpShape)?;
         Ok(PodStatus {
             finished: is_finished(&phase),
             addresses: distinct(alloc, first.flatten(), others)?,

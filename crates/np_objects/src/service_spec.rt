@@ -3,9 +3,9 @@ ghost use Rattle.std.specs.Prelude.{◌≡◌, IfOk};
 ghost use Rattle.np_objects.specs.Services as services;
 
 use crate::service::ServicePort;
-use crate::service_tables::ServicePortTable;
+use crate::service_shapes::ServicePortShape;
 use np_base::{NoMemory, Seq, Text};
-use np_json::{AnyText, LabelMap, Table, TableFault, listed, must_be_object, optional};
+use np_json::{AnyText, LabelMap, Shape, ShapeFault, listed, must_be_object, optional};
 use np_labels::Selector;
 use serde_json::Value;
 use std::alloc::Global;
@@ -29,22 +29,22 @@ pub(crate) struct ServiceSpec {
 /// | `selector` | an object from texts to texts, each a label |
 /// | `ports` | a list of ports of services |
 #[derive(Clone, Copy, Debug, Drop)]
-pub(crate) struct ServiceSpecTable;
+pub(crate) struct ServiceSpecShape;
 
-impl Table for ServiceSpecTable {
+impl Shape for ServiceSpecShape {
     ghost use Rattle.np_objects.specs.Services.{service_spec};
 
-    type Row = ServiceSpec;
+    type Output = ServiceSpec;
 
     ghost reads = { λ _. service_spec };
 
     #[tactic(auto, unfolding(crate::specs::Services::service_spec))]
-    fn read(&self, alloc: Global, value: &Value) -> Result<ServiceSpec, TableFault> {
+    fn read(&self, alloc: Global, value: &Value) -> Result<ServiceSpec, ShapeFault> {
         must_be_object(alloc, value)?;
         let kind = optional(alloc, value, "type", &AnyText)?;
         let cluster_ip = optional(alloc, value, "clusterIP", &AnyText)?;
         let selector = optional(alloc, value, "selector", &LabelMap)?;
-        let ports = listed(alloc, value, "ports", &ServicePortTable)?;
+        let ports = listed(alloc, value, "ports", &ServicePortShape)?;
         Ok(ServiceSpec {
             selector: selector_of(alloc, selector.unwrap_or(Seq::new(alloc)))?,
             headless: is_text(&cluster_ip, "None"),

@@ -1,9 +1,9 @@
 //! How the templates of pods are read.
 
 use crate::controller::Template;
-use crate::label_map::{LabelsTable, no_labels};
-use crate::pod_spec::PodSpecTable;
-use np_json::{Table, TableFault, must_be_object, optional, required};
+use crate::label_map::{LabelsShape, no_labels};
+use crate::pod_spec::PodSpecShape;
+use np_json::{Shape, ShapeFault, must_be_object, optional, required};
 use np_labels::Labels;
 use serde_json::Value;
 use std::alloc::Global;
@@ -14,19 +14,19 @@ use std::alloc::Global;
 /// |---|---|
 /// | `labels` | an object from texts to texts, each a label |
 #[derive(Clone, Copy, Debug, Drop)]
-struct TemplateMetadataTable;
+struct TemplateMetadataShape;
 
-impl Table for TemplateMetadataTable {
+impl Shape for TemplateMetadataShape {
     ghost use Rattle.np_objects.specs.Templates.{template_metadata};
 
-    type Row = Labels;
+    type Output = Labels;
 
     ghost reads = { λ _. template_metadata };
 
     #[tactic(auto, unfolding(crate::specs::Templates::template_metadata))]
-    fn read(&self, alloc: Global, value: &Value) -> Result<Labels, TableFault> {
+    fn read(&self, alloc: Global, value: &Value) -> Result<Labels, ShapeFault> {
         must_be_object(alloc, value)?;
-        let labels = optional(alloc, value, "labels", &LabelsTable)?;
+        let labels = optional(alloc, value, "labels", &LabelsShape)?;
         let none = no_labels(alloc)?;
         Ok(labels.unwrap_or(none))
     }
@@ -39,20 +39,20 @@ impl Table for TemplateMetadataTable {
 /// | `metadata` | the metadata of a template |
 /// | `spec` | the spec of a pod, required |
 #[derive(Clone, Copy, Debug, Drop)]
-pub(crate) struct TemplateTable;
+pub(crate) struct TemplateShape;
 
-impl Table for TemplateTable {
+impl Shape for TemplateShape {
     ghost use Rattle.np_objects.specs.Templates.{template};
 
-    type Row = Template;
+    type Output = Template;
 
     ghost reads = { λ _. template };
 
     #[tactic(auto, unfolding(crate::specs::Templates::template))]
-    fn read(&self, alloc: Global, value: &Value) -> Result<Template, TableFault> {
+    fn read(&self, alloc: Global, value: &Value) -> Result<Template, ShapeFault> {
         must_be_object(alloc, value)?;
-        let labels = optional(alloc, value, "metadata", &TemplateMetadataTable)?;
-        let spec = required(alloc, value, "spec", &PodSpecTable)?;
+        let labels = optional(alloc, value, "metadata", &TemplateMetadataShape)?;
+        let spec = required(alloc, value, "spec", &PodSpecShape)?;
         let none = no_labels(alloc)?;
         Ok(Template {
             labels: labels.unwrap_or(none),

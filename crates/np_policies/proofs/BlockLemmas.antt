@@ -10,8 +10,8 @@ use Rattle.np_addr.specs.declared.address.Address.{Address}
 use Rattle.np_addr.specs.declared.address.Address.TheVariants.{Four, Six}
 use Rattle.np_addr.specs.declared.cidr.Cidr.{Cidr}
 use Rattle.np_json.specs.Scalars.{of_type}
-use Rattle.np_json.specs.Tables.{◌>>=◌, required}
-use Rattle.np_policies.proofs.ReadLemmas.{required-row}
+use Rattle.np_json.specs.Shapes.{◌>>=◌, required}
+use Rattle.np_policies.proofs.ReadLemmas.{required-output}
 use Rattle.np_policies.specs.Blocks.{cidr, cidr_by}
 
 block_of-well : (address : Address) (len : ℕ) → len ≤ width_of (family_of address) → IsCidr (block_of address len)
@@ -40,5 +40,5 @@ cidr-well value block is = by (as_str value) is
 -- a required block is well formed
 pub required-cidr_well : (name : List ℕ) (value : Data) (block : Cidr) → required name cidr value ≡ Ok block → IsCidr block
 required-cidr_well name value block is =
-    let read = required-row cidr name value block is in
+    let read = required-output cidr name value block is in
     cidr-well read.found block read.read

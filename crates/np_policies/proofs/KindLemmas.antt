@@ -4,15 +4,15 @@ use Rattle.std.specs.Cmp.Lexicographic.{bytes_decides}
 use Rattle.std.specs.Str.{bytes_eq}
 use Rattle.serde_json.specs.Data.{Data}
 use Rattle.np_json.specs.Meta.{type_meta}
-use Rattle.np_json.specs.Tables.{refuse}
+use Rattle.np_json.specs.Shapes.{refuse}
 use Rattle.np_json.specs.declared.fault.FaultKind.TheVariants.{ForeignPolicy}
 use Rattle.np_json.specs.declared.meta.TypeMeta.{TypeMeta}
 use Rattle.np_json.specs.declared.path.Step.TheVariants.{Field}
-use Rattle.np_policies.proofs.ReadLemmas.{bind-row, under-row}
+use Rattle.np_policies.proofs.ReadLemmas.{bind-output, under-output}
 use Rattle.np_policies.specs.AdminPolicies.{admin_policy, base_policy}
 use Rattle.np_policies.specs.NetworkPolicies.{net_policy}
 use Rattle.np_policies.specs.Policies.{is_network_policy, is_of, kind_of, policy_by, policy_of}
-use Rattle.np_policies.specs.declared.policy_table.PolicyKind.TheVariants.{Net, Admin, Base, Foreign, NoPolicy}
+use Rattle.np_policies.specs.declared.policy_shape.PolicyKind.TheVariants.{Net, Admin, Base, Foreign, NoPolicy}
 
 both_false : (b : Bool) → (b && false) ≡ false
 both_false true = refl
@@ -41,7 +41,7 @@ no_policy value meta read is =
 pub other_kind : (value : Data) → policy_of value ≡ Ok None → (meta : TypeMeta) × (type_meta value ≡ Ok meta) × (is_network_policy meta.kind ≡ false)
 unfolding policy_of policy_by
 other_kind value is =
-    let read = bind-row (type_meta value) (λ meta. policy_by (kind_of meta) value) None is in
+    let read = bind-output (type_meta value) (λ meta. policy_by (kind_of meta) value) None is in
     let meta = read.first in (
       meta,
       read.here,
@@ -53,8 +53,8 @@ other_kind value is =
     )
   where
     by : (net admin base network : Bool) → policy_by (cond net Net (cond admin Admin (cond base Base (cond network Foreign NoPolicy)))) value ≡ Ok None → network ≡ false
-    by true admin base network is = let read = bind-row (net_policy value) _ None is in let after = read.after in cc
-    by false true base network is = let read = bind-row (admin_policy value) _ None is in let after = read.after in cc
-    by false false true network is = let read = bind-row (base_policy value) _ None is in let after = read.after in cc
-    by false false false true is = let none = under-row (Field (codes "kind")) (refuse ForeignPolicy) None is in cc
+    by true admin base network is = let read = bind-output (net_policy value) _ None is in let after = read.after in cc
+    by false true base network is = let read = bind-output (admin_policy value) _ None is in let after = read.after in cc
+    by false false true network is = let read = bind-output (base_policy value) _ None is in let after = read.after in cc
+    by false false false true is = let none = under-output (Field (codes "kind")) (refuse ForeignPolicy) None is in cc
     by false false false false is = refl

@@ -12,7 +12,7 @@ use Rattle.serde_json.specs.Data.{Data, Members, no_members, member}
 use Rattle.serde_json.specs.Find.{as_str, as_object}
 use Rattle.np_json.specs.Members.{as_pairs, member_of, pairs_of_members}
 use Rattle.np_json.specs.Scalars.{is_label, labels, of_type, text, word}
-use Rattle.np_json.specs.Tables.{◌>>◌, listed, must_be_object, optional, refuse, refuse_if, required}
+use Rattle.np_json.specs.Shapes.{◌>>◌, listed, must_be_object, optional, refuse, refuse_if, required}
 use Rattle.np_json.specs.declared.fault.FaultKind.TheVariants.{BadField, BadSelector}
 use Rattle.np_labels.proofs.PairLists.{is_eq-slice_cmp}
 use Rattle.np_labels.specs.Labels.{value_of}
@@ -22,7 +22,7 @@ use Rattle.np_labels.specs.declared.op.Op.TheVariants.{OneOf, NoneOf, Present, A
 use Rattle.np_labels.specs.declared.pair.Pair.{Pair}
 use Rattle.np_labels.specs.declared.requirement.Requirement.{Requirement}
 use Rattle.np_labels.specs.declared.selector.Selector.{Selector}
-use Rattle.np_policies.proofs.ReadLemmas.{bind-row, then-row, optional-row, listed-row, list_all-each_item, list_any-each_item, of_type-row, word-row, text_at-row, IsOptional}
+use Rattle.np_policies.proofs.ReadLemmas.{bind-output, then-output, optional-output, listed-output, list_all-each_item, list_any-each_item, of_type-output, word-output, text_at-output, IsOptional}
 use Rattle.np_policies.specs.SelectorMeaning.{any_item, has_entries, has_text, is_among, is_text, items_at, meets_expression, meets_members, meets_operator}
 use Rattle.np_policies.specs.Selectors.{distinct, expression, fits, fitting, has_other, is_key, key, op_named, selector}
 
@@ -95,13 +95,13 @@ all_labels own (member name value members) pairs is = by (as_str value) (pairs_o
         rw (← same) (rw (one_label own name s value here, step more others) refl)
 
 -- the entries of a map of labels
-labels-row : (value : Data) (pairs : List (List ℕ × List ℕ)) → labels value ≡ Ok pairs → as_pairs value ≡ Some pairs
+labels-output : (value : Data) (pairs : List (List ℕ × List ℕ)) → labels value ≡ Ok pairs → as_pairs value ≡ Some pairs
 unfolding labels
-labels-row value pairs is =
-    let read = bind-row (of_type (as_pairs value)) (λ pairs. refuse_if (not (list_all is_label pairs)) BadField >> Ok pairs) pairs is in
-    let same : Ok read.first ≡ Ok pairs = then-row (refuse_if (not (list_all is_label read.first)) BadField) (Ok read.first) pairs read.after in
+labels-output value pairs is =
+    let read = bind-output (of_type (as_pairs value)) (λ pairs. refuse_if (not (list_all is_label pairs)) BadField >> Ok pairs) pairs is in
+    let same : Ok read.first ≡ Ok pairs = then-output (refuse_if (not (list_all is_label read.first)) BadField) (Ok read.first) pairs read.after in
     let first : read.first ≡ pairs = cc in
-    of_type-row (as_pairs value) read.first read.here ∙ ap Some first
+    of_type-output (as_pairs value) read.first read.here ∙ ap Some first
 
 entries_met : (own : List Pair) (value : Data) (pairs : List (List ℕ × List ℕ)) → as_pairs value ≡ Some pairs → list_all (λ one. meets_requirement one own) (map label_requirement pairs) ≡ has_entries own (unwrap_or (as_object value) no_members)
 entries_met own value pairs is = by (as_object value) is
@@ -110,23 +110,23 @@ entries_met own value pairs is = by (as_object value) is
     by None is = cc
     by (Some members) is = all_labels own members pairs is
 
-member_met : (own : List Pair) (there : Option Data) (row : Option (List (List ℕ × List ℕ))) → IsOptional labels there row → list_all (λ one. meets_requirement one own) (map label_requirement (unwrap_or row [])) ≡ has_entries own (unwrap_or (option_and_then as_object there) no_members)
+member_met : (own : List Pair) (there : Option Data) (output : Option (List (List ℕ × List ℕ))) → IsOptional labels there output → list_all (λ one. meets_requirement one own) (map label_requirement (unwrap_or output [])) ≡ has_entries own (unwrap_or (option_and_then as_object there) no_members)
 member_met own there None is = rw is refl
-member_met own there (Some pairs) is = rw is.there (entries_met own is.found pairs (labels-row is.found pairs is.read))
+member_met own there (Some pairs) is = rw is.there (entries_met own is.found pairs (labels-output is.found pairs is.read))
 
 -- ---- expressions
 
-key-row : (value : Data) (s : List ℕ) → key value ≡ Ok s → as_str value ≡ Some s
+key-output : (value : Data) (s : List ℕ) → key value ≡ Ok s → as_str value ≡ Some s
 unfolding key
-key-row value s is =
-    let read = bind-row (text value) (λ s. refuse_if (not (is_key s)) BadField >> Ok s) s is in
-    let same : Ok read.first ≡ Ok s = then-row (refuse_if (not (is_key read.first)) BadField) (Ok read.first) s read.after in
+key-output value s is =
+    let read = bind-output (text value) (λ s. refuse_if (not (is_key s)) BadField >> Ok s) s is in
+    let same : Ok read.first ≡ Ok s = then-output (refuse_if (not (is_key read.first)) BadField) (Ok read.first) s read.after in
     let first : read.first ≡ s = cc in
-    of_type-row (as_str value) read.first read.here ∙ ap Some first
+    of_type-output (as_str value) read.first read.here ∙ ap Some first
 
-fitting-row : (named : Option Op) (has_values : Bool) (op : Op) → fitting named has_values ≡ Ok op → named ≡ Some op
-fitting-row None has_values op is = cc
-fitting-row (Some other) has_values op is = by (fits other has_values) is
+fitting-output : (named : Option Op) (has_values : Bool) (op : Op) → fitting named has_values ≡ Ok op → named ≡ Some op
+fitting-output None has_values op is = cc
+fitting-output (Some other) has_values op is = by (fits other has_values) is
   where
     by : (b : Bool) → cond b (Ok other) (refuse BadSelector) ≡ Ok op → Some other ≡ Some op
     by true is = cc
@@ -167,24 +167,24 @@ operator_met operator items values op found is same =
 
 -- a word is listed where its item is that text
 word_alike : (s : List ℕ) (value : Data) (listed : List ℕ) → word value ≡ Ok listed → bytes_eq listed s ≡ is_text value s
-word_alike s value listed is = rw (word-row value listed is) refl
+word_alike s value listed is = rw (word-output value listed is) refl
 
 -- labels meet an expression that was read exactly where they meet its members
 pub expression_met : (own : List Pair) (value : Data) (read : Requirement) → expression value ≡ Ok read → meets_requirement read own ≡ meets_expression own value
 unfolding expression
 expression_met own value read is =
-    let past = then-row (must_be_object value) _ read is in
-    let name = bind-row (required (codes "key") key value) _ read past in
-    let operator = bind-row (required (codes "operator") text value) _ read name.after in
-    let values = bind-row (listed (codes "values") word value) _ read operator.after in
-    let op = bind-row (fitting (op_named operator.first) (not (length values.first == 0))) (λ op. Ok (record { key = name.first; op = op; values = distinct values.first })) read values.after in
+    let past = then-output (must_be_object value) _ read is in
+    let name = bind-output (required (codes "key") key value) _ read past in
+    let operator = bind-output (required (codes "operator") text value) _ read name.after in
+    let values = bind-output (listed (codes "values") word value) _ read operator.after in
+    let op = bind-output (fitting (op_named operator.first) (not (length values.first == 0))) (λ op. Ok (record { key = name.first; op = op; values = distinct values.first })) read values.after in
     let made : record { key = name.first; op = op.first; values = distinct values.first } ≡ read = cc in
-    let at_key = text_at-row key key-row (codes "key") value name.first name.here in
-    let at_operator = text_at-row text (λ d s e. of_type-row (as_str d) s e) (codes "operator") value operator.first operator.here in
-    let items = listed-row word (codes "values") value values.first values.here in
+    let at_key = text_at-output key key-output (codes "key") value name.first name.here in
+    let at_operator = text_at-output text (λ d s e. of_type-output (as_str d) s e) (codes "operator") value operator.first operator.here in
+    let items = listed-output word (codes "values") value values.first values.here in
     let same : (s : List ℕ) → is_listed values.first s ≡ any_item (λ d. is_text d s) (items_at (codes "values") value) =
     λ s. list_any-each_item word (λ listed. bytes_eq listed s) (λ d. is_text d s) (word_alike s) 0 (items_at (codes "values") value) values.first items in
-    rw (← made) (rw (at_key, at_operator) (operator_met operator.first (items_at (codes "values") value) values.first op.first (value_of own name.first) (fitting-row _ _ op.first op.here) same))
+    rw (← made) (rw (at_key, at_operator) (operator_met operator.first (items_at (codes "values") value) values.first op.first (value_of own name.first) (fitting-output _ _ op.first op.here) same))
 
 -- ---- selectors
 
@@ -192,11 +192,11 @@ expression_met own value read is =
 pub selector_met : (value : Data) (read : Selector) (own : List Pair) → selector value ≡ Ok read → meets_selector read own ≡ meets_members own value
 unfolding selector
 selector_met value read own is =
-    let past = then-row (must_be_object value) _ read is in
-    let known = then-row (refuse_if (has_other (as_object value)) BadSelector) _ read past in
-    let pairs = bind-row (optional (codes "matchLabels") labels value) _ read known in
-    let expressions = bind-row (listed (codes "matchExpressions") expression value) (λ found. Ok (record { requirements = map label_requirement (unwrap_or pairs.first []) ++ found })) read pairs.after in
+    let past = then-output (must_be_object value) _ read is in
+    let known = then-output (refuse_if (has_other (as_object value)) BadSelector) _ read past in
+    let pairs = bind-output (optional (codes "matchLabels") labels value) _ read known in
+    let expressions = bind-output (listed (codes "matchExpressions") expression value) (λ found. Ok (record { requirements = map label_requirement (unwrap_or pairs.first []) ++ found })) read pairs.after in
     let made : record { requirements = map label_requirement (unwrap_or pairs.first []) ++ expressions.first } ≡ read = cc in
-    let first = member_met own (member_of (codes "matchLabels") value) pairs.first (optional-row labels (codes "matchLabels") value pairs.first pairs.here) in
-    let second = list_all-each_item expression (λ one. meets_requirement one own) (meets_expression own) (expression_met own) 0 (items_at (codes "matchExpressions") value) expressions.first (listed-row expression (codes "matchExpressions") value expressions.first expressions.here) in
+    let first = member_met own (member_of (codes "matchLabels") value) pairs.first (optional-output labels (codes "matchLabels") value pairs.first pairs.here) in
+    let second = list_all-each_item expression (λ one. meets_requirement one own) (meets_expression own) (expression_met own) 0 (items_at (codes "matchExpressions") value) expressions.first (listed-output expression (codes "matchExpressions") value expressions.first expressions.here) in
     rw (← made) (list_all-append (λ one. meets_requirement one own) (map label_requirement (unwrap_or pairs.first [])) expressions.first ∙ rw (first, second) refl)

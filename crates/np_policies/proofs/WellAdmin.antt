@@ -1,14 +1,14 @@
--- What is read by the tables of admin policies is well formed.
+-- What is read by the shapes of admin policies is well formed.
 use Rattle.std.proofs.Common.{◌≡◌, ℕ, ℤ, pos, negsuc, List, [], ◌∷◌, length, Bool, true, false, not, cond, ◌&&◌, ◌==◌, nat_le, Option, Some, None, codes, Ok, refl}
 use Rattle.std.specs.List.{list_all}
 use Rattle.std.specs.Str.{bytes_eq}
 use Rattle.serde_json.specs.Data.{Data}
 use Rattle.np_json.specs.Scalars as scalars
-use Rattle.np_json.specs.Tables.{◌>>=◌, ◌>>◌, has_member, has_one_of, listed, must_be_object, refuse, refuse_if, refuse_member_if, required}
+use Rattle.np_json.specs.Shapes.{◌>>=◌, ◌>>◌, has_member, has_one_of, listed, must_be_object, refuse, refuse_if, refuse_member_if, required}
 use Rattle.np_json.specs.Words.{is_name}
 use Rattle.np_json.specs.declared.fault.FaultKind.TheVariants.{BadPriority, DomainPeer, EmptyPeers, NodePeer, PeerShape}
-use Rattle.np_policies.proofs.ReadLemmas.{bind-row, then-row}
-use Rattle.np_policies.proofs.WellLemmas.{both, unbroken_member-row, listed-well, required-well, selector-well, cidr_text-well, admin_port-well}
+use Rattle.np_policies.proofs.ReadLemmas.{bind-output, then-output}
+use Rattle.np_policies.proofs.WellLemmas.{both, unbroken_member-output, listed-well, required-well, selector-well, cidr_text-well, admin_port-well}
 use Rattle.np_policies.specs.AdminPolicies.{action, action_by, action_named, admin_peer, admin_peers, admin_policy, admin_rule, admin_rules, admin_spec, all_pods, base_name, base_policy, base_spec, egress_member, egress_peer, ingress_peer, namespace_selector, networks, object_name, pods_member, priority, priority_number, some_pods, subject}
 use Rattle.np_policies.specs.Blocks.{cidr}
 use Rattle.np_policies.specs.NetworkPolicies.{peers_member, rules_member}
@@ -23,9 +23,9 @@ use Rattle.np_policies.specs.declared.admin_policy.AdminPolicy.{AdminPolicy}
 use Rattle.np_policies.specs.declared.admin_policy.AdminRule.{AdminRule}
 use Rattle.np_policies.specs.declared.admin_policy.BasePolicy.{BasePolicy}
 use Rattle.np_policies.specs.declared.admin_policy.Subject.{Subject}
-use Rattle.np_policies.specs.declared.admin_policy_table.AdminSpec.{AdminSpec}
-use Rattle.np_policies.specs.declared.admin_rule_table.Tier.{Tier}
-use Rattle.np_policies.specs.declared.admin_rule_table.Tier.TheVariants as tier
+use Rattle.np_policies.specs.declared.admin_policy_shape.AdminSpec.{AdminSpec}
+use Rattle.np_policies.specs.declared.admin_rule_shape.Tier.{Tier}
+use Rattle.np_policies.specs.declared.admin_rule_shape.Tier.TheVariants as tier
 use Rattle.np_policies.specs.declared.direction.Direction.{Direction}
 use Rattle.np_policies.specs.declared.direction.Direction.TheVariants.{Ingress, Egress}
 use Rattle.np_policies.proofs.WellNetwork.{name-well}
@@ -35,16 +35,16 @@ use Rattle.np_policies.proofs.WellNetwork.{name-well}
 all_pods-well : (value : Data) (read : Subject) → all_pods value ≡ Ok read → is_well_subject read ≡ true
 unfolding all_pods
 all_pods-well value read is =
-    let spaces = bind-row (selector value) (λ spaces. Ok (record { namespaces = spaces; pods = everything })) read is in
+    let spaces = bind-output (selector value) (λ spaces. Ok (record { namespaces = spaces; pods = everything })) read is in
     let made : record { namespaces = spaces.first; pods = everything } ≡ read = let after = spaces.after in cc in
     rw (← made) (both (is_well_selector spaces.first) true (selector-well value spaces.first spaces.here) refl)
 
 some_pods-well : (value : Data) (read : Subject) → some_pods value ≡ Ok read → is_well_subject read ≡ true
 unfolding some_pods namespace_selector
 some_pods-well value read is =
-    let past = then-row (must_be_object value) _ read is in
-    let spaces = bind-row (required (codes "namespaceSelector") selector value) _ read past in
-    let pods = bind-row (required (codes "podSelector") selector value) (λ pods. Ok (record { namespaces = spaces.first; pods = pods })) read spaces.after in
+    let past = then-output (must_be_object value) _ read is in
+    let spaces = bind-output (required (codes "namespaceSelector") selector value) _ read past in
+    let pods = bind-output (required (codes "podSelector") selector value) (λ pods. Ok (record { namespaces = spaces.first; pods = pods })) read spaces.after in
     let made : record { namespaces = spaces.first; pods = pods.first } ≡ read = let after = pods.after in cc in
     let first = required-well selector is_well_selector selector-well (codes "namespaceSelector") value spaces.first spaces.here in
     let second = required-well selector is_well_selector selector-well (codes "podSelector") value pods.first pods.here in
@@ -60,22 +60,22 @@ pods_member-well value read is = by (has_member (codes "namespaces") value) is
 subject-well : (value : Data) (read : Subject) → subject value ≡ Ok read → is_well_subject read ≡ true
 unfolding subject
 subject-well value read is =
-    let past = then-row (must_be_object value) _ read is in
-    let shaped = then-row (refuse_if (not (has_one_of (codes "namespaces" ∷ codes "pods" ∷ []) value)) PeerShape) (pods_member value) read past in
+    let past = then-output (must_be_object value) _ read is in
+    let shaped = then-output (refuse_if (not (has_one_of (codes "namespaces" ∷ codes "pods" ∷ []) value)) PeerShape) (pods_member value) read past in
     pods_member-well value read shaped
 
 ingress_peer-well : (value : Data) (read : AdminPeer) → ingress_peer value ≡ Ok read → is_well_admin_peer read ≡ true
 unfolding ingress_peer
 ingress_peer-well value read is =
-    let pods = bind-row (subject value) (λ one. Ok (peer.Pods one.namespaces one.pods)) read is in
+    let pods = bind-output (subject value) (λ one. Ok (peer.Pods one.namespaces one.pods)) read is in
     let made : peer.Pods pods.first.namespaces pods.first.pods ≡ read = let after = pods.after in cc in
     rw (← made) (subject-well value pods.first pods.here)
 
 networks-well : (value : Data) (read : AdminPeer) → networks value ≡ Ok read → is_well_admin_peer read ≡ true
 unfolding networks
 networks-well value read is =
-    let cidrs = bind-row (listed (codes "networks") cidr value) (λ cidrs. refuse_member_if (codes "networks") (length cidrs == 0) EmptyPeers >> Ok (peer.Networks cidrs)) read is in
-    let end = then-row (refuse_member_if (codes "networks") (length cidrs.first == 0) EmptyPeers) (Ok (peer.Networks cidrs.first)) read cidrs.after in
+    let cidrs = bind-output (listed (codes "networks") cidr value) (λ cidrs. refuse_member_if (codes "networks") (length cidrs == 0) EmptyPeers >> Ok (peer.Networks cidrs)) read is in
+    let end = then-output (refuse_member_if (codes "networks") (length cidrs.first == 0) EmptyPeers) (Ok (peer.Networks cidrs.first)) read cidrs.after in
     let made : peer.Networks cidrs.first ≡ read = cc in
     rw (← made) (listed-well cidr is_well_cidr cidr_text-well (codes "networks") value cidrs.first cidrs.here)
 
@@ -85,17 +85,17 @@ egress_member-well value read is = by (has_member (codes "networks") value) is
     by : (b : Bool) → cond b (networks value) (pods_member value >>= λ one. Ok (peer.Pods one.namespaces one.pods)) ≡ Ok read → is_well_admin_peer read ≡ true
     by true is = networks-well value read is
     by false is =
-        let pods = bind-row (pods_member value) (λ one. Ok (peer.Pods one.namespaces one.pods)) read is in
+        let pods = bind-output (pods_member value) (λ one. Ok (peer.Pods one.namespaces one.pods)) read is in
         let made : peer.Pods pods.first.namespaces pods.first.pods ≡ read = let after = pods.after in cc in
         rw (← made) (pods_member-well value pods.first pods.here)
 
 egress_peer-well : (value : Data) (read : AdminPeer) → egress_peer value ≡ Ok read → is_well_admin_peer read ≡ true
 unfolding egress_peer
 egress_peer-well value read is =
-    let past = then-row (must_be_object value) _ read is in
-    let nodes = then-row (refuse_member_if (codes "nodes") (has_member (codes "nodes") value) NodePeer) _ read past in
-    let domains = then-row (refuse_member_if (codes "domainNames") (has_member (codes "domainNames") value) DomainPeer) _ read nodes in
-    let shaped = then-row (refuse_if (not (has_one_of (codes "namespaces" ∷ codes "pods" ∷ codes "networks" ∷ []) value)) PeerShape) (egress_member value) read domains in
+    let past = then-output (must_be_object value) _ read is in
+    let nodes = then-output (refuse_member_if (codes "nodes") (has_member (codes "nodes") value) NodePeer) _ read past in
+    let domains = then-output (refuse_member_if (codes "domainNames") (has_member (codes "domainNames") value) DomainPeer) _ read nodes in
+    let shaped = then-output (refuse_if (not (has_one_of (codes "namespaces" ∷ codes "pods" ∷ codes "networks" ∷ []) value)) PeerShape) (egress_member value) read domains in
     egress_member-well value read shaped
 
 admin_peer-well : (direction : Direction) (value : Data) (read : AdminPeer) → admin_peer direction value ≡ Ok read → is_well_admin_peer read ≡ true
@@ -110,9 +110,9 @@ are_well peers = not (length peers == 0) && list_all is_well_admin_peer peers
 admin_peers-well : (direction : Direction) (value : Data) (read : List AdminPeer) → admin_peers direction value ≡ Ok read → are_well read ≡ true
 unfolding admin_peers
 admin_peers-well direction value read is =
-    let peers = bind-row (listed (peers_member direction) (admin_peer direction) value) (λ peers. refuse_member_if (peers_member direction) (length peers == 0) EmptyPeers >> Ok peers) read is in
-    let some = unbroken_member-row (peers_member direction) (length peers.first == 0) EmptyPeers (Ok peers.first) read peers.after in
-    let end = then-row (refuse_member_if (peers_member direction) (length peers.first == 0) EmptyPeers) (Ok peers.first) read peers.after in
+    let peers = bind-output (listed (peers_member direction) (admin_peer direction) value) (λ peers. refuse_member_if (peers_member direction) (length peers == 0) EmptyPeers >> Ok peers) read is in
+    let some = unbroken_member-output (peers_member direction) (length peers.first == 0) EmptyPeers (Ok peers.first) read peers.after in
+    let end = then-output (refuse_member_if (peers_member direction) (length peers.first == 0) EmptyPeers) (Ok peers.first) read peers.after in
     let made : peers.first ≡ read = cc in
     let each = listed-well (admin_peer direction) is_well_admin_peer (admin_peer-well direction) (peers_member direction) value peers.first peers.here in
     rw (← made) (rw (some, each) refl)
@@ -134,15 +134,15 @@ named-well tier.Baseline s one is = by (bytes_eq s (codes "Allow")) (bytes_eq s 
     by false false true Pass is = cc
     by false false false Pass is = cc
 
-action_by-row : (found : Option Action) (one : Action) → action_by found ≡ Ok one → found ≡ Some one
-action_by-row None one is = cc
-action_by-row (Some other) one is = cc
+action_by-output : (found : Option Action) (one : Action) → action_by found ≡ Ok one → found ≡ Some one
+action_by-output None one is = cc
+action_by-output (Some other) one is = cc
 
 action-well : (which : Tier) (value : Data) (one : Action) → action which value ≡ Ok one → may_stand which one ≡ true
 unfolding action
 action-well which value one is =
-    let read = bind-row (scalars.text value) (λ s. action_by (action_named which s)) one is in
-    named-well which read.first one (action_by-row (action_named which read.first) one read.after)
+    let read = bind-output (scalars.text value) (λ s. action_by (action_named which s)) one is in
+    named-well which read.first one (action_by-output (action_named which read.first) one read.after)
 
 abbrev is_well_rule : Tier → AdminRule → Bool
 is_well_rule which rule = may_stand which rule.action && is_well_admin_rule rule
@@ -150,10 +150,10 @@ is_well_rule which rule = may_stand which rule.action && is_well_admin_rule rule
 admin_rule-well : (which : Tier) (direction : Direction) (value : Data) (read : AdminRule) → admin_rule which direction value ≡ Ok read → is_well_rule which read ≡ true
 unfolding admin_rule
 admin_rule-well which direction value read is =
-    let past = then-row (must_be_object value) _ read is in
-    let one = bind-row (required (codes "action") (action which) value) _ read past in
-    let peers = bind-row (admin_peers direction value) _ read one.after in
-    let ports = bind-row (listed (codes "ports") admin_port value) (λ ports. Ok (record { action = one.first; peers = peers.first; ports = ports })) read peers.after in
+    let past = then-output (must_be_object value) _ read is in
+    let one = bind-output (required (codes "action") (action which) value) _ read past in
+    let peers = bind-output (admin_peers direction value) _ read one.after in
+    let ports = bind-output (listed (codes "ports") admin_port value) (λ ports. Ok (record { action = one.first; peers = peers.first; ports = ports })) read peers.after in
     let made : record { action = one.first; peers = peers.first; ports = ports.first } ≡ read = let after = ports.after in cc in
     let first = required-well (action which) (may_stand which) (action-well which) (codes "action") value one.first one.here in
     let second = admin_peers-well direction value peers.first peers.here in
@@ -169,7 +169,7 @@ admin_rules-well which direction value read is = listed-well (admin_rule which d
 priority-well : (value : Data) (read : ℕ) → priority value ≡ Ok read → nat_le read 1000 ≡ true
 unfolding priority
 priority-well value read is =
-    let number = bind-row (scalars.whole value) priority_number read is in
+    let number = bind-output (scalars.whole value) priority_number read is in
     by number.first number.after
   where
     by_bound : (n : ℕ) (b : Bool) → nat_le n 1000 ≡ b → cond b (Ok n) (refuse BadPriority) ≡ Ok read → nat_le read 1000 ≡ true
@@ -185,7 +185,7 @@ priority-well value read is =
 object_name-well : (value : Data) (s : List ℕ) → object_name value ≡ Ok s → is_name s ≡ true
 unfolding object_name
 object_name-well value s is =
-    let named = then-row (must_be_object value) (required (codes "name") scalars.name value) s is in
+    let named = then-output (must_be_object value) (required (codes "name") scalars.name value) s is in
     required-well scalars.name is_name name-well (codes "name") value s named
 
 abbrev is_well_admin_spec : AdminSpec → Bool
@@ -196,11 +196,11 @@ is_well_admin_spec spec =
 admin_spec-well : (value : Data) (read : AdminSpec) → admin_spec value ≡ Ok read → is_well_admin_spec read ≡ true
 unfolding admin_spec
 admin_spec-well value read is =
-    let past = then-row (must_be_object value) _ read is in
-    let rank = bind-row (required (codes "priority") priority value) _ read past in
-    let pods = bind-row (required (codes "subject") subject value) _ read rank.after in
-    let ingress = bind-row (admin_rules tier.Admin Ingress value) _ read pods.after in
-    let egress = bind-row (admin_rules tier.Admin Egress value) (λ egress. Ok (record { priority = rank.first; subject = pods.first; ingress = ingress.first; egress = egress })) read ingress.after in
+    let past = then-output (must_be_object value) _ read is in
+    let rank = bind-output (required (codes "priority") priority value) _ read past in
+    let pods = bind-output (required (codes "subject") subject value) _ read rank.after in
+    let ingress = bind-output (admin_rules tier.Admin Ingress value) _ read pods.after in
+    let egress = bind-output (admin_rules tier.Admin Egress value) (λ egress. Ok (record { priority = rank.first; subject = pods.first; ingress = ingress.first; egress = egress })) read ingress.after in
     let made : record { priority = rank.first; subject = pods.first; ingress = ingress.first; egress = egress.first } ≡ read = let after = egress.after in cc in
     let first = required-well priority (λ n. nat_le n 1000) priority-well (codes "priority") value rank.first rank.here in
     let second = required-well subject is_well_subject subject-well (codes "subject") value pods.first pods.here in
@@ -209,8 +209,8 @@ admin_spec-well value read is =
 pub admin_policy-well : (value : Data) (read : AdminPolicy) → admin_policy value ≡ Ok read → is_well_admin_policy read ≡ true
 unfolding admin_policy
 admin_policy-well value read is =
-    let s = bind-row (required (codes "metadata") object_name value) _ read is in
-    let spec = bind-row (required (codes "spec") admin_spec value) (λ spec. Ok (record { name = s.first; priority = spec.priority; subject = spec.subject; ingress = spec.ingress; egress = spec.egress })) read s.after in
+    let s = bind-output (required (codes "metadata") object_name value) _ read is in
+    let spec = bind-output (required (codes "spec") admin_spec value) (λ spec. Ok (record { name = s.first; priority = spec.priority; subject = spec.subject; ingress = spec.ingress; egress = spec.egress })) read s.after in
     let one = spec.first in
     let made : record { name = s.first; priority = one.priority; subject = one.subject; ingress = one.ingress; egress = one.egress } ≡ read = let after = spec.after in cc in
     let first = required-well object_name is_name object_name-well (codes "metadata") value s.first s.here in
@@ -224,10 +224,10 @@ admin_policy-well value read is =
 base_spec-well : (value : Data) (read : BasePolicy) → base_spec value ≡ Ok read → is_well_base_policy read ≡ true
 unfolding base_spec
 base_spec-well value read is =
-    let past = then-row (must_be_object value) _ read is in
-    let pods = bind-row (required (codes "subject") subject value) _ read past in
-    let ingress = bind-row (admin_rules tier.Baseline Ingress value) _ read pods.after in
-    let egress = bind-row (admin_rules tier.Baseline Egress value) (λ egress. Ok (record { subject = pods.first; ingress = ingress.first; egress = egress })) read ingress.after in
+    let past = then-output (must_be_object value) _ read is in
+    let pods = bind-output (required (codes "subject") subject value) _ read past in
+    let ingress = bind-output (admin_rules tier.Baseline Ingress value) _ read pods.after in
+    let egress = bind-output (admin_rules tier.Baseline Egress value) (λ egress. Ok (record { subject = pods.first; ingress = ingress.first; egress = egress })) read ingress.after in
     let made : record { subject = pods.first; ingress = ingress.first; egress = egress.first } ≡ read = let after = egress.after in cc in
     let first = required-well subject is_well_subject subject-well (codes "subject") value pods.first pods.here in
     rw (← made) (rw (first, admin_rules-well tier.Baseline Ingress value ingress.first ingress.here, admin_rules-well tier.Baseline Egress value egress.first egress.here) refl)
@@ -235,5 +235,5 @@ base_spec-well value read is =
 pub base_policy-well : (value : Data) (read : BasePolicy) → base_policy value ≡ Ok read → is_well_base_policy read ≡ true
 unfolding base_policy
 base_policy-well value read is =
-    let named = then-row (required (codes "metadata") base_name value) (required (codes "spec") base_spec value) read is in
+    let named = then-output (required (codes "metadata") base_name value) (required (codes "spec") base_spec value) read is in
     required-well base_spec is_well_base_policy base_spec-well (codes "spec") value read named

@@ -1,4 +1,4 @@
--- What is read by the tables of selectors, blocks and ports is well formed.
+-- What is read by the shapes of selectors, blocks and ports is well formed.
 use Rattle.std.proofs.Common.{◌≡◌, ◌↔◌, ℕ, ℤ, ◌-◌, ◌%◌, ◌^◌, List, [], ◌∷◌, ◌++◌, length, map, fold, Bool, true, false, not, cond, ◌&&◌, ◌==◌, nat_le, nat_lt, is_none, Option, Some, None, unwrap_or, codes, Ok, refl, ◌∙◌, arith}
 use Rattle.std.proofs.lemmas.Bool.Decides.{nat_tests}
 use Rattle.std.proofs.lemmas.List.Folds.{list_all-append}
@@ -17,7 +17,7 @@ use Rattle.np_addr.specs.declared.cidr.Cidr.TheVariants.{Four, Six}
 use Rattle.np_conns.specs.declared.proto.Proto.{Proto}
 use Rattle.np_json.specs.Members.{as_pairs, as_whole}
 use Rattle.np_json.specs.Scalars.{is_label, labels, of_type, port, port_number, text, word}
-use Rattle.np_json.specs.Tables.{Read, ◌>>◌, has_member, has_one_of, listed, must_be_object, optional, refuse_if, refuse_member_if, required, under}
+use Rattle.np_json.specs.Shapes.{Read, ◌>>◌, has_member, has_one_of, listed, must_be_object, optional, refuse_if, refuse_member_if, required, under}
 use Rattle.np_json.specs.Words.{is_word}
 use Rattle.np_json.specs.declared.fault.FaultKind.{FaultKind}
 use Rattle.np_json.specs.declared.fault.FaultKind.TheVariants.{BadField, BadPort, BadSelector}
@@ -25,7 +25,7 @@ use Rattle.np_labels.specs.Selectors.{label_requirement}
 use Rattle.np_labels.specs.declared.requirement.Requirement.{Requirement}
 use Rattle.np_labels.specs.declared.selector.Selector.{Selector}
 use Rattle.np_policies.proofs.BlockLemmas.{cidr-well}
-use Rattle.np_policies.proofs.ReadLemmas.{bind-row, then-row, required-row, optional-row, listed-row, list_all-each_item}
+use Rattle.np_policies.proofs.ReadLemmas.{bind-output, then-output, required-output, optional-output, listed-output, list_all-each_item}
 use Rattle.np_policies.specs.Blocks.{cidr, ip_block, refuse_except}
 use Rattle.np_policies.specs.Ports.{admin_port, admin_port_member, end_port, may_end, named_port, net_port, net_port_by, number_of, one_port, port_name, port_range, port_value, port_value_by, protocol}
 use Rattle.np_policies.specs.SelectorMeaning.{all_items, items_at}
@@ -33,9 +33,9 @@ use Rattle.np_policies.specs.Selectors.{distinct, expression, fitting, has_other
 use Rattle.np_policies.specs.WellFormed.{if_there, is_well_admin_port, is_well_block, is_well_cidr, is_well_net_port, is_well_requirement, is_well_selector}
 use Rattle.np_policies.specs.declared.admin_policy.AdminPort.{AdminPort}
 use Rattle.np_policies.specs.declared.admin_policy.AdminPort.TheVariants as admin
-use Rattle.np_policies.specs.declared.ip_block_table.IpBlock.{IpBlock}
-use Rattle.np_policies.specs.declared.net_port_table.PortValue.{PortValue}
-use Rattle.np_policies.specs.declared.net_port_table.PortValue.TheVariants.{Number, Name}
+use Rattle.np_policies.specs.declared.ip_block_shape.IpBlock.{IpBlock}
+use Rattle.np_policies.specs.declared.net_port_shape.PortValue.{PortValue}
+use Rattle.np_policies.specs.declared.net_port_shape.PortValue.TheVariants.{Number, Name}
 use Rattle.np_policies.specs.declared.network_policy.NetPort.{NetPort}
 
 -- ---- tests
@@ -56,53 +56,53 @@ not_false true is = refl
 not_false false is = cc
 
 -- a rule before what was read is not broken
-pub unbroken-row : {B : Type 0} (broken : Bool) (kind : FaultKind) (rest : Read B) (row : B) → (refuse_if broken kind >> rest) ≡ Ok row → broken ≡ false
+pub unbroken-output : {B : Type 0} (broken : Bool) (kind : FaultKind) (rest : Read B) (output : B) → (refuse_if broken kind >> rest) ≡ Ok output → broken ≡ false
 unfolding refuse_if
-unbroken-row true kind rest row is = cc
-unbroken-row false kind rest row is = refl
+unbroken-output true kind rest output is = cc
+unbroken-output false kind rest output is = refl
 
-pub unbroken_member-row : {B : Type 0} (name : List ℕ) (broken : Bool) (kind : FaultKind) (rest : Read B) (row : B) → (refuse_member_if name broken kind >> rest) ≡ Ok row → broken ≡ false
+pub unbroken_member-output : {B : Type 0} (name : List ℕ) (broken : Bool) (kind : FaultKind) (rest : Read B) (output : B) → (refuse_member_if name broken kind >> rest) ≡ Ok output → broken ≡ false
 unfolding refuse_member_if refuse_if under
-unbroken_member-row name true kind rest row is = cc
-unbroken_member-row name false kind rest row is = refl
+unbroken_member-output name true kind rest output is = cc
+unbroken_member-output name false kind rest output is = refl
 
 all_pass : (items : Items) → all_items (λ _. true) items ≡ true
 all_pass no_items = refl
 all_pass (item value items) = all_pass items
 
-module _ {A : Type 0} (table : Data → Read A) (test : A → Bool) (well : (value : Data) (row : A) → table value ≡ Ok row → test row ≡ true) where
-  pub listed-well : (name : List ℕ) (value : Data) (rows : List A) → listed name table value ≡ Ok rows → list_all test rows ≡ true
-  listed-well name value rows is =
-      list_all-each_item table test (λ _. true) well 0 (items_at name value) rows (listed-row table name value rows is) ∙ all_pass (items_at name value)
+module _ {A : Type 0} (shape : Data → Read A) (test : A → Bool) (well : (value : Data) (output : A) → shape value ≡ Ok output → test output ≡ true) where
+  pub listed-well : (name : List ℕ) (value : Data) (outputs : List A) → listed name shape value ≡ Ok outputs → list_all test outputs ≡ true
+  listed-well name value outputs is =
+      list_all-each_item shape test (λ _. true) well 0 (items_at name value) outputs (listed-output shape name value outputs is) ∙ all_pass (items_at name value)
 
-  pub required-well : (name : List ℕ) (value : Data) (row : A) → required name table value ≡ Ok row → test row ≡ true
-  required-well name value row is =
-      let read = required-row table name value row is in
-      well read.found row read.read
+  pub required-well : (name : List ℕ) (value : Data) (output : A) → required name shape value ≡ Ok output → test output ≡ true
+  required-well name value output is =
+      let read = required-output shape name value output is in
+      well read.found output read.read
 
-  pub optional-well : (name : List ℕ) (value : Data) (row : Option A) → optional name table value ≡ Ok row → if_there test row ≡ true
+  pub optional-well : (name : List ℕ) (value : Data) (output : Option A) → optional name shape value ≡ Ok output → if_there test output ≡ true
   optional-well name value None is = refl
-  optional-well name value (Some row) is =
-      let read = optional-row table name value (Some row) is in
-      well read.found row read.read
+  optional-well name value (Some output) is =
+      let read = optional-output shape name value (Some output) is in
+      well read.found output read.read
 
 -- ---- selectors
 
 key-well : (value : Data) (s : List ℕ) → key value ≡ Ok s → is_key s ≡ true
 unfolding key
 key-well value s is =
-    let read = bind-row (text value) (λ s. refuse_if (not (is_key s)) BadField >> Ok s) s is in
-    let test = not_false (is_key read.first) (unbroken-row (not (is_key read.first)) BadField (Ok read.first) s read.after) in
-    let end : Ok read.first ≡ Ok s = then-row (refuse_if (not (is_key read.first)) BadField) (Ok read.first) s read.after in
+    let read = bind-output (text value) (λ s. refuse_if (not (is_key s)) BadField >> Ok s) s is in
+    let test = not_false (is_key read.first) (unbroken-output (not (is_key read.first)) BadField (Ok read.first) s read.after) in
+    let end : Ok read.first ≡ Ok s = then-output (refuse_if (not (is_key read.first)) BadField) (Ok read.first) s read.after in
     let same : read.first ≡ s = cc in
     rw (← same) test
 
 word-well : (value : Data) (s : List ℕ) → word value ≡ Ok s → is_word s ≡ true
 unfolding word
 word-well value s is =
-    let read = bind-row (text value) (λ s. refuse_if (not (is_word s)) BadField >> Ok s) s is in
-    let test = not_false (is_word read.first) (unbroken-row (not (is_word read.first)) BadField (Ok read.first) s read.after) in
-    let end : Ok read.first ≡ Ok s = then-row (refuse_if (not (is_word read.first)) BadField) (Ok read.first) s read.after in
+    let read = bind-output (text value) (λ s. refuse_if (not (is_word s)) BadField >> Ok s) s is in
+    let test = not_false (is_word read.first) (unbroken-output (not (is_word read.first)) BadField (Ok read.first) s read.after) in
+    let end : Ok read.first ≡ Ok s = then-output (refuse_if (not (is_word read.first)) BadField) (Ok read.first) s read.after in
     let same : read.first ≡ s = cc in
     rw (← same) test
 
@@ -126,11 +126,11 @@ all-fold test made (value ∷ values) before all =
 expression-well : (value : Data) (read : Requirement) → expression value ≡ Ok read → is_well_requirement read ≡ true
 unfolding expression
 expression-well value read is =
-    let past = then-row (must_be_object value) _ read is in
-    let name = bind-row (required (codes "key") key value) _ read past in
-    let operator = bind-row (required (codes "operator") text value) _ read name.after in
-    let values = bind-row (listed (codes "values") word value) _ read operator.after in
-    let op = bind-row (fitting (op_named operator.first) (not (length values.first == 0))) (λ op. Ok (record { key = name.first; op = op; values = distinct values.first })) read values.after in
+    let past = then-output (must_be_object value) _ read is in
+    let name = bind-output (required (codes "key") key value) _ read past in
+    let operator = bind-output (required (codes "operator") text value) _ read name.after in
+    let values = bind-output (listed (codes "values") word value) _ read operator.after in
+    let op = bind-output (fitting (op_named operator.first) (not (length values.first == 0))) (λ op. Ok (record { key = name.first; op = op; values = distinct values.first })) read values.after in
     let made : record { key = name.first; op = op.first; values = distinct values.first } ≡ read = cc in
     let first = required-well key is_key key-well (codes "key") value name.first name.here in
     let words = listed-well word is_word word-well (codes "values") value values.first values.here in
@@ -150,9 +150,9 @@ each_label-well (pair ∷ pairs) is =
 labels-well : (value : Data) (pairs : List (List ℕ × List ℕ)) → labels value ≡ Ok pairs → list_all is_label pairs ≡ true
 unfolding labels
 labels-well value pairs is =
-    let read = bind-row (of_type (as_pairs value)) (λ pairs. refuse_if (not (list_all is_label pairs)) BadField >> Ok pairs) pairs is in
-    let test = not_false (list_all is_label read.first) (unbroken-row (not (list_all is_label read.first)) BadField (Ok read.first) pairs read.after) in
-    let end : Ok read.first ≡ Ok pairs = then-row (refuse_if (not (list_all is_label read.first)) BadField) (Ok read.first) pairs read.after in
+    let read = bind-output (of_type (as_pairs value)) (λ pairs. refuse_if (not (list_all is_label pairs)) BadField >> Ok pairs) pairs is in
+    let test = not_false (list_all is_label read.first) (unbroken-output (not (list_all is_label read.first)) BadField (Ok read.first) pairs read.after) in
+    let end : Ok read.first ≡ Ok pairs = then-output (refuse_if (not (list_all is_label read.first)) BadField) (Ok read.first) pairs read.after in
     let same : read.first ≡ pairs = cc in
     rw (← same) test
 
@@ -164,10 +164,10 @@ or_none-well (Some pairs) is = each_label-well pairs is
 pub selector-well : (value : Data) (read : Selector) → selector value ≡ Ok read → is_well_selector read ≡ true
 unfolding selector
 selector-well value read is =
-    let past = then-row (must_be_object value) _ read is in
-    let known = then-row (refuse_if (has_other (as_object value)) BadSelector) _ read past in
-    let pairs = bind-row (optional (codes "matchLabels") labels value) _ read known in
-    let expressions = bind-row (listed (codes "matchExpressions") expression value) (λ found. Ok (record { requirements = map label_requirement (unwrap_or pairs.first []) ++ found })) read pairs.after in
+    let past = then-output (must_be_object value) _ read is in
+    let known = then-output (refuse_if (has_other (as_object value)) BadSelector) _ read past in
+    let pairs = bind-output (optional (codes "matchLabels") labels value) _ read known in
+    let expressions = bind-output (listed (codes "matchExpressions") expression value) (λ found. Ok (record { requirements = map label_requirement (unwrap_or pairs.first []) ++ found })) read pairs.after in
     let made : record { requirements = map label_requirement (unwrap_or pairs.first []) ++ expressions.first } ≡ read = cc in
     let first = or_none-well pairs.first (optional-well labels (λ found. list_all is_label found) labels-well (codes "matchLabels") value pairs.first pairs.here) in
     let second = listed-well expression is_well_requirement expression-well (codes "matchExpressions") value expressions.first expressions.here in
@@ -196,18 +196,18 @@ cidr_test-iff block = (from_test block, cidr_test block)
 pub cidr_text-well : (value : Data) (block : Cidr) → cidr value ≡ Ok block → is_well_cidr block ≡ true
 cidr_text-well value block is = cidr_test block (cidr-well value block is)
 
-no_except : {B : Type 0} (place : Option ℕ) (rest : Read B) (row : B) → (refuse_except place >> rest) ≡ Ok row → is_none place ≡ true
+no_except : {B : Type 0} (place : Option ℕ) (rest : Read B) (output : B) → (refuse_except place >> rest) ≡ Ok output → is_none place ≡ true
 unfolding under
-no_except None rest row is = refl
-no_except (Some place) rest row is = cc
+no_except None rest output is = refl
+no_except (Some place) rest output is = cc
 
 pub ip_block-well : (value : Data) (read : IpBlock) → ip_block value ≡ Ok read → is_well_block read.cidr read.excepts ≡ true
 unfolding ip_block
 ip_block-well value read is =
-    let past = then-row (must_be_object value) _ read is in
-    let block = bind-row (required (codes "cidr") cidr value) _ read past in
-    let excepts = bind-row (listed (codes "except") cidr value) (λ excepts. refuse_except (first_bad_except block.first excepts) >> Ok (record { cidr = block.first; excepts = excepts })) read block.after in
-    let end = then-row (refuse_except (first_bad_except block.first excepts.first)) (Ok (record { cidr = block.first; excepts = excepts.first })) read excepts.after in
+    let past = then-output (must_be_object value) _ read is in
+    let block = bind-output (required (codes "cidr") cidr value) _ read past in
+    let excepts = bind-output (listed (codes "except") cidr value) (λ excepts. refuse_except (first_bad_except block.first excepts) >> Ok (record { cidr = block.first; excepts = excepts })) read block.after in
+    let end = then-output (refuse_except (first_bad_except block.first excepts.first)) (Ok (record { cidr = block.first; excepts = excepts.first })) read excepts.after in
     let made : record { cidr = block.first; excepts = excepts.first } ≡ read = cc in
     let first = required-well cidr is_well_cidr cidr_text-well (codes "cidr") value block.first block.here in
     let others = listed-well cidr is_well_cidr cidr_text-well (codes "except") value excepts.first excepts.here in
@@ -219,11 +219,11 @@ ip_block-well value read is =
 port_name-well : (value : Data) (s : List ℕ) → port_name value ≡ Ok s → is_key s ≡ true
 unfolding port_name
 port_name-well value s is =
-    let read = bind-row (text value) (λ s. refuse_if (length s == 0) BadPort >> (refuse_if (not (is_word s)) BadField >> Ok s)) s is in
-    let filled = unbroken-row (length read.first == 0) BadPort _ s read.after in
-    let more = then-row (refuse_if (length read.first == 0) BadPort) (refuse_if (not (is_word read.first)) BadField >> Ok read.first) s read.after in
-    let test = not_false (is_word read.first) (unbroken-row (not (is_word read.first)) BadField (Ok read.first) s more) in
-    let end : Ok read.first ≡ Ok s = then-row (refuse_if (not (is_word read.first)) BadField) (Ok read.first) s more in
+    let read = bind-output (text value) (λ s. refuse_if (length s == 0) BadPort >> (refuse_if (not (is_word s)) BadField >> Ok s)) s is in
+    let filled = unbroken-output (length read.first == 0) BadPort _ s read.after in
+    let more = then-output (refuse_if (length read.first == 0) BadPort) (refuse_if (not (is_word read.first)) BadField >> Ok read.first) s read.after in
+    let test = not_false (is_word read.first) (unbroken-output (not (is_word read.first)) BadField (Ok read.first) s more) in
+    let end : Ok read.first ≡ Ok s = then-output (refuse_if (not (is_word read.first)) BadField) (Ok read.first) s more in
     let same : read.first ≡ s = cc in
     rw (← same) (rw (filled, test) refl)
 
@@ -238,20 +238,20 @@ port_value-well value read is = by (as_whole value) is
   where
     by : (number : Option ℤ) → port_value_by number value ≡ Ok read → is_well_value read ≡ true
     by None is =
-        let name = bind-row (port_name value) (λ name. Ok (Name name)) read is in
+        let name = bind-output (port_name value) (λ name. Ok (Name name)) read is in
         let made : Name name.first ≡ read = let after = name.after in cc in
         rw (← made) (port_name-well value name.first name.here)
     by (Some n) is =
-        let number = bind-row (port_number n) (λ number. Ok (Number number)) read is in
+        let number = bind-output (port_number n) (λ number. Ok (Number number)) read is in
         let made : Number number.first ≡ read = let after = number.after in cc in
         rw (← made) refl
 
 end_port-well : (first : Option ℕ) (value : Data) (last : ℕ) → end_port first value ≡ Ok last → may_end first last ≡ true
 unfolding end_port
 end_port-well first value last is =
-    let read = bind-row (port value) (λ last. refuse_if (not (may_end first last)) BadPort >> Ok last) last is in
-    let test = not_false (may_end first read.first) (unbroken-row (not (may_end first read.first)) BadPort (Ok read.first) last read.after) in
-    let end : Ok read.first ≡ Ok last = then-row (refuse_if (not (may_end first read.first)) BadPort) (Ok read.first) last read.after in
+    let read = bind-output (port value) (λ last. refuse_if (not (may_end first last)) BadPort >> Ok last) last is in
+    let test = not_false (may_end first read.first) (unbroken-output (not (may_end first read.first)) BadPort (Ok read.first) last read.after) in
+    let end : Ok read.first ≡ Ok last = then-output (refuse_if (not (may_end first read.first)) BadPort) (Ok read.first) last read.after in
     let same : read.first ≡ last = cc in
     rw (← same) test
 
@@ -267,10 +267,10 @@ spans-well proto (Some (Name name)) last well ends = well
 pub net_port-well : (value : Data) (read : NetPort) → net_port value ≡ Ok read → is_well_net_port read ≡ true
 unfolding net_port
 net_port-well value read is =
-    let past = then-row (must_be_object value) _ read is in
-    let proto = bind-row (protocol value) _ read past in
-    let first = bind-row (optional (codes "port") port_value value) _ read proto.after in
-    let last = bind-row (optional (codes "endPort") (end_port (number_of first.first)) value) (λ last. Ok (net_port_by proto.first first.first last)) read first.after in
+    let past = then-output (must_be_object value) _ read is in
+    let proto = bind-output (protocol value) _ read past in
+    let first = bind-output (optional (codes "port") port_value value) _ read proto.after in
+    let last = bind-output (optional (codes "endPort") (end_port (number_of first.first)) value) (λ last. Ok (net_port_by proto.first first.first last)) read first.after in
     let made : net_port_by proto.first first.first last.first ≡ read = let after = last.after in cc in
     let well = optional-well port_value is_well_value port_value-well (codes "port") value first.first first.here in
     let ends = optional-well (end_port (number_of first.first)) (may_end (number_of first.first)) (end_port-well (number_of first.first)) (codes "endPort") value last.first last.here in
@@ -279,9 +279,9 @@ net_port-well value read is =
 one_port-well : (value : Data) (read : AdminPort) → one_port value ≡ Ok read → is_well_admin_port read ≡ true
 unfolding one_port
 one_port-well value read is =
-    let past = then-row (must_be_object value) _ read is in
-    let proto = bind-row (protocol value) _ read past in
-    let number = bind-row (required (codes "port") port value) (λ number. Ok (admin.Span proto.first number number)) read proto.after in
+    let past = then-output (must_be_object value) _ read is in
+    let proto = bind-output (protocol value) _ read past in
+    let number = bind-output (required (codes "port") port value) (λ number. Ok (admin.Span proto.first number number)) read proto.after in
     let made : admin.Span proto.first number.first number.first ≡ read = let after = number.after in cc in
     rw (← made) (at_most_itself number.first)
 
@@ -291,27 +291,27 @@ not_above lo hi is = grind (arith, nat_tests)
 port_range-well : (value : Data) (read : AdminPort) → port_range value ≡ Ok read → is_well_admin_port read ≡ true
 unfolding port_range
 port_range-well value read is =
-    let past = then-row (must_be_object value) _ read is in
-    let proto = bind-row (protocol value) _ read past in
-    let lo = bind-row (required (codes "start") port value) _ read proto.after in
-    let hi = bind-row (required (codes "end") port value) (λ hi. refuse_member_if (codes "end") (nat_lt hi lo.first) BadPort >> Ok (admin.Span proto.first lo.first hi)) read lo.after in
-    let test = unbroken_member-row (codes "end") (nat_lt hi.first lo.first) BadPort (Ok (admin.Span proto.first lo.first hi.first)) read hi.after in
-    let end = then-row (refuse_member_if (codes "end") (nat_lt hi.first lo.first) BadPort) (Ok (admin.Span proto.first lo.first hi.first)) read hi.after in
+    let past = then-output (must_be_object value) _ read is in
+    let proto = bind-output (protocol value) _ read past in
+    let lo = bind-output (required (codes "start") port value) _ read proto.after in
+    let hi = bind-output (required (codes "end") port value) (λ hi. refuse_member_if (codes "end") (nat_lt hi lo.first) BadPort >> Ok (admin.Span proto.first lo.first hi)) read lo.after in
+    let test = unbroken_member-output (codes "end") (nat_lt hi.first lo.first) BadPort (Ok (admin.Span proto.first lo.first hi.first)) read hi.after in
+    let end = then-output (refuse_member_if (codes "end") (nat_lt hi.first lo.first) BadPort) (Ok (admin.Span proto.first lo.first hi.first)) read hi.after in
     let made : admin.Span proto.first lo.first hi.first ≡ read = cc in
     rw (← made) (not_above lo.first hi.first test)
 
 named_port-well : (value : Data) (read : AdminPort) → named_port value ≡ Ok read → is_well_admin_port read ≡ true
 unfolding named_port
 named_port-well value read is =
-    let name = bind-row (port_name value) (λ name. Ok (admin.Named name)) read is in
+    let name = bind-output (port_name value) (λ name. Ok (admin.Named name)) read is in
     let made : admin.Named name.first ≡ read = let after = name.after in cc in
     rw (← made) (port_name-well value name.first name.here)
 
 pub admin_port-well : (value : Data) (read : AdminPort) → admin_port value ≡ Ok read → is_well_admin_port read ≡ true
 unfolding admin_port
 admin_port-well value read is =
-    let past = then-row (must_be_object value) _ read is in
-    let shaped = then-row (refuse_if (not (has_one_of (codes "portNumber" ∷ codes "portRange" ∷ codes "namedPort" ∷ []) value)) BadPort) (admin_port_member value) read past in
+    let past = then-output (must_be_object value) _ read is in
+    let shaped = then-output (refuse_if (not (has_one_of (codes "portNumber" ∷ codes "portRange" ∷ codes "namedPort" ∷ []) value)) BadPort) (admin_port_member value) read past in
     by (has_member (codes "portNumber") value) (has_member (codes "portRange") value) shaped
   where
     by : (number range : Bool) → cond number (required (codes "portNumber") one_port value) (cond range (required (codes "portRange") port_range value) (required (codes "namedPort") named_port value)) ≡ Ok read → is_well_admin_port read ≡ true

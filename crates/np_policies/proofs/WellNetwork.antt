@@ -1,16 +1,16 @@
--- What is read by the tables of NetworkPolicies is well formed.
+-- What is read by the shapes of NetworkPolicies is well formed.
 use Rattle.std.proofs.Common.{◌≡◌, ℕ, List, Bool, true, false, not, ◌&&◌, Option, Some, None, unwrap_or, codes, Ok, refl}
 use Rattle.std.specs.List.{list_all}
 use Rattle.serde_json.specs.Data.{Data}
 use Rattle.np_json.specs.Meta.{namespace, namespaced_name, or_default}
 use Rattle.np_json.specs.Scalars as scalars
-use Rattle.np_json.specs.Tables.{◌>>◌, listed, must_be_object, optional, refuse_if, required}
+use Rattle.np_json.specs.Shapes.{◌>>◌, listed, must_be_object, optional, refuse_if, required}
 use Rattle.np_json.specs.Words.{is_name}
 use Rattle.np_json.specs.declared.fault.FaultKind.TheVariants.{BadName, PeerShape}
 use Rattle.np_json.specs.declared.meta.NamespacedName.{NamespacedName}
 use Rattle.np_labels.specs.declared.selector.Selector.{Selector}
-use Rattle.np_policies.proofs.ReadLemmas.{bind-row, then-row}
-use Rattle.np_policies.proofs.WellLemmas.{both, not_false, unbroken-row, listed-well, required-well, optional-well, selector-well, ip_block-well, net_port-well}
+use Rattle.np_policies.proofs.ReadLemmas.{bind-output, then-output}
+use Rattle.np_policies.proofs.WellLemmas.{both, not_false, unbroken-output, listed-well, required-well, optional-well, selector-well, ip_block-well, net_port-well}
 use Rattle.np_policies.specs.Blocks.{ip_block}
 use Rattle.np_policies.specs.NetworkPolicies.{empty_spec, has_direction, is_misshapen, net_peer, net_peer_by, net_policy, net_policy_by, net_rule, net_rules, net_spec, peers_member, policy_type, rules_if, rules_member}
 use Rattle.np_policies.specs.Ports.{net_port}
@@ -18,8 +18,8 @@ use Rattle.np_policies.specs.Selectors.{everything, selector}
 use Rattle.np_policies.specs.WellFormed.{if_there, is_well_block, is_well_net_peer, is_well_net_policy, is_well_net_port, is_well_net_rule, is_well_selector}
 use Rattle.np_policies.specs.declared.direction.Direction.{Direction}
 use Rattle.np_policies.specs.declared.direction.Direction.TheVariants.{Ingress, Egress}
-use Rattle.np_policies.specs.declared.ip_block_table.IpBlock.{IpBlock}
-use Rattle.np_policies.specs.declared.net_policy_table.NetSpec.{NetSpec}
+use Rattle.np_policies.specs.declared.ip_block_shape.IpBlock.{IpBlock}
+use Rattle.np_policies.specs.declared.net_policy_shape.NetSpec.{NetSpec}
 use Rattle.np_policies.specs.declared.network_policy.NetPeer.{NetPeer}
 use Rattle.np_policies.specs.declared.network_policy.NetPolicy.{NetPolicy}
 use Rattle.np_policies.specs.declared.network_policy.NetRule.{NetRule}
@@ -29,19 +29,19 @@ use Rattle.np_policies.specs.declared.network_policy.NetRule.{NetRule}
 pub name-well : (value : Data) (s : List ℕ) → scalars.name value ≡ Ok s → is_name s ≡ true
 unfolding scalars.name
 name-well value s is =
-    let read = bind-row (scalars.text value) (λ s. refuse_if (not (is_name s)) BadName >> Ok s) s is in
-    let test = not_false (is_name read.first) (unbroken-row (not (is_name read.first)) BadName (Ok read.first) s read.after) in
-    let end : Ok read.first ≡ Ok s = then-row (refuse_if (not (is_name read.first)) BadName) (Ok read.first) s read.after in
+    let read = bind-output (scalars.text value) (λ s. refuse_if (not (is_name s)) BadName >> Ok s) s is in
+    let test = not_false (is_name read.first) (unbroken-output (not (is_name read.first)) BadName (Ok read.first) s read.after) in
+    let end : Ok read.first ≡ Ok s = then-output (refuse_if (not (is_name read.first)) BadName) (Ok read.first) s read.after in
     let same : read.first ≡ s = cc in
     rw (← same) test
 
 namespace-well : (value : Data) (s : List ℕ) → namespace value ≡ Ok s → is_name s ≡ true
 unfolding namespace
 namespace-well value s is =
-    let read = bind-row (scalars.text value) (λ s. refuse_if (not (is_name (or_default s))) BadName >> Ok (or_default s)) s is in
+    let read = bind-output (scalars.text value) (λ s. refuse_if (not (is_name (or_default s))) BadName >> Ok (or_default s)) s is in
     let made = or_default read.first in
-    let test = not_false (is_name made) (unbroken-row (not (is_name made)) BadName (Ok made) s read.after) in
-    let end : Ok made ≡ Ok s = then-row (refuse_if (not (is_name made)) BadName) (Ok made) s read.after in
+    let test = not_false (is_name made) (unbroken-output (not (is_name made)) BadName (Ok made) s read.after) in
+    let end : Ok made ≡ Ok s = then-output (refuse_if (not (is_name made)) BadName) (Ok made) s read.after in
     let same : made ≡ s = cc in
     rw (← same) test
 
@@ -55,9 +55,9 @@ is_well_name meta = is_name meta.namespace && is_name meta.name
 namespaced_name-well : (value : Data) (read : NamespacedName) → namespaced_name value ≡ Ok read → is_well_name read ≡ true
 unfolding namespaced_name
 namespaced_name-well value read is =
-    let past = then-row (must_be_object value) _ read is in
-    let name = bind-row (required (codes "name") scalars.name value) _ read past in
-    let space = bind-row (optional (codes "namespace") namespace value) (λ space. Ok (record { namespace = unwrap_or space (codes "default"); name = name.first })) read name.after in
+    let past = then-output (must_be_object value) _ read is in
+    let name = bind-output (required (codes "name") scalars.name value) _ read past in
+    let space = bind-output (optional (codes "namespace") namespace value) (λ space. Ok (record { namespace = unwrap_or space (codes "default"); name = name.first })) read name.after in
     let made : record { namespace = unwrap_or space.first (codes "default"); name = name.first } ≡ read = let after = space.after in cc in
     let first = required-well scalars.name is_name name-well (codes "name") value name.first name.here in
     let second = default-well space.first (optional-well namespace is_name namespace-well (codes "namespace") value space.first space.here) in
@@ -72,11 +72,11 @@ peer_by-well pods namespaces (Some block) own spaces is = is
 net_peer-well : (value : Data) (read : NetPeer) → net_peer value ≡ Ok read → is_well_net_peer read ≡ true
 unfolding net_peer
 net_peer-well value read is =
-    let past = then-row (must_be_object value) _ read is in
-    let shaped = then-row (refuse_if (is_misshapen value) PeerShape) _ read past in
-    let pods = bind-row (optional (codes "podSelector") selector value) _ read shaped in
-    let namespaces = bind-row (optional (codes "namespaceSelector") selector value) _ read pods.after in
-    let block = bind-row (optional (codes "ipBlock") ip_block value) (λ block. Ok (net_peer_by pods.first namespaces.first block)) read namespaces.after in
+    let past = then-output (must_be_object value) _ read is in
+    let shaped = then-output (refuse_if (is_misshapen value) PeerShape) _ read past in
+    let pods = bind-output (optional (codes "podSelector") selector value) _ read shaped in
+    let namespaces = bind-output (optional (codes "namespaceSelector") selector value) _ read pods.after in
+    let block = bind-output (optional (codes "ipBlock") ip_block value) (λ block. Ok (net_peer_by pods.first namespaces.first block)) read namespaces.after in
     let made : net_peer_by pods.first namespaces.first block.first ≡ read = let after = block.after in cc in
     let first = optional-well selector is_well_selector selector-well (codes "podSelector") value pods.first pods.here in
     let second = optional-well selector is_well_selector selector-well (codes "namespaceSelector") value namespaces.first namespaces.here in
@@ -86,9 +86,9 @@ net_peer-well value read is =
 net_rule-well : (direction : Direction) (value : Data) (read : NetRule) → net_rule direction value ≡ Ok read → is_well_net_rule read ≡ true
 unfolding net_rule
 net_rule-well direction value read is =
-    let past = then-row (must_be_object value) _ read is in
-    let peers = bind-row (listed (peers_member direction) net_peer value) _ read past in
-    let ports = bind-row (listed (codes "ports") net_port value) (λ ports. Ok (record { peers = peers.first; ports = ports })) read peers.after in
+    let past = then-output (must_be_object value) _ read is in
+    let peers = bind-output (listed (peers_member direction) net_peer value) _ read past in
+    let ports = bind-output (listed (codes "ports") net_port value) (λ ports. Ok (record { peers = peers.first; ports = ports })) read peers.after in
     let made : record { peers = peers.first; ports = ports.first } ≡ read = let after = ports.after in cc in
     let first = listed-well net_peer is_well_net_peer net_peer-well (peers_member direction) value peers.first peers.here in
     let second = listed-well net_port is_well_net_port net_port-well (codes "ports") value ports.first ports.here in
@@ -108,11 +108,11 @@ everything-well (Some one) is = is
 net_spec-well : (value : Data) (read : NetSpec) → net_spec value ≡ Ok read → is_well_spec read ≡ true
 unfolding net_spec
 net_spec-well value read is =
-    let past = then-row (must_be_object value) _ read is in
-    let pods = bind-row (optional (codes "podSelector") selector value) _ read past in
-    let types = bind-row (listed (codes "policyTypes") policy_type value) _ read pods.after in
-    let ingress = bind-row (net_rules Ingress value) _ read types.after in
-    let egress = bind-row (net_rules Egress value) (λ egress. Ok (record { subject = unwrap_or pods.first everything; types = types.first; ingress = ingress.first; egress = egress })) read ingress.after in
+    let past = then-output (must_be_object value) _ read is in
+    let pods = bind-output (optional (codes "podSelector") selector value) _ read past in
+    let types = bind-output (listed (codes "policyTypes") policy_type value) _ read pods.after in
+    let ingress = bind-output (net_rules Ingress value) _ read types.after in
+    let egress = bind-output (net_rules Egress value) (λ egress. Ok (record { subject = unwrap_or pods.first everything; types = types.first; ingress = ingress.first; egress = egress })) read ingress.after in
     let made : record { subject = unwrap_or pods.first everything; types = types.first; ingress = ingress.first; egress = egress.first } ≡ read = let after = egress.after in cc in
     let first = everything-well pods.first (optional-well selector is_well_selector selector-well (codes "podSelector") value pods.first pods.here) in
     rw (← made) (rw (first, net_rules-well Ingress value ingress.first ingress.here, net_rules-well Egress value egress.first egress.here) refl)
@@ -141,8 +141,8 @@ policy_by-well meta spec named well =
 pub net_policy-well : (value : Data) (read : NetPolicy) → net_policy value ≡ Ok read → is_well_net_policy read ≡ true
 unfolding net_policy
 net_policy-well value read is =
-    let meta = bind-row (required (codes "metadata") namespaced_name value) _ read is in
-    let spec = bind-row (optional (codes "spec") net_spec value) (λ spec. Ok (net_policy_by meta.first (unwrap_or spec empty_spec))) read meta.after in
+    let meta = bind-output (required (codes "metadata") namespaced_name value) _ read is in
+    let spec = bind-output (optional (codes "spec") net_spec value) (λ spec. Ok (net_policy_by meta.first (unwrap_or spec empty_spec))) read meta.after in
     let made : net_policy_by meta.first (unwrap_or spec.first empty_spec) ≡ read = let after = spec.after in cc in
     let first = required-well namespaced_name is_well_name namespaced_name-well (codes "metadata") value meta.first meta.here in
     let second = spec_or_empty-well spec.first (optional-well net_spec is_well_spec net_spec-well (codes "spec") value spec.first spec.here) in

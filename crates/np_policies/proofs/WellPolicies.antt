@@ -2,38 +2,38 @@
 use Rattle.std.proofs.Common.{◌≡◌, ℕ, true, Option, Some, None, codes, Result, Ok, Err, IfOk, refl}
 use Rattle.serde_json.specs.Data.{Data}
 use Rattle.np_json.specs.Meta.{type_meta}
-use Rattle.np_json.specs.Tables.{GivesItem, refuse}
+use Rattle.np_json.specs.Shapes.{GivesItem, refuse}
 use Rattle.np_json.specs.declared.fault.FaultKind.TheVariants.{ForeignPolicy}
 use Rattle.np_json.specs.declared.fault.ReadFault.{ReadFault}
 use Rattle.np_json.specs.declared.path.Step.TheVariants.{Field}
-use Rattle.np_policies.proofs.ReadLemmas.{bind-row, under-row}
+use Rattle.np_policies.proofs.ReadLemmas.{bind-output, under-output}
 use Rattle.np_policies.specs.AdminPolicies.{admin_policy, base_policy}
 use Rattle.np_policies.specs.NetworkPolicies.{net_policy}
 use Rattle.np_policies.specs.Policies.{kind_of, policy_by, policy_of}
 use Rattle.np_policies.specs.WellFormed.{if_there, is_well_policy}
 use Rattle.np_policies.specs.declared.policy.Policy.{Policy}
 use Rattle.np_policies.specs.declared.policy.Policy.TheVariants as policy
-use Rattle.np_policies.specs.declared.policy_table.PolicyKind.{PolicyKind}
-use Rattle.np_policies.specs.declared.policy_table.PolicyKind.TheVariants.{Net, Admin, Base, Foreign, NoPolicy}
+use Rattle.np_policies.specs.declared.policy_shape.PolicyKind.{PolicyKind}
+use Rattle.np_policies.specs.declared.policy_shape.PolicyKind.TheVariants.{Net, Admin, Base, Foreign, NoPolicy}
 use Rattle.np_policies.proofs.WellNetwork.{net_policy-well}
 use Rattle.np_policies.proofs.WellAdmin.{admin_policy-well, base_policy-well}
 
 by_kind-well : (kind : PolicyKind) (value : Data) (read : Policy) → policy_by kind value ≡ Ok (Some read) → is_well_policy read ≡ true
 unfolding policy_by
 by_kind-well Net value read is =
-    let one = bind-row (net_policy value) (λ one. Ok (Some (policy.Net one))) (Some read) is in
+    let one = bind-output (net_policy value) (λ one. Ok (Some (policy.Net one))) (Some read) is in
     let made : policy.Net one.first ≡ read = let after = one.after in cc in
     rw (← made) (net_policy-well value one.first one.here)
 by_kind-well Admin value read is =
-    let one = bind-row (admin_policy value) (λ one. Ok (Some (policy.Admin one))) (Some read) is in
+    let one = bind-output (admin_policy value) (λ one. Ok (Some (policy.Admin one))) (Some read) is in
     let made : policy.Admin one.first ≡ read = let after = one.after in cc in
     rw (← made) (admin_policy-well value one.first one.here)
 by_kind-well Base value read is =
-    let one = bind-row (base_policy value) (λ one. Ok (Some (policy.Base one))) (Some read) is in
+    let one = bind-output (base_policy value) (λ one. Ok (Some (policy.Base one))) (Some read) is in
     let made : policy.Base one.first ≡ read = let after = one.after in cc in
     rw (← made) (base_policy-well value one.first one.here)
 by_kind-well Foreign value read is =
-    let none = under-row (Field (codes "kind")) (refuse ForeignPolicy) (Some read) is in
+    let none = under-output (Field (codes "kind")) (refuse ForeignPolicy) (Some read) is in
     cc
 by_kind-well NoPolicy value read is = cc
 
@@ -41,7 +41,7 @@ by_kind-well NoPolicy value read is = cc
 pub policy-well : (value : Data) (read : Policy) → policy_of value ≡ Ok (Some read) → is_well_policy read ≡ true
 unfolding policy_of
 policy-well value read is =
-    let meta = bind-row (type_meta value) (λ meta. policy_by (kind_of meta) value) (Some read) is in
+    let meta = bind-output (type_meta value) (λ meta. policy_by (kind_of meta) value) (Some read) is in
     by_kind-well (kind_of meta.first) value read meta.after
 
 -- what is given of an item, if it is a policy, is well formed

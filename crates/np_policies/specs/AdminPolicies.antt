@@ -1,10 +1,10 @@
--- Tables of AdminNetworkPolicy and BaselineAdminNetworkPolicy of `policy.networking.k8s.io/v1alpha1`
+-- Shapes of AdminNetworkPolicy and BaselineAdminNetworkPolicy of `policy.networking.k8s.io/v1alpha1`
 -- (network-policy-api reference).
 use Rattle.std.specs.Prelude.{ℕ, ℤ, pos, negsuc, List, [], ◌∷◌, length, not, ◌==◌, nat_le, if◌then◌else◌, Option, Some, None, codes, Ok}
 use Rattle.std.specs.Str.{bytes_eq}
 use Rattle.serde_json.specs.Data.{Data}
 use Rattle.np_json.specs.Scalars.{name, text, whole}
-use Rattle.np_json.specs.Tables.{Read, ◌>>=◌, ◌>>◌, has_member, has_one_of, listed, must_be_object, refuse, refuse_if, refuse_member_if, required}
+use Rattle.np_json.specs.Shapes.{Read, ◌>>=◌, ◌>>◌, has_member, has_one_of, listed, must_be_object, refuse, refuse_if, refuse_member_if, required}
 use Rattle.np_json.specs.declared.fault.FaultKind.TheVariants.{BadAction, BadPriority, BaselineName, DomainPeer, EmptyPeers, NodePeer, PeerShape}
 use Rattle.np_labels.specs.declared.selector.Selector.{Selector}
 use Rattle.np_policies.specs.Blocks.{cidr}
@@ -19,9 +19,9 @@ use Rattle.np_policies.specs.declared.admin_policy.AdminPolicy.{AdminPolicy}
 use Rattle.np_policies.specs.declared.admin_policy.AdminRule.{AdminRule}
 use Rattle.np_policies.specs.declared.admin_policy.BasePolicy.{BasePolicy}
 use Rattle.np_policies.specs.declared.admin_policy.Subject.{Subject}
-use Rattle.np_policies.specs.declared.admin_policy_table.AdminSpec.{AdminSpec}
-use Rattle.np_policies.specs.declared.admin_rule_table.Tier.{Tier}
-use Rattle.np_policies.specs.declared.admin_rule_table.Tier.TheVariants.{Admin, Baseline}
+use Rattle.np_policies.specs.declared.admin_policy_shape.AdminSpec.{AdminSpec}
+use Rattle.np_policies.specs.declared.admin_rule_shape.Tier.{Tier}
+use Rattle.np_policies.specs.declared.admin_rule_shape.Tier.TheVariants.{Admin, Baseline}
 use Rattle.np_policies.specs.declared.direction.Direction.{Direction}
 use Rattle.np_policies.specs.declared.direction.Direction.TheVariants.{Ingress, Egress}
 

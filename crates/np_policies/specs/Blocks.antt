@@ -1,14 +1,14 @@
--- Tables of blocks of addresses (Kubernetes API reference, IPBlock).
+-- Shapes of blocks of addresses (Kubernetes API reference, IPBlock).
 use Rattle.std.specs.Prelude.{ℕ, Option, Some, None, codes, Ok, ⊤}
 use Rattle.serde_json.specs.Data.{Data}
 use Rattle.np_addr.specs.AddressGrammar.{cidr_of}
 use Rattle.np_addr.specs.Blocks.{first_bad_except}
 use Rattle.np_addr.specs.declared.cidr.Cidr.{Cidr}
 use Rattle.np_json.specs.Scalars.{text}
-use Rattle.np_json.specs.Tables.{Read, ◌>>=◌, ◌>>◌, listed, must_be_object, refuse, required, under}
+use Rattle.np_json.specs.Shapes.{Read, ◌>>=◌, ◌>>◌, listed, must_be_object, refuse, required, under}
 use Rattle.np_json.specs.declared.fault.FaultKind.TheVariants.{BadCidr, BadExcept}
 use Rattle.np_json.specs.declared.path.Step.TheVariants.{Field, Item}
-use Rattle.np_policies.specs.declared.ip_block_table.IpBlock.{IpBlock}
+use Rattle.np_policies.specs.declared.ip_block_shape.IpBlock.{IpBlock}
 
 -- a block that was read, else BadCidr
 abbrev pub cidr_by : Option Cidr → Read Cidr

@@ -1,11 +1,11 @@
--- Tables of NetworkPolicy of `networking.k8s.io/v1` (Kubernetes API reference, NetworkPolicy).
+-- Shapes of NetworkPolicy of `networking.k8s.io/v1` (Kubernetes API reference, NetworkPolicy).
 use Rattle.std.specs.Prelude.{ℕ, List, [], length, Bool, true, false, not, ◌||◌, ◌==◌, if◌then◌else◌, Option, Some, None, unwrap_or, codes, Ok}
 use Rattle.std.specs.List.{list_any}
 use Rattle.std.specs.Str.{bytes_eq}
 use Rattle.serde_json.specs.Data.{Data}
 use Rattle.np_json.specs.Meta.{namespaced_name}
 use Rattle.np_json.specs.Scalars.{of_type, text}
-use Rattle.np_json.specs.Tables.{Read, ◌>>=◌, ◌>>◌, has_member, listed, must_be_object, optional, refuse_if, required}
+use Rattle.np_json.specs.Shapes.{Read, ◌>>=◌, ◌>>◌, has_member, listed, must_be_object, optional, refuse_if, required}
 use Rattle.np_json.specs.declared.fault.FaultKind.TheVariants.{PeerShape}
 use Rattle.np_json.specs.declared.meta.NamespacedName.{NamespacedName}
 use Rattle.np_labels.specs.declared.selector.Selector.{Selector}
@@ -14,8 +14,8 @@ use Rattle.np_policies.specs.Ports.{net_port}
 use Rattle.np_policies.specs.Selectors.{selector, everything}
 use Rattle.np_policies.specs.declared.direction.Direction.{Direction}
 use Rattle.np_policies.specs.declared.direction.Direction.TheVariants.{Ingress, Egress}
-use Rattle.np_policies.specs.declared.ip_block_table.IpBlock.{IpBlock}
-use Rattle.np_policies.specs.declared.net_policy_table.NetSpec.{NetSpec}
+use Rattle.np_policies.specs.declared.ip_block_shape.IpBlock.{IpBlock}
+use Rattle.np_policies.specs.declared.net_policy_shape.NetSpec.{NetSpec}
 use Rattle.np_policies.specs.declared.network_policy.NetPeer.{NetPeer}
 use Rattle.np_policies.specs.declared.network_policy.NetPeer.TheVariants.{Pods, Block}
 use Rattle.np_policies.specs.declared.network_policy.NetPolicy.{NetPolicy}

@@ -4,7 +4,7 @@ use Rattle.std.specs.List.{ends_with}
 use Rattle.std.specs.Str.{bytes_eq}
 use Rattle.serde_json.specs.Data.{Data}
 use Rattle.np_json.specs.Meta.{type_meta}
-use Rattle.np_json.specs.Tables.{Read, ◌>>=◌, refuse, under}
+use Rattle.np_json.specs.Shapes.{Read, ◌>>=◌, refuse, under}
 use Rattle.np_json.specs.declared.fault.FaultKind.TheVariants.{ForeignPolicy}
 use Rattle.np_json.specs.declared.meta.TypeMeta.{TypeMeta}
 use Rattle.np_json.specs.declared.path.Step.TheVariants.{Field}
@@ -12,8 +12,8 @@ use Rattle.np_policies.specs.AdminPolicies.{admin_policy, base_policy}
 use Rattle.np_policies.specs.NetworkPolicies.{net_policy}
 use Rattle.np_policies.specs.declared.policy.Policy.{Policy}
 use Rattle.np_policies.specs.declared.policy.Policy.TheVariants as policy
-use Rattle.np_policies.specs.declared.policy_table.PolicyKind.{PolicyKind}
-use Rattle.np_policies.specs.declared.policy_table.PolicyKind.TheVariants.{Net, Admin, Base, Foreign, NoPolicy}
+use Rattle.np_policies.specs.declared.policy_shape.PolicyKind.{PolicyKind}
+use Rattle.np_policies.specs.declared.policy_shape.PolicyKind.TheVariants.{Net, Admin, Base, Foreign, NoPolicy}
 
 -- whether an object is of a version and kind
 abbrev pub is_of : List ℕ → List ℕ → TypeMeta → Bool

@@ -1,28 +1,28 @@
 //! The policies of a cluster as typed values, and how they are read from JSON.
 #![tactic(auto)]
 
-mod admin_peer_table;
+mod admin_peer_shape;
 mod admin_policy;
-mod admin_policy_table;
-mod admin_port_table;
-mod admin_rule_table;
+mod admin_policy_shape;
+mod admin_port_shape;
+mod admin_rule_shape;
 mod direction;
-mod expression_table;
-mod ip_block_table;
+mod expression_shape;
+mod ip_block_shape;
 pub mod laws;
-mod net_peer_table;
-mod net_policy_table;
-mod net_port_table;
-mod net_rule_table;
+mod net_peer_shape;
+mod net_policy_shape;
+mod net_port_shape;
+mod net_rule_shape;
 mod network_policy;
 mod policy;
-mod policy_table;
+mod policy_shape;
 mod port_members;
-mod selector_table;
-mod subject_table;
+mod selector_shape;
+mod subject_shape;
 
 pub use admin_policy::{Action, AdminPeer, AdminPolicy, AdminPort, AdminRule, BasePolicy, Subject};
 pub use direction::Direction;
 pub use network_policy::{NetPeer, NetPolicy, NetPort, NetRule};
 pub use policy::Policy;
-pub use policy_table::read_policy;
+pub use policy_shape::read_policy;

@@ -1,19 +1,19 @@
 //! The members that port entries of all policies have: protocols and names of ports.
 ghost use Rattle.std.specs.Prelude.{◌≡◌, codes};
 ghost use Rattle.serde_json.specs.View.{view};
-ghost use Rattle.np_json.specs.Tables.{Gives};
-ghost use Rattle.np_policies.specs.Ports as tables;
+ghost use Rattle.np_json.specs.Shapes.{Gives};
+ghost use Rattle.np_policies.specs.Ports as shapes;
 
 use np_base::Text;
 use np_conns::Proto;
-use np_json::{FaultKind, Table, TableFault, is_word, of_type, optional, refuse, refuse_if};
+use np_json::{FaultKind, Shape, ShapeFault, is_word, of_type, optional, refuse, refuse_if};
 use serde_json::Value;
 use std::alloc::Global;
 
 /// The member `protocol`: `TCP`, `UDP` or `SCTP`, and TCP where it is missing. Another text is `BadProtocol`.
 #[tactic(auto, unfolding(crate::specs::Ports::protocol))]
-pub(crate) fn protocol(alloc: Global, object: &Value) -> Result<Proto, TableFault>
-    ensures { Gives result (tables.protocol (view object.now)) }
+pub(crate) fn protocol(alloc: Global, object: &Value) -> Result<Proto, ShapeFault>
+    ensures { Gives result (shapes.protocol (view object.now)) }
 {
     let proto = optional(alloc, object, "protocol", &ProtoName)?;
     Ok(proto.unwrap_or(Proto::Tcp))
@@ -23,13 +23,13 @@ pub(crate) fn protocol(alloc: Global, object: &Value) -> Result<Proto, TableFaul
 #[derive(Drop)]
 struct ProtoName;
 
-impl Table for ProtoName {
-    type Row = Proto;
+impl Shape for ProtoName {
+    type Output = Proto;
 
-    ghost reads = { λ _. tables.proto };
+    ghost reads = { λ _. shapes.proto };
 
     #[tactic(auto, unfolding(crate::specs::Ports::proto))]
-    fn read(&self, alloc: Global, value: &Value) -> Result<Proto, TableFault> {
+    fn read(&self, alloc: Global, value: &Value) -> Result<Proto, ShapeFault> {
         let text = of_type(alloc, value.as_str())?;
         match Proto::named(text) {
             Some(proto) => Ok(proto),
@@ -42,13 +42,13 @@ impl Table for ProtoName {
 #[derive(Drop)]
 pub(crate) struct PortName;
 
-impl Table for PortName {
-    type Row = Text;
+impl Shape for PortName {
+    type Output = Text;
 
-    ghost reads = { λ _. tables.port_name };
+    ghost reads = { λ _. shapes.port_name };
 
     #[tactic(auto, unfolding(crate::specs::Ports::port_name))]
-    fn read(&self, alloc: Global, value: &Value) -> Result<Text, TableFault> {
+    fn read(&self, alloc: Global, value: &Value) -> Result<Text, ShapeFault> {
         let text = of_type(alloc, value.as_str())?;
         refuse_if(alloc, text.is_empty(), FaultKind::BadPort)?;
         refuse_if(alloc, !is_word(text), FaultKind::BadField)?;

@@ -1,5 +1,5 @@
 use Rattle.std.proofs.Common.{refl}
-use Rattle.np_json.specs.Tables.{listed, must_be_object, optional, refuse_if, under}
+use Rattle.np_json.specs.Shapes.{listed, must_be_object, optional, refuse_if, under}
 use Rattle.np_policies.specs.Selectors.{selector}
 use Rattle.np_policies.proofs.laws.empty_selector_is_met.Goals as goal
 

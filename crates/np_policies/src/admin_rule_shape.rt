@@ -1,0 +1,105 @@
+//! Rules of admin policies.
+ghost use Rattle.std.specs.Prelude.{◌≡◌};
+ghost use Rattle.serde_json.specs.View.{view};
+ghost use Rattle.np_json.specs.Shapes.{Gives};
+ghost use Rattle.np_policies.specs.AdminPolicies as shapes;
+
+use crate::admin_peer_shape::admin_peers;
+use crate::admin_policy::{Action, AdminRule};
+use crate::admin_port_shape::AdminPortShape;
+use crate::direction::Direction;
+use crate::net_rule_shape::rules_member;
+use np_base::Seq;
+use np_json::{FaultKind, Shape, ShapeFault, listed, must_be_object, of_type, refuse, required};
+use serde_json::Value;
+use std::alloc::Global;
+
+/// The two kinds of policies whose rules have actions.
+#[derive(Clone, Copy)]
+pub(crate) enum Tier {
+    Admin,
+    Baseline,
+}
+
+/// The rules of a direction.
+#[tactic(auto, unfolding(crate::specs::AdminPolicies::admin_rules))]
+pub(crate) fn admin_rules(
+    alloc: Global,
+    tier: Tier,
+    direction: Direction,
+    spec: &Value,
+) -> Result<Seq<AdminRule>, ShapeFault>
+    ensures { Gives result (shapes.admin_rules tier direction (view spec.now)) }
+{
+    let shape = AdminRuleShape { tier, direction };
+    listed(alloc, spec, rules_member(direction), &shape)
+}
+
+// The shape of an entry of `ingress` or `egress` (network-policy-api reference, AdminNetworkPolicyIngressRule and
+// AdminNetworkPolicyEgressRule): `action`, which is required, `from` or `to`, and `ports`.
+#[derive(Drop)]
+struct AdminRuleShape {
+    tier: Tier,
+    direction: Direction,
+}
+
+impl Shape for AdminRuleShape {
+    type Output = AdminRule;
+
+    ghost reads = { λ shape. shapes.admin_rule shape.tier shape.direction };
+
+    #[tactic(auto, unfolding(crate::specs::AdminPolicies::admin_rule))]
+    fn read(&self, alloc: Global, value: &Value) -> Result<AdminRule, ShapeFault> {
+        must_be_object(alloc, value)?;
+        let action = required(alloc, value, "action", &ActionName { tier: self.tier })?;
+        let peers = admin_peers(alloc, self.direction, value)?;
+        let ports = listed(alloc, value, "ports", &AdminPortShape)?;
+        Ok(AdminRule {
+            action,
+            peers,
+            ports,
+        })
+    }
+}
+
+// A text that names an action of such a policy. Another text is `BadAction`.
+#[derive(Drop)]
+struct ActionName {
+    tier: Tier,
+}
+
+impl Shape for ActionName {
+    type Output = Action;
+
+    ghost reads = { λ shape. shapes.action shape.tier };
+
+    #[tactic(auto, unfolding(crate::specs::AdminPolicies::action))]
+    fn read(&self, alloc: Global, value: &Value) -> Result<Action, ShapeFault> {
+        let text = of_type(alloc, value.as_str())?;
+        match action_named(self.tier, text) {
+            Some(action) => Ok(action),
+            None => refuse(alloc, FaultKind::BadAction),
+        }
+    }
+}
+
+fn action_named(tier: Tier, text: &str) -> Option<Action>
+    ensures { result ≡ shapes.action_named tier text.now }
+{
+    match text {
+        "Allow" => Some(Action::Allow),
+        "Deny" => Some(Action::Deny),
+        "Pass" => pass_of(tier),
+        _ => None,
+    }
+}
+
+// A baseline passes nothing on.
+fn pass_of(tier: Tier) -> Option<Action>
+    ensures { result ≡ shapes.pass_of tier }
+{
+    match tier {
+        Tier::Admin => Some(Action::Pass),
+        Tier::Baseline => None,
+    }
+}

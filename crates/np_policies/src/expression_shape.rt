@@ -1,0 +1,114 @@
+//! The expressions of label selectors.
+ghost use Rattle.std.specs.Prelude.{◌≡◌, IfOk};
+ghost use Rattle.np_json.specs.Shapes.{Gives};
+ghost use Rattle.np_policies.specs.Selectors as shapes;
+
+use np_base::{NoMemory, Seq, Text};
+use np_json::{
+    AnyText, FaultKind, Shape, ShapeFault, Word, is_word, listed, must_be_object, of_type, refuse,
+    refuse_if, required,
+};
+use np_labels::{Op, Requirement};
+use serde_json::Value;
+use std::alloc::Global;
+use std::collections::BTreeSet;
+
+/// The shape of an entry of `matchExpressions` (Kubernetes API reference, LabelSelectorRequirement): `key`, a word
+/// that is not empty and `operator`, both required, and `values`, a list of words. It is `BadSelector` where the
+/// operator is unknown, or where it has no values and needs some, or has some and needs none.
+#[derive(Drop)]
+pub(crate) struct ExpressionShape;
+
+impl Shape for ExpressionShape {
+    type Output = Requirement;
+
+    ghost reads = { λ _. shapes.expression };
+
+    #[tactic(auto, unfolding(crate::specs::Selectors::expression))]
+    fn read(&self, alloc: Global, value: &Value) -> Result<Requirement, ShapeFault> {
+        must_be_object(alloc, value)?;
+        let key = required(alloc, value, "key", &Key)?;
+        let operator = required(alloc, value, "operator", &AnyText)?;
+        let values = listed(alloc, value, "values", &Word)?;
+        let has_values = !values.items().is_empty();
+        let op = fitting(alloc, op_named(operator.as_str()), has_values)?;
+        let values = distinct(alloc, values)?;
+        Ok(Requirement { key, op, values })
+    }
+}
+
+// A text that may be the key of a label. Anything else is `BadField`.
+#[derive(Drop)]
+struct Key;
+
+impl Shape for Key {
+    type Output = Text;
+
+    ghost reads = { λ _. shapes.key };
+
+    #[tactic(auto, unfolding(crate::specs::Selectors::key))]
+    fn read(&self, alloc: Global, value: &Value) -> Result<Text, ShapeFault> {
+        let text = of_type(alloc, value.as_str())?;
+        refuse_if(alloc, !is_key(text), FaultKind::BadField)?;
+        Ok(Text::of(alloc, text)?)
+    }
+}
+
+fn is_key(text: &str) -> bool
+    ensures { result ≡ shapes.is_key text.now }
+{
+    !text.is_empty() && is_word(text)
+}
+
+// What an operator asks.
+fn op_named(operator: &str) -> Option<Op>
+    ensures { result ≡ shapes.op_named operator.now }
+{
+    match operator {
+        "In" => Some(Op::OneOf),
+        "NotIn" => Some(Op::NoneOf),
+        "Exists" => Some(Op::Present),
+        "DoesNotExist" => Some(Op::Absent),
+        _ => None,
+    }
+}
+
+// An operator that is known and may stand with values, or without: it is `BadSelector` else.
+fn fitting(alloc: Global, op: Option<Op>, has_values: bool) -> Result<Op, ShapeFault>
+    ensures { Gives result (shapes.fitting op has_values) }
+{
+    match op {
+        Some(op) if fits(op, has_values) => Ok(op),
+        _ => refuse(alloc, FaultKind::BadSelector),
+    }
+}
+
+fn fits(op: Op, has_values: bool) -> bool
+    ensures { result ≡ shapes.fits op has_values }
+{
+    match op {
+        Op::OneOf | Op::NoneOf => has_values,
+        Op::Present | Op::Absent => !has_values,
+    }
+}
+
+// The values in the order of their bytes, each once.
+fn distinct(alloc: Global, values: Seq<Text>) -> Result<Seq<Text>, NoMemory>
+    ensures { IfOk result (λ made. made ≡ shapes.distinct values) }
+{
+    let mut kept = Seq::new(alloc);
+    for value in value_set(alloc, values)? {
+        kept.push(value)?;
+    }
+    Ok(kept)
+}
+
+fn value_set(alloc: Global, values: Seq<Text>) -> Result<BTreeSet<Text>, NoMemory>
+    ensures { IfOk result (λ made. made.keys ≡ shapes.distinct values) }
+{
+    let mut set = BTreeSet::new(alloc);
+    for value in values.into_vec() {
+        set.insert(value)?;
+    }
+    Ok(set)
+}
