@@ -1,0 +1,90 @@
+# The kept program dist/np, its sources and how it is built. Sourced by ./np, ./release and ./prove with `root` set
+# to the top of the repository.
+
+# The crates that the program np stands on, np last among equals: the closure of its line in crates.txt, in the order of
+# that file.
+program_crates() {
+    awk -F: '
+        { sub(/#.*/, "") }
+        NF > 1 { split($1, head, " "); below[head[1]] = $2; order[++count] = head[1] }
+        END {
+            wanted["np"] = 1
+            for (again = 1; again; ) {
+                again = 0
+                for (name in wanted) {
+                    n = split(below[name], deps, " ")
+                    for (i = 1; i <= n; i++) if (deps[i] in below && !(deps[i] in wanted)) { wanted[deps[i]] = 1; again = 1 }
+                }
+            }
+            for (i = 1; i <= count; i++) if (order[i] in wanted) print order[i]
+        }' "$root/crates.txt"
+}
+
+# What dist/np is built from, as the lines of its manifest: the digest of the lines of crates.txt that count, and that of
+# every file of those crates that is proved or compiled.
+source_digests() {
+    local crates
+    mapfile -t crates < <(program_crates)
+    (
+        cd "$root/crates" || exit 1
+        printf '%s  crates.txt\n' "$(awk -F: -v names=" ${crates[*]} " '
+            { sub(/#.*/, ""); split($1, head, " ") } NF > 1 && index(names, " " head[1] " ")' ../crates.txt | sha256sum | cut -d' ' -f1)"
+        for crate in "${crates[@]}"; do
+            find "$crate/src" "$crate/specs" "$crate/proofs" -type f \( -name '*.rt' -o -name '*.antt' \) -print0 2>/dev/null
+        done | LC_ALL=C sort -z | xargs -0 -r sha256sum | sed 's|  |  crates/|'
+    )
+}
+
+# The whole manifest but for its first line, which names the kit: the digest of the program, and those of its sources.
+manifest_body() {
+    printf 'program %s\n' "$(sha256sum <"$1" | cut -d' ' -f1)"
+    source_digests
+}
+
+# Whether dist/np was built from the sources that stand here and is as it was built.
+is_current() {
+    [ -x "$root/dist/np" ] && [ -f "$root/dist/manifest" ] && manifest_body "$root/dist/np" | cmp -s - <(tail -n +2 "$root/dist/manifest")
+}
+
+# Tells how far a proof is, line by line on standard error, from what `rt ci` prints of so many crates.
+tell_progress() {
+    awk -v total="$1" '
+        /^rt: [a-z0-9_]+ (proved|is kept)/ { printf "[%d/%d] %s\n", ++done, total, $2 > "/dev/stderr"; fflush("/dev/stderr") }
+        /^rt: [a-z0-9_]+ NOT PROVED/ { printf "%s could not be proved\n", $2 > "/dev/stderr"; fflush("/dev/stderr") }'
+}
+
+# Proves the crates of the program and builds it at the path $1. Tests and edits are not tried: `./prove` does.
+build_program() {
+    if ! command -v rt >/dev/null; then
+        echo "np: the program has to be built from its sources, which needs the Rattle kit (its command rt is not on the path)" >&2
+        echo "np: with the sources as they were released (git status shows what was changed) no kit is needed" >&2
+        return 1
+    fi
+    local crates room log status
+    mapfile -t crates < <(program_crates)
+    room=$(mktemp -d) || return 1
+    log=$room/log
+    mkdir -p "$room/repository/crates"
+    echo "np: proving ${#crates[@]} crates and building the program; where nothing was proved before this takes about 20 minutes on four cores" >&2
+    awk -F: -v names=" ${crates[*]} " '{ split($1, head, " ") } NF > 1 && index(names, " " head[1] " ")' "$root/crates.txt" >"$room/repository/crates.txt"
+    cp "$root/HANDLES" "$room/repository/"
+    for crate in "${crates[@]}"; do
+        mkdir "$room/repository/crates/$crate"
+        for part in src specs proofs stdin stdout args status data; do
+            [ -e "$root/crates/$crate/$part" ] && cp -r "$root/crates/$crate/$part" "$room/repository/crates/$crate/"
+        done
+    done
+    (cd "$room/repository" && env -u CI rt ci </dev/null 2>&1) | tee "$log" | tell_progress "${#crates[@]}"
+    status=${PIPESTATUS[0]}
+    if [ "$status" = 0 ] && [ -x "$room/repository/crates/np/out/np" ]; then
+        cp "$room/repository/crates/np/out/np" "$1"
+        chmod 755 "$1"
+    else
+        status=1
+        grep -E 'error|NOT PROVED|FAILED' "$log" | head -20 >&2
+        cp "$log" "${TMPDIR:-/tmp}/np-build.log"
+        echo "np: the program was not built; ${TMPDIR:-/tmp}/np-build.log has what the prover said, and ./prove tells the same of the whole repository" >&2
+    fi
+    rm -rf "$room"
+    return "$status"
+}
