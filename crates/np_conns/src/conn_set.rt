@@ -57,13 +57,25 @@ impl ConnSet {
         ensures well { IfOk result IsConns }
         ensures succeeds { IsOk result }
     {
-        let mut set = ConnSet::nothing(alloc)?;
-        match proto {
-            Proto::Tcp => set.tcp = ports,
-            Proto::Udp => set.udp = ports,
-            Proto::Sctp => set.sctp = ports,
-        }
-        Ok(set)
+        let first = IntervalSet::nothing(alloc)?;
+        let second = IntervalSet::nothing(alloc)?;
+        Ok(match proto {
+            Proto::Tcp => ConnSet {
+                tcp: ports,
+                udp: first,
+                sctp: second,
+            },
+            Proto::Udp => ConnSet {
+                tcp: first,
+                udp: ports,
+                sctp: second,
+            },
+            Proto::Sctp => ConnSet {
+                tcp: first,
+                udp: second,
+                sctp: ports,
+            },
+        })
     }
 
     /// Whether the spot is in the set.
