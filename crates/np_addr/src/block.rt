@@ -1,5 +1,5 @@
 //! The addresses of a block without some of its parts.
-ghost use Rattle.std.specs.Prelude.{◌≡◌, ℕ, ◌+◌, ◌-◌, ◌^◌, ◌≤◌, ◌↔◌, Err, Some, IfOk, All, min};
+ghost use Rattle.std.specs.Prelude.{◌≡◌, ℕ, ◌+◌, ◌-◌, ◌^◌, ◌≤◌, ◌↔◌, Err, Some, IfOk, IsOk, All, min};
 ghost use Rattle.std.specs.List.{list_any};
 ghost use Rattle.np_addr.specs.Addresses.{IsAddress, IsCidr, cidr_has};
 ghost use Rattle.np_addr.specs.Blocks.{set_has, IsAddressSet, bits_of, base_of, is_strict_part, first_bad_except, block_has};
@@ -128,13 +128,15 @@ fn base_of(block: &Cidr) -> Address
     }
 }
 
-/// All addresses of the block. Where it is not well formed, it is cut at the greatest address of its family.
+/// All addresses of the block. Where it is not well formed, it is cut at the greatest address of its family. It takes
+/// no memory.
 pub fn cidr_set(alloc: Global, cidr: &Cidr) -> Result<AddrSet, NoMemory>
     ensures members { IfOk result (λ set. (address : Address) → IsAddress address →
         set_has set address ≡ cidr_has cidr.now address) }
     ensures exact { IsCidr cidr.now → IfOk result (λ set. (address : Address) →
         set_has set address ≡ cidr_has cidr.now address) }
     ensures well { IfOk result IsAddressSet }
+    ensures succeeds { IsOk result }
 {
     match cidr {
         Cidr::Four { base, length } => Ok(Beside {
