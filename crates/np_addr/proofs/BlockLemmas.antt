@@ -4,7 +4,8 @@ use Rattle.std.proofs.Math.Nat.{mul-mod_left, mul-le-mul_right, add-mul}
 use Rattle.std.specs.Option.{SomeIff}
 use Rattle.std.proofs.lemmas.Nat.{pow_pos, shr_below, shr_split, pow-add}
 use Rattle.std.proofs.lemmas.Nat.Bits.{and_high_mask}
-use Rattle.std.proofs.lemmas.List.{take_more}
+use Rattle.std.proofs.lemmas.List.{take_all}
+use Rattle.std.proofs.lemmas.List.Folds.{list_any-append, list_any_more}
 use Rattle.std.proofs.lemmas.Bool.Decides.{nat_tests}
 use Rattle.std.specs.List.{list_any}
 use Rattle.np_base.specs.Beside.{by_side}
@@ -44,47 +45,38 @@ block_end width len n within rest fits =
     let parts : (n / 2 ^ free + 1) * 2 ^ free ≡ n / 2 ^ free * 2 ^ free + 2 ^ free = add-mul (n / 2 ^ free) 1 (2 ^ free) ∙ ap (λ k. n / 2 ^ free * 2 ^ free + k) (one-mul (2 ^ free)) in
     omega (arith, next, parts, all, rest, shr_split n free)
 
+-- one set more at the end has its addresses more
 list_any-push : {X : Type 0} (test : X → Bool) (xs : List X) (x : X) → list_any test (xs ++ x ∷ []) ≡ (list_any test xs || test x)
-list_any-push test [] x = or_false (test x)
+list_any-push test xs x = list_any-append test xs (x ∷ []) ∙ ap (λ t. list_any test xs || t) (or_false (test x))
   where
     or_false : (t : Bool) → (t || false) ≡ t
     or_false true = refl
     or_false false = refl
-list_any-push test (y ∷ xs) x = go (test y) (list_any-push test xs x)
-  where
-    go : (t : Bool) → list_any test (xs ++ x ∷ []) ≡ (list_any test xs || test x) → (t || list_any test (xs ++ x ∷ [])) ≡ ((t || list_any test xs) || test x)
-    go true more = refl
-    go false more = more
 
-and_not_or : (inside one other : Bool) → (inside && not (one || other)) ≡ ((inside && not one) && not other)
-and_not_or true true other = refl
-and_not_or true false other = refl
-and_not_or false one other = refl
-
--- one except more is one part less
-block_has-more : (block : Cidr) (excepts : List Cidr) (i : ℕ) (except : Cidr) (address : Address) → i < length excepts → except ≡ get_or excepts i except → block_has block (take (i + 1) excepts) address ≡ (block_has block (take i excepts) address && not (cidr_has except address))
-block_has-more block excepts i except address within is =
-    let test : Cidr → Bool = λ e. cidr_has e address in
-    let front : take (i + 1) excepts ≡ take i excepts ++ except ∷ [] = take_more excepts i except within ∙ ap (λ e. take i excepts ++ e ∷ []) (sym is) in
-    ap (λ es. cidr_has block address && not (list_any test es)) front
-    ∙ ap (λ t. cidr_has block address && not t) (list_any-push test (take i excepts) except)
-    ∙ and_not_or (cidr_has block address) (list_any test (take i excepts)) (cidr_has except address)
+-- the sets of one block more
+pub one_more : (blocks : List Cidr) (i : ℕ) (block : Cidr) (sets : List AddressRanges) (more : AddressRanges) (made : List AddressRanges) → i < length blocks → block ≡ get_or blocks i block → made ≡ sets ++ more ∷ [] → ((address : Address) → list_any (λ set. set_has set address) sets ≡ list_any (λ b. cidr_has b address) (take i blocks)) → ((address : Address) → set_has more address ≡ cidr_has block address) → (address : Address) → list_any (λ set. set_has set address) made ≡ list_any (λ b. cidr_has b address) (take (i + 1) blocks)
+one_more blocks i block sets more made within is adds so_far part address =
+    let in_set : AddressRanges → Bool = λ set. set_has set address in
+    let in_block : Cidr → Bool = λ b. cidr_has b address in
+    ap (list_any in_set) adds
+    ∙ list_any-push in_set sets more
+    ∙ ap (λ t. t || in_set more) (so_far address)
+    ∙ ap (λ t. list_any in_block (take i blocks) || t) (part address ∙ ap in_block is)
+    ∙ sym (list_any_more in_block blocks i block within)
 
 -- the spots of both families
 abbrev pub ranges_have : AddressRanges → Which ℕ ℕ → Bool
 ranges_have set = by_side (λ n. holds (λ a. a) set.first n) (λ n. holds (λ a. a) set.second n)
 
--- what is taken away is away
-set_has-minus : (set hole made : AddressRanges) → ((spot : Which ℕ ℕ) → ranges_have made spot ≡ (ranges_have set spot && not (ranges_have hole spot))) → (address : Address) → set_has made address ≡ (set_has set address && not (set_has hole address))
-set_has-minus set hole made minus (Four n) = minus (First n)
-set_has-minus set hole made minus (Six n) = minus (Second n)
+-- the sets of all blocks, joined
+pub set_has-join_all : (blocks : List Cidr) (i : ℕ) (sets : List AddressRanges) (made : AddressRanges) → length blocks ≤ i → ((address : Address) → list_any (λ set. set_has set address) sets ≡ list_any (λ b. cidr_has b address) (take i blocks)) → ((spot : Which ℕ ℕ) → ranges_have made spot ≡ list_any (λ set. ranges_have set spot) sets) → (address : Address) → set_has made address ≡ list_any (λ b. cidr_has b address) blocks
+set_has-join_all blocks i sets made past all_of joined (Four n) = joined (First n) ∙ all_of (Four n) ∙ ap (list_any (λ b. cidr_has b (Four n))) (take_all i blocks past)
+set_has-join_all blocks i sets made past all_of joined (Six n) = joined (Second n) ∙ all_of (Six n) ∙ ap (list_any (λ b. cidr_has b (Six n))) (take_all i blocks past)
 
--- the set after one except more
-pub one_less : (block : Cidr) (excepts : List Cidr) (i : ℕ) (except : Cidr) (set hole made : AddressRanges) → i < length excepts → except ≡ get_or excepts i except → ((address : Address) → set_has set address ≡ block_has block (take i excepts) address) → ((address : Address) → set_has hole address ≡ cidr_has except address) → ((spot : Which ℕ ℕ) → ranges_have made spot ≡ (ranges_have set spot && not (ranges_have hole spot))) → (address : Address) → set_has made address ≡ block_has block (take (i + 1) excepts) address
-one_less block excepts i except set hole made within is so_far part minus address =
-    set_has-minus set hole made minus address
-    ∙ (λ k. so_far address k && not (part address k))
-    ∙ sym (block_has-more block excepts i except address within is)
+-- the block without its holes
+pub set_has-minus : (block : Cidr) (excepts : List Cidr) (whole holes made : AddressRanges) → ((address : Address) → set_has whole address ≡ cidr_has block address) → ((address : Address) → set_has holes address ≡ list_any (λ except. cidr_has except address) excepts) → ((spot : Which ℕ ℕ) → ranges_have made spot ≡ (ranges_have whole spot && not (ranges_have holes spot))) → (address : Address) → set_has made address ≡ block_has block excepts address
+set_has-minus block excepts whole holes made of_block of_excepts minus (Four n) = rw (minus (First n), of_block (Four n), of_excepts (Four n))
+set_has-minus block excepts whole holes made of_block of_excepts minus (Six n) = rw (minus (Second n), of_block (Six n), of_excepts (Six n))
 
 -- a range that ends one before the end of the block holds the block's numbers
 same_end : (base last n size : ℕ) → last + 1 ≡ base + size → nat_le n last ≡ nat_lt n (base + size)

@@ -5,6 +5,7 @@
 mod beside;
 mod cells;
 mod ip_numbers;
+mod joins;
 mod no_memory;
 mod point;
 mod port_num;
@@ -16,6 +17,7 @@ mod try_copy;
 pub use beside::{Beside, Which};
 pub use cells::Cells;
 pub use ip_numbers::{V4, V6};
+pub use joins::join_all;
 pub use no_memory::NoMemory;
 pub use point::{Point, earlier, later};
 pub use port_num::PortNum;

@@ -1,5 +1,5 @@
 -- The three forms of a printed text, and the spots that each has.
-use Rattle.std.proofs.Common.{◌≡◌, ℕ, List, [], ◌∷◌, ◌++◌, Bool, true, false, ◌&&◌, ◌||◌, eqb, nat_le, get_or, map, codes, refl, sym, ◌∙◌, ap, subst, arith, inl, inr}
+use Rattle.std.proofs.Common.{◌≡◌, ℕ, ◌≤◌, length, length-append, List, [], ◌∷◌, ◌++◌, Bool, true, false, ◌&&◌, ◌||◌, eqb, nat_le, get_or, map, codes, refl, sym, ◌∙◌, ap, subst, arith, inl, inr}
 use Rattle.std.proofs.lemmas.Bool.{cases_Bool, cond-true, cond-false, false≢true}
 use Rattle.std.proofs.lemmas.List.Folds.{list_any-append, flat_map-map}
 use Rattle.std.specs.List.{join_by, AllByRecursion}
@@ -112,10 +112,20 @@ all_kept-real conns well =
     (all-append IsPart (kept Tcp conns.tcp) _ (kept-real Tcp conns.tcp (IsRun-from_ascending 1 conns.tcp (omega arith) well.tcp)) (kept-real Udp conns.udp (IsRun-from_ascending 1 conns.udp (omega arith) well.udp)))
     (kept-real Sctp conns.sctp (IsRun-from_ascending 1 conns.sctp (omega arith) well.sctp))
 
+-- there is at most one for each protocol
+kept-few : (proto : Proto) (runs : List (Range ℕ)) → length (kept proto runs) ≤ 1
+kept-few proto [] = omega arith
+kept-few proto (first ∷ others) = omega arith
+
+all_kept-few : (conns : Conns) → length (all_kept conns) ≤ 3
+all_kept-few conns =
+    omega (arith, length-append (kept Tcp conns.tcp ++ kept Udp conns.udp) (kept Sctp conns.sctp), length-append (kept Tcp conns.tcp) (kept Udp conns.udp), kept-few Tcp conns.tcp, kept-few Udp conns.udp, kept-few Sctp conns.sctp)
+
 -- A text that is neither is that of parts.
 pub record IsOfParts (conns : Conns) : Type 0 where
   pub part : Part
   pub others : List Part
+  pub few : length others ≤ 2
   pub real : AllByRecursion IsPart (part ∷ others)
   pub text : conns_text (has_spot conns) ≡ join_by text_of_part (codes "; ") (part ∷ others)
   pub spots : (spot : PortSpot) → in_parts (part ∷ others) spot ≡ has_spot conns spot
@@ -129,6 +139,7 @@ from_kept conns well partial some [] same = absurd (some (joined-all_kept conns 
 from_kept conns well partial some (first ∷ rest) same = record {
   part = first;
   others = rest;
+  few = omega (arith, ap length same, all_kept-few conns);
   real = subst (AllByRecursion IsPart) same (all_kept-real conns well);
   text = joined-all_kept conns well partial ∙ ap (λ ps. joined (map text_of_part ps)) same ∙ ap (λ text. text_of_part first ++ text) (flat_map-map (λ text. codes "; " ++ text) text_of_part rest);
   spots = λ spot. ap (λ ps. in_parts ps spot) (sym same) ∙ all_kept-has conns spot;

@@ -1,7 +1,7 @@
 -- Reading piece by piece what was printed piece by piece.
-use Rattle.std.proofs.Common.{◌≡◌, ℕ, zero, suc, ◌+◌, ◌<◌, List, [], ◌∷◌, Bool, true, ◌||◌, eqb, length, get_or, take, drop, map, codes, Option, Some, None, unwrap_or, MatchOption, inl, inr, ◌⊎◌, sym, ◌∙◌, ap, arith}
+use Rattle.std.proofs.Common.{◌≡◌, ℕ, zero, suc, ◌+◌, ◌<◌, ◌≤◌, List, [], ◌∷◌, ◌++◌, Bool, true, ◌||◌, eqb, length, get_or, take, drop, map, codes, Option, Some, None, unwrap_or, MatchOption, inl, inr, ◌⊎◌, sym, ◌∙◌, ap, arith}
 use Rattle.std.proofs.lemmas.Bool.{false≢true}
-use Rattle.std.proofs.lemmas.List.{get_or-map, length-map, take_all}
+use Rattle.std.proofs.lemmas.List.{get_or-map, length-map, take_all, take_more}
 use Rattle.std.proofs.lemmas.List.Folds.{list_any_more}
 use Rattle.std.specs.Borrow.{Bor}
 use Rattle.std.specs.List.{slice_split, join_by, list_any, AllByRecursion}
@@ -31,6 +31,16 @@ piece_at f xs pieces k piece d cut turn =
 pub one_more : {X S : Type 0} (test : S → X → Bool) (xs : List X) (k : ℕ) (d : X) (old new : S → Bool) → k < length xs → ((s : S) → old s ≡ list_any (test s) (take k xs)) → ((s : S) → new s ≡ (old s || test s (get_or xs k d))) → (s : S) → new s ≡ list_any (test s) (take (k + 1) xs)
 one_more test xs k d old new within so_far grown s =
     grown s ∙ ap (λ b. b || test s (get_or xs k d)) (so_far s) ∙ sym (list_any_more (test s) xs k d within)
+
+-- where a value is found, it is not missing
+pub not_both : {X : Type 0} (found : Option X) (x : X) → found ≡ None → found ≡ Some x → ⊥
+not_both found x none some = cc
+
+-- the items so far, with the next one put last, are the items up to it
+pub one_more_taken : {X : Type 0} (xs : List X) (k : ℕ) (d x : X) (found : Option X) (taken made : List X) → k < length xs → taken ≡ take k xs → found ≡ Some x → found ≡ Some (get_or xs k d) → made ≡ taken ++ x ∷ [] → made ≡ take (k + 1) xs
+one_more_taken xs k d x found taken made within so_far is_x is_item adds =
+    let item : x ≡ get_or xs k d = cc in
+    adds ∙ ap (λ front. front ++ x ∷ []) so_far ∙ ap (λ last. take k xs ++ last ∷ []) item ∙ sym (take_more xs k d within)
 
 -- the runs of a printed text, in its pieces
 pub run_at : (run : Range ℕ) (others : List (Range ℕ)) (text piece : List ℕ) (k : ℕ) → AllByRecursion IsRun (run ∷ others) → text ≡ join_by run_text (codes ",") (run ∷ others) → (k < length (slice_split (λ b. eqb b 44) text)) × (piece ≡ get_or (slice_split (λ b. eqb b 44) text) k piece) → (k < length (run ∷ others)) × (piece ≡ run_text (get_or (run ∷ others) k run))
@@ -76,6 +86,12 @@ spaced_piece_at part others pieces (suc k) piece cut turn =
 pub part_at : (part : Part) (others : List Part) (text piece : List ℕ) (k : ℕ) → AllByRecursion IsPart (part ∷ others) → text ≡ join_by text_of_part (codes "; ") (part ∷ others) → (k < length (slice_split (λ b. eqb b 59) text)) × (piece ≡ get_or (slice_split (λ b. eqb b 59) text) k piece) → (k < length (part ∷ others)) × ((piece ≡ text_of_part (get_or (part ∷ others) k part)) ⊎ (piece ≡ 32 ∷ text_of_part (get_or (part ∷ others) k part)))
 part_at part others text piece k real printed turn =
     spaced_piece_at part others (slice_split (λ b. eqb b 59) text) k piece (ap (slice_split (λ b. eqb b 59)) printed ∙ parts-cut part others real) turn
+
+-- a text of at most three parts has at most three pieces
+pub few_pieces : (part : Part) (others : List Part) (text : List ℕ) (count : ℕ) → length others ≤ 2 → AllByRecursion IsPart (part ∷ others) → text ≡ join_by text_of_part (codes "; ") (part ∷ others) → count ≡ length (slice_split (λ b. eqb b 59) text) → count ≤ 3
+few_pieces part others text count few real printed is =
+    let cut = ap (slice_split (λ b. eqb b 59)) printed ∙ parts-cut part others real in
+    omega (arith, is, ap length cut, length-map others (λ p. 32 ∷ text_of_part p))
 
 -- after the last piece, all parts are taken
 pub parts_done : (part : Part) (others : List Part) (text : List ℕ) (k : ℕ) → AllByRecursion IsPart (part ∷ others) → text ≡ join_by text_of_part (codes "; ") (part ∷ others) → k ≡ length (slice_split (λ b. eqb b 59) text) → take k (part ∷ others) ≡ part ∷ others

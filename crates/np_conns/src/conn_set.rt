@@ -1,9 +1,10 @@
 //! Sets of connections.
-ghost use Rattle.std.specs.Prelude.{◌≡◌, ◌≤◌, ◌&&◌, nat_le, IfOk};
+ghost use Rattle.std.specs.Prelude.{◌≡◌, ◌≤◌, ◌&&◌, false, length, nat_le, IfOk, IsOk};
 ghost use Rattle.np_base.specs.Ranges.{holds};
-ghost use Rattle.np_conns.specs.Conns.{ranges_of, has_spot, same_proto, AscendsInPorts, IsConns};
+ghost use Rattle.np_conns.specs.Conns.{ranges_of, is_spot, has_spot, same_proto, AscendsInPorts, IsConns};
 ghost use Rattle.np_conns.specs.ConnsText.{spans_of};
 ghost use Rattle.np_conns.specs.declared.port_spot.PortSpot.{PortSpot};
+ghost use Rattle.np_conns.specs.declared.proto.Proto.{Proto};
 
 use crate::port_spot::PortSpot;
 use crate::proto::Proto;
@@ -13,7 +14,8 @@ use std::alloc::Global;
 use std::marker::Model;
 
 /// A set of spots: for each protocol a set of ports. Contracts see it as the ascending ranges of each protocol's
-/// ports, between which at least one port is missing, so sets of the same spots are equal values.
+/// ports, between which at least one port is missing, so sets of the same spots are equal values. A set with at most
+/// two ranges of each protocol takes no memory.
 #[derive(Debug, Drop)]
 pub struct ConnSet {
     tcp: IntervalSet<PortNum>,
@@ -30,18 +32,19 @@ impl Model for ConnSet {
 }
 
 impl ConnSet {
-    /// The set of the ports from `lo` to `hi`, both included, of one protocol.
+    /// The set of the ports from `lo` to `hi`, both included, of one protocol. It takes no memory.
     pub fn of(alloc: Global, proto: Proto, lo: PortNum, hi: PortNum) -> Result<ConnSet, NoMemory>
         requires { lo ≤ hi }
         ensures members { IfOk result (λ made. (spot : PortSpot) →
             has_spot made spot
             ≡ (same_proto spot.proto proto && (nat_le lo spot.port && nat_le spot.port hi))) }
         ensures well { IfOk result IsConns }
+        ensures succeeds { IsOk result }
     {
         ConnSet::of_ports(alloc, proto, IntervalSet::of_range(alloc, lo, hi)?)
     }
 
-    // The set of some ports of one protocol.
+    // The set of some ports of one protocol. It takes no memory.
     pub(crate) fn of_ports(
         alloc: Global,
         proto: Proto,
@@ -52,14 +55,27 @@ impl ConnSet {
             has_spot made spot
             ≡ (same_proto spot.proto proto && holds (λ port. port) ports spot.port)) }
         ensures well { IfOk result IsConns }
+        ensures succeeds { IsOk result }
     {
-        let mut set = ConnSet::nothing(alloc)?;
-        match proto {
-            Proto::Tcp => set.tcp = ports,
-            Proto::Udp => set.udp = ports,
-            Proto::Sctp => set.sctp = ports,
-        }
-        Ok(set)
+        let first = IntervalSet::nothing(alloc)?;
+        let second = IntervalSet::nothing(alloc)?;
+        Ok(match proto {
+            Proto::Tcp => ConnSet {
+                tcp: ports,
+                udp: first,
+                sctp: second,
+            },
+            Proto::Udp => ConnSet {
+                tcp: first,
+                udp: ports,
+                sctp: second,
+            },
+            Proto::Sctp => ConnSet {
+                tcp: first,
+                udp: second,
+                sctp: ports,
+            },
+        })
     }
 
     /// Whether the spot is in the set.
@@ -91,7 +107,6 @@ impl ConnSet {
 }
 
 impl Cells for ConnSet {
-    ghost use Rattle.np_conns.specs.Conns.{is_spot, has_spot, IsConns};
     ghost use Rattle.np_conns.specs.Spots.{has_spot-is_spot, equal_by_spots};
 
     type Spot = PortSpot;
@@ -102,7 +117,12 @@ impl Cells for ConnSet {
 
     ghost IsWell = { IsConns };
 
-    fn nothing(alloc: Global) -> Result<ConnSet, NoMemory> {
+    // It takes no memory.
+    fn nothing(alloc: Global) -> Result<ConnSet, NoMemory>
+        ensures members { IfOk result (λ made. (spot : PortSpot) → has_spot made spot ≡ false) }
+        ensures well { IfOk result IsConns }
+        ensures succeeds { IsOk result }
+    {
         Ok(ConnSet {
             tcp: IntervalSet::nothing(alloc)?,
             udp: IntervalSet::nothing(alloc)?,
@@ -110,7 +130,12 @@ impl Cells for ConnSet {
         })
     }
 
-    fn everything(alloc: Global) -> Result<ConnSet, NoMemory> {
+    // It takes no memory.
+    fn everything(alloc: Global) -> Result<ConnSet, NoMemory>
+        ensures members { IfOk result (λ made. (spot : PortSpot) → has_spot made spot ≡ is_spot spot) }
+        ensures well { IfOk result IsConns }
+        ensures succeeds { IsOk result }
+    {
         Ok(ConnSet {
             tcp: IntervalSet::everything(alloc)?,
             udp: IntervalSet::everything(alloc)?,
@@ -142,7 +167,12 @@ impl Cells for ConnSet {
         })
     }
 
-    fn copy(&self) -> Result<ConnSet, NoMemory> {
+    // It takes no memory where each protocol has at most two ranges.
+    fn copy(&self) -> Result<ConnSet, NoMemory>
+        ensures equal { IfOk result (λ made. made ≡ self.now) }
+        ensures well { IfOk result IsConns }
+        ensures succeeds { ((proto : Proto) → length (ranges_of self.now proto) ≤ 2) → IsOk result }
+    {
         Ok(ConnSet {
             tcp: self.tcp.copy()?,
             udp: self.udp.copy()?,

@@ -1,8 +1,9 @@
 //! Reading the text of connections.
 //!
 //! The readers of the parts take what is printed, and some other texts. `read_conns` prints what they made, and takes
-//! it only where that gives the text again.
-ghost use Rattle.std.specs.Prelude.{◌≡◌, ◌≢◌, ℕ, ◌≤◌, ◌||◌, ◌∷◌, List, Some, codes, decimal, IfOk, IfSome, IsErrOf};
+//! it only where that gives the text again. Runs are joined in halves, and a text has a part for each protocol at
+//! most, so a text of n bytes takes time n log n.
+ghost use Rattle.std.specs.Prelude.{◌≡◌, ◌≢◌, ℕ, ◌≤◌, ◌||◌, ◌∷◌, List, All, length, Some, codes, decimal, IfOk, IfSome, IsErrOf};
 ghost use Rattle.std.specs.List.{join_by, AllByRecursion};
 ghost use Rattle.np_base.specs.Ranges.{is_within, holds};
 ghost use Rattle.np_base.specs.declared.range.Range.{Range};
@@ -15,7 +16,7 @@ use crate::conn_set::ConnSet;
 use crate::conns_fault::ConnsFault;
 use crate::print::print_conns;
 use crate::proto::Proto;
-use np_base::{Cells, Point, PortNum, Range};
+use np_base::{Cells, NoMemory, Point, PortNum, Range, Seq};
 use np_sets::IntervalSet;
 use std::alloc::Global;
 
@@ -51,13 +52,17 @@ fn read_leniently(alloc: Global, text: &str) -> Result<ConnSet, ConnsFault>
     }
 }
 
-// Parts that are joined by `; `.
+// Parts that are joined by `; `, at most one for each protocol.
 fn read_parts(alloc: Global, text: &str) -> Result<ConnSet, ConnsFault>
     ensures well { IfOk result IsConns }
-    ensures printed { (part : Part) (others : List Part) → AllByRecursion IsPart (part ∷ others) →
+    ensures printed { (part : Part) (others : List Part) → length others ≤ 2 →
+        AllByRecursion IsPart (part ∷ others) →
         text.now ≡ join_by text_of_part (codes "; ") (part ∷ others) →
         GivesSpots (in_parts (part ∷ others)) result }
 {
+    if text.split(';').count() > 3 {
+        return Err(ConnsFault::BadConns);
+    }
     let mut set = ConnSet::nothing(alloc)?;
     for piece in text.split(';') {
         set = add_part(alloc, &set, piece)?;
@@ -108,26 +113,30 @@ fn read_runs(alloc: Global, text: &str) -> Result<IntervalSet<PortNum>, ConnsFau
         text.now ≡ join_by run_text (codes ",") (run ∷ others) →
         GivesPorts (in_runs (run ∷ others)) result }
 {
-    let mut ports: IntervalSet<PortNum> = IntervalSet::nothing(alloc)?;
+    let mut runs = Seq::new(alloc);
     for piece in text.split(',') {
-        ports = add_run(alloc, &ports, piece)?;
+        let run = read_run(piece).ok_or(ConnsFault::BadConns)?;
+        runs.push(run)?;
     }
-    Ok(ports)
+    Ok(ports_of(alloc, runs.items())?)
 }
 
-// The ports joined with those of a run.
-fn add_run(
-    alloc: Global,
-    ports: &IntervalSet<PortNum>,
-    text: &str,
-) -> Result<IntervalSet<PortNum>, ConnsFault>
+// The ports of runs, joined in halves.
+fn ports_of(alloc: Global, runs: &[Range<PortNum>]) -> Result<IntervalSet<PortNum>, NoMemory>
+    requires { All (λ run. run.lo ≤ run.hi) runs.now }
+    ensures members { IfOk result (λ made. (port : ℕ) →
+        holds (λ p. p) made port ≡ in_runs runs.now port) }
     ensures well { IfOk result AscendsInPorts }
-    ensures printed { (run : Range ℕ) → IsRun run → text.now ≡ run_text run →
-        GivesPorts (λ port. holds (λ p. p) ports.now port || is_within (λ p. p) run port) result }
 {
-    let run = read_run(text).ok_or(ConnsFault::BadConns)?;
-    let more = IntervalSet::of_range(alloc, run.lo, run.hi)?;
-    Ok(ports.join(&more)?)
+    match runs {
+        [] => IntervalSet::nothing(alloc),
+        [run] => IntervalSet::of_range(alloc, run.lo, run.hi),
+        _ => {
+            let (front, back) = runs.split_at(runs.len() / 2);
+            let joined = ports_of(alloc, front)?.join(&ports_of(alloc, back)?)?;
+            Ok(joined)
+        }
+    }
 }
 
 // A run as it is printed, among other forms: a port, or `lo-hi`.

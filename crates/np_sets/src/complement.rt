@@ -5,6 +5,7 @@ ghost use Rattle.np_sets.specs.Growing.{IsAscendingUpTo};
 ghost use Rattle.np_sets.specs.Space.{is_between};
 
 use crate::point_range::range_between;
+use crate::ranges::Ranges;
 use np_base::{NoMemory, Point, Range};
 use std::alloc::Global;
 
@@ -12,14 +13,14 @@ use std::alloc::Global;
 pub fn complement_ranges<P: Point>(
     alloc: Global,
     ranges: &[Range<P>],
-) -> Result<Vec<Range<P>>, NoMemory>
+) -> Result<Ranges<P>, NoMemory>
     requires { IsAscending P.number_of P.LOW P.HIGH ranges.now }
     ensures members { IfOk result (λ made. (n : ℕ) →
         holds P.number_of made.items n
         ≡ (is_between P.LOW P.HIGH n && not (holds P.number_of ranges.now n))) }
     ensures ascending { IfOk result (λ made. IsAscending P.number_of P.LOW P.HIGH made.items) }
 {
-    let mut gaps = Vec::new(alloc);
+    let mut gaps = Ranges::new(alloc);
     let mut from = P::LOW;
     for range in ranges {
         push_gap(&mut gaps, from, range.lo.number())?;
@@ -34,7 +35,7 @@ pub fn complement_ranges<P: Point>(
 }
 
 // Puts last the range from the number `from` to the one before `to`, where there is any.
-fn push_gap<P: Point>(gaps: &mut Vec<Range<P>>, from: u128, to: u128) -> Result<(), NoMemory>
+fn push_gap<P: Point>(gaps: &mut Ranges<P>, from: u128, to: u128) -> Result<(), NoMemory>
     requires low { P.LOW ≤ from }
     requires ordered { from ≤ to }
     requires high { to ≤ P.HIGH }

@@ -1,5 +1,5 @@
 //! A set of points, kept as ranges.
-ghost use Rattle.std.specs.Prelude.{◌≡◌, ◌≤◌, [], ◌∷◌, IfOk};
+ghost use Rattle.std.specs.Prelude.{ℕ, ◌≡◌, ◌≤◌, [], ◌∷◌, length, false, IfOk, IsOk};
 ghost use Rattle.np_base.specs.Ranges.{is_within, holds, IsAscending};
 
 use crate::complement::complement_ranges;
@@ -8,6 +8,7 @@ use crate::meet::meet_ranges;
 use crate::member::has_number;
 use crate::minus::subtract_ranges;
 use crate::point_range::range_between;
+use crate::ranges::Ranges;
 use crate::same::same_ranges;
 use np_base::{Cells, NoMemory, Point, Range};
 use std::alloc::Global;
@@ -15,10 +16,10 @@ use std::marker::Model;
 
 /// A set of points, kept as the fewest ranges that have them. Contracts see it as the list of those ranges.
 /// They ascend, none is empty, and between two neighbours at least one point is missing, so sets of the same
-/// points are equal values.
+/// points are equal values. A set of at most two ranges takes no memory.
 #[derive(Debug, Drop)]
 pub struct IntervalSet<P: Point> {
-    ranges: Vec<Range<P>>,
+    ranges: Ranges<P>,
 }
 
 impl<P: Point> Model for IntervalSet<P> {
@@ -34,7 +35,7 @@ impl<P: Point> Model for IntervalSet<P> {
 }
 
 impl<P: Point> IntervalSet<P> {
-    /// The set of the points from `lo` to `hi`, both included.
+    /// The set of the points from `lo` to `hi`, both included. It takes no memory.
     pub fn of_range(alloc: Global, lo: P, hi: P) -> Result<IntervalSet<P>, NoMemory>
         requires { P.number_of lo ≤ P.number_of hi }
         ensures ranges { IfOk result (λ made. made ≡ record { lo = lo; hi = hi } ∷ []) }
@@ -42,8 +43,9 @@ impl<P: Point> IntervalSet<P> {
             holds P.number_of made (P.number_of p)
             ≡ is_within P.number_of (record { lo = lo; hi = hi }) (P.number_of p)) }
         ensures ascending { IfOk result (λ made. IsAscending P.number_of P.LOW P.HIGH made) }
+        ensures succeeds { IsOk result }
     {
-        let ranges = one_range(alloc, Range { lo, hi })?;
+        let ranges = one_range(alloc, Range { lo, hi });
         Ok(IntervalSet { ranges })
     }
 
@@ -51,7 +53,7 @@ impl<P: Point> IntervalSet<P> {
     pub fn has(&self, p: P) -> bool
         ensures { result ≡ holds P.number_of self.now (P.number_of p) }
     {
-        has_number(&self.ranges, p.number())
+        has_number(self.ranges.as_slice(), p.number())
     }
 
     /// The ranges, ends included, in ascending order.
@@ -59,7 +61,7 @@ impl<P: Point> IntervalSet<P> {
         ensures value { result.now ≡ self.now }
         ensures ascending { IsAscending P.number_of P.LOW P.HIGH self.now }
     {
-        &self.ranges
+        self.ranges.as_slice()
     }
 
     // Where its memory comes from, and that of sets made of it.
@@ -68,7 +70,7 @@ impl<P: Point> IntervalSet<P> {
     }
 
     // The set of ranges that ascend.
-    fn from_ranges(ranges: Vec<Range<P>>) -> IntervalSet<P>
+    fn from_ranges(ranges: Ranges<P>) -> IntervalSet<P>
         requires { IsAscending P.number_of P.LOW P.HIGH ranges.items }
         ensures { result ≡ ranges.items }
     {
@@ -77,17 +79,17 @@ impl<P: Point> IntervalSet<P> {
 }
 
 // The list of one range that is not empty.
-fn one_range<P: Point>(alloc: Global, range: Range<P>) -> Result<Vec<Range<P>>, NoMemory>
+fn one_range<P: Point>(alloc: Global, range: Range<P>) -> Ranges<P>
     requires { P.number_of range.lo ≤ P.number_of range.hi }
-    ensures ranges { IfOk result (λ made. made.items ≡ range ∷ []) }
-    ensures ascending { IfOk result (λ made. IsAscending P.number_of P.LOW P.HIGH made.items) }
+    ensures ranges { result.items ≡ range ∷ [] }
+    ensures ascending { IsAscending P.number_of P.LOW P.HIGH result.items }
 {
     // A point that tells its number is one of the space.
     let _first = range.lo.number();
     let _last = range.hi.number();
-    let mut ranges = Vec::new(alloc);
-    ranges.push(range)?;
-    Ok(ranges)
+    let mut ranges = Ranges::new(alloc);
+    ranges.push_reserved(range);
+    ranges
 }
 
 impl<P: Point> Cells for IntervalSet<P> {
@@ -103,12 +105,23 @@ impl<P: Point> Cells for IntervalSet<P> {
 
     ghost IsWell = { λ set. IsAscending P.number_of P.LOW P.HIGH set };
 
-    fn nothing(alloc: Global) -> Result<IntervalSet<P>, NoMemory> {
-        Ok(IntervalSet::from_ranges(Vec::new(alloc)))
+    // It takes no memory.
+    fn nothing(alloc: Global) -> Result<IntervalSet<P>, NoMemory>
+        ensures members { IfOk result (λ made. (p : P) → holds P.number_of made (P.number_of p) ≡ false) }
+        ensures well { IfOk result (IsAscending P.number_of P.LOW P.HIGH) }
+        ensures succeeds { IsOk result }
+    {
+        Ok(IntervalSet::from_ranges(Ranges::new(alloc)))
     }
 
-    fn everything(alloc: Global) -> Result<IntervalSet<P>, NoMemory> {
-        let ranges = one_range(alloc, range_between(P::LOW, P::HIGH))?;
+    // It takes no memory.
+    fn everything(alloc: Global) -> Result<IntervalSet<P>, NoMemory>
+        ensures members { IfOk result (λ made. (p : P) →
+            holds P.number_of made (P.number_of p) ≡ is_between P.LOW P.HIGH (P.number_of p)) }
+        ensures well { IfOk result (IsAscending P.number_of P.LOW P.HIGH) }
+        ensures succeeds { IsOk result }
+    {
+        let ranges = one_range(alloc, range_between(P::LOW, P::HIGH));
         Ok(IntervalSet::from_ranges(ranges))
     }
 
@@ -127,8 +140,13 @@ impl<P: Point> Cells for IntervalSet<P> {
         Ok(IntervalSet::from_ranges(ranges))
     }
 
-    fn copy(&self) -> Result<IntervalSet<P>, NoMemory> {
-        let ranges = Vec::from_slice(self.allocator(), self.ranges())?;
+    // It takes no memory where the set has at most two ranges.
+    fn copy(&self) -> Result<IntervalSet<P>, NoMemory>
+        ensures equal { IfOk result (λ made. made ≡ self.now) }
+        ensures well { IfOk result (IsAscending P.number_of P.LOW P.HIGH) }
+        ensures succeeds { length self.now ≤ 2 → IsOk result }
+    {
+        let ranges = Ranges::from_slice(self.allocator(), self.ranges())?;
         Ok(IntervalSet::from_ranges(ranges))
     }
 

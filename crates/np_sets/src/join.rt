@@ -4,6 +4,7 @@ ghost use Rattle.np_base.specs.Ranges.{holds, IsAscending};
 ghost use Rattle.np_sets.specs.Growing.{GrowsTo};
 ghost use Rattle.np_sets.specs.Steps.{IsEarlier};
 
+use crate::ranges::Ranges;
 use np_base::{NoMemory, Point, Range};
 use std::alloc::Global;
 
@@ -20,7 +21,7 @@ pub fn join_ranges<P: Point>(
     alloc: Global,
     left: &[Range<P>],
     right: &[Range<P>],
-) -> Result<Vec<Range<P>>, NoMemory>
+) -> Result<Ranges<P>, NoMemory>
     requires left { IsAscending P.number_of P.LOW P.HIGH left.now }
     requires right { IsAscending P.number_of P.LOW P.HIGH right.now }
     ensures members { IfOk result (λ made. (n : ℕ) →
@@ -28,7 +29,7 @@ pub fn join_ranges<P: Point>(
         ≡ (holds P.number_of left.now n || holds P.number_of right.now n)) }
     ensures ascending { IfOk result (λ made. IsAscending P.number_of P.LOW P.HIGH made.items) }
 {
-    let mut made = Vec::new(alloc);
+    let mut made = Ranges::new(alloc);
     let Some(first) = take_earlier(left, right) else {
         return Ok(made);
     };
@@ -83,7 +84,7 @@ fn take_earlier<'a, P: Point>(left: &'a [Range<P>], right: &'a [Range<P>]) -> Op
 // Widens the growing range by the next one where they touch. Else puts it last of what is made, and the
 // next one grows.
 fn grow<P: Point>(
-    made: &mut Vec<Range<P>>,
+    made: &mut Ranges<P>,
     growing: Range<P>,
     next: Range<P>,
 ) -> Result<Range<P>, NoMemory>

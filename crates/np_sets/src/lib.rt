@@ -10,6 +10,7 @@ mod meet;
 mod member;
 mod minus;
 mod point_range;
+mod ranges;
 mod same;
 
 pub use interval_set::IntervalSet;

@@ -3,6 +3,7 @@ ghost use Rattle.std.specs.Prelude.{ℕ, ◌≡◌, ◌&&◌, ◌++◌, false, o
 ghost use Rattle.np_base.specs.Ranges.{holds, IsAscending};
 ghost use Rattle.np_sets.specs.Steps.{IsShared, IsOverlap};
 
+use crate::ranges::Ranges;
 use np_base::{NoMemory, Point, Range, earlier, later};
 use std::alloc::Global;
 
@@ -19,7 +20,7 @@ pub fn meet_ranges<P: Point>(
     alloc: Global,
     left: &[Range<P>],
     right: &[Range<P>],
-) -> Result<Vec<Range<P>>, NoMemory>
+) -> Result<Ranges<P>, NoMemory>
     requires left { IsAscending P.number_of P.LOW P.HIGH left.now }
     requires right { IsAscending P.number_of P.LOW P.HIGH right.now }
     ensures members { IfOk result (λ made. (n : ℕ) →
@@ -27,7 +28,7 @@ pub fn meet_ranges<P: Point>(
         ≡ (holds P.number_of left.now n && holds P.number_of right.now n)) }
     ensures ascending { IfOk result (λ made. IsAscending P.number_of P.LOW P.HIGH made.items) }
 {
-    let mut made = Vec::new(alloc);
+    let mut made = Ranges::new(alloc);
     let mut left = left;
     let mut right = right;
     while let Some(step) = take_overlap(left, right) {
@@ -83,12 +84,12 @@ fn shared<P: Point>(left: Range<P>, right: Range<P>) -> Option<Range<P>>
     }
 }
 
-// Puts the item last, if there is one.
-fn push_some<T: Drop>(items: &mut Vec<T>, item: Option<T>) -> Result<(), NoMemory>
-    ensures { OnOk result (items.new.items ≡ items.old.items ++ option_to_list item) }
+// Puts the range last, if there is one.
+fn push_some<P: Point>(ranges: &mut Ranges<P>, range: Option<Range<P>>) -> Result<(), NoMemory>
+    ensures { OnOk result (ranges.new.items ≡ ranges.old.items ++ option_to_list range) }
 {
-    if let Some(value) = item {
-        items.push(value)?;
+    if let Some(more) = range {
+        ranges.push(more)?;
     }
     Ok(())
 }

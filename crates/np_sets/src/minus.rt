@@ -4,6 +4,7 @@ ghost use Rattle.np_base.specs.Ranges.{holds, IsAscending};
 
 use crate::complement::complement_ranges;
 use crate::meet::meet_ranges;
+use crate::ranges::Ranges;
 use np_base::{NoMemory, Point, Range};
 use std::alloc::Global;
 
@@ -12,7 +13,7 @@ pub fn subtract_ranges<P: Point>(
     alloc: Global,
     left: &[Range<P>],
     right: &[Range<P>],
-) -> Result<Vec<Range<P>>, NoMemory>
+) -> Result<Ranges<P>, NoMemory>
     requires left { IsAscending P.number_of P.LOW P.HIGH left.now }
     requires right { IsAscending P.number_of P.LOW P.HIGH right.now }
     ensures members { IfOk result (λ made. (n : ℕ) →
@@ -21,5 +22,5 @@ pub fn subtract_ranges<P: Point>(
     ensures ascending { IfOk result (λ made. IsAscending P.number_of P.LOW P.HIGH made.items) }
 {
     let others = complement_ranges(alloc, right)?;
-    meet_ranges(alloc, left, &others)
+    meet_ranges(alloc, left, others.as_slice())
 }

@@ -1,9 +1,6 @@
-use Rattle.std.proofs.Common.{arith, rules}
-use Rattle.np_addr.proofs.BlockLemmas.{one_less}
+use Rattle.np_addr.proofs.BlockLemmas.{set_has-minus}
 use Rattle.np_addr.proofs.block.block_set.Goals as goal
 
-pub loop-except-preserved : goal.loop-except-preserved
-loop-except-preserved c = (
-  one_less c.args.cidr c.args.excepts.now c.loop-except.except-index c.except-item.result c.loop-except.set c.in_ok-hole.hole c.in_ok-set-2.set (omega arith) c.except-item.is c.loop-except.invariant.0 (c.in_ok-hole.ensures.exact (search rules)) c.in_ok-set-2.ensures.members,
-  c.in_ok-set-2.ensures.well,
-)
+pub returns-clause-members : goal.returns-clause-members
+returns-clause-members c =
+    set_has-minus c.args.cidr c.args.excepts.now c.in_ok-whole.whole c.in_ok-holes.holes c.in_ok-minus.field-0 (c.in_ok-whole.ensures.exact c.requires.block) c.in_ok-holes.ensures.members c.in_ok-minus.ensures.members

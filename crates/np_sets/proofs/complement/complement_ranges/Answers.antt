@@ -29,8 +29,8 @@ loop-range-preserved g c =
 pub returns-clause-members : goal.returns-clause-members
 returns-clause-members g c =
     let ended = drop-ended c.args.ranges.now c.loop-range.range-index (omega arith) in
-    λ n. rw c.in_ok-push.ensures.items (holds-last_gap g.P.Point.number_of _ _ c.loop-range.from g.P.Point.HIGH n c.range_between.ensures.first (omega arith) ∙ rw ended at (c.loop-range.invariant.members n))
+    λ n. rw c.in_ok-push.ensures.ok (holds-last_gap g.P.Point.number_of _ _ c.loop-range.from g.P.Point.HIGH n c.range_between.ensures.first (omega arith) ∙ rw ended at (c.loop-range.invariant.members n))
 
 pub returns-clause-ascending : goal.returns-clause-ascending
 returns-clause-ascending g c =
-    rw c.in_ok-push.ensures.items (IsAscending-from_up_to g.P.Point.number_of g.P.Point.LOW g.P.Point.HIGH (g.P.Point.HIGH + 2) _ (IsAscendingUpTo-push g.P.Point.number_of g.P.Point.LOW g.P.Point.HIGH _ _ c.range_between.result (rw c.range_between.ensures.first c.loop-range.invariant.gaps) (omega arith) (omega arith) (omega arith)))
+    rw c.in_ok-push.ensures.ok (IsAscending-from_up_to g.P.Point.number_of g.P.Point.LOW g.P.Point.HIGH (g.P.Point.HIGH + 2) _ (IsAscendingUpTo-push g.P.Point.number_of g.P.Point.LOW g.P.Point.HIGH _ _ c.range_between.result (rw c.range_between.ensures.first c.loop-range.invariant.gaps) (omega arith) (omega arith) (omega arith)))

@@ -1,4 +1,4 @@
-use Rattle.std.proofs.Common.{sym, ◌∙◌}
+use Rattle.std.proofs.Common.{sym, ◌∙◌, rules}
 use Rattle.np_base.specs.Ranges.{is_within}
 use Rattle.np_base.proofs.Ranges.{IsAscending-earlier}
 use Rattle.np_sets.proofs.Growing.{IsAscending-from_growing}
@@ -22,8 +22,23 @@ loop-next-preserved g c =
 pub returns-clause-members : goal.returns-clause-members
 returns-clause-members g c =
     let ended = c.in_default-take_earlier.ensures in
-    λ n. rw (c.in_ok-push.ensures.items, holds-push g.P.Point.number_of _ _ n) (sym (or_false _) ∙ rw (ended.0, ended.1) at (c.loop-next.invariant.members n))
+    λ n. rw (c.in_ok-push.ensures.ok, holds-push g.P.Point.number_of _ _ n) (sym (or_false _) ∙ rw (ended.0, ended.1) at (c.loop-next.invariant.members n))
 
 pub returns-clause-ascending : goal.returns-clause-ascending
 returns-clause-ascending g c =
-    rw c.in_ok-push.ensures.items (IsAscending-from_growing g.P.Point.number_of g.P.Point.LOW g.P.Point.HIGH _ _ c.loop-next.invariant.growing)
+    rw c.in_ok-push.ensures.ok (IsAscending-from_growing g.P.Point.number_of g.P.Point.LOW g.P.Point.HIGH _ _ c.loop-next.invariant.growing)
+
+pub loop-next-init : goal.loop-next-init
+loop-next-init g c =
+    let leads = c.in-Some.ensures.first g.P.Point.LOW g.P.Point.HIGH c.requires.left c.requires.right in
+    record {
+      growing = record { follows = rw c.new-made.ensures.items leads.start; filled = leads.filled; end = leads.end };
+      left_after = leads.left_after;
+      right_after = leads.right_after;
+      members = λ n. rw (c.new-made.ensures.items, ← c.in-Some.ensures.members n);
+    }
+
+pub grow-requires : goal.grow-requires
+grow-requires g c =
+    let kept = c.loop-next.invariant in
+    (search rules, (c.in-Some-take_earlier.ensures.first _ _ kept.left_after kept.right_after).start)
