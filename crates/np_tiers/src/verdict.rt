@@ -11,7 +11,7 @@ use std::alloc::Global;
 
 // How many parts at most are looked at one after the other. Each such part costs an operation on all that is
 // allowed so far, which for a few dozen parts is less than their runs cost.
-const FEW_PARTS: usize = 32;
+const FEW_PARTS: usize = 64;
 
 /// The spots of the space that the layer allows. The first admin part whose set has a spot decides it: `Allow`
 /// allows and `Deny` refuses. With `Pass`, or without such a part, an isolated layer allows what some `net` set has.

@@ -1,4 +1,4 @@
-use Rattle.std.proofs.Common.{◌≡◌, ◌/◌, List, ◌++◌, length, ap, ◌∙◌, take, drop}
+use Rattle.std.proofs.Common.{◌≡◌, ◌/◌, ◌++◌, length}
 use Rattle.std.proofs.lemmas.List.{take-append-drop}
 use Rattle.np_tiers.proofs.Runs.{run_of_halves}
 use Rattle.np_tiers.proofs.run.+run_of.Goals as goal
