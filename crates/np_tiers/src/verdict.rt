@@ -9,8 +9,8 @@ use crate::run::run_of;
 use np_base::{Cells, NoMemory, join_all};
 use std::alloc::Global;
 
-// How many parts at most are looked at one after the other. Each such part costs an operation on all that is
-// allowed so far, which for a few dozen parts is less than their runs cost.
+// How many parts at most are looked at one after the other. Each costs an operation on all that is allowed so far,
+// which for so few takes less time than putting their runs together.
 const FEW_PARTS: usize = 64;
 
 /// The spots of the space that the layer allows. The first admin part whose set has a spot decides it: `Allow`
@@ -18,8 +18,9 @@ const FEW_PARTS: usize = 64;
 /// In a layer that is not isolated the first base part whose set has the spot says, and without one the spot is
 /// allowed. Want of memory is the one refusal.
 ///
-/// A tier with no part costs nothing, and one with a few parts one set operation for each, or three for `Pass`. The
-/// parts of a longer tier are put together in halves, so that n parts of a few ranges each take time n log n.
+/// A tier with no part costs no set operation, and one with up to 64 parts one for each of them, or three for `Pass`.
+/// The parts of a longer tier, and the `net` sets, are put together in halves, so that n parts of a few ranges each
+/// take time n log n.
 pub fn verdict_set<S: Cells>(alloc: Global, layer: &Layer<S>) -> Result<S, NoMemory>
     ensures members { IfOk result (λ made. (spot : S.Spot) → S.in_space spot ≡ true →
         S.has made spot ≡ walk_allows (λ set. S.has set spot) layer.now) }
