@@ -7,6 +7,8 @@ mod carving;
 mod laws;
 mod layer;
 mod mark;
+mod part;
+mod run;
 mod verdict;
 
 pub use carving::carve;

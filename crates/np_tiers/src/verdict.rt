@@ -1,25 +1,33 @@
 //! The set of the spots that a layer allows.
-ghost use Rattle.std.specs.Prelude.{◌≡◌, true, if◌then◌else◌, IfOk, find};
-ghost use Rattle.std.specs.List.{list_any};
-ghost use Rattle.np_tiers.specs.Walk.{action_allows, admin_allows, base_allows, lower_allows, walk_allows};
+ghost use Rattle.std.specs.Prelude.{◌≡◌, true, if◌then◌else◌, IfOk};
+ghost use Rattle.np_tiers.specs.Runs.{first_action, first_allows};
+ghost use Rattle.np_tiers.specs.Walk.{action_allows, lower_allows, walk_allows};
 
-use crate::layer::{Action, AdminPart, BasePart, Layer};
-use np_base::{Cells, NoMemory};
+use crate::layer::{Action, Layer};
+use crate::part::Part;
+use crate::run::run_of;
+use np_base::{Cells, NoMemory, join_all};
 use std::alloc::Global;
+
+// How many parts at most are looked at one after the other. Each costs an operation on all that is allowed so far,
+// which for so few takes less time than putting their runs together.
+const FEW_PARTS: usize = 64;
 
 /// The spots of the space that the layer allows. The first admin part whose set has a spot decides it: `Allow`
 /// allows and `Deny` refuses. With `Pass`, or without such a part, an isolated layer allows what some `net` set has.
 /// In a layer that is not isolated the first base part whose set has the spot says, and without one the spot is
 /// allowed. Want of memory is the one refusal.
 ///
-/// Each part is looked at once, by one set operation, or three for `Pass`.
+/// A tier with no part costs no set operation, and one with up to 64 parts one for each of them, or three for `Pass`.
+/// The parts of a longer tier, and the `net` sets, are put together in halves, so that n parts of a few ranges each
+/// take time n log n.
 pub fn verdict_set<S: Cells>(alloc: Global, layer: &Layer<S>) -> Result<S, NoMemory>
     ensures members { IfOk result (λ made. (spot : S.Spot) → S.in_space spot ≡ true →
         S.has made spot ≡ walk_allows (λ set. S.has set spot) layer.now) }
     ensures well { IfOk result S.IsWell }
 {
     let lower = lower_set(alloc, layer)?;
-    let allowed = admin_set(layer.admin.items(), &lower)?;
+    let allowed = tier_set(alloc, layer.admin.items(), lower)?;
     Ok(allowed)
 }
 
@@ -30,74 +38,60 @@ fn lower_set<S: Cells>(alloc: Global, layer: &Layer<S>) -> Result<S, NoMemory>
     ensures well { IfOk result S.IsWell }
 {
     if layer.isolated {
-        net_set(alloc, layer.net.items())
-    } else {
-        base_set(alloc, layer.base.items())
+        return join_all(alloc, layer.net.items());
     }
+    let space = S::everything(alloc)?;
+    tier_set(alloc, layer.base.items(), space)
 }
 
-// The spots that some set has.
-fn net_set<S: Cells>(alloc: Global, sets: &[S]) -> Result<S, NoMemory>
+// What a tier of these parts allows over lower tiers that allow `lower`.
+fn tier_set<S: Cells, P: Part<S>>(alloc: Global, parts: &[P], lower: S) -> Result<S, NoMemory>
+    requires { S.IsWell lower }
     ensures members { IfOk result (λ made. (spot : S.Spot) →
-        S.has made spot ≡ list_any (λ set. S.has set spot) sets.now) }
+        S.has made spot ≡ first_allows
+        (first_action P.set_of P.action_of (λ set. S.has set spot) parts.now) (S.has lower spot)) }
     ensures well { IfOk result S.IsWell }
 {
-    let mut joined = S::nothing(alloc)?;
-    for set in sets {
-        joined = joined.join(set)?;
+    if parts.is_empty() {
+        return Ok(lower);
     }
-    Ok(joined)
-}
-
-// What the baseline allows. A part speaks before all that follow it, so they are taken from the last one on.
-fn base_set<S: Cells>(alloc: Global, parts: &[BasePart<S>]) -> Result<S, NoMemory>
-    ensures members { IfOk result (λ made. (spot : S.Spot) → S.in_space spot ≡ true →
-        S.has made spot ≡ base_allows (find (λ part. S.has part.set spot) parts.now)) }
-    ensures well { IfOk result S.IsWell }
-{
-    let mut allowed = S::everything(alloc)?;
-    for part in parts.iter().rev() {
-        allowed = before_base(part, &allowed)?;
+    if parts.len() <= FEW_PARTS {
+        return few_parts_set(parts, &lower);
     }
+    let run = run_of(alloc, parts)?;
+    let allowed = run.over(&lower)?;
     Ok(allowed)
 }
 
-// What a base part and those after it allow, where those after it allow `after`.
-fn before_base<S: Cells>(part: &BasePart<S>, after: &S) -> Result<S, NoMemory>
+// The same, one part after the other from the last one on.
+fn few_parts_set<S: Cells, P: Part<S>>(parts: &[P], lower: &S) -> Result<S, NoMemory>
     ensures members { IfOk result (λ made. (spot : S.Spot) →
-        S.has made spot ≡ (if S.has part.now.set spot then part.now.allow else S.has after.now spot)) }
+        S.has made spot ≡ first_allows
+        (first_action P.set_of P.action_of (λ set. S.has set spot) parts.now) (S.has lower.now spot)) }
     ensures well { IfOk result S.IsWell }
 {
-    if part.allow {
-        after.join(&part.set)
-    } else {
-        after.minus(&part.set)
+    match parts {
+        [] => lower.copy(),
+        [last] => before(last, lower, lower),
+        [part, rest @ ..] => {
+            let after = few_parts_set(rest, lower)?;
+            let allowed = before(part, &after, lower)?;
+            Ok(allowed)
+        }
     }
 }
 
-// What the admin tier allows over lower tiers that allow `lower`, from the last part on.
-fn admin_set<S: Cells>(parts: &[AdminPart<S>], lower: &S) -> Result<S, NoMemory>
+// What a part and those after it allow, where those after it allow `after` and the tiers below `lower`.
+fn before<S: Cells, P: Part<S>>(part: &P, after: &S, lower: &S) -> Result<S, NoMemory>
     ensures members { IfOk result (λ made. (spot : S.Spot) →
-        S.has made spot ≡ admin_allows (find (λ part. S.has part.set spot) parts.now) (S.has lower.now spot)) }
+        S.has made spot ≡ (if S.has (P.set_of part.now) spot
+        then action_allows (P.action_of part.now) (S.has lower.now spot) else S.has after.now spot)) }
     ensures well { IfOk result S.IsWell }
 {
-    let mut allowed = lower.copy()?;
-    for part in parts.iter().rev() {
-        allowed = before_admin(part, &allowed, lower)?;
-    }
-    Ok(allowed)
-}
-
-// What an admin part and those after it allow, where those after it allow `after`.
-fn before_admin<S: Cells>(part: &AdminPart<S>, after: &S, lower: &S) -> Result<S, NoMemory>
-    ensures members { IfOk result (λ made. (spot : S.Spot) →
-        S.has made spot ≡ (if S.has part.now.set spot
-        then action_allows part.now.action (S.has lower.now spot) else S.has after.now spot)) }
-    ensures well { IfOk result S.IsWell }
-{
-    match part.action {
-        Action::Allow => after.join(&part.set),
-        Action::Deny => after.minus(&part.set),
-        Action::Pass => after.minus(&part.set)?.join(&lower.meet(&part.set)?),
+    let set = part.set();
+    match part.action() {
+        Action::Allow => after.join(set),
+        Action::Deny => after.minus(set),
+        Action::Pass => after.minus(set)?.join(&lower.meet(set)?),
     }
 }
