@@ -3,6 +3,7 @@
 #![tactic(auto)]
 
 mod counts;
+mod gathered;
 mod inputs;
 mod mem_inputs;
 mod mem_sink;
@@ -11,6 +12,7 @@ mod real_sink;
 mod sink;
 mod whole;
 
+pub use gathered::Gathered;
 pub use inputs::{InputFailed, Inputs};
 pub use mem_inputs::MemInputs;
 pub use mem_sink::MemSink;
