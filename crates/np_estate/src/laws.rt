@@ -1,7 +1,10 @@
 //! What follows from the definitions of estates.
-ghost use Rattle.std.specs.Prelude.{◌≡◌, ◌≤◌, List, None, All, length};
+ghost use Rattle.std.specs.Prelude.{◌≡◌, ◌≤◌, ℕ, List, None, Ok, All, length};
+ghost use Rattle.np_estate.specs.EachOnce.{HoldsEachOnce};
 ghost use Rattle.np_estate.specs.Lawful.{IsLawful};
-ghost use Rattle.np_estate.specs.Reading.{lists_of};
+ghost use Rattle.np_estate.specs.Reading.{estate_of, lists_of};
+ghost use Rattle.np_estate.specs.declared.lists.EstateLists.{EstateLists};
+ghost use Rattle.np_items.specs.Items.{items_of};
 ghost use Rattle.np_items.specs.WellFormed.{IsWellItem};
 ghost use Rattle.np_items.specs.declared.item.Item.{Item};
 ghost use Rattle.np_owners.specs.Names.{first_repeat};
@@ -11,4 +14,11 @@ ghost use Rattle.np_owners.specs.Names.{first_repeat};
 pub fn read_estates_are_lawful()
     ensures { (items : List Item) → length items ≤ 20000 → All IsWellItem items → first_repeat items ≡ None
         → IsLawful (lists_of items) }
+{}
+
+/// Each policy, Service and Ingress of a list that is read stands in its estate exactly once, and nothing else stands
+/// there: no two of one name or of one priority are taken for one.
+pub fn each_policy_and_service_stands_once()
+    ensures { (texts : List (List ℕ)) (items : List Item) (lists : EstateLists) → items_of texts ≡ Ok items
+        → estate_of texts ≡ Ok lists → HoldsEachOnce items lists }
 {}

@@ -1,13 +1,11 @@
 -- The owners of objects, and the chains that they make.
-use Rattle.std.specs.Prelude.{ℕ, List, [], ◌∷◌, ◌++◌, length, map, Bool, not, if◌then◌else◌, Option, Some, None, Ok, Err, ⊤, codes}
+use Rattle.std.specs.Prelude.{◌≡◌, ℕ, List, [], ◌∷◌, ◌++◌, length, map, Bool, not, if◌then◌else◌, Option, Some, None, ⊤, codes}
 use Rattle.std.specs.List.{list_any, range_with_len, slice_get}
 use Rattle.std.specs.Option.{option_and_then, option_map}
 use Rattle.std.specs.Str.{bytes_eq}
 use Rattle.np_chains.specs.Chains.{first_cycle, top}
-use Rattle.np_items.specs.Readings.{Reading}
 use Rattle.np_items.specs.declared.item.Item.{Item}
 use Rattle.np_items.specs.declared.item.Item.TheVariants as item
-use Rattle.np_items.specs.declared.refusal.Refusal.TheVariants.{OwnerCycle}
 use Rattle.np_objects.specs.ControllerKinds.{kind_name}
 use Rattle.np_objects.specs.declared.controller.ControllerItem.{ControllerItem}
 use Rattle.np_objects.specs.declared.controller.ControllerKind.{ControllerKind}
@@ -17,6 +15,8 @@ use Rattle.np_objects.specs.declared.object.Object.TheVariants as object
 use Rattle.np_objects.specs.declared.owner_ref.OwnerRef.{OwnerRef}
 use Rattle.np_objects.specs.declared.pod_item.PodItem.{PodItem}
 use Rattle.np_owners.specs.Names.{name_of, place_of}
+use Rattle.np_owners.specs.declared.fault.ChainsFault.{ChainsFault}
+use Rattle.np_owners.specs.declared.fault.ChainsFault.TheVariants.{OwnerCycle, NoMemory}
 use Rattle.np_owners.specs.declared.object_name.ObjectName.{ObjectName}
 use Rattle.np_owners.specs.declared.owner.Owner.{Owner}
 
@@ -83,13 +83,14 @@ full_name_of one = or_empty (option_map full_name (name_of one))
 abbrev pub full_name_at : List Item → ℕ → List ℕ
 full_name_at items place = or_empty (option_map full_name_of (slice_get items place))
 
-abbrev pub or_cycle : List Item → Option ℕ → Reading ⊤
-or_cycle items None = Ok tt
-or_cycle items (Some place) = Err (OwnerCycle (full_name_at items place))
+-- the name of the first listed controller that stands in its own chain of owners
+abbrev pub first_in_cycle : List Item → Option (List ℕ)
+first_in_cycle items = option_map (full_name_at items) (first_cycle (ups items))
 
--- no listed controller stands in its own chain of owners; the first that does is named
-abbrev pub have_no_cycle : List Item → Reading ⊤
-have_no_cycle items = or_cycle items (first_cycle (ups items))
+-- what is told where items have no chains: the name that was found; want of memory tells nothing
+abbrev pub TellsCycle : Option (List ℕ) → ChainsFault → Type 0
+TellsCycle found (OwnerCycle name) = found ≡ Some name
+TellsCycle found NoMemory = ⊤
 
 -- ---- top owners
 

@@ -1,0 +1,67 @@
+-- What refuses a list, and what is so of one that is not refused.
+use Rattle.std.proofs.Common.{◌≡◌, ℕ, List, Option, Some, None, Ok, Err, refl, ap}
+use Rattle.std.specs.Prelude.{⊤}
+use Rattle.np_estate.specs.Listed.{first_equal, or_equal, ranks_of}
+use Rattle.np_estate.specs.Reading.{estate_of, lists_of, or_duplicate, or_cycle, or_refused}
+use Rattle.np_estate.specs.Readings.{Gives, Reading}
+use Rattle.np_estate.specs.Refusals.{chains_refusal, items_refusal, places_refusal}
+use Rattle.np_estate.specs.declared.lists.EstateLists.{EstateLists}
+use Rattle.np_estate.specs.declared.priorities.Rank.{Rank}
+use Rattle.np_items.specs.Items.{items_of}
+use Rattle.np_items.specs.Readings as items
+use Rattle.np_items.specs.Readings.{◌>>=◌, ◌>>◌}
+use Rattle.np_items.specs.declared.fault.ItemsFault.{ItemsFault}
+use Rattle.np_items.specs.declared.fault.ItemsFault.TheVariants.{NotJson, NotAList, TooManyItems, NestedList, Bad, NoMemory}
+use Rattle.np_items.specs.declared.item.Item.{Item}
+use Rattle.np_owners.specs.Names.{TellsRepeat, first_repeat}
+use Rattle.np_owners.specs.Owners.{TellsCycle}
+use Rattle.np_owners.specs.declared.fault.ChainsFault.{ChainsFault}
+use Rattle.np_owners.specs.declared.fault.ChainsFault.TheVariants as chains
+use Rattle.np_owners.specs.declared.fault.PlacesFault.{PlacesFault}
+use Rattle.np_owners.specs.declared.fault.PlacesFault.TheVariants as places
+
+-- ---- what refuses
+
+module _ {A : Type 0} where
+  -- a fault of the items refuses all
+  pub refused_items : (fault : ItemsFault) (reading : items.Reading (List Item)) (rest : List Item → Reading A) → items.Gives (Err fault) reading → Gives (Err (items_refusal fault)) (or_refused reading >>= rest)
+  refused_items (NotJson input) reading rest gives = rw gives refl
+  refused_items (NotAList input) reading rest gives = rw gives refl
+  refused_items (TooManyItems count) reading rest gives = rw gives refl
+  refused_items (NestedList item) reading rest gives = rw gives refl
+  refused_items (Bad fault) reading rest gives = rw gives refl
+  refused_items NoMemory reading rest gives = tt
+
+  -- so does a name that is repeated
+  pub refused_places : (fault : PlacesFault) (found : Option (ℕ × ℕ)) (rest : Reading A) → TellsRepeat found fault → Gives (Err (places_refusal fault)) (or_duplicate found >> rest)
+  refused_places (places.Duplicate first second) found rest tells = rw tells refl
+  refused_places places.NoMemory found rest tells = tt
+
+  -- and a cycle of owners
+  pub refused_chains : (fault : ChainsFault) (found : Option (List ℕ)) (rest : Reading A) → TellsCycle found fault → Gives (Err (chains_refusal fault)) (or_cycle found >> rest)
+  refused_chains (chains.OwnerCycle name) found rest tells = rw tells refl
+  refused_chains chains.NoMemory found rest tells = tt
+
+-- ---- what is not refused
+
+none_repeats : (found : Option (ℕ × ℕ)) → or_duplicate found ≡ Ok tt → found ≡ None
+none_repeats None apart = refl
+none_repeats (Some numbers) apart = cc
+
+none_equal : (found : Option (Rank × Rank)) → or_equal found ≡ Ok tt → found ≡ None
+none_equal None apart = refl
+none_equal (Some ranks) apart = cc
+
+-- steps that end in lists are passed
+passed : (names priorities cycles : Reading ⊤) (made lists : EstateLists) → (names >> (priorities >> (cycles >> Ok made))) ≡ Ok lists → (names ≡ Ok tt) × (priorities ≡ Ok tt) × (made ≡ lists)
+passed (Ok names) (Ok priorities) (Ok cycles) made lists is = (refl, refl, cc)
+passed (Ok names) (Ok priorities) (Err refusal) made lists is = cc
+passed (Ok names) (Err refusal) cycles made lists is = cc
+passed (Err refusal) priorities cycles made lists is = cc
+
+-- where an estate is read of items, none repeats a name, no two admin policies have one priority, and it is theirs
+pub estate_of-passed : (texts : List (List ℕ)) (items : List Item) (lists : EstateLists) → items_of texts ≡ Ok items → estate_of texts ≡ Ok lists → (first_repeat items ≡ None) × (first_equal (ranks_of items) ≡ None) × (lists_of items ≡ lists)
+unfolding estate_of
+estate_of-passed texts items lists read is =
+    let parts = passed _ _ _ (lists_of items) lists (rw read at is) in
+    (none_repeats (first_repeat items) parts.0, none_equal (first_equal (ranks_of items)) parts.1, parts.2)
