@@ -1,2 +1,4 @@
+pub mod AddressLemmas
+pub mod OwnerLemmas
 pub mod ReadLemmas
 pub mod WellLemmas

@@ -34,18 +34,6 @@ pub(crate) fn or_refuse<T>(
     }
 }
 
-/// The first value that is there.
-pub(crate) fn first_some<T: Drop>(found: Seq<Option<T>>) -> Option<T>
-    ensures { result ≡ lists.first_some found }
-{
-    for value in found.into_vec() {
-        if value.is_some() {
-            return value;
-        }
-    }
-    None
-}
-
 /// The values that are there, in order.
 pub(crate) fn somes<T: Drop>(alloc: Global, found: Seq<Option<T>>) -> Result<Seq<T>, NoMemory>
     ensures { IfOk result (λ made. made ≡ filter_map (λ value. value) found) }
