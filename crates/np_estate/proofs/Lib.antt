@@ -15,3 +15,4 @@ pub mod LawfulWell
 pub mod OnceLemmas
 pub mod PriorityLemmas
 pub mod ReadingLemmas
+pub mod TopLemmas

@@ -15,7 +15,7 @@ use Rattle.np_estate.proofs.LawfulNames.{AreNamedApart, items_apart}
 use Rattle.np_estate.proofs.LawfulPolicies.{compare_names-exact, nat_cmp-exact}
 use Rattle.np_estate.proofs.PriorityLemmas.{priorities-apart}
 use Rattle.np_estate.proofs.ReadingLemmas.{estate_of-passed}
-use Rattle.np_estate.specs.EachOnce.{HoldsEachOnce}
+use Rattle.np_estate.specs.EachOnce.{HoldsEachOnce, IsOfItsItem}
 use Rattle.np_estate.specs.Lawful.{are_apart}
 use Rattle.np_estate.specs.Listed.{admin_policies_of, admin_policy, base_policy, first_equal, first_of, ingress, ingresses_from, ingresses_of, net_name, net_policies_of, net_policy, placed, rank_of, ranks_of}
 use Rattle.np_estate.specs.Reading.{estate_of, lists_of}
@@ -109,7 +109,7 @@ module _ (items : List Item) (nothing : first_repeat items ≡ None) where
 
 -- ---- ingresses
 
-ingresses-once : (number : ℕ) (items : List Item) → map (λ placed. placed.ingress) (ingresses_from number items) ≡ filter_map ingress items
+ingresses-once : (number : ℕ) (items : List Item) → map (λ found. found.ingress) (ingresses_from number items) ≡ filter_map ingress items
 ingresses-once number [] = refl
 ingresses-once number (one ∷ items) = by (ingress one) (ingresses-once (number + 1) items)
   where
@@ -148,5 +148,5 @@ each_once texts items lists read is =
       baseline = baseline-once items passed.0;
       services = refl;
       ingresses = ingresses-once 1 items;
-      ingresses_numbered = All-from_recursion _ (ingresses_of items) (all_weaker (IsOfItem 1 items) (λ placed. option_and_then ingress (slice_get items (placed.item - 1)) ≡ Some placed.ingress) (λ placed of. of.1) (ingresses_of items) (ingresses-numbered 1 items));
+      ingresses_numbered = All-from_recursion (IsOfItsItem items) (ingresses_of items) (all_weaker (IsOfItem 1 items) (IsOfItsItem items) (λ found of. of.1) (ingresses_of items) (ingresses-numbered 1 items));
     })

@@ -1,8 +1,8 @@
 -- What refuses a list, and what is so of one that is not refused.
 use Rattle.std.proofs.Common.{◌≡◌, ℕ, List, Option, Some, None, Ok, Err, refl, ap}
 use Rattle.std.specs.Prelude.{⊤}
-use Rattle.np_estate.specs.Listed.{first_equal, or_equal, ranks_of}
-use Rattle.np_estate.specs.Reading.{estate_of, lists_of, or_duplicate, or_cycle, or_refused}
+use Rattle.np_estate.specs.Listed.{first_equal, have_priorities_apart, or_equal, ranks_of}
+use Rattle.np_estate.specs.Reading.{estate_of, have_names_apart, have_no_cycle, lists_of, or_duplicate, or_cycle, or_refused}
 use Rattle.np_estate.specs.Readings.{Gives, Reading}
 use Rattle.np_estate.specs.Refusals.{chains_refusal, items_refusal, places_refusal}
 use Rattle.np_estate.specs.declared.lists.EstateLists.{EstateLists}
@@ -63,5 +63,5 @@ passed (Err refusal) priorities cycles made lists is = cc
 pub estate_of-passed : (texts : List (List ℕ)) (items : List Item) (lists : EstateLists) → items_of texts ≡ Ok items → estate_of texts ≡ Ok lists → (first_repeat items ≡ None) × (first_equal (ranks_of items) ≡ None) × (lists_of items ≡ lists)
 unfolding estate_of
 estate_of-passed texts items lists read is =
-    let parts = passed _ _ _ (lists_of items) lists (rw read at is) in
+    let parts = passed (have_names_apart items) (have_priorities_apart items) (have_no_cycle items) (lists_of items) lists (rw read at is) in
     (none_repeats (first_repeat items) parts.0, none_equal (first_equal (ranks_of items)) parts.1, parts.2)

@@ -10,3 +10,4 @@ pub mod PodPlaces
 pub mod Reading
 pub mod Readings
 pub mod Refusals
+pub mod TopOwners

@@ -17,7 +17,10 @@ mod refusal;
 mod setting;
 
 pub use estate::Estate;
-pub use laws::{each_policy_and_service_stands_once, read_estates_are_lawful};
+pub use laws::{
+    each_policy_and_service_stands_once, pods_without_listed_owners_name_their_top_owners,
+    read_estates_are_lawful,
+};
 pub use lists::EstateLists;
 pub use notes::Notes;
 pub use np_owners::Owner;

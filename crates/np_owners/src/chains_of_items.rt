@@ -6,12 +6,12 @@ ghost use Rattle.np_owners.specs.Owners as owners;
 
 use crate::fault::ChainsFault;
 use crate::object_name::{ObjectName, name_of};
-use crate::owner_refs::{is_controller_kind, owner_of};
+use crate::owner_refs::owner_of;
 use crate::places::Places;
 use np_base::{NoMemory, Text};
 use np_chains::Chains;
 use np_items::Item;
-use np_objects::OwnerRef;
+use np_objects::{OwnerRef, is_controller_kind};
 use std::alloc::Global;
 
 /// Over each item the listed controller that owns it, by their places from 0. `OwnerCycle` comes exactly where a listed
