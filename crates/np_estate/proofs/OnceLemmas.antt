@@ -56,9 +56,9 @@ module _ (items : List Item) (nothing : first_repeat items ≡ None) where
       (later-map net_name (λ a b. a ≢ b) (filter_map net_policy items)
       (later-filter_map net_policy AreNamedApart (λ a b. net_name a ≢ net_name b)
       (λ one other a b a_is b_is apart same.
-          differ a.namespace a.name b.namespace b.name
-          (are_apart-from_items one other (codes "NetworkPolicy") a.namespace a.name b.namespace b.name refl (name_of_net one a a_is) (name_of_net other b b_is) apart)
-          (ap (λ (n : ObjectName). n.namespace) same) (ap (λ (n : ObjectName). n.name) same))
+      differ a.namespace a.name b.namespace b.name
+      (are_apart-from_items one other (codes "NetworkPolicy") a.namespace a.name b.namespace b.name refl (name_of_net one a a_is) (name_of_net other b b_is) apart)
+      (ap (λ (n : ObjectName). n.namespace) same) (ap (λ (n : ObjectName). n.name) same))
       items (items_apart items nothing)))
 
   pub net_policies-once : IsPermutation (filter_map net_policy items) (net_policies_of items)
@@ -74,9 +74,9 @@ module _ (items : List Item) (nothing : first_repeat items ≡ None) where
       (later-map rank_of (λ a b. a ≢ b) (filter_map admin_policy items)
       (later-filter_map admin_policy AreNamedApart (λ a b. rank_of a ≢ rank_of b)
       (λ one other a b a_is b_is apart same.
-          differ [] a.name [] b.name
-          (are_apart-from_items one other (codes "AdminNetworkPolicy") [] a.name [] b.name refl (name_of_admin one a a_is) (name_of_admin other b b_is) apart)
-          refl (ap (λ (r : Rank). r.name) same))
+      differ [] a.name [] b.name
+      (are_apart-from_items one other (codes "AdminNetworkPolicy") [] a.name [] b.name refl (name_of_admin one a a_is) (name_of_admin other b b_is) apart)
+      refl (ap (λ (r : Rank). r.name) same))
       items (items_apart items nothing)))
 
   pub admin_policies-once : first_equal (ranks_of items) ≡ None → IsPermutation (filter_map admin_policy items) (admin_policies_of items)
@@ -102,9 +102,9 @@ module _ (items : List Item) (nothing : first_repeat items ≡ None) where
       at_most_one (filter_map base_policy items)
       (later-filter_map base_policy AreNamedApart (λ a b. ⊥)
       (λ one other a b a_is b_is apart.
-          differ [] (codes "default") [] (codes "default")
-          (are_apart-from_items one other (codes "BaselineAdminNetworkPolicy") [] (codes "default") [] (codes "default") refl (name_of_base one a a_is) (name_of_base other b b_is) apart)
-          refl refl)
+      differ [] (codes "default") [] (codes "default")
+      (are_apart-from_items one other (codes "BaselineAdminNetworkPolicy") [] (codes "default") [] (codes "default") refl (name_of_base one a a_is) (name_of_base other b b_is) apart)
+      refl refl)
       items (items_apart items nothing))
 
 -- ---- ingresses

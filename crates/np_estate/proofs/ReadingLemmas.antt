@@ -1,48 +1,15 @@
--- What refuses a list, and what is so of one that is not refused.
-use Rattle.std.proofs.Common.{◌≡◌, ℕ, List, Option, Some, None, Ok, Err, refl, ap}
+-- What is so of a list that is not refused.
+use Rattle.std.proofs.Common.{◌≡◌, ℕ, List, Option, Some, None, Ok, Err, refl}
 use Rattle.std.specs.Prelude.{⊤}
 use Rattle.np_estate.specs.Listed.{first_equal, have_priorities_apart, or_equal, ranks_of}
-use Rattle.np_estate.specs.Reading.{estate_of, have_names_apart, have_no_cycle, lists_of, or_duplicate, or_cycle, or_refused}
-use Rattle.np_estate.specs.Readings.{Gives, Reading}
-use Rattle.np_estate.specs.Refusals.{chains_refusal, items_refusal, places_refusal}
+use Rattle.np_estate.specs.Reading.{estate_of, have_names_apart, have_no_cycle, lists_of, or_duplicate}
+use Rattle.np_estate.specs.Readings.{Reading}
 use Rattle.np_estate.specs.declared.lists.EstateLists.{EstateLists}
 use Rattle.np_estate.specs.declared.priorities.Rank.{Rank}
 use Rattle.np_items.specs.Items.{items_of}
-use Rattle.np_items.specs.Readings as items
-use Rattle.np_items.specs.Readings.{◌>>=◌, ◌>>◌}
-use Rattle.np_items.specs.declared.fault.ItemsFault.{ItemsFault}
-use Rattle.np_items.specs.declared.fault.ItemsFault.TheVariants.{NotJson, NotAList, TooManyItems, NestedList, Bad, NoMemory}
+use Rattle.np_items.specs.Readings.{◌>>◌}
 use Rattle.np_items.specs.declared.item.Item.{Item}
-use Rattle.np_owners.specs.Names.{TellsRepeat, first_repeat}
-use Rattle.np_owners.specs.Owners.{TellsCycle}
-use Rattle.np_owners.specs.declared.fault.ChainsFault.{ChainsFault}
-use Rattle.np_owners.specs.declared.fault.ChainsFault.TheVariants as chains
-use Rattle.np_owners.specs.declared.fault.PlacesFault.{PlacesFault}
-use Rattle.np_owners.specs.declared.fault.PlacesFault.TheVariants as places
-
--- ---- what refuses
-
-module _ {A : Type 0} where
-  -- a fault of the items refuses all
-  pub refused_items : (fault : ItemsFault) (reading : items.Reading (List Item)) (rest : List Item → Reading A) → items.Gives (Err fault) reading → Gives (Err (items_refusal fault)) (or_refused reading >>= rest)
-  refused_items (NotJson input) reading rest gives = rw gives refl
-  refused_items (NotAList input) reading rest gives = rw gives refl
-  refused_items (TooManyItems count) reading rest gives = rw gives refl
-  refused_items (NestedList item) reading rest gives = rw gives refl
-  refused_items (Bad fault) reading rest gives = rw gives refl
-  refused_items NoMemory reading rest gives = tt
-
-  -- so does a name that is repeated
-  pub refused_places : (fault : PlacesFault) (found : Option (ℕ × ℕ)) (rest : Reading A) → TellsRepeat found fault → Gives (Err (places_refusal fault)) (or_duplicate found >> rest)
-  refused_places (places.Duplicate first second) found rest tells = rw tells refl
-  refused_places places.NoMemory found rest tells = tt
-
-  -- and a cycle of owners
-  pub refused_chains : (fault : ChainsFault) (found : Option (List ℕ)) (rest : Reading A) → TellsCycle found fault → Gives (Err (chains_refusal fault)) (or_cycle found >> rest)
-  refused_chains (chains.OwnerCycle name) found rest tells = rw tells refl
-  refused_chains chains.NoMemory found rest tells = tt
-
--- ---- what is not refused
+use Rattle.np_owners.specs.Names.{first_repeat}
 
 none_repeats : (found : Option (ℕ × ℕ)) → or_duplicate found ≡ Ok tt → found ≡ None
 none_repeats None apart = refl

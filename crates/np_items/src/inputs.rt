@@ -4,9 +4,9 @@ ghost use Rattle.serde_json.specs.View.{view};
 ghost use Rattle.np_items.specs.Inputs as spec;
 ghost use Rattle.np_items.specs.Readings.{GivesAs};
 
+use crate::fault::ItemsFault;
 use crate::json::value_of;
 use crate::list::items_in;
-use crate::fault::ItemsFault;
 use np_base::{NoMemory, Seq};
 use serde_json::Value;
 use std::alloc::Global;

@@ -5,9 +5,9 @@ ghost use Rattle.np_items.specs.Items as spec;
 ghost use Rattle.np_items.specs.Readings.{Gives};
 ghost use Rattle.np_items.specs.WellFormed.{IsWellItem};
 
+use crate::fault::ItemsFault;
 use crate::item::Item;
 use crate::list::is_list_kind;
-use crate::fault::ItemsFault;
 use np_base::Seq;
 use np_json::{TypeMetaShape, read_item};
 use np_objects::read_object;

@@ -5,10 +5,10 @@ ghost use Rattle.np_items.specs.Items as spec;
 ghost use Rattle.np_items.specs.Readings.{Gives};
 ghost use Rattle.np_items.specs.WellFormed.{IsWellItem};
 
+use crate::fault::ItemsFault;
 use crate::inputs::all_values;
 use crate::item::Item;
 use crate::items::each_item;
-use crate::fault::ItemsFault;
 use np_base::Seq;
 use std::alloc::Global;
 

@@ -65,7 +65,7 @@ fn note(
     ensures apart { (earlier : List Item) → length earlier ≡ place →
         names.HoldsPlaces earlier by_name.old.entries →
         MatchResult result (λ _. names.repeated earlier item.now ≡ None)
-            (names.TellsRepeat (names.repeated earlier item.now)) }
+        (names.TellsRepeat (names.repeated earlier item.now)) }
 {
     let Some(name) = name_of(alloc, item)? else {
         return Ok(());
