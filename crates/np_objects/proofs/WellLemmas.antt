@@ -325,7 +325,7 @@ service_port-well value =
 requirement-well : (entry : List ℕ × List ℕ) → is_label entry ≡ true → is_well_requirement (label_requirement entry) ≡ true
 requirement-well entry is =
     let parts = and_parts (is_whole_word entry.0) (is_word entry.1) is in
-    and_from (is_whole_word entry.0) (is_word entry.1 && true) parts.0 (and_from (is_word entry.1) true parts.1 refl)
+    and_from (is_whole_word entry.0 && (is_word entry.1 && true)) true (and_from (is_whole_word entry.0) (is_word entry.1 && true) parts.0 (and_from (is_word entry.1) true parts.1 refl)) refl
 
 requirements-well : (entries : List (List ℕ × List ℕ)) → list_all is_label entries ≡ true → list_all is_well_requirement (map label_requirement entries) ≡ true
 requirements-well [] all = refl

@@ -28,7 +28,7 @@ mod template;
 
 pub use controller::{ControllerItem, ControllerKind, Template, is_controller_kind};
 pub use ingress::{Backend, IngressItem};
-pub use laws::first_counting_reference_names_owner;
+pub use laws::{first_counting_reference_names_owner, owner_is_read_of_references};
 pub use named_port::NamedPort;
 pub use namespace::NamespaceItem;
 pub use object::Object;
