@@ -18,7 +18,7 @@ use Rattle.np_estate.proofs.ReadingLemmas.{estate_of-passed}
 use Rattle.np_estate.specs.EachOnce.{HoldsEachOnce, IsOfItsItem}
 use Rattle.np_estate.specs.Lawful.{are_apart}
 use Rattle.np_estate.specs.Listed.{admin_policies_of, admin_policy, base_policy, first_equal, first_of, ingress, ingresses_from, ingresses_of, net_name, net_policies_of, net_policy, placed, rank_of, ranks_of}
-use Rattle.np_estate.specs.Reading.{estate_of, lists_of}
+use Rattle.np_estate.specs.Reading.{estate_of}
 use Rattle.np_estate.specs.declared.lists.EstateLists.{EstateLists}
 use Rattle.np_estate.specs.declared.placed_ingress.PlacedIngress.{PlacedIngress}
 use Rattle.np_estate.specs.declared.priorities.Rank.{Rank}

@@ -14,7 +14,6 @@ use Rattle.np_objects.specs.declared.owner_ref.OwnerRef.{OwnerRef}
 use Rattle.np_objects.specs.declared.pod_item.PodItem.{PodItem}
 use Rattle.np_owners.specs.Names.{named}
 use Rattle.np_owners.specs.Owners.{by_reference, last_owner, owner_or_itself, owner_place, top_owner, ups}
-use Rattle.np_owners.specs.declared.owner.Owner.{Owner}
 
 top_owner-unlisted : (items : List Item) (place : ℕ) (one : Item) → slice_get items place ≡ Some one → owner_place items one ≡ None → top_owner items place ≡ last_owner one
 top_owner-unlisted items place one at alone =
