@@ -1,6 +1,6 @@
 use Rattle.std.proofs.Common.{take}
 use Rattle.np_rules.specs.Layers.{Pairwise, IsBasePart}
-use Rattle.np_rules.proofs.layer.base_parts.Given as goal
+use Rattle.np_rules.proofs.layer_parts.base_parts.Given as goal
 
 -- the parts so far are those of the rules so far
 abbrev pub invariant-loop-rule : goal.invariant-loop-rule
