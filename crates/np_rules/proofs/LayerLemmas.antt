@@ -54,24 +54,31 @@ net_rules-next policies direction p i policy within is =
 
 -- ---- the namespace of the policies that select a pod
 
--- what the rules of one policy match, as rules of the pod's namespace
-matches_of_one : (namespace : List ℕ) (policy : NetPolicy) → policy.namespace ≡ namespace → (n : ℕ) (rules : List NetRule) → map matches_of (map (λ numbered. record { policy = policy; place = numbered.0; rule = numbered.1 }) (enumerate_from n rules)) ≡ map (λ placed. net_rule_matches namespace placed.rule) (map (λ numbered. record { policy = policy; place = numbered.0; rule = numbered.1 }) (enumerate_from n rules))
+-- a rule in its place
+abbrev placed_in : NetPolicy → ℕ × NetRule → PlacedNetRule
+placed_in policy numbered = record { policy = policy; place = numbered.0; rule = numbered.1 }
+
+-- what a rule matches in a namespace
+abbrev pub matches_in : List ℕ → PlacedNetRule → Contact → Bool
+matches_in namespace placed = net_rule_matches namespace placed.rule
+
+-- what the rules of one policy match, as rules of its namespace
+matches_of_one : (namespace : List ℕ) (policy : NetPolicy) → policy.namespace ≡ namespace → (n : ℕ) (rules : List NetRule) → map matches_of (map (placed_in policy) (enumerate_from n rules)) ≡ map (matches_in namespace) (map (placed_in policy) (enumerate_from n rules))
 matches_of_one namespace policy same n [] = refl
 matches_of_one namespace policy same n (rule ∷ rules) =
-    let first : List ℕ → List (Contact → Bool) = λ name. net_rule_matches name rule ∷ map matches_of (map (λ numbered. record { policy = policy; place = numbered.0; rule = numbered.1 }) (enumerate_from (n + 1) rules)) in
+    let first : List ℕ → List (Contact → Bool) = λ name. net_rule_matches name rule ∷ map matches_of (map (placed_in policy) (enumerate_from (n + 1) rules)) in
     ap first same ∙ ap (λ matches. net_rule_matches namespace rule ∷ matches) (matches_of_one namespace policy same (n + 1) rules)
 
 -- A policy that selects a pod is of the pod's namespace, so its rules match as rules of that.
-pub matches_in_namespace : (policies : List NetPolicy) (direction : Direction) (p : PodEnd) → map matches_of (net_places policies direction p) ≡ map (λ placed. net_rule_matches p.namespace placed.rule) (net_places policies direction p)
+pub matches_in_namespace : (policies : List NetPolicy) (direction : Direction) (p : PodEnd) → map matches_of (net_places policies direction p) ≡ map (matches_in p.namespace) (net_places policies direction p)
 matches_in_namespace [] direction p = refl
 matches_in_namespace (policy ∷ policies) direction p =
-    let in_namespace : PlacedNetRule → Contact → Bool = λ placed. net_rule_matches p.namespace placed.rule in
     map-append matches_of (net.places_by direction p policy) (net_places policies direction p)
     ∙ ap (λ matches. matches ++ map matches_of (net_places policies direction p)) (here (net_selects policy p) refl)
-    ∙ ap (λ matches. map in_namespace (net.places_by direction p policy) ++ matches) (matches_in_namespace policies direction p)
-    ∙ sym (map-append in_namespace (net.places_by direction p policy) (net_places policies direction p))
+    ∙ ap (λ matches. map (matches_in p.namespace) (net.places_by direction p policy) ++ matches) (matches_in_namespace policies direction p)
+    ∙ sym (map-append (matches_in p.namespace) (net.places_by direction p policy) (net_places policies direction p))
   where
-    here : (b : Bool) → net_selects policy p ≡ b → map matches_of (if b then net_places_of direction policy else []) ≡ map (λ placed. net_rule_matches p.namespace placed.rule) (if b then net_places_of direction policy else [])
+    here : (b : Bool) → net_selects policy p ≡ b → map matches_of (if b then net_places_of direction policy else []) ≡ map (matches_in p.namespace) (if b then net_places_of direction policy else [])
     here true selects = matches_of_one p.namespace policy ((bytes_eq-Decides policy.namespace p.namespace).0 (and_parts (bytes_eq policy.namespace p.namespace) (meets_selector policy.subject p.labels) selects).0) 0 (unwrap_or (net_rules_of direction policy) [])
     here false selects = refl
 

@@ -160,9 +160,7 @@ impl<'a> PodRules<'a> {
         ensures least { steps.old ≤ steps.new }
         ensures most { steps.new ≤ steps.old + side_rule_count self.now }
     {
-        steps.add(self.admin.len() as u64);
-        steps.add(self.net.rules.len() as u64);
-        steps.add(self.base.len() as u64);
+        self.count(steps);
         let near = view_at(self.estate, self.pod);
         let admin = admin_parts(alloc, &self.admin, far)?;
         let net = net_sets(alloc, near.namespace, &self.net.rules, far)?;
@@ -173,5 +171,14 @@ impl<'a> PodRules<'a> {
             net,
             base,
         })
+    }
+
+    // Counts all rules.
+    fn count<L: Ledger>(&self, steps: &mut Steps<L>)
+        ensures { steps.new ≡ steps.old + side_rule_count self.now }
+    {
+        steps.add(self.admin.len() as u64);
+        steps.add(self.net.rules.len() as u64);
+        steps.add(self.base.len() as u64);
     }
 }
