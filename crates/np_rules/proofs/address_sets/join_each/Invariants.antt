@@ -3,7 +3,7 @@ use Rattle.std.specs.List.{list_any}
 use Rattle.np_addr.specs.Addresses.{IsAddress}
 use Rattle.np_addr.specs.Blocks.{set_has}
 use Rattle.np_addr.specs.declared.address.Address.{Address}
-use Rattle.np_rules.proofs.address_sets.joined_set.Given as goal
+use Rattle.np_rules.proofs.address_sets.join_each.Given as goal
 
 -- the set so far has the addresses of the items so far
 abbrev pub invariant-loop-item : goal.invariant-loop-item
