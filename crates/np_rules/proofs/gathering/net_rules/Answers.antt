@@ -16,9 +16,9 @@ loop-policy-preserved c =
     let front : List NetRule → List NetRule = λ rules. rules ++ c.unwrap_or.result.now in
     record {
       rules =
-        c.in_ok-push_all.ensures
-        ∙ ap front c.loop-policy.invariant.rules
-        ∙ ap after (let here : c.unwrap_or.result.now ≡ (if net_selects c.policy-item.result (pod_view c.args.pod.now) then unwrap_or (net_rules_of c.args.direction c.policy-item.result) [] else []) = grind (arith, common_steps) in here)
-        ∙ sym (net_rules-next c.args.policies.now c.args.direction (pod_view c.args.pod.now) c.loop-policy.policy-index c.policy-item.result c.loop-policy-test.true c.policy-item.is);
+          c.in_ok-push_all.ensures
+          ∙ ap front c.loop-policy.invariant.rules
+          ∙ ap after (let here : c.unwrap_or.result.now ≡ (if net_selects c.policy-item.result (pod_view c.args.pod.now) then unwrap_or (net_rules_of c.args.direction c.policy-item.result) [] else []) = grind (arith, common_steps) in here)
+          ∙ sym (net_rules-next c.args.policies.now c.args.direction (pod_view c.args.pod.now) c.loop-policy.policy-index c.policy-item.result c.loop-policy-test.true c.policy-item.is);
       isolated = joins-next (isolates c.args.direction (pod_view c.args.pod.now)) c.args.policies.now c.loop-policy.policy-index c.policy-item.result _ c.is_some-isolated.result _ c.loop-policy-test.true c.policy-item.is refl c.loop-policy.invariant.isolated (let here : c.is_some-isolated.result ≡ isolates c.args.direction (pod_view c.args.pod.now) c.policy-item.result = grind (arith, common_steps) in here);
     }
