@@ -1,9 +1,9 @@
 -- One far end and what its spots stand for.
-use Rattle.std.proofs.Common.{◌≡◌, ap, ◌∙◌, subst}
+use Rattle.std.proofs.Common.{◌≡◌, ap, ◌∙◌}
 use Rattle.np_addr.specs.declared.address.Family.{Family}
 use Rattle.np_conns.specs.declared.port_spot.PortSpot.{PortSpot}
 use Rattle.np_policies.specs.declared.direction.Direction.{Direction}
-use Rattle.np_rules.specs.Ends.{Contact, End, PodEnd, contact, destination_of}
+use Rattle.np_rules.specs.Ends.{Contact, End, contact, destination_of}
 use Rattle.np_rules.specs.OneEnd.{one_contact}
 use Rattle.np_rules.specs.Views.{end_view}
 use Rattle.np_rules.specs.declared.one_end.OneEnd.{OneEnd}
@@ -15,7 +15,3 @@ contacts far destination family spot = record { far = far; destination = destina
 pub same_contacts : (ends : OneEnd) (direction : Direction) (near far : End) (family : Family) → end_view ends.far ≡ far → end_view ends.destination ≡ destination_of direction near far → ends.family ≡ family → one_contact ends ≡ contact direction near far family
 same_contacts ends direction near far family is_far is_destination is_family =
     ap (λ f. contacts f (end_view ends.destination) ends.family) is_far ∙ ap (λ d. contacts far d ends.family) is_destination ∙ ap (contacts far (destination_of direction near far)) is_family
-
--- what holds of what the spots stand for and of a pod holds of equal ones
-pub moved : {Spot : Type 0} (P : (Spot → Contact) → PodEnd → Type 0) (at at' : Spot → Contact) (p p' : PodEnd) → at ≡ at' → p ≡ p' → P at p → P at' p'
-moved {Spot} P at at' p p' same_at same_pod holds = subst (λ (q : PodEnd). P at' q) same_pod (subst (λ (a : Spot → Contact). P a p) same_at holds)

@@ -1,7 +1,12 @@
 -- Lists related place by place.
-use Rattle.std.proofs.Common.{◌≡◌, ℕ, ◌+◌, ◌<◌, List, [], ◌∷◌, ◌++◌, length, take, get_or, map, sym, ap, subst, ◌∙◌, append_assoc}
+use Rattle.std.proofs.Common.{◌≡◌, ℕ, ◌+◌, ◌<◌, List, [], ◌∷◌, ◌++◌, length, take, get_or, map, refl, sym, ap, subst, ◌∙◌, append_assoc}
 use Rattle.std.proofs.lemmas.List.{take_more, map-append}
 use Rattle.np_rules.specs.Layers.{Pairwise}
+
+-- images of images
+pub map-map : {A B C : Type 0} (f : A → B) (g : B → C) (xs : List A) → map g (map f xs) ≡ map (λ x. g (f x)) xs
+map-map f g [] = refl
+map-map f g (x ∷ xs) = ap (λ ys. g (f x) ∷ ys) (map-map f g xs)
 
 -- one more at the end of both
 pub Pairwise-push : {A B : Type 0} (R : A → B → Type 0) (xs : List A) (ys : List B) (x : A) (y : B) → Pairwise R xs ys → R x y → Pairwise R (xs ++ x ∷ []) (ys ++ y ∷ [])
@@ -30,8 +35,3 @@ Pairwise-next-map {A} {B} {C} R f xs before ys i x y made within is pushed relat
     let item : B → List B = λ b. take i ys ++ b ∷ [] in
     let front : before ++ map f (take (i + 1) ys) ≡ (before ++ map f (take i ys)) ++ f y ∷ [] = ap (λ bs. before ++ map f bs) (take_more ys i y within ∙ ap item (sym is)) ∙ ap (λ cs. before ++ cs) (map-append f (take i ys) (y ∷ [])) ∙ sym (append_assoc before (map f (take i ys)) (f y ∷ [])) in
     subst (λ (made' : List A). Pairwise R made' (before ++ map f (take (i + 1) ys))) (sym pushed) (subst (λ (cs : List C). Pairwise R (xs ++ x ∷ []) cs) (sym front) (Pairwise-push R xs (before ++ map f (take i ys)) x (f y) related here))
-
--- after the items of a list were put last, which makes the second list longer by them
-pub Pairwise-more : {A B : Type 0} (R : A → B → Type 0) (old made : List A) (before here here' after : List B) → here ≡ here' → after ≡ before ++ here' → Pairwise R old before → ((front : List B) → Pairwise R old front → Pairwise R made (front ++ here)) → Pairwise R made after
-Pairwise-more {A} {B} R old made before here here' after same is related pushed =
-    subst (λ (ys : List B). Pairwise R made ys) (ap (λ ys. before ++ ys) same ∙ sym is) (pushed before related)
