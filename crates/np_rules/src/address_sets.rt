@@ -70,27 +70,23 @@ pub(crate) fn net_addresses(alloc: Global, peers: &[NetPeer]) -> Result<AddrSet,
     }
 }
 
-/// The addresses that some item stands for. One item alone, as most rules have, is not joined.
+/// The addresses that some item stands for. The sets of both halves of the items are joined, so that n items take time
+/// n log n; one item alone, as most rules have, is not joined.
 pub(crate) fn joined_set<A: Addresses>(alloc: Global, items: &[A]) -> Result<AddrSet, NoMemory>
     ensures { IfOk result (λ set. (a : Address) → IsAddress a →
         set_has set a ≡ list_any (λ item. A.stands_for item a) items.now) }
 {
     match items {
+        [] => no_address(alloc),
         [item] => item.addresses(alloc),
-        _ => join_each(alloc, items),
+        _ => {
+            let (front, back) = items.split_at(items.len() / 2);
+            let first = joined_set(alloc, front)?;
+            let second = joined_set(alloc, back)?;
+            let joined = join(&first, &second)?;
+            Ok(joined)
+        }
     }
-}
-
-// The same, item by item.
-fn join_each<A: Addresses>(alloc: Global, items: &[A]) -> Result<AddrSet, NoMemory>
-    ensures { IfOk result (λ set. (a : Address) → IsAddress a →
-        set_has set a ≡ list_any (λ item. A.stands_for item a) items.now) }
-{
-    let mut joined = no_address(alloc)?;
-    for item in items {
-        joined = join(&joined, &item.addresses(alloc)?)?;
-    }
-    Ok(joined)
 }
 
 fn no_address(alloc: Global) -> Result<AddrSet, NoMemory>

@@ -79,7 +79,8 @@ pub(crate) fn entries_set<E: PortEntry>(
     }
 }
 
-// The spots that some entry matches. One entry alone, as most rules have, is not joined.
+// The spots that some entry matches. The sets of both halves of the entries are joined, so that n entries take time n log
+// n; one entry alone, as most rules have, is not joined.
 fn joined_set<E: PortEntry>(
     alloc: Global,
     entries: &[E],
@@ -89,25 +90,16 @@ fn joined_set<E: PortEntry>(
         has_spot made spot ≡ list_any (λ entry. E.matches entry (end_view destination.now) spot) entries.now) }
 {
     match entries {
+        [] => ConnSet::nothing(alloc),
         [entry] => entry.spots(alloc, destination),
-        _ => join_each(alloc, entries, destination),
+        _ => {
+            let (front, back) = entries.split_at(entries.len() / 2);
+            let first = joined_set(alloc, front, destination)?;
+            let second = joined_set(alloc, back, destination)?;
+            let joined = first.join(&second)?;
+            Ok(joined)
+        }
     }
-}
-
-// The same, entry by entry.
-fn join_each<E: PortEntry>(
-    alloc: Global,
-    entries: &[E],
-    destination: &EndView<'_>,
-) -> Result<ConnSet, NoMemory>
-    ensures { IfOk result (λ made. (spot : PortSpot) → is_spot spot ≡ true →
-        has_spot made spot ≡ list_any (λ entry. E.matches entry (end_view destination.now) spot) entries.now) }
-{
-    let mut joined = ConnSet::nothing(alloc)?;
-    for entry in entries {
-        joined = joined.join(&entry.spots(alloc, destination)?)?;
-    }
-    Ok(joined)
 }
 
 // The ports of a protocol from `lo` to `hi`. Where `hi` is below `lo` there are none.
