@@ -5,6 +5,6 @@ mod list;
 mod pod;
 mod policy;
 
-pub use list::{items_of, list_of};
+pub use list::{input_of, items_of, list_of};
 pub use pod::{BARE, Pod};
 pub use policy::Policy;

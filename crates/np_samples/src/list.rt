@@ -21,3 +21,12 @@ pub fn items_of<T: Display>(alloc: Global, objects: &[T]) -> Result<String, NoMe
     }
     Ok(text)
 }
+
+/// The one input that a text is.
+pub fn input_of(alloc: Global, text: &str) -> Result<Vec<Vec<u8>>, NoMemory> {
+    let mut bytes = Vec::new(alloc);
+    bytes.extend_from_slice(text.as_bytes())?;
+    let mut inputs = Vec::new(alloc);
+    inputs.push(bytes)?;
+    Ok(inputs)
+}

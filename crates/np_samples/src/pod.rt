@@ -37,7 +37,10 @@ impl fmt::Display for Pod<'_> {
             f,
             r#"{{"apiVersion":"v1","kind":"Pod","metadata":{{"namespace":"{namespace}","name":"{name}","#
         )?;
-        write!(f, r#""labels":{{{labels}}},"ownerReferences":[{owners}]}},"#)?;
+        write!(
+            f,
+            r#""labels":{{{labels}}},"ownerReferences":[{owners}]}},"#
+        )?;
         write!(
             f,
             r#""spec":{{"containers":[{{"ports":[{ports}]}}]}},"status":{{"podIPs":[{addresses}]}}}}"#

@@ -1,8 +1,9 @@
 //! What passes between pods and the ranges of addresses that policies tell apart.
 
-use crate::objects::{POD, filled, list_text};
+use crate::objects::{POD, filled};
 use crate::runs::expect_table;
 use crate::table_text::{Allowed, table_text};
+use np_samples::list_of;
 use std::test::Fail;
 
 // A policy on all pods, whose ingress rule has these members.
@@ -17,7 +18,7 @@ fn block_with_an_exception(rt: HostRuntime) -> Result<(), Fail> {
     let alloc = rt.alloc();
     let rule = r#""from":[{"ipBlock":{"cidr":"10.0.0.0/8","except":["10.1.0.0/16"]}}]"#;
     let policy = filled(alloc, WITH_RULE, &[("RULE", rule)])?;
-    let text = list_text(alloc, &[POD, policy.as_str()])?;
+    let text = list_of(alloc, &[POD, policy.as_str()])?;
     let table = concat!(
         "0.0.0.0-9.255.255.255 => default/a[Pod] : No Connections\n",
         "10.0.0.0-10.0.255.255 => default/a[Pod] : All Connections\n",
@@ -38,7 +39,7 @@ fn block_of_the_last_addresses(rt: HostRuntime) -> Result<(), Fail> {
     let alloc = rt.alloc();
     let rule = r#""from":[{"ipBlock":{"cidr":"ffff::/16"}}],"ports":[{"port":65535}]"#;
     let policy = filled(alloc, WITH_RULE, &[("RULE", rule)])?;
-    let text = list_text(alloc, &[POD, policy.as_str()])?;
+    let text = list_of(alloc, &[POD, policy.as_str()])?;
     let table = concat!(
         "0.0.0.0-255.255.255.255 => default/a[Pod] : No Connections\n",
         "::-fffe:ffff:ffff:ffff:ffff:ffff:ffff:ffff => default/a[Pod] : No Connections\n",
@@ -56,7 +57,7 @@ fn blocks_of_one_address(rt: HostRuntime) -> Result<(), Fail> {
     let alloc = rt.alloc();
     let rule = r#""from":[{"ipBlock":{"cidr":"1.2.3.4/32"}},{"ipBlock":{"cidr":"::/128"}}]"#;
     let policy = filled(alloc, WITH_RULE, &[("RULE", rule)])?;
-    let text = list_text(alloc, &[POD, policy.as_str()])?;
+    let text = list_of(alloc, &[POD, policy.as_str()])?;
     let table = concat!(
         "0.0.0.0-1.2.3.3 => default/a[Pod] : No Connections\n",
         "1.2.3.4 => default/a[Pod] : All Connections\n",
@@ -120,7 +121,7 @@ fn networks_behind_a_pass(rt: HostRuntime) -> Result<(), Fail> {
             "note: pods without an address, matched by no networks peer: 1\n",
         ),
     ] {
-        let text = list_text(alloc, &[POD_A, pod, TIERS])?;
+        let text = list_of(alloc, &[POD_A, pod, TIERS])?;
         expect_table(&rt, alloc, text.as_str(), table.as_str(), notes, pod)?;
     }
     Ok(())

@@ -1,8 +1,9 @@
 //! Lists of several kinds of objects, and their tables.
 
-use crate::objects::{filled, list_text};
+use crate::objects::filled;
 use crate::runs::expect_table;
 use crate::table_text::{Allowed, FREE, table_text};
+use np_samples::list_of;
 use std::test::Fail;
 
 // A Deployment of one template, of so many replicas.
@@ -18,7 +19,7 @@ static POD_C: &str = r#"{"apiVersion":"v1","kind":"Pod","metadata":{"name":"c"},
 fn templates(rt: HostRuntime) -> Result<(), Fail> {
     let alloc = rt.alloc();
     let two = filled(alloc, DEPLOYMENT, &[("NUMBER", "2")])?;
-    let text = list_text(alloc, &[two.as_str(), POD_C])?;
+    let text = list_of(alloc, &[two.as_str(), POD_C])?;
     let table = table_text(
         alloc,
         concat!(
@@ -29,7 +30,7 @@ fn templates(rt: HostRuntime) -> Result<(), Fail> {
     )?;
     expect_table(&rt, alloc, text.as_str(), table.as_str(), "", "2 replicas")?;
     let none = filled(alloc, DEPLOYMENT, &[("NUMBER", "0")])?;
-    let text = list_text(alloc, &[none.as_str(), POD_C])?;
+    let text = list_of(alloc, &[none.as_str(), POD_C])?;
     let table = table_text(alloc, "", &[("default/c[Pod]", FREE)])?;
     expect_table(&rt, alloc, text.as_str(), table.as_str(), "", "0 replicas")?;
     Ok(())
@@ -44,7 +45,7 @@ fn finished_jobs(rt: HostRuntime) -> Result<(), Fail> {
         r#"{"apiVersion":"v1","kind":"Pod","metadata":{"name":"nightly-1-x","ownerReferences":[{"kind":"Job","name":"nightly-1","controller":true}]},"spec":{},"status":{"phase":"Succeeded"}}"#,
         POD_C,
     ];
-    let text = list_text(rt.alloc(), &items)?;
+    let text = list_of(rt.alloc(), &items)?;
     let table = table_text(rt.alloc(), "", &[("default/c[Pod]", FREE)])?;
     let notes = "note: finished pods left out: 1\n";
     expect_table(
@@ -67,7 +68,7 @@ fn named_ports(rt: HostRuntime) -> Result<(), Fail> {
         r#"{"apiVersion":"v1","kind":"Pod","metadata":{"name":"z","labels":{"app":"z"}},"spec":{}}"#,
         r#"{"apiVersion":"networking.k8s.io/v1","kind":"NetworkPolicy","metadata":{"name":"p"},"spec":{"podSelector":{"matchLabels":{"app":"z"}},"policyTypes":["Egress"],"egress":[{"ports":[{"port":"http"}]}]}}"#,
     ];
-    let text = list_text(rt.alloc(), &items)?;
+    let text = list_of(rt.alloc(), &items)?;
     let pairs = concat!(
         "default/x[Pod] => default/y[Pod] : All Connections\n",
         "default/x[Pod] => default/z[Pod] : All Connections\n",
@@ -121,7 +122,7 @@ fn first_of_two_priorities(rt: HostRuntime) -> Result<(), Fail> {
         first.as_str(),
         r#"{"apiVersion":"networking.k8s.io/v1","kind":"NetworkPolicy","metadata":{"name":"all","namespace":"y"},"spec":{"podSelector":{},"ingress":[{}]}}"#,
     ];
-    let text = list_text(alloc, &items)?;
+    let text = list_of(alloc, &items)?;
     let table = table_text(
         alloc,
         "y/b[Pod] => x/a[Pod] : All Connections\n",

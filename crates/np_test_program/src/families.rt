@@ -1,7 +1,9 @@
 //! Pods with addresses of both families, which a policy on IPv6 alone tells apart.
 
-use crate::objects::{filled, list_text};
+use crate::objects::filled;
 use crate::runs::expect_table;
+use np_base::NoMemory;
+use np_samples::list_of;
 use std::alloc::{AllocError, Global};
 use std::test::Fail;
 
@@ -40,11 +42,11 @@ fn pod(
 }
 
 // The bare pods `a` and `b`, and what is denied to the addresses of both at these ports.
-fn two_pods(alloc: Global, ports: &str) -> Result<String, AllocError> {
+fn two_pods(alloc: Global, ports: &str) -> Result<String, NoMemory> {
     let a = pod(alloc, "a", "", "10.0.0.1", "fd00::1")?;
     let b = pod(alloc, "b", "", "10.0.0.2", "fd00::2")?;
     let deny = filled(alloc, DENY, &[("CIDR", "fd00::/8"), ("PORTS", ports)])?;
-    list_text(alloc, &[a.as_str(), b.as_str(), deny.as_str()])
+    list_of(alloc, &[a.as_str(), b.as_str(), deny.as_str()])
 }
 
 // A port that is closed in one family: a row for each of them.
@@ -104,7 +106,7 @@ fn pods_apart_by_one_family(rt: HostRuntime) -> Result<(), Fail> {
     let first = pod(alloc, "web-x", OWNED, "10.0.0.1", "fd00::1")?;
     let second = pod(alloc, "web-y", OWNED, "10.0.0.2", "fd01::1")?;
     let deny = filled(alloc, DENY, &[("CIDR", "fd00::/16"), ("PORTS", "")])?;
-    let text = list_text(alloc, &[first.as_str(), second.as_str(), deny.as_str()])?;
+    let text = list_of(alloc, &[first.as_str(), second.as_str(), deny.as_str()])?;
     let table = concat!(
         "default/web[ReplicaSet]#1 => default/web[ReplicaSet]#2 : All Connections\n",
         "default/web[ReplicaSet]#2 => default/web[ReplicaSet]#1 (IPv4) : All Connections\n",

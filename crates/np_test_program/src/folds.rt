@@ -1,8 +1,9 @@
 //! Pods of one owner as workloads: one where no rule tells them apart, else one for each class.
 
-use crate::objects::{filled, items_of_many, list_text};
+use crate::objects::{filled, items_of_many};
 use crate::runs::expect_table;
 use crate::table_text::{Allowed, FREE, SHUT_IN, table_text};
+use np_samples::list_of;
 use std::test::Fail;
 
 // A Deployment, one of its ReplicaSets and one of their pods, with all that kubectl prints.
@@ -67,7 +68,7 @@ fn pods_of_a_deployment(rt: HostRuntime) -> Result<(), Fail> {
         new.as_str(),
         newer.as_str(),
     ];
-    let text = list_text(alloc, &items)?;
+    let text = list_of(alloc, &items)?;
     let table = table_text(
         alloc,
         "default/web[Deployment] => default/web[Deployment] : All Connections\n",
@@ -95,7 +96,7 @@ static ON_DB_0: &str = concat!(
 fn pods_apart_by_a_policy(rt: HostRuntime) -> Result<(), Fail> {
     let alloc = rt.alloc();
     let pods = items_of_many(alloc, 2, DB_POD)?;
-    let text = list_text(alloc, &[pods.as_str(), ON_DB_0])?;
+    let text = list_of(alloc, &[pods.as_str(), ON_DB_0])?;
     let table = table_text(
         alloc,
         "default/db[StatefulSet]#1 => default/db[StatefulSet]#2 : All Connections\n",
@@ -128,7 +129,7 @@ fn eleven_classes(rt: HostRuntime) -> Result<(), Fail> {
     let alloc = rt.alloc();
     let pods = items_of_many(alloc, 11, DB_POD)?;
     let policies = items_of_many(alloc, 11, ON_DB)?;
-    let text = list_text(alloc, &[policies.as_str(), pods.as_str()])?;
+    let text = list_of(alloc, &[policies.as_str(), pods.as_str()])?;
     let workloads = [
         ("default/db[StatefulSet]#1", at_port("TCP 10")),
         ("default/db[StatefulSet]#10", at_port("TCP 19")),
@@ -159,7 +160,7 @@ fn owners_of_two_namespaces(rt: HostRuntime) -> Result<(), Fail> {
     let alloc = rt.alloc();
     let first = filled(alloc, OWNED_POD, &[("NAME", "a"), ("SPACE", "y")])?;
     let second = filled(alloc, OWNED_POD, &[("NAME", "b"), ("SPACE", "x")])?;
-    let text = list_text(alloc, &[first.as_str(), second.as_str()])?;
+    let text = list_of(alloc, &[first.as_str(), second.as_str()])?;
     let table = table_text(
         alloc,
         concat!(
@@ -183,14 +184,14 @@ fn pods_apart_by_a_service(rt: HostRuntime) -> Result<(), Fail> {
     let alloc = rt.alloc();
     let first = filled(alloc, OWNED_POD, &[("NAME", "a"), ("SPACE", "default")])?;
     let second = filled(alloc, OWNED_POD, &[("NAME", "b"), ("SPACE", "default")])?;
-    let text = list_text(alloc, &[first.as_str(), second.as_str()])?;
+    let text = list_of(alloc, &[first.as_str(), second.as_str()])?;
     let table = table_text(
         alloc,
         "default/web[ReplicaSet] => default/web[ReplicaSet] : All Connections\n",
         &[("default/web[ReplicaSet]", FREE)],
     )?;
     expect_table(&rt, alloc, text.as_str(), table.as_str(), "", "no Service")?;
-    let text = list_text(alloc, &[first.as_str(), second.as_str(), SERVICE])?;
+    let text = list_of(alloc, &[first.as_str(), second.as_str(), SERVICE])?;
     let table = table_text(
         alloc,
         concat!(

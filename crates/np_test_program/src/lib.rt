@@ -36,3 +36,5 @@ mod table_text;
 mod tables;
 #[cfg(test)]
 mod texts;
+#[cfg(test)]
+mod words;

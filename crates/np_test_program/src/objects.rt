@@ -2,14 +2,6 @@
 
 use std::alloc::{AllocError, Global};
 
-/// The list of these items, which stand apart by commas.
-pub fn list_text(alloc: Global, items: &[&str]) -> Result<String, AllocError> {
-    let mut text = String::from_str(alloc, r#"{"apiVersion":"v1","items":["#)?;
-    text.push_str(items.join(alloc, ",")?.as_str())?;
-    text.push_str(r#"],"kind":"List"}"#)?;
-    Ok(text)
-}
-
 /// So many texts, apart by commas, in which each stands for its place by the words of `placed`.
 pub fn items_of_many(alloc: Global, count: usize, item: &str) -> Result<String, AllocError> {
     let mut text = String::new(alloc);
