@@ -9,7 +9,7 @@ use np_json::{Flag, Name, Shape, ShapeFault, must_be_object, optional, required}
 use serde_json::Value;
 use std::alloc::Global;
 
-/// An object that has owners.
+/// The objects of which owner references are read.
 #[derive(Clone, Copy)]
 pub(crate) enum Dependent {
     Pod,
@@ -54,7 +54,8 @@ impl Shape for OwnerReferenceShape {
     }
 }
 
-/// The owner of an object with these owner references: the first that a reference names.
+/// The owner of an object with these owner references: the first that a reference names. A reference that does not
+/// count is passed over, also where it controls the object.
 pub(crate) fn owner_of(dependent: Dependent, references: Seq<OwnerReference>) -> Option<OwnerRef>
     ensures { result ≡ owners.owner_of dependent references }
 {

@@ -9,7 +9,7 @@ use np_base::{NoMemory, Seq, Text};
 use np_json::{
     FaultKind, LabelMap, Shape, ShapeFault, listed, must_be_object, optional, refuse_if,
 };
-use np_labels::{Op, Requirement, Selector};
+use np_labels::{Requirement, Selector};
 use serde_json::{Map, Value};
 use std::alloc::Global;
 
