@@ -5,6 +5,8 @@
 #[cfg(test)]
 mod addresses;
 #[cfg(test)]
+mod case;
+#[cfg(test)]
 mod cluster_lists;
 #[cfg(test)]
 mod failures;

@@ -5,7 +5,7 @@ use crate::runs::{LARGE_PIECE, expect, run, run_on, sink, source};
 use np_base::NoMemory;
 use np_cli::Status;
 use np_samples::list_of;
-use std::alloc::Global;
+use std::alloc::{AllocError, Global};
 use std::test::Fail;
 
 static CONFIG_MAP: &str = r#"{"apiVersion":"v1","kind":"ConfigMap"}"#;
