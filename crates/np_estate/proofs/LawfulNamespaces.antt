@@ -1,10 +1,8 @@
 -- Pods have the labels of their namespaces, which say the namespaces' names.
-use Rattle.std.proofs.Common.{◌≡◌, ℕ, List, [], ◌∷◌, ◌++◌, length, true, ◌&&◌, ◌==◌, not, Option, Some, None, Ordering, Less, Equal, Greater, fold, refl, sym, ap, subst, ◌∙◌}
+use Rattle.std.proofs.Common.{◌≡◌, ℕ, List, [], ◌∷◌, ◌++◌, length, true, ◌&&◌, ◌==◌, not, Option, Some, None, fold, refl, sym, ap, subst, ◌∙◌}
 use Rattle.std.specs.Prelude.{codes, All}
-use Rattle.std.specs.Cmp.Lexicographic.{slice_cmp}
 use Rattle.std.specs.List.{slice_get}
 use Rattle.std.specs.Option.{option_and_then}
-use Rattle.std.specs.Ordering.{nat_cmp, match_ordering}
 use Rattle.std.proofs.lemmas.Bool.{and_from, and_parts}
 use Rattle.std.proofs.lemmas.List.{reverse-append}
 use Rattle.std.proofs.lemmas.List.Folds.{list_all-append}

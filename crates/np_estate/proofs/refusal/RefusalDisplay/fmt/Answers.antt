@@ -1,8 +1,8 @@
 use Rattle.std.proofs.Common.{rules, append_assoc, ◌≡◌, ◌++◌, codes, ℕ}
 use Rattle.std.specs.Prelude.{decimal}
-use Rattle.np_items.specs.Refusals.{refusal_text}
-use Rattle.np_items.specs.declared.refusal.Refusal.TheVariants.{Duplicate}
-use Rattle.np_items.proofs.refusal.RefusalDisplay.fmt.Goals as goal
+use Rattle.np_estate.specs.Refusals.{refusal_text}
+use Rattle.np_estate.specs.declared.refusal.Refusal.TheVariants.{Duplicate}
+use Rattle.np_estate.proofs.refusal.RefusalDisplay.fmt.Goals as goal
 
 -- the text in the order in which its parts are written
 duplicate_text : (first second : ℕ) → refusal_text (Duplicate first second) ≡ codes "items " ++ (decimal first ++ (codes " and " ++ (decimal second ++ codes ": Duplicate")))

@@ -1,7 +1,9 @@
-//! Why lists are not read.
+//! Why lists are not read to an estate.
 
 use np_base::{NoMemory, Text};
-use np_json::{Fault, ReadFault};
+use np_items::ItemsFault;
+use np_json::Fault;
+use np_owners::{ChainsFault, PlacesFault};
 use std::fmt;
 
 /// Why lists are not read. It is written as the line that tells of it, as `input 1: NotJson`.
@@ -32,7 +34,7 @@ pub enum Refusal {
 
 impl fmt::Display for Refusal {
     ghost use Rattle.std.specs.Prelude.{Some};
-    ghost use Rattle.np_items.specs.Refusals.{refusal_text};
+    ghost use Rattle.np_estate.specs.Refusals.{refusal_text};
 
     ghost output = { λ refusal. Some (refusal_text refusal) };
 
@@ -59,7 +61,7 @@ impl std::error::Error for Refusal {}
 
 impl From<NoMemory> for Refusal {
     ghost use Rattle.std.specs.Prelude.{◌≡◌};
-    ghost use Rattle.np_items.specs.declared.refusal.Refusal.TheVariants as refusal;
+    ghost use Rattle.np_estate.specs.declared.refusal.Refusal.TheVariants as refusal;
 
     ghost from_gives = { λ _ made. made ≡ refusal.NoMemory };
 
@@ -68,16 +70,48 @@ impl From<NoMemory> for Refusal {
     }
 }
 
-impl From<ReadFault> for Refusal {
+impl From<ItemsFault> for Refusal {
     ghost use Rattle.std.specs.Prelude.{◌≡◌};
-    ghost use Rattle.np_items.specs.Refusals.{refusal_of};
+    ghost use Rattle.np_estate.specs.Refusals.{items_refusal};
 
-    ghost from_gives = { λ fault made. made ≡ refusal_of fault };
+    ghost from_gives = { λ fault made. made ≡ items_refusal fault };
 
-    fn from(fault: ReadFault) -> Refusal {
+    fn from(fault: ItemsFault) -> Refusal {
         match fault {
-            ReadFault::Bad(fault) => Refusal::Bad(fault),
-            ReadFault::NoMemory => Refusal::NoMemory,
+            ItemsFault::NotJson { input } => Refusal::NotJson { input },
+            ItemsFault::NotAList { input } => Refusal::NotAList { input },
+            ItemsFault::TooManyItems { count } => Refusal::TooManyItems { count },
+            ItemsFault::NestedList { item } => Refusal::NestedList { item },
+            ItemsFault::Bad(fault) => Refusal::Bad(fault),
+            ItemsFault::NoMemory => Refusal::NoMemory,
+        }
+    }
+}
+
+impl From<PlacesFault> for Refusal {
+    ghost use Rattle.std.specs.Prelude.{◌≡◌};
+    ghost use Rattle.np_estate.specs.Refusals.{places_refusal};
+
+    ghost from_gives = { λ fault made. made ≡ places_refusal fault };
+
+    fn from(fault: PlacesFault) -> Refusal {
+        match fault {
+            PlacesFault::Duplicate { first, second } => Refusal::Duplicate { first, second },
+            PlacesFault::NoMemory => Refusal::NoMemory,
+        }
+    }
+}
+
+impl From<ChainsFault> for Refusal {
+    ghost use Rattle.std.specs.Prelude.{◌≡◌};
+    ghost use Rattle.np_estate.specs.Refusals.{chains_refusal};
+
+    ghost from_gives = { λ fault made. made ≡ chains_refusal fault };
+
+    fn from(fault: ChainsFault) -> Refusal {
+        match fault {
+            ChainsFault::OwnerCycle { name } => Refusal::OwnerCycle { name },
+            ChainsFault::NoMemory => Refusal::NoMemory,
         }
     }
 }
