@@ -24,9 +24,9 @@ static INPUTS: &[(&str, &str)] = &[
     ),
     (
         r#"{"apiVersion":"v1","kind":"PodList"}"#,
-        "input 1: NotAList",
+        "NotAList { input: 1 }",
     ),
-    ("{", "input 1: NotJson"),
+    ("{", "NotJson { input: 1 }"),
 ];
 
 fn sort_of(item: &Item) -> &'static str {
@@ -42,7 +42,7 @@ fn sorts(alloc: Global, text: &str) -> Result<String, NoMemory> {
     let inputs = input_of(alloc, text)?;
     let items = match read_items(alloc, &inputs) {
         Ok(items) => items,
-        Err(fault) => return Ok(format!(in alloc; "{fault}")?),
+        Err(fault) => return Ok(format!(in alloc; "{fault:?}")?),
     };
     let mut text = String::new(alloc);
     for item in items.items() {
