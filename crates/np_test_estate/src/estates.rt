@@ -2,6 +2,7 @@
 
 use np_base::NoMemory;
 use np_estate::{Estate, Pod};
+use np_samples::input_of;
 use std::alloc::Global;
 use std::process::Abort;
 
@@ -28,11 +29,8 @@ pub fn expect_seen(rt: &impl Abort, alloc: Global, list: &str, wanted: &[(Seen, 
 
 // What is seen of the estate of a list, or why the list is refused.
 fn seen_in(alloc: Global, list: &str, seen: &Seen) -> Result<String, NoMemory> {
-    let mut bytes = Vec::new(alloc);
-    bytes.extend_from_slice(list.as_bytes())?;
-    let mut texts = Vec::new(alloc);
-    texts.push(bytes)?;
-    match Estate::read(alloc, &texts) {
+    let inputs = input_of(alloc, list)?;
+    match Estate::read(alloc, &inputs) {
         Ok(estate) => seen_of(alloc, &estate, seen),
         Err(refusal) => Ok(format!(in alloc; "{refusal}")?),
     }

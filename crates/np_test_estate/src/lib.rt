@@ -4,6 +4,8 @@
 #[cfg(test)]
 mod estates;
 #[cfg(test)]
+mod items;
+#[cfg(test)]
 mod lists;
 #[cfg(test)]
 mod owners;

@@ -1,15 +1,5 @@
 //! Objects as texts.
 
-use std::alloc::{AllocError, Global};
-
-/// The list of these items.
-pub fn list_of(alloc: Global, items: &[&str]) -> Result<String, AllocError> {
-    let mut text = String::from_str(alloc, r#"{"apiVersion":"v1","items":["#)?;
-    text.push_str(items.join(alloc, ",")?.as_str())?;
-    text.push_str(r#"],"kind":"List"}"#)?;
-    Ok(text)
-}
-
 /// A Deployment with a template.
 pub const DEPLOYMENT: &str = concat!(
     r#"{"apiVersion":"apps/v1","kind":"Deployment","metadata":{"name":"web","uid":"1","generation":2,"#,

@@ -1,13 +1,15 @@
 //! The top owners of pods, and the pods that templates give.
 
 use crate::estates::{Seen, expect_seen};
-use crate::lists::{DEPLOYMENT, OWNED, POD, REPLICA_SET, list_of};
+use crate::lists::{DEPLOYMENT, OWNED, POD, REPLICA_SET};
+use np_base::NoMemory;
+use np_samples::list_of;
 use std::alloc::{AllocError, Global};
 use std::test::Fail;
 
 // A Deployment, its ReplicaSet and its pod, in each order: one pod, which the Deployment owns.
 #[test]
-fn owners_in_every_order(rt: HostRuntime) -> Result<(), Fail> {
+fn example_estate(rt: HostRuntime) -> Result<(), Fail> {
     static WANTED: &[(Seen, &str)] = &[(
         Seen::Pods,
         "default/web-0-a of web[Deployment], listed\n",
@@ -44,6 +46,12 @@ const BARE_SET: &str = concat!(
     r#"{"controller":true,"kind":"Deployment","name":"web"}]}}"#,
 );
 
+// A ReplicaSet that is controlled by an object of no kind of controllers, and then by a Deployment.
+const TWICE_OWNED_SET: &str = concat!(
+    r#"{"apiVersion":"apps/v1","kind":"ReplicaSet","metadata":{"name":"web-1","ownerReferences":["#,
+    r#"{"controller":true,"kind":"Rollout","name":"r"},{"controller":true,"kind":"Deployment","name":"web"}]}}"#,
+);
+
 // Owners of the pod `a`, and its top owner.
 static OWNERS: &[(&str, &str)] = &[
     (
@@ -62,6 +70,19 @@ static OWNERS: &[(&str, &str)] = &[
         r#""kind":"ReplicaSet","name":"web-0""#,
         "default/a of web[Deployment], listed\n",
     ),
+    (
+        r#""kind":"ReplicaSet","name":"web-1""#,
+        "default/a of web[Deployment], listed\n",
+    ),
+    // the node does not count, and the first of those that do is the owner
+    (
+        r#""kind":"Node","name":"n1"},{"controller":true,"kind":"ReplicaSet","name":"r""#,
+        "default/a of r[ReplicaSet], listed\n",
+    ),
+    (
+        r#""kind":"ReplicaSet","name":"r"},{"controller":true,"kind":"StatefulSet","name":"db""#,
+        "default/a of r[ReplicaSet], listed\n",
+    ),
 ];
 
 // Owners that are not listed, and a node, which is none.
@@ -69,7 +90,7 @@ static OWNERS: &[(&str, &str)] = &[
 fn owners_that_are_not_listed(rt: HostRuntime) -> Result<(), Fail> {
     for (owner, pods) in OWNERS {
         let pod = OWNED.replace(rt.alloc(), "#", owner)?;
-        let list = list_of(rt.alloc(), &[pod.as_str(), BARE_SET])?;
+        let list = list_of(rt.alloc(), &[pod.as_str(), BARE_SET, TWICE_OWNED_SET])?;
         let wanted = [(Seen::Pods, *pods), (Seen::Place("default", "a"), "0")];
         expect_seen(&rt, rt.alloc(), list.as_str(), &wanted);
     }
@@ -86,18 +107,12 @@ fn long_chains(rt: HostRuntime) -> Result<(), Fail> {
 }
 
 // A pod owned by the first of so many ReplicaSets, of which each is owned by the next one.
-fn chain(alloc: Global, count: usize) -> Result<String, AllocError> {
-    let mut text = String::from_str(alloc, r#"{"apiVersion":"v1","kind":"List","items":["#)?;
-    text.push_str(
-        OWNED
-            .replace(alloc, "#", r#""kind":"ReplicaSet","name":"r0""#)?
-            .as_str(),
-    )?;
+fn chain(alloc: Global, count: usize) -> Result<String, NoMemory> {
+    let mut items = OWNED.replace(alloc, "#", r#""kind":"ReplicaSet","name":"r0""#)?;
     for place in 0..count {
-        text.push_str(link(alloc, place, count)?.as_str())?;
+        items.push_str(link(alloc, place, count)?.as_str())?;
     }
-    text.push_str("]}")?;
-    Ok(text)
+    list_of(alloc, &[items.as_str()])
 }
 
 // The ReplicaSet at a place of the chain, behind a comma.

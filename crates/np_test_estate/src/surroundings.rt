@@ -1,7 +1,7 @@
 //! The labels of namespaces, and the order of policies.
 
 use crate::estates::{Seen, expect_seen};
-use crate::lists::list_of;
+use np_samples::{Policy, items_of, list_of};
 use std::test::Fail;
 
 // A pod of a namespace with an object of its own, whose labels say another name, and a pod of one without.
@@ -18,14 +18,31 @@ fn labels_of_namespaces(rt: HostRuntime) -> Result<(), Fail> {
     Ok(())
 }
 
+static POLICIES: &[Policy] = &[
+    Policy {
+        namespace: "x",
+        name: "b",
+        spec: "",
+    },
+    Policy {
+        namespace: "x",
+        name: "a",
+        spec: "",
+    },
+    Policy {
+        namespace: "default",
+        name: "z",
+        spec: "",
+    },
+];
+
 // NetworkPolicies stand by namespace and name, and admin policies by priority.
 #[test]
 fn policies_in_order(rt: HostRuntime) -> Result<(), Fail> {
     static WANTED: &[(Seen, &str)] = &[(Seen::Policies, "z a b early late ")];
+    let policies = items_of(rt.alloc(), POLICIES)?;
     let items = [
-        r#"{"apiVersion":"networking.k8s.io/v1","kind":"NetworkPolicy","metadata":{"name":"b","namespace":"x"},"spec":{}}"#,
-        r#"{"apiVersion":"networking.k8s.io/v1","kind":"NetworkPolicy","metadata":{"name":"a","namespace":"x"},"spec":{}}"#,
-        r#"{"apiVersion":"networking.k8s.io/v1","kind":"NetworkPolicy","metadata":{"name":"z"},"spec":{}}"#,
+        policies.as_str(),
         r#"{"apiVersion":"policy.networking.k8s.io/v1alpha1","kind":"AdminNetworkPolicy","metadata":{"name":"late"},"spec":{"priority":20,"subject":{"namespaces":{}}}}"#,
         r#"{"apiVersion":"policy.networking.k8s.io/v1alpha1","kind":"AdminNetworkPolicy","metadata":{"name":"early"},"spec":{"priority":3,"subject":{"namespaces":{}}}}"#,
     ];

@@ -11,6 +11,7 @@ use crate::tables::{pair_rows_text, pair_set_text, ranges_text, rows_text};
 use np_base::NoMemory;
 use np_estate::Estate;
 use np_fold::Workloads;
+use np_samples::input_of;
 use np_steps::Steps;
 use std::alloc::Global;
 use std::marker::Brand;
@@ -28,11 +29,8 @@ pub fn expect_answers(rt: &impl Abort, alloc: Global, list: List, wanted: &[(Que
 
 // What the text of a list answers: why it is refused, or what its estate answers.
 fn answer(alloc: Global, text: &str, question: &Question) -> Result<String, NoMemory> {
-    let mut bytes = Vec::new(alloc);
-    bytes.extend_from_slice(text.as_bytes())?;
-    let mut texts = Vec::new(alloc);
-    texts.push(bytes)?;
-    match Estate::read(alloc, &texts) {
+    let inputs = input_of(alloc, text)?;
+    match Estate::read(alloc, &inputs) {
         Ok(estate) => answer_of_estate(alloc, &estate, question),
         Err(refusal) => Ok(format!(in alloc; "{refusal}")?),
     }

@@ -1,17 +1,18 @@
 //! The numbers of workloads of one owner, in their names and among all workloads.
 
 use crate::answers::expect_answers;
-use crate::lists::{BARE, List, ListedPod, OF_DB};
+use crate::lists::{List, OF_DB};
 use crate::question::Question;
+use np_samples::{BARE, Pod};
 
-static POD_NAMES: &[ListedPod] = &[
-    ListedPod {
+static POD_NAMES: &[Pod] = &[
+    Pod {
         name: "db-0",
         labels: r#""statefulset.kubernetes.io/pod-name":"db-0""#,
         owners: OF_DB,
         ..BARE
     },
-    ListedPod {
+    Pod {
         name: "db-1",
         labels: r#""statefulset.kubernetes.io/pod-name":"db-1""#,
         owners: OF_DB,

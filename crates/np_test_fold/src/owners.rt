@@ -1,8 +1,9 @@
 //! Workloads by their owners.
 
 use crate::answers::expect_answers;
-use crate::lists::{BARE, List, ListedPod, OF_DB, POLICY_ON_APP};
+use crate::lists::{List, OF_DB, POLICY_ON_APP};
 use crate::question::Question;
+use np_samples::{BARE, Pod};
 
 // The Deployment `web`, and two ReplicaSets that it owns.
 static WEB: &[&str] = &[
@@ -16,20 +17,20 @@ const OF_WEB_0: &str = r#"{"controller":true,"kind":"ReplicaSet","name":"web-0"}
 const OF_WEB_1: &str = r#"{"controller":true,"kind":"ReplicaSet","name":"web-1"}"#;
 
 // Three pods of them, whose labels differ in a key that no selector names.
-static PODS_OF_WEB: &[ListedPod] = &[
-    ListedPod {
+static PODS_OF_WEB: &[Pod] = &[
+    Pod {
         name: "web-0-a",
         labels: r#""app":"web","pod-template-hash":"0""#,
         owners: OF_WEB_0,
         ..BARE
     },
-    ListedPod {
+    Pod {
         name: "web-1-a",
         labels: r#""app":"web","pod-template-hash":"1""#,
         owners: OF_WEB_1,
         ..BARE
     },
-    ListedPod {
+    Pod {
         name: "web-1-b",
         labels: r#""app":"web","pod-template-hash":"1""#,
         owners: OF_WEB_1,
@@ -38,7 +39,7 @@ static PODS_OF_WEB: &[ListedPod] = &[
 ];
 
 #[test]
-fn replica_sets_of_one_deployment(rt: HostRuntime) {
+fn example_workloads(rt: HostRuntime) {
     static WANTED: &[(Question, &str)] = &[
         (
             Question::Workloads,
@@ -53,7 +54,7 @@ fn replica_sets_of_one_deployment(rt: HostRuntime) {
 // A Deployment without pods stands for one, and a pod without an owner is its own. No rule tells the two apart.
 #[test]
 fn templates_and_pods_without_owners(rt: HostRuntime) {
-    static PODS: &[ListedPod] = &[ListedPod { name: "c", ..BARE }];
+    static PODS: &[Pod] = &[Pod { name: "c", ..BARE }];
     static WANTED: &[(Question, &str)] = &[(
         Question::Workloads,
         "default/c[Pod] of kind 0: 0\ndefault/web[Deployment] of kind 0: 1\n",
@@ -66,20 +67,20 @@ const OF_A: &str = r#"{"controller":true,"kind":"Deployment","name":"a"}"#;
 // Neither of these is listed.
 #[test]
 fn owners_of_one_kind(rt: HostRuntime) {
-    static PODS: &[ListedPod] = &[
-        ListedPod {
+    static PODS: &[Pod] = &[
+        Pod {
             name: "db-0",
             labels: r#""app":"x""#,
             owners: OF_DB,
             ..BARE
         },
-        ListedPod {
+        Pod {
             name: "a-0",
             labels: r#""app":"x""#,
             owners: OF_A,
             ..BARE
         },
-        ListedPod {
+        Pod {
             name: "a-1",
             labels: r#""app":"x""#,
             owners: OF_A,
@@ -99,14 +100,14 @@ fn owners_of_one_kind(rt: HostRuntime) {
 // One name of owners of different sorts, which come together nowhere.
 #[test]
 fn owners_of_one_name(rt: HostRuntime) {
-    static PODS: &[ListedPod] = &[
-        ListedPod {
+    static PODS: &[Pod] = &[
+        Pod {
             name: "x",
             owners: r#"{"controller":true,"kind":"StatefulSet","name":"a"}"#,
             ..BARE
         },
-        ListedPod { name: "a", ..BARE },
-        ListedPod {
+        Pod { name: "a", ..BARE },
+        Pod {
             name: "y",
             owners: OF_A,
             ..BARE
@@ -126,14 +127,14 @@ fn owners_of_one_name(rt: HostRuntime) {
 // Pods of one owner's name in two namespaces are not even of one kind.
 #[test]
 fn owners_in_two_namespaces(rt: HostRuntime) {
-    static PODS: &[ListedPod] = &[
-        ListedPod {
+    static PODS: &[Pod] = &[
+        Pod {
             namespace: "y",
             name: "db-0",
             owners: OF_DB,
             ..BARE
         },
-        ListedPod {
+        Pod {
             namespace: "x",
             name: "db-0",
             owners: OF_DB,
@@ -150,15 +151,15 @@ fn owners_in_two_namespaces(rt: HostRuntime) {
 // Kinds are numbered by their first workloads in the order of names, and one can come again behind another.
 #[test]
 fn kinds_come_again(rt: HostRuntime) {
-    static PODS: &[ListedPod] = &[
-        ListedPod { name: "d", ..BARE },
-        ListedPod {
+    static PODS: &[Pod] = &[
+        Pod { name: "d", ..BARE },
+        Pod {
             name: "c",
             labels: r#""app":"x""#,
             ..BARE
         },
-        ListedPod { name: "b", ..BARE },
-        ListedPod {
+        Pod { name: "b", ..BARE },
+        Pod {
             name: "a",
             labels: r#""app":"x""#,
             ..BARE

@@ -1,25 +1,26 @@
 //! What passes between two workloads.
 
 use crate::answers::expect_answers;
-use crate::lists::{BARE, List, ListedPod, OF_DB};
+use crate::lists::{List, OF_DB};
 use crate::question::Question;
 use np_addr::Family;
+use np_samples::{BARE, Pod};
 
 // Workload 0 is of the one pod `c`, and workload 1 of the two pods of `db`.
-static PODS: &[ListedPod] = &[
-    ListedPod {
+static PODS: &[Pod] = &[
+    Pod {
         name: "db-0",
         labels: r#""app":"db""#,
         owners: OF_DB,
         ..BARE
     },
-    ListedPod {
+    Pod {
         name: "db-1",
         labels: r#""app":"db""#,
         owners: OF_DB,
         ..BARE
     },
-    ListedPod {
+    Pod {
         name: "c",
         labels: r#""app":"c""#,
         ..BARE
@@ -69,18 +70,18 @@ fn rows_of_two_workloads(rt: HostRuntime) {
 }
 
 // Pods with addresses of both families. Nobody may send to TCP 80 of `b` in IPv6, nor anything to `c` in IPv4.
-static DUAL: &[ListedPod] = &[
-    ListedPod {
+static DUAL: &[Pod] = &[
+    Pod {
         name: "a",
         addresses: r#"{"ip":"10.0.0.1"},{"ip":"fd00::1"}"#,
         ..BARE
     },
-    ListedPod {
+    Pod {
         name: "b",
         addresses: r#"{"ip":"10.0.0.2"},{"ip":"fd00::2"}"#,
         ..BARE
     },
-    ListedPod {
+    Pod {
         name: "c",
         addresses: r#"{"ip":"10.0.0.3"},{"ip":"fd00::3"}"#,
         ..BARE

@@ -1,11 +1,12 @@
 //! What passes between a workload and all addresses.
 
 use crate::answers::expect_answers;
-use crate::lists::{BARE, List, ListedPod};
+use crate::lists::List;
 use crate::question::Question;
 use np_policies::Direction;
+use np_samples::{BARE, Pod};
 
-static ONE: &[ListedPod] = &[ListedPod { name: "a", ..BARE }];
+static ONE: &[Pod] = &[Pod { name: "a", ..BARE }];
 
 static BLOCKS: &[&str] = &[concat!(
     r#"{"apiVersion":"networking.k8s.io/v1","kind":"NetworkPolicy","metadata":{"name":"p"},"spec":{"#,

@@ -1,19 +1,20 @@
 //! All rows of a table, one after another.
 
 use crate::answers::expect_answers;
-use crate::lists::{BARE, List, ListedPod};
+use crate::lists::List;
 use crate::question::Question;
+use np_samples::{BARE, Pod};
 
 // Pairs of workloads, and then each workload with all addresses: ingress and egress, IPv4 and IPv6.
 #[test]
-fn rows_of_two_pods(rt: HostRuntime) {
-    static PODS: &[ListedPod] = &[
-        ListedPod {
+fn example_rows(rt: HostRuntime) {
+    static PODS: &[Pod] = &[
+        Pod {
             name: "b",
             labels: r#""app":"b""#,
             ..BARE
         },
-        ListedPod { name: "a", ..BARE },
+        Pod { name: "a", ..BARE },
     ];
     static POLICY: &[&str] = &[concat!(
         r#"{"apiVersion":"networking.k8s.io/v1","kind":"NetworkPolicy","metadata":{"name":"p"},"spec":{"#,
@@ -42,13 +43,13 @@ fn rows_of_two_pods(rt: HostRuntime) {
 // Two pods of one workload have a row with themselves.
 #[test]
 fn rows_of_one_workload(rt: HostRuntime) {
-    static PODS: &[ListedPod] = &[
-        ListedPod {
+    static PODS: &[Pod] = &[
+        Pod {
             name: "x",
             owners: r#"{"controller":true,"kind":"ReplicaSet","name":"r"}"#,
             ..BARE
         },
-        ListedPod {
+        Pod {
             name: "y",
             owners: r#"{"controller":true,"kind":"ReplicaSet","name":"r"}"#,
             ..BARE
@@ -78,10 +79,7 @@ fn rows_of_nothing(rt: HostRuntime) {
 // The contract of `rows_text` says that no rule is looked at where no policy is listed, as here: all is free.
 #[test]
 fn no_rule_is_looked_at_without_policies(rt: HostRuntime) {
-    static PODS: &[ListedPod] = &[
-        ListedPod { name: "a", ..BARE },
-        ListedPod { name: "b", ..BARE },
-    ];
+    static PODS: &[Pod] = &[Pod { name: "a", ..BARE }, Pod { name: "b", ..BARE }];
     static WANTED: &[(Question, &str)] = &[(
         Question::Rows(11),
         concat!(

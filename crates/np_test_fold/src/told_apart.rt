@@ -1,35 +1,36 @@
 //! What tells two pods of one owner apart, and what does not.
 
 use crate::answers::expect_answers;
-use crate::lists::{BARE, List, ListedPod, OF_DB, POLICY_ON_APP};
+use crate::lists::{List, OF_DB, POLICY_ON_APP};
 use crate::question::Question;
+use np_samples::{BARE, Pod};
 
 // Pods with one value, with another, with an empty one, with none, and with the first again.
-static BY_APP: &[ListedPod] = &[
-    ListedPod {
+static BY_APP: &[Pod] = &[
+    Pod {
         name: "db-0",
         labels: r#""app":"x","other":"0""#,
         owners: OF_DB,
         ..BARE
     },
-    ListedPod {
+    Pod {
         name: "db-1",
         labels: r#""app":"y","other":"1""#,
         owners: OF_DB,
         ..BARE
     },
-    ListedPod {
+    Pod {
         name: "db-2",
         labels: r#""app":"""#,
         owners: OF_DB,
         ..BARE
     },
-    ListedPod {
+    Pod {
         name: "db-3",
         owners: OF_DB,
         ..BARE
     },
-    ListedPod {
+    Pod {
         name: "db-4",
         labels: r#""app":"x""#,
         owners: OF_DB,
@@ -91,20 +92,20 @@ fn labels_that_a_rule_without_effect_names(rt: HostRuntime) {
 // Of each family an address. The third one is in the block of IPv6 as the first one is.
 #[test]
 fn a_block_of_the_other_family(rt: HostRuntime) {
-    static PODS: &[ListedPod] = &[
-        ListedPod {
+    static PODS: &[Pod] = &[
+        Pod {
             name: "db-0",
             owners: OF_DB,
             addresses: r#"{"ip":"10.0.0.1"},{"ip":"fd00::1"}"#,
             ..BARE
         },
-        ListedPod {
+        Pod {
             name: "db-1",
             owners: OF_DB,
             addresses: r#"{"ip":"10.0.0.2"},{"ip":"fc00::1"}"#,
             ..BARE
         },
-        ListedPod {
+        Pod {
             name: "db-2",
             owners: OF_DB,
             addresses: r#"{"ip":"10.0.0.3"},{"ip":"fd00:ffff::1"}"#,
@@ -130,8 +131,8 @@ fn a_block_of_the_other_family(rt: HostRuntime) {
 // Named ports count as they are listed, though nothing asks for them. Ports without names do not count.
 #[test]
 fn named_ports_in_another_order(rt: HostRuntime) {
-    static PODS: &[ListedPod] = &[
-        ListedPod {
+    static PODS: &[Pod] = &[
+        Pod {
             name: "db-0",
             owners: OF_DB,
             ports: concat!(
@@ -140,7 +141,7 @@ fn named_ports_in_another_order(rt: HostRuntime) {
             ),
             ..BARE
         },
-        ListedPod {
+        Pod {
             name: "db-1",
             owners: OF_DB,
             ports: concat!(
@@ -149,7 +150,7 @@ fn named_ports_in_another_order(rt: HostRuntime) {
             ),
             ..BARE
         },
-        ListedPod {
+        Pod {
             name: "db-2",
             owners: OF_DB,
             ports: concat!(
@@ -158,7 +159,7 @@ fn named_ports_in_another_order(rt: HostRuntime) {
             ),
             ..BARE
         },
-        ListedPod {
+        Pod {
             name: "db-3",
             owners: OF_DB,
             ports: concat!(

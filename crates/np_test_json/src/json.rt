@@ -278,7 +278,7 @@ static PARCELS: &[(&str, &str)] = &[
 ];
 
 #[test]
-fn a_table_gives_its_row_or_its_first_flaw(rt: HostRuntime) -> Result<(), Fail> {
+fn example_shape(rt: HostRuntime) -> Result<(), Fail> {
     tells(&rt, rt.alloc(), &ParcelShape, PARCELS)
 }
 

@@ -1,12 +1,12 @@
 //! What passes between pods and the ranges of addresses that policies tell apart.
 
-use crate::objects::{POD, filled, list_text};
-use crate::runs::expect_table;
-use crate::table_text::{Allowed, table_text};
+use crate::case::{Case, expect_case};
+use crate::objects::POD;
+use crate::table_text::Allowed;
 use std::test::Fail;
 
 // A policy on all pods, whose ingress rule has these members.
-static WITH_RULE: &str = concat!(
+const WITH_RULE: &str = concat!(
     r#"{"apiVersion":"networking.k8s.io/v1","kind":"NetworkPolicy","metadata":{"name":"p","namespace":"default"},"#,
     r#""spec":{"podSelector":{},"ingress":[{RULE}]}}"#,
 );
@@ -14,74 +14,101 @@ static WITH_RULE: &str = concat!(
 // A block of which a part is left out.
 #[test]
 fn block_with_an_exception(rt: HostRuntime) -> Result<(), Fail> {
-    let alloc = rt.alloc();
-    let rule = r#""from":[{"ipBlock":{"cidr":"10.0.0.0/8","except":["10.1.0.0/16"]}}]"#;
-    let policy = filled(alloc, WITH_RULE, &[("RULE", rule)])?;
-    let text = list_text(alloc, &[POD, policy.as_str()])?;
-    let table = concat!(
-        "0.0.0.0-9.255.255.255 => default/a[Pod] : No Connections\n",
-        "10.0.0.0-10.0.255.255 => default/a[Pod] : All Connections\n",
-        "10.1.0.0-10.1.255.255 => default/a[Pod] : No Connections\n",
-        "10.2.0.0-10.255.255.255 => default/a[Pod] : All Connections\n",
-        "11.0.0.0-255.255.255.255 => default/a[Pod] : No Connections\n",
-        "::-ffff:ffff:ffff:ffff:ffff:ffff:ffff:ffff => default/a[Pod] : No Connections\n",
-        "default/a[Pod] => 0.0.0.0-255.255.255.255 : All Connections\n",
-        "default/a[Pod] => ::-ffff:ffff:ffff:ffff:ffff:ffff:ffff:ffff : All Connections\n",
-    );
-    expect_table(&rt, alloc, text.as_str(), table, "", rule)?;
-    Ok(())
+    static CASE: Case = Case {
+        items: &[
+            (POD, &[]),
+            (
+                WITH_RULE,
+                &[(
+                    "RULE",
+                    r#""from":[{"ipBlock":{"cidr":"10.0.0.0/8","except":["10.1.0.0/16"]}}]"#,
+                )],
+            ),
+        ],
+        rows: concat!(
+            "0.0.0.0-9.255.255.255 => default/a[Pod] : No Connections\n",
+            "10.0.0.0-10.0.255.255 => default/a[Pod] : All Connections\n",
+            "10.1.0.0-10.1.255.255 => default/a[Pod] : No Connections\n",
+            "10.2.0.0-10.255.255.255 => default/a[Pod] : All Connections\n",
+            "11.0.0.0-255.255.255.255 => default/a[Pod] : No Connections\n",
+            "::-ffff:ffff:ffff:ffff:ffff:ffff:ffff:ffff => default/a[Pod] : No Connections\n",
+            "default/a[Pod] => 0.0.0.0-255.255.255.255 : All Connections\n",
+            "default/a[Pod] => ::-ffff:ffff:ffff:ffff:ffff:ffff:ffff:ffff : All Connections\n",
+        ),
+        workloads: &[],
+        notes: "",
+    };
+    expect_case(&rt, rt.alloc(), &CASE)
 }
 
 // The block of the last addresses, to the last port.
 #[test]
 fn block_of_the_last_addresses(rt: HostRuntime) -> Result<(), Fail> {
-    let alloc = rt.alloc();
-    let rule = r#""from":[{"ipBlock":{"cidr":"ffff::/16"}}],"ports":[{"port":65535}]"#;
-    let policy = filled(alloc, WITH_RULE, &[("RULE", rule)])?;
-    let text = list_text(alloc, &[POD, policy.as_str()])?;
-    let table = concat!(
-        "0.0.0.0-255.255.255.255 => default/a[Pod] : No Connections\n",
-        "::-fffe:ffff:ffff:ffff:ffff:ffff:ffff:ffff => default/a[Pod] : No Connections\n",
-        "ffff::-ffff:ffff:ffff:ffff:ffff:ffff:ffff:ffff => default/a[Pod] : TCP 65535\n",
-        "default/a[Pod] => 0.0.0.0-255.255.255.255 : All Connections\n",
-        "default/a[Pod] => ::-ffff:ffff:ffff:ffff:ffff:ffff:ffff:ffff : All Connections\n",
-    );
-    expect_table(&rt, alloc, text.as_str(), table, "", rule)?;
-    Ok(())
+    static CASE: Case = Case {
+        items: &[
+            (POD, &[]),
+            (
+                WITH_RULE,
+                &[(
+                    "RULE",
+                    r#""from":[{"ipBlock":{"cidr":"ffff::/16"}}],"ports":[{"port":65535}]"#,
+                )],
+            ),
+        ],
+        rows: concat!(
+            "0.0.0.0-255.255.255.255 => default/a[Pod] : No Connections\n",
+            "::-fffe:ffff:ffff:ffff:ffff:ffff:ffff:ffff => default/a[Pod] : No Connections\n",
+            "ffff::-ffff:ffff:ffff:ffff:ffff:ffff:ffff:ffff => default/a[Pod] : TCP 65535\n",
+            "default/a[Pod] => 0.0.0.0-255.255.255.255 : All Connections\n",
+            "default/a[Pod] => ::-ffff:ffff:ffff:ffff:ffff:ffff:ffff:ffff : All Connections\n",
+        ),
+        workloads: &[],
+        notes: "",
+    };
+    expect_case(&rt, rt.alloc(), &CASE)
 }
 
 // A range of one address is that address.
 #[test]
 fn blocks_of_one_address(rt: HostRuntime) -> Result<(), Fail> {
-    let alloc = rt.alloc();
-    let rule = r#""from":[{"ipBlock":{"cidr":"1.2.3.4/32"}},{"ipBlock":{"cidr":"::/128"}}]"#;
-    let policy = filled(alloc, WITH_RULE, &[("RULE", rule)])?;
-    let text = list_text(alloc, &[POD, policy.as_str()])?;
-    let table = concat!(
-        "0.0.0.0-1.2.3.3 => default/a[Pod] : No Connections\n",
-        "1.2.3.4 => default/a[Pod] : All Connections\n",
-        "1.2.3.5-255.255.255.255 => default/a[Pod] : No Connections\n",
-        ":: => default/a[Pod] : All Connections\n",
-        "::1-ffff:ffff:ffff:ffff:ffff:ffff:ffff:ffff => default/a[Pod] : No Connections\n",
-        "default/a[Pod] => 0.0.0.0-255.255.255.255 : All Connections\n",
-        "default/a[Pod] => ::-ffff:ffff:ffff:ffff:ffff:ffff:ffff:ffff : All Connections\n",
-    );
-    expect_table(&rt, alloc, text.as_str(), table, "", rule)?;
-    Ok(())
+    static CASE: Case = Case {
+        items: &[
+            (POD, &[]),
+            (
+                WITH_RULE,
+                &[(
+                    "RULE",
+                    r#""from":[{"ipBlock":{"cidr":"1.2.3.4/32"}},{"ipBlock":{"cidr":"::/128"}}]"#,
+                )],
+            ),
+        ],
+        rows: concat!(
+            "0.0.0.0-1.2.3.3 => default/a[Pod] : No Connections\n",
+            "1.2.3.4 => default/a[Pod] : All Connections\n",
+            "1.2.3.5-255.255.255.255 => default/a[Pod] : No Connections\n",
+            ":: => default/a[Pod] : All Connections\n",
+            "::1-ffff:ffff:ffff:ffff:ffff:ffff:ffff:ffff => default/a[Pod] : No Connections\n",
+            "default/a[Pod] => 0.0.0.0-255.255.255.255 : All Connections\n",
+            "default/a[Pod] => ::-ffff:ffff:ffff:ffff:ffff:ffff:ffff:ffff : All Connections\n",
+        ),
+        workloads: &[],
+        notes: "",
+    };
+    expect_case(&rt, rt.alloc(), &CASE)
 }
 
-static POD_A: &str =
+const POD_A: &str =
     r#"{"apiVersion":"v1","kind":"Pod","metadata":{"name":"a"},"spec":{},"status":{"podIP":"10.0.0.1"}}"#;
 
-static POD_B: &str =
+const POD_B: &str =
     r#"{"apiVersion":"v1","kind":"Pod","metadata":{"name":"b"},"spec":{},"status":{"podIP":"10.0.0.2"}}"#;
 
-static POD_B_WITHOUT_ADDRESS: &str =
+const POD_B_WITHOUT_ADDRESS: &str =
     r#"{"apiVersion":"v1","kind":"Pod","metadata":{"name":"b"},"spec":{}}"#;
 
 // What goes to pods passes the AdminNetworkPolicies, of which the second closes all of IPv4. What goes to port 23 of
 // pods is then closed by the baseline.
-static TIERS: &str = concat!(
+const TIERS: &str = concat!(
     r#"{"apiVersion":"policy.networking.k8s.io/v1alpha1","kind":"AdminNetworkPolicy","metadata":{"name":"five"},"#,
     r#""spec":{"priority":5,"subject":{"namespaces":{}},"egress":[{"action":"Pass","to":[{"namespaces":{}}]}]}},"#,
     r#"{"apiVersion":"policy.networking.k8s.io/v1alpha1","kind":"AdminNetworkPolicy","metadata":{"name":"six"},"#,
@@ -103,25 +130,23 @@ const NOTHING_TO_IPV4: Allowed = [
 // A pod without an address is matched by no network, which the notes tell, and its rows are the same.
 #[test]
 fn networks_behind_a_pass(rt: HostRuntime) -> Result<(), Fail> {
-    let alloc = rt.alloc();
-    let pairs = concat!(
-        "default/a[Pod] => default/b[Pod] : TCP 1-22,24-65535; UDP 1-65535; SCTP 1-65535\n",
-        "default/b[Pod] => default/a[Pod] : TCP 1-22,24-65535; UDP 1-65535; SCTP 1-65535\n",
-    );
-    let workloads = [
-        ("default/a[Pod]", NOTHING_TO_IPV4),
-        ("default/b[Pod]", NOTHING_TO_IPV4),
-    ];
-    let table = table_text(alloc, pairs, &workloads)?;
-    for (pod, notes) in [
-        (POD_B, ""),
-        (
-            POD_B_WITHOUT_ADDRESS,
-            "note: pods without an address, matched by no networks peer: 1\n",
+    const ADDRESSED: Case = Case {
+        items: &[(POD_A, &[]), (POD_B, &[]), (TIERS, &[])],
+        rows: concat!(
+            "default/a[Pod] => default/b[Pod] : TCP 1-22,24-65535; UDP 1-65535; SCTP 1-65535\n",
+            "default/b[Pod] => default/a[Pod] : TCP 1-22,24-65535; UDP 1-65535; SCTP 1-65535\n",
         ),
-    ] {
-        let text = list_text(alloc, &[POD_A, pod, TIERS])?;
-        expect_table(&rt, alloc, text.as_str(), table.as_str(), notes, pod)?;
-    }
-    Ok(())
+        workloads: &[
+            ("default/a[Pod]", NOTHING_TO_IPV4),
+            ("default/b[Pod]", NOTHING_TO_IPV4),
+        ],
+        notes: "",
+    };
+    static WITHOUT_ADDRESS: Case = Case {
+        items: &[(POD_A, &[]), (POD_B_WITHOUT_ADDRESS, &[]), (TIERS, &[])],
+        notes: "note: pods without an address, matched by no networks peer: 1\n",
+        ..ADDRESSED
+    };
+    expect_case(&rt, rt.alloc(), &ADDRESSED)?;
+    expect_case(&rt, rt.alloc(), &WITHOUT_ADDRESS)
 }

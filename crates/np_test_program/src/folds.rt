@@ -1,12 +1,14 @@
 //! Pods of one owner as workloads: one where no rule tells them apart, else one for each class.
 
-use crate::objects::{filled, items_of_many, list_text};
+use crate::case::{Case, expect_case};
+use crate::objects::items_of_many;
 use crate::runs::expect_table;
 use crate::table_text::{Allowed, FREE, SHUT_IN, table_text};
+use np_samples::list_of;
 use std::test::Fail;
 
 // A Deployment, one of its ReplicaSets and one of their pods, with all that kubectl prints.
-static DEPLOYMENT: &str = concat!(
+const DEPLOYMENT: &str = concat!(
     r#"{"apiVersion":"apps/v1","kind":"Deployment","metadata":{"#,
     r#""annotations":{"deployment.kubernetes.io/revision":"2","note":"two words, and a \"quote\"!"},"#,
     r#""creationTimestamp":"2024-05-01T10:00:00Z","generation":2,"labels":{"app":"web"},"#,
@@ -23,7 +25,7 @@ static DEPLOYMENT: &str = concat!(
     r#""type":"Available"}],"observedGeneration":2,"readyReplicas":3,"replicas":3}}"#,
 );
 
-static REPLICA_SET: &str = concat!(
+const REPLICA_SET: &str = concat!(
     r#"{"apiVersion":"apps/v1","kind":"ReplicaSet","metadata":{"annotations":{"deployment.kubernetes.io/revision":"1"},"#,
     r#""creationTimestamp":"2024-05-01T10:00:00Z","labels":{"app":"web","pod-template-hash":"HASH"},"#,
     r#""managedFields":[{"manager":"kube-controller-manager","operation":"Update","subresource":"status"}],"#,
@@ -35,7 +37,7 @@ static REPLICA_SET: &str = concat!(
     r#""status":{"observedGeneration":1,"replicas":1}}"#,
 );
 
-static KUBECTL_POD: &str = concat!(
+const KUBECTL_POD: &str = concat!(
     r#"{"apiVersion":"v1","kind":"Pod","metadata":{"annotations":{"cni.projectcalico.org/podIP":"10.1.0.7/32"},"#,
     r#""creationTimestamp":"2024-05-01T10:00:01Z","generateName":"web-HASH-","#,
     r#""labels":{"app":"web","pod-template-hash":"HASH"},"managedFields":[{"apiVersion":"v1","fieldsType":"FieldsV1","#,
@@ -53,28 +55,20 @@ static KUBECTL_POD: &str = concat!(
 // Three pods of two ReplicaSets of one Deployment, as kubectl prints them, are one workload. It has a row with itself.
 #[test]
 fn pods_of_a_deployment(rt: HostRuntime) -> Result<(), Fail> {
-    let alloc = rt.alloc();
-    let old_set = filled(alloc, REPLICA_SET, &[("HASH", "0")])?;
-    let new_set = filled(alloc, REPLICA_SET, &[("HASH", "1")])?;
-    let old = filled(alloc, KUBECTL_POD, &[("HASH", "0"), ("LAST", "x")])?;
-    let new = filled(alloc, KUBECTL_POD, &[("HASH", "1"), ("LAST", "y")])?;
-    let newer = filled(alloc, KUBECTL_POD, &[("HASH", "1"), ("LAST", "z")])?;
-    let items = [
-        DEPLOYMENT,
-        old_set.as_str(),
-        new_set.as_str(),
-        old.as_str(),
-        new.as_str(),
-        newer.as_str(),
-    ];
-    let text = list_text(alloc, &items)?;
-    let table = table_text(
-        alloc,
-        "default/web[Deployment] => default/web[Deployment] : All Connections\n",
-        &[("default/web[Deployment]", FREE)],
-    )?;
-    expect_table(&rt, alloc, text.as_str(), table.as_str(), "", "web")?;
-    Ok(())
+    static CASE: Case = Case {
+        items: &[
+            (DEPLOYMENT, &[]),
+            (REPLICA_SET, &[("HASH", "0")]),
+            (REPLICA_SET, &[("HASH", "1")]),
+            (KUBECTL_POD, &[("HASH", "0"), ("LAST", "x")]),
+            (KUBECTL_POD, &[("HASH", "1"), ("LAST", "y")]),
+            (KUBECTL_POD, &[("HASH", "1"), ("LAST", "z")]),
+        ],
+        rows: "default/web[Deployment] => default/web[Deployment] : All Connections\n",
+        workloads: &[("default/web[Deployment]", FREE)],
+        notes: "",
+    };
+    expect_case(&rt, rt.alloc(), &CASE)
 }
 
 // A pod of the StatefulSet `db` of a namespace, which has its name as a label.
@@ -95,7 +89,7 @@ static ON_DB_0: &str = concat!(
 fn pods_apart_by_a_policy(rt: HostRuntime) -> Result<(), Fail> {
     let alloc = rt.alloc();
     let pods = items_of_many(alloc, 2, DB_POD)?;
-    let text = list_text(alloc, &[pods.as_str(), ON_DB_0])?;
+    let text = list_of(alloc, &[pods.as_str(), ON_DB_0])?;
     let table = table_text(
         alloc,
         "default/db[StatefulSet]#1 => default/db[StatefulSet]#2 : All Connections\n",
@@ -128,7 +122,7 @@ fn eleven_classes(rt: HostRuntime) -> Result<(), Fail> {
     let alloc = rt.alloc();
     let pods = items_of_many(alloc, 11, DB_POD)?;
     let policies = items_of_many(alloc, 11, ON_DB)?;
-    let text = list_text(alloc, &[policies.as_str(), pods.as_str()])?;
+    let text = list_of(alloc, &[policies.as_str(), pods.as_str()])?;
     let workloads = [
         ("default/db[StatefulSet]#1", at_port("TCP 10")),
         ("default/db[StatefulSet]#10", at_port("TCP 19")),
@@ -148,7 +142,7 @@ fn eleven_classes(rt: HostRuntime) -> Result<(), Fail> {
 }
 
 // A pod of a ReplicaSet that is not listed.
-static OWNED_POD: &str = concat!(
+const OWNED_POD: &str = concat!(
     r#"{"apiVersion":"v1","kind":"Pod","metadata":{"name":"NAME","namespace":"SPACE","labels":{"app":"NAME"},"#,
     r#""ownerReferences":[{"apiVersion":"apps/v1","kind":"ReplicaSet","name":"web","controller":true}]},"spec":{}}"#,
 );
@@ -156,23 +150,22 @@ static OWNED_POD: &str = concat!(
 // Owners of one name in two namespaces are two owners.
 #[test]
 fn owners_of_two_namespaces(rt: HostRuntime) -> Result<(), Fail> {
-    let alloc = rt.alloc();
-    let first = filled(alloc, OWNED_POD, &[("NAME", "a"), ("SPACE", "y")])?;
-    let second = filled(alloc, OWNED_POD, &[("NAME", "b"), ("SPACE", "x")])?;
-    let text = list_text(alloc, &[first.as_str(), second.as_str()])?;
-    let table = table_text(
-        alloc,
-        concat!(
+    static CASE: Case = Case {
+        items: &[
+            (OWNED_POD, &[("NAME", "a"), ("SPACE", "y")]),
+            (OWNED_POD, &[("NAME", "b"), ("SPACE", "x")]),
+        ],
+        rows: concat!(
             "x/web[ReplicaSet] => y/web[ReplicaSet] : All Connections\n",
             "y/web[ReplicaSet] => x/web[ReplicaSet] : All Connections\n",
         ),
-        &[("x/web[ReplicaSet]", FREE), ("y/web[ReplicaSet]", FREE)],
-    )?;
-    expect_table(&rt, alloc, text.as_str(), table.as_str(), "", "x and y")?;
-    Ok(())
+        workloads: &[("x/web[ReplicaSet]", FREE), ("y/web[ReplicaSet]", FREE)],
+        notes: "",
+    };
+    expect_case(&rt, rt.alloc(), &CASE)
 }
 
-static SERVICE: &str = concat!(
+const SERVICE: &str = concat!(
     r#"{"apiVersion":"v1","kind":"Service","metadata":{"name":"s","namespace":"default"},"#,
     r#""spec":{"selector":{"app":"b"},"ports":[{"port":80}]}}"#,
 );
@@ -180,28 +173,31 @@ static SERVICE: &str = concat!(
 // Two pods of one owner are one workload without the Service and two with it, though all is allowed in both lists.
 #[test]
 fn pods_apart_by_a_service(rt: HostRuntime) -> Result<(), Fail> {
-    let alloc = rt.alloc();
-    let first = filled(alloc, OWNED_POD, &[("NAME", "a"), ("SPACE", "default")])?;
-    let second = filled(alloc, OWNED_POD, &[("NAME", "b"), ("SPACE", "default")])?;
-    let text = list_text(alloc, &[first.as_str(), second.as_str()])?;
-    let table = table_text(
-        alloc,
-        "default/web[ReplicaSet] => default/web[ReplicaSet] : All Connections\n",
-        &[("default/web[ReplicaSet]", FREE)],
-    )?;
-    expect_table(&rt, alloc, text.as_str(), table.as_str(), "", "no Service")?;
-    let text = list_text(alloc, &[first.as_str(), second.as_str(), SERVICE])?;
-    let table = table_text(
-        alloc,
-        concat!(
+    static WITHOUT: Case = Case {
+        items: &[
+            (OWNED_POD, &[("NAME", "a"), ("SPACE", "default")]),
+            (OWNED_POD, &[("NAME", "b"), ("SPACE", "default")]),
+        ],
+        rows: "default/web[ReplicaSet] => default/web[ReplicaSet] : All Connections\n",
+        workloads: &[("default/web[ReplicaSet]", FREE)],
+        notes: "",
+    };
+    static WITH: Case = Case {
+        items: &[
+            (OWNED_POD, &[("NAME", "a"), ("SPACE", "default")]),
+            (OWNED_POD, &[("NAME", "b"), ("SPACE", "default")]),
+            (SERVICE, &[]),
+        ],
+        rows: concat!(
             "default/web[ReplicaSet]#1 => default/web[ReplicaSet]#2 : All Connections\n",
             "default/web[ReplicaSet]#2 => default/web[ReplicaSet]#1 : All Connections\n",
         ),
-        &[
+        workloads: &[
             ("default/web[ReplicaSet]#1", FREE),
             ("default/web[ReplicaSet]#2", FREE),
         ],
-    )?;
-    expect_table(&rt, alloc, text.as_str(), table.as_str(), "", "a Service")?;
-    Ok(())
+        notes: "",
+    };
+    expect_case(&rt, rt.alloc(), &WITHOUT)?;
+    expect_case(&rt, rt.alloc(), &WITH)
 }

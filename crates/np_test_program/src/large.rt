@@ -1,8 +1,9 @@
 //! Large lists that are accepted, and their tables.
 
-use crate::objects::{POD, filled, items_of_many, list_text};
+use crate::objects::{POD, filled, items_of_many};
 use crate::runs::expect_table;
 use crate::table_text::{FREE, SHUT, push_address_rows, sorted_names, table_text};
+use np_samples::list_of;
 use std::alloc::{AllocError, Global};
 use std::fmt::Write;
 use std::test::Fail;
@@ -45,7 +46,7 @@ fn a_long_chain_of_owners(rt: HostRuntime) -> Result<(), Fail> {
     for (is_turned, case) in [(false, "from the first"), (true, "from the last")] {
         let mut sets = owned_sets(alloc, is_turned)?;
         sets.push_str(LAST_SET)?;
-        let text = list_text(alloc, &[sets.as_str(), POD_OF_THE_FIRST])?;
+        let text = list_of(alloc, &[sets.as_str(), POD_OF_THE_FIRST])?;
         expect_table(&rt, alloc, text.as_str(), table.as_str(), "", case)?;
     }
     Ok(())
@@ -63,7 +64,7 @@ static SHUT_ALL: &str = concat!(
 fn most_workloads_shut(rt: HostRuntime) -> Result<(), Fail> {
     let alloc = rt.alloc();
     let pods = items_of_many(alloc, 2_000, BARE_POD)?;
-    let text = list_text(alloc, &[pods.as_str(), SHUT_ALL])?;
+    let text = list_of(alloc, &[pods.as_str(), SHUT_ALL])?;
     let mut table = String::new(alloc);
     for placed in &sorted_names(alloc, 2_000, "default/p#[Pod]")? {
         push_address_rows(&mut table, placed.name.as_str(), SHUT)?;
@@ -82,7 +83,7 @@ static OWNED_POD: &str = concat!(
 fn many_pods_of_one_owner(rt: HostRuntime) -> Result<(), Fail> {
     let alloc = rt.alloc();
     let pods = items_of_many(alloc, 2_001, OWNED_POD)?;
-    let text = list_text(alloc, &[pods.as_str()])?;
+    let text = list_of(alloc, &[pods.as_str()])?;
     let table = table_text(
         alloc,
         "default/web[ReplicaSet] => default/web[ReplicaSet] : All Connections\n",
@@ -131,7 +132,7 @@ fn many_rules(rt: HostRuntime) -> Result<(), Fail> {
     let alloc = rt.alloc();
     let rules = rules(alloc)?;
     let policy = filled(alloc, MANY_RULES, &[("RULES", rules.as_str())])?;
-    let text = list_text(alloc, &[POD, policy.as_str()])?;
+    let text = list_of(alloc, &[POD, policy.as_str()])?;
     let blocks = block_rows(alloc)?;
     let table = [
         "0.0.0.0-9.255.255.255 => default/a[Pod] : No Connections\n",

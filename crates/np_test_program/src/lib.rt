@@ -5,6 +5,8 @@
 #[cfg(test)]
 mod addresses;
 #[cfg(test)]
+mod case;
+#[cfg(test)]
 mod cluster_lists;
 #[cfg(test)]
 mod failures;
@@ -36,3 +38,5 @@ mod table_text;
 mod tables;
 #[cfg(test)]
 mod texts;
+#[cfg(test)]
+mod words;

@@ -1,8 +1,10 @@
 //! The greatest lists that are read, and one more.
 
-use crate::objects::{items_of_many, list_text};
+use crate::objects::items_of_many;
 use crate::runs::{LARGE_PIECE, expect, run, run_on, sink, source};
+use np_base::NoMemory;
 use np_cli::Status;
+use np_samples::list_of;
 use std::alloc::{AllocError, Global};
 use std::test::Fail;
 
@@ -11,9 +13,9 @@ static CONFIG_MAP: &str = r#"{"apiVersion":"v1","kind":"ConfigMap"}"#;
 static POD: &str = r#"{"apiVersion":"v1","kind":"Pod","metadata":{"name":"p#"},"spec":{}}"#;
 
 // The list of so many items of one text.
-fn list_of_many(alloc: Global, count: usize, item: &str) -> Result<String, AllocError> {
+fn list_of_many(alloc: Global, count: usize, item: &str) -> Result<String, NoMemory> {
     let items = items_of_many(alloc, count, item)?;
-    list_text(alloc, &[items.as_str()])
+    list_of(alloc, &[items.as_str()])
 }
 
 #[test]

@@ -2,14 +2,6 @@
 
 use std::alloc::{AllocError, Global};
 
-/// The list of these items, which stand apart by commas.
-pub fn list_text(alloc: Global, items: &[&str]) -> Result<String, AllocError> {
-    let mut text = String::from_str(alloc, r#"{"apiVersion":"v1","items":["#)?;
-    text.push_str(items.join(alloc, ",")?.as_str())?;
-    text.push_str(r#"],"kind":"List"}"#)?;
-    Ok(text)
-}
-
 /// So many texts, apart by commas, in which each stands for its place by the words of `placed`.
 pub fn items_of_many(alloc: Global, count: usize, item: &str) -> Result<String, AllocError> {
     let mut text = String::new(alloc);
@@ -48,20 +40,20 @@ pub fn filled(alloc: Global, text: &str, words: &[(&str, &str)]) -> Result<Strin
 }
 
 /// A pod of the namespace `default`.
-pub static POD: &str =
+pub const POD: &str =
     r#"{"apiVersion":"v1","kind":"Pod","metadata":{"name":"a","namespace":"default"},"spec":{}}"#;
 
 /// A pod on the network of its node.
-pub static HOST_POD: &str =
+pub const HOST_POD: &str =
     r#"{"apiVersion":"v1","kind":"Pod","metadata":{"name":"h"},"spec":{"hostNetwork":true}}"#;
 
 /// A pod that has ended.
-pub static FINISHED_POD: &str =
+pub const FINISHED_POD: &str =
     r#"{"apiVersion":"v1","kind":"Pod","metadata":{"name":"f"},"spec":{},"status":{"phase":"Succeeded"}}"#;
 
 /// A pod that has ended on the network of its node.
-pub static FINISHED_HOST_POD: &str =
+pub const FINISHED_HOST_POD: &str =
     r#"{"apiVersion":"v1","kind":"Pod","metadata":{"name":"g"},"spec":{"hostNetwork":true},"status":{"phase":"Failed"}}"#;
 
 /// An object of a kind that is not read.
-pub static CONFIG_MAP: &str = r#"{"apiVersion":"v1","kind":"ConfigMap","metadata":{"name":"c"}}"#;
+pub const CONFIG_MAP: &str = r#"{"apiVersion":"v1","kind":"ConfigMap","metadata":{"name":"c"}}"#;

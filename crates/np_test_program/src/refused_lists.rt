@@ -1,8 +1,9 @@
 //! Lists that are refused for one of their items, or for what several of them say together.
 
-use crate::objects::{POD, list_text};
+use crate::objects::POD;
 use crate::runs::{expect, run_on};
 use np_cli::Status;
+use np_samples::list_of;
 use std::alloc::{AllocError, Global};
 use std::test::Fail;
 
@@ -98,7 +99,7 @@ fn first_of_two_faults(rt: HostRuntime) -> Result<(), Fail> {
     let alloc = rt.alloc();
     let bad = WITH_RULE.replace(alloc, "#", r#""ports":[{"port":0}]"#)?;
     let worse = WITH_RULE.replace(alloc, "#", r#""from":[{}]"#)?;
-    let text = list_text(alloc, &[POD, bad.as_str(), worse.as_str()])?;
+    let text = list_of(alloc, &[POD, bad.as_str(), worse.as_str()])?;
     let ran = run_on(alloc, "list", text.as_bytes())?;
     let said = "error: item 2: spec.ingress[0].ports[0].port: BadPort\n";
     expect(&rt, &ran, Status::Refused, "", said, "two faults");
@@ -107,7 +108,7 @@ fn first_of_two_faults(rt: HostRuntime) -> Result<(), Fail> {
 
 #[test]
 fn one_name_twice(rt: HostRuntime) -> Result<(), Fail> {
-    let text = list_text(rt.alloc(), &[POD, POD])?;
+    let text = list_of(rt.alloc(), &[POD, POD])?;
     let ran = run_on(rt.alloc(), "list", text.as_bytes())?;
     let said = "error: items 1 and 2: Duplicate\n";
     expect(&rt, &ran, Status::Refused, "", said, "a pod twice");
@@ -119,7 +120,7 @@ fn one_priority_twice(rt: HostRuntime) -> Result<(), Fail> {
     let alloc = rt.alloc();
     let first = admin(alloc, "deny-b", "7")?;
     let second = admin(alloc, "deny-a", "7")?;
-    let text = list_text(alloc, &[first.as_str(), second.as_str()])?;
+    let text = list_of(alloc, &[first.as_str(), second.as_str()])?;
     let ran = run_on(alloc, "list", text.as_bytes())?;
     let said = "error: EqualPriority 7: deny-a, deny-b\n";
     expect(&rt, &ran, Status::Refused, "", said, "two of one priority");
@@ -132,7 +133,7 @@ fn bounds_of_priorities(rt: HostRuntime) -> Result<(), Fail> {
     let alloc = rt.alloc();
     let first = admin(alloc, "first", "0")?;
     let last = admin(alloc, "last", "1000")?;
-    let text = list_text(alloc, &[first.as_str(), last.as_str()])?;
+    let text = list_of(alloc, &[first.as_str(), last.as_str()])?;
     let ran = run_on(alloc, "list", text.as_bytes())?;
     expect(&rt, &ran, Status::Done, "", "", "0 and 1000");
     let past = admin(alloc, "past", "1001")?;
@@ -152,7 +153,7 @@ fn owners_in_a_circle(rt: HostRuntime) -> Result<(), Fail> {
     let first = replica_set(alloc, "x", "y")?;
     let second = replica_set(alloc, "y", "x")?;
     let below = replica_set(alloc, "w", "x")?;
-    let text = list_text(alloc, &[below.as_str(), first.as_str(), second.as_str()])?;
+    let text = list_of(alloc, &[below.as_str(), first.as_str(), second.as_str()])?;
     let ran = run_on(alloc, "list", text.as_bytes())?;
     expect(
         &rt,

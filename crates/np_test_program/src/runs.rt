@@ -94,8 +94,8 @@ pub fn expect_table(
     Ok(())
 }
 
-// The words of a line.
-fn words_of(alloc: Global, line: &str) -> Result<Vec<String>, NoMemory> {
+/// The words of a line.
+pub fn words_of(alloc: Global, line: &str) -> Result<Vec<String>, NoMemory> {
     let mut words = Vec::new(alloc);
     for word in line.split_whitespace() {
         words.push(String::from_str(alloc, word)?)?;

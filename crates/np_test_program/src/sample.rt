@@ -1,8 +1,10 @@
 //! An estate of a thousand pods in five namespaces, and its whole table.
 
-use crate::objects::{items_of_many, list_text};
+use crate::objects::items_of_many;
 use crate::runs::expect_table;
 use crate::table_text::{PlacedName, sorted_names};
+use np_base::NoMemory;
+use np_samples::list_of;
 use std::alloc::{AllocError, Global};
 use std::fmt::Write;
 use std::test::Fail;
@@ -34,7 +36,7 @@ static STOP: &str = concat!(
 );
 
 // The list of the estate.
-fn estate(alloc: Global, count: usize) -> Result<String, AllocError> {
+fn estate(alloc: Global, count: usize) -> Result<String, NoMemory> {
     let namespaces = items_of_many(alloc, 5, NAMESPACE)?;
     let pods = items_of_many(alloc, count, POD)?;
     let mut policies = items_of_many(alloc, 5, POLICY)?;
@@ -48,7 +50,7 @@ fn estate(alloc: Global, count: usize) -> Result<String, AllocError> {
         policies = policies.as_str().replace(alloc, word, next)?;
     }
     let items = [namespaces.as_str(), pods.as_str(), policies.as_str(), STOP];
-    list_text(alloc, &items)
+    list_of(alloc, &items)
 }
 
 // Whether the pod of a place sends to that of the other: it is in the next namespace, and has not the label that is

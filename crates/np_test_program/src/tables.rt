@@ -3,7 +3,7 @@
 
 use crate::runs::expect_table;
 use crate::table_text::{Allowed, FREE, SHUT_IN, table_text};
-use crate::texts::{FROM_A_TO_80, TWO_PODS, TWO_PODS_TABLE, list_of};
+use crate::texts::{FROM_A_TO_80, TWO_PODS, TWO_PODS_TABLE, list_of_words};
 use std::test::Fail;
 
 // The pair rows of the pods `a` and `b` where everything is permitted.
@@ -25,7 +25,7 @@ const AT_THE_PORTS: Allowed = [
 
 // The two pods and the policy, whose table stands whole.
 #[test]
-fn two_pods(rt: HostRuntime) -> Result<(), Fail> {
+fn example_np_main(rt: HostRuntime) -> Result<(), Fail> {
     expect_table(&rt, rt.alloc(), TWO_PODS, TWO_PODS_TABLE, "", "two pods")?;
     Ok(())
 }
@@ -117,7 +117,7 @@ fn items_of_a_list(rt: HostRuntime) -> Result<(), Fail> {
             SHUT_IN,
         ),
     ] {
-        let text = list_of(rt.alloc(), items)?;
+        let text = list_of_words(rt.alloc(), items)?;
         let workloads = [("default/a[Pod]", FREE), ("default/b[Pod]", at_b)];
         let table = table_text(rt.alloc(), pairs, &workloads)?;
         expect_table(&rt, rt.alloc(), text.as_str(), table.as_str(), "", items)?;
@@ -128,10 +128,10 @@ fn items_of_a_list(rt: HostRuntime) -> Result<(), Fail> {
 // A pod alone has no pair row. Rows stand in the order of their bytes, where `B` is below `[`.
 #[test]
 fn order_of_rows(rt: HostRuntime) -> Result<(), Fail> {
-    let text = list_of(rt.alloc(), "a")?;
+    let text = list_of_words(rt.alloc(), "a")?;
     let table = table_text(rt.alloc(), "", &[("default/a[Pod]", FREE)])?;
     expect_table(&rt, rt.alloc(), text.as_str(), table.as_str(), "", "alone")?;
-    let text = list_of(rt.alloc(), "a aB")?;
+    let text = list_of_words(rt.alloc(), "a aB")?;
     let table = table_text(
         rt.alloc(),
         concat!(

@@ -1,6 +1,8 @@
 //! What the examples read, and what is written of it.
 
-use std::alloc::{AllocError, Global};
+use np_base::NoMemory;
+use np_samples::{BARE, Pod, Policy, list_of};
+use std::alloc::Global;
 
 /// The pods `a` and `b`, and a policy on `b` that permits TCP port 80 from `a`.
 pub static TWO_PODS: &str = concat!(
@@ -40,20 +42,19 @@ pub static BAD_PROTOCOL: &str = "error: item 3: spec.ingress[0].ports[0].protoco
 /// The list of the items that the words of a line stand for, in order. A number stands for a policy of that name on
 /// the pods with `app` = `b`, which permits that TCP port from those with `app` = `a`. Any other word stands for a pod
 /// of that name, which has it as its label `app` too.
-pub fn list_of(alloc: Global, line: &str) -> Result<String, AllocError> {
-    let mut text = String::from_str(alloc, r#"{"apiVersion":"v1","items":["#)?;
+pub fn list_of_words(alloc: Global, line: &str) -> Result<String, NoMemory> {
+    let mut items = String::new(alloc);
     for (place, word) in line.split_whitespace().enumerate() {
         if 0 < place {
-            text.push(',')?;
+            items.push(',')?;
         }
-        text.push_str(item(alloc, word)?.as_str())?;
+        items.push_str(item(alloc, word)?.as_str())?;
     }
-    text.push_str(r#"],"kind":"List"}"#)?;
-    Ok(text)
+    list_of(alloc, &[items.as_str()])
 }
 
 // The item that a word stands for.
-fn item(alloc: Global, word: &str) -> Result<String, AllocError> {
+fn item(alloc: Global, word: &str) -> Result<String, NoMemory> {
     if word.parse::<u16>().is_ok() {
         policy(alloc, word)
     } else {
@@ -62,24 +63,29 @@ fn item(alloc: Global, word: &str) -> Result<String, AllocError> {
 }
 
 // The pod of this name.
-fn pod(alloc: Global, name: &str) -> Result<String, AllocError> {
-    let between_names = [
-        r#"{"apiVersion":"v1","kind":"Pod","metadata":{"name":""#,
-        r#"","namespace":"default","labels":{"app":""#,
-        r#""}},"spec":{"containers":[{"ports":[]}]}}"#,
-    ];
-    between_names.join(alloc, name)
+fn pod(alloc: Global, name: &str) -> Result<String, NoMemory> {
+    let label = [r#""app":""#, name, r#"""#].concat(alloc)?;
+    let pod = Pod {
+        name,
+        labels: label.as_str(),
+        ..BARE
+    };
+    Ok(format!(in alloc; "{pod}")?)
 }
 
 // The policy of this port, which is its name too.
-fn policy(alloc: Global, port: &str) -> Result<String, AllocError> {
-    let between_ports = [
-        r#"{"apiVersion":"networking.k8s.io/v1","kind":"NetworkPolicy","metadata":{"name":""#,
-        concat!(
-            r#"","namespace":"default"},"spec":{"podSelector":{"matchLabels":{"app":"b"}},"ingress":["#,
-            r#"{"from":[{"podSelector":{"matchLabels":{"app":"a"}}}],"ports":[{"protocol":"TCP","port":"#,
-        ),
-        "}]}]}}",
-    ];
-    between_ports.join(alloc, port)
+fn policy(alloc: Global, port: &str) -> Result<String, NoMemory> {
+    let spec = FROM_A_TO_B.replace(alloc, "PORT", port)?;
+    let policy = Policy {
+        namespace: "default",
+        name: port,
+        spec: spec.as_str(),
+    };
+    Ok(format!(in alloc; "{policy}")?)
 }
+
+// What permits a port from the pods with `app` = `a` to those with `app` = `b`.
+static FROM_A_TO_B: &str = concat!(
+    r#""podSelector":{"matchLabels":{"app":"b"}},"#,
+    r#""ingress":[{"from":[{"podSelector":{"matchLabels":{"app":"a"}}}],"ports":[{"protocol":"TCP","port":PORT}]}]"#,
+);

@@ -62,7 +62,7 @@ fn rules_of_a_policy_add_up(rt: HostRuntime) -> Result<(), Fail> {
 
 // What leaves `a` and what arrives at `b`.
 #[test]
-fn both_sides_have_to_allow(rt: HostRuntime) -> Result<(), Fail> {
+fn example_allows(rt: HostRuntime) -> Result<(), Fail> {
     static ROWS: &[Row] = &[
         ("default/a", "default/b", "TCP 80-90"),
         ("default/b", "default/a", ALL),

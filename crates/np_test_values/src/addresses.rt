@@ -94,7 +94,7 @@ static ROWS: &[(&str, &str)] = &[
 ];
 
 #[test]
-fn addresses_are_read_and_printed(rt: HostRuntime) -> Result<(), Fail> {
+fn example_read_and_print_address(rt: HostRuntime) -> Result<(), Fail> {
     for (text, want) in ROWS {
         let got = canonical(rt.alloc(), text)?;
         assert_eq!(rt; got.as_str(), *want, "{text}");

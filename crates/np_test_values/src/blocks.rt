@@ -1,4 +1,7 @@
 //! Texts of blocks of addresses, each with the answer that the grammar of CIDR gives.
+ghost use Rattle.std.specs.Prelude.{All, IfOk};
+ghost use Rattle.np_addr.specs.Addresses.{IsCidr};
+
 use np_addr::{
     AddrSet, Address, BlockFault, Cidr, block_set, cidr_has, family_of, print_address,
     read_address, read_cidr,
@@ -126,6 +129,53 @@ fn set_has(set: &AddrSet, address: Address) -> bool {
         Address::Four(point) => set.first.has(point),
         Address::Six(point) => set.second.has(point),
     }
+}
+
+// Each second block of 65,536 addresses in 10.0.0.0/8.
+fn even_blocks(alloc: Global) -> Result<Vec<Cidr>, Fail>
+    ensures { IfOk result (λ made. All IsCidr made.items) }
+{
+    let mut blocks = Vec::new(alloc);
+    for place in 0u8..128 {
+        let second = 2 * place;
+        let text = format!(in alloc; "10.{second}.0.0/16")?;
+        blocks.push(read_cidr(text.as_str())?)?;
+    }
+    Ok(blocks)
+}
+
+// An address, and whether it is in 10.0.0.0/8 and in none of those blocks.
+static BETWEEN: &[(&str, bool)] = &[
+    ("9.255.255.255", false),
+    ("10.0.0.0", false),
+    ("10.0.255.255", false),
+    ("10.1.0.0", true),
+    ("10.1.255.255", true),
+    ("10.126.255.255", false),
+    ("10.127.0.0", true),
+    ("10.254.0.0", false),
+    ("10.255.255.255", true),
+    ("11.0.0.0", false),
+    ("::a01:0", false),
+];
+
+// What is left of 10.0.0.0/8 without those blocks.
+fn odd_blocks(alloc: Global) -> Result<AddrSet, Fail> {
+    let excepts = even_blocks(alloc)?;
+    Ok(block_set(alloc, read_cidr("10.0.0.0/8")?, &excepts)?)
+}
+
+#[test]
+fn example_block_set(rt: HostRuntime) -> Result<(), Fail> {
+    let set = odd_blocks(rt.alloc())?;
+    assert_eq!(rt; set.first.ranges().len(), 128);
+    for (address, wanted) in BETWEEN {
+        assert!(rt;
+            set_has(&set, read_address(address)?) == *wanted,
+            "{address}"
+        );
+    }
+    Ok(())
 }
 
 // A block, two excepts of it, an address, and whether the address is in the block without them, or out of it, or which

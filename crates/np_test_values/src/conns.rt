@@ -50,7 +50,7 @@ fn all_but(alloc: Global, port: u16) -> Result<ConnSet, NoMemory>
 }
 
 #[test]
-fn all_but_one_port(rt: HostRuntime) -> Result<(), Fail> {
+fn example_conn_set(rt: HostRuntime) -> Result<(), Fail> {
     let set = all_but(rt.alloc(), 23)?;
     let telnet = PortSpot {
         proto: Proto::Tcp,

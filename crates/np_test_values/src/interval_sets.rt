@@ -2,7 +2,7 @@
 
 use crate::four::{Four, bits_of};
 use crate::layers::blocks;
-use np_sets::{Cells, IntervalSet, NoMemory, Point, V6};
+use np_sets::{Cells, IntervalSet, NoMemory, Point, PortNum, V6};
 use std::alloc::Global;
 use std::test::Fail;
 
@@ -57,6 +57,53 @@ fn two_sets_agree_with_bits(rt: HostRuntime) -> Result<(), Fail> {
 fn nothing_and_everything_agree_with_bits(rt: HostRuntime) -> Result<(), Fail> {
     assert!(rt; is_of(&IntervalSet::nothing(rt.alloc())?, 0));
     assert!(rt; is_of(&IntervalSet::everything(rt.alloc())?, 15));
+    Ok(())
+}
+
+// Ports, the ports that are taken away, and the first and last port of each range that is left.
+type Difference = ((u16, u16), (u16, u16), &'static [(u16, u16)]);
+
+// Up to two ranges, which the set holds in itself.
+static DIFFERENCES: &[Difference] = &[
+    ((1, 65535), (23, 23), &[(1, 22), (24, 65535)]),
+    ((1, 65535), (1, 1), &[(2, 65535)]),
+    ((80, 89), (85, 99), &[(80, 84)]),
+    ((80, 89), (90, 99), &[(80, 89)]),
+    ((80, 89), (1, 65535), &[]),
+];
+
+fn ports(alloc: Global, ends: (u16, u16)) -> Result<IntervalSet<PortNum>, NoMemory> {
+    match (
+        PortNum::at(u128::from(ends.0)),
+        PortNum::at(u128::from(ends.1)),
+    ) {
+        (Some(lo), Some(hi)) if lo.get() <= hi.get() => IntervalSet::of_range(alloc, lo, hi),
+        _ => IntervalSet::nothing(alloc),
+    }
+}
+
+// Whether the set has these ranges.
+fn has_ranges(set: &IntervalSet<PortNum>, wanted: &[(u16, u16)]) -> bool {
+    let ranges = set.ranges();
+    ranges.len() == wanted.len()
+        && ranges
+            .iter()
+            .zip(wanted)
+            .all(|(range, ends)| (range.lo.get(), range.hi.get()) == *ends)
+}
+
+// Whether that is left, and a copy of it has it too.
+fn is_left(alloc: Global, difference: &Difference) -> Result<bool, NoMemory> {
+    let (all, less, left) = *difference;
+    let set = ports(alloc, all)?.minus(&ports(alloc, less)?)?;
+    Ok(has_ranges(&set, left) && has_ranges(&set.copy()?, left))
+}
+
+#[test]
+fn example_interval_set(rt: HostRuntime) -> Result<(), Fail> {
+    for difference in DIFFERENCES {
+        assert!(rt; is_left(rt.alloc(), difference)?, "{difference:?}");
+    }
     Ok(())
 }
 

@@ -77,7 +77,7 @@ fn is_read(alloc: Global, inputs: &mut MemInputs, whole: &Whole) -> bool {
 }
 
 #[test]
-fn at_room_and_past_it(rt: HostRuntime) -> Result<(), Fail> {
+fn example_read_whole(rt: HostRuntime) -> Result<(), Fail> {
     let mut inputs = source_of_forty(rt.alloc())?;
     for whole in WHOLES {
         assert!(rt; is_read(rt.alloc(), &mut inputs, whole), "{whole:?}");

@@ -33,11 +33,7 @@ type Demand = (&'static str, Op, &'static [&'static str]);
 
 fn requirement(alloc: Global, demand: &Demand) -> Result<Requirement, NoMemory> {
     let (key, op, values) = *demand;
-    Ok(Requirement {
-        key: Text::of(alloc, key)?,
-        op,
-        values: texts(alloc, values)?,
-    })
+    Requirement::of(alloc, Text::of(alloc, key)?, op, texts(alloc, values)?)
 }
 
 fn selector(alloc: Global, demands: &[Demand]) -> Result<Selector, NoMemory> {
@@ -49,6 +45,11 @@ fn selector(alloc: Global, demands: &[Demand]) -> Result<Selector, NoMemory> {
 }
 
 const NOT_IN_A: Demand = ("app", Op::NoneOf, &["a"]);
+
+// The values stand as `a`, `b`, `c` and `d`.
+const IN_FOUR: Demand = ("app", Op::OneOf, &["d", "b", "a", "c", "b"]);
+
+const NOT_IN_FOUR: Demand = ("app", Op::NoneOf, &["d", "b", "a", "c", "b"]);
 
 const IS_ABSENT: Demand = ("app", Op::Absent, &[]);
 
@@ -64,6 +65,19 @@ static MEETINGS: &[Meeting] = &[
     (NOT_IN_A, &[], true),
     (IS_ABSENT, &[("tier", "a")], true),
     (IS_ABSENT, &[("app", "a")], false),
+    // the first and the last value, those between, and values before, between and after them
+    (IN_FOUR, &[("app", "a")], true),
+    (IN_FOUR, &[("app", "b")], true),
+    (IN_FOUR, &[("app", "c")], true),
+    (IN_FOUR, &[("app", "d")], true),
+    (IN_FOUR, &[("app", "")], false),
+    (IN_FOUR, &[("app", "aa")], false),
+    (IN_FOUR, &[("app", "bb")], false),
+    (IN_FOUR, &[("app", "dd")], false),
+    (NOT_IN_FOUR, &[("app", "c")], false),
+    (NOT_IN_FOUR, &[("app", "e")], true),
+    (("app", Op::OneOf, &[]), &[("app", "a")], false),
+    (("app", Op::NoneOf, &[]), &[("app", "a")], true),
 ];
 
 // Whether labels meet a requirement as is said, and its negation exactly where they do not.
@@ -75,10 +89,27 @@ fn is_as_said(alloc: Global, meeting: &Meeting) -> Result<bool, NoMemory> {
 }
 
 #[test]
-fn absence_meets_what_asks_for_no_value(rt: HostRuntime) -> Result<(), Fail> {
+fn example_requirement(rt: HostRuntime) -> Result<(), Fail> {
     for meeting in MEETINGS {
         assert!(rt; is_as_said(rt.alloc(), meeting)?, "{meeting:?}");
     }
+    Ok(())
+}
+
+// The values of a requirement, each behind a space.
+fn values_of(alloc: Global, demand: &Demand) -> Result<String, NoMemory> {
+    let requirement = requirement(alloc, demand)?;
+    let mut text = String::new(alloc);
+    for value in requirement.values.items() {
+        write!(text, " {value}")?;
+    }
+    Ok(text)
+}
+
+#[test]
+fn values_ascend_and_stand_once(rt: HostRuntime) -> Result<(), Fail> {
+    let values = values_of(rt.alloc(), &IN_FOUR)?;
+    assert_eq!(rt; values.as_str(), " a b c d");
     Ok(())
 }
 

@@ -136,6 +136,50 @@ pub fn layer_of<S: Sampled>(alloc: Global, above: u32, below: u32) -> Result<Lay
     })
 }
 
+// What the admin part at a place of a long layer does, and the block of its set. The first parts of the blocks lie 25
+// places apart.
+fn long_admin(turn: u32) -> (Action, u8) {
+    let action = match turn % 3 {
+        0 => Action::Allow,
+        1 => Action::Deny,
+        _ => Action::Pass,
+    };
+    (action, (turn / 25 % 4) as u8)
+}
+
+// Whether the base part at a place of a long layer allows, and the block of its set.
+fn long_base(turn: u32) -> (bool, u8) {
+    (turn % 2 == 0, (turn / 17 % 4) as u8)
+}
+
+/// A layer of a hundred admin parts and as many base parts or, where the number is odd, `net` sets. The number says which
+/// part is the first one.
+pub fn long_layer<S: Sampled>(alloc: Global, number: u32) -> Result<Layer<S>, NoMemory> {
+    let isolated = number % 2 == 1;
+    let mut admin = Seq::new(alloc);
+    let mut net = Seq::new(alloc);
+    let mut base = Seq::new(alloc);
+    let first = number % 100;
+    for turn in first..first + 100 {
+        let (action, block) = long_admin(turn);
+        let set = S::block(alloc, block)?;
+        admin.push(AdminPart { action, set })?;
+        let (allow, block) = long_base(turn);
+        let set = S::block(alloc, block)?;
+        if isolated {
+            net.push(set)?;
+        } else {
+            base.push(BasePart { allow, set })?;
+        }
+    }
+    Ok(Layer {
+        admin,
+        isolated,
+        net,
+        base,
+    })
+}
+
 fn admin_parts<S: Sampled>(
     alloc: Global,
     rows: &[(Action, u8)],

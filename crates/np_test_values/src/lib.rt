@@ -10,11 +10,15 @@ mod conns;
 #[cfg(test)]
 mod four;
 #[cfg(test)]
+mod gathered;
+#[cfg(test)]
 mod generic;
 #[cfg(test)]
 mod interval_sets;
 #[cfg(test)]
 mod io;
+#[cfg(test)]
+mod joins;
 #[cfg(test)]
 mod labels;
 #[cfg(test)]

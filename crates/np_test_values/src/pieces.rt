@@ -206,7 +206,7 @@ fn pieces_at(alloc: Global, address: V6) -> Result<(usize, usize), NoMemory> {
 
 // At the greatest address, which no other follows.
 #[test]
-fn pieces_end_at_the_greatest_address(rt: HostRuntime) -> Result<(), Fail> {
+fn example_pieces(rt: HostRuntime) -> Result<(), Fail> {
     let last = V6::at(u128::MAX).ok_or("none")?;
     assert_eq!(rt; pieces_at(rt.alloc(), last)?, (2, 1));
     Ok(())

@@ -2,7 +2,7 @@
 //! the walk is one over a block, and a comparison with a union of blocks speaks of every spot.
 
 use crate::four::Four;
-use crate::layers::{Sampled, blocks, layer_of};
+use crate::layers::{Sampled, blocks, layer_of, long_layer};
 use crate::walk::walk;
 use np_base::NoMemory;
 use np_conns::ConnSet;
@@ -121,7 +121,7 @@ fn compare_all<S: Sampled>(rt: &impl Abort, alloc: Global) -> Result<(), NoMemor
 }
 
 #[test]
-fn as_the_walk_over_four_points(rt: HostRuntime) -> Result<(), Fail> {
+fn example_verdict_set(rt: HostRuntime) -> Result<(), Fail> {
     compare_all::<IntervalSet<Four>>(&rt, rt.alloc())?;
     Ok(())
 }
@@ -129,5 +129,21 @@ fn as_the_walk_over_four_points(rt: HostRuntime) -> Result<(), Fail> {
 #[test]
 fn as_the_walk_over_connections(rt: HostRuntime) -> Result<(), Fail> {
     compare_all::<ConnSet>(&rt, rt.alloc())?;
+    Ok(())
+}
+
+// What of a long layer is not as the walk says, if anything.
+fn long_difference(alloc: Global, number: u32) -> Result<&'static str, NoMemory> {
+    let layer: Layer<IntervalSet<Four>> = long_layer(alloc, number)?;
+    difference_in(alloc, &layer)
+}
+
+// Tiers of a hundred parts are put together in halves.
+#[test]
+fn as_the_walk_over_long_tiers(rt: HostRuntime) -> Result<(), Fail> {
+    for number in 0u32..100 {
+        let found = long_difference(rt.alloc(), number)?;
+        assert!(rt; found == "nothing", "{found} of layer {number}");
+    }
     Ok(())
 }

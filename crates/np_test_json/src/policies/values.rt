@@ -62,7 +62,7 @@ static NETWORK_POLICIES: &[(&str, &str)] = &[
 ];
 
 #[test]
-fn examples_of_network_policies(rt: HostRuntime) -> Result<(), Fail> {
+fn example_read_policy(rt: HostRuntime) -> Result<(), Fail> {
     reads(&rt, rt.alloc(), NETWORK_POLICIES)
 }
 
