@@ -53,9 +53,10 @@ impl Folded {
         &self.estate
     }
 
-    /// The workloads of the estate.
+    /// The workloads of the estate. The estate is lawful.
     pub fn workloads(&self) -> &Workloads
-        ensures { result.now ≡ spec.folding_of self.now }
+        ensures value { result.now ≡ spec.folding_of self.now }
+        ensures lawful { IsLawful self.now }
     {
         &self.workloads
     }
