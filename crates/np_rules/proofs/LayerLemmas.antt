@@ -1,9 +1,13 @@
 -- Layers of rules, policy by policy, and what their walk says.
 use Rattle.std.proofs.Common.{◌≡◌, ℕ, ◌+◌, ◌<◌, List, [], ◌∷◌, ◌++◌, Bool, true, false, ◌||◌, length, take, get_or, map, Some, refl, sym, ap, ◌∙◌, unwrap_or, if◌then◌else◌}
 use Rattle.std.specs.List.{list_any, find, enumerate_from}
+use Rattle.std.specs.Str.{bytes_eq}
+use Rattle.std.proofs.lemmas.Bool.{and_parts}
 use Rattle.std.proofs.lemmas.List.{map-append}
+use Rattle.std.proofs.lemmas.Slice.Eq.{bytes_eq-Decides}
 use Rattle.np_estate.specs.Lawful.{HasAscendingPriorities}
 use Rattle.np_estate.specs.declared.lists.EstateLists.{EstateLists}
+use Rattle.np_labels.specs.Selectors.{meets_selector}
 use Rattle.np_policies.specs.declared.admin_policy.Action.{Action}
 use Rattle.np_policies.specs.declared.admin_policy.Action.TheVariants as policy
 use Rattle.np_policies.specs.declared.admin_policy.AdminPolicy.{AdminPolicy}
@@ -39,17 +43,44 @@ admin_rules-next policies direction p i policy within is =
     ∙ map-append rule_of (admin_places (take i policies) direction p) (admin.places_by direction p policy)
     ∙ ap (λ rules. before ++ rules) (if_both (λ places rules. map rule_of places ≡ rules) (subject_selects policy.subject p) (admin_places_of direction policy) (admin_rules_of direction policy) (map-numbered (λ numbered. record { policy = policy; place = numbered.0; rule = numbered.1 }) rule_of (λ numbered. refl) 0 (admin_rules_of direction policy)) refl)
 
--- what the rules of the NetworkPolicies match, with those of one more
-pub net_matches-next : (policies : List NetPolicy) (direction : Direction) (p : PodEnd) (i : ℕ) (policy : NetPolicy) → i < length policies → policy ≡ get_or policies i policy → map matches_of (net_places (take (i + 1) policies) direction p) ≡ map matches_of (net_places (take i policies) direction p) ++ map (net_rule_matches policy.namespace) (if net_selects policy p then unwrap_or (net_rules_of direction policy) [] else [])
-net_matches-next policies direction p i policy within is =
-    let before = map matches_of (net_places (take i policies) direction p) in
-    ap (map matches_of) (flat_map-next (net.places_by direction p) policies i policy within is)
-    ∙ map-append matches_of (net_places (take i policies) direction p) (net.places_by direction p policy)
-    ∙ ap (λ matches. before ++ matches) (if_both (λ places rules. map matches_of places ≡ map (net_rule_matches policy.namespace) rules) (net_selects policy p) (net_places_of direction policy) (unwrap_or (net_rules_of direction policy) []) (numbered_matches 0 (unwrap_or (net_rules_of direction policy) [])) refl)
+-- the rules of the NetworkPolicies, with those of one more
+pub net_rules-next : (policies : List NetPolicy) (direction : Direction) (p : PodEnd) (i : ℕ) (policy : NetPolicy) → i < length policies → policy ≡ get_or policies i policy → map (λ placed. placed.rule) (net_places (take (i + 1) policies) direction p) ≡ map (λ placed. placed.rule) (net_places (take i policies) direction p) ++ (if net_selects policy p then unwrap_or (net_rules_of direction policy) [] else [])
+net_rules-next policies direction p i policy within is =
+    let rule_of : PlacedNetRule → NetRule = λ placed. placed.rule in
+    let before = map rule_of (net_places (take i policies) direction p) in
+    ap (map rule_of) (flat_map-next (net.places_by direction p) policies i policy within is)
+    ∙ map-append rule_of (net_places (take i policies) direction p) (net.places_by direction p policy)
+    ∙ ap (λ rules. before ++ rules) (if_both (λ places rules. map rule_of places ≡ rules) (net_selects policy p) (net_places_of direction policy) (unwrap_or (net_rules_of direction policy) []) (map-numbered (λ numbered. record { policy = policy; place = numbered.0; rule = numbered.1 }) rule_of (λ numbered. refl) 0 (unwrap_or (net_rules_of direction policy) [])) refl)
+
+-- ---- the namespace of the policies that select a pod
+
+-- a rule in its place
+abbrev placed_in : NetPolicy → ℕ × NetRule → PlacedNetRule
+placed_in policy numbered = record { policy = policy; place = numbered.0; rule = numbered.1 }
+
+-- what a rule matches in a namespace
+abbrev pub matches_in : List ℕ → PlacedNetRule → Contact → Bool
+matches_in namespace placed = net_rule_matches namespace placed.rule
+
+-- what the rules of one policy match, as rules of its namespace
+matches_of_one : (namespace : List ℕ) (policy : NetPolicy) → policy.namespace ≡ namespace → (n : ℕ) (rules : List NetRule) → map matches_of (map (placed_in policy) (enumerate_from n rules)) ≡ map (matches_in namespace) (map (placed_in policy) (enumerate_from n rules))
+matches_of_one namespace policy same n [] = refl
+matches_of_one namespace policy same n (rule ∷ rules) =
+    let first : List ℕ → List (Contact → Bool) = λ name. net_rule_matches name rule ∷ map matches_of (map (placed_in policy) (enumerate_from (n + 1) rules)) in
+    ap first same ∙ ap (λ matches. net_rule_matches namespace rule ∷ matches) (matches_of_one namespace policy same (n + 1) rules)
+
+-- A policy that selects a pod is of the pod's namespace, so its rules match as rules of that.
+pub matches_in_namespace : (policies : List NetPolicy) (direction : Direction) (p : PodEnd) → map matches_of (net_places policies direction p) ≡ map (matches_in p.namespace) (net_places policies direction p)
+matches_in_namespace [] direction p = refl
+matches_in_namespace (policy ∷ policies) direction p =
+    map-append matches_of (net.places_by direction p policy) (net_places policies direction p)
+    ∙ ap (λ matches. matches ++ map matches_of (net_places policies direction p)) (here (net_selects policy p) refl)
+    ∙ ap (λ matches. map (matches_in p.namespace) (net.places_by direction p policy) ++ matches) (matches_in_namespace policies direction p)
+    ∙ sym (map-append (matches_in p.namespace) (net.places_by direction p policy) (net_places policies direction p))
   where
-    numbered_matches : (n : ℕ) (rules : List NetRule) → map matches_of (map (λ numbered. record { policy = policy; place = numbered.0; rule = numbered.1 }) (enumerate_from n rules)) ≡ map (net_rule_matches policy.namespace) rules
-    numbered_matches n [] = refl
-    numbered_matches n (rule ∷ rules) = ap (λ matches. net_rule_matches policy.namespace rule ∷ matches) (numbered_matches (n + 1) rules)
+    here : (b : Bool) → net_selects policy p ≡ b → map matches_of (if b then net_places_of direction policy else []) ≡ map (matches_in p.namespace) (if b then net_places_of direction policy else [])
+    here true selects = matches_of_one p.namespace policy ((bytes_eq-Decides policy.namespace p.namespace).0 (and_parts (bytes_eq policy.namespace p.namespace) (meets_selector policy.subject p.labels) selects).0) 0 (unwrap_or (net_rules_of direction policy) [])
+    here false selects = refl
 
 -- ---- what the walk of a layer says
 

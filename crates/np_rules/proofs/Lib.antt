@@ -11,3 +11,4 @@ pub mod DeciderLemmas
 pub mod SideLemmas
 pub mod FamilyLemmas
 pub mod LayerRulesLemmas
+pub mod PodSideLemmas

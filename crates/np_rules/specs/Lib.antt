@@ -16,3 +16,4 @@ pub mod OneEnd
 pub mod EveryAddress
 pub mod Laws
 pub mod LayerRules
+pub mod PodSides

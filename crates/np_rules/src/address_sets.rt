@@ -70,8 +70,19 @@ pub(crate) fn net_addresses(alloc: Global, peers: &[NetPeer]) -> Result<AddrSet,
     }
 }
 
-/// The addresses that some item stands for.
+/// The addresses that some item stands for. One item alone, as most rules have, is not joined.
 pub(crate) fn joined_set<A: Addresses>(alloc: Global, items: &[A]) -> Result<AddrSet, NoMemory>
+    ensures { IfOk result (λ set. (a : Address) → IsAddress a →
+        set_has set a ≡ list_any (λ item. A.stands_for item a) items.now) }
+{
+    match items {
+        [item] => item.addresses(alloc),
+        _ => join_each(alloc, items),
+    }
+}
+
+// The same, item by item.
+fn join_each<A: Addresses>(alloc: Global, items: &[A]) -> Result<AddrSet, NoMemory>
     ensures { IfOk result (λ set. (a : Address) → IsAddress a →
         set_has set a ≡ list_any (λ item. A.stands_for item a) items.now) }
 {

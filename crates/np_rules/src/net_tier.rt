@@ -1,5 +1,5 @@
 //! What the NetworkPolicies say of one packet.
-ghost use Rattle.std.specs.Prelude.{◌≡◌, ◌+◌, [], length, if◌then◌else◌, unwrap_or};
+ghost use Rattle.std.specs.Prelude.{◌≡◌, ◌+◌, [], None, length, if◌then◌else◌, unwrap_or};
 ghost use Rattle.std.specs.List.{list_any};
 ghost use Rattle.std.specs.Option.{option_map};
 ghost use Rattle.np_rules.specs.NetTier as spec;
@@ -92,9 +92,24 @@ pub(crate) fn net_rules_for<'a>(
     ensures { result.now
         ≡ (if net_selects policy.now (pod_view pod.now) then unwrap_or (net_rules_of direction policy.now) [] else []) }
 {
+    match isolating_rules(policy, direction, pod) {
+        Some(rules) => rules,
+        None => &[],
+    }
+}
+
+/// The rules of a direction, where the policy isolates the pod.
+pub(crate) fn isolating_rules<'a>(
+    policy: &'a NetPolicy,
+    direction: Direction,
+    pod: &PodView<'_>,
+) -> Option<&'a [NetRule]>
+    ensures { option_map (λ rules. rules.now) result
+        ≡ (if net_selects policy.now (pod_view pod.now) then net_rules_of direction policy.now else None) }
+{
     match net_rules_of(policy, direction) {
-        Some(rules) if net_selects(policy, pod) => rules,
-        _ => &[],
+        Some(rules) if net_selects(policy, pod) => Some(rules),
+        _ => None,
     }
 }
 

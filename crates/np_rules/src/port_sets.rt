@@ -1,5 +1,5 @@
 //! The protocols and ports of port entries, as sets.
-ghost use Rattle.std.specs.Prelude.{◌≡◌, Bool, true, ◌&&◌, IfOk};
+ghost use Rattle.std.specs.Prelude.{◌≡◌, ◌==◌, Bool, true, ◌&&◌, ◌||◌, IfOk};
 ghost use Rattle.std.specs.List.{list_any};
 ghost use Rattle.np_conns.specs.Conns.{is_spot, has_spot, same_proto};
 ghost use Rattle.np_conns.specs.declared.port_spot.PortSpot.{PortSpot};
@@ -79,8 +79,23 @@ pub(crate) fn entries_set<E: PortEntry>(
     }
 }
 
-// The spots that some entry matches.
+// The spots that some entry matches. One entry alone, as most rules have, is not joined.
 fn joined_set<E: PortEntry>(
+    alloc: Global,
+    entries: &[E],
+    destination: &EndView<'_>,
+) -> Result<ConnSet, NoMemory>
+    ensures { IfOk result (λ made. (spot : PortSpot) → is_spot spot ≡ true →
+        has_spot made spot ≡ list_any (λ entry. E.matches entry (end_view destination.now) spot) entries.now) }
+{
+    match entries {
+        [entry] => entry.spots(alloc, destination),
+        _ => join_each(alloc, entries, destination),
+    }
+}
+
+// The same, entry by entry.
+fn join_each<E: PortEntry>(
     alloc: Global,
     entries: &[E],
     destination: &EndView<'_>,
@@ -137,18 +152,33 @@ fn named_set(alloc: Global, name: &str, ports: &[NamedPort]) -> Result<ConnSet, 
 {
     let mut joined = ConnSet::nothing(alloc)?;
     for port in ports {
-        joined = joined.join(&port_set(alloc, name, port)?)?;
+        joined = with_named(alloc, joined, name, port)?;
     }
     Ok(joined)
 }
 
-// The port, where it has that name.
-fn port_set(alloc: Global, name: &str, port: &NamedPort) -> Result<ConnSet, NoMemory>
-    ensures { IfOk result (λ made. (spot : PortSpot) → has_spot made spot ≡ spec.is_named name.now spot port.now) }
+// The set with a port, where that has the name. The name is asked first, since most ports have another.
+fn with_named(
+    alloc: Global,
+    set: ConnSet,
+    name: &str,
+    port: &NamedPort,
+) -> Result<ConnSet, NoMemory>
+    ensures { IfOk result (λ made. (spot : PortSpot) →
+        has_spot made spot ≡ (has_spot set spot || spec.is_named name.now spot port.now)) }
 {
     if port.name.as_str() == name {
-        ConnSet::of(alloc, port.proto, port.number, port.number)
+        let with = set.join(&port_set(alloc, port)?)?;
+        Ok(with)
     } else {
-        ConnSet::nothing(alloc)
+        Ok(set)
     }
+}
+
+// The port alone.
+fn port_set(alloc: Global, port: &NamedPort) -> Result<ConnSet, NoMemory>
+    ensures { IfOk result (λ made. (spot : PortSpot) →
+        has_spot made spot ≡ (same_proto spot.proto port.now.proto && (spot.port == port.now.number))) }
+{
+    ConnSet::of(alloc, port.proto, port.number, port.number)
 }

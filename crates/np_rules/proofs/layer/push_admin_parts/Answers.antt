@@ -1,6 +1,0 @@
-use Rattle.np_rules.specs.Layers.{IsAdminPart}
-use Rattle.np_rules.proofs.PairwiseLemmas.{Pairwise-next}
-use Rattle.np_rules.proofs.layer.push_admin_parts.Goals as goal
-
-pub loop-rule-preserved : goal.loop-rule-preserved
-loop-rule-preserved g c = λ before related. Pairwise-next (IsAdminPart g.S.Cells.has g.S.Cells.in_space (g.F.FarEnds.contact_at c.args.far.now)) _ before c.args.rules.now c.loop-rule.rule-index _ c.rule-item.result _ c.loop-rule-test.true c.rule-item.is c.in_ok-push.ensures.items (c.loop-rule.invariant before related) (record { action = c.tier_action.ensures; members = c.in_ok-set.ensures })

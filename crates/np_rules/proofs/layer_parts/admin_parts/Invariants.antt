@@ -1,0 +1,7 @@
+use Rattle.std.proofs.Common.{map, take}
+use Rattle.np_rules.specs.Layers.{Pairwise, IsAdminPart}
+use Rattle.np_rules.proofs.layer_parts.admin_parts.Given as goal
+
+-- the parts so far are those of the rules so far
+abbrev pub invariant-loop-rule : goal.invariant-loop-rule
+invariant-loop-rule g l = Pairwise (IsAdminPart g.S.Cells.has g.S.Cells.in_space (g.F.FarEnds.contact_at l.far)) l.parts.items (map (λ rule. rule.now) (take l.rule-index l.rules))

@@ -1,0 +1,15 @@
+use Rattle.std.proofs.Common.{IfOk, ap, ◌∙◌, subst}
+use Rattle.np_addr.specs.declared.address.Family.TheVariants.{Four}
+use Rattle.np_conns.specs.Conns.{is_spot, has_spot}
+use Rattle.np_conns.specs.declared.port_spot.PortSpot.{PortSpot}
+use Rattle.np_rules.specs.Ends.{Contact, pod, stranger_end}
+use Rattle.np_rules.specs.PodSides.{IsSideLayer, SaysVerdicts, with_stranger}
+use Rattle.np_rules.specs.Verdict.{pod_at}
+use Rattle.np_rules.proofs.OneEndLemmas.{same_contacts}
+use Rattle.np_rules.proofs.pod_rules.PodRules.stranger_layer.Goals as goal
+
+pub returns-clause-layer : goal.returns-clause-layer
+returns-clause-layer g c = subst (λ (at : PortSpot → Contact). IfOk c.layer.result (IsSideLayer has_spot is_spot c.args.self.now (λ _. at))) (same_contacts c.with_stranger-ends.result c.self.inside.direction (pod (pod_at c.self.inside.estate.now c.self.inside.pod)) (pod (stranger_end c.args.stranger.now)) Four c.with_stranger-ends.ensures.far c.with_stranger-ends.ensures.destination c.with_stranger-ends.ensures.family ∙ ap (with_stranger c.args.stranger.now) c.self.view_is) c.layer.ensures.layer
+
+pub returns-clause-verdict : goal.returns-clause-verdict
+returns-clause-verdict g c = subst (λ (at : PortSpot → Contact). IfOk c.layer.result (SaysVerdicts has_spot is_spot c.args.self.now (λ _. at))) (same_contacts c.with_stranger-ends.result c.self.inside.direction (pod (pod_at c.self.inside.estate.now c.self.inside.pod)) (pod (stranger_end c.args.stranger.now)) Four c.with_stranger-ends.ensures.far c.with_stranger-ends.ensures.destination c.with_stranger-ends.ensures.family ∙ ap (with_stranger c.args.stranger.now) c.self.view_is) c.layer.ensures.verdict

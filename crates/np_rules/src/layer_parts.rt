@@ -1,0 +1,88 @@
+//! The tiers of a layer, for any kind of far ends.
+ghost use Rattle.std.specs.Prelude.{◌≡◌, map, IfOk};
+ghost use Rattle.np_rules.specs.Layers as spec;
+ghost use Rattle.np_rules.specs.Layers.{Pairwise, IsAdminPart, IsBasePart, IsSetOf};
+ghost use Rattle.np_rules.specs.Rules.{net_rule_matches};
+ghost use Rattle.np_rules.specs.Sides.{is_allow};
+
+use crate::far_ends::FarEnds;
+use np_base::{Cells, NoMemory, Seq};
+use np_policies::{Action, AdminRule, NetRule};
+use np_tiers::{AdminPart, BasePart};
+use std::alloc::Global;
+
+/// The parts of the rules of AdminNetworkPolicies.
+pub(crate) fn admin_parts<S: Cells, F: FarEnds<S>>(
+    alloc: Global,
+    rules: &[&AdminRule],
+    far: &F,
+) -> Result<Seq<AdminPart<S>>, NoMemory>
+    ensures { IfOk result (λ parts. Pairwise (IsAdminPart S.has S.in_space (F.contact_at far.now))
+        parts (map (λ rule. rule.now) rules.now)) }
+{
+    let mut parts = Vec::new(alloc);
+    for rule in rules {
+        let set = far.admin_set(alloc, rule)?;
+        parts.push(AdminPart {
+            action: tier_action(rule.action),
+            set,
+        })?;
+    }
+    Ok(Seq::from_vec(parts))
+}
+
+// What an admin rule says, as the tiers have it.
+fn tier_action(action: Action) -> np_tiers::Action
+    ensures { result ≡ spec.tier_action action }
+{
+    match action {
+        Action::Allow => np_tiers::Action::Allow,
+        Action::Deny => np_tiers::Action::Deny,
+        Action::Pass => np_tiers::Action::Pass,
+    }
+}
+
+/// The sets of the rules of NetworkPolicies of this namespace.
+pub(crate) fn net_sets<S: Cells, F: FarEnds<S>>(
+    alloc: Global,
+    namespace: &str,
+    rules: &[&NetRule],
+    far: &F,
+) -> Result<Seq<S>, NoMemory>
+    ensures { IfOk result (λ sets. Pairwise (IsSetOf S.has S.in_space (F.contact_at far.now))
+        sets (map (λ rule. net_rule_matches namespace.now rule.now) rules.now)) }
+{
+    let mut sets = Vec::new(alloc);
+    for rule in rules {
+        sets.push(far.net_set(alloc, namespace, rule)?)?;
+    }
+    Ok(Seq::from_vec(sets))
+}
+
+/// The parts of the rules of the baseline.
+pub(crate) fn base_parts<S: Cells, F: FarEnds<S>>(
+    alloc: Global,
+    rules: &[AdminRule],
+    far: &F,
+) -> Result<Seq<BasePart<S>>, NoMemory>
+    ensures { IfOk result (λ parts. Pairwise (IsBasePart S.has S.in_space (F.contact_at far.now)) parts rules.now) }
+{
+    let mut parts = Vec::new(alloc);
+    for rule in rules {
+        let set = far.admin_set(alloc, rule)?;
+        parts.push(BasePart {
+            allow: is_allow(rule.action),
+            set,
+        })?;
+    }
+    Ok(Seq::from_vec(parts))
+}
+
+fn is_allow(action: Action) -> bool
+    ensures { result ≡ is_allow action }
+{
+    match action {
+        Action::Allow => true,
+        Action::Deny | Action::Pass => false,
+    }
+}
