@@ -14,8 +14,8 @@ use Rattle.np_estate.specs.Families.{is_of, same_family}
 use Rattle.np_fold.specs.Alike.{is_in}
 use Rattle.np_fold.specs.Blocks.{cidrs_of_peer}
 use Rattle.np_fold.specs.Keys.{keys_of_admin_peer, keys_of_net_peer, keys_of_optional, keys_of_selector}
-use Rattle.np_kinds.proofs.Lists.{All-parts}
-use Rattle.np_kinds.proofs.Selectors.{AgreeOn, selector-same}
+use Rattle.np_table.proofs.KindLists.{All-parts}
+use Rattle.np_table.proofs.KindSelectors.{AgreeOn, selector-same}
 use Rattle.np_labels.specs.Labels.{value_of}
 use Rattle.np_labels.specs.declared.selector.Selector.{Selector}
 use Rattle.np_policies.specs.declared.admin_policy.AdminPeer.{AdminPeer}

@@ -4,10 +4,10 @@ use Rattle.std.specs.List.{AllByRecursion, enumerate_from, flat_map}
 use Rattle.std.specs.Str.{bytes_eq}
 use Rattle.np_fold.specs.Blocks.{cidrs_of_admin_policy, cidrs_of_baseline, cidrs_of_base_policy, cidrs_of_rule}
 use Rattle.np_fold.specs.Keys.{keys_of_admin_policy, keys_of_admin_rule, keys_of_base_policy, keys_of_baseline, keys_of_net_direction, keys_of_net_policy, keys_of_net_rule, keys_of_selector, keys_of_subject}
-use Rattle.np_kinds.proofs.Lists.{All-append, All-flat, All-if, All-numbered, All-parts, All-three, All-weaker}
-use Rattle.np_kinds.proofs.Peers.{AgreeAt, AgreeIn, SamePod}
-use Rattle.np_kinds.proofs.Rules.{IsAlikeAt, SameContact, admin_rules-same, net_rule-same}
-use Rattle.np_kinds.proofs.Selectors.{AgreeOn, selector-same}
+use Rattle.np_table.proofs.KindLists.{All-append, All-flat, All-if, All-numbered, All-parts, All-three, All-weaker}
+use Rattle.np_table.proofs.KindPeers.{AgreeAt, AgreeIn, SamePod}
+use Rattle.np_table.proofs.KindRules.{IsAlikeAt, SameContact, admin_rules-same, net_rule-same}
+use Rattle.np_table.proofs.KindSelectors.{AgreeOn, selector-same}
 use Rattle.np_labels.specs.Selectors.{meets_selector}
 use Rattle.np_policies.specs.declared.admin_policy.AdminPolicy.{AdminPolicy}
 use Rattle.np_policies.specs.declared.admin_policy.BasePolicy.{BasePolicy}

@@ -11,12 +11,12 @@ use Rattle.np_estate.specs.declared.pod.Pod.{Pod}
 use Rattle.np_fold.specs.Alike.{IsSameKind}
 use Rattle.np_fold.specs.Blocks.{cidrs_of_admin_policy, cidrs_of_baseline, cidrs_of_estate}
 use Rattle.np_fold.specs.Keys.{keys_of_admin_policy, keys_of_baseline, keys_of_estate, keys_of_net_policy, keys_of_service}
-use Rattle.np_kinds.specs.Ends.{AreOneKind}
-use Rattle.np_kinds.proofs.Lists.{All-each, All-parts, All-three, All-weaker, filter-same, find-same, list_any-same}
-use Rattle.np_kinds.proofs.Peers.{AgreeAt, AgreeIn, SameEnd, SamePod}
-use Rattle.np_kinds.proofs.Rules.{SameContact}
-use Rattle.np_kinds.proofs.Selectors.{AgreeOn, All-from_listed}
-use Rattle.np_kinds.proofs.Sides.{admin_places-alike, admin_places-same, base_places-alike, base_places-same, net_places-alike, net_places-same, net_selects-same}
+use Rattle.np_table.specs.Ends.{AreOneKind}
+use Rattle.np_table.proofs.KindLists.{All-each, All-parts, All-three, All-weaker, filter-same, find-same, list_any-same}
+use Rattle.np_table.proofs.KindPeers.{AgreeAt, AgreeIn, SameEnd, SamePod}
+use Rattle.np_table.proofs.KindRules.{SameContact}
+use Rattle.np_table.proofs.KindSelectors.{AgreeOn, All-from_listed}
+use Rattle.np_table.proofs.KindSides.{admin_places-alike, admin_places-same, base_places-alike, base_places-same, net_places-alike, net_places-same, net_selects-same}
 use Rattle.np_policies.specs.declared.admin_policy.Action.{Action}
 use Rattle.np_policies.specs.declared.admin_policy.Action.TheVariants.{Allow, Deny, Pass}
 use Rattle.np_policies.specs.declared.direction.Direction.{Direction}

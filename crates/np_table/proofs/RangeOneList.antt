@@ -3,9 +3,9 @@ use Rattle.std.proofs.Common.{◌≡◌, ℕ, ◌+◌, ◌<◌, ◌≤◌, List,
 use Rattle.std.proofs.lemmas.Bool.{cases_order}
 use Rattle.np_conns.specs.Conns.{Conns, is_spot}
 use Rattle.np_conns.specs.declared.port_spot.PortSpot.{PortSpot}
-use Rattle.np_ranges.proofs.Sets.{conns_of-agrees}
-use Rattle.np_ranges.proofs.Walks.{walk-right}
-use Rattle.np_ranges.specs.Right.{AreRight, IsRight, Stretch, conns_of, walk}
+use Rattle.np_table.proofs.RangeSets.{conns_of-agrees}
+use Rattle.np_table.proofs.RangeWalks.{walk-right}
+use Rattle.np_table.specs.Right.{AreRight, IsRight, Stretch, conns_of, walk}
 
 -- stretches do not end before they begin
 AreRight-ordered : (passes : ℕ → PortSpot → Bool) (from to : ℕ) (before : Option Conns) (stretches : List Stretch) → AreRight passes from to before stretches → from ≤ to

@@ -5,8 +5,8 @@ use Rattle.np_conns.specs.declared.port_spot.PortSpot.{PortSpot}
 use Rattle.np_pieces.specs.Pieces.{ArePieces, Covers, has_at, value_has}
 use Rattle.np_pieces.specs.Values.{ArePieces-ordered, value_at-first, value_at-rest}
 use Rattle.np_pieces.specs.declared.piece.Piece.{Piece}
-use Rattle.np_ranges.proofs.Sets.{conns_of-has_spot}
-use Rattle.np_ranges.specs.Right.{AreRight, IsRight, conns_of, stretches_of}
+use Rattle.np_table.proofs.RangeSets.{conns_of-has_spot}
+use Rattle.np_table.specs.Right.{AreRight, IsRight, conns_of, stretches_of}
 
 -- by a test that answers at each number as the pieces from there on do
 ArePieces-right : {P : Type 0} (number_of : P → ℕ) (passes : ℕ → PortSpot → Bool) (from to : ℕ) (before : Option Conns) (pieces : List (Piece P Conns)) → ArePieces number_of IsConns from to before pieces → ((n : ℕ) → from ≤ n → n < to → passes n ≡ has_at number_of has_spot pieces n) → AreRight passes from to before (stretches_of number_of pieces)

@@ -10,7 +10,7 @@ use Rattle.np_conns.specs.Conns.{Conns, IsConns, has_spot, is_spot}
 use Rattle.np_conns.specs.Spots.{equal_by_ranges}
 use Rattle.np_conns.specs.declared.port_spot.PortSpot.{PortSpot}
 use Rattle.np_conns.specs.declared.proto.Proto.TheVariants.{Tcp, Udp, Sctp}
-use Rattle.np_ranges.specs.Right.{are_same_conns, are_same_range, conns_of}
+use Rattle.np_table.specs.Right.{are_same_conns, are_same_range, conns_of}
 
 are_same_range-Decides : (a b : Range ℕ) → Decides (are_same_range a b) (a ≡ b)
 are_same_range-Decides a b =

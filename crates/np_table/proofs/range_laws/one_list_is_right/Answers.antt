@@ -1,6 +1,6 @@
-use Rattle.np_ranges.proofs.OneList.{right-walk}
-use Rattle.np_ranges.proofs.Walks.{walk-right}
-use Rattle.np_ranges.proofs.laws.one_list_is_right.Goals as goal
+use Rattle.np_table.proofs.RangeOneList.{right-walk}
+use Rattle.np_table.proofs.RangeWalks.{walk-right}
+use Rattle.np_table.proofs.range_laws.one_list_is_right.Goals as goal
 
 pub returns-clause-walk : goal.returns-clause-walk
 returns-clause-walk c = walk-right
