@@ -1,7 +1,8 @@
 -- The sides of the pods that stand for workloads, and of those that stand for kinds.
-use Rattle.std.proofs.Common.{◌≡◌, ◌<◌, ◌≤◌, ◌+◌, ◌-◌, ◌*◌, ◌^◌, ℕ, List, Bool, true, false, ◌&&◌, Option, Some, None, map, length, slice_get, slice_index, lit≤, arith, refl, sym, ap, subst, ◌∙◌, if◌then◌else◌}
+use Rattle.std.proofs.Common.{◌≡◌, ◌<◌, ◌≤◌, ◌+◌, ◌-◌, ◌*◌, ◌^◌, ℕ, List, Bool, true, false, ◌&&◌, Option, Some, None, map, length, slice_get, slice_index, take, lit≤, arith, refl, sym, ap, subst, ◌∙◌, if◌then◌else◌}
 use Rattle.std.specs.Prelude.{All}
 use Rattle.std.specs.Option.{option_map}
+use Rattle.std.proofs.Math.Seq.{take-length}
 use Rattle.std.proofs.lemmas.List.Elements.{All-weaker}
 use Rattle.std.proofs.lemmas.Option.{same_Some, slice_get-map, slice_get_within}
 use Rattle.np_addr.specs.declared.address.Family.{Family}
@@ -135,6 +136,12 @@ pub firsts-workloads : (lists : EstateLists) → All (IsWorkload lists) (folding
 unfolding folding_of
 firsts-workloads lists =
     All-weaker (λ first. first < workload_count lists) (IsWorkload lists) (λ first within. in_folding lists first within) (firsts (kinds_alike lists) (workload_count lists)) (firsts_within (kinds_alike lists) (workload_count lists))
+
+-- the sides of all of them are those of all kinds
+pub sides-made : (lists : EstateLists) (direction : Direction) (workloads : List ℕ) (index : ℕ) → workloads ≡ (folding_of lists).first_of_kinds → index ≡ length workloads → map (first_side lists direction) (take index workloads) ≡ sides_of_kinds lists direction
+unfolding sides_of_kinds
+sides-made lists direction workloads index are all =
+    ap (λ (n : ℕ). map (first_side lists direction) (take n workloads)) all ∙ ap (map (first_side lists direction)) (take-length workloads ∙ are)
 
 side-at : (lists : EstateLists) (direction : Direction) (kind first : ℕ) → slice_get (folding_of lists).first_of_kinds kind ≡ Some first → slice_get (sides_of_kinds lists direction) kind ≡ Some (first_side lists direction first)
 unfolding sides_of_kinds

@@ -3,11 +3,22 @@ use Rattle.std.proofs.lemmas.Bool.{eqb-true}
 use Rattle.np_fold.specs.Workloads.{folding_of}
 use Rattle.np_table.proofs.PlaceLemmas.{made-ready, nothing-left}
 use Rattle.np_table.proofs.all_rows.Rows.next.Goals as goal
+use Rattle.np_table.specs.ToCome.{RowsToCome}
 
 pub returns-then-self-clause-given : goal.returns-then-self-clause-given
 returns-then-self-clause-given g c =
     let empty : length c.loop-self.self-inside.ready.items ≡ 0 = omega (arith, c.loop-self.self-inside.ready.ok, eqb-true c.loop-self.self-inside.ready.len 0 (sym c.is_empty.ensures ∙ c.loop-self-test.true)) in
     nothing-left c.loop-self.self-inside.folded.now (folding_of c.loop-self.self-inside.folded.now) c.loop-self.self-inside.ready.items c.args.self.now.rows c.loop-self.self-inside.place c.loop-self.self-inside.end empty (omega arith) c.loop-self.invariant.under_way.last c.loop-self.invariant.to_come
+
+pub loop-self-init : goal.loop-self-init
+loop-self-init g c = record {
+  to_come = ap (λ (to_come : RowsToCome). to_come.rows) c.self.view_is;
+  under_way = c.self.invariant.0;
+  rules = c.in_ok-ask.ensures.all;
+  fits = let h = c.self in ?;
+  counted = omega (arith, ap (λ (to_come : RowsToCome). to_come.due) c.self.view_is);
+  least = omega arith;
+}
 
 pub loop-self-preserved : goal.loop-self-preserved
 loop-self-preserved g c =
