@@ -1,5 +1,5 @@
 -- What passes between workloads is what passes between their pods.
-use Rattle.std.proofs.Common.{◌≡◌, ◌≢◌, ◌+◌, ◌<◌, ◌≤◌, ℕ, List, [], ◌∷◌, Bool, true, false, Option, Some, None, AllPairs, Contains, length, slice_get, slice_index, get_or, if◌then◌else◌, arith, refl, sym, ap, subst, ◌∙◌, inl, inr}
+use Rattle.std.proofs.Common.{◌≡◌, ◌≢◌, ◌<◌, ℕ, List, [], ◌∷◌, Bool, true, false, Option, Some, None, AllPairs, Contains, length, slice_get, slice_index, get_or, if◌then◌else◌, arith, refl, sym, ap, subst, ◌∙◌, inl, inr}
 use Rattle.std.specs.Prelude.{IsSomeAnd}
 use Rattle.std.proofs.lemmas.Bool.{cases_order}
 use Rattle.std.proofs.lemmas.Option.{get_or_from_slice_get, slice_get-get_or, slice_get_within}
@@ -17,7 +17,6 @@ use Rattle.np_table.proofs.KindVerdicts.{SameKindEnd-ends, end_rule_count-same, 
 use Rattle.np_table.specs.Ends.{AreOneKind}
 use Rattle.np_policies.specs.declared.direction.Direction.{Direction}
 use Rattle.np_policies.specs.declared.direction.Direction.TheVariants.{Egress, Ingress}
-use Rattle.np_table.proofs.RangeSets.{conns_of-agrees}
 use Rattle.np_table.specs.Right.{conns_of}
 use Rattle.np_rules.specs.Ends.{End, address, pod}
 use Rattle.np_rules.specs.Places.{rule_count}

@@ -1,5 +1,5 @@
 -- The sides of the pods that stand for workloads, and of those that stand for kinds.
-use Rattle.std.proofs.Common.{◌≡◌, ◌<◌, ◌≤◌, ◌+◌, ◌-◌, ◌*◌, ◌^◌, ℕ, List, Bool, true, false, ◌&&◌, Option, Some, None, map, length, slice_get, slice_index, take, lit≤, arith, refl, sym, ap, subst, ◌∙◌, if◌then◌else◌}
+use Rattle.std.proofs.Common.{◌≡◌, ◌<◌, ◌≤◌, ◌+◌, ◌-◌, ◌*◌, ◌^◌, ℕ, List, Bool, true, false, ◌&&◌, Some, None, map, length, slice_get, slice_index, take, lit≤, arith, refl, sym, ap, subst, ◌∙◌, if◌then◌else◌}
 use Rattle.std.specs.Prelude.{All}
 use Rattle.std.specs.Option.{option_map}
 use Rattle.std.proofs.Math.Seq.{take-length}
@@ -28,12 +28,10 @@ use Rattle.np_table.proofs.RangeSets.{conns_of-agrees}
 use Rattle.np_table.proofs.SetLemmas.{conns_of-set}
 use Rattle.np_table.specs.PairRules.{AreEnds, AreOfKinds, ends_of, first_side, rules_of_pair, side_allows_pod, side_with_address, sides_at, sides_of_kinds}
 use Rattle.np_table.specs.Right.{conns_of}
-use Rattle.np_table.specs.Rows.{address_row, address_rows, four_of, pair_key, pair_rows, rows_in, rows_of_addresses, six_of}
-use Rattle.np_table.specs.Table.{IsWorkload, address_allows, between_pods, destination_pod, estate_table, is_alone, pair_allows, source_pod, table_of, with_address}
+use Rattle.np_table.specs.Rows.{address_rows, pair_key, pair_rows, rows_in, rows_of_addresses}
+use Rattle.np_table.specs.Table.{IsWorkload, address_allows, between_pods, estate_table, is_alone, pair_allows, source_pod, table_of}
 use Rattle.np_table.specs.ToCome.{most_rules}
 use Rattle.np_table.specs.declared.pair_sets.PairEnds.{PairEnds}
-use Rattle.np_table.specs.declared.rows.AddressRow.{AddressRow}
-use Rattle.np_table.specs.declared.rows.Row.{Row}
 use Rattle.np_table.specs.declared.rules_by_kind.KindRules.{KindRules}
 
 -- ---- a sender and a receiver

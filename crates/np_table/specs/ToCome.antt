@@ -1,5 +1,5 @@
 -- The rows of a table one after another.
-use Rattle.std.specs.Prelude.{ℕ, ◌≡◌, ◌≤◌, ◌+◌, ◌-◌, ◌*◌, ◌/◌, ◌%◌, List, [], ◌∷◌, ◌==◌, Option, flat_map, length, map, max, nat_lt, if◌then◌else◌}
+use Rattle.std.specs.Prelude.{ℕ, ◌≡◌, ◌<◌, ◌≤◌, ◌^◌, ◌+◌, ◌-◌, ◌*◌, ◌/◌, ◌%◌, List, [], ◌∷◌, ◌==◌, Option, flat_map, length, map, max, nat_lt, if◌then◌else◌}
 use Rattle.std.specs.List.{range_with_len}
 use Rattle.np_estate.specs.declared.lists.EstateLists.{EstateLists}
 use Rattle.np_fold.specs.Workloads.{Folding, folding_of}
@@ -82,5 +82,6 @@ due_from lists folding place kept = due_at (length folding.workloads) folding.ki
 pub record IsUnderWay (lists : EstateLists) (place end : ℕ) (kept : List (Option (List KeptConns))) : Type 0 where
   pub last : end ≡ place_count (number_of_workloads lists)
   pub within : place ≤ end
+  pub fits : end < 2 ^ 64
   pub few : length kept ≤ (folding_of lists).kind_count
   pub keeps : IsKept lists (folding_of lists) (place / number_of_workloads lists) kept

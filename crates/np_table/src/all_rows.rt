@@ -114,7 +114,8 @@ fn in_reverse(rows: Seq<Row>) -> Vec<Row>
 
 // How many places there are.
 fn place_count(workloads: &Workloads) -> u64
-    ensures { result ≡ spec.place_count (length workloads.now.workloads) }
+    ensures value { result ≡ spec.place_count (length workloads.now.workloads) }
+    ensures fits { result < 2 ^ 64 }
 {
     let count = u64::from(workloads.count());
     count * count + 2 * count

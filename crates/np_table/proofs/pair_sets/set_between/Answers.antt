@@ -1,4 +1,3 @@
-use Rattle.std.proofs.Common.{◌∙◌, ap}
 use Rattle.np_table.proofs.SetLemmas.{IfOk-both}
 use Rattle.np_table.proofs.SideLemmas.{both-pass, received-pass}
 use Rattle.np_table.proofs.pair_sets.set_between.Goals as goal

@@ -1,5 +1,4 @@
 use Rattle.std.proofs.Common.{◌≡◌, map, take}
-use Rattle.np_fold.specs.Workloads.{folding_of}
 use Rattle.np_table.proofs.rules_by_kind.sides_of_kinds.Given as goal
 use Rattle.np_table.specs.PairRules.{first_side}
 

@@ -10,8 +10,9 @@ use Rattle.np_table.specs.ToCome.{place_count}
 pub invariant_of-result : goal.invariant_of-result
 invariant_of-result c = (
   record {
-    last = c.place_count-end.ensures ∙ ap (λ (f : Folding). place_count (length f.workloads)) c.workloads.ensures.value;
+    last = c.place_count-end.ensures.value ∙ ap (λ (f : Folding). place_count (length f.workloads)) c.workloads.ensures.value;
     within = omega arith;
+    fits = c.place_count-end.ensures.fits;
     few = rw c.nothing-2.ensures (omega arith);
     keeps = rw c.nothing-2.ensures (IsKept-nothing c.args.folded.now (folding_of c.args.folded.now) _);
   },

@@ -15,7 +15,6 @@ loop-self-init g c = record {
   to_come = ap (λ (to_come : RowsToCome). to_come.rows) c.self.view_is;
   under_way = c.self.invariant.0;
   rules = c.in_ok-ask.ensures.all;
-  fits = let h = c.self in ?;
   counted = omega (arith, ap (λ (to_come : RowsToCome). to_come.due) c.self.view_is);
   least = omega arith;
 }
@@ -25,9 +24,8 @@ loop-self-preserved g c =
     let empty : length c.loop-self.self-inside.ready.items ≡ 0 = omega (arith, c.loop-self.self-inside.ready.ok, eqb-true c.loop-self.self-inside.ready.len 0 (sym c.is_empty.ensures ∙ c.loop-self-test.true)) in
     record {
       to_come = made-ready c.loop-self.self-inside.folded.now (folding_of c.loop-self.self-inside.folded.now) c.loop-self.self-inside.ready.items c.in_reverse.result.items c.args.self.now.rows c.loop-self.self-inside.place empty (omega (arith, c.loop-self.invariant.under_way.last)) (c.in_reverse.ensures ∙ ap reverse c.in_ok-rows.ensures.rows) c.loop-self.invariant.to_come;
-      under_way = record { last = c.loop-self.invariant.under_way.last; within = omega arith; few = c.in_ok-rows.ensures.few; keeps = c.in_ok-rows.ensures.kept };
+      under_way = record { last = c.loop-self.invariant.under_way.last; within = omega arith; fits = c.loop-self.invariant.under_way.fits; few = c.in_ok-rows.ensures.few; keeps = c.in_ok-rows.ensures.kept };
       rules = c.loop-self.invariant.rules;
-      fits = c.loop-self.invariant.fits;
       counted = omega (arith, c.in_ok-rows.ensures.counted, c.loop-self.invariant.counted);
       least = omega (arith, c.in_ok-rows.ensures.least, c.loop-self.invariant.least);
     }

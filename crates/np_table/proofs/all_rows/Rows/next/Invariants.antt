@@ -1,4 +1,4 @@
-use Rattle.std.proofs.Common.{◌≡◌, ◌++◌, ◌+◌, ◌-◌, ◌^◌, ◌<◌, ◌≤◌, reverse}
+use Rattle.std.proofs.Common.{◌≡◌, ◌++◌, ◌+◌, ◌-◌, ◌≤◌, reverse}
 use Rattle.np_fold.specs.Workloads.{folding_of}
 use Rattle.np_table.proofs.all_rows.Rows.next.Given as goal
 use Rattle.np_table.specs.PairRules.{AreOfKinds}
@@ -11,7 +11,6 @@ invariant-loop-self g l = record {
   to_come : reverse l.self-inside.ready.items ++ rows_from (estate_table l.self-inside.folded.now) l.self-inside.place ≡ l.fn.self.rows;
   under_way : IsUnderWay l.self-inside.folded.now l.self-inside.place l.self-inside.end l.self-inside.kept;
   rules : AreOfKinds l.self-inside.folded.now l.self-inside.rules;
-  fits : l.self-inside.end < 2 ^ 64;
   counted : l.steps + due_from l.self-inside.folded.now (folding_of l.self-inside.folded.now) l.self-inside.place l.self-inside.kept ≤ l.fn.steps + l.fn.self.due;
   least : l.fn.steps ≤ l.steps;
 }
