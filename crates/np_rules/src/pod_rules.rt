@@ -71,6 +71,14 @@ impl<'a> PodRules<'a> {
         })
     }
 
+    /// The pod's place in the estate.
+    pub fn pod(&self) -> u32
+        ensures value { result ≡ self.now.pod }
+        ensures within { self.now.pod < length self.now.lists.pods }
+    {
+        self.pod
+    }
+
     /// The rules as sets of the protocols and ports that they match with another pod as the far end, which is named by its
     /// place in the estate, in packets of a family. All of them are counted.
     pub fn pod_layer<L: Ledger>(

@@ -1,26 +1,26 @@
 -- What passes at each address, as the one right list of ranges.
 use Rattle.std.proofs.Common.{◌≡◌, ◌≤◌, ◌-◌, ◌^◌, ◌++◌, ℕ, List, Bool, true, false, ◌&&◌, map, lit≤, refl, ◌∙◌}
 use Rattle.std.proofs.lemmas.Bool.{and_from, le-leb}
+use Rattle.np_addr.specs.declared.address.Family.{Family}
 use Rattle.np_addr.specs.declared.address.Family.TheVariants.{Four, Six}
 use Rattle.np_base.specs.declared.beside.Beside.{Beside}
 use Rattle.np_base.specs.declared.beside.Which.TheVariants.{First, Second}
 use Rattle.np_conns.specs.Conns.{Conns, IsConns, has_spot, is_spot}
 use Rattle.np_conns.specs.declared.port_spot.PortSpot.{PortSpot}
 use Rattle.np_estate.specs.declared.lists.EstateLists.{EstateLists}
-use Rattle.np_fold.specs.Workloads.{Folding}
 use Rattle.np_pieces.specs.Pieces.{Covers, has_at}
 use Rattle.np_pieces.specs.declared.piece.Piece.{Piece}
 use Rattle.np_policies.specs.declared.direction.Direction.{Direction}
 use Rattle.np_policies.specs.declared.direction.Direction.TheVariants.{Egress, Ingress}
-use Rattle.np_ranges.proofs.OneList.{right-walk, walk-agrees}
-use Rattle.np_ranges.proofs.PieceLists.{Covers-right}
-use Rattle.np_ranges.specs.Right.{stretches_of, walk}
+use Rattle.np_table.proofs.RangeOneList.{right-walk, walk-agrees}
+use Rattle.np_table.proofs.RangePieces.{Covers-right}
+use Rattle.np_table.specs.Right.{stretches_of, walk}
 use Rattle.np_rules.specs.Ends.{PodEnd, pod}
 use Rattle.np_rules.specs.EveryAddress.{Place, address_contact, has_place, is_place}
 use Rattle.np_rules.specs.Sides.{side_allows}
-use Rattle.np_rules.specs.Verdict.{allows, pod_at}
-use Rattle.np_table.specs.Rows.{address_row, address_rows, four_of, six_of}
-use Rattle.np_table.specs.Table.{address_allows, source_pod, table_of, with_address}
+use Rattle.np_rules.specs.Verdict.{allows}
+use Rattle.np_table.specs.Rows.{address_row, four_of, rows_of_addresses, six_of}
+use Rattle.np_table.specs.Table.{with_address}
 
 -- ---- pieces
 
@@ -61,9 +61,8 @@ stretches_of-six lists direction p made covers agrees =
     stretches_of-walk 0 (2 ^ 128 - 1) made.second (with_address lists direction (pod p) Six) (lit≤ tt) covers (λ n spot above below is.
     agrees (Second (record { point = n; spot = spot })) (and_from _ _ (and_from _ _ (le-leb 0 n above) (le-leb n (2 ^ 128 - 1) below)) is) ∙ side-six lists direction p n spot)
 
--- ---- the table's rows
+-- ---- rows
 
--- the rows of the ranges of both families are those of the table
-pub address_rows-of : (lists : EstateLists) (folding : Folding) (workload : ℕ) (direction : Direction) (made : Beside (List (Piece ℕ Conns)) (List (Piece ℕ Conns))) → stretches_of (λ n. n) made.first ≡ walk (with_address lists direction (pod (pod_at lists (source_pod folding workload))) Four) 0 (2 ^ 32 - 1) → stretches_of (λ n. n) made.second ≡ walk (with_address lists direction (pod (pod_at lists (source_pod folding workload))) Six) 0 (2 ^ 128 - 1) → map (address_row four_of) (stretches_of (λ n. n) made.first) ++ map (address_row six_of) (stretches_of (λ n. n) made.second) ≡ address_rows (table_of lists folding) workload direction
-unfolding address_rows table_of address_allows
-address_rows-of lists folding workload direction made four six = rw (four, six) refl
+-- the rows of the ranges of both families are those of all addresses
+pub rows_of_addresses-made : (passes : Family → ℕ → PortSpot → Bool) (made : Beside (List (Piece ℕ Conns)) (List (Piece ℕ Conns))) → stretches_of (λ n. n) made.first ≡ walk (passes Four) 0 (2 ^ 32 - 1) → stretches_of (λ n. n) made.second ≡ walk (passes Six) 0 (2 ^ 128 - 1) → map (address_row four_of) (stretches_of (λ n. n) made.first) ++ map (address_row six_of) (stretches_of (λ n. n) made.second) ≡ rows_of_addresses passes
+rows_of_addresses-made passes made four six = rw (four, six) refl

@@ -20,8 +20,8 @@ use Rattle.np_fold.proofs.WorkloadLemmas.{first-is, workloads-count}
 use Rattle.np_fold.specs.Workloads.{Folding, first_pod, folding_of, kinds_alike, members_of, workload_count}
 use Rattle.np_policies.specs.declared.direction.Direction.{Direction}
 use Rattle.np_policies.specs.declared.direction.Direction.TheVariants.{Egress, Ingress}
-use Rattle.np_ranges.proofs.Sets.{conns_of-agrees, conns_of-has_spot}
-use Rattle.np_ranges.specs.Right.{are_same_conns, conns_of}
+use Rattle.np_table.proofs.RangeSets.{conns_of-agrees, conns_of-has_spot}
+use Rattle.np_table.specs.Right.{are_same_conns, conns_of}
 use Rattle.np_table.proofs.DueLemmas.{greatest-at, same_source, source-behind}
 use Rattle.np_table.proofs.KeptLemmas.{kept_count-below}
 use Rattle.np_table.proofs.PairLemmas.{first_there, in_workloads, pair_allows-alone, pair_allows-kinds, pod_there, source-within}
@@ -66,7 +66,7 @@ rows_of_both-agree : (key : RowKey) (conns conns' : Family → Conns) → ((fami
 rows_of_both-agree key conns conns' agree =
     ap (λ (four : Conns). rows_of_both key four (conns Six)) (agree Four) ∙ ap (λ (six : Conns). rows_of_both key (conns' Four) six) (agree Six)
 
-rows_in-agree : (families : List Family) (key : RowKey) (conns conns' : Family → Conns) → ((family : Family) → conns family ≡ conns' family) → rows_in families key conns ≡ rows_in families key conns'
+pub rows_in-agree : (families : List Family) (key : RowKey) (conns conns' : Family → Conns) → ((family : Family) → conns family ≡ conns' family) → rows_in families key conns ≡ rows_in families key conns'
 rows_in-agree [] key conns conns' agree = rows_of_both-agree key conns conns' agree
 rows_in-agree (family ∷ []) key conns conns' agree = ap (row_if key None) (agree family)
 rows_in-agree (family ∷ next ∷ families) key conns conns' agree = rows_of_both-agree key conns conns' agree
@@ -105,7 +105,7 @@ pair_rows-alone lists folding source destination alone =
 
 -- ---- kinds
 
-kinds-by : (lists : EstateLists) (number : ℕ) → number < length (folding_of lists).workloads → (number < workload_count lists) × (number < length (folding_of lists).kinds) × (slice_index (folding_of lists).kinds number ≡ class_of (kinds_alike lists) (workload_count lists) number)
+pub kinds-by : (lists : EstateLists) (number : ℕ) → number < length (folding_of lists).workloads → (number < workload_count lists) × (number < length (folding_of lists).kinds) × (slice_index (folding_of lists).kinds number ≡ class_of (kinds_alike lists) (workload_count lists) number)
 unfolding folding_of
 kinds-by lists number within =
     let low : number < workload_count lists = subst (λ (n : ℕ). number < n) (workloads-count lists) within in
@@ -114,7 +114,7 @@ kinds-by lists number within =
     (low, subst (λ (n : ℕ). number < n) (sym all) low, get_or-map-range_with_len kind 0 (workload_count lists) number number 0 low (omega arith))
 
 -- each workload has a first pod
-first_pod-there : (lists : EstateLists) (number : ℕ) → number < workload_count lists → (pod : Pod) × (first_pod lists number ≡ Some pod)
+pub first_pod-there : (lists : EstateLists) (number : ℕ) → number < workload_count lists → (pod : Pod) × (first_pod lists number ≡ Some pod)
 first_pod-there lists number within =
     let folding = folding_of lists in
     let first = first_there (members_of folding number) lists.pods (first_pod lists number) (first-is lists number (in_workloads lists number within)) in
@@ -208,12 +208,7 @@ rules-most lists folding direction workload within =
     let most = greatest-at both 0 (length folding.workloads) workload within in
     elim direction as (λ d. rules_of lists folding d workload ≤ most_rules lists folding) [ Ingress ↦ omega (arith, here, most) | Egress ↦ omega (arith, here, most) ]
 
--- what a pair takes is at most four times the most rules
-pub pair-most : (lists : EstateLists) (folding : Folding) (source destination old new : ℕ) → source < length folding.workloads → destination < length folding.workloads → new ≤ old + 2 * (rules_of lists folding Egress source + rules_of lists folding Ingress destination) → new ≤ old + 4 * most_rules lists folding
-pair-most lists folding source destination old new near far steps =
-    omega (arith, steps, rules-most lists folding Egress source near, rules-most lists folding Ingress destination far)
-
--- which is due for a kind for which nothing is kept
+-- what is looked at for a pair is due for a kind for which nothing is kept
 pub pair-due : (lists : EstateLists) (folding : Folding) (old new kind : ℕ) (kept : List (Option (List KeptConns))) → kind < folding.kind_count → length kept ≤ folding.kind_count → kept_at kept kind ≡ None → new ≤ old + 4 * most_rules lists folding → new ≤ old + 4 * most_rules lists folding * (folding.kind_count - kept_count kept)
 pair-due lists folding old new kind kept within few none steps =
     let most = 4 * most_rules lists folding in

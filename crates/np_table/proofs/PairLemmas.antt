@@ -1,5 +1,5 @@
 -- What passes between workloads is what passes between their pods.
-use Rattle.std.proofs.Common.{◌≡◌, ◌≢◌, ◌+◌, ◌<◌, ◌≤◌, ℕ, List, [], ◌∷◌, Bool, true, false, Option, Some, None, AllPairs, Contains, length, slice_get, slice_index, get_or, if◌then◌else◌, arith, refl, sym, ap, subst, ◌∙◌, inl, inr}
+use Rattle.std.proofs.Common.{◌≡◌, ◌≢◌, ◌<◌, ℕ, List, [], ◌∷◌, Bool, true, false, Option, Some, None, AllPairs, Contains, length, slice_get, slice_index, get_or, if◌then◌else◌, arith, refl, sym, ap, subst, ◌∙◌, inl, inr}
 use Rattle.std.specs.Prelude.{IsSomeAnd}
 use Rattle.std.proofs.lemmas.Bool.{cases_order}
 use Rattle.std.proofs.lemmas.Option.{get_or_from_slice_get, slice_get-get_or, slice_get_within}
@@ -13,12 +13,11 @@ use Rattle.np_estate.specs.declared.pod.Pod.{Pod}
 use Rattle.np_fold.proofs.WorkloadLemmas.{first-is, number-in_workloads, one_kind, one_workload, workloads-count}
 use Rattle.np_fold.specs.Alike.{IsSameKind}
 use Rattle.np_fold.specs.Workloads.{Folding, first_pod, folding_of, kinds_alike, members_of, number_of, workload_count, workloads_of}
-use Rattle.np_kinds.proofs.Verdicts.{SameKindEnd-ends, end_rule_count-same, packet-same}
-use Rattle.np_kinds.specs.Ends.{AreOneKind}
+use Rattle.np_table.proofs.KindVerdicts.{SameKindEnd-ends, end_rule_count-same, packet-same}
+use Rattle.np_table.specs.Ends.{AreOneKind}
 use Rattle.np_policies.specs.declared.direction.Direction.{Direction}
 use Rattle.np_policies.specs.declared.direction.Direction.TheVariants.{Egress, Ingress}
-use Rattle.np_ranges.proofs.Sets.{conns_of-agrees}
-use Rattle.np_ranges.specs.Right.{conns_of}
+use Rattle.np_table.specs.Right.{conns_of}
 use Rattle.np_rules.specs.Ends.{End, address, pod}
 use Rattle.np_rules.specs.Places.{rule_count}
 use Rattle.np_rules.specs.Verdict.{pod_at, pod_or_none}
@@ -81,14 +80,14 @@ between-same lists p p' q q' family spot first second =
     packet-same lists family spot (pod (pod_at lists p)) (pod (pod_at lists p')) (pod (pod_at lists q)) (pod (pod_at lists q')) (SameKindEnd-ends lists _ _ first) (SameKindEnd-ends lists _ _ second)
 
 -- and between such a pod and an address
-with_address-same : (lists : EstateLists) (direction : Direction) (near near' : End) (family : Family) (number : ℕ) (spot : PortSpot) → AreOneKind lists near near' → with_address lists direction near family number spot ≡ with_address lists direction near' family number spot
+pub with_address-same : (lists : EstateLists) (direction : Direction) (near near' : End) (family : Family) (number : ℕ) (spot : PortSpot) → AreOneKind lists near near' → with_address lists direction near family number spot ≡ with_address lists direction near' family number spot
 with_address-same lists Ingress near near' family number spot same =
     packet-same lists family spot (address (address_of family number)) (address (address_of family number)) near near' (SameKindEnd-ends lists _ _ (inr refl)) (SameKindEnd-ends lists _ _ same)
 with_address-same lists Egress near near' family number spot same =
     packet-same lists family spot near near' (address (address_of family number)) (address (address_of family number)) (SameKindEnd-ends lists _ _ same) (SameKindEnd-ends lists _ _ (inr refl))
 
 -- what passes between workloads that are not one pod alone
-pair_allows-between : (lists : EstateLists) (folding : Folding) (source destination : ℕ) (family : Family) (spot : PortSpot) → is_alone folding source destination ≡ false → pair_allows lists folding source destination family spot ≡ between_pods lists (source_pod folding source) (destination_pod folding source destination) family spot
+pub pair_allows-between : (lists : EstateLists) (folding : Folding) (source destination : ℕ) (family : Family) (spot : PortSpot) → is_alone folding source destination ≡ false → pair_allows lists folding source destination family spot ≡ between_pods lists (source_pod folding source) (destination_pod folding source destination) family spot
 unfolding pair_allows
 pair_allows-between lists folding source destination family spot alone = rw alone refl
 
@@ -127,14 +126,6 @@ far-within lists folding source destination far folded within is =
     let both = far_is folding source destination far is in
     rw both.1 (members-within lists folding destination (destination_pod folding source destination) folded within (destination-member folding source destination (members-some lists folding destination folded within) both.0))
 
--- what passes between the pods that stand for two workloads is what passes between these
-pub pair_set-is : (lists : EstateLists) (folding : Folding) (source destination far : ℕ) (family : Family) (set : Conns) → Some far ≡ (if is_alone folding source destination then None else Some (destination_pod folding source destination)) → set ≡ conns_of (between_pods lists (source_pod folding source) far family) → set ≡ conns_of (pair_allows lists folding source destination family)
-pair_set-is lists folding source destination far family set is made =
-    let both = far_is folding source destination far is in
-    made
-    ∙ ap (λ (place : ℕ). conns_of (between_pods lists (source_pod folding source) place family)) both.1
-    ∙ conns_of-agrees _ _ (λ spot _. sym (pair_allows-between lists folding source destination family spot both.0))
-
 -- no ports pass where a workload of one pod meets itself
 pub pair_allows-alone : (lists : EstateLists) (folding : Folding) (source destination : ℕ) (family : Family) (spot : PortSpot) → is_alone folding source destination ≡ true → pair_allows lists folding source destination family spot ≡ false
 unfolding pair_allows
@@ -149,11 +140,6 @@ every_pod-of lists folding source destination family set folded =
     ∙ has_spot-conns_of (pair_allows lists (folding_of lists) source destination family) spot is
     ∙ sym (between-members lists source destination p q family spot lawful source_in destination_in p_has q_has differ))
 
--- there is no set only where a workload of one pod meets itself
-pub alone-from_none : (alone : Bool) (set : Conns) → None ≡ (if alone then None else Some set) → alone ≡ true
-alone-from_none true set is = refl
-alone-from_none false set is = absurd (cc)
-
 -- ---- numbers of workloads
 
 -- the number of a pod's workload is one of the folding
@@ -166,7 +152,7 @@ pub in_workloads : (lists : EstateLists) (number : ℕ) → number < workload_co
 in_workloads lists number within = rw (workloads-count lists) within
 
 -- also in the folding
-in_folding : (lists : EstateLists) (number : ℕ) → number < workload_count lists → number < length (folding_of lists).workloads
+pub in_folding : (lists : EstateLists) (number : ℕ) → number < workload_count lists → number < length (folding_of lists).workloads
 unfolding folding_of
 in_folding lists number within = in_workloads lists number within
 
@@ -204,7 +190,7 @@ first_there [] pods found some = absurd some
 first_there (first ∷ members) pods found some = some
 
 -- the first pods of workloads of one kind are of one kind
-one_kind-sources : (lists : EstateLists) (a a' : ℕ) → IsLawful lists → a < workload_count lists → a' < workload_count lists → class_of (kinds_alike lists) (workload_count lists) a ≡ class_of (kinds_alike lists) (workload_count lists) a' → AreOneKind lists (pod (pod_at lists (source_pod (folding_of lists) a))) (pod (pod_at lists (source_pod (folding_of lists) a')))
+pub one_kind-sources : (lists : EstateLists) (a a' : ℕ) → IsLawful lists → a < workload_count lists → a' < workload_count lists → class_of (kinds_alike lists) (workload_count lists) a ≡ class_of (kinds_alike lists) (workload_count lists) a' → AreOneKind lists (pod (pod_at lists (source_pod (folding_of lists) a))) (pod (pod_at lists (source_pod (folding_of lists) a')))
 one_kind-sources lists a a' lawful within within' same =
     let folding = folding_of lists in
     let first = first_there (members_of folding a) lists.pods (first_pod lists a) (first-is lists a (in_workloads lists a within)) in
@@ -224,26 +210,23 @@ one_kind-destination lists a b lawful here alone =
     let near_in = members-within lists folding b (source_pod folding b) refl here near_has in
     one_kind-members lists (destination_pod folding a b) (source_pod folding b) lawful far_in near_in (member-number lists b (destination_pod folding a b) far_in far_has ∙ sym (member-number lists b (source_pod folding b) near_in near_has))
 
--- what passes between workloads depends on their kinds
-pub pair_allows-kinds : (lists : EstateLists) (a a' b b' : ℕ) (family : Family) (spot : PortSpot) → IsLawful lists → a < workload_count lists → a' < workload_count lists → b < workload_count lists → b' < workload_count lists → class_of (kinds_alike lists) (workload_count lists) a ≡ class_of (kinds_alike lists) (workload_count lists) a' → class_of (kinds_alike lists) (workload_count lists) b ≡ class_of (kinds_alike lists) (workload_count lists) b' → is_alone (folding_of lists) a b ≡ false → is_alone (folding_of lists) a' b' ≡ false → pair_allows lists (folding_of lists) a b family spot ≡ pair_allows lists (folding_of lists) a' b' family spot
-pair_allows-kinds lists a a' b b' family spot lawful a_in a'_in b_in b'_in sources destinations alone alone' =
+-- what passes between workloads passes between the first pods of workloads of their kinds
+pub pair_allows-firsts : (lists : EstateLists) (a a' b b' : ℕ) (family : Family) (spot : PortSpot) → IsLawful lists → a < workload_count lists → a' < workload_count lists → b < workload_count lists → b' < workload_count lists → class_of (kinds_alike lists) (workload_count lists) a ≡ class_of (kinds_alike lists) (workload_count lists) a' → class_of (kinds_alike lists) (workload_count lists) b ≡ class_of (kinds_alike lists) (workload_count lists) b' → is_alone (folding_of lists) a b ≡ false → pair_allows lists (folding_of lists) a b family spot ≡ between_pods lists (source_pod (folding_of lists) a') (source_pod (folding_of lists) b') family spot
+pair_allows-firsts lists a a' b b' family spot lawful a_in a'_in b_in b'_in sources destinations alone =
     let folding = folding_of lists in
     pair_allows-between lists folding a b family spot alone
     ∙ between-same lists (source_pod folding a) (source_pod folding a) (destination_pod folding a b) (source_pod folding b) family spot (inr refl) (one_kind-destination lists a b lawful (in_folding lists b b_in) alone)
     ∙ between-same lists (source_pod folding a) (source_pod folding a') (source_pod folding b) (source_pod folding b') family spot (one_kind-sources lists a a' lawful a_in a'_in sources) (one_kind-sources lists b b' lawful b_in b'_in destinations)
-    ∙ sym (between-same lists (source_pod folding a') (source_pod folding a') (destination_pod folding a' b') (source_pod folding b') family spot (inr refl) (one_kind-destination lists a' b' lawful (in_folding lists b' b'_in) alone'))
-    ∙ sym (pair_allows-between lists folding a' b' family spot alone')
+
+-- and so it depends on their kinds
+pub pair_allows-kinds : (lists : EstateLists) (a a' b b' : ℕ) (family : Family) (spot : PortSpot) → IsLawful lists → a < workload_count lists → a' < workload_count lists → b < workload_count lists → b' < workload_count lists → class_of (kinds_alike lists) (workload_count lists) a ≡ class_of (kinds_alike lists) (workload_count lists) a' → class_of (kinds_alike lists) (workload_count lists) b ≡ class_of (kinds_alike lists) (workload_count lists) b' → is_alone (folding_of lists) a b ≡ false → is_alone (folding_of lists) a' b' ≡ false → pair_allows lists (folding_of lists) a b family spot ≡ pair_allows lists (folding_of lists) a' b' family spot
+pair_allows-kinds lists a a' b b' family spot lawful a_in a'_in b_in b'_in sources destinations alone alone' =
+    pair_allows-firsts lists a a' b b' family spot lawful a_in a'_in b_in b'_in sources destinations alone
+    ∙ sym (pair_allows-firsts lists a' a' b' b' family spot lawful a'_in a'_in b'_in b'_in refl refl alone')
 
 -- as many rules speak of the pod that stands for the destination as of its workload's first
-rule_count-destination : (lists : EstateLists) (folding : Folding) (source destination : ℕ) (direction : Direction) → folding ≡ folding_of lists → destination < length folding.workloads → is_alone folding source destination ≡ false → IsLawful lists → rule_count lists direction (pod_at lists (destination_pod folding source destination)) ≡ rule_count lists direction (pod_at lists (source_pod folding destination))
+pub rule_count-destination : (lists : EstateLists) (folding : Folding) (source destination : ℕ) (direction : Direction) → folding ≡ folding_of lists → destination < length folding.workloads → is_alone folding source destination ≡ false → IsLawful lists → rule_count lists direction (pod_at lists (destination_pod folding source destination)) ≡ rule_count lists direction (pod_at lists (source_pod folding destination))
 rule_count-destination lists folding source destination direction folded =
     let of : Folding → Type 0 = λ f. destination < length f.workloads → is_alone f source destination ≡ false → IsLawful lists → rule_count lists direction (pod_at lists (destination_pod f source destination)) ≡ rule_count lists direction (pod_at lists (source_pod f destination)) in
     subst of (sym folded) (λ within alone lawful.
     end_rule_count-same lists direction (pod (pod_at lists (destination_pod (folding_of lists) source destination))) (pod (pod_at lists (source_pod (folding_of lists) destination))) (SameKindEnd-ends lists _ _ (one_kind-destination lists source destination lawful within alone)))
-
--- so a bound by the pods that were asked is one by the first pods
-pub most-by_first : (lists : EstateLists) (folding : Folding) (source destination far old new : ℕ) → folding ≡ folding_of lists → destination < length folding.workloads → Some far ≡ (if is_alone folding source destination then None else Some (destination_pod folding source destination)) → new ≤ old + rule_count lists Egress (pod_at lists (source_pod folding source)) + rule_count lists Ingress (pod_at lists far) → IsLawful lists → new ≤ old + rule_count lists Egress (pod_at lists (source_pod folding source)) + rule_count lists Ingress (pod_at lists (source_pod folding destination))
-most-by_first lists folding source destination far old new folded within is most lawful =
-    let both = far_is folding source destination far is in
-    subst (λ (count : ℕ). new ≤ old + rule_count lists Egress (pod_at lists (source_pod folding source)) + count)
-    (ap (λ (place : ℕ). rule_count lists Ingress (pod_at lists place)) both.1 ∙ rule_count-destination lists folding source destination Ingress folded within both.0 lawful) most

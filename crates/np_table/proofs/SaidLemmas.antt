@@ -23,8 +23,8 @@ use Rattle.np_fold.proofs.WorkloadLemmas.{number-in_workloads}
 use Rattle.np_fold.specs.Workloads.{Folding, Workload, folding_of, members_of, number_of}
 use Rattle.np_policies.specs.declared.direction.Direction.{Direction}
 use Rattle.np_policies.specs.declared.direction.Direction.TheVariants.{Egress, Ingress}
-use Rattle.np_ranges.proofs.Sets.{are_same_conns-Decides, conns_of-agrees}
-use Rattle.np_ranges.specs.Right.{are_same_conns, conns_of}
+use Rattle.np_table.proofs.RangeSets.{are_same_conns-Decides, conns_of-agrees}
+use Rattle.np_table.specs.Right.{are_same_conns, conns_of}
 use Rattle.np_table.proofs.PairLemmas.{between_pods-pair_allows, pair_allows-alone}
 use Rattle.np_table.proofs.SetLemmas.{has_spot-conns_of, rows_of_both-same}
 use Rattle.np_table.specs.Rows.{address_rows, all_address_rows, all_pair_rows, all_rows, is_none, is_nothing, pair_key, pair_rows, row_if, row_of, rows_in, rows_of_both, rows_towards, workloads}

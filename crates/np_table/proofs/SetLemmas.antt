@@ -1,5 +1,5 @@
 -- Sets of connections, and the rows of them.
-use Rattle.std.proofs.Common.{◌≡◌, ◌≢◌, ◌≤◌, ℕ, List, [], ◌∷◌, ◌++◌, Bool, true, false, not, nat_le, Option, None, Some, Result, Ok, Err, IfOk, OnErr, OnOk, length, get_or, arith, refl, sym, ap, ◌∙◌, subst}
+use Rattle.std.proofs.Common.{◌≡◌, ◌≢◌, ◌≤◌, ℕ, List, [], ◌∷◌, ◌++◌, Bool, true, false, not, nat_le, Option, None, Some, Result, Ok, Err, IfOk, OnErr, OnOk, length, get_or, arith, refl, sym, ◌∙◌, subst}
 use Rattle.std.proofs.lemmas.Bool.{and_from, and_parts, both_ways, false_from_ne_true, leb-true, or_left, true≢false}
 use Rattle.np_addr.specs.declared.address.Family.{Family}
 use Rattle.np_addr.specs.declared.address.Family.TheVariants.{Four, Six}
@@ -11,13 +11,9 @@ use Rattle.np_conns.specs.Conns.{Conns, IsConns, has_spot, is_spot}
 use Rattle.np_conns.specs.declared.port_spot.PortSpot.{PortSpot}
 use Rattle.np_conns.specs.declared.proto.Proto.{Proto}
 use Rattle.np_conns.specs.declared.proto.Proto.TheVariants.{Tcp, Udp, Sctp}
-use Rattle.np_estate.specs.Families.{families_of}
-use Rattle.np_estate.specs.declared.lists.EstateLists.{EstateLists}
-use Rattle.np_fold.specs.Workloads.{Folding}
-use Rattle.np_ranges.proofs.Sets.{are_same_conns-Decides, conns_of-agrees, conns_of-has_spot}
-use Rattle.np_ranges.specs.Right.{are_same_conns, conns_of}
-use Rattle.np_table.specs.Rows.{is_none, is_nothing, pair_key, pair_rows, row_if, rows_in, rows_of_both}
-use Rattle.np_table.specs.Table.{pair_allows, table_of}
+use Rattle.np_table.proofs.RangeSets.{are_same_conns-Decides, conns_of-agrees, conns_of-has_spot}
+use Rattle.np_table.specs.Right.{are_same_conns, conns_of}
+use Rattle.np_table.specs.Rows.{is_none, is_nothing, row_if, rows_in, rows_of_both}
 use Rattle.np_table.specs.declared.rows.RowKey.{RowKey}
 
 -- ---- a set and what passes
@@ -74,33 +70,19 @@ rows_of_both-apart key four six apart =
     let differ : four ≡ six → ⊥ = λ same. not_itself (has_spot six apart.0) (subst (λ (conns : Conns). has_spot conns apart.0 ≡ not (has_spot six apart.0)) same apart.1) in
     rw (false_from_ne_true (are_same_conns four six) (λ yes. differ ((are_same_conns-Decides four six).0 yes))) refl
 
--- ---- the rows of the table
+-- ---- rows by the families
 
--- without a mark where the list has one family
-rows_in-one : (families : List Family) (key : RowKey) (conns : Family → Conns) → length families ≡ 1 → row_if key None (conns (get_or families 0 Four)) ≡ rows_in families key conns
+-- without a mark where there is one family
+pub rows_in-one : (families : List Family) (key : RowKey) (conns : Family → Conns) → length families ≡ 1 → row_if key None (conns (get_or families 0 Four)) ≡ rows_in families key conns
 rows_in-one [] key conns one = absurd (omega arith)
 rows_in-one (family ∷ []) key conns one = refl
 rows_in-one (family ∷ next ∷ families) key conns one = absurd (omega arith)
 
 -- and else by both
-rows_in-both : (families : List Family) (key : RowKey) (conns : Family → Conns) → length families ≢ 1 → rows_of_both key (conns Four) (conns Six) ≡ rows_in families key conns
+pub rows_in-both : (families : List Family) (key : RowKey) (conns : Family → Conns) → length families ≢ 1 → rows_of_both key (conns Four) (conns Six) ≡ rows_in families key conns
 rows_in-both [] key conns several = refl
 rows_in-both (family ∷ []) key conns several = absurd (several refl)
 rows_in-both (family ∷ next ∷ families) key conns several = refl
-
--- the rows of a pair of workloads, where the list has one family
-pub pair_rows-one : (lists : EstateLists) (folding : Folding) (source destination : ℕ) (families : List Family) → families ≡ families_of lists.pods → length families ≡ 1 → row_if (pair_key source destination) None (conns_of (pair_allows lists folding source destination (get_or families 0 Four))) ≡ pair_rows (table_of lists folding) source destination
-unfolding pair_rows table_of
-pair_rows-one lists folding source destination families are one =
-    rows_in-one families (pair_key source destination) (λ family. conns_of (pair_allows lists folding source destination family)) one
-    ∙ ap (λ (all : List Family). rows_in all (pair_key source destination) (λ family. conns_of (pair_allows lists folding source destination family))) are
-
--- and where it has both
-pub pair_rows-both : (lists : EstateLists) (folding : Folding) (source destination : ℕ) (families : List Family) → families ≡ families_of lists.pods → length families ≢ 1 → rows_of_both (pair_key source destination) (conns_of (pair_allows lists folding source destination Four)) (conns_of (pair_allows lists folding source destination Six)) ≡ pair_rows (table_of lists folding) source destination
-unfolding pair_rows table_of
-pair_rows-both lists folding source destination families are several =
-    rows_in-both families (pair_key source destination) (λ family. conns_of (pair_allows lists folding source destination family)) several
-    ∙ ap (λ (all : List Family). rows_in all (pair_key source destination) (λ family. conns_of (pair_allows lists folding source destination family))) are
 
 -- ---- results
 

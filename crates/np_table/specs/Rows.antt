@@ -4,9 +4,10 @@ use Rattle.std.specs.List.{range_with_len}
 use Rattle.np_addr.specs.declared.address.Family.{Family}
 use Rattle.np_addr.specs.declared.address.Family.TheVariants as family
 use Rattle.np_conns.specs.Conns.{Conns}
+use Rattle.np_conns.specs.declared.port_spot.PortSpot.{PortSpot}
 use Rattle.np_policies.specs.declared.direction.Direction.{Direction}
 use Rattle.np_policies.specs.declared.direction.Direction.TheVariants.{Ingress, Egress}
-use Rattle.np_ranges.specs.Right.{Stretch, are_same_conns, conns_of, walk}
+use Rattle.np_table.specs.Right.{Stretch, are_same_conns, conns_of, walk}
 use Rattle.np_table.specs.Table.{Table}
 use Rattle.np_table.specs.declared.rows.AddressRow.{AddressRow}
 use Rattle.np_table.specs.declared.rows.AddressSpan.{AddressSpan}
@@ -67,11 +68,15 @@ four_of stretch = span.Four (record { lo = stretch.lo; hi = stretch.hi })
 abbrev pub six_of : Stretch → AddressSpan
 six_of stretch = span.Six (record { lo = stretch.lo; hi = stretch.hi })
 
--- For a workload and a direction the right list of all addresses of IPv4, and then that of IPv6.
+-- by a test of addresses the right list of all of IPv4, and then that of IPv6
+abbrev pub rows_of_addresses : (Family → ℕ → PortSpot → Bool) → List AddressRow
+rows_of_addresses passes =
+    map (address_row four_of) (walk (passes family.Four) 0 (2 ^ 32 - 1))
+    ++ map (address_row six_of) (walk (passes family.Six) 0 (2 ^ 128 - 1))
+
+-- what passes between a workload and all addresses in a direction
 unfoldable pub address_rows : Table → ℕ → Direction → List AddressRow
-address_rows table workload direction =
-    map (address_row four_of) (walk (table.addresses workload direction family.Four) 0 (2 ^ 32 - 1))
-    ++ map (address_row six_of) (walk (table.addresses workload direction family.Six) 0 (2 ^ 128 - 1))
+address_rows table workload direction = rows_of_addresses (table.addresses workload direction)
 
 -- in an ingress row the addresses are the source
 abbrev pub key_of : ℕ → Direction → RowEnd → RowKey

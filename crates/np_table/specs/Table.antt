@@ -1,5 +1,5 @@
 -- The table: what passes between workloads, and between workloads and addresses.
-use Rattle.std.specs.Prelude.{ℕ, List, Bool, ◌&&◌, ◌==◌, not, map, length, slice_index, if◌then◌else◌}
+use Rattle.std.specs.Prelude.{ℕ, ◌<◌, List, Bool, ◌&&◌, ◌==◌, not, map, length, slice_index, if◌then◌else◌}
 use Rattle.np_addr.specs.declared.address.Address.{Address}
 use Rattle.np_addr.specs.declared.address.Address.TheVariants as address
 use Rattle.np_addr.specs.declared.address.Family.{Family}
@@ -7,13 +7,20 @@ use Rattle.np_addr.specs.declared.address.Family.TheVariants as family
 use Rattle.np_conns.specs.declared.port_spot.PortSpot.{PortSpot}
 use Rattle.np_estate.specs.Families.{families_of}
 use Rattle.np_estate.specs.declared.lists.EstateLists.{EstateLists}
-use Rattle.np_fold.specs.Workloads.{Folding, members_of}
+use Rattle.np_fold.specs.Workloads.{Folding, folding_of, members_of}
 use Rattle.np_policies.specs.declared.direction.Direction.{Direction}
 use Rattle.np_policies.specs.declared.direction.Direction.TheVariants.{Ingress, Egress}
 use Rattle.np_rules.specs.Ends.{End, address, pod}
 use Rattle.np_rules.specs.Verdict.{allows, pod_at}
 
 -- ---- pairs of workloads
+
+abbrev pub number_of_workloads : EstateLists → ℕ
+number_of_workloads lists = length (folding_of lists).workloads
+
+-- the number is a workload's
+abbrev pub IsWorkload : EstateLists → ℕ → Type 0
+IsWorkload lists number = number < number_of_workloads lists
 
 -- whether a workload of one pod meets itself
 abbrev pub is_alone : Folding → ℕ → ℕ → Bool
@@ -66,3 +73,7 @@ pub record Table : Type 0 where
 
 unfoldable pub table_of : EstateLists → Folding → Table
 table_of lists folding = record { names = map (λ one. one.name) folding.workloads; families = families_of lists.pods; pairs = pair_allows lists folding; addresses = address_allows lists folding }
+
+-- the table of an estate by its own workloads
+abbrev pub estate_table : EstateLists → Table
+estate_table lists = table_of lists (folding_of lists)

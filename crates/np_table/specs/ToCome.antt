@@ -1,15 +1,15 @@
 -- The rows of a table one after another.
-use Rattle.std.specs.Prelude.{ℕ, ◌+◌, ◌-◌, ◌*◌, ◌/◌, ◌%◌, List, [], ◌∷◌, ◌==◌, Option, flat_map, length, map, max, nat_lt, if◌then◌else◌}
+use Rattle.std.specs.Prelude.{ℕ, ◌≡◌, ◌<◌, ◌≤◌, ◌^◌, ◌+◌, ◌-◌, ◌*◌, ◌/◌, ◌%◌, List, [], ◌∷◌, ◌==◌, Option, flat_map, length, map, max, nat_lt, if◌then◌else◌}
 use Rattle.std.specs.List.{range_with_len}
 use Rattle.np_estate.specs.declared.lists.EstateLists.{EstateLists}
-use Rattle.np_fold.specs.Workloads.{Folding}
+use Rattle.np_fold.specs.Workloads.{Folding, folding_of}
 use Rattle.np_policies.specs.declared.direction.Direction.{Direction}
 use Rattle.np_policies.specs.declared.direction.Direction.TheVariants.{Ingress, Egress}
 use Rattle.np_rules.specs.Places.{rule_count}
 use Rattle.np_rules.specs.Verdict.{pod_at}
-use Rattle.np_table.specs.Kept.{kept_count}
+use Rattle.np_table.specs.Kept.{IsKept, kept_count}
 use Rattle.np_table.specs.Rows.{pair_rows, rows_towards}
-use Rattle.np_table.specs.Table.{Table, source_pod}
+use Rattle.np_table.specs.Table.{Table, number_of_workloads, source_pod}
 use Rattle.np_table.specs.declared.kept.KeptConns.{KeptConns}
 use Rattle.np_table.specs.declared.rows.Row.{Row}
 
@@ -75,3 +75,13 @@ due_at count kinds most unkept place =
 -- the same at a place, where this is kept
 unfoldable pub due_from : EstateLists → Folding → ℕ → List (Option (List KeptConns)) → ℕ
 due_from lists folding place kept = due_at (length folding.workloads) folding.kind_count (most_rules lists folding) (folding.kind_count - kept_count kept) place
+
+-- ---- rows under way
+
+-- The next rows are those at a place that is not behind the last one, and what is kept is of the source at that place.
+pub record IsUnderWay (lists : EstateLists) (place end : ℕ) (kept : List (Option (List KeptConns))) : Type 0 where
+  pub last : end ≡ place_count (number_of_workloads lists)
+  pub within : place ≤ end
+  pub fits : end < 2 ^ 64
+  pub few : length kept ≤ (folding_of lists).kind_count
+  pub keeps : IsKept lists (folding_of lists) (place / number_of_workloads lists) kept

@@ -1,20 +1,20 @@
 //! The rows of the table, one after another.
 ghost use Rattle.std.specs.Prelude.{◌≡◌, ◌≤◌, ◌<◌, ◌+◌, ◌*◌, ◌/◌, ◌^◌, ◌∷◌, [], IfOk, OnErr, OnOk, MatchOption, length, map, reverse};
-ghost use Rattle.np_estate.specs.Lawful.{IsLawful};
 ghost use Rattle.np_fold.specs.Workloads.{folding_of};
 ghost use Rattle.np_policies.specs.declared.direction.Direction.{Direction};
 ghost use Rattle.np_table.specs.Kept.{IsKept};
+ghost use Rattle.np_table.specs.PairRules.{AreOfKinds};
 ghost use Rattle.np_table.specs.Rows as table;
-ghost use Rattle.np_table.specs.Table.{table_of};
+ghost use Rattle.np_table.specs.Table.{estate_table, number_of_workloads};
 ghost use Rattle.np_table.specs.ToCome as spec;
 
 use crate::kept::Kept;
 use crate::rows::{AddressRow, Row, RowEnd, RowKey};
 use crate::rows_by_kind::rows_by_kind;
-use crate::rows_of_addresses::address_rows;
+use crate::rows_of_addresses::rows_by_addresses;
+use crate::rules_by_kind::KindRules;
 use np_base::{NoMemory, Seq};
-use np_estate::Estate;
-use np_fold::Workloads;
+use np_fold::{Folded, Workloads};
 use np_policies::Direction;
 use np_steps::Steps;
 use std::alloc::Global;
@@ -23,13 +23,14 @@ use std::sync::ledger::Ledger;
 
 /// The rows of the table that are still to come: those of all pairs of workloads, by source and then by destination, and
 /// behind them, for each workload, those of all addresses, ingress and then egress. They are made pair by pair, and never
-/// all of them are held. The rules are asked once for each source and each kind of destinations, and what they give is kept
-/// until the next source. Contracts see the rows, and as `due` an upper bound of the rules that are still to be looked at.
+/// all of them are held. Which policies select a pod is asked once for each kind of workloads, at the first call of `next`.
+/// The rules are asked once for each source and each kind of destinations, and what they give is kept until the next
+/// source. Contracts see the rows, and as `due` an upper bound of the rules that are still to be looked at.
 #[derive(Drop)]
 pub struct Rows<'a> {
     alloc: Global,
-    estate: &'a Estate,
-    workloads: &'a Workloads,
+    folded: &'a Folded,
+    rules: KindRules<'a>,
     // The place of the next rows to be made, and the one behind the last.
     place: u64,
     end: u64,
@@ -40,34 +41,32 @@ pub struct Rows<'a> {
 }
 
 impl<'a> Model for Rows<'a> {
-    ghost use Rattle.std.specs.Prelude.{◌≡◌, ◌++◌, ◌≤◌, ◌<◌, ◌/◌, ◌^◌, reverse, length};
-    ghost use Rattle.np_estate.specs.Lawful.{IsLawful};
+    ghost use Rattle.std.specs.Prelude.{◌++◌, reverse};
     ghost use Rattle.np_fold.specs.Workloads.{folding_of};
-    ghost use Rattle.np_table.specs.Kept.{IsKept};
-    ghost use Rattle.np_table.specs.Table.{table_of};
-    ghost use Rattle.np_table.specs.ToCome.{RowsToCome, due_from, rows_from, place_count};
+    ghost use Rattle.np_table.specs.PairRules.{AreOfKindsIfAny};
+    ghost use Rattle.np_table.specs.Table.{estate_table};
+    ghost use Rattle.np_table.specs.ToCome.{IsUnderWay, RowsToCome, due_from, rows_from};
 
     ghost Value = { RowsToCome };
 
-    ghost view = { λ r. record { rows = reverse r.ready.items ++ rows_from (table_of r.estate.now r.workloads.now) r.place; due = due_from r.estate.now r.workloads.now r.place r.kept } };
+    ghost view = { λ r. record { rows = reverse r.ready.items ++ rows_from (estate_table r.folded.now) r.place; due = due_from r.folded.now (folding_of r.folded.now) r.place r.kept } };
 
-    ghost invariant = { λ r. (IsLawful r.estate.now) × (r.workloads.now ≡ folding_of r.estate.now) × (r.end ≡ place_count (length r.workloads.now.workloads)) × (r.place ≤ r.end) × (length r.kept ≤ r.workloads.now.kind_count) × (IsKept r.estate.now r.workloads.now (r.place / length r.workloads.now.workloads) r.kept) };
+    ghost invariant = { λ r. IsUnderWay r.folded.now r.place r.end r.kept × AreOfKindsIfAny r.folded.now r.rules };
 }
 
 impl<'a> Rows<'a> {
-    /// All rows of the table of these workloads of an estate.
-    pub fn new(alloc: Global, estate: &'a Estate, workloads: &'a Workloads) -> Rows<'a>
-        requires lawful { IsLawful estate.now }
-        requires folded { workloads.now ≡ folding_of estate.now }
-        ensures rows { result.rows ≡ table.all_rows (table_of estate.now workloads.now) }
-        ensures due { result.due ≡ (4 * length workloads.now.workloads * workloads.now.kind_count
-            + 2 * length workloads.now.workloads) * spec.most_rules estate.now workloads.now }
+    /// All rows of the table of an estate. It takes no memory.
+    pub fn new(alloc: Global, folded: &'a Folded) -> Rows<'a>
+        ensures rows { result.rows ≡ table.all_rows (estate_table folded.now) }
+        ensures due { let folding = folding_of folded.now in
+            result.due ≡ (4 * length folding.workloads * folding.kind_count + 2 * length folding.workloads)
+            * spec.most_rules folded.now folding }
     {
-        let end = place_count(workloads);
+        let end = place_count(folded.workloads());
         Rows {
             alloc,
-            estate,
-            workloads,
+            folded,
+            rules: KindRules::nothing(alloc),
             place: 0,
             end,
             kept: Kept::nothing(alloc),
@@ -84,14 +83,15 @@ impl<'a> Rows<'a> {
         ensures most { OnErr result (steps.new ≤ steps.old + self.old.due) }
         ensures least { steps.old ≤ steps.new }
     {
+        self.rules.ask(self.alloc, self.folded)?;
         while self.ready.is_empty() {
             if self.place == self.end {
                 return Ok(None);
             }
             let rows = rows_at(
                 self.alloc,
-                self.estate,
-                self.workloads,
+                self.folded,
+                &self.rules,
                 self.place,
                 &mut self.kept,
                 steps,
@@ -114,7 +114,8 @@ fn in_reverse(rows: Seq<Row>) -> Vec<Row>
 
 // How many places there are.
 fn place_count(workloads: &Workloads) -> u64
-    ensures { result ≡ spec.place_count (length workloads.now.workloads) }
+    ensures value { result ≡ spec.place_count (length workloads.now.workloads) }
+    ensures fits { result < 2 ^ 64 }
 {
     let count = u64::from(workloads.count());
     count * count + 2 * count
@@ -123,34 +124,33 @@ fn place_count(workloads: &Workloads) -> u64
 // The rows at a place. What is kept is made ready for the next place.
 fn rows_at<L: Ledger>(
     alloc: Global,
-    estate: &Estate,
-    workloads: &Workloads,
+    folded: &Folded,
+    rules: &KindRules<'_>,
     place: u64,
     kept: &mut Kept,
     steps: &mut Steps<L>,
 ) -> Result<Seq<Row>, NoMemory>
-    requires lawful { IsLawful estate.now }
-    requires folded { workloads.now ≡ folding_of estate.now }
-    requires place { place < spec.place_count (length workloads.now.workloads) }
-    requires few { length kept.old ≤ workloads.now.kind_count }
-    requires kept { IsKept estate.now workloads.now (place / length workloads.now.workloads) kept.old }
-    ensures rows { IfOk result (λ made. made ≡ spec.rows_at (table_of estate.now workloads.now) place) }
-    ensures few { length kept.new ≤ workloads.now.kind_count }
-    ensures kept { OnOk result (IsKept estate.now workloads.now ((place + 1) / length workloads.now.workloads) kept.new) }
-    ensures kept_on_err { OnErr result (IsKept estate.now workloads.now (place / length workloads.now.workloads) kept.new) }
-    ensures counted { OnOk result (steps.new + spec.due_from estate.now workloads.now (place + 1) kept.new
-        ≤ steps.old + spec.due_from estate.now workloads.now place kept.old) }
-    ensures most { OnErr result (steps.new ≤ steps.old + spec.due_from estate.now workloads.now place kept.old) }
+    requires rules { AreOfKinds folded.now rules.now }
+    requires place { place < spec.place_count (number_of_workloads folded.now) }
+    requires few { length kept.old ≤ (folding_of folded.now).kind_count }
+    requires kept { IsKept folded.now (folding_of folded.now) (place / number_of_workloads folded.now) kept.old }
+    ensures rows { IfOk result (λ made. made ≡ spec.rows_at (estate_table folded.now) place) }
+    ensures few { length kept.new ≤ (folding_of folded.now).kind_count }
+    ensures kept { OnOk result (IsKept folded.now (folding_of folded.now) ((place + 1) / number_of_workloads folded.now) kept.new) }
+    ensures kept_on_err { OnErr result (IsKept folded.now (folding_of folded.now) (place / number_of_workloads folded.now) kept.new) }
+    ensures counted { OnOk result (steps.new + spec.due_from folded.now (folding_of folded.now) (place + 1) kept.new
+        ≤ steps.old + spec.due_from folded.now (folding_of folded.now) place kept.old) }
+    ensures most { OnErr result (steps.new ≤ steps.old + spec.due_from folded.now (folding_of folded.now) place kept.old) }
     ensures least { steps.old ≤ steps.new }
 {
-    let count = u64::from(workloads.count());
+    let count = u64::from(folded.workloads().count());
     let pairs = count * count;
     if place >= pairs {
-        return address_rows_at(alloc, estate, workloads, place - pairs, steps);
+        return address_rows_at(alloc, folded, rules, place - pairs, steps);
     }
     let source = (place / count) as u32;
     let destination = (place % count) as u32;
-    let rows = rows_by_kind(alloc, estate, workloads, source, destination, kept, steps)?;
+    let rows = rows_by_kind(alloc, folded, rules, source, destination, kept, steps)?;
     if place % count + 1 == count {
         *kept = Kept::nothing(alloc);
     }
@@ -160,21 +160,22 @@ fn rows_at<L: Ledger>(
 // The rows of addresses at a place behind the pairs.
 fn address_rows_at<L: Ledger>(
     alloc: Global,
-    estate: &Estate,
-    workloads: &Workloads,
+    folded: &Folded,
+    rules: &KindRules<'_>,
     place: u64,
     steps: &mut Steps<L>,
 ) -> Result<Seq<Row>, NoMemory>
-    requires folded { workloads.now ≡ folding_of estate.now }
-    requires few { length workloads.now.workloads < 2 ^ 32 }
-    requires place { place < 2 * length workloads.now.workloads }
-    ensures rows { IfOk result (λ made. made ≡ spec.address_rows_at (table_of estate.now workloads.now) place) }
-    ensures most { steps.new ≤ steps.old + spec.most_rules estate.now workloads.now }
+    requires rules { AreOfKinds folded.now rules.now }
+    requires few { number_of_workloads folded.now < 2 ^ 32 }
+    requires place { place < 2 * number_of_workloads folded.now }
+    ensures rows { IfOk result (λ made. made ≡ spec.address_rows_at (estate_table folded.now) place) }
+    ensures most { steps.new ≤ steps.old + spec.most_rules folded.now (folding_of folded.now) }
     ensures least { steps.old ≤ steps.new }
 {
     let workload = (place / 2) as u32;
     let direction = direction_at(place);
-    let rows = address_rows(alloc, estate, workloads, workload, direction, steps)?;
+    let near = rules.at(direction, folded.workloads().kind_of(workload));
+    let rows = rows_by_addresses(alloc, near, steps)?;
     with_keys(alloc, rows, workload, direction)
 }
 

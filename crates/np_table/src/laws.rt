@@ -10,7 +10,7 @@ ghost use Rattle.np_estate.specs.Lawful.{IsLawful};
 ghost use Rattle.np_estate.specs.declared.lists.EstateLists.{EstateLists};
 ghost use Rattle.np_fold.specs.Workloads.{Folding, folding_of, kinds_alike, members_of, number_of, workload_count};
 ghost use Rattle.np_policies.specs.declared.direction.Direction.{Direction};
-ghost use Rattle.np_ranges.specs.Right.{are_same_conns, conns_of};
+ghost use Rattle.np_table.specs.Right.{are_same_conns, conns_of};
 ghost use Rattle.np_rules.specs.Ends.{pod};
 ghost use Rattle.np_rules.specs.Verdict.{pod_at};
 ghost use Rattle.np_table.specs.Rows.{all_rows, pair_rows};

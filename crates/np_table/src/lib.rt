@@ -3,19 +3,26 @@
 
 mod all_rows;
 mod kept;
+mod kind_laws;
 mod laws;
 mod pair_sets;
+mod range_laws;
 mod rows;
 mod rows_by_kind;
 mod rows_of_addresses;
 mod rows_of_pairs;
+mod rules_by_kind;
 
 pub use all_rows::Rows;
+pub use kind_laws::{kinds_give_the_deciders, kinds_give_the_rule_counts, kinds_give_the_verdict};
 pub use laws::{
     kinds_give_the_pairs, no_row_with_itself, one_row_where_the_same_ports_pass,
     rows_say_what_passes, workloads_stand_for_their_pods,
 };
-pub use pair_sets::pair_set;
+pub use pair_sets::{pair_set, set_between};
+pub use range_laws::{
+    each_number_is_in_one_range, equal_tests_have_one_list, one_list_is_right, pieces_are_right,
+};
 pub use rows::{AddressRow, AddressSpan, Row, RowEnd, RowKey};
 pub use rows_of_addresses::address_rows;
 pub use rows_of_pairs::pair_rows;

@@ -1,25 +1,20 @@
-//! What passes between two workloads.
+//! What passes between two pods, and so between two workloads.
 ghost use Rattle.std.specs.Prelude.{◌≡◌, ◌≢◌, ◌≤◌, ◌<◌, ◌+◌, ℕ, None, Some, Contains, length, true, if◌then◌else◌, IfOk, IfSome};
 ghost use Rattle.np_conns.specs.Conns.{IsConns, has_spot, is_spot};
 ghost use Rattle.np_conns.specs.declared.port_spot.PortSpot.{PortSpot};
 ghost use Rattle.np_estate.specs.Lawful.{IsLawful};
 ghost use Rattle.np_fold.specs.Workloads.{folding_of, members_of};
-ghost use Rattle.np_policies.specs.declared.direction.Direction.TheVariants.{Egress, Ingress};
-ghost use Rattle.np_ranges.specs.Right.{conns_of};
-ghost use Rattle.np_rules.specs.Ends as ends;
-ghost use Rattle.np_rules.specs.Ends.{contact};
-ghost use Rattle.np_rules.specs.Places.{rule_count};
-ghost use Rattle.np_rules.specs.Sides.{side_allows};
-ghost use Rattle.np_rules.specs.Verdict.{pod_at};
+ghost use Rattle.np_rules.specs.PodSides.{side_rule_count};
+ghost use Rattle.np_table.specs.PairRules as rules;
+ghost use Rattle.np_table.specs.Right.{conns_of};
 ghost use Rattle.np_table.specs.Table as spec;
 
 use np_addr::Family;
 use np_base::{Cells, NoMemory};
 use np_conns::ConnSet;
-use np_estate::Estate;
-use np_fold::Workloads;
+use np_fold::{Folded, Workloads};
 use np_policies::Direction;
-use np_rules::pod_layer;
+use np_rules::PodRules;
 use np_steps::Steps;
 use np_tiers::verdict_set;
 use std::alloc::Global;
@@ -31,36 +26,58 @@ use std::sync::ledger::Ledger;
 /// of a workload apart.
 pub fn pair_set<L: Ledger>(
     alloc: Global,
-    estate: &Estate,
-    workloads: &Workloads,
+    folded: &Folded,
     source: u32,
     destination: u32,
     family: Family,
     steps: &mut Steps<L>,
 ) -> Result<Option<ConnSet>, NoMemory>
-    requires folded { workloads.now ≡ folding_of estate.now }
-    requires source { source < length workloads.now.workloads }
-    requires destination { destination < length workloads.now.workloads }
-    ensures set { IfOk result (λ made. made ≡ (if spec.is_alone workloads.now source destination then None
-        else Some (conns_of (spec.pair_allows estate.now workloads.now source destination family)))) }
-    ensures every_pod { IfOk result (λ made. IfSome made (λ set. IsLawful estate.now → (p q : ℕ) (spot : PortSpot) →
-        Contains (members_of workloads.now source) p → Contains (members_of workloads.now destination) q → p ≢ q →
-        is_spot spot ≡ true → has_spot set spot ≡ spec.between_pods estate.now p q family spot)) }
+    requires source { spec.IsWorkload folded.now source }
+    requires destination { spec.IsWorkload folded.now destination }
+    ensures set { IfOk result (λ made. made ≡ (if spec.is_alone (folding_of folded.now) source destination then None
+        else Some (conns_of (spec.pair_allows folded.now (folding_of folded.now) source destination family)))) }
+    ensures every_pod { IfOk result (λ made. IfSome made (λ set. (p q : ℕ) (spot : PortSpot) →
+        Contains (members_of (folding_of folded.now) source) p → Contains (members_of (folding_of folded.now) destination) q →
+        p ≢ q → is_spot spot ≡ true → has_spot set spot ≡ spec.between_pods folded.now p q family spot)) }
     ensures least { steps.old ≤ steps.new }
-    ensures most { steps.new ≤ steps.old
-        + rule_count estate.now Egress (pod_at estate.now (spec.source_pod workloads.now source))
-        + rule_count estate.now Ingress (pod_at estate.now (spec.destination_pod workloads.now source destination)) }
-    // In a lawful estate as many rules speak of each pod of a workload.
-    ensures most_by_first { IsLawful estate.now → steps.new ≤ steps.old
-        + rule_count estate.now Egress (pod_at estate.now (spec.source_pod workloads.now source))
-        + rule_count estate.now Ingress (pod_at estate.now (spec.source_pod workloads.now destination)) }
+    ensures most { steps.new ≤ steps.old + rules.rules_of_pair folded.now source destination }
 {
+    let Some(ends) = ends_of_pair(alloc, folded, source, destination)? else {
+        return Ok(None);
+    };
+    let set = set_between(alloc, &ends.sender, &ends.receiver, family, steps)?;
+    Ok(Some(set))
+}
+
+/// The rules of a pod that sends, and those of one that receives.
+#[derive(Drop)]
+pub(crate) struct PairEnds<'a> {
+    pub sender: PodRules<'a>,
+    pub receiver: PodRules<'a>,
+}
+
+/// The rules of the pods that stand for two workloads. `None` exactly where a workload of one pod meets itself.
+pub(crate) fn ends_of_pair<'a>(
+    alloc: Global,
+    folded: &'a Folded,
+    source: u32,
+    destination: u32,
+) -> Result<Option<PairEnds<'a>>, NoMemory>
+    requires source { spec.IsWorkload folded.now source }
+    requires destination { spec.IsWorkload folded.now destination }
+    ensures ends { IfOk result (λ made. made ≡ (if spec.is_alone (folding_of folded.now) source destination then None
+        else Some (rules.ends_of folded.now source destination))) }
+    ensures lawful { IsLawful folded.now }
+{
+    let estate = folded.estate();
+    let workloads = folded.workloads();
     let Some(far) = far_pod(workloads, source, destination) else {
         return Ok(None);
     };
     let near = workloads.members(source)[0];
-    let set = set_between(alloc, estate, near, far, family, steps)?;
-    Ok(Some(set))
+    let sender = PodRules::of(alloc, estate, near, Direction::Egress)?;
+    let receiver = PodRules::of(alloc, estate, far, Direction::Ingress)?;
+    Ok(Some(PairEnds { sender, receiver }))
 }
 
 // The pod that stands for the destination. `None` exactly where a workload of one pod meets itself.
@@ -80,63 +97,45 @@ fn far_pod(workloads: &Workloads, source: u32, destination: u32) -> Option<u32>
     Some(members[1])
 }
 
-// The protocols and ports at which packets of a family are allowed between two pods, named by their places.
-fn set_between<L: Ledger>(
+/// The protocols and ports at which packets of a family are allowed between two pods, by their rules: those that the egress
+/// side of the sender and the ingress side of the receiver both allow. The receiver's side is asked first, since it is the
+/// one that most often allows nothing, and then the sender's is not asked.
+pub fn set_between<L: Ledger>(
     alloc: Global,
-    estate: &Estate,
-    source: u32,
-    destination: u32,
+    sender: &PodRules<'_>,
+    receiver: &PodRules<'_>,
     family: Family,
     steps: &mut Steps<L>,
 ) -> Result<ConnSet, NoMemory>
-    requires source { source < length estate.now.pods }
-    requires destination { destination < length estate.now.pods }
-    ensures set { IfOk result (λ made. made ≡ conns_of (spec.between_pods estate.now source destination family)) }
+    requires { rules.AreEnds sender.now receiver.now }
+    ensures set { IfOk result (λ made. made
+        ≡ conns_of (spec.between_pods sender.now.lists sender.now.pod receiver.now.pod family)) }
     ensures least { steps.old ≤ steps.new }
-    ensures most { steps.new ≤ steps.old
-        + rule_count estate.now Egress (pod_at estate.now source)
-        + rule_count estate.now Ingress (pod_at estate.now destination) }
+    ensures most { steps.new ≤ steps.old + (side_rule_count sender.now + side_rule_count receiver.now) }
 {
-    let sent = side_set(
-        alloc,
-        estate,
-        source,
-        Direction::Egress,
-        destination,
-        family,
-        steps,
-    )?;
-    let received = side_set(
-        alloc,
-        estate,
-        destination,
-        Direction::Ingress,
-        source,
-        family,
-        steps,
-    )?;
+    let received = side_set(alloc, receiver, sender.pod(), family, steps)?;
+    if received.is_empty() {
+        return Ok(received);
+    }
+    let sent = side_set(alloc, sender, receiver.pod(), family, steps)?;
     sent.meet(&received)
 }
 
 // The protocols and ports that the side of a pod allows with another pod as the far end.
 fn side_set<L: Ledger>(
     alloc: Global,
-    estate: &Estate,
-    pod: u32,
-    direction: Direction,
+    near: &PodRules<'_>,
     peer: u32,
     family: Family,
     steps: &mut Steps<L>,
 ) -> Result<ConnSet, NoMemory>
-    requires pod { pod < length estate.now.pods }
-    requires peer { peer < length estate.now.pods }
+    requires { peer < length near.now.lists.pods }
     ensures members { IfOk result (λ made. (spot : PortSpot) → is_spot spot ≡ true →
-        has_spot made spot ≡ side_allows estate.now direction (pod_at estate.now pod)
-        (contact direction (ends.pod (pod_at estate.now pod)) (ends.pod (pod_at estate.now peer)) family spot)) }
+        has_spot made spot ≡ rules.side_allows_pod near.now peer family spot) }
     ensures well { IfOk result IsConns }
     ensures least { steps.old ≤ steps.new }
-    ensures most { steps.new ≤ steps.old + rule_count estate.now direction (pod_at estate.now pod) }
+    ensures most { steps.new ≤ steps.old + side_rule_count near.now }
 {
-    let layer = pod_layer(alloc, estate, pod, direction, peer, family, steps)?;
+    let layer = near.pod_layer(alloc, peer, family, steps)?;
     verdict_set(alloc, &layer)
 }

@@ -1,22 +1,20 @@
 //! What passes between a workload and all addresses.
-ghost use Rattle.std.specs.Prelude.{◌≡◌, ◌≤◌, ◌<◌, ◌+◌, ◌-◌, ◌^◌, [], ◌∷◌, ◌++◌, length, map, IfOk, OnOk};
+ghost use Rattle.std.specs.Prelude.{◌≡◌, ◌≤◌, ◌+◌, ◌-◌, ◌^◌, [], ◌∷◌, ◌++◌, map, IfOk, OnOk};
 ghost use Rattle.np_addr.specs.declared.address.Family.TheVariants.{Four, Six};
-ghost use Rattle.np_fold.specs.Workloads.{folding_of};
-ghost use Rattle.np_ranges.specs.Right.{stretches_of, walk};
-ghost use Rattle.np_rules.specs.Ends as ends;
-ghost use Rattle.np_rules.specs.Places.{rule_count};
-ghost use Rattle.np_rules.specs.Verdict.{pod_at};
+ghost use Rattle.np_rules.specs.PodSides.{side_rule_count};
+ghost use Rattle.np_table.specs.PairRules.{first_side, side_with_address};
+ghost use Rattle.np_table.specs.Right.{stretches_of, walk};
 ghost use Rattle.np_table.specs.Rows as spec;
-ghost use Rattle.np_table.specs.Table.{source_pod, table_of, with_address};
+ghost use Rattle.np_table.specs.Table.{IsWorkload, estate_table};
 
 use crate::rows::{AddressRow, AddressSpan};
+use crate::rules_by_kind::first_side;
 use np_base::{Cells, NoMemory, Range, Seq, V4, V6};
 use np_conns::ConnSet;
-use np_estate::Estate;
-use np_fold::Workloads;
+use np_fold::Folded;
 use np_pieces::Piece;
 use np_policies::Direction;
-use np_rules::{AddrConns, address_layer};
+use np_rules::{AddrConns, PodRules};
 use np_steps::Steps;
 use np_tiers::verdict_set;
 use std::alloc::Global;
@@ -27,40 +25,48 @@ use std::sync::ledger::Ledger;
 /// protocols and ports pass in neighbours. All addresses are answered by one evaluation of the rules.
 pub fn address_rows<L: Ledger>(
     alloc: Global,
-    estate: &Estate,
-    workloads: &Workloads,
+    folded: &Folded,
     workload: u32,
     direction: Direction,
     steps: &mut Steps<L>,
 ) -> Result<Seq<AddressRow>, NoMemory>
-    requires folded { workloads.now ≡ folding_of estate.now }
-    requires workload { workload < length workloads.now.workloads }
-    ensures rows { IfOk result (λ made. made ≡ spec.address_rows (table_of estate.now workloads.now) workload direction) }
+    requires { IsWorkload folded.now workload }
+    ensures rows { IfOk result (λ made. made ≡ spec.address_rows (estate_table folded.now) workload direction) }
     ensures least { steps.old ≤ steps.new }
-    ensures most { steps.new ≤ steps.old + rule_count estate.now direction (pod_at estate.now (source_pod workloads.now workload)) }
+    ensures most { steps.new ≤ steps.old + side_rule_count (first_side folded.now direction workload) }
 {
-    let pod = workloads.members(workload)[0];
-    let conns = conns_at(alloc, estate, pod, direction, steps)?;
+    let near = first_side(alloc, folded, direction, workload)?;
+    rows_by_addresses(alloc, &near, steps)
+}
+
+/// What passes between a pod and each address, by the pod's rules.
+pub(crate) fn rows_by_addresses<L: Ledger>(
+    alloc: Global,
+    near: &PodRules<'_>,
+    steps: &mut Steps<L>,
+) -> Result<Seq<AddressRow>, NoMemory>
+    ensures rows { IfOk result (λ made. made ≡ spec.rows_of_addresses (side_with_address near.now)) }
+    ensures least { steps.old ≤ steps.new }
+    ensures most { steps.new ≤ steps.old + side_rule_count near.now }
+{
+    let conns = conns_at(alloc, near, steps)?;
     rows_of_all(alloc, &conns)
 }
 
 // What passes between a pod and each address. An address has no rules, so the pod's own side decides.
 fn conns_at<L: Ledger>(
     alloc: Global,
-    estate: &Estate,
-    pod: u32,
-    direction: Direction,
+    near: &PodRules<'_>,
     steps: &mut Steps<L>,
 ) -> Result<AddrConns, NoMemory>
-    requires { pod < length estate.now.pods }
     ensures four { IfOk result (λ made. stretches_of (λ number. number) made.first
-        ≡ walk (with_address estate.now direction (ends.pod (pod_at estate.now pod)) Four) 0 (2 ^ 32 - 1)) }
+        ≡ walk (side_with_address near.now Four) 0 (2 ^ 32 - 1)) }
     ensures six { IfOk result (λ made. stretches_of (λ number. number) made.second
-        ≡ walk (with_address estate.now direction (ends.pod (pod_at estate.now pod)) Six) 0 (2 ^ 128 - 1)) }
+        ≡ walk (side_with_address near.now Six) 0 (2 ^ 128 - 1)) }
     ensures least { steps.old ≤ steps.new }
-    ensures most { steps.new ≤ steps.old + rule_count estate.now direction (pod_at estate.now pod) }
+    ensures most { steps.new ≤ steps.old + side_rule_count near.now }
 {
-    let layer = address_layer(alloc, estate, pod, direction, steps)?;
+    let layer = near.address_layer(alloc, steps)?;
     verdict_set(alloc, &layer)
 }
 

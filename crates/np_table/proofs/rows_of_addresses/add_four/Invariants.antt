@@ -1,5 +1,5 @@
 use Rattle.std.proofs.Common.{◌≡◌, ◌++◌, map, take}
-use Rattle.np_ranges.specs.Right.{stretches_of}
+use Rattle.np_table.specs.Right.{stretches_of}
 use Rattle.np_table.specs.Rows.{address_row, four_of}
 use Rattle.np_table.proofs.rows_of_addresses.add_four.Given as goal
 

@@ -1,12 +1,36 @@
-use Rattle.std.proofs.Common.{◌∙◌}
+use Rattle.std.proofs.Common.{arith, ap, sym, ◌∙◌}
 use Rattle.std.proofs.lemmas.Result.{IfOk-weaker}
-use Rattle.np_table.proofs.SetLemmas.{pair_rows-both, pair_rows-one}
+use Rattle.np_addr.specs.declared.address.Family.{Family}
+use Rattle.np_estate.specs.Families.{families_of}
+use Rattle.np_estate.specs.declared.lists.EstateLists.{EstateLists}
+use Rattle.np_fold.specs.Workloads.{folding_of}
+use Rattle.np_table.proofs.KindLemmas.{pair_rows-alone}
+use Rattle.np_table.proofs.SideLemmas.{ends-are, ends-both, ends-count, ends-none, ends-rows}
 use Rattle.np_table.proofs.rows_of_pairs.pair_rows.Goals as goal
+use Rattle.np_table.specs.Right.{conns_of}
+use Rattle.np_table.specs.Rows.{rows_in}
+use Rattle.np_table.specs.Table.{between_pods}
+use Rattle.np_table.specs.declared.rows.RowKey.{RowKey}
 
-pub returns-then-families-ne1-clause-rows : goal.returns-then-families-ne1-clause-rows
-returns-then-families-ne1-clause-rows g c =
-    IfOk-weaker c.rows_of_both.result _ _ (λ made is. is ∙ pair_rows-both c.args.estate.now c.args.workloads.now c.args.source c.args.destination c.families-families.result.now c.families-families.ensures c.if-families-ne1.true) c.rows_of_both.ensures.rows
+pub rows_between-requires : goal.rows_between-requires
+rows_between-requires g c =
+    let both = ends-are c.args.folded.now c.args.source c.args.destination c.in-Some.ends (sym c.in-Some.is ∙ c.in_ok-ends.ensures.ends) in
+    ends-both c.args.folded.now c.args.source c.args.destination c.in-Some.ends both.1
+
+pub returns-in_default-clause-rows : goal.returns-in_default-clause-rows
+returns-in_default-clause-rows g c =
+    c.new.ensures ∙ pair_rows-alone c.args.folded.now (folding_of c.args.folded.now) c.args.source c.args.destination (ends-none c.args.folded.now c.args.source c.args.destination (sym c.in_default.is ∙ c.in_ok-ends.ensures.ends))
 
 pub returns-clause-rows : goal.returns-clause-rows
 returns-clause-rows g c =
-    IfOk-weaker c.rows_of_one.result _ _ (λ made is. is ∙ pair_rows-one c.args.estate.now c.args.workloads.now c.args.source c.args.destination c.families-families.result.now c.families-families.ensures c.if-families-ne1.false) c.rows_of_one.ensures.rows
+    let both = ends-are c.args.folded.now c.args.source c.args.destination c.in-Some.ends (sym c.in-Some.is ∙ c.in_ok-ends.ensures.ends) in
+    let families = c.families-families.ensures ∙ ap (λ (lists : EstateLists). families_of lists.pods) c.estate.ensures.value in
+    IfOk-weaker c.rows_between.result _ _ (λ made is.
+    is
+    ∙ ap (λ (key : RowKey). rows_in c.families-families.result.now key (λ (family : Family). conns_of (between_pods c.in-Some.ends.sender.lists c.in-Some.ends.sender.pod c.in-Some.ends.receiver.pod family))) c.pair_key-key.ensures
+    ∙ ends-rows c.args.folded.now c.args.source c.args.destination c.in-Some.ends c.families-families.result.now families both.0 both.1) c.rows_between.ensures.rows
+
+pub returns-clause-most : goal.returns-clause-most
+returns-clause-most g c =
+    let both = ends-are c.args.folded.now c.args.source c.args.destination c.in-Some.ends (sym c.in-Some.is ∙ c.in_ok-ends.ensures.ends) in
+    omega (arith, c.rows_between.ensures.most, ends-count c.args.folded.now c.args.source c.args.destination c.in-Some.ends c.ends_of_pair.ensures.lawful c.requires.destination both.0 both.1)

@@ -1,15 +1,29 @@
-use Rattle.std.proofs.Common.{arith}
+use Rattle.std.proofs.Common.{length, arith, ap, ◌∙◌}
+use Rattle.np_fold.specs.Workloads.{Folding, folding_of}
 use Rattle.np_table.proofs.DueLemmas.{due_from-start}
 use Rattle.np_table.proofs.KindLemmas.{IsKept-nothing}
 use Rattle.np_table.proofs.PlaceLemmas.{all_rows-from}
 use Rattle.np_table.proofs.all_rows.Rows.new.Goals as goal
-use Rattle.np_table.specs.Table.{table_of}
+use Rattle.np_table.specs.Table.{estate_table}
+use Rattle.np_table.specs.ToCome.{place_count}
 
 pub invariant_of-result : goal.invariant_of-result
-invariant_of-result c = rw c.nothing.ensures (c.requires.lawful, c.requires.folded, c.place_count-end.ensures, omega arith, omega arith, IsKept-nothing c.args.estate.now c.args.workloads.now _)
+invariant_of-result c = (
+  record {
+    last = c.place_count-end.ensures.value ∙ ap (λ (f : Folding). place_count (length f.workloads)) c.workloads.ensures.value;
+    within = omega arith;
+    fits = c.place_count-end.ensures.fits;
+    few = rw c.nothing-2.ensures (omega arith);
+    keeps = rw c.nothing-2.ensures (IsKept-nothing c.args.folded.now (folding_of c.args.folded.now) _);
+  },
+  record {
+    senders = λ some. absurd (omega (arith, some, c.nothing.ensures.senders));
+    receivers = λ some. absurd (omega (arith, some, c.nothing.ensures.receivers));
+  },
+)
 
 pub returns-clause-rows : goal.returns-clause-rows
-returns-clause-rows c = rw c.new.ensures.items (all_rows-from (table_of c.args.estate.now c.args.workloads.now))
+returns-clause-rows c = rw c.new.ensures.items (all_rows-from (estate_table c.args.folded.now))
 
 pub returns-clause-due : goal.returns-clause-due
-returns-clause-due c = rw c.nothing.ensures (due_from-start c.args.estate.now c.args.workloads.now)
+returns-clause-due c = rw c.nothing-2.ensures (due_from-start c.args.folded.now (folding_of c.args.folded.now))

@@ -1,22 +1,31 @@
-use Rattle.std.proofs.Common.{reverse, arith, sym, ap, ◌∙◌}
+use Rattle.std.proofs.Common.{◌≡◌, length, reverse, arith, sym, ap, ◌∙◌}
 use Rattle.std.proofs.lemmas.Bool.{eqb-true}
+use Rattle.np_fold.specs.Workloads.{folding_of}
 use Rattle.np_table.proofs.PlaceLemmas.{made-ready, nothing-left}
 use Rattle.np_table.proofs.all_rows.Rows.next.Goals as goal
+use Rattle.np_table.specs.ToCome.{RowsToCome}
 
 pub returns-then-self-clause-given : goal.returns-then-self-clause-given
 returns-then-self-clause-given g c =
-    nothing-left c.loop-self.self-inside.estate.now c.loop-self.self-inside.workloads.now c.loop-self.self-inside.ready.items c.args.self.now.rows c.loop-self.self-inside.place c.loop-self.self-inside.end (omega (arith, c.loop-self.self-inside.ready.ok, eqb-true c.loop-self.self-inside.ready.len 0 (sym c.is_empty.ensures ∙ c.loop-self-test.true))) (omega arith) c.loop-self.invariant.end c.loop-self.invariant.to_come
+    let empty : length c.loop-self.self-inside.ready.items ≡ 0 = omega (arith, c.loop-self.self-inside.ready.ok, eqb-true c.loop-self.self-inside.ready.len 0 (sym c.is_empty.ensures ∙ c.loop-self-test.true)) in
+    nothing-left c.loop-self.self-inside.folded.now (folding_of c.loop-self.self-inside.folded.now) c.loop-self.self-inside.ready.items c.args.self.now.rows c.loop-self.self-inside.place c.loop-self.self-inside.end empty (omega arith) c.loop-self.invariant.under_way.last c.loop-self.invariant.to_come
+
+pub loop-self-init : goal.loop-self-init
+loop-self-init g c = record {
+  to_come = ap (λ (to_come : RowsToCome). to_come.rows) c.self.view_is;
+  under_way = c.self.invariant.0;
+  rules = c.in_ok-ask.ensures.all;
+  counted = omega (arith, ap (λ (to_come : RowsToCome). to_come.due) c.self.view_is);
+  least = omega arith;
+}
 
 pub loop-self-preserved : goal.loop-self-preserved
-loop-self-preserved g c = record {
-  to_come = made-ready c.loop-self.self-inside.estate.now c.loop-self.self-inside.workloads.now c.loop-self.self-inside.ready.items c.in_reverse.result.items c.args.self.now.rows c.loop-self.self-inside.place (omega (arith, c.loop-self.self-inside.ready.ok, eqb-true c.loop-self.self-inside.ready.len 0 (sym c.is_empty.ensures ∙ c.loop-self-test.true))) (omega (arith, c.loop-self.invariant.end)) (c.in_reverse.ensures ∙ ap reverse c.in_ok-rows.ensures.rows) c.loop-self.invariant.to_come;
-  lawful = c.loop-self.invariant.lawful;
-  folded = c.loop-self.invariant.folded;
-  end = c.loop-self.invariant.end;
-  place = omega arith;
-  fits = c.loop-self.invariant.fits;
-  few = c.in_ok-rows.ensures.few;
-  kept = c.in_ok-rows.ensures.kept;
-  counted = omega (arith, c.in_ok-rows.ensures.counted, c.loop-self.invariant.counted);
-  least = omega (arith, c.in_ok-rows.ensures.least, c.loop-self.invariant.least);
-}
+loop-self-preserved g c =
+    let empty : length c.loop-self.self-inside.ready.items ≡ 0 = omega (arith, c.loop-self.self-inside.ready.ok, eqb-true c.loop-self.self-inside.ready.len 0 (sym c.is_empty.ensures ∙ c.loop-self-test.true)) in
+    record {
+      to_come = made-ready c.loop-self.self-inside.folded.now (folding_of c.loop-self.self-inside.folded.now) c.loop-self.self-inside.ready.items c.in_reverse.result.items c.args.self.now.rows c.loop-self.self-inside.place empty (omega (arith, c.loop-self.invariant.under_way.last)) (c.in_reverse.ensures ∙ ap reverse c.in_ok-rows.ensures.rows) c.loop-self.invariant.to_come;
+      under_way = record { last = c.loop-self.invariant.under_way.last; within = omega arith; fits = c.loop-self.invariant.under_way.fits; few = c.in_ok-rows.ensures.few; keeps = c.in_ok-rows.ensures.kept };
+      rules = c.loop-self.invariant.rules;
+      counted = omega (arith, c.in_ok-rows.ensures.counted, c.loop-self.invariant.counted);
+      least = omega (arith, c.in_ok-rows.ensures.least, c.loop-self.invariant.least);
+    }

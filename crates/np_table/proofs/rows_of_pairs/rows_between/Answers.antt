@@ -1,0 +1,20 @@
+use Rattle.std.proofs.Common.{◌++◌, List, None, ap, ◌∙◌}
+use Rattle.std.proofs.lemmas.Result.{IfOk-weaker}
+use Rattle.np_addr.specs.declared.address.Family.{Family}
+use Rattle.np_table.proofs.SetLemmas.{rows_in-both, rows_in-one}
+use Rattle.np_table.proofs.rows_of_pairs.rows_between.Goals as goal
+use Rattle.np_table.specs.Right.{conns_of}
+use Rattle.np_table.specs.Rows.{row_if}
+use Rattle.np_table.specs.Table.{between_pods}
+use Rattle.np_table.specs.declared.rows.Row.{Row}
+
+pub returns-then-families-ne1-clause-rows : goal.returns-then-families-ne1-clause-rows
+returns-then-families-ne1-clause-rows g c =
+    IfOk-weaker c.rows_of_both.result _ _ (λ made is. is ∙ rw (c.in_ok-four.ensures.set, c.in_ok-six.ensures.set) (rows_in-both c.args.families.now c.args.key.now (λ (family : Family). conns_of (between_pods c.args.sender.now.lists c.args.sender.now.pod c.args.receiver.now.pod family)) c.if-families-ne1.true)) c.rows_of_both.ensures
+
+pub returns-clause-rows : goal.returns-clause-rows
+returns-clause-rows g c =
+    c.in_ok-add_row.ensures
+    ∙ ap (λ (rows : List Row). rows ++ row_if c.args.key.now None c.in_ok-conns.conns) c.new-rows.ensures
+    ∙ ap (row_if c.args.key.now None) c.in_ok-conns.ensures.set
+    ∙ rows_in-one c.args.families.now c.args.key.now (λ (family : Family). conns_of (between_pods c.args.sender.now.lists c.args.sender.now.pod c.args.receiver.now.pod family)) c.if-families-ne1.false

@@ -1,0 +1,65 @@
+-- The sides of the pods that stand for workloads and for kinds of workloads, and how many rules speak of them.
+use Rattle.std.specs.Prelude.{ℕ, ◌≡◌, ◌+◌, ◌<◌, List, Bool, map, length}
+use Rattle.np_addr.specs.declared.address.Family.{Family}
+use Rattle.np_conns.specs.declared.port_spot.PortSpot.{PortSpot}
+use Rattle.np_estate.specs.declared.lists.EstateLists.{EstateLists}
+use Rattle.np_fold.specs.Workloads.{folding_of}
+use Rattle.np_policies.specs.declared.direction.Direction.{Direction}
+use Rattle.np_policies.specs.declared.direction.Direction.TheVariants.{Egress, Ingress}
+use Rattle.np_rules.specs.Ends.{pod}
+use Rattle.np_rules.specs.PodSides.{PodSide, near_pod, side_of, side_rule_count, with_pod}
+use Rattle.np_rules.specs.Sides.{side_allows}
+use Rattle.np_table.specs.Table.{destination_pod, source_pod, with_address}
+use Rattle.np_table.specs.declared.pair_sets.PairEnds.{PairEnds}
+use Rattle.np_table.specs.declared.rules_by_kind.KindRules.{KindRules}
+
+-- ---- two pods
+
+-- one side sends and the other receives, in one estate
+pub record AreEnds (sender receiver : PodSide) : Type 0 where
+  pub lists : receiver.lists ≡ sender.lists
+  pub sends : sender.direction ≡ Egress
+  pub receives : receiver.direction ≡ Ingress
+
+-- whether a side allows a port with another pod as the far end
+abbrev pub side_allows_pod : PodSide → ℕ → Family → PortSpot → Bool
+side_allows_pod side peer family spot = side_allows side.lists side.direction (near_pod side) (with_pod peer family side spot)
+
+-- the same with an address of a family
+abbrev pub side_with_address : PodSide → Family → ℕ → PortSpot → Bool
+side_with_address side = with_address side.lists side.direction (pod (near_pod side))
+
+-- ---- two workloads
+
+-- the side of the first pod of a workload
+abbrev pub first_side : EstateLists → Direction → ℕ → PodSide
+first_side lists direction workload = side_of lists (source_pod (folding_of lists) workload) direction
+
+-- the sides of the pods that stand for two workloads
+abbrev pub ends_of : EstateLists → ℕ → ℕ → PairEnds
+ends_of lists source destination = record { sender = first_side lists Egress source; receiver = side_of lists (destination_pod (folding_of lists) source destination) Ingress }
+
+-- how many rules speak of the first pods of two workloads, of the one as it sends and of the other as it receives
+abbrev pub rules_of_pair : EstateLists → ℕ → ℕ → ℕ
+rules_of_pair lists source destination = side_rule_count (first_side lists Egress source) + side_rule_count (first_side lists Ingress destination)
+
+-- ---- kinds
+
+-- for each kind the side of the first pod of its first workload
+unfoldable pub sides_of_kinds : EstateLists → Direction → List PodSide
+sides_of_kinds lists direction = map (first_side lists direction) (folding_of lists).first_of_kinds
+
+-- the sides are those of all kinds
+pub record AreOfKinds (lists : EstateLists) (rules : KindRules) : Type 0 where
+  pub senders : rules.senders.items ≡ sides_of_kinds lists Egress
+  pub receivers : rules.receivers.items ≡ sides_of_kinds lists Ingress
+
+-- so they are where there are any
+pub record AreOfKindsIfAny (lists : EstateLists) (rules : KindRules) : Type 0 where
+  pub senders : 0 < length rules.senders.items → rules.senders.items ≡ sides_of_kinds lists Egress
+  pub receivers : 0 < length rules.receivers.items → rules.receivers.items ≡ sides_of_kinds lists Ingress
+
+-- the sides of a direction
+abbrev pub sides_at : KindRules → Direction → List PodSide
+sides_at rules Egress = rules.senders.items
+sides_at rules Ingress = rules.receivers.items
