@@ -6,7 +6,8 @@ use Rattle.np_io.specs.Taken.{TookFront, TookFront-none, TookFront-all}
 use Rattle.np_cli.specs.Answers.{refusal, text_of, notes_of, output}
 use Rattle.np_cli.specs.Prints.{Answers}
 use Rattle.np_cli.specs.Runs.{Sunk, IsKept, TookWhole, IsUnfailed, IsAccepted, Cause}
-use Rattle.np_cli.specs.Sources.{Sourced, AreTold, is_too_large, size_limit, total_size}
+use Rattle.np_cli.specs.Sources.{Sourced, AreTold, is_too_large, total_size}
+use Rattle.np_cli.specs.declared.sources.TheConstants.{SIZE_LIMIT}
 use Rattle.np_cli.specs.Words.{names_of}
 use Rattle.np_words.specs.declared.job.Job.{Job}
 use Rattle.np_cli.specs.declared.outcome.Outcome.{Outcome}
@@ -17,11 +18,11 @@ output-fits : (job : Job) (texts : List (List ℕ)) → is_too_large texts ≡ f
 unfolding output
 output-fits job texts fits = rw fits refl
 
-fits_limit : (texts : List (List ℕ)) → total_size texts ≤ size_limit → is_too_large texts ≡ false
-fits_limit texts fits = le-ltb size_limit (total_size texts) fits
+fits_limit : (texts : List (List ℕ)) → total_size texts ≤ SIZE_LIMIT → is_too_large texts ≡ false
+fits_limit texts fits = le-ltb SIZE_LIMIT (total_size texts) fits
 
 -- a report on the bytes that were read is one on those that the source told
-pub Cause-from_answers : (job : Job) (source : Sourced) (out : Sunk) (texts : List (List ℕ)) (outcome : Outcome) → ((told : List (List ℕ)) → AreTold source.holds source.left (names_of job) told → texts ≡ told) → total_size texts ≤ size_limit → IsUnfailed source → Answers job texts out outcome → Cause (Some job) source out outcome
+pub Cause-from_answers : (job : Job) (source : Sourced) (out : Sunk) (texts : List (List ℕ)) (outcome : Outcome) → ((told : List (List ℕ)) → AreTold source.holds source.left (names_of job) told → texts ≡ told) → total_size texts ≤ SIZE_LIMIT → IsUnfailed source → Answers job texts out outcome → Cause (Some job) source out outcome
 Cause-from_answers job source out texts (Done notes) read fits unfailed answers =
     let accepted : IsAccepted job texts = record { fits = fits_limit texts fits; no_fault = answers.0 } in
     let whole : TookWhole out (output (Some job) texts) = subst (TookWhole out) (sym (output-fits job texts (fits_limit texts fits))) answers.1 in

@@ -1,27 +1,22 @@
 -- What the inputs say, or why they are refused.
 use Rattle.std.specs.Prelude.{◌≡◌, ℕ, List, Result, Ok, Err, if◌then◌else◌, nat_le}
-use Rattle.np_estate.specs.Lawful.{IsLawful}
 use Rattle.np_estate.specs.Reading.{estate_of}
 use Rattle.np_estate.specs.declared.lists.EstateLists.{EstateLists}
-use Rattle.np_fold.specs.Workloads.{folding_of, workload_count}
+use Rattle.np_fold.specs.Workloads.{workload_count}
+use Rattle.np_fold.specs.declared.workloads.TheConstants.{MOST_WORKLOADS}
 use Rattle.np_fold.specs.declared.fold_fault.FoldFault.{FoldFault}
 use Rattle.np_fold.specs.declared.fold_fault.FoldFault.TheVariants as fold
 use Rattle.np_items.specs.Readings.{Reading}
 use Rattle.np_items.specs.declared.refusal.Refusal.{Refusal}
 use Rattle.np_items.specs.declared.refusal.Refusal.TheVariants as why
-use Rattle.np_cli.specs.declared.folded.Folded.{Folded}
 use Rattle.np_cli.specs.declared.fault.Fault.{Fault}
 use Rattle.np_cli.specs.declared.fault.Fault.TheVariants.{Inputs, TooManyWorkloads}
 use Rattle.np_cli.specs.declared.fault.InputsFault.{InputsFault}
 use Rattle.np_cli.specs.declared.fault.InputsFault.TheVariants.{Refused, NoMemory}
 
--- how many workloads an estate may have
-abbrev pub most_workloads : ℕ
-most_workloads = 2000
-
--- the estate, unless it has more workloads than that
+-- the estate, unless it has too many workloads
 unfoldable pub small_estate : EstateLists → Result EstateLists Fault
-small_estate lists = if nat_le (workload_count lists) most_workloads then Ok lists else Err (TooManyWorkloads (workload_count lists))
+small_estate lists = if nat_le (workload_count lists) MOST_WORKLOADS then Ok lists else Err (TooManyWorkloads (workload_count lists))
 
 -- so for what is read
 abbrev pub small_reading : Reading EstateLists → Result EstateLists Fault
@@ -49,8 +44,3 @@ Refuses NoMemory reads = Unit {0}
 abbrev pub Gives : {X : Type 0} → Result X InputsFault → Result X Fault → Type 0
 Gives (Ok x) reads = reads ≡ Ok x
 Gives (Err fault) reads = Refuses fault reads
-
--- the same with the estate's workloads; what is read is lawful
-abbrev pub GivesFolded : Result Folded InputsFault → Result EstateLists Fault → Type 0
-GivesFolded (Ok folded) reads = (reads ≡ Ok folded.estate) × (folded.workloads ≡ folding_of folded.estate) × IsLawful folded.estate
-GivesFolded (Err fault) reads = Refuses fault reads

@@ -3,7 +3,6 @@ pub mod Messages
 pub mod Statuses
 pub mod Inputs
 pub mod Sources
-pub mod Rows
 pub mod Answers
 pub mod Written
 pub mod Runs

@@ -5,7 +5,8 @@ use Rattle.np_io.specs.Counts.{Rose, RosePast}
 use Rattle.np_io.specs.Taken.{TookFront}
 use Rattle.np_cli.specs.Answers.{refusal, notes_of, output}
 use Rattle.np_cli.specs.Messages.{message}
-use Rattle.np_cli.specs.Sources.{Sourced, AreTold, is_too_large, size_limit}
+use Rattle.np_cli.specs.Sources.{Sourced, AreTold, is_too_large}
+use Rattle.np_cli.specs.declared.sources.TheConstants.{SIZE_LIMIT}
 use Rattle.np_cli.specs.Statuses.{status_of}
 use Rattle.np_cli.specs.Words.{names_asked}
 use Rattle.np_words.specs.declared.job.Job.{Job}
@@ -52,7 +53,7 @@ abbrev pub Cause : Option Job → Sourced → Sunk → Outcome → Type 0
 Cause asked source out (Done notes) = (job : Job) × (asked ≡ Some job) × IsUnfailed source × (out.faults_after ≡ out.faults_before)
     × ((texts : List (List ℕ)) → Tells source asked texts → IsAccepted job texts × TookWhole out (output asked texts) × (notes ≡ notes_of job texts))
 Cause asked source out Usage = (asked ≡ None) × IsUnfailed source × IsKept out
-Cause asked source out TooLarge = RosePast size_limit source.handed_before source.handed_after × IsUnfailed source × IsKept out
+Cause asked source out TooLarge = RosePast SIZE_LIMIT source.handed_before source.handed_after × IsUnfailed source × IsKept out
     × (is_some asked ≡ true)
     × ((texts : List (List ℕ)) → Tells source asked texts → is_too_large texts ≡ true)
 Cause asked source out (Refused fault) = (job : Job) × (asked ≡ Some job) × IsUnfailed source × IsKept out

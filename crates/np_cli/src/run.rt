@@ -5,16 +5,15 @@ ghost use Rattle.np_cli.specs.Inputs.{lists_of};
 ghost use Rattle.np_cli.specs.Messages.{message};
 ghost use Rattle.np_cli.specs.Prints.{Answers, Prints, Wrote};
 ghost use Rattle.np_cli.specs.Promises.{BlamesDevice, BlamesWords, Completes, RefusesFaults, RefusesTooLarge};
-ghost use Rattle.np_cli.specs.Rows.{table_text};
+ghost use Rattle.np_report.specs.TableText.{table_text};
 ghost use Rattle.np_cli.specs.Runs.{Cause, Ends, Said, sunk};
 ghost use Rattle.np_cli.specs.Sources.{sourced};
 ghost use Rattle.np_cli.specs.Words as spec;
 ghost use Rattle.np_words.specs.CommandLines.{asked_by};
-ghost use Rattle.np_estate.specs.Lawful.{IsLawful};
-ghost use Rattle.np_fold.specs.Workloads.{folding_of};
 
 use crate::fault::InputsFault;
-use crate::folded::{Folded, read_folded};
+use crate::folded::read_folded;
+use crate::held::Folded;
 use crate::outcome::Outcome;
 use crate::rows::write_table;
 use crate::sources::{SourceFault, read_all};
@@ -182,22 +181,19 @@ fn list<O: Sink, L: Ledger>(
 }
 
 // Writes the table of an estate.
-#[tactic(auto, unfolding(crate::specs::Rows::table_text))]
 fn list_folded<O: Sink, L: Ledger>(
     alloc: Global,
     folded: &Folded,
     out: &mut O,
     steps: &mut Steps<L>,
 ) -> Outcome
-    requires folded { folded.now.workloads ≡ folding_of folded.now.estate }
-    requires lawful { IsLawful folded.now.estate }
-    ensures wrote { Wrote (sunk O.taken O.faults out.old out.new) None (table_text folded.now.estate)
-        folded.now.estate.notes result }
+    ensures wrote { Wrote (sunk O.taken O.faults out.old out.new) None (table_text folded.now)
+        folded.now.notes result }
     ensures least { steps.old ≤ steps.new }
-    ensures most { steps.new ≤ steps.old + list_steps folded.now.estate }
+    ensures most { steps.new ≤ steps.old + list_steps folded.now }
 {
-    match write_table(alloc, out, &folded.estate, &folded.workloads, steps) {
-        Ok(()) => Outcome::Done(folded.estate.notes()),
+    match write_table(alloc, out, folded, steps) {
+        Ok(()) => Outcome::Done(folded.estate().notes()),
         Err(WriteFault::SinkFailed) => Outcome::CannotWrite,
         Err(WriteFault::NoMemory) => Outcome::NoMemory,
     }
