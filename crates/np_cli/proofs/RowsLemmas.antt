@@ -7,11 +7,15 @@ use Rattle.np_io.specs.Counts.{Rose}
 use Rattle.np_io.specs.Taken.{TookAllBut, TookAllBut-all, TookAllBut-fault, TookAllBut-finish, TookAllBut-put, TookAllBut-put_fault, TookFront}
 use Rattle.np_report.specs.RowText.{names_of, row_text}
 use Rattle.np_report.specs.TableText.{list_text, table_text}
+use Rattle.np_cli.specs.Sinks.{Sunk}
 use Rattle.np_cli.specs.Written.{Puts, Writes}
 use Rattle.np_cli.specs.declared.write_fault.WriteFault.{WriteFault}
 use Rattle.np_cli.specs.declared.write_fault.WriteFault.TheVariants.{SinkFailed, NoMemory}
 use Rattle.np_table.specs.Rows.{all_rows}
 use Rattle.np_table.specs.Table.{table_of}
+
+abbrev pub between : Option (List ℕ) → Option (List ℕ) → ℕ → ℕ → Sunk
+between before after faults_before faults_after = record { before = before; after = after; faults_before = faults_before; faults_after = faults_after }
 
 -- the sink took all of a text but what is held and what is still to come, and no write failed
 pub record HasLeft (before after : Option (List ℕ)) (faults_before faults_after : ℕ) (whole held rest : List ℕ) : Type 0 where
@@ -23,26 +27,26 @@ pub HasLeft-all : (before : Option (List ℕ)) (faults : ℕ) (whole : List ℕ)
 HasLeft-all before faults whole = record { taken = TookAllBut-all before whole; faults = refl }
 
 -- the next text was put too
-pub HasLeft-next : (before middle after : Option (List ℕ)) (faults_before faults_middle faults_after : ℕ) (whole held held' text rest : List ℕ) → HasLeft before middle faults_before faults_middle whole held (text ++ rest) → Puts middle after faults_middle faults_after held held' text (Ok tt) → HasLeft before after faults_before faults_after whole held' rest
+pub HasLeft-next : (before middle after : Option (List ℕ)) (faults_before faults_middle faults_after : ℕ) (whole held held' text rest : List ℕ) → HasLeft before middle faults_before faults_middle whole held (text ++ rest) → Puts (between middle after faults_middle faults_after) held held' text (Ok tt) → HasLeft before after faults_before faults_after whole held' rest
 HasLeft-next before middle after faults_before faults_middle faults_after whole held held' text rest has put = record {
   taken = TookAllBut-put before middle after whole held text held' rest has.taken put.0;
   faults = put.1 ∙ has.faults;
 }
 
 -- a fault at the next text is one of the whole
-pub HasLeft-fault : (before middle after : Option (List ℕ)) (faults_before faults_middle faults_after : ℕ) (whole held held' text rest : List ℕ) (fault : WriteFault) → HasLeft before middle faults_before faults_middle whole held (text ++ rest) → Puts middle after faults_middle faults_after held held' text (Err fault) → Writes before after faults_before faults_after whole (Err fault)
+pub HasLeft-fault : (before middle after : Option (List ℕ)) (faults_before faults_middle faults_after : ℕ) (whole held held' text rest : List ℕ) (fault : WriteFault) → HasLeft before middle faults_before faults_middle whole held (text ++ rest) → Puts (between middle after faults_middle faults_after) held held' text (Err fault) → Writes (between before after faults_before faults_after) whole (Err fault)
 HasLeft-fault before middle after faults_before faults_middle faults_after whole held held' text rest SinkFailed has failed =
     (TookAllBut-put_fault before middle after whole held text rest has.taken failed.0, subst (λ (n : ℕ). Rose n faults_after) has.faults failed.1)
 HasLeft-fault before middle after faults_before faults_middle faults_after whole held held' text rest NoMemory has failed =
     TookAllBut-put_fault before middle after whole held text rest has.taken failed
 
 -- what is held is handed on at the end
-pub HasLeft-finish : (before middle after : Option (List ℕ)) (faults_before faults_middle faults_after : ℕ) (whole held : List ℕ) → HasLeft before middle faults_before faults_middle whole held [] → after ≡ append_known middle held → faults_after ≡ faults_middle → Writes before after faults_before faults_after whole (Ok tt)
+pub HasLeft-finish : (before middle after : Option (List ℕ)) (faults_before faults_middle faults_after : ℕ) (whole held : List ℕ) → HasLeft before middle faults_before faults_middle whole held [] → after ≡ append_known middle held → faults_after ≡ faults_middle → Writes (between before after faults_before faults_after) whole (Ok tt)
 HasLeft-finish before middle after faults_before faults_middle faults_after whole held has finished faults =
-    (TookAllBut-finish before middle after whole held (subst (TookAllBut before middle whole) (append-nil held) has.taken) finished, faults ∙ has.faults)
+    record { taken = TookAllBut-finish before middle after whole held (subst (TookAllBut before middle whole) (append-nil held) has.taken) finished; faults = faults ∙ has.faults }
 
 -- a fault at that is one of the whole
-pub HasLeft-finish_fault : (before middle after : Option (List ℕ)) (faults_before faults_middle faults_after : ℕ) (whole held rest : List ℕ) → HasLeft before middle faults_before faults_middle whole held rest → TookFront middle after held → Rose faults_middle faults_after → Writes before after faults_before faults_after whole (Err SinkFailed)
+pub HasLeft-finish_fault : (before middle after : Option (List ℕ)) (faults_before faults_middle faults_after : ℕ) (whole held rest : List ℕ) → HasLeft before middle faults_before faults_middle whole held rest → TookFront middle after held → Rose faults_middle faults_after → Writes (between before after faults_before faults_after) whole (Err SinkFailed)
 HasLeft-finish_fault before middle after faults_before faults_middle faults_after whole held rest has took rose =
     (TookAllBut-fault before middle after whole held rest has.taken took, subst (λ (n : ℕ). Rose n faults_after) has.faults rose)
 

@@ -1,6 +1,7 @@
 //! The program without its outside.
 #![tactic(auto)]
 
+mod failure;
 mod fault;
 mod folded;
 mod held;
@@ -12,6 +13,7 @@ mod sources;
 mod status;
 mod write_fault;
 
+pub use failure::Failure;
 pub use fault::Fault;
 pub use np_words::{Job, WordsFault, read_words};
 pub use outcome::Outcome;

@@ -1,6 +1,7 @@
 //! The rows of the table, written one after another.
 ghost use Rattle.std.specs.Prelude.{◌≡◌, ◌≤◌, ◌+◌};
 ghost use Rattle.np_cli.specs.Counts.{list_steps};
+ghost use Rattle.np_cli.specs.Sinks.{sunk};
 ghost use Rattle.np_cli.specs.Written.{Puts, Writes};
 ghost use Rattle.np_fold.specs.Workloads.{folding_of};
 ghost use Rattle.np_report.specs.RowText as spec;
@@ -23,8 +24,7 @@ pub fn write_table<O: Sink, L: Ledger>(
     folded: &Folded,
     steps: &mut Steps<L>,
 ) -> Result<(), WriteFault>
-    ensures written { Writes (O.taken out.old) (O.taken out.new) (O.faults out.old) (O.faults out.new)
-        (table_text folded.now) result }
+    ensures written { Writes (sunk O.taken O.faults out.old out.new) (table_text folded.now) result }
     ensures least { steps.old ≤ steps.new }
     ensures most { steps.new ≤ steps.old + list_steps folded.now }
 {
@@ -45,8 +45,8 @@ fn put_row<O: Sink>(
     folded: &Folded,
     row: &Row,
 ) -> Result<(), WriteFault>
-    ensures { Puts (O.taken out.old) (O.taken out.new) (O.faults out.old) (O.faults out.new)
-        gathered.old gathered.new (spec.row_text (spec.names_of (folding_of folded.now)) row.now) result }
+    ensures { Puts (sunk O.taken O.faults out.old out.new) gathered.old gathered.new
+        (spec.row_text (spec.names_of (folding_of folded.now)) row.now) result }
 {
     let text = row_text(alloc, folded.workloads(), row)?;
     gathered.put(out, text.as_bytes())?;

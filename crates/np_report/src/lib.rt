@@ -2,7 +2,7 @@
 #![tactic(auto)]
 
 mod laws;
-mod row_text;
+mod rows;
 
 pub use laws::equal_tables_print_equal_bytes;
-pub use row_text::row_text;
+pub use rows::row_text;
