@@ -23,7 +23,7 @@ use Rattle.np_policies.specs.declared.policy.Policy.TheVariants as policy
 
 -- ---- pods
 
-are_apart-from_items : (a b : Item) (kind namespace name namespace' name' : List ℕ) → bytes_eq kind kind ≡ true → name_of a ≡ named kind namespace name → name_of b ≡ named kind namespace' name' → AreNamedApart a b → are_apart namespace name namespace' name' ≡ true
+pub are_apart-from_items : (a b : Item) (kind namespace name namespace' name' : List ℕ) → bytes_eq kind kind ≡ true → name_of a ≡ named kind namespace name → name_of b ≡ named kind namespace' name' → AreNamedApart a b → are_apart namespace name namespace' name' ≡ true
 are_apart-from_items a b kind namespace name namespace' name' same first second apart =
     not_from_false _ (rw same at (apart (record { kind = kind; namespace = namespace; name = name }) (record { kind = kind; namespace = namespace'; name = name' }) first second))
 
@@ -58,7 +58,7 @@ services-apart items nothing =
 
 -- ---- admin policies
 
-name_of_admin : (one : Item) (found : AdminPolicy) → admin_policy one ≡ Some found → name_of one ≡ named (codes "AdminNetworkPolicy") [] found.name
+pub name_of_admin : (one : Item) (found : AdminPolicy) → admin_policy one ≡ Some found → name_of one ≡ named (codes "AdminNetworkPolicy") [] found.name
 name_of_admin (item.Policy (policy.Admin listed)) found is = ap (λ (p : AdminPolicy). named (codes "AdminNetworkPolicy") [] p.name) (same_Some listed found is)
 name_of_admin (item.Policy (policy.Net other)) found is = absurd (none-some found is)
 name_of_admin (item.Policy (policy.Base other)) found is = absurd (none-some found is)

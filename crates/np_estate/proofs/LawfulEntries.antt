@@ -45,7 +45,7 @@ module _ {K X : Type 0} (R : K → K → Ordering) where
 -- ---- keys in order
 
 -- what is below a key is below all that the key is below
-below-trans : {K : Type 0} {R : K → K → Ordering} → IsTotalOrder R → (low k : K) (ks : List K) → R low k ≡ Less → AllByRecursion (λ other. R k other ≡ Less) ks → AllByRecursion (λ other. R low other ≡ Less) ks
+pub below-trans : {K : Type 0} {R : K → K → Ordering} → IsTotalOrder R → (low k : K) (ks : List K) → R low k ≡ Less → AllByRecursion (λ other. R k other ≡ Less) ks → AllByRecursion (λ other. R low other ≡ Less) ks
 below-trans {K} {R} order low k ks below = all_weaker (λ other. R k other ≡ Less) (λ other. R low other ≡ Less) (λ other above. order.trans low k other below above) ks
 
 module _ {K X : Type 0} {R : K → K → Ordering} (order : IsTotalOrder R) where
@@ -58,7 +58,7 @@ module _ {K X : Type 0} {R : K → K → Ordering} (order : IsTotalOrder R) wher
       by Equal rest = all
       by Greater rest = (all.0, rest)
 
-  sorted-insert_entry : (entries : List (K × X)) (k : K) (x : X) → IsStrictlySortedBy R (keys_of entries) → IsStrictlySortedBy R (keys_of (insert_entry R entries k x))
+  pub sorted-insert_entry : (entries : List (K × X)) (k : K) (x : X) → IsStrictlySortedBy R (keys_of entries) → IsStrictlySortedBy R (keys_of (insert_entry R entries k x))
   unfolding IsStrictlySortedBy
   sorted-insert_entry [] k x sorted = (tt, tt)
   sorted-insert_entry (first ∷ entries) k x sorted = by (R k first.0) refl (sorted-insert_entry entries k x sorted.1)

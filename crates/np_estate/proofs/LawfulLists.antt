@@ -1,5 +1,5 @@
 -- What is so of each element of a list, and of each two of them.
-use Rattle.std.proofs.Common.{◌≡◌, ◌≤◌, List, [], ◌∷◌, ◌++◌, length, filter, Bool, true, false, cond, Option, Some, None, refl, arith}
+use Rattle.std.proofs.Common.{◌≡◌, ◌≤◌, List, [], ◌∷◌, ◌++◌, length, filter, map, Bool, true, false, cond, Option, Some, None, refl, arith}
 use Rattle.std.specs.Prelude.{AllPairs, ⊤}
 use Rattle.std.specs.List.{AllByRecursion, filter_map, cons_option, list_all}
 use Rattle.std.proofs.lemmas.Bool.{and_from}
@@ -47,6 +47,15 @@ later-filter {X} p R S one (x ∷ xs) all = by (p x) refl (later-filter p R S on
     by : (b : Bool) → p x ≡ b → AllLater S (filter p xs) → AllLater S (cond b (x ∷ filter p xs) (filter p xs))
     by true is rest = (passing is xs all.0, rest)
     by false is rest = rest
+
+-- what is so of the values of a function
+pub later-map : {X Y : Type 0} (f : X → Y) (R : Y → Y → Type 0) → (xs : List X) → AllLater (λ x y. R (f x) (f y)) xs → AllLater R (map f xs)
+later-map {X} {Y} f R [] all = tt
+later-map {X} {Y} f R (x ∷ xs) all = (each xs all.0, later-map f R xs all.1)
+  where
+    each : (ys : List X) → AllByRecursion (λ y. R (f x) (f y)) ys → AllByRecursion (R (f x)) (map f ys)
+    each [] rest = tt
+    each (y ∷ ys) rest = (rest.0, each ys rest.1)
 
 -- ---- what a function gives of the elements of a list
 

@@ -1,9 +1,7 @@
 -- Top owners have names.
-use Rattle.std.proofs.Common.{◌≡◌, ℕ, List, Bool, true, false, ◌&&◌, not, Option, Some, None, refl, subst}
-use Rattle.std.specs.Prelude.{codes, All}
+use Rattle.std.proofs.Common.{◌≡◌, ℕ, List, Bool, true, ◌&&◌, Option, Some, None, refl, subst}
+use Rattle.std.specs.Prelude.{All}
 use Rattle.std.specs.List.{slice_get}
-use Rattle.std.specs.Option.{option_and_then}
-use Rattle.std.specs.Str.{bytes_eq}
 use Rattle.std.proofs.lemmas.Bool.{and_from, and_parts}
 use Rattle.std.proofs.lemmas.Option.{none-some, same_Some, option_and_then_some}
 use Rattle.np_chains.specs.Chains.{top}
@@ -19,7 +17,7 @@ use Rattle.np_objects.specs.declared.controller.ControllerKind.TheVariants.{Depl
 use Rattle.np_objects.specs.declared.object.Object.TheVariants as object
 use Rattle.np_objects.specs.declared.owner_ref.OwnerRef.{OwnerRef}
 use Rattle.np_owners.specs.Names.{name_of}
-use Rattle.np_owners.specs.Owners.{by_name, by_reference, is_controller_kind, keep_if, last_owner, owner_of, owner_or_itself, top_owner, ups}
+use Rattle.np_owners.specs.Owners.{by_name, by_reference, last_owner, owner_of, owner_or_itself, top_owner, ups}
 use Rattle.np_owners.specs.declared.object_name.ObjectName.{ObjectName}
 use Rattle.np_owners.specs.declared.owner.Owner.{Owner}
 use Rattle.np_policies.specs.declared.policy.Policy.TheVariants as policy
@@ -32,21 +30,13 @@ has_words name = is_name name.kind && is_name name.name
 
 -- ---- owners that items name
 
-kept-well : (counts : OwnerRef → Bool) (owner : Option OwnerRef) → option_all is_well_owner owner ≡ true → option_all is_well_owner (option_and_then (λ owner. keep_if (counts owner) owner) owner) ≡ true
-kept-well counts None all = refl
-kept-well counts (Some owner) all = by (counts owner)
-  where
-    by : (b : Bool) → option_all is_well_owner (keep_if b owner) ≡ true
-    by true = all
-    by false = refl
-
 owner_of-well : (one : Item) → IsWellItem one → option_all is_well_owner (owner_of one) ≡ true
 owner_of-well (item.Object (object.Pod pod)) is =
     let owned = and_parts _ (is_well_ports pod.ports) is in
-    kept-well (λ owner. not (bytes_eq owner.kind (codes "Node"))) pod.owner (and_parts _ (option_all is_well_owner pod.owner) owned.0).1
+    (and_parts _ (option_all is_well_owner pod.owner) owned.0).1
 owner_of-well (item.Object (object.Controller controller)) is =
     let owned = and_parts _ (option_all is_well_template controller.template) is in
-    kept-well (λ owner. is_controller_kind owner.kind) controller.owner (and_parts _ (option_all is_well_owner controller.owner) owned.0).1
+    (and_parts _ (option_all is_well_owner controller.owner) owned.0).1
 owner_of-well (item.Object (object.Namespace other)) is = refl
 owner_of-well (item.Object (object.Service other)) is = refl
 owner_of-well (item.Object (object.Ingress other)) is = refl

@@ -24,10 +24,10 @@ use Rattle.np_policies.specs.declared.network_policy.NetPolicy.{NetPolicy}
 compare_names-total : IsTotalOrder compare_names
 compare_names-total = then_total (on_total (λ n. n.kind) nat_list_cmp_total) (then_total (on_total (λ n. n.namespace) nat_list_cmp_total) (on_total (λ n. n.name) nat_list_cmp_total))
 
-compare_names-exact : (a b : ObjectName) → compare_names a b ≡ Equal → a ≡ b
+pub compare_names-exact : (a b : ObjectName) → compare_names a b ≡ Equal → a ≡ b
 compare_names-exact a b is = equal_names a b (sym (is_eq-compare_names a b) ∙ ap is_eq is)
 
-nat_cmp-exact : (a b : ℕ) → nat_cmp a b ≡ Equal → a ≡ b
+pub nat_cmp-exact : (a b : ℕ) → nat_cmp a b ≡ Equal → a ≡ b
 nat_cmp-exact a b is = ranked a b Equal (sym is)
 
 -- ---- NetworkPolicies

@@ -1,7 +1,7 @@
 pub mod CountLemmas
 pub mod EndLemmas
 pub mod GatherLemmas
-pub mod OrderLemmas
+pub mod KeptEntries
 pub mod LawfulApart
 pub mod LawfulEntries
 pub mod LawfulLists
@@ -12,4 +12,7 @@ pub mod LawfulPods
 pub mod LawfulPolicies
 pub mod LawfulReading
 pub mod LawfulWell
-pub mod NamesApart
+pub mod OnceLemmas
+pub mod PriorityLemmas
+pub mod ReadingLemmas
+pub mod TopLemmas

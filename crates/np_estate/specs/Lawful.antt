@@ -77,7 +77,9 @@ is_well_pod pod =
     is_name pod.namespace && is_name pod.name && is_well_labels pod.namespace_labels && is_well_labels pod.labels
     && is_well_ports pod.ports && is_name pod.owner.kind && is_name pod.owner.name
 
--- so it is in everything that the lists hold, no range of ports or addresses is empty, and blocks are well formed
+-- So it is in everything that the lists hold. The values of each requirement ascend by their bytes, each once; `OneOf`
+-- and `NoneOf` have at least one, and the others none. No range of ports or addresses is empty, and blocks are well
+-- formed.
 abbrev pub is_well : EstateLists → Bool
 is_well lists =
     list_all is_well_pod lists.pods && list_all is_well_net_policy lists.net_policies

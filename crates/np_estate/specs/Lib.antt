@@ -1,3 +1,4 @@
+pub mod EachOnce
 pub mod Ends
 pub mod Families
 pub mod Gathering
@@ -7,3 +8,6 @@ pub mod Listed
 pub mod Namespaces
 pub mod PodPlaces
 pub mod Reading
+pub mod Readings
+pub mod Refusals
+pub mod TopOwners

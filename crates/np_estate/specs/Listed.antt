@@ -5,12 +5,12 @@ use Rattle.std.specs.Cmp.Lexicographic.{slice_cmp}
 use Rattle.std.specs.List.{filter_map}
 use Rattle.std.specs.Ordering.{nat_cmp, ordering_then}
 use Rattle.std.specs.declared.cmp.Ordering.{Ordering}
+use Rattle.np_estate.specs.Readings.{Reading}
 use Rattle.np_estate.specs.declared.placed_ingress.PlacedIngress.{PlacedIngress}
 use Rattle.np_estate.specs.declared.priorities.Rank.{Rank}
-use Rattle.np_items.specs.Readings.{Reading}
+use Rattle.np_estate.specs.declared.refusal.Refusal.TheVariants.{EqualPriority}
 use Rattle.np_items.specs.declared.item.Item.{Item}
 use Rattle.np_items.specs.declared.item.Item.TheVariants as item
-use Rattle.np_items.specs.declared.refusal.Refusal.TheVariants.{EqualPriority}
 use Rattle.np_objects.specs.declared.ingress.IngressItem.{IngressItem}
 use Rattle.np_objects.specs.declared.object.Object.TheVariants as object
 use Rattle.np_objects.specs.declared.service.ServiceItem.{ServiceItem}

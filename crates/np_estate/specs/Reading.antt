@@ -1,16 +1,20 @@
 -- What the bytes of inputs are read as.
-use Rattle.std.specs.Prelude.{ℕ, List, Ok}
+use Rattle.std.specs.Prelude.{ℕ, List, Option, Some, None, Result, Ok, Err, ⊤}
 use Rattle.np_estate.specs.Ends.{pods_of}
 use Rattle.np_estate.specs.LeftOut.{count_left_out, unaddressed}
 use Rattle.np_estate.specs.Listed.{admin_policies_of, baseline_of, have_priorities_apart, ingresses_of, net_policies_of, services_of}
+use Rattle.np_estate.specs.Readings.{Reading}
+use Rattle.np_estate.specs.Refusals.{items_refusal}
 use Rattle.np_estate.specs.declared.left_out.LeftOut.TheVariants.{Host, Finished, Skipped}
 use Rattle.np_estate.specs.declared.lists.EstateLists.{EstateLists}
 use Rattle.np_estate.specs.declared.notes.Notes.{Notes}
+use Rattle.np_estate.specs.declared.refusal.Refusal.TheVariants.{Duplicate, OwnerCycle}
 use Rattle.np_items.specs.Items.{items_of}
-use Rattle.np_items.specs.Readings.{Reading, ◌>>=◌, ◌>>◌}
+use Rattle.np_items.specs.Readings.{◌>>=◌, ◌>>◌}
+use Rattle.np_items.specs.declared.fault.ItemsFault.{ItemsFault}
 use Rattle.np_items.specs.declared.item.Item.{Item}
-use Rattle.np_owners.specs.Names.{have_names_apart}
-use Rattle.np_owners.specs.Owners.{have_no_cycle}
+use Rattle.np_owners.specs.Names.{first_repeat}
+use Rattle.np_owners.specs.Owners.{first_in_cycle}
 
 abbrev pub notes_of : List Item → Notes
 notes_of items = record {
@@ -32,10 +36,31 @@ lists_of items = record {
   notes = notes_of items;
 }
 
+-- the items that are read, or the refusal of them
+abbrev pub or_refused : Result (List Item) ItemsFault → Reading (List Item)
+or_refused (Ok items) = Ok items
+or_refused (Err fault) = Err (items_refusal fault)
+
+abbrev pub or_duplicate : Option (ℕ × ℕ) → Reading ⊤
+or_duplicate None = Ok tt
+or_duplicate (Some numbers) = Err (Duplicate numbers.0 numbers.1)
+
+-- no two items have one name
+abbrev pub have_names_apart : List Item → Reading ⊤
+have_names_apart items = or_duplicate (first_repeat items)
+
+abbrev pub or_cycle : Option (List ℕ) → Reading ⊤
+or_cycle None = Ok tt
+or_cycle (Some name) = Err (OwnerCycle name)
+
+-- no listed controller stands in its own chain of owners
+abbrev pub have_no_cycle : List Item → Reading ⊤
+have_no_cycle items = or_cycle (first_in_cycle items)
+
 -- the estate of inputs, or the first refusal
 unfoldable pub estate_of : List (List ℕ) → Reading EstateLists
 estate_of texts = do
-  items ← items_of texts
+  items ← or_refused (items_of texts)
   have_names_apart items
   have_priorities_apart items
   have_no_cycle items

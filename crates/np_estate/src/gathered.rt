@@ -18,7 +18,7 @@ use std::alloc::Global;
 use std::collections::BTreeMap;
 
 /// What the items so far give, each kind in its order.
-#[derive(Debug, Drop)]
+#[derive(Drop)]
 pub(crate) struct Gathered {
     pub(crate) pods: Seq<Pod>,
     pub(crate) net_policies: BTreeMap<ObjectName, NetPolicy>,

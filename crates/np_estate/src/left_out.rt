@@ -12,7 +12,7 @@ use np_objects::{Object, PodItem};
 use np_policies::{AdminPeer, AdminPolicy, AdminRule, BasePolicy};
 
 /// Why an item is left out.
-#[derive(Clone, Copy, Debug, PartialEq, Eq)]
+#[derive(Clone, Copy, PartialEq, Eq)]
 pub(crate) enum LeftOut {
     /// It is a pod, or gives one, on the network of its node.
     Host,

@@ -2,16 +2,17 @@
 ghost use Rattle.std.specs.Prelude.{◌≡◌, IfOk, OnOk};
 ghost use Rattle.std.specs.Option.{option_copied};
 ghost use Rattle.np_estate.specs.Listed as spec;
-ghost use Rattle.np_items.specs.Readings.{Gives};
+ghost use Rattle.np_estate.specs.Readings.{Gives};
 
+use crate::refusal::Refusal;
 use np_base::{NoMemory, Text};
-use np_items::{Item, Refusal};
+use np_items::Item;
 use np_policies::{AdminPolicy, Policy};
 use std::alloc::Global;
 use std::collections::BTreeMap;
 
 /// Where an admin policy stands among others: by its priority, and among those of one priority by its name.
-#[derive(Debug, Drop, PartialEq, Eq, PartialOrd, Ord)]
+#[derive(Drop, PartialEq, Eq, PartialOrd, Ord)]
 pub(crate) struct Rank {
     pub(crate) priority: u16,
     pub(crate) name: Text,

@@ -3,7 +3,7 @@ ghost use Rattle.std.specs.Prelude.{◌≡◌, ◌≤◌, length, map, IfOk};
 ghost use Rattle.np_estate.specs.Gathering as gathering;
 ghost use Rattle.np_estate.specs.Lawful.{IsLawful};
 ghost use Rattle.np_estate.specs.Reading as spec;
-ghost use Rattle.np_items.specs.Readings.{Gives};
+ghost use Rattle.np_estate.specs.Readings.{Gives};
 ghost use Rattle.np_owners.specs.Names.{HoldsPlaces};
 ghost use Rattle.np_owners.specs.Owners.{ups};
 
@@ -13,10 +13,11 @@ use crate::left_out::{LeftOut, count_left_out, unaddressed};
 use crate::lists::EstateLists;
 use crate::notes::Notes;
 use crate::priorities::refuse_equal_priorities;
+use crate::refusal::Refusal;
 use crate::setting::settings;
 use np_base::{NoMemory, Seq};
 use np_chains::Chains;
-use np_items::{Item, Refusal, read_items};
+use np_items::{Item, read_items};
 use np_owners::{Places, chains_of, made_pods, top_owners};
 use std::alloc::Global;
 

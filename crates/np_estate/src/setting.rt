@@ -14,7 +14,7 @@ use np_owners::{Owner, Places, name_of};
 use std::alloc::Global;
 
 /// What the rest of a list says of the pod that an item gives.
-#[derive(Debug, Drop)]
+#[derive(Drop)]
 pub(crate) struct Setting {
     pub(crate) namespace_labels: Labels,
     pub(crate) owner: Owner,

@@ -10,7 +10,7 @@ use Rattle.np_items.proofs.ReadingLemmas.{after}
 
 after-one : (items : List Item) (item : Item) (rest : Reading (List Item)) → after items (rest >>= λ more. Ok (item ∷ more)) ≡ after (items ++ item ∷ []) rest
 after-one items item (Ok more) = ap Ok (sym (append_assoc items (item ∷ []) more))
-after-one items item (Err refusal) = refl
+after-one items item (Err fault) = refl
 
 -- the item of the next value stands behind those so far
 pub after-next : (values : List Value) (place : ℕ) (value : Value) (items : List Item) (item : Item) → place < length values → value ≡ get_or values place value → item_of (place + 1) (view value) ≡ Ok item → after items (each_item (place + 1) (map view (drop place values))) ≡ after (items ++ item ∷ []) (each_item (place + 1 + 1) (map view (drop (place + 1) values)))

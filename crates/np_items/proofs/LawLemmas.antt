@@ -11,7 +11,7 @@ use Rattle.np_items.specs.Inputs.{input_values, is_list_kind, items_by, items_in
 use Rattle.np_items.specs.Items.{each_item, item_of}
 use Rattle.np_items.specs.Readings.{Reading, ◌>>=◌}
 use Rattle.np_items.specs.declared.item.Item.{Item}
-use Rattle.np_items.specs.declared.refusal.Refusal.{Refusal}
+use Rattle.np_items.specs.declared.fault.ItemsFault.{ItemsFault}
 
 -- ---- an object
 
@@ -23,31 +23,31 @@ unfolding items_in items_by
 items_in-object input value version kind has_version has_kind other =
     rw (has_version, has_kind, and_right (bytes_eq version (codes "v1")) (bytes_eq kind (codes "List")) (not_a_list kind other), other) refl
 
--- ---- the first refusal
+-- ---- the first fault
 
 -- where two steps give a value, the first gives one
 first_gives : {A B : Type 0} (reading : Reading A) (next : A → Reading B) (y : B) → (reading >>= next) ≡ Ok y → (x : A) × (reading ≡ Ok x) × (next x ≡ Ok y)
 first_gives (Ok x) next y is = (x, refl, is)
-first_gives (Err refusal) next y is = absurd (false≢true (ap is_ok is))
+first_gives (Err fault) next y is = absurd (false≢true (ap is_ok is))
 
-pub values_from-refused : (input : ℕ) (before others : List (List ℕ)) (text : List ℕ) (values : List Data) (refusal : Refusal) → values_from input before ≡ Ok values → input_values (input + length before) text ≡ Err refusal → values_from input (before ++ text ∷ others) ≡ Err refusal
-values_from-refused input [] others text values refusal read is =
-    let here : input_values input text ≡ Err refusal = rw add-zero at is in
+pub values_from-refused : (input : ℕ) (before others : List (List ℕ)) (text : List ℕ) (values : List Data) (fault : ItemsFault) → values_from input before ≡ Ok values → input_values (input + length before) text ≡ Err fault → values_from input (before ++ text ∷ others) ≡ Err fault
+values_from-refused input [] others text values fault read is =
+    let here : input_values input text ≡ Err fault = rw add-zero at is in
     rw here refl
-values_from-refused input (first ∷ before) others text values refusal read is =
+values_from-refused input (first ∷ before) others text values fault read is =
     let step = first_gives (input_values input first) _ values read in
     let rest = first_gives (values_from (input + 1) before) _ values step.2 in
     let same : input + length (first ∷ before) ≡ (input + 1) + length before = omega arith in
-    let later : values_from (input + 1) (before ++ text ∷ others) ≡ Err refusal = values_from-refused (input + 1) before others text rest.0 refusal rest.1 (rw same at is) in
+    let later : values_from (input + 1) (before ++ text ∷ others) ≡ Err fault = values_from-refused (input + 1) before others text rest.0 fault rest.1 (rw same at is) in
     rw (step.1, later) refl
 
-pub each_item-refused : (number : ℕ) (before others : List Data) (value : Data) (items : List Item) (refusal : Refusal) → each_item number before ≡ Ok items → item_of (number + length before) value ≡ Err refusal → each_item number (before ++ value ∷ others) ≡ Err refusal
-each_item-refused number [] others value items refusal read is =
-    let here : item_of number value ≡ Err refusal = rw add-zero at is in
+pub each_item-refused : (number : ℕ) (before others : List Data) (value : Data) (items : List Item) (fault : ItemsFault) → each_item number before ≡ Ok items → item_of (number + length before) value ≡ Err fault → each_item number (before ++ value ∷ others) ≡ Err fault
+each_item-refused number [] others value items fault read is =
+    let here : item_of number value ≡ Err fault = rw add-zero at is in
     rw here refl
-each_item-refused number (first ∷ before) others value items refusal read is =
+each_item-refused number (first ∷ before) others value items fault read is =
     let step = first_gives (item_of number first) _ items read in
     let rest = first_gives (each_item (number + 1) before) _ items step.2 in
     let same : number + length (first ∷ before) ≡ (number + 1) + length before = omega arith in
-    let later : each_item (number + 1) (before ++ value ∷ others) ≡ Err refusal = each_item-refused (number + 1) before others value rest.0 refusal rest.1 (rw same at is) in
+    let later : each_item (number + 1) (before ++ value ∷ others) ≡ Err fault = each_item-refused (number + 1) before others value rest.0 fault rest.1 (rw same at is) in
     rw (step.1, later) refl

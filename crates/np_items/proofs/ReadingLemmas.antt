@@ -5,4 +5,4 @@ use Rattle.np_items.specs.Readings.{Reading}
 -- what was read, and then what is read of the rest
 abbrev pub after : {A : Type 0} → List A → Reading (List A) → Reading (List A)
 after front (Ok more) = Ok (front ++ more)
-after front (Err refusal) = Err refusal
+after front (Err fault) = Err fault

@@ -8,7 +8,7 @@ use Rattle.np_json.specs.Members.{text_of, list_of}
 use Rattle.np_json.specs.declared.field.Field.{Field}
 use Rattle.np_json.specs.declared.field.Field.TheVariants.{Missing, Wrong, Given}
 use Rattle.np_items.specs.Readings.{Reading, ◌>>=◌}
-use Rattle.np_items.specs.declared.refusal.Refusal.TheVariants.{NotJson, NotAList}
+use Rattle.np_items.specs.declared.fault.ItemsFault.TheVariants.{NotJson, NotAList}
 
 -- the JSON value of a text in UTF-8, where it is one within the nesting that is read
 unfoldable pub json_of : List ℕ → Option Data

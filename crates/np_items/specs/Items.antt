@@ -10,7 +10,7 @@ use Rattle.np_items.specs.Inputs.{all_values, is_list_kind}
 use Rattle.np_items.specs.Readings.{Reading, ◌>>=◌, ◌>>◌}
 use Rattle.np_items.specs.declared.item.Item.{Item}
 use Rattle.np_items.specs.declared.item.Item.TheVariants as item
-use Rattle.np_items.specs.declared.refusal.Refusal.TheVariants.{TooManyItems, NestedList, Bad}
+use Rattle.np_items.specs.declared.fault.ItemsFault.TheVariants.{TooManyItems, NestedList, Bad}
 
 -- what a shape reads of the item of that number
 abbrev pub numbered : {A : Type 0} → ℕ → Read A → Reading A

@@ -1,5 +1,5 @@
+pub mod Faults
 pub mod Inputs
 pub mod Items
 pub mod Readings
-pub mod Refusals
 pub mod WellFormed

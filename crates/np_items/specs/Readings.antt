@@ -1,29 +1,29 @@
--- Readings: what inputs are read as, or the refusal that stands first.
+-- Readings: what inputs are read as, or the fault that stands first.
 use Rattle.std.specs.Prelude.{◌≡◌, Result, Ok, Err, ⊤}
-use Rattle.np_items.specs.declared.refusal.Refusal.{Refusal}
-use Rattle.np_items.specs.declared.refusal.Refusal.TheVariants.{NoMemory}
+use Rattle.np_items.specs.declared.fault.ItemsFault.{ItemsFault}
+use Rattle.np_items.specs.declared.fault.ItemsFault.TheVariants.{NoMemory}
 
 abbrev pub Reading : Type 0 → Type 0
-Reading A = Result A Refusal
+Reading A = Result A ItemsFault
 
--- one step after another; the first refusal stands
+-- one step after another; the first fault stands, of whatever type faults are
 infixl 10 ◌>>=◌
-abbrev pub ◌>>=◌ : {A B : Type 0} → Reading A → (A → Reading B) → Reading B
+abbrev pub ◌>>=◌ : {A B E : Type 0} → Result A E → (A → Result B E) → Result B E
 (Ok x) >>= rest = rest x
-(Err refusal) >>= rest = Err refusal
+(Err fault) >>= rest = Err fault
 
 infixl 10 ◌>>◌
-abbrev pub ◌>>◌ : {A B : Type 0} → Reading A → Reading B → Reading B
+abbrev pub ◌>>◌ : {A B E : Type 0} → Result A E → Result B E → Result B E
 (Ok x) >> rest = rest
-(Err refusal) >> rest = Err refusal
+(Err fault) >> rest = Err fault
 
--- what the code gives of a reading: its value as it is seen, or its very refusal; want of memory may always come
-abbrev pub GivesAs : {A B : Type 0} → (A → B) → Result A Refusal → Reading B → Type 0
+-- what the code gives of a reading: its value as it is seen, or its very fault; want of memory may always come
+abbrev pub GivesAs : {A B : Type 0} → (A → B) → Result A ItemsFault → Reading B → Type 0
 GivesAs seen (Ok x) reading = reading ≡ Ok (seen x)
 GivesAs seen (Err NoMemory) reading = ⊤
-GivesAs seen (Err refusal) reading = reading ≡ Err refusal
+GivesAs seen (Err fault) reading = reading ≡ Err fault
 
-abbrev pub Gives : {A : Type 0} → Result A Refusal → Reading A → Type 0
+abbrev pub Gives : {A : Type 0} → Result A ItemsFault → Reading A → Type 0
 Gives (Ok x) reading = reading ≡ Ok x
 Gives (Err NoMemory) reading = ⊤
-Gives (Err refusal) reading = reading ≡ Err refusal
+Gives (Err fault) reading = reading ≡ Err fault

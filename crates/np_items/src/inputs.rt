@@ -4,15 +4,15 @@ ghost use Rattle.serde_json.specs.View.{view};
 ghost use Rattle.np_items.specs.Inputs as spec;
 ghost use Rattle.np_items.specs.Readings.{GivesAs};
 
+use crate::fault::ItemsFault;
 use crate::json::value_of;
 use crate::list::items_in;
-use crate::refusal::Refusal;
 use np_base::{NoMemory, Seq};
 use serde_json::Value;
 use std::alloc::Global;
 
 /// The values that all inputs list, in order. The first input that is `NotJson` or `NotAList` refuses them.
-pub(crate) fn all_values(alloc: Global, texts: &[Vec<u8>]) -> Result<Seq<Value>, Refusal>
+pub(crate) fn all_values(alloc: Global, texts: &[Vec<u8>]) -> Result<Seq<Value>, ItemsFault>
     ensures { GivesAs (λ values. map view values) result
         (spec.all_values (map (λ text. text.items) texts.now)) }
 {
@@ -25,7 +25,7 @@ pub(crate) fn all_values(alloc: Global, texts: &[Vec<u8>]) -> Result<Seq<Value>,
 
 // The values that the input of this number lists.
 #[tactic(auto, unfolding(crate::specs::Inputs::input_values))]
-fn input_values(alloc: Global, input: u64, text: &[u8]) -> Result<Seq<Value>, Refusal>
+fn input_values(alloc: Global, input: u64, text: &[u8]) -> Result<Seq<Value>, ItemsFault>
     ensures { GivesAs (λ values. map view values) result (spec.input_values input text.now) }
 {
     items_in(alloc, input, value_of(alloc, input, text)?)

@@ -5,9 +5,9 @@ ghost use Rattle.np_items.specs.Items as spec;
 ghost use Rattle.np_items.specs.Readings.{Gives};
 ghost use Rattle.np_items.specs.WellFormed.{IsWellItem};
 
+use crate::fault::ItemsFault;
 use crate::item::Item;
 use crate::list::is_list_kind;
-use crate::refusal::Refusal;
 use np_base::Seq;
 use np_json::{TypeMetaShape, read_item};
 use np_objects::read_object;
@@ -15,8 +15,8 @@ use np_policies::read_policy;
 use serde_json::Value;
 use std::alloc::Global;
 
-/// Each value as an item, numbered from 1. The first refusal stands.
-pub(crate) fn each_item(alloc: Global, values: &[Value]) -> Result<Seq<Item>, Refusal>
+/// Each value as an item, numbered from 1. The first fault stands.
+pub(crate) fn each_item(alloc: Global, values: &[Value]) -> Result<Seq<Item>, ItemsFault>
     ensures reads { Gives result (spec.each_item 1 (map view values.now)) }
     ensures count { IfOk result (λ items. length items ≡ length values.now) }
     ensures well { IfOk result (All IsWellItem) }
@@ -30,7 +30,7 @@ pub(crate) fn each_item(alloc: Global, values: &[Value]) -> Result<Seq<Item>, Re
 
 // The item of this number.
 #[tactic(auto, unfolding(crate::specs::Items::item_of))]
-fn item_of(alloc: Global, number: u64, value: &Value) -> Result<Item, Refusal>
+fn item_of(alloc: Global, number: u64, value: &Value) -> Result<Item, ItemsFault>
     ensures reads { Gives result (spec.item_of number (view value.now)) }
     ensures well { IfOk result IsWellItem }
 {
@@ -43,12 +43,12 @@ fn item_of(alloc: Global, number: u64, value: &Value) -> Result<Item, Refusal>
 
 // The rule that an item is no list, whatever its version.
 #[tactic(auto, unfolding(crate::specs::Items::must_be_no_list))]
-fn must_be_no_list(alloc: Global, number: u64, value: &Value) -> Result<(), Refusal>
+fn must_be_no_list(alloc: Global, number: u64, value: &Value) -> Result<(), ItemsFault>
     ensures { Gives result (spec.must_be_no_list number (view value.now)) }
 {
     let meta = read_item(alloc, number, value, &TypeMetaShape)?;
     if is_list_kind(meta.kind.as_str()) {
-        Err(Refusal::NestedList { item: number })
+        Err(ItemsFault::NestedList { item: number })
     } else {
         Ok(())
     }

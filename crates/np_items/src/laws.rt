@@ -6,7 +6,7 @@ ghost use Rattle.np_json.specs.declared.field.Field.TheVariants.{Given};
 ghost use Rattle.np_items.specs.Inputs.{all_values, input_values, is_list_kind, items_in};
 ghost use Rattle.np_items.specs.Items.{each_item, item_of};
 ghost use Rattle.np_items.specs.declared.item.Item.{Item};
-ghost use Rattle.np_items.specs.declared.refusal.Refusal.{Refusal};
+ghost use Rattle.np_items.specs.declared.fault.ItemsFault.{ItemsFault};
 
 /// An input that is an object whose kind does not end in `List` lists that object alone.
 pub fn an_object_is_one_item()
@@ -17,14 +17,14 @@ pub fn an_object_is_one_item()
 
 /// Inputs that do not all list items are refused as the first that does not, under its number.
 pub fn first_refused_input_stands()
-    ensures { (before others : List (List ℕ)) (text : List ℕ) (values : List Data) (refusal : Refusal) →
-        all_values before ≡ Ok values → input_values (1 + length before) text ≡ Err refusal →
-        all_values (before ++ text ∷ others) ≡ Err refusal }
+    ensures { (before others : List (List ℕ)) (text : List ℕ) (values : List Data) (fault : ItemsFault) →
+        all_values before ≡ Ok values → input_values (1 + length before) text ≡ Err fault →
+        all_values (before ++ text ∷ others) ≡ Err fault }
 {}
 
 /// Items that are not all read are refused as the first that is not, under its number.
 pub fn first_refused_item_stands()
-    ensures { (before others : List Data) (value : Data) (items : List Item) (refusal : Refusal) →
-        each_item 1 before ≡ Ok items → item_of (1 + length before) value ≡ Err refusal →
-        each_item 1 (before ++ value ∷ others) ≡ Err refusal }
+    ensures { (before others : List Data) (value : Data) (items : List Item) (fault : ItemsFault) →
+        each_item 1 before ≡ Ok items → item_of (1 + length before) value ≡ Err fault →
+        each_item 1 (before ++ value ∷ others) ≡ Err fault }
 {}

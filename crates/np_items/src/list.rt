@@ -6,7 +6,7 @@ ghost use Rattle.np_json.specs.Members.{field_by, unless_null};
 ghost use Rattle.np_items.specs.Inputs as spec;
 ghost use Rattle.np_items.specs.Readings.{GivesAs};
 
-use crate::refusal::Refusal;
+use crate::fault::ItemsFault;
 use np_base::{NoMemory, Seq};
 use np_json::{Field, text_field};
 use serde_json::Value;
@@ -16,7 +16,7 @@ use std::alloc::Global;
 /// itself. It is `NotAList` where the value is no object with the texts `apiVersion` and `kind`, where its kind ends
 /// in `List` but it is no `v1` List, or where the `items` of a `v1` List is neither a list nor missing nor null.
 #[tactic(auto, unfolding(crate::specs::Inputs::items_in, crate::specs::Inputs::items_by))]
-pub(crate) fn items_in(alloc: Global, input: u64, value: Value) -> Result<Seq<Value>, Refusal>
+pub(crate) fn items_in(alloc: Global, input: u64, value: Value) -> Result<Seq<Value>, ItemsFault>
     ensures { GivesAs (λ items. map view items) result (spec.items_in input (view value)) }
 {
     let version = text_at(input, &value, "apiVersion")?;
@@ -24,7 +24,7 @@ pub(crate) fn items_in(alloc: Global, input: u64, value: Value) -> Result<Seq<Va
     if version == "v1" && kind == "List" {
         listed(alloc, input, value)
     } else if is_list_kind(kind) {
-        Err(Refusal::NotAList { input })
+        Err(ItemsFault::NotAList { input })
     } else {
         Ok(alone(alloc, value)?)
     }
@@ -38,18 +38,18 @@ pub(crate) fn is_list_kind(kind: &str) -> bool
 }
 
 // The text at a name, which the value of an input must have.
-fn text_at<'a>(input: u64, value: &'a Value, name: &str) -> Result<&'a str, Refusal>
+fn text_at<'a>(input: u64, value: &'a Value, name: &str) -> Result<&'a str, ItemsFault>
     ensures { GivesAs (λ text. text.now) result (spec.text_at input name.now (view value.now)) }
 {
     match text_field(value, name) {
         Field::Given(text) => Ok(text),
-        Field::Missing => Err(Refusal::NotAList { input }),
-        Field::Wrong => Err(Refusal::NotAList { input }),
+        Field::Missing => Err(ItemsFault::NotAList { input }),
+        Field::Wrong => Err(ItemsFault::NotAList { input }),
     }
 }
 
 // The items of a list.
-fn listed(alloc: Global, input: u64, mut value: Value) -> Result<Seq<Value>, Refusal>
+fn listed(alloc: Global, input: u64, mut value: Value) -> Result<Seq<Value>, ItemsFault>
     ensures { GivesAs (λ items. map view items) result (spec.listed input (view value)) }
 {
     match value.get_mut("items") {
@@ -59,14 +59,14 @@ fn listed(alloc: Global, input: u64, mut value: Value) -> Result<Seq<Value>, Ref
 }
 
 // The items of the member `items` of a list.
-fn items_of(alloc: Global, input: u64, items: Value) -> Result<Seq<Value>, Refusal>
+fn items_of(alloc: Global, input: u64, items: Value) -> Result<Seq<Value>, ItemsFault>
     ensures { GivesAs (λ items. map view items) result
         (spec.or_none input (field_by as_array (unless_null (view items)))) }
 {
     match items {
         Value::Array(items) => Ok(Seq::from_vec(items)),
         Value::Null => Ok(Seq::new(alloc)),
-        _ => Err(Refusal::NotAList { input }),
+        _ => Err(ItemsFault::NotAList { input }),
     }
 }
 

@@ -1,3 +1,6 @@
 pub mod Demands
+pub mod DistinctAscends
 pub mod Labels
 pub mod Selectors
+pub mod Values
+pub mod WellFormed

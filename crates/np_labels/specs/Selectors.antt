@@ -1,8 +1,10 @@
 -- When labels meet requirements and selectors.
-use Rattle.std.specs.Prelude.{ℕ, List, [], ◌∷◌, Bool, true, false, not, Option, Some, None, is_some, is_none}
+use Rattle.std.specs.Prelude.{ℕ, List, [], ◌∷◌, Bool, true, false, not, Option, Some, None, is_some, is_none, refl}
 use Rattle.std.specs.List.{list_any, list_all}
 use Rattle.std.specs.Str.{bytes_eq}
+use Rattle.np_labels.specs.DistinctAscends.{distinct-ascends}
 use Rattle.np_labels.specs.Labels.{value_of}
+use Rattle.np_labels.specs.Values.{distinct}
 use Rattle.np_labels.specs.declared.op.Op.{Op}
 use Rattle.np_labels.specs.declared.op.Op.TheVariants.{OneOf, NoneOf, Present, Absent}
 use Rattle.np_labels.specs.declared.pair.Pair.{Pair}
@@ -26,9 +28,13 @@ allows Absent values found = is_none found
 abbrev pub meets_requirement : Requirement → List Pair → Bool
 meets_requirement requirement labels = allows requirement.op requirement.values (value_of labels requirement.key)
 
+-- the requirement of a key, with these values in the order of their bytes, each once
+abbrev pub requirement_of : List ℕ → Op → List (List ℕ) → Requirement
+requirement_of key op values = record { key = key; op = op; values = distinct values; ascending = distinct-ascends values }
+
 -- the requirement of one label: its key has its value
 abbrev pub label_requirement : List ℕ × List ℕ → Requirement
-label_requirement label = record { key = label.0; op = OneOf; values = label.1 ∷ [] }
+label_requirement label = record { key = label.0; op = OneOf; values = label.1 ∷ []; ascending = refl }
 
 -- whether labels meet all the requirements of a selector
 abbrev pub meets_selector : Selector → List Pair → Bool

@@ -1,7 +1,11 @@
 //! What follows from the definitions of labels, requirements and selectors.
 ghost use Rattle.std.specs.Prelude.{◌≡◌, List, ℕ, [], true, not};
+ghost use Rattle.std.specs.Cmp.Lexicographic.{slice_cmp};
+ghost use Rattle.std.specs.List.Sorted.{IsStrictlySortedBy};
+ghost use Rattle.std.specs.Ordering.{nat_cmp};
 ghost use Rattle.np_labels.specs.Labels.{value_of, last_value_of, labels_of, HasAscendingKeys};
 ghost use Rattle.np_labels.specs.Selectors.{meets_requirement, meets_selector, negation_of};
+ghost use Rattle.np_labels.specs.WellFormed.{is_well_requirement};
 ghost use Rattle.np_labels.specs.declared.pair.Pair.{Pair};
 ghost use Rattle.np_labels.specs.declared.requirement.Requirement.{Requirement};
 
@@ -25,6 +29,17 @@ pub fn labels_are_their_values()
 pub fn negation_is_met_elsewhere()
     ensures { (requirement : Requirement) (labels : List Pair) →
         meets_requirement (negation_of requirement) labels ≡ not (meets_requirement requirement labels) }
+{}
+
+/// The values of a requirement stand in ascending order of their bytes, so each stands once.
+pub fn values_ascend()
+    ensures { (requirement : Requirement) → IsStrictlySortedBy (slice_cmp nat_cmp) requirement.values }
+{}
+
+/// A requirement is well formed exactly where its negation is: both have the same values, and both want some or none.
+pub fn negation_is_as_well_formed()
+    ensures { (requirement : Requirement) →
+        is_well_requirement (negation_of requirement) ≡ is_well_requirement requirement }
 {}
 
 /// A selector without requirements is met by everything.

@@ -11,6 +11,7 @@ mod possibility;
 mod requirement;
 mod selector;
 mod value_set;
+mod values;
 
 pub use labels::Labels;
 pub use op::Op;

@@ -18,9 +18,8 @@ use np_base::{NoMemory, Text};
 use std::alloc::Global;
 use std::collections::BTreeMap;
 
-/// Labels that meet all the requirements, or `None` where no labels do. The listed values need be neither sorted
-/// nor distinct, and there may be none. A value in the labels may be one that no real object has. The time is
-/// that of sorting the keys and the listed values.
+/// Labels that meet all the requirements, or `None` where no labels do. A requirement may list no values. A value in
+/// the labels may be one that no real object has. The time is that of sorting the keys and the listed values.
 pub fn possible(alloc: Global, all: &[Requirement]) -> Result<Option<Labels>, NoMemory>
     ensures met { IfOk result (λ found. IfSome found (λ labels.
         list_all (λ requirement. meets_requirement requirement labels) all.now ≡ true)) }

@@ -1,24 +1,40 @@
 //! What a selector asks of one key.
-ghost use Rattle.std.specs.Prelude.{◌≡◌, List, IfOk, not};
-ghost use Rattle.np_labels.specs.Selectors.{label_requirement, meets_requirement, negation_of};
-ghost use Rattle.np_labels.specs.declared.pair.Pair.{Pair};
+ghost use Rattle.std.specs.Prelude.{IsTrue};
+ghost use Rattle.np_labels.specs.Values.{is_ascending};
 
 use crate::labels::Labels;
 use crate::op::Op;
+use crate::values::distinct;
 use np_base::{NoMemory, Seq, Text, TryCopy};
 use std::alloc::Global;
 
-/// What a selector asks of one key. The values need be neither sorted nor distinct. `Present` and `Absent` look at
-/// the key alone and ignore the values, a `OneOf` without values is met by nothing, and a `NoneOf` without values
-/// by everything.
+/// What a selector asks of one key. The values stand in the order of their bytes, each once. `Present` and `Absent`
+/// look at the key alone and ignore the values, a `OneOf` without values is met by nothing, and a `NoneOf` without
+/// values by everything.
 #[derive(Debug, Drop)]
 pub struct Requirement {
     pub key: Text,
     pub op: Op,
     pub values: Seq<Text>,
+    /// Each value is below those after it.
+    pub ghost ascending: { IsTrue (is_ascending values) },
 }
 
 impl Requirement {
+    ghost use Rattle.std.specs.Prelude.{◌≡◌, List, ℕ, IfOk, not};
+    ghost use Rattle.std.specs.Option.{option_map};
+    ghost use Rattle.np_labels.specs.Selectors.{allows, is_listed, label_requirement, meets_requirement, negation_of, requirement_of};
+    ghost use Rattle.np_labels.specs.declared.pair.Pair.{Pair};
+
+    /// The requirement of a key with these values, in the order of their bytes and each once, however they are given.
+    pub fn of(alloc: Global, key: Text, op: Op, values: Seq<Text>) -> Result<Requirement, NoMemory>
+        ensures value { IfOk result (λ made. made ≡ requirement_of key op values) }
+        ensures same { IfOk result (λ made. (value : List ℕ) → is_listed made.values value ≡ is_listed values value) }
+    {
+        let values = distinct(alloc, values)?;
+        Ok(Requirement { key, op, values })
+    }
+
     /// The requirement of one label: its key has its value (Kubernetes API reference, `matchLabels`).
     pub fn of_label(alloc: Global, key: Text, value: Text) -> Result<Requirement, NoMemory>
         ensures { IfOk result (λ made. made ≡ label_requirement (key, value)) }
@@ -33,12 +49,34 @@ impl Requirement {
     }
 
     /// Whether labels meet it. `NoneOf` is met where the key is absent (Kubernetes API reference, "Resources that
-    /// support set-based requirements").
+    /// support set-based requirements"). The time is that of finding the key among the labels, and its value among
+    /// the values by halves.
     pub fn meets(&self, labels: &Labels) -> bool
         ensures { result ≡ meets_requirement self.now labels.now }
     {
-        self.op
-            .allows(self.values.items(), labels.get(self.key.as_str()))
+        self.allows(labels.get(self.key.as_str()))
+    }
+
+    // Whether the value that the key has, or that it has none, is as asked.
+    fn allows(&self, found: Option<&str>) -> bool
+        ensures { result ≡ allows self.now.op self.now.values (option_map (λ value. value.now) found.entry) }
+    {
+        match self.op {
+            Op::OneOf => found.is_some_and(|value| self.lists(value)),
+            Op::NoneOf => !found.is_some_and(|value| self.lists(value)),
+            Op::Present => found.is_some(),
+            Op::Absent => found.is_none(),
+        }
+    }
+
+    // Whether a value is one of the listed ones. It is looked up by halves.
+    fn lists(&self, value: &str) -> bool
+        ensures { result ≡ is_listed self.now.values value.now }
+    {
+        self.values
+            .items()
+            .binary_search_by(|listed| listed.as_str().cmp(value))
+            .is_ok()
     }
 
     /// The requirement that is met exactly where this one is not: the same key and values with the opposite op.

@@ -1,2 +1,5 @@
+pub mod AddressLemmas
+pub mod OwnerLemmas
+pub mod OwnerReads
 pub mod ReadLemmas
 pub mod WellLemmas

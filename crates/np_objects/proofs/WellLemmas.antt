@@ -1,5 +1,5 @@
 -- What the shapes of objects read is well formed.
-use Rattle.std.proofs.Common.{◌≡◌, ℕ, List, [], ◌∷◌, length, map, fold, Bool, true, false, not, ◌&&◌, ◌==◌, if◌then◌else◌, IfOk, Option, Some, None, option_map, Ok, Err, Result, ℤ, codes, unwrap_or, refl, ap, ◌∙◌}
+use Rattle.std.proofs.Common.{◌≡◌, ℕ, List, [], ◌∷◌, length, map, fold, Bool, true, false, not, ◌&&◌, ◌==◌, if◌then◌else◌, IfOk, Option, Some, None, option_map, find, Ok, Err, Result, ℤ, codes, unwrap_or, refl, ap, ◌∙◌}
 use Rattle.std.specs.List.{list_all, filter_map, flat_map}
 use Rattle.std.specs.Option.{option_flatten}
 use Rattle.std.specs.Ordering.{nat_cmp, match_ordering}
@@ -23,10 +23,10 @@ use Rattle.np_labels.specs.declared.pair.Pair.{Pair}
 use Rattle.np_objects.specs.Controllers.{controller, controller_spec, controller_metadata, replicated_spec, template_spec, job_template, cron_job_spec, no_spec, is_zero}
 use Rattle.np_objects.specs.Ingresses.{ingress}
 use Rattle.np_objects.specs.Labels.{label_map, pair_of}
-use Rattle.np_objects.specs.Lists.{unless_empty, first_some}
+use Rattle.np_objects.specs.Lists.{unless_empty}
 use Rattle.np_objects.specs.Namespaces.{namespace, namespace_metadata}
 use Rattle.np_objects.specs.Objects.{object_of, object_by, kind_of}
-use Rattle.np_objects.specs.Owners.{owner_reference, if_controls}
+use Rattle.np_objects.specs.Owners.{owner_reference, owner_of, names_owner}
 use Rattle.np_objects.specs.PodSpecs.{container, pod_spec}
 use Rattle.np_objects.specs.Pods.{pod, pod_metadata}
 use Rattle.np_objects.specs.Ports.{port_name, protocol, container_port, if_named}
@@ -41,7 +41,9 @@ use Rattle.np_objects.specs.declared.kind.ObjectKind.{ObjectKind}
 use Rattle.np_objects.specs.declared.kind.ObjectKind.TheVariants as kind
 use Rattle.np_objects.specs.declared.object.Object.{Object}
 use Rattle.np_objects.specs.declared.object.Object.TheVariants as object
-use Rattle.np_objects.specs.declared.owner_ref.OwnerRef.{OwnerRef}
+use Rattle.np_objects.specs.declared.owner_reference.Dependent.{Dependent}
+use Rattle.np_objects.specs.declared.owner_reference.Dependent.TheVariants as dependent
+use Rattle.np_objects.specs.declared.owner_reference.OwnerReference.{OwnerReference}
 use Rattle.np_objects.specs.declared.pod_item.PodMetadata.{PodMetadata}
 use Rattle.np_objects.specs.declared.pod_spec.PodSpec.{PodSpec}
 use Rattle.np_objects.specs.declared.service.PortName.TheVariants.{Number, Named}
@@ -57,11 +59,6 @@ somes_pass p (None ∷ found) all = somes_pass p found all
 somes_pass p (Some x ∷ found) all =
     let parts = and_parts (p x) (list_all (option_all p) found) all in
     and_from (p x) (list_all p (filter_map (λ x. x) found)) parts.0 (somes_pass p found parts.1)
-
-first_passes : {A : Type 0} (p : A → Bool) (found : List (Option A)) → list_all (option_all p) found ≡ true → option_all p (first_some found) ≡ true
-first_passes p [] all = refl
-first_passes p (None ∷ found) all = first_passes p found all
-first_passes p (Some x ∷ found) all = (and_parts (p x) (list_all (option_all p) found) all).0
 
 joined_pass : {A : Type 0} (p : A → Bool) (lists : List (List A)) → list_all (list_all p) lists ≡ true → list_all p (flat_map (λ items. items) lists) ≡ true
 joined_pass p [] all = refl
@@ -108,18 +105,28 @@ label_map-well value =
 
 -- ---- owners
 
-controls-well : (controls : Bool) (owner : OwnerRef) → is_well_owner owner ≡ true → option_all is_well_owner (if_controls controls owner) ≡ true
-controls-well true owner is = is
-controls-well false owner is = refl
+abbrev is_well_reference : OwnerReference → Bool
+is_well_reference reference = is_well_owner reference.owner
 
-owner_reference-well : (value : Data) → ReadsOnly (option_all is_well_owner) (owner_reference value)
+owner_reference-well : (value : Data) → ReadsOnly is_well_reference (owner_reference value)
 unfolding owner_reference
 owner_reference-well value =
-    ReadsOnly-then (option_all is_well_owner) _ _ (
-    ReadsOnly-bind is_name (option_all is_well_owner) _ _ (ReadsOnly-required is_name (codes "kind") name value ReadsOnly-name) (λ kind kind_well.
-    ReadsOnly-bind is_name (option_all is_well_owner) _ _ (ReadsOnly-required is_name (codes "name") name value ReadsOnly-name) (λ called called_well.
-    ReadsOnly-after (option_all is_well_owner) _ _ (λ controller.
-    ReadsOnly-Ok (option_all is_well_owner) _ (controls-well (unwrap_or controller false) (record { kind = kind; name = called }) (and_from (is_name kind) (is_name called) kind_well called_well))))))
+    ReadsOnly-then is_well_reference _ _ (
+    ReadsOnly-bind is_name is_well_reference _ _ (ReadsOnly-required is_name (codes "kind") name value ReadsOnly-name) (λ kind kind_well.
+    ReadsOnly-bind is_name is_well_reference _ _ (ReadsOnly-required is_name (codes "name") name value ReadsOnly-name) (λ called called_well.
+    ReadsOnly-after is_well_reference _ _ (λ controller.
+    ReadsOnly-Ok is_well_reference _ (and_from (is_name kind) (is_name called) kind_well called_well)))))
+
+owner_of-well : (dependent : Dependent) (references : List OwnerReference) → list_all is_well_reference references ≡ true → option_all is_well_owner (owner_of dependent references) ≡ true
+owner_of-well dependent [] all = refl
+owner_of-well dependent (reference ∷ references) all = by (names_owner dependent reference) (owner_of-well dependent references parts.1)
+  where
+    parts : (is_well_reference reference ≡ true) × (list_all is_well_reference references ≡ true)
+    parts = and_parts (is_well_reference reference) (list_all is_well_reference references) all
+
+    by : (named : Bool) → option_all is_well_owner (owner_of dependent references) ≡ true → option_all is_well_owner (option_map (λ one. one.owner) (if named then Some reference else find (names_owner dependent) references)) ≡ true
+    by true later = parts.0
+    by false later = later
 
 -- ---- ports
 
@@ -177,8 +184,8 @@ unfolding pod_metadata
 pod_metadata-well value =
     ReadsOnly-bind is_well_own is_well_metadata _ _ (ReadsOnly-namespaced_name value) (λ own own_well.
     ReadsOnly-bind (option_all is_well_labels) is_well_metadata _ _ (ReadsOnly-optional is_well_labels (codes "labels") label_map value label_map-well) (λ found found_well.
-    ReadsOnly-bind (list_all (option_all is_well_owner)) is_well_metadata _ _ (ReadsOnly-listed (option_all is_well_owner) (codes "ownerReferences") owner_reference value owner_reference-well) (λ references references_well.
-    ReadsOnly-Ok is_well_metadata _ (and_from _ _ (and_from _ _ own_well (unwrapped is_well_labels found [] found_well refl)) (first_passes is_well_owner references references_well)))))
+    ReadsOnly-bind (list_all is_well_reference) is_well_metadata _ _ (ReadsOnly-listed is_well_reference (codes "ownerReferences") owner_reference value owner_reference-well) (λ references references_well.
+    ReadsOnly-Ok is_well_metadata _ (and_from _ _ (and_from _ _ own_well (unwrapped is_well_labels found [] found_well refl)) (owner_of-well dependent.Pod references references_well)))))
 
 pod-well : (value : Data) → ReadsOnly is_well_pod (pod value)
 unfolding pod
@@ -267,8 +274,8 @@ controller_metadata-well : (value : Data) → ReadsOnly has_well_metadata (contr
 unfolding controller_metadata
 controller_metadata-well value =
     ReadsOnly-bind is_well_own has_well_metadata _ _ (ReadsOnly-namespaced_name value) (λ own own_well.
-    ReadsOnly-bind (list_all (option_all is_well_owner)) has_well_metadata _ _ (ReadsOnly-listed (option_all is_well_owner) (codes "ownerReferences") owner_reference value owner_reference-well) (λ references references_well.
-    ReadsOnly-Ok has_well_metadata _ (and_from _ _ own_well (first_passes is_well_owner references references_well))))
+    ReadsOnly-bind (list_all is_well_reference) has_well_metadata _ _ (ReadsOnly-listed is_well_reference (codes "ownerReferences") owner_reference value owner_reference-well) (λ references references_well.
+    ReadsOnly-Ok has_well_metadata _ (and_from _ _ own_well (owner_of-well dependent.Controller references references_well))))
 
 controller-well : (which : ControllerKind) (value : Data) → ReadsOnly is_well_controller (controller which value)
 unfolding controller
@@ -318,7 +325,7 @@ service_port-well value =
 requirement-well : (entry : List ℕ × List ℕ) → is_label entry ≡ true → is_well_requirement (label_requirement entry) ≡ true
 requirement-well entry is =
     let parts = and_parts (is_whole_word entry.0) (is_word entry.1) is in
-    and_from (is_whole_word entry.0) (is_word entry.1 && true) parts.0 (and_from (is_word entry.1) true parts.1 refl)
+    and_from (is_whole_word entry.0 && (is_word entry.1 && true)) true (and_from (is_whole_word entry.0) (is_word entry.1 && true) parts.0 (and_from (is_word entry.1) true parts.1 refl)) refl
 
 requirements-well : (entries : List (List ℕ × List ℕ)) → list_all is_label entries ≡ true → list_all is_well_requirement (map label_requirement entries) ≡ true
 requirements-well [] all = refl

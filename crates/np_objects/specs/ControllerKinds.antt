@@ -1,5 +1,7 @@
--- The names of the kinds of controllers.
-use Rattle.std.specs.Prelude.{ℕ, List, codes}
+-- The kinds of controllers, and their names.
+use Rattle.std.specs.Prelude.{ℕ, List, [], ◌∷◌, Bool, codes}
+use Rattle.std.specs.List.{list_any}
+use Rattle.std.specs.Str.{bytes_eq}
 use Rattle.np_objects.specs.declared.controller.ControllerKind.{ControllerKind}
 use Rattle.np_objects.specs.declared.controller.ControllerKind.TheVariants.{Deployment, ReplicaSet, StatefulSet, DaemonSet, ReplicationController, Job, CronJob}
 
@@ -11,3 +13,10 @@ kind_name DaemonSet = codes "DaemonSet"
 kind_name ReplicationController = codes "ReplicationController"
 kind_name Job = codes "Job"
 kind_name CronJob = codes "CronJob"
+
+abbrev pub kinds : List ControllerKind
+kinds = Deployment ∷ ReplicaSet ∷ StatefulSet ∷ DaemonSet ∷ ReplicationController ∷ Job ∷ CronJob ∷ []
+
+-- whether a name is that of one of them
+abbrev pub is_controller_kind : List ℕ → Bool
+is_controller_kind name = list_any (λ which. bytes_eq name (kind_name which)) kinds

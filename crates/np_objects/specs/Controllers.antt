@@ -4,21 +4,21 @@ use Rattle.serde_json.specs.Data.{Data}
 use Rattle.np_json.specs.Meta.{namespaced_name}
 use Rattle.np_json.specs.Scalars.{whole}
 use Rattle.np_json.specs.Shapes.{Read, ◌>>=◌, ◌>>◌, must_be_object, optional, required, listed}
-use Rattle.np_objects.specs.Lists.{first_some}
-use Rattle.np_objects.specs.Owners.{owner_reference}
+use Rattle.np_objects.specs.Owners.{owner_reference, owner_of}
 use Rattle.np_objects.specs.Templates.{template}
 use Rattle.np_objects.specs.declared.controller.ControllerItem.{ControllerItem}
 use Rattle.np_objects.specs.declared.controller.ControllerKind.{ControllerKind}
 use Rattle.np_objects.specs.declared.controller.ControllerKind.TheVariants.{Deployment, ReplicaSet, StatefulSet, DaemonSet, ReplicationController, Job, CronJob}
 use Rattle.np_objects.specs.declared.controller_spec.ControllerSpec.{ControllerSpec}
 use Rattle.np_objects.specs.declared.controller_shapes.ControllerMetadata.{ControllerMetadata}
+use Rattle.np_objects.specs.declared.owner_reference.Dependent.TheVariants as dependent
 
 -- the metadata of a controller: first the name and the namespace
 unfoldable pub controller_metadata : Data → Read ControllerMetadata
 controller_metadata value = do
   own ← namespaced_name value
   references ← listed (codes "ownerReferences") owner_reference value
-  Ok (record { own = own; owner = first_some references })
+  Ok (record { own = own; owner = owner_of dependent.Controller references })
 
 abbrev pub is_zero : Option ℤ → Bool
 is_zero None = false

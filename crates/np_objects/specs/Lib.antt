@@ -8,6 +8,7 @@ pub mod Labels
 pub mod Lists
 pub mod Namespaces
 pub mod Objects
+pub mod OwnerLaws
 pub mod Owners
 pub mod PodSpecs
 pub mod Pods

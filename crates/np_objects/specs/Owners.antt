@@ -1,20 +1,33 @@
 -- Owners of objects.
-use Rattle.std.specs.Prelude.{codes, Bool, true, false, Option, Some, None, unwrap_or, Ok}
+use Rattle.std.specs.Prelude.{ℕ, List, codes, Bool, not, ◌&&◌, Option, option_map, find, unwrap_or, Ok, false}
+use Rattle.std.specs.Str.{bytes_eq}
 use Rattle.serde_json.specs.Data.{Data}
 use Rattle.np_json.specs.Scalars.{name, flag}
 use Rattle.np_json.specs.Shapes.{Read, ◌>>=◌, ◌>>◌, must_be_object, optional, required}
+use Rattle.np_objects.specs.ControllerKinds.{is_controller_kind}
 use Rattle.np_objects.specs.declared.owner_ref.OwnerRef.{OwnerRef}
+use Rattle.np_objects.specs.declared.owner_reference.Dependent.{Dependent}
+use Rattle.np_objects.specs.declared.owner_reference.Dependent.TheVariants.{Pod, Controller}
+use Rattle.np_objects.specs.declared.owner_reference.OwnerReference.{OwnerReference}
 
--- an owner that controls the object
-abbrev pub if_controls : Bool → OwnerRef → Option OwnerRef
-if_controls true owner = Some owner
-if_controls false owner = None
-
--- an owner reference: its owner, where it controls the object
-unfoldable pub owner_reference : Data → Read (Option OwnerRef)
+-- an owner reference, whether it counts or not
+unfoldable pub owner_reference : Data → Read OwnerReference
 owner_reference value = do
   must_be_object value
   kind ← required (codes "kind") name value
   called ← required (codes "name") name value
   controller ← optional (codes "controller") flag value
-  Ok (if_controls (unwrap_or controller false) (record { kind = kind; name = called }))
+  Ok (record { owner = record { kind = kind; name = called }; controls = unwrap_or controller false })
+
+-- whether owners of that kind count: the node of a pod does not, and of controllers only other controllers do
+abbrev pub counts : Dependent → List ℕ → Bool
+counts Pod kind = not (bytes_eq kind (codes "Node"))
+counts Controller kind = is_controller_kind kind
+
+-- whether a reference names the owner of the object: it controls the object, and counts
+abbrev pub names_owner : Dependent → OwnerReference → Bool
+names_owner dependent reference = reference.controls && counts dependent reference.owner.kind
+
+-- the owner of an object: the first that a reference names
+abbrev pub owner_of : Dependent → List OwnerReference → Option OwnerRef
+owner_of dependent references = option_map (λ reference. reference.owner) (find (names_owner dependent) references)

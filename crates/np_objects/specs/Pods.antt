@@ -4,10 +4,10 @@ use Rattle.serde_json.specs.Data.{Data}
 use Rattle.np_json.specs.Meta.{namespaced_name}
 use Rattle.np_json.specs.Shapes.{Read, ◌>>=◌, optional, required, listed}
 use Rattle.np_objects.specs.Labels.{label_map}
-use Rattle.np_objects.specs.Lists.{first_some}
-use Rattle.np_objects.specs.Owners.{owner_reference}
+use Rattle.np_objects.specs.Owners.{owner_reference, owner_of}
 use Rattle.np_objects.specs.PodSpecs.{pod_spec}
 use Rattle.np_objects.specs.Statuses.{pod_status, no_status}
+use Rattle.np_objects.specs.declared.owner_reference.Dependent.TheVariants as dependent
 use Rattle.np_objects.specs.declared.pod_item.PodItem.{PodItem}
 use Rattle.np_objects.specs.declared.pod_item.PodMetadata.{PodMetadata}
 use Rattle.np_objects.specs.declared.pod_spec.PodSpec.{PodSpec}
@@ -19,7 +19,7 @@ pod_metadata value = do
   own ← namespaced_name value
   labels ← optional (codes "labels") label_map value
   references ← listed (codes "ownerReferences") owner_reference value
-  Ok (record { own = own; labels = unwrap_or labels []; owner = first_some references })
+  Ok (record { own = own; labels = unwrap_or labels []; owner = owner_of dependent.Pod references })
 
 abbrev pub pod_item : PodMetadata → PodSpec → PodStatus → PodItem
 pod_item metadata spec status = record {

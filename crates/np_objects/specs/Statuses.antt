@@ -1,5 +1,5 @@
 -- Statuses of pods.
-use Rattle.std.specs.Prelude.{ℕ, List, [], ◌∷◌, ◌++◌, fold, codes, Bool, false, ◌||◌, ◌==◌, if◌then◌else◌, Option, Some, None, Ok}
+use Rattle.std.specs.Prelude.{◌≡◌, ℕ, List, [], ◌∷◌, ◌++◌, fold, codes, Bool, false, ◌||◌, ◌==◌, if◌then◌else◌, Option, Some, None, Ok}
 use Rattle.std.specs.List.{list_any}
 use Rattle.std.specs.Option.{option_flatten}
 use Rattle.std.specs.Str.{bytes_eq}
@@ -52,6 +52,10 @@ kept_with kept (Some address) = with_address kept address
 -- the addresses that are there, each once, where it stands first
 abbrev pub distinct : List (Option Address) → List Address
 distinct found = fold kept_with [] found
+
+-- whether two lists have the same addresses
+pub record HaveSame (kept known : List Address) : Type 0 where
+  pub same : (address : Address) → has_address known address ≡ has_address kept address
 
 -- whether all containers of the pod have ended
 abbrev pub is_finished : Option (List ℕ) → Bool

@@ -3,6 +3,7 @@ use Rattle.std.specs.Prelude.{ℕ, List, length, Bool, true, not, IsTrue, ◌&&�
 use Rattle.std.specs.List.{list_all}
 use Rattle.np_json.specs.Scalars.{is_label}
 use Rattle.np_json.specs.Words.{is_word, is_name}
+use Rattle.np_labels.specs.WellFormed as demand
 use Rattle.np_labels.specs.declared.pair.Pair.{Pair}
 use Rattle.np_labels.specs.declared.requirement.Requirement.{Requirement}
 use Rattle.np_labels.specs.declared.selector.Selector.{Selector}
@@ -36,9 +37,9 @@ is_well_label pair = is_label (pair.key, pair.value)
 abbrev pub is_well_labels : List Pair → Bool
 is_well_labels labels = list_all is_well_label labels
 
--- a key that is a word and not empty, and values that are words
+-- a key that is a word and not empty, and values that are words, ascend, and are as many as its op may have
 abbrev pub is_well_requirement : Requirement → Bool
-is_well_requirement requirement = is_whole_word requirement.key && list_all is_word requirement.values
+is_well_requirement requirement = is_whole_word requirement.key && list_all is_word requirement.values && demand.is_well_requirement requirement
 
 abbrev pub is_well_selector : Selector → Bool
 is_well_selector selector = list_all is_well_requirement selector.requirements

@@ -1,6 +1,8 @@
 //! Controllers of pods.
 ghost use Rattle.std.specs.Prelude.{◌≡◌};
-ghost use Rattle.np_objects.specs.ControllerKinds.{kind_name};
+ghost use Rattle.std.specs.List.{list_any};
+ghost use Rattle.std.specs.Str.{bytes_eq};
+ghost use Rattle.np_objects.specs.ControllerKinds.{kind_name, is_controller_kind};
 
 use crate::named_port::NamedPort;
 use crate::owner_ref::OwnerRef;
@@ -36,6 +38,30 @@ impl ControllerKind {
     }
 }
 
+static KINDS: [ControllerKind; 7] = [
+    ControllerKind::Deployment,
+    ControllerKind::ReplicaSet,
+    ControllerKind::StatefulSet,
+    ControllerKind::DaemonSet,
+    ControllerKind::ReplicationController,
+    ControllerKind::Job,
+    ControllerKind::CronJob,
+];
+
+/// Whether a kind, as an owner reference says it, is one of the controllers.
+pub fn is_controller_kind(kind: &str) -> bool
+    ensures { result ≡ is_controller_kind kind.now }
+{
+    is_one_of(&KINDS, kind)
+}
+
+// Whether a kind is one of these controllers.
+fn is_one_of(kinds: &[ControllerKind], kind: &str) -> bool
+    ensures { result ≡ list_any (λ which. bytes_eq kind.now (kind_name which)) kinds.now }
+{
+    kinds.iter().any(|which| kind == which.name())
+}
+
 /// The pods that a controller makes (Kubernetes API reference, PodTemplateSpec).
 #[derive(Debug, Drop)]
 pub struct Template {
@@ -51,7 +77,7 @@ pub struct ControllerItem {
     pub kind: ControllerKind,
     pub namespace: Text,
     pub name: Text,
-    /// The first of its owner references that controls it, of whatever kind.
+    /// That of the first of its owner references that controls it and is of a kind of controllers.
     pub owner: Option<OwnerRef>,
     /// Whether `spec.replicas` is 0.
     pub none_wanted: bool,

@@ -4,14 +4,14 @@ ghost use Rattle.np_objects.specs.Controllers as controllers;
 
 use crate::controller::{ControllerItem, ControllerKind};
 use crate::controller_spec::{ControllerSpec, ControllerSpecShape};
-use crate::lists::first_some;
-use crate::owner_ref::{OwnerRef, OwnerReferenceShape};
+use crate::owner_ref::OwnerRef;
+use crate::owner_reference::{Dependent, OwnerReferenceShape, owner_of};
 use np_json::{NamespacedName, NamespacedNameShape, Shape, ShapeFault, listed, optional, required};
 use serde_json::Value;
 use std::alloc::Global;
 
 /// What is read of the metadata of a controller.
-#[derive(Debug, Drop)]
+#[derive(Drop)]
 struct ControllerMetadata {
     own: NamespacedName,
     owner: Option<OwnerRef>,
@@ -22,8 +22,8 @@ struct ControllerMetadata {
 /// | member | what it is |
 /// |---|---|
 /// | `name`, `namespace` | as for every object in a namespace |
-/// | `ownerReferences` | a list of owner references, of which the first that controls the object is kept |
-#[derive(Clone, Copy, Debug, Drop)]
+/// | `ownerReferences` | a list of owner references; the first controller that controls the object is its owner |
+#[derive(Drop)]
 struct ControllerMetadataShape;
 
 impl Shape for ControllerMetadataShape {
@@ -39,7 +39,7 @@ impl Shape for ControllerMetadataShape {
         let references = listed(alloc, value, "ownerReferences", &OwnerReferenceShape)?;
         Ok(ControllerMetadata {
             own,
-            owner: first_some(references),
+            owner: owner_of(Dependent::Controller, references),
         })
     }
 }
@@ -50,7 +50,7 @@ impl Shape for ControllerMetadataShape {
 /// |---|---|
 /// | `metadata` | the metadata of a controller, required |
 /// | `spec` | the spec of a controller of that kind |
-#[derive(Clone, Copy, Debug, Drop)]
+#[derive(Drop)]
 pub(crate) struct ControllerShape {
     pub(crate) kind: ControllerKind,
 }

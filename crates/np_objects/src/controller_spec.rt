@@ -11,7 +11,7 @@ use serde_json::Value;
 use std::alloc::Global;
 
 /// What is read of the spec of a controller.
-#[derive(Debug, Drop)]
+#[derive(Drop)]
 pub(crate) struct ControllerSpec {
     /// Whether no pods are wanted.
     pub(crate) none_wanted: bool,
@@ -39,7 +39,7 @@ impl ControllerSpec {
 /// |---|---|
 /// | `replicas` | a whole number |
 /// | `template` | the template of a pod |
-#[derive(Clone, Copy, Debug, Drop)]
+#[derive(Drop)]
 struct ReplicatedSpecShape;
 
 impl Shape for ReplicatedSpecShape {
@@ -67,7 +67,7 @@ impl Shape for ReplicatedSpecShape {
 /// | member | what it is |
 /// |---|---|
 /// | `template` | the template of a pod |
-#[derive(Clone, Copy, Debug, Drop)]
+#[derive(Drop)]
 struct TemplateSpecShape;
 
 impl Shape for TemplateSpecShape {
@@ -93,7 +93,7 @@ impl Shape for TemplateSpecShape {
 /// | member | what it is |
 /// |---|---|
 /// | `spec` | the spec of a job |
-#[derive(Clone, Copy, Debug, Drop)]
+#[derive(Drop)]
 struct JobTemplateShape;
 
 impl Shape for JobTemplateShape {
@@ -116,7 +116,7 @@ impl Shape for JobTemplateShape {
 /// | member | what it is |
 /// |---|---|
 /// | `jobTemplate` | the template of a job |
-#[derive(Clone, Copy, Debug, Drop)]
+#[derive(Drop)]
 struct CronJobSpecShape;
 
 impl Shape for CronJobSpecShape {
@@ -135,7 +135,7 @@ impl Shape for CronJobSpecShape {
 }
 
 /// The spec of a controller of that kind.
-#[derive(Clone, Copy, Debug, Drop)]
+#[derive(Drop)]
 pub(crate) struct ControllerSpecShape {
     pub(crate) kind: ControllerKind,
 }

@@ -23,7 +23,7 @@ use std::alloc::Global;
 /// | first | exactly one of `number` (0 counts as missing) and `name` (empty counts as missing), else BadField |
 /// | `number` | a port |
 /// | `name` | a text |
-#[derive(Clone, Copy, Debug, Drop)]
+#[derive(Drop)]
 struct BackendPortShape;
 
 impl Shape for BackendPortShape {
@@ -91,7 +91,7 @@ fn number_or_name(alloc: Global, numbered: bool, port: &Value) -> Result<PortNam
 /// |---|---|
 /// | `name` | a text, required |
 /// | `port` | a port of the service, required |
-#[derive(Clone, Copy, Debug, Drop)]
+#[derive(Drop)]
 struct BackendServiceShape;
 
 impl Shape for BackendServiceShape {
@@ -116,7 +116,7 @@ impl Shape for BackendServiceShape {
 /// |---|---|
 /// | first | exactly one of `service` and `resource` is there, else BadField |
 /// | `service` | a service and one of its ports |
-#[derive(Clone, Copy, Debug, Drop)]
+#[derive(Drop)]
 struct BackendShape;
 
 impl Shape for BackendShape {
@@ -141,7 +141,7 @@ impl Shape for BackendShape {
 /// | member | what it is |
 /// |---|---|
 /// | `backend` | what the path leads to, required |
-#[derive(Clone, Copy, Debug, Drop)]
+#[derive(Drop)]
 struct PathShape;
 
 impl Shape for PathShape {
@@ -163,7 +163,7 @@ impl Shape for PathShape {
 /// | member | what it is |
 /// |---|---|
 /// | `paths` | a list of paths |
-#[derive(Clone, Copy, Debug, Drop)]
+#[derive(Drop)]
 struct HttpShape;
 
 impl Shape for HttpShape {
@@ -185,7 +185,7 @@ impl Shape for HttpShape {
 /// | member | what it is |
 /// |---|---|
 /// | `http` | the paths of the rule |
-#[derive(Clone, Copy, Debug, Drop)]
+#[derive(Drop)]
 struct RuleShape;
 
 impl Shape for RuleShape {
@@ -209,7 +209,7 @@ impl Shape for RuleShape {
 /// |---|---|
 /// | `defaultBackend` | what requests lead to that no rule takes |
 /// | `rules` | a list of rules |
-#[derive(Clone, Copy, Debug, Drop)]
+#[derive(Drop)]
 struct IngressSpecShape;
 
 impl Shape for IngressSpecShape {
@@ -235,7 +235,7 @@ impl Shape for IngressSpecShape {
 /// |---|---|
 /// | `metadata` | the metadata of an object in a namespace, required |
 /// | `spec` | the spec of an ingress |
-#[derive(Clone, Copy, Debug, Drop)]
+#[derive(Drop)]
 pub(crate) struct IngressShape;
 
 impl Shape for IngressShape {

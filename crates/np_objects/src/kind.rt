@@ -5,7 +5,7 @@ ghost use Rattle.np_objects.specs.Objects as objects;
 use crate::controller::ControllerKind;
 
 /// A kind of objects that is read.
-#[derive(Clone, Copy, Debug, PartialEq, Eq)]
+#[derive(Clone, Copy)]
 pub(crate) enum ObjectKind {
     Pod,
     Namespace,

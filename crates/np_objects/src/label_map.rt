@@ -9,7 +9,7 @@ use serde_json::Value;
 use std::alloc::Global;
 
 /// An object from texts to texts, each a label. Anything else is `BadField` of the object.
-#[derive(Clone, Copy, Debug, Drop)]
+#[derive(Drop)]
 pub(crate) struct LabelsShape;
 
 impl Shape for LabelsShape {

@@ -34,18 +34,6 @@ pub(crate) fn or_refuse<T>(
     }
 }
 
-/// The first value that is there.
-pub(crate) fn first_some<T: Drop>(found: Seq<Option<T>>) -> Option<T>
-    ensures { result ≡ lists.first_some found }
-{
-    for value in found.into_vec() {
-        if value.is_some() {
-            return value;
-        }
-    }
-    None
-}
-
 /// The values that are there, in order.
 pub(crate) fn somes<T: Drop>(alloc: Global, found: Seq<Option<T>>) -> Result<Seq<T>, NoMemory>
     ensures { IfOk result (λ made. made ≡ filter_map (λ value. value) found) }
@@ -63,21 +51,12 @@ pub(crate) fn somes<T: Drop>(alloc: Global, found: Seq<Option<T>>) -> Result<Seq
 pub(crate) fn joined<T: Drop>(alloc: Global, lists: Seq<Seq<T>>) -> Result<Seq<T>, NoMemory>
     ensures { IfOk result (λ made. made ≡ flat_map (λ items. items) lists) }
 {
-    let mut all = Seq::new(alloc);
+    let mut all = Vec::new(alloc);
     for items in lists.into_vec() {
-        all = appended(all, items)?;
+        let mut more = items.into_vec();
+        all.append(&mut more)?;
     }
-    Ok(all)
-}
-
-// The items of a list, and then those of another.
-fn appended<T: Drop>(mut all: Seq<T>, more: Seq<T>) -> Result<Seq<T>, NoMemory>
-    ensures { IfOk result (λ made. made ≡ all ++ more) }
-{
-    for item in more.into_vec() {
-        all.push(item)?;
-    }
-    Ok(all)
+    Ok(Seq::from_vec(all))
 }
 
 /// A value, if there is one, and then those of a list.

@@ -20,7 +20,7 @@ pub struct NamespaceItem {
 /// |---|---|
 /// | `name` | a name, required |
 /// | `labels` | an object from texts to texts, each a label |
-#[derive(Clone, Copy, Debug, Drop)]
+#[derive(Drop)]
 struct NamespaceMetadataShape;
 
 impl Shape for NamespaceMetadataShape {
@@ -48,7 +48,7 @@ impl Shape for NamespaceMetadataShape {
 /// | member | what it is |
 /// |---|---|
 /// | `metadata` | the metadata of a namespace, required |
-#[derive(Clone, Copy, Debug, Drop)]
+#[derive(Drop)]
 pub(crate) struct NamespaceShape;
 
 impl Shape for NamespaceShape {

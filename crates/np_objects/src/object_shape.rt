@@ -33,7 +33,7 @@ pub fn read_object(alloc: Global, item: u64, value: &Value) -> Result<Object, Re
 }
 
 // An object of any kind.
-#[derive(Clone, Copy, Debug, Drop)]
+#[derive(Drop)]
 struct ObjectShape;
 
 impl Shape for ObjectShape {

@@ -3,9 +3,9 @@ ghost use Rattle.std.specs.Prelude.{◌≡◌};
 ghost use Rattle.np_objects.specs.Pods as pods;
 
 use crate::label_map::{LabelsShape, no_labels};
-use crate::lists::first_some;
 use crate::named_port::NamedPort;
-use crate::owner_ref::{OwnerRef, OwnerReferenceShape};
+use crate::owner_ref::OwnerRef;
+use crate::owner_reference::{Dependent, OwnerReferenceShape, owner_of};
 use crate::pod_spec::{PodSpec, PodSpecShape};
 use crate::pod_status::{PodStatus, PodStatusShape};
 use np_addr::Address;
@@ -21,7 +21,7 @@ pub struct PodItem {
     pub namespace: Text,
     pub name: Text,
     pub labels: Labels,
-    /// The first of its owner references that controls it, of whatever kind.
+    /// That of the first of its owner references that controls it and is of a kind other than `Node`.
     pub owner: Option<OwnerRef>,
     /// The container ports that have a name, in order.
     pub ports: Seq<NamedPort>,
@@ -34,7 +34,7 @@ pub struct PodItem {
 }
 
 /// What is read of the metadata of a pod.
-#[derive(Debug, Drop)]
+#[derive(Drop)]
 struct PodMetadata {
     own: NamespacedName,
     labels: Labels,
@@ -47,8 +47,8 @@ struct PodMetadata {
 /// |---|---|
 /// | `name`, `namespace` | as for every object in a namespace |
 /// | `labels` | an object from texts to texts, each a label |
-/// | `ownerReferences` | a list of owner references, of which the first that controls the pod is kept |
-#[derive(Clone, Copy, Debug, Drop)]
+/// | `ownerReferences` | a list of owner references; the first that controls the pod and is no `Node` is its owner |
+#[derive(Drop)]
 struct PodMetadataShape;
 
 impl Shape for PodMetadataShape {
@@ -67,7 +67,7 @@ impl Shape for PodMetadataShape {
         Ok(PodMetadata {
             own,
             labels: labels.unwrap_or(none),
-            owner: first_some(references),
+            owner: owner_of(Dependent::Pod, references),
         })
     }
 }
@@ -79,7 +79,7 @@ impl Shape for PodMetadataShape {
 /// | `metadata` | the metadata of a pod, required |
 /// | `spec` | the spec of a pod, required |
 /// | `status` | the status of a pod |
-#[derive(Clone, Copy, Debug, Drop)]
+#[derive(Drop)]
 pub(crate) struct PodShape;
 
 impl Shape for PodShape {

@@ -9,7 +9,7 @@ use serde_json::Value;
 use std::alloc::Global;
 
 /// What is read of the spec of a pod.
-#[derive(Debug, Drop)]
+#[derive(Drop)]
 pub(crate) struct PodSpec {
     /// The container ports that have a name, in order.
     pub(crate) ports: Seq<NamedPort>,
@@ -21,7 +21,7 @@ pub(crate) struct PodSpec {
 /// | member | what it is |
 /// |---|---|
 /// | `ports` | a list of container ports |
-#[derive(Clone, Copy, Debug, Drop)]
+#[derive(Drop)]
 struct ContainerShape;
 
 impl Shape for ContainerShape {
@@ -45,7 +45,7 @@ impl Shape for ContainerShape {
 /// |---|---|
 /// | `containers` | a list of containers |
 /// | `hostNetwork` | true or false, and false where it is missing |
-#[derive(Clone, Copy, Debug, Drop)]
+#[derive(Drop)]
 pub(crate) struct PodSpecShape;
 
 impl Shape for PodSpecShape {

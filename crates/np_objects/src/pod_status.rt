@@ -1,18 +1,19 @@
 //! Statuses of pods.
-ghost use Rattle.std.specs.Prelude.{◌≡◌, ◌∷◌, IfOk};
+ghost use Rattle.std.specs.Prelude.{◌≡◌};
 ghost use Rattle.np_json.specs.Shapes.{Gives};
 ghost use Rattle.np_objects.specs.Statuses as statuses;
 ghost use Rattle.np_objects.specs.Lists as lists;
 
+use crate::distinct_addresses::distinct;
 use crate::lists::or_refuse;
 use np_addr::{Address, read_address};
-use np_base::{NoMemory, Seq, Text};
+use np_base::{Seq, Text};
 use np_json::{AnyText, FaultKind, Shape, ShapeFault, listed, must_be_object, of_type, optional};
 use serde_json::Value;
 use std::alloc::Global;
 
 /// What is read of the status of a pod.
-#[derive(Debug, Drop)]
+#[derive(Drop)]
 pub(crate) struct PodStatus {
     /// Whether all its containers have ended for good.
     pub(crate) finished: bool,
@@ -35,7 +36,7 @@ impl PodStatus {
 }
 
 /// The text of an address; the empty text stands for none. Another text is `BadAddress`, another type `BadField`.
-#[derive(Clone, Copy, Debug, Drop)]
+#[derive(Drop)]
 struct AddressShape;
 
 impl Shape for AddressShape {
@@ -68,7 +69,7 @@ fn address_by(alloc: Global, text: &str) -> Result<Option<Address>, ShapeFault>
 /// | member | what it is |
 /// |---|---|
 /// | `ip` | the text of an address, or the empty text |
-#[derive(Clone, Copy, Debug, Drop)]
+#[derive(Drop)]
 struct PodIpShape;
 
 impl Shape for PodIpShape {
@@ -93,7 +94,7 @@ impl Shape for PodIpShape {
 /// | `phase` | a text |
 /// | `podIP` | the text of an address, or the empty text |
 /// | `podIPs` | a list of objects with an address each |
-#[derive(Clone, Copy, Debug, Drop)]
+#[derive(Drop)]
 pub(crate) struct PodStatusShape;
 
 impl Shape for PodStatusShape {
@@ -124,51 +125,4 @@ fn is_finished(phase: &Option<Text>) -> bool
         Some(phase) => phase.as_str() == "Succeeded" || phase.as_str() == "Failed",
         None => false,
     }
-}
-
-// The addresses that are there, each once, where it stands first.
-fn distinct(
-    alloc: Global,
-    first: Option<Address>,
-    others: Seq<Option<Address>>,
-) -> Result<Seq<Address>, NoMemory>
-    ensures { IfOk result (λ made. made ≡ statuses.distinct (first ∷ others)) }
-{
-    let mut kept = kept_with(Seq::new(alloc), first)?;
-    for address in others.into_vec() {
-        kept = kept_with(kept, address)?;
-    }
-    Ok(kept)
-}
-
-// The addresses so far and one more, if there is one.
-fn kept_with(kept: Seq<Address>, address: Option<Address>) -> Result<Seq<Address>, NoMemory>
-    ensures { IfOk result (λ made. made ≡ statuses.kept_with kept address) }
-{
-    match address {
-        Some(address) => with_address(kept, &address),
-        None => Ok(kept),
-    }
-}
-
-// The addresses so far and one more, unless it is among them.
-fn with_address(mut kept: Seq<Address>, address: &Address) -> Result<Seq<Address>, NoMemory>
-    ensures { IfOk result (λ made. made ≡ statuses.with_address kept address.now) }
-{
-    if !has_address(kept.items(), address) {
-        kept.push(*address)?;
-    }
-    Ok(kept)
-}
-
-fn has_address(addresses: &[Address], address: &Address) -> bool
-    ensures { result ≡ statuses.has_address addresses.now address.now }
-{
-    addresses.iter().any(|other| is_same(other, address))
-}
-
-fn is_same(address: &Address, other: &Address) -> bool
-    ensures { result ≡ statuses.is_same address.now other.now }
-{
-    address == other
 }

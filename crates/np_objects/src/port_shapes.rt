@@ -13,7 +13,7 @@ use serde_json::Value;
 use std::alloc::Global;
 
 /// The name of a protocol. Another text is `BadProtocol`, another type `BadField`.
-#[derive(Clone, Copy, Debug, Drop)]
+#[derive(Drop)]
 pub(crate) struct ProtocolShape;
 
 impl Shape for ProtocolShape {
@@ -31,7 +31,7 @@ impl Shape for ProtocolShape {
 }
 
 /// A word, where the empty text counts as missing. Anything else is `BadField`.
-#[derive(Clone, Copy, Debug, Drop)]
+#[derive(Drop)]
 pub(crate) struct PortNameShape;
 
 impl Shape for PortNameShape {
@@ -55,7 +55,7 @@ impl Shape for PortNameShape {
 /// | `name` | a word; the empty text counts as missing |
 /// | `protocol` | `TCP`, `UDP` or `SCTP`, and `TCP` where it is missing; another text is BadProtocol |
 /// | `containerPort` | a port, required |
-#[derive(Clone, Copy, Debug, Drop)]
+#[derive(Drop)]
 pub(crate) struct ContainerPortShape;
 
 impl Shape for ContainerPortShape {

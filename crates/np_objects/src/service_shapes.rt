@@ -18,7 +18,7 @@ use std::alloc::Global;
 
 /// A port of the pods behind a service: a whole number, where 0 counts as missing, or a word, where the empty text
 /// counts as missing. Another whole number outside 1 to 65535 is `BadPort`, anything else `BadField`.
-#[derive(Clone, Copy, Debug, Drop)]
+#[derive(Drop)]
 struct TargetPortShape;
 
 impl Shape for TargetPortShape {
@@ -64,7 +64,7 @@ fn by_name(alloc: Global, value: &Value) -> Result<Option<PortName>, ShapeFault>
 /// | `protocol` | `TCP`, `UDP` or `SCTP`, and `TCP` where it is missing; another text is BadProtocol |
 /// | `port` | a port, required |
 /// | `targetPort` | a whole number or a word; a missing one, the number 0 and the empty text stand for `port` |
-#[derive(Clone, Copy, Debug, Drop)]
+#[derive(Drop)]
 pub(crate) struct ServicePortShape;
 
 impl Shape for ServicePortShape {
@@ -96,7 +96,7 @@ impl Shape for ServicePortShape {
 /// |---|---|
 /// | `metadata` | the metadata of an object in a namespace, required |
 /// | `spec` | the spec of a service, required |
-#[derive(Clone, Copy, Debug, Drop)]
+#[derive(Drop)]
 pub(crate) struct ServiceShape;
 
 impl Shape for ServiceShape {

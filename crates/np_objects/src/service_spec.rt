@@ -11,7 +11,7 @@ use serde_json::Value;
 use std::alloc::Global;
 
 /// What is read of the spec of a service.
-#[derive(Debug, Drop)]
+#[derive(Drop)]
 pub(crate) struct ServiceSpec {
     /// The labels of the pods that it serves, if it names any.
     pub(crate) selector: Option<Selector>,
@@ -28,7 +28,7 @@ pub(crate) struct ServiceSpec {
 /// | `clusterIP` | a text |
 /// | `selector` | an object from texts to texts, each a label |
 /// | `ports` | a list of ports of services |
-#[derive(Clone, Copy, Debug, Drop)]
+#[derive(Drop)]
 pub(crate) struct ServiceSpecShape;
 
 impl Shape for ServiceSpecShape {

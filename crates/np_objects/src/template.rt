@@ -13,7 +13,7 @@ use std::alloc::Global;
 /// | member | what it is |
 /// |---|---|
 /// | `labels` | an object from texts to texts, each a label |
-#[derive(Clone, Copy, Debug, Drop)]
+#[derive(Drop)]
 struct TemplateMetadataShape;
 
 impl Shape for TemplateMetadataShape {
@@ -38,7 +38,7 @@ impl Shape for TemplateMetadataShape {
 /// |---|---|
 /// | `metadata` | the metadata of a template |
 /// | `spec` | the spec of a pod, required |
-#[derive(Clone, Copy, Debug, Drop)]
+#[derive(Drop)]
 pub(crate) struct TemplateShape;
 
 impl Shape for TemplateShape {

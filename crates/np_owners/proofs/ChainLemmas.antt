@@ -1,5 +1,5 @@
 -- The chains of the owners of items.
-use Rattle.std.proofs.Common.{◌≡◌, ℕ, zero, suc, ◌+◌, ◌<◌, ◌≤◌, List, [], ◌∷◌, ◌++◌, length, map, take, get_or, Bool, true, false, cond, Option, Some, None, Err, refl, sym, ap, ◌∙◌, arith}
+use Rattle.std.proofs.Common.{◌≡◌, ℕ, zero, suc, ◌+◌, ◌<◌, ◌≤◌, List, [], ◌∷◌, ◌++◌, length, map, take, get_or, Bool, true, false, cond, Option, Some, None, refl, sym, ap, ◌∙◌, arith}
 use Rattle.std.specs.Prelude.{find, All}
 use Rattle.std.specs.List.{range_with_len, slice_get}
 use Rattle.std.specs.Option.{option_and_then}
@@ -10,11 +10,11 @@ use Rattle.std.proofs.lemmas.Option.{option_and_then_some, slice_get_read}
 use Rattle.std.proofs.lemmas.Simd.{map-map}
 use Rattle.np_chains.specs.Chains.{IsChains, first_cycle, top, places}
 use Rattle.np_items.specs.declared.item.Item.{Item}
-use Rattle.np_items.specs.declared.refusal.Refusal.TheVariants.{OwnerCycle}
 use Rattle.np_owners.specs.Names.{name_of, is_named, place_of}
-use Rattle.np_owners.specs.Owners.{owner_of, is_controller_kind, controller_place, place_in_namespace, owner_place, ups, full_name_of, have_no_cycle, last_owner, top_owners}
+use Rattle.np_owners.specs.Owners.{owner_of, controller_place, place_in_namespace, owner_place, ups, full_name_of, first_in_cycle, last_owner, top_owners}
 use Rattle.np_owners.specs.declared.object_name.ObjectName.{ObjectName}
 use Rattle.np_owners.specs.declared.owner.Owner.{Owner}
+use Rattle.np_objects.specs.ControllerKinds.{is_controller_kind}
 use Rattle.np_objects.specs.declared.owner_ref.OwnerRef.{OwnerRef}
 
 -- ---- what owns an item is an item
@@ -71,7 +71,7 @@ first_cycle_within items place is =
     rw long at within
 
 -- the first cycle is named by its item
-pub cycle_named : (items : List Item) (place : ℕ) (one : Item) (text : List ℕ) → first_cycle (ups items) ≡ Some place → place < length items → one ≡ get_or items place one → text ≡ full_name_of one → have_no_cycle items ≡ Err (OwnerCycle text)
+pub cycle_named : (items : List Item) (place : ℕ) (one : Item) (text : List ℕ) → first_cycle (ups items) ≡ Some place → place < length items → one ≡ get_or items place one → text ≡ full_name_of one → first_in_cycle items ≡ Some text
 cycle_named items place one text is within at named =
     let found : slice_get items place ≡ Some one = slice_get_read items (length items) place one refl within at in
     rw (is, found, named) refl

@@ -1,5 +1,5 @@
 -- The names of the objects of a list, and where they stand.
-use Rattle.std.specs.Prelude.{◌≡◌, ℕ, ◌+◌, List, [], ◌∷◌, ◌++◌, length, Bool, ◌&&◌, false, Option, Some, None, Ok, Err, ⊤, codes}
+use Rattle.std.specs.Prelude.{◌≡◌, ℕ, ◌+◌, List, [], ◌∷◌, ◌++◌, length, Bool, ◌&&◌, false, Option, Some, None, ⊤, codes}
 use Rattle.std.specs.Cmp.Lexicographic.{slice_cmp}
 use Rattle.std.specs.List.{position}
 use Rattle.std.specs.Map.{lookup}
@@ -7,13 +7,13 @@ use Rattle.std.specs.Option.{option_and_then, option_map_or}
 use Rattle.std.specs.Ordering.{nat_cmp, ordering_then, is_eq}
 use Rattle.std.specs.Str.{bytes_eq}
 use Rattle.std.specs.declared.cmp.Ordering.{Ordering}
-use Rattle.np_items.specs.Readings.{Reading}
 use Rattle.np_items.specs.declared.item.Item.{Item}
 use Rattle.np_items.specs.declared.item.Item.TheVariants as item
-use Rattle.np_items.specs.declared.refusal.Refusal.TheVariants.{Duplicate}
 use Rattle.np_objects.specs.ControllerKinds.{kind_name}
 use Rattle.np_objects.specs.declared.object.Object.{Object}
 use Rattle.np_objects.specs.declared.object.Object.TheVariants as object
+use Rattle.np_owners.specs.declared.fault.PlacesFault.{PlacesFault}
+use Rattle.np_owners.specs.declared.fault.PlacesFault.TheVariants.{Duplicate, NoMemory}
 use Rattle.np_owners.specs.declared.object_name.ObjectName.{ObjectName}
 use Rattle.np_policies.specs.declared.policy.Policy.{Policy}
 use Rattle.np_policies.specs.declared.policy.Policy.TheVariants as policy
@@ -78,10 +78,7 @@ repeat_after earlier (one ∷ items) = or_later (repeated earlier one) (repeat_a
 abbrev pub first_repeat : List Item → Option (ℕ × ℕ)
 first_repeat items = repeat_after [] items
 
--- no two items have one name
-abbrev pub or_duplicate : Option (ℕ × ℕ) → Reading ⊤
-or_duplicate None = Ok tt
-or_duplicate (Some numbers) = Err (Duplicate numbers.0 numbers.1)
-
-abbrev pub have_names_apart : List Item → Reading ⊤
-have_names_apart items = or_duplicate (first_repeat items)
+-- what is told where items have no places: the repeat that was found; want of memory tells nothing
+abbrev pub TellsRepeat : Option (ℕ × ℕ) → PlacesFault → Type 0
+TellsRepeat repeat (Duplicate first second) = repeat ≡ Some (first, second)
+TellsRepeat repeat NoMemory = ⊤

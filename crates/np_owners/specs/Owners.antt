@@ -1,47 +1,25 @@
 -- The owners of objects, and the chains that they make.
-use Rattle.std.specs.Prelude.{ℕ, List, [], ◌∷◌, ◌++◌, length, map, Bool, not, if◌then◌else◌, Option, Some, None, Ok, Err, ⊤, codes}
-use Rattle.std.specs.List.{list_any, range_with_len, slice_get}
+use Rattle.std.specs.Prelude.{◌≡◌, ℕ, List, [], ◌++◌, length, map, if◌then◌else◌, Option, Some, None, ⊤, codes}
+use Rattle.std.specs.List.{range_with_len, slice_get}
 use Rattle.std.specs.Option.{option_and_then, option_map}
-use Rattle.std.specs.Str.{bytes_eq}
 use Rattle.np_chains.specs.Chains.{first_cycle, top}
-use Rattle.np_items.specs.Readings.{Reading}
 use Rattle.np_items.specs.declared.item.Item.{Item}
 use Rattle.np_items.specs.declared.item.Item.TheVariants as item
-use Rattle.np_items.specs.declared.refusal.Refusal.TheVariants.{OwnerCycle}
-use Rattle.np_objects.specs.ControllerKinds.{kind_name}
-use Rattle.np_objects.specs.declared.controller.ControllerItem.{ControllerItem}
-use Rattle.np_objects.specs.declared.controller.ControllerKind.{ControllerKind}
-use Rattle.np_objects.specs.declared.controller.ControllerKind.TheVariants.{Deployment, ReplicaSet, StatefulSet, DaemonSet, ReplicationController, Job, CronJob}
+use Rattle.np_objects.specs.ControllerKinds.{is_controller_kind}
 use Rattle.np_objects.specs.declared.object.Object.{Object}
 use Rattle.np_objects.specs.declared.object.Object.TheVariants as object
 use Rattle.np_objects.specs.declared.owner_ref.OwnerRef.{OwnerRef}
-use Rattle.np_objects.specs.declared.pod_item.PodItem.{PodItem}
 use Rattle.np_owners.specs.Names.{name_of, place_of}
+use Rattle.np_owners.specs.declared.fault.ChainsFault.{ChainsFault}
+use Rattle.np_owners.specs.declared.fault.ChainsFault.TheVariants.{OwnerCycle, NoMemory}
 use Rattle.np_owners.specs.declared.object_name.ObjectName.{ObjectName}
 use Rattle.np_owners.specs.declared.owner.Owner.{Owner}
 
--- ---- owner references that count
-
-abbrev pub kinds : List ControllerKind
-kinds = Deployment ∷ ReplicaSet ∷ StatefulSet ∷ DaemonSet ∷ ReplicationController ∷ Job ∷ CronJob ∷ []
-
-abbrev pub is_controller_kind : List ℕ → Bool
-is_controller_kind kind = list_any (λ which. bytes_eq kind (kind_name which)) kinds
-
-abbrev pub keep_if : Bool → OwnerRef → Option OwnerRef
-keep_if counts owner = if counts then Some owner else None
-
--- a pod may be owned by anything but its node
-abbrev pub pod_owner : PodItem → Option OwnerRef
-pod_owner pod = option_and_then (λ owner. keep_if (not (bytes_eq owner.kind (codes "Node"))) owner) pod.owner
-
--- a controller may be owned by controllers alone
-abbrev pub controller_owner : ControllerItem → Option OwnerRef
-controller_owner controller = option_and_then (λ owner. keep_if (is_controller_kind owner.kind) owner) controller.owner
+-- ---- owners that items name
 
 abbrev pub owner_in_object : Object → Option OwnerRef
-owner_in_object (object.Pod pod) = pod_owner pod
-owner_in_object (object.Controller controller) = controller_owner controller
+owner_in_object (object.Pod pod) = pod.owner
+owner_in_object (object.Controller controller) = controller.owner
 owner_in_object _ = None
 
 -- the owner of an item
@@ -83,13 +61,14 @@ full_name_of one = or_empty (option_map full_name (name_of one))
 abbrev pub full_name_at : List Item → ℕ → List ℕ
 full_name_at items place = or_empty (option_map full_name_of (slice_get items place))
 
-abbrev pub or_cycle : List Item → Option ℕ → Reading ⊤
-or_cycle items None = Ok tt
-or_cycle items (Some place) = Err (OwnerCycle (full_name_at items place))
+-- the name of the first listed controller that stands in its own chain of owners
+abbrev pub first_in_cycle : List Item → Option (List ℕ)
+first_in_cycle items = option_map (full_name_at items) (first_cycle (ups items))
 
--- no listed controller stands in its own chain of owners; the first that does is named
-abbrev pub have_no_cycle : List Item → Reading ⊤
-have_no_cycle items = or_cycle items (first_cycle (ups items))
+-- what is told where items have no chains: the name that was found; want of memory tells nothing
+abbrev pub TellsCycle : Option (List ℕ) → ChainsFault → Type 0
+TellsCycle found (OwnerCycle name) = found ≡ Some name
+TellsCycle found NoMemory = ⊤
 
 -- ---- top owners
 

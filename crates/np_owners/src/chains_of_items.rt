@@ -1,31 +1,32 @@
 //! The chains of owners of the items of a list.
-ghost use Rattle.std.specs.Prelude.{◌≡◌, ◌≤◌, List, length, IfOk};
-ghost use Rattle.np_items.specs.Readings.{GivesAs};
+ghost use Rattle.std.specs.Prelude.{◌≡◌, ◌≤◌, List, None, length, IfErr, IfOk, OnOk};
 ghost use Rattle.np_owners.specs.Names.{HoldsPlaces};
 ghost use Rattle.np_items.specs.declared.item.Item.{Item};
 ghost use Rattle.np_owners.specs.Owners as owners;
 
+use crate::fault::ChainsFault;
 use crate::object_name::{ObjectName, name_of};
-use crate::owner_refs::{is_controller_kind, owner_of};
+use crate::owner_refs::owner_of;
 use crate::places::Places;
 use np_base::{NoMemory, Text};
 use np_chains::Chains;
-use np_items::{Item, Refusal};
-use np_objects::OwnerRef;
+use np_items::Item;
+use np_objects::{OwnerRef, is_controller_kind};
 use std::alloc::Global;
 
 /// Over each item the listed controller that owns it, by their places from 0. `OwnerCycle` comes exactly where a listed
 /// controller stands in its own chain of owners, with the name of the first that does, `namespace/name[Kind]`.
-pub fn chains_of(alloc: Global, items: &[Item], places: &Places) -> Result<Chains, Refusal>
+pub fn chains_of(alloc: Global, items: &[Item], places: &Places) -> Result<Chains, ChainsFault>
     requires few { length items.now ≤ 20000 }
     requires places { HoldsPlaces items.now places.now }
     ensures ups { IfOk result (λ chains. chains ≡ owners.ups items.now) }
-    ensures ends { GivesAs (λ _. tt) result (owners.have_no_cycle items.now) }
+    ensures ends { OnOk result (owners.first_in_cycle items.now ≡ None) }
+    ensures cycle { IfErr result (owners.TellsCycle (owners.first_in_cycle items.now)) }
 {
     let chains = Chains::of(ups(alloc, items, places)?);
     match chains.first_cycle() {
         None => Ok(chains),
-        Some(place) => Err(Refusal::OwnerCycle {
+        Some(place) => Err(ChainsFault::OwnerCycle {
             name: full_name(alloc, &items[place as usize])?,
         }),
     }

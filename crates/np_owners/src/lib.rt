@@ -3,6 +3,7 @@
 #![tactic(auto)]
 
 mod chains_of_items;
+mod fault;
 mod makers;
 mod object_name;
 mod owner;
@@ -11,6 +12,7 @@ mod places;
 mod tops;
 
 pub use chains_of_items::chains_of;
+pub use fault::{ChainsFault, PlacesFault};
 pub use makers::made_pods;
 pub use object_name::{ObjectName, name_of};
 pub use owner::Owner;

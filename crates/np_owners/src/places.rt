@@ -1,13 +1,13 @@
 //! The places of objects by their names.
-ghost use Rattle.std.specs.Prelude.{◌≡◌, ◌≤◌, [], ◌∷◌, ◌++◌, List, Some, IfOk, OnOk, length};
+ghost use Rattle.std.specs.Prelude.{◌≡◌, ◌≤◌, [], ◌∷◌, ◌++◌, List, Some, None, IfErr, IfOk, MatchResult, OnOk, length};
 ghost use Rattle.std.specs.BTreeMap.{Updates};
-ghost use Rattle.np_items.specs.Readings.{GivesAs};
 ghost use Rattle.np_owners.specs.Names as names;
 ghost use Rattle.np_items.specs.declared.item.Item.{Item};
 
+use crate::fault::PlacesFault;
 use crate::object_name::{ObjectName, name_of};
 use np_base::NoMemory;
-use np_items::{Item, Refusal};
+use np_items::Item;
 use std::alloc::Global;
 use std::collections::BTreeMap;
 use std::marker::Model;
@@ -31,10 +31,11 @@ impl Model for Places {
 impl Places {
     /// The places of these items. `Duplicate` comes exactly where two of them have one name, with the numbers, from 1,
     /// of the first that has the name of an earlier one, and of that earlier one.
-    pub fn of(alloc: Global, items: &[Item]) -> Result<Places, Refusal>
+    pub fn of(alloc: Global, items: &[Item]) -> Result<Places, PlacesFault>
         requires few { length items.now ≤ 20000 }
         ensures places { IfOk result (names.HoldsPlaces items.now) }
-        ensures apart { GivesAs (λ _. tt) result (names.have_names_apart items.now) }
+        ensures apart { OnOk result (names.first_repeat items.now ≡ None) }
+        ensures repeat { IfErr result (names.TellsRepeat (names.first_repeat items.now)) }
     {
         let mut by_name = BTreeMap::new(alloc);
         for (place, item) in items.iter().enumerate() {
@@ -57,19 +58,20 @@ fn note(
     by_name: &mut BTreeMap<ObjectName, u32>,
     place: u32,
     item: &Item,
-) -> Result<(), Refusal>
+) -> Result<(), PlacesFault>
     ensures places { OnOk result ((earlier : List Item) → length earlier ≡ place →
         names.HoldsPlaces earlier by_name.old.entries →
         names.HoldsPlaces (earlier ++ (item.now ∷ [])) by_name.new.entries) }
     ensures apart { (earlier : List Item) → length earlier ≡ place →
         names.HoldsPlaces earlier by_name.old.entries →
-        GivesAs (λ _. tt) result (names.or_duplicate (names.repeated earlier item.now)) }
+        MatchResult result (λ _. names.repeated earlier item.now ≡ None)
+        (names.TellsRepeat (names.repeated earlier item.now)) }
 {
     let Some(name) = name_of(alloc, item)? else {
         return Ok(());
     };
     if let Some(first) = by_name.get(&name) {
-        return Err(Refusal::Duplicate {
+        return Err(PlacesFault::Duplicate {
             first: u64::from(*first) + 1,
             second: u64::from(place) + 1,
         });

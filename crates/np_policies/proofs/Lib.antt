@@ -1,8 +1,11 @@
 pub mod BlockLemmas
 pub mod DistinctLemmas
 pub mod KindLemmas
+pub mod PeersMeaning
+pub mod PortsMeaning
 pub mod ReadLemmas
 pub mod SelectorLemmas
+pub mod TypesMeaning
 pub mod WellAdmin
 pub mod WellLemmas
 pub mod WellNetwork

@@ -1,12 +1,7 @@
 -- What a selector that was read asks of labels.
-use Rattle.std.proofs.Common.{◌≡◌, ℕ, List, [], ◌∷◌, ◌++◌, length, map, fold, Bool, true, false, not, cond, ◌||◌, ◌==◌, Option, Some, None, option_and_then, option_map, unwrap_or, is_some, is_none, codes, Ok, refl, sym, ap, ◌∙◌}
+use Rattle.std.proofs.Common.{◌≡◌, ℕ, List, [], ◌∷◌, ◌++◌, length, map, Bool, true, false, not, cond, ◌||◌, ◌==◌, Option, Some, None, option_and_then, option_map, unwrap_or, is_some, is_none, codes, Ok, refl, ap, ◌∙◌}
 use Rattle.std.proofs.lemmas.List.Folds.{list_all-append}
-use Rattle.std.specs.BTreeSet.{insert_key}
-use Rattle.std.specs.Cmp.Lexicographic.{slice_cmp, bytes_decides}
 use Rattle.std.specs.List.{list_all}
-use Rattle.std.specs.Ordering.{nat_cmp, is_eq, match_ordering}
-use Rattle.std.specs.declared.cmp.Ordering.{Ordering}
-use Rattle.std.specs.declared.cmp.Ordering.TheVariants.{Less, Equal, Greater}
 use Rattle.std.specs.Str.{bytes_eq}
 use Rattle.serde_json.specs.Data.{Data, Members, no_members, member}
 use Rattle.serde_json.specs.Find.{as_str, as_object}
@@ -14,61 +9,23 @@ use Rattle.np_json.specs.Members.{as_pairs, member_of, pairs_of_members}
 use Rattle.np_json.specs.Scalars.{is_label, labels, of_type, text, word}
 use Rattle.np_json.specs.Shapes.{◌>>◌, listed, must_be_object, optional, refuse, refuse_if, required}
 use Rattle.np_json.specs.declared.fault.FaultKind.TheVariants.{BadField, BadSelector}
-use Rattle.np_labels.proofs.PairLists.{is_eq-slice_cmp}
 use Rattle.np_labels.specs.Labels.{value_of}
-use Rattle.np_labels.specs.Selectors.{allows, is_listed, label_requirement, meets_requirement, meets_selector}
+use Rattle.np_labels.specs.Selectors.{allows, is_listed, label_requirement, meets_requirement, meets_selector, requirement_of}
+use Rattle.np_labels.specs.Values.{distinct}
+use Rattle.np_labels.specs.WellFormed.{fits}
 use Rattle.np_labels.specs.declared.op.Op.{Op}
 use Rattle.np_labels.specs.declared.op.Op.TheVariants.{OneOf, NoneOf, Present, Absent}
 use Rattle.np_labels.specs.declared.pair.Pair.{Pair}
 use Rattle.np_labels.specs.declared.requirement.Requirement.{Requirement}
 use Rattle.np_labels.specs.declared.selector.Selector.{Selector}
+pub use Rattle.np_labels.proofs.Distinct.{is_listed-distinct}
 use Rattle.np_policies.proofs.ReadLemmas.{bind-output, then-output, optional-output, listed-output, list_all-each_item, list_any-each_item, of_type-output, word-output, text_at-output, IsOptional}
 use Rattle.np_policies.specs.SelectorMeaning.{any_item, has_entries, has_text, is_among, is_text, items_at, meets_expression, meets_members, meets_operator}
-use Rattle.np_policies.specs.Selectors.{distinct, expression, fits, fitting, has_other, is_key, key, op_named, selector}
-
--- ---- values in order, each once
+use Rattle.np_policies.specs.Selectors.{expression, fitting, has_other, is_key, key, op_named, selector}
 
 or_false : (b : Bool) → (b || false) ≡ b
 or_false true = refl
 or_false false = refl
-
-or_twice : (b more : Bool) → (b || more) ≡ ((b || more) || b)
-or_twice true more = refl
-or_twice false true = refl
-or_twice false false = refl
-
-or_swap : (first more here : Bool) → (first || (more || here)) ≡ ((first || more) || here)
-or_swap true more here = refl
-or_swap false more here = refl
-
-or_first : (here others : Bool) → (here || others) ≡ (others || here)
-or_first true true = refl
-or_first true false = refl
-or_first false true = refl
-or_first false false = refl
-
--- one more value is listed, wherever it is put
-is_listed-insert : (values : List (List ℕ)) (value s : List ℕ) → is_listed (insert_key (slice_cmp nat_cmp) values value) s ≡ (is_listed values s || bytes_eq value s)
-is_listed-insert [] value s = or_false (bytes_eq value s)
-is_listed-insert (first ∷ values) value s = by (slice_cmp nat_cmp value first) refl (is_listed-insert values value s)
-  where
-    by : (o : Ordering) → slice_cmp nat_cmp value first ≡ o → is_listed (insert_key (slice_cmp nat_cmp) values value) s ≡ (is_listed values s || bytes_eq value s)
-        → is_listed (match_ordering o (value ∷ first ∷ values) (first ∷ values) (first ∷ insert_key (slice_cmp nat_cmp) values value)) s ≡ (is_listed (first ∷ values) s || bytes_eq value s)
-    by Less is others = or_first (bytes_eq value s) (is_listed (first ∷ values) s)
-    by Equal is others =
-        let same : value ≡ first = (bytes_decides value first).0 (sym (is_eq-slice_cmp value first) ∙ ap is_eq is) in
-        rw same (or_twice (bytes_eq first s) (is_listed values s))
-    by Greater is others = rw others (or_swap (bytes_eq first s) (is_listed values s) (bytes_eq value s))
-
-more_listed : (made values : List (List ℕ)) (s : List ℕ) → is_listed (fold (insert_key (slice_cmp nat_cmp)) made values) s ≡ (is_listed made s || is_listed values s)
-more_listed made [] s = sym (or_false (is_listed made s))
-more_listed made (value ∷ values) s =
-    more_listed (insert_key (slice_cmp nat_cmp) made value) values s
-    ∙ rw (is_listed-insert made value s) (sym (or_swap (is_listed made s) (bytes_eq value s) (is_listed values s)))
-
--- the values in order, each once, are the values
-pub is_listed-distinct : (values : List (List ℕ)) (s : List ℕ) → is_listed (distinct values) s ≡ is_listed values s
-is_listed-distinct values s = more_listed [] values s
 
 -- ---- labels
 
@@ -177,8 +134,8 @@ expression_met own value read is =
     let name = bind-output (required (codes "key") key value) _ read past in
     let operator = bind-output (required (codes "operator") text value) _ read name.after in
     let values = bind-output (listed (codes "values") word value) _ read operator.after in
-    let op = bind-output (fitting (op_named operator.first) (not (length values.first == 0))) (λ op. Ok (record { key = name.first; op = op; values = distinct values.first })) read values.after in
-    let made : record { key = name.first; op = op.first; values = distinct values.first } ≡ read = cc in
+    let op = bind-output (fitting (op_named operator.first) (not (length values.first == 0))) (λ op. Ok (requirement_of name.first op values.first)) read values.after in
+    let made : requirement_of name.first op.first values.first ≡ read = cc in
     let at_key = text_at-output key key-output (codes "key") value name.first name.here in
     let at_operator = text_at-output text (λ d s e. of_type-output (as_str d) s e) (codes "operator") value operator.first operator.here in
     let items = listed-output word (codes "values") value values.first values.here in

@@ -1,13 +1,8 @@
 -- What is read by the shapes of selectors, blocks and ports is well formed.
-use Rattle.std.proofs.Common.{◌≡◌, ◌↔◌, ℕ, ℤ, ◌-◌, ◌%◌, ◌^◌, List, [], ◌∷◌, ◌++◌, length, map, fold, Bool, true, false, not, cond, ◌&&◌, ◌==◌, nat_le, nat_lt, is_none, Option, Some, None, unwrap_or, codes, Ok, refl, ◌∙◌, arith}
+use Rattle.std.proofs.Common.{◌≡◌, ◌↔◌, ℕ, ℤ, ◌-◌, ◌%◌, ◌^◌, List, [], ◌∷◌, ◌++◌, length, map, Bool, true, false, not, cond, ◌&&◌, ◌==◌, nat_le, nat_lt, is_none, Option, Some, None, unwrap_or, codes, Ok, refl, ◌∙◌, arith}
 use Rattle.std.proofs.lemmas.Bool.Decides.{nat_tests}
 use Rattle.std.proofs.lemmas.List.Folds.{list_all-append}
-use Rattle.std.specs.BTreeSet.{insert_key}
-use Rattle.std.specs.Cmp.Lexicographic.{slice_cmp}
 use Rattle.std.specs.List.{list_all}
-use Rattle.std.specs.Ordering.{nat_cmp, match_ordering}
-use Rattle.std.specs.declared.cmp.Ordering.{Ordering}
-use Rattle.std.specs.declared.cmp.Ordering.TheVariants.{Less, Equal, Greater}
 use Rattle.serde_json.specs.Data.{Data, Items, no_items, item}
 use Rattle.serde_json.specs.Find.{as_object}
 use Rattle.np_addr.specs.Addresses.{IsCidr}
@@ -17,11 +12,15 @@ use Rattle.np_addr.specs.declared.cidr.Cidr.TheVariants.{Four, Six}
 use Rattle.np_conns.specs.declared.proto.Proto.{Proto}
 use Rattle.np_json.specs.Members.{as_pairs, as_whole}
 use Rattle.np_json.specs.Scalars.{is_label, labels, of_type, port, port_number, text, word}
-use Rattle.np_json.specs.Shapes.{Read, ◌>>◌, has_member, has_one_of, listed, must_be_object, optional, refuse_if, refuse_member_if, required, under}
+use Rattle.np_json.specs.Shapes.{Read, ◌>>◌, has_member, has_one_of, listed, must_be_object, optional, refuse, refuse_if, refuse_member_if, required, under}
 use Rattle.np_json.specs.Words.{is_word}
 use Rattle.np_json.specs.declared.fault.FaultKind.{FaultKind}
 use Rattle.np_json.specs.declared.fault.FaultKind.TheVariants.{BadField, BadPort, BadSelector}
-use Rattle.np_labels.specs.Selectors.{label_requirement}
+use Rattle.np_labels.proofs.Distinct.{is_empty-distinct, list_all-distinct}
+use Rattle.np_labels.specs.DistinctAscends.{distinct-ascends}
+use Rattle.np_labels.specs.Selectors.{label_requirement, requirement_of}
+use Rattle.np_labels.specs.WellFormed.{fits, is_well_requirement}
+use Rattle.np_labels.specs.declared.op.Op.{Op}
 use Rattle.np_labels.specs.declared.requirement.Requirement.{Requirement}
 use Rattle.np_labels.specs.declared.selector.Selector.{Selector}
 use Rattle.np_policies.proofs.BlockLemmas.{cidr-well}
@@ -29,8 +28,8 @@ use Rattle.np_policies.proofs.ReadLemmas.{bind-output, then-output, required-out
 use Rattle.np_policies.specs.Blocks.{cidr, ip_block, refuse_except}
 use Rattle.np_policies.specs.Ports.{admin_port, admin_port_member, end_port, may_end, named_port, net_port, net_port_by, number_of, one_port, port_name, port_range, port_value, port_value_by, protocol}
 use Rattle.np_policies.specs.SelectorMeaning.{all_items, items_at}
-use Rattle.np_policies.specs.Selectors.{distinct, expression, fitting, has_other, is_key, key, op_named, selector}
-use Rattle.np_policies.specs.WellFormed.{if_there, is_well_admin_port, is_well_block, is_well_cidr, is_well_net_port, is_well_requirement, is_well_selector}
+use Rattle.np_policies.specs.Selectors.{expression, fitting, has_other, is_key, key, op_named, selector}
+use Rattle.np_policies.specs.WellFormed.{if_there, is_well_admin_port, is_well_block, is_well_cidr, is_well_net_port, is_well_selector, is_worded}
 use Rattle.np_policies.specs.declared.admin_policy.AdminPort.{AdminPort}
 use Rattle.np_policies.specs.declared.admin_policy.AdminPort.TheVariants as admin
 use Rattle.np_policies.specs.declared.ip_block_shape.IpBlock.{IpBlock}
@@ -106,45 +105,39 @@ word-well value s is =
     let same : read.first ≡ s = cc in
     rw (← same) test
 
-all-insert : (test : List ℕ → Bool) (values : List (List ℕ)) (value : List ℕ) → list_all test values ≡ true → test value ≡ true → list_all test (insert_key (slice_cmp nat_cmp) values value) ≡ true
-all-insert test [] value all here = both (test value) true here refl
-all-insert test (first ∷ values) value all here =
-    by (slice_cmp nat_cmp value first) (all-insert test values value (right_of (test first) (list_all test values) all) here)
+-- requirements that are well formed, of words
+abbrev is_well_one : Requirement → Bool
+is_well_one one = is_well_requirement one && is_worded one
+
+fits-output : (named : Option Op) (has_values : Bool) (op : Op) → fitting named has_values ≡ Ok op → fits op has_values ≡ true
+fits-output None has_values op is = cc
+fits-output (Some other) has_values op is = by (fits other has_values) refl is
   where
-    by : (o : Ordering) → list_all test (insert_key (slice_cmp nat_cmp) values value) ≡ true
-        → list_all test (match_ordering o (value ∷ first ∷ values) (first ∷ values) (first ∷ insert_key (slice_cmp nat_cmp) values value)) ≡ true
-    by Less others = both (test value) (list_all test (first ∷ values)) here all
-    by Equal others = all
-    by Greater others = both (test first) (list_all test (insert_key (slice_cmp nat_cmp) values value)) (left_of (test first) (list_all test values) all) others
+    by : (b : Bool) → fits other has_values ≡ b → cond b (Ok other) (refuse BadSelector) ≡ Ok op → fits op has_values ≡ true
+    by true fit is = let same : other ≡ op = cc in rw (← same) fit
+    by false fit is = cc
 
-all-fold : (test : List ℕ → Bool) (made values : List (List ℕ)) → list_all test made ≡ true → list_all test values ≡ true → list_all test (fold (insert_key (slice_cmp nat_cmp)) made values) ≡ true
-all-fold test made [] before all = before
-all-fold test made (value ∷ values) before all =
-    all-fold test (insert_key (slice_cmp nat_cmp) made value) values
-    (all-insert test made value before (left_of (test value) (list_all test values) all)) (right_of (test value) (list_all test values) all)
-
-expression-well : (value : Data) (read : Requirement) → expression value ≡ Ok read → is_well_requirement read ≡ true
+expression-well : (value : Data) (read : Requirement) → expression value ≡ Ok read → is_well_one read ≡ true
 unfolding expression
 expression-well value read is =
     let past = then-output (must_be_object value) _ read is in
     let name = bind-output (required (codes "key") key value) _ read past in
     let operator = bind-output (required (codes "operator") text value) _ read name.after in
     let values = bind-output (listed (codes "values") word value) _ read operator.after in
-    let op = bind-output (fitting (op_named operator.first) (not (length values.first == 0))) (λ op. Ok (record { key = name.first; op = op; values = distinct values.first })) read values.after in
-    let made : record { key = name.first; op = op.first; values = distinct values.first } ≡ read = cc in
+    let op = bind-output (fitting (op_named operator.first) (not (length values.first == 0))) (λ op. Ok (requirement_of name.first op values.first)) read values.after in
+    let made : requirement_of name.first op.first values.first ≡ read = cc in
+    let some = fits-output (op_named operator.first) (not (length values.first == 0)) op.first op.here in
     let first = required-well key is_key key-well (codes "key") value name.first name.here in
-    let words = listed-well word is_word word-well (codes "values") value values.first values.here in
-    rw (← made) (both (is_key name.first) (list_all is_word (distinct values.first)) first (all-fold is_word [] values.first refl words))
+    let words = list_all-distinct is_word values.first (listed-well word is_word word-well (codes "values") value values.first values.here) in
+    rw (← made) (rw (distinct-ascends values.first, is_empty-distinct values.first, some, first, words) refl)
 
-label-well : (pair : List ℕ × List ℕ) → is_label pair ≡ true → is_well_requirement (label_requirement pair) ≡ true
-label-well pair is =
-    both (is_key pair.0) (is_word pair.1 && true) (left_of (is_key pair.0) (is_word pair.1) is)
-    (both (is_word pair.1) true (right_of (is_key pair.0) (is_word pair.1) is) refl)
+label-well : (pair : List ℕ × List ℕ) → is_label pair ≡ true → is_well_one (label_requirement pair) ≡ true
+label-well pair is = rw (left_of (is_key pair.0) (is_word pair.1) is, right_of (is_key pair.0) (is_word pair.1) is) refl
 
-each_label-well : (pairs : List (List ℕ × List ℕ)) → list_all is_label pairs ≡ true → list_all is_well_requirement (map label_requirement pairs) ≡ true
+each_label-well : (pairs : List (List ℕ × List ℕ)) → list_all is_label pairs ≡ true → list_all is_well_one (map label_requirement pairs) ≡ true
 each_label-well [] is = refl
 each_label-well (pair ∷ pairs) is =
-    both (is_well_requirement (label_requirement pair)) (list_all is_well_requirement (map label_requirement pairs))
+    both (is_well_one (label_requirement pair)) (list_all is_well_one (map label_requirement pairs))
     (label-well pair (left_of (is_label pair) (list_all is_label pairs) is)) (each_label-well pairs (right_of (is_label pair) (list_all is_label pairs) is))
 
 labels-well : (value : Data) (pairs : List (List ℕ × List ℕ)) → labels value ≡ Ok pairs → list_all is_label pairs ≡ true
@@ -156,11 +149,21 @@ labels-well value pairs is =
     let same : read.first ≡ pairs = cc in
     rw (← same) test
 
-or_none-well : (pairs : Option (List (List ℕ × List ℕ))) → if_there (λ found. list_all is_label found) pairs ≡ true → list_all is_well_requirement (map label_requirement (unwrap_or pairs [])) ≡ true
+or_none-well : (pairs : Option (List (List ℕ × List ℕ))) → if_there (λ found. list_all is_label found) pairs ≡ true → list_all is_well_one (map label_requirement (unwrap_or pairs [])) ≡ true
 or_none-well None is = refl
 or_none-well (Some pairs) is = each_label-well pairs is
 
--- selectors have keys and words
+-- two tests of each requirement are a test of all by either
+two_tests : (ones : List Requirement) → list_all is_well_one ones ≡ true → (list_all is_well_requirement ones && list_all is_worded ones) ≡ true
+two_tests [] is = refl
+two_tests (one ∷ ones) is =
+    let here = left_of (is_well_one one) (list_all is_well_one ones) is in
+    let more = two_tests ones (right_of (is_well_one one) (list_all is_well_one ones) is) in
+    both (is_well_requirement one && list_all is_well_requirement ones) (is_worded one && list_all is_worded ones)
+    (both (is_well_requirement one) (list_all is_well_requirement ones) (left_of (is_well_requirement one) (is_worded one) here) (left_of (list_all is_well_requirement ones) (list_all is_worded ones) more))
+    (both (is_worded one) (list_all is_worded ones) (right_of (is_well_requirement one) (is_worded one) here) (right_of (list_all is_well_requirement ones) (list_all is_worded ones) more))
+
+-- selectors have well formed requirements, of words
 pub selector-well : (value : Data) (read : Selector) → selector value ≡ Ok read → is_well_selector read ≡ true
 unfolding selector
 selector-well value read is =
@@ -170,8 +173,9 @@ selector-well value read is =
     let expressions = bind-output (listed (codes "matchExpressions") expression value) (λ found. Ok (record { requirements = map label_requirement (unwrap_or pairs.first []) ++ found })) read pairs.after in
     let made : record { requirements = map label_requirement (unwrap_or pairs.first []) ++ expressions.first } ≡ read = cc in
     let first = or_none-well pairs.first (optional-well labels (λ found. list_all is_label found) labels-well (codes "matchLabels") value pairs.first pairs.here) in
-    let second = listed-well expression is_well_requirement expression-well (codes "matchExpressions") value expressions.first expressions.here in
-    rw (← made) (list_all-append is_well_requirement (map label_requirement (unwrap_or pairs.first [])) expressions.first ∙ rw (first, second) refl)
+    let second = listed-well expression is_well_one expression-well (codes "matchExpressions") value expressions.first expressions.here in
+    rw (← made) (two_tests (map label_requirement (unwrap_or pairs.first []) ++ expressions.first)
+    (list_all-append is_well_one (map label_requirement (unwrap_or pairs.first [])) expressions.first ∙ rw (first, second) refl))
 
 -- ---- blocks
 

@@ -2,6 +2,7 @@ pub mod AdminPolicies
 pub mod Blocks
 pub mod NetworkPolicies
 pub mod Policies
+pub mod PolicyMeaning
 pub mod Ports
 pub mod SelectorMeaning
 pub mod Selectors

@@ -1,8 +1,5 @@
 -- Shapes of label selectors (Kubernetes API reference, LabelSelector and LabelSelectorRequirement).
-use Rattle.std.specs.Prelude.{ℕ, List, [], ◌∷◌, ◌++◌, length, map, fold, Bool, false, not, ◌&&◌, ◌||◌, ◌==◌, if◌then◌else◌, is_some, Option, Some, None, unwrap_or, codes, Ok}
-use Rattle.std.specs.BTreeSet.{insert_key}
-use Rattle.std.specs.Cmp.Lexicographic.{slice_cmp}
-use Rattle.std.specs.Ordering.{nat_cmp}
+use Rattle.std.specs.Prelude.{ℕ, List, [], ◌++◌, length, map, Bool, false, not, ◌&&◌, ◌||◌, ◌==◌, if◌then◌else◌, is_some, Option, Some, None, unwrap_or, codes, Ok}
 use Rattle.std.specs.Str.{bytes_eq}
 use Rattle.serde_json.specs.Data.{Data, Members, no_members, member}
 use Rattle.serde_json.specs.Find.{as_object}
@@ -11,7 +8,8 @@ use Rattle.np_json.specs.Scalars.{text, word, labels}
 use Rattle.np_json.specs.Shapes.{Read, ◌>>=◌, ◌>>◌, listed, must_be_object, optional, refuse, refuse_if, required}
 use Rattle.np_json.specs.Words.{is_word}
 use Rattle.np_json.specs.declared.fault.FaultKind.TheVariants.{BadField, BadSelector}
-use Rattle.np_labels.specs.Selectors.{label_requirement}
+use Rattle.np_labels.specs.Selectors.{label_requirement, requirement_of}
+use Rattle.np_labels.specs.WellFormed.{fits}
 use Rattle.np_labels.specs.declared.op.Op.{Op}
 use Rattle.np_labels.specs.declared.op.Op.TheVariants.{OneOf, NoneOf, Present, Absent}
 use Rattle.np_labels.specs.declared.requirement.Requirement.{Requirement}
@@ -37,21 +35,10 @@ op_named s =
     else if bytes_eq s (codes "DoesNotExist") then Some Absent
     else None
 
--- whether an operator may stand there with values, or without
-abbrev pub fits : Op → Bool → Bool
-fits OneOf has_values = has_values
-fits NoneOf has_values = has_values
-fits Present has_values = not has_values
-fits Absent has_values = not has_values
-
 -- an operator that is known and fits, else BadSelector
 abbrev pub fitting : Option Op → Bool → Read Op
 fitting None has_values = refuse BadSelector
 fitting (Some op) has_values = if fits op has_values then Ok op else refuse BadSelector
-
--- the values in the order of their bytes, each once
-abbrev pub distinct : List (List ℕ) → List (List ℕ)
-distinct values = fold (insert_key (slice_cmp nat_cmp)) [] values
 
 -- an entry of `matchExpressions`
 unfoldable pub expression : Data → Read Requirement
@@ -61,7 +48,7 @@ expression value = do
   operator ← required (codes "operator") text value
   values ← listed (codes "values") word value
   op ← fitting (op_named operator) (not (length values == 0))
-  Ok (record { key = key; op = op; values = distinct values })
+  Ok (requirement_of key op values)
 
 -- whether the member is one that a selector does not have; a null counts as missing
 abbrev pub is_other : List ℕ → Data → Bool

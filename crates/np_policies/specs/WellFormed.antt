@@ -5,6 +5,7 @@ use Rattle.np_addr.specs.Blocks.{first_bad_except}
 use Rattle.np_addr.specs.declared.cidr.Cidr.{Cidr}
 use Rattle.np_addr.specs.declared.cidr.Cidr.TheVariants.{Four, Six}
 use Rattle.np_json.specs.Words.{is_name, is_word}
+use Rattle.np_labels.specs.WellFormed as labels
 use Rattle.np_labels.specs.declared.requirement.Requirement.{Requirement}
 use Rattle.np_labels.specs.declared.selector.Selector.{Selector}
 use Rattle.np_policies.specs.Selectors.{is_key}
@@ -33,11 +34,12 @@ if_there test None = true
 if_there test (Some x) = test x
 
 -- a key, and values that are words
-abbrev pub is_well_requirement : Requirement → Bool
-is_well_requirement one = is_key one.key && list_all is_word one.values
+abbrev pub is_worded : Requirement → Bool
+is_worded one = is_key one.key && list_all is_word one.values
 
+-- requirements that are well formed, of words
 abbrev pub is_well_selector : Selector → Bool
-is_well_selector selector = list_all is_well_requirement selector.requirements
+is_well_selector selector = labels.is_well_selector selector && list_all is_worded selector.requirements
 
 -- a length that the family has, and no bit behind that many
 abbrev pub is_well_cidr : Cidr → Bool

@@ -1,9 +1,10 @@
 //! The expressions of label selectors.
-ghost use Rattle.std.specs.Prelude.{◌≡◌, IfOk};
+ghost use Rattle.std.specs.Prelude.{◌≡◌};
 ghost use Rattle.np_json.specs.Shapes.{Gives};
+ghost use Rattle.np_labels.specs.WellFormed as labels;
 ghost use Rattle.np_policies.specs.Selectors as shapes;
 
-use np_base::{NoMemory, Seq, Text};
+use np_base::Text;
 use np_json::{
     AnyText, FaultKind, Shape, ShapeFault, Word, is_word, listed, must_be_object, of_type, refuse,
     refuse_if, required,
@@ -11,7 +12,6 @@ use np_json::{
 use np_labels::{Op, Requirement};
 use serde_json::Value;
 use std::alloc::Global;
-use std::collections::BTreeSet;
 
 /// The shape of an entry of `matchExpressions` (Kubernetes API reference, LabelSelectorRequirement): `key`, a word
 /// that is not empty and `operator`, both required, and `values`, a list of words. It is `BadSelector` where the
@@ -32,8 +32,8 @@ impl Shape for ExpressionShape {
         let values = listed(alloc, value, "values", &Word)?;
         let has_values = !values.items().is_empty();
         let op = fitting(alloc, op_named(operator.as_str()), has_values)?;
-        let values = distinct(alloc, values)?;
-        Ok(Requirement { key, op, values })
+        let requirement = Requirement::of(alloc, key, op, values)?;
+        Ok(requirement)
     }
 }
 
@@ -84,31 +84,10 @@ fn fitting(alloc: Global, op: Option<Op>, has_values: bool) -> Result<Op, ShapeF
 }
 
 fn fits(op: Op, has_values: bool) -> bool
-    ensures { result ≡ shapes.fits op has_values }
+    ensures { result ≡ labels.fits op has_values }
 {
     match op {
         Op::OneOf | Op::NoneOf => has_values,
         Op::Present | Op::Absent => !has_values,
     }
-}
-
-// The values in the order of their bytes, each once.
-fn distinct(alloc: Global, values: Seq<Text>) -> Result<Seq<Text>, NoMemory>
-    ensures { IfOk result (λ made. made ≡ shapes.distinct values) }
-{
-    let mut kept = Seq::new(alloc);
-    for value in value_set(alloc, values)? {
-        kept.push(value)?;
-    }
-    Ok(kept)
-}
-
-fn value_set(alloc: Global, values: Seq<Text>) -> Result<BTreeSet<Text>, NoMemory>
-    ensures { IfOk result (λ made. made.keys ≡ shapes.distinct values) }
-{
-    let mut set = BTreeSet::new(alloc);
-    for value in values.into_vec() {
-        set.insert(value)?;
-    }
-    Ok(set)
 }
