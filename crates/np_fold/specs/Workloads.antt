@@ -19,12 +19,13 @@ pub record Workload : Type 0 where
   pub name : List ℕ
   pub members : List ℕ
 
--- The workloads in the order of their names, the number of each pod's workload, the number of each workload's kind, how many kinds there are, and the keys of labels that selectors name, in ascending order.
+-- The workloads in the order of their names, the number of each pod's workload, the number of each workload's kind, how many kinds there are, the first workload of each, and the keys of labels that selectors name, in ascending order.
 pub record Folding : Type 0 where
   pub workloads : List Workload
   pub numbers : List ℕ
   pub kinds : List ℕ
   pub kind_count : ℕ
+  pub first_of_kinds : List ℕ
   pub relevant : List (List ℕ)
 
 -- the workload of a name and of the places of its pods
@@ -111,4 +112,4 @@ number_named folding name = position (λ one. bytes_eq one.name name) folding.wo
 
 -- the folding of an estate; kinds are numbered from 0 by the first workload of each
 unfoldable pub folding_of : EstateLists → Folding
-folding_of lists = record { workloads = workloads_of lists; numbers = map (number_of lists) (places (length lists.pods)); kinds = map (class_of (kinds_alike lists) (workload_count lists)) (places (workload_count lists)); kind_count = length (firsts (kinds_alike lists) (workload_count lists)); relevant = with_keys [] (keys_of_estate lists) }
+folding_of lists = record { workloads = workloads_of lists; numbers = map (number_of lists) (places (length lists.pods)); kinds = map (class_of (kinds_alike lists) (workload_count lists)) (places (workload_count lists)); kind_count = length (firsts (kinds_alike lists) (workload_count lists)); first_of_kinds = firsts (kinds_alike lists) (workload_count lists); relevant = with_keys [] (keys_of_estate lists) }

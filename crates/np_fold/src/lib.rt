@@ -4,6 +4,7 @@
 
 mod blocks;
 mod fold_fault;
+mod folded;
 mod kinds;
 mod laws;
 mod members;
@@ -17,6 +18,7 @@ mod workloads;
 
 pub use blocks::listed_cidrs;
 pub use fold_fault::FoldFault;
+pub use folded::Folded;
 pub use laws::{
     each_pod_has_one_workload, kinds_are_those_of_first_pods, one_workload_has_alike_pods,
     only_equal_traits_tie, other_traits_tell_kinds_apart, owner_names_tell_owners_apart,
@@ -24,4 +26,4 @@ pub use laws::{
 };
 pub use relevant::relevant_keys;
 pub use traits::Traits;
-pub use workloads::Workloads;
+pub use workloads::{MOST_WORKLOADS, Workloads};

@@ -22,8 +22,8 @@ use np_estate::Estate;
 use std::alloc::Global;
 use std::marker::Model;
 
-// The most workloads that an estate may have, so that a table of all pairs of them is not too large.
-const MOST_WORKLOADS: usize = 2000;
+/// The most workloads that an estate may have, so that a table of all pairs of them is not too large.
+pub const MOST_WORKLOADS: usize = 2000;
 
 /// The workloads of an estate: its pods in classes, so that pods of one class are alike to every rule and have one top
 /// owner. Workloads are numbered from 0 in the byte order of their names, and pods by their places in the estate.
@@ -34,9 +34,8 @@ pub struct Workloads {
     by_name: IndexMap<String, Seq<u32>>,
     // The number of each pod's workload.
     numbers: Seq<u32>,
-    // The number of each workload's kind.
-    kinds: Seq<u32>,
-    kind_count: u32,
+    // The number of each workload's kind, and the first workload of each.
+    kinds: Classes,
     relevant: Seq<Text>,
 }
 
@@ -46,10 +45,10 @@ impl Model for Workloads {
 
     ghost Value = { Folding };
 
-    ghost view = { λ w. record { workloads = map workload_of_entry w.by_name.entries; numbers = w.numbers; kinds = w.kinds; kind_count = w.kind_count; relevant = w.relevant } };
+    ghost view = { λ w. record { workloads = map workload_of_entry w.by_name.entries; numbers = w.numbers; kinds = w.kinds.numbers; kind_count = length w.kinds.firsts; first_of_kinds = w.kinds.firsts; relevant = w.relevant } };
 
-    // Numbers of workloads fit.
-    ghost invariant = { λ w. length w.by_name.entries < 2 ^ 32 };
+    // Numbers of workloads and of kinds fit.
+    ghost invariant = { λ w. (length w.by_name.entries < 2 ^ 32) × (length w.kinds.firsts < 2 ^ 32) };
 }
 
 impl Workloads {
@@ -60,9 +59,9 @@ impl Workloads {
     pub fn of(alloc: Global, estate: &Estate) -> Result<Workloads, FoldFault>
         requires { length estate.now.pods < 2 ^ 32 }
         ensures folded { IfOk result (λ workloads. workloads ≡ spec.folding_of estate.now) }
-        ensures few { OnOk result (spec.workload_count estate.now ≤ 2000) }
+        ensures few { OnOk result (spec.workload_count estate.now ≤ MOST_WORKLOADS) }
         ensures many { (count : ℕ) → result ≡ Err (TooManyWorkloads count) →
-            (2000 < spec.workload_count estate.now) × (count ≡ spec.workload_count estate.now) }
+            (MOST_WORKLOADS < spec.workload_count estate.now) × (count ≡ spec.workload_count estate.now) }
     {
         let relevant = relevant_keys(alloc, estate)?;
         let cidrs = listed_cidrs(alloc, estate)?;
@@ -85,7 +84,7 @@ impl Workloads {
         classes: &Classes,
     ) -> Result<Workloads, NoMemory>
         requires pods { length estate.now.pods < 2 ^ 32 }
-        requires few { spec.workload_count estate.now ≤ 2000 }
+        requires few { spec.workload_count estate.now ≤ MOST_WORKLOADS }
         requires relevant { relevant ≡ with_keys [] (keys_of_estate estate.now) }
         requires cidrs { cidrs.now ≡ cidrs_of_estate estate.now }
         requires firsts { classes.now.firsts ≡ spec.first_pods estate.now }
@@ -104,12 +103,10 @@ impl Workloads {
         )?;
         let numbers = numbers_by_name(alloc, classes.numbers.items(), named.items())?;
         let by_name = members_by_name(alloc, named, numbers.items())?;
-        let kind_count = kinds.firsts.items().len() as u32;
         Ok(Workloads {
             by_name,
             numbers,
-            kinds: kinds.numbers,
-            kind_count,
+            kinds,
             relevant,
         })
     }
@@ -167,7 +164,14 @@ impl Workloads {
     pub fn kinds(&self) -> u32
         ensures { result ≡ self.now.kind_count }
     {
-        self.kind_count
+        self.kinds.firsts.items().len() as u32
+    }
+
+    /// The first workload of each kind, in the order of the kinds' numbers.
+    pub fn first_of_kinds(&self) -> &[u32]
+        ensures { result.now ≡ self.now.first_of_kinds }
+    {
+        self.kinds.firsts.items()
     }
 
     /// The number of a workload's kind. Kinds are numbered from 0 by the first workload of each.
@@ -175,7 +179,7 @@ impl Workloads {
         requires { workload < length self.now.kinds }
         ensures { result ≡ slice_index self.now.kinds workload }
     {
-        self.kinds.items()[workload as usize]
+        self.kinds.numbers.items()[workload as usize]
     }
 
     /// The keys of labels that some selector of a policy or service names, each once, in the order of their bytes.

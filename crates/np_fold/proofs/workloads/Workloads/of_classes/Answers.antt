@@ -39,23 +39,21 @@ members_by_name-requires-clause-within c =
 pub members_by_name-requires-clause-names : goal.members_by_name-requires-clause-names
 members_by_name-requires-clause-names c = names-ascend c.args.estate.now c.requires.few c.in_ok-named.named c.in_ok-named.ensures
 
-pub overflow_cast-kind_count : goal.overflow_cast-kind_count
-overflow_cast-kind_count c = omega (arith, kinds-few c.args.estate.now c.items-6.result.now c.requires.few (c.items-6.ensures ∙ c.in_ok-kinds.ensures.firsts))
-
 pub invariant_of-result : goal.invariant_of-result
 invariant_of-result c =
     let made : c.items-5.result.now ≡ map (number_among c.in_ok-named.named) c.items-3.result.now = cc (c.items-5.ensures, c.in_ok-numbers.ensures, c.items-4.ensures) in
-    workloads-few c.args.estate.now c.requires.few c.in_ok-named.named c.in_ok-named.ensures c.items-3.result.now c.items-5.result.now (c.items-3.ensures ∙ c.requires.numbers) made
-    c.in_ok-by_name.by_name.entries c.in_ok-by_name.ensures
+    let workloads = workloads-few c.args.estate.now c.requires.few c.in_ok-named.named c.in_ok-named.ensures c.items-3.result.now c.items-5.result.now (c.items-3.ensures ∙ c.requires.numbers) made
+    c.in_ok-by_name.by_name.entries c.in_ok-by_name.ensures in
+    (workloads, kinds-few c.args.estate.now c.in_ok-kinds.kinds.firsts c.requires.few c.in_ok-kinds.ensures.firsts)
 
 pub returns : goal.returns
 returns c =
     let made : c.in_ok-numbers.numbers ≡ map (number_among c.in_ok-named.named) c.items-3.result.now = cc (c.in_ok-numbers.ensures, c.items-4.ensures) in
     let again : c.items-5.result.now ≡ map (number_among c.in_ok-named.named) c.items-3.result.now = c.items-5.ensures ∙ made in
-    folding-is c.args.estate.now (map workload_of_entry c.in_ok-by_name.by_name.entries) c.in_ok-numbers.numbers c.in_ok-kinds.kinds.numbers c.items-6.result.now c.args.relevant
+    folding-is c.args.estate.now (map workload_of_entry c.in_ok-by_name.by_name.entries) c.in_ok-numbers.numbers c.in_ok-kinds.kinds.numbers c.in_ok-kinds.kinds.firsts c.args.relevant
     (workloads-made c.args.estate.now c.requires.few c.in_ok-named.named c.in_ok-named.ensures c.items-3.result.now c.items-5.result.now (c.items-3.ensures ∙ c.requires.numbers) again
     c.in_ok-by_name.by_name.entries c.in_ok-by_name.ensures)
     (numbers-made c.args.estate.now c.requires.few c.in_ok-named.named c.in_ok-named.ensures c.items-3.result.now c.in_ok-numbers.numbers (c.items-3.ensures ∙ c.requires.numbers) made)
     c.in_ok-kinds.ensures.numbers
-    (c.items-6.ensures ∙ c.in_ok-kinds.ensures.firsts)
+    c.in_ok-kinds.ensures.firsts
     c.requires.relevant
