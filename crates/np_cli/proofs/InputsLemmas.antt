@@ -1,10 +1,10 @@
 -- From what is read to what is answered for.
 use Rattle.std.proofs.Common.{Err, ap}
 use Rattle.np_estate.specs.declared.lists.EstateLists.{EstateLists}
-use Rattle.np_items.specs.Readings as readings
-use Rattle.np_items.specs.Readings.{Reading}
-use Rattle.np_items.specs.declared.refusal.Refusal.{Refusal}
-use Rattle.np_items.specs.declared.refusal.Refusal.TheVariants.{NotJson, NotAList, TooManyItems, NestedList, Bad, Duplicate, EqualPriority, OwnerCycle, NoMemory}
+use Rattle.np_estate.specs.Readings as readings
+use Rattle.np_estate.specs.Readings.{Reading}
+use Rattle.np_estate.specs.declared.refusal.Refusal.{Refusal}
+use Rattle.np_estate.specs.declared.refusal.Refusal.TheVariants.{NotJson, NotAList, TooManyItems, NestedList, Bad, Duplicate, EqualPriority, OwnerCycle, NoMemory}
 use Rattle.np_cli.specs.Failures.{refusal_failure}
 use Rattle.np_cli.specs.Inputs.{Refuses, small_reading}
 

@@ -8,8 +8,8 @@ use Rattle.np_cli.specs.declared.write_fault.WriteFault.{WriteFault}
 use Rattle.np_cli.specs.declared.write_fault.WriteFault.TheVariants as write
 use Rattle.np_fold.specs.declared.fold_fault.FoldFault.{FoldFault}
 use Rattle.np_fold.specs.declared.fold_fault.FoldFault.TheVariants as fold
-use Rattle.np_items.specs.declared.refusal.Refusal.{Refusal}
-use Rattle.np_items.specs.declared.refusal.Refusal.TheVariants as why
+use Rattle.np_estate.specs.declared.refusal.Refusal.{Refusal}
+use Rattle.np_estate.specs.declared.refusal.Refusal.TheVariants as why
 use Rattle.np_words.specs.declared.words_fault.WordsFault.{WordsFault}
 use Rattle.np_words.specs.declared.words_fault.WordsFault.TheVariants as words
 

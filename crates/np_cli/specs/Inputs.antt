@@ -4,7 +4,7 @@ use Rattle.np_estate.specs.Reading.{estate_of}
 use Rattle.np_estate.specs.declared.lists.EstateLists.{EstateLists}
 use Rattle.np_fold.specs.Workloads.{workload_count}
 use Rattle.np_fold.specs.declared.workloads.TheConstants.{MOST_WORKLOADS}
-use Rattle.np_items.specs.Readings.{Reading}
+use Rattle.np_estate.specs.Readings.{Reading}
 use Rattle.np_cli.specs.declared.failure.Failure.{Failure}
 use Rattle.np_cli.specs.declared.failure.Failure.TheVariants.{Usage, CannotRead, TooLarge, Refused, CannotWrite, NoMemory}
 use Rattle.np_cli.specs.declared.fault.Fault.{Fault}

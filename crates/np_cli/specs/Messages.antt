@@ -1,7 +1,7 @@
 -- What is said of a run on the error sink.
 use Rattle.std.specs.Prelude.{ℕ, List, [], ◌++◌, ◌==◌, codes, decimal, if◌then◌else◌, Result, Ok, Err}
 use Rattle.np_estate.specs.declared.notes.Notes.{Notes}
-use Rattle.np_items.specs.Refusals.{refusal_text}
+use Rattle.np_estate.specs.Refusals.{refusal_text}
 use Rattle.np_cli.specs.declared.failure.Failure.{Failure}
 use Rattle.np_cli.specs.declared.failure.Failure.TheVariants.{Usage, CannotRead, TooLarge, Refused, CannotWrite, NoMemory}
 use Rattle.np_cli.specs.declared.fault.Fault.{Fault}

@@ -1,6 +1,6 @@
 //! The faults of inputs.
 
-use np_items::Refusal;
+use np_estate::Refusal;
 use std::fmt;
 
 /// The first fault of the inputs.

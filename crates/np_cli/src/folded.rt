@@ -5,7 +5,7 @@ ghost use Rattle.np_estate.specs.Lawful.{IsLawful};
 
 use crate::failure::Failure;
 use np_estate::Estate;
-use crate::held::Folded;
+use np_fold::Folded;
 use std::alloc::Global;
 
 /// What all inputs say together, or their first fault.

@@ -4,7 +4,6 @@
 mod failure;
 mod fault;
 mod folded;
-mod held;
 mod notes;
 mod outcome;
 mod rows;

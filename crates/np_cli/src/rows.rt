@@ -7,8 +7,8 @@ ghost use Rattle.np_fold.specs.Workloads.{folding_of};
 ghost use Rattle.np_report.specs.RowText as spec;
 ghost use Rattle.np_report.specs.TableText.{table_text};
 
-use crate::held::Folded;
 use crate::write_fault::WriteFault;
+use np_fold::Folded;
 use np_io::{Gathered, Sink};
 use np_report::row_text;
 use np_steps::Steps;

@@ -40,13 +40,11 @@ pub fn np_main<I: Inputs, O: Sink, E: Sink, L: Ledger>(
     err: &mut E,
     steps: &mut Steps<L>,
 ) -> Status
-    ensures promises { Promises
-        (ran (asked_by words.now)
-            (sourced I.holds I.left I.faults I.handed inputs.old inputs.new)
-            (sunk O.taken O.faults out.old out.new)
-            steps.old steps.new)
-        (sunk E.taken E.faults err.old err.new)
-        result }
+    ensures promises { let run = ran (asked_by words.now)
+        (sourced I.holds I.left I.faults I.handed inputs.old inputs.new)
+        (sunk O.taken O.faults out.old out.new)
+        steps.old steps.new in
+        Promises run (sunk E.taken E.faults err.old err.new) result }
 
     // Where the words ask for nothing, neither the inputs nor the sink of the report are touched.
     ensures usage { result ≡ Status.Usage → (inputs.new ≡ inputs.old) × (out.new ≡ out.old) }
@@ -65,9 +63,9 @@ fn run<I: Inputs, O: Sink, L: Ledger>(
     steps: &mut Steps<L>,
 ) -> Result<Notes, Failure>
     ensures ran { let run = ran (asked_by words.now)
-            (sourced I.holds I.left I.faults I.handed inputs.old inputs.new)
-            (sunk O.taken O.faults out.old out.new)
-            steps.old steps.new in
+        (sourced I.holds I.left I.faults I.handed inputs.old inputs.new)
+        (sunk O.taken O.faults out.old out.new)
+        steps.old steps.new in
         Cause run result × Counted run }
     ensures usage { result ≡ Err Failure.Usage → (inputs.new ≡ inputs.old) × (out.new ≡ out.old) }
 {
@@ -84,9 +82,9 @@ fn run_job<I: Inputs, O: Sink, L: Ledger>(
     steps: &mut Steps<L>,
 ) -> Result<Notes, Failure>
     ensures { let run = ran (Some job.now)
-            (sourced I.holds I.left I.faults I.handed inputs.old inputs.new)
-            (sunk O.taken O.faults out.old out.new)
-            steps.old steps.new in
+        (sourced I.holds I.left I.faults I.handed inputs.old inputs.new)
+        (sunk O.taken O.faults out.old out.new)
+        steps.old steps.new in
         Cause run result × Counted run }
 {
     let texts = read_all(alloc, inputs, names_of(job))?;

@@ -12,12 +12,12 @@ returns-in_err-texts g c =
 pub returns : goal.returns
 returns g c = (
   Cause-from_answers c.args.job.now _ _ _ _ _ c.answer.result
-  (λ told tells. rw c.deref.ensures.value (c.in_ok-texts.ensures.told told (rw c.names_of.ensures tells)))
-  (rw c.deref.ensures.value c.in_ok-texts.ensures.fits)
-  c.in_ok-texts.ensures.ok_faults
-  c.answer.ensures.answers,
+      (λ told tells. rw c.deref.ensures.value (c.in_ok-texts.ensures.told told (rw c.names_of.ensures tells)))
+      (rw c.deref.ensures.value c.in_ok-texts.ensures.fits)
+      c.in_ok-texts.ensures.ok_faults
+      c.answer.ensures.answers,
   Counted-read c.args.job.now _ _ _ _ _
-  (λ told tells. rw c.deref.ensures.value (c.in_ok-texts.ensures.told told (rw c.names_of.ensures tells)))
-  c.answer.ensures.least
-  c.answer.ensures.most,
+      (λ told tells. rw c.deref.ensures.value (c.in_ok-texts.ensures.told told (rw c.names_of.ensures tells)))
+      c.answer.ensures.least
+      c.answer.ensures.most,
 )
