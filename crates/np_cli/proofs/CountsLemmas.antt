@@ -16,11 +16,11 @@ use Rattle.np_fold.specs.Workloads.{Folding, folding_of, kinds_alike, workload_c
 use Rattle.np_table.specs.ToCome.{most_rules}
 
 -- no rule was looked at
-pub Counted-none : (asked : Option Job) (source : Sourced) (out : Sunk) (steps : ℕ) → Counted (ran asked source out steps steps)
+pub Counted-none : (asked : Option Job) (source : Sourced) (out : Sunk) (steps : ℕ) → Counted (ran asked source out) steps steps
 Counted-none asked source out steps = record { least = omega arith; most = λ job texts is tells. omega arith }
 
 -- the bytes that were read are those that the source told
-pub Counted-read : (job : Job) (source : Sourced) (out : Sunk) (texts : List (List ℕ)) (before after : ℕ) → ((told : List (List ℕ)) → AreTold source.holds source.left (names_of job) told → texts ≡ told) → before ≤ after → after ≤ before + most_steps job texts → Counted (ran (Some job) source out before after)
+pub Counted-read : (job : Job) (source : Sourced) (out : Sunk) (texts : List (List ℕ)) (before after : ℕ) → ((told : List (List ℕ)) → AreTold source.holds source.left (names_of job) told → texts ≡ told) → before ≤ after → after ≤ before + most_steps job texts → Counted (ran (Some job) source out) before after
 Counted-read job source out texts before after read least most = record {
   least = least;
   most = λ other told is tells.

@@ -1,5 +1,5 @@
 -- Why a run ends as it does.
-use Rattle.std.proofs.Common.{◌≡◌, ℕ, ◌≤◌, List, Option, Some, None, is_some, false, refl, sym, ap, subst, Result, Ok, Err, inl, inr}
+use Rattle.std.proofs.Common.{◌≡◌, ℕ, ◌≤◌, List, Option, Some, None, false, refl, sym, ap, subst, Result, Ok, Err, inl, inr}
 use Rattle.std.specs.Prelude.{◌⊎◌}
 use Rattle.std.proofs.lemmas.Bool.{le-ltb}
 use Rattle.np_io.specs.Taken.{TookFront, TookFront-none, TookFront-all}
@@ -36,23 +36,23 @@ fits_limit : (texts : List (List ℕ)) → total_size texts ≤ SIZE_LIMIT → i
 fits_limit texts fits = le-ltb SIZE_LIMIT (total_size texts) fits
 
 -- a report on the bytes that were read is one on those that the source told
-pub Cause-from_answers : (job : Job) (source : Sourced) (out : Sunk) (old new : ℕ) (texts : List (List ℕ)) (outcome : Result Notes Failure) → ((told : List (List ℕ)) → AreTold source.holds source.left (names_of job) told → texts ≡ told) → total_size texts ≤ SIZE_LIMIT → source.faults_after ≡ source.faults_before → Answers job texts out outcome → Cause (ran (Some job) source out old new) outcome
-Cause-from_answers job source out old new texts (Ok notes) read fits unfailed answers =
+pub Cause-from_answers : (job : Job) (source : Sourced) (out : Sunk) (texts : List (List ℕ)) (outcome : Result Notes Failure) → ((told : List (List ℕ)) → AreTold source.holds source.left (names_of job) told → texts ≡ told) → total_size texts ≤ SIZE_LIMIT → source.faults_after ≡ source.faults_before → Answers job texts out outcome → Cause (ran (Some job) source out) outcome
+Cause-from_answers job source out texts (Ok notes) read fits unfailed answers =
     let accepted : IsAccepted job texts = record { fits = fits_limit texts fits; no_fault = answers.0 } in
     let whole : TookWhole out (output (Some job) texts) = subst (TookWhole out) (sym (output-fits job texts (fits_limit texts fits))) answers.1 in
     (job, refl, unfailed, answers.1.faults, λ told tells. (subst (IsAccepted job) (read told tells) accepted, subst (λ (ts : List (List ℕ)). TookWhole out (output (Some job) ts)) (read told tells) whole, subst (λ (ts : List (List ℕ)). notes ≡ notes_of job ts) (read told tells) answers.2))
-Cause-from_answers job source out old new texts (Err (Refused fault)) read fits unfailed answers =
+Cause-from_answers job source out texts (Err (Refused fault)) read fits unfailed answers =
     (job, refl, unfailed, answers.1, λ told tells. (subst (λ (ts : List (List ℕ)). is_too_large ts ≡ false) (read told tells) (fits_limit texts fits), subst (λ (ts : List (List ℕ)). refusal job ts ≡ Some fault) (read told tells) answers.0))
-Cause-from_answers job source out old new texts (Err CannotWrite) read fits unfailed answers =
+Cause-from_answers job source out texts (Err CannotWrite) read fits unfailed answers =
     let accepted : IsAccepted job texts = record { fits = fits_limit texts fits; no_fault = answers.0 } in
     let front : TookFront out.before out.after (output (Some job) texts) = subst (TookFront out.before out.after) (sym (output-fits job texts (fits_limit texts fits))) answers.1 in
     (job, refl, unfailed, answers.2, λ told tells. (subst (IsAccepted job) (read told tells) accepted, subst (λ (ts : List (List ℕ)). TookFront out.before out.after (output (Some job) ts)) (read told tells) front))
-Cause-from_answers job source out old new texts (Err NoMemory) read fits unfailed answers =
+Cause-from_answers job source out texts (Err NoMemory) read fits unfailed answers =
     let front : TookFront out.before out.after (output (Some job) texts) = subst (TookFront out.before out.after) (sym (output-fits job texts (fits_limit texts fits))) answers in
     λ told tells. subst (λ (ts : List (List ℕ)). TookFront out.before out.after (output (Some job) ts)) (read told tells) front
-Cause-from_answers job source out old new texts (Err Usage) read fits unfailed answers = absurd answers
-Cause-from_answers job source out old new texts (Err TooLarge) read fits unfailed answers = absurd answers
-Cause-from_answers job source out old new texts (Err (CannotRead name)) read fits unfailed answers = absurd answers
+Cause-from_answers job source out texts (Err Usage) read fits unfailed answers = absurd answers
+Cause-from_answers job source out texts (Err TooLarge) read fits unfailed answers = absurd answers
+Cause-from_answers job source out texts (Err (CannotRead name)) read fits unfailed answers = absurd answers
 
 -- a sink that took nothing took a front of any text
 TookFront-kept : (out : Sunk) (bytes : List ℕ) → IsKept out → TookFront out.before out.after bytes
@@ -61,20 +61,20 @@ TookFront-kept out bytes kept = subst (λ (after : Option (List ℕ)). TookFront
 -- ---- words and inputs that are not read
 
 -- the words ask for nothing, or want memory
-pub Cause-words : (asked : Option Job) (source : Sourced) (out : Sunk) (old new : ℕ) (fault : WordsFault) → (fault ≡ words.Usage → asked ≡ None) → source.faults_after ≡ source.faults_before → IsKept out → Cause (ran asked source out old new) (Err (words_failure fault))
-Cause-words asked source out old new words.Usage nothing unfailed kept = (nothing refl, unfailed, kept)
-Cause-words asked source out old new words.NoMemory nothing unfailed kept = λ texts told. TookFront-kept out (output asked texts) kept
+pub Cause-words : (asked : Option Job) (source : Sourced) (out : Sunk) (fault : WordsFault) → (fault ≡ words.Usage → asked ≡ None) → source.faults_after ≡ source.faults_before → IsKept out → Cause (ran asked source out) (Err (words_failure fault))
+Cause-words asked source out words.Usage nothing unfailed kept = (nothing refl, unfailed, kept)
+Cause-words asked source out words.NoMemory nothing unfailed kept = λ texts told. TookFront-kept out (output asked texts) kept
 
 -- the inputs are not read
-pub Cause-unread : (job : Job) (source : Sourced) (out : Sunk) (old new : ℕ) (fault : SourceFault) → IsKept out → Unread source (names_of job) fault → Cause (ran (Some job) source out old new) (Err (source_failure fault))
-Cause-unread job source out old new (unread.CannotRead name) kept why = (why.0, why.1, kept)
-Cause-unread job source out old new unread.TooLarge kept why = (why.0, why.1, kept, refl, why.2)
-Cause-unread job source out old new unread.NoMemory kept why = λ texts told. TookFront-kept out (output (Some job) texts) kept
+pub Cause-unread : (job : Job) (source : Sourced) (out : Sunk) (fault : SourceFault) → IsKept out → Unread source (names_of job) fault → Cause (ran (Some job) source out) (Err (source_failure fault))
+Cause-unread job source out (unread.CannotRead name) kept why = (why.0, why.1, kept)
+Cause-unread job source out unread.TooLarge kept why = (why.0, why.1, kept, refl, why.2)
+Cause-unread job source out unread.NoMemory kept why = λ texts told. TookFront-kept out (output (Some job) texts) kept
 
 -- words that ask for a job do not ask for nothing
-pub Cause-asked : (job : Job) (source : Sourced) (out : Sunk) (old new : ℕ) (outcome : Result Notes Failure) → Cause (ran (Some job) source out old new) outcome → outcome ≡ Err Usage → ⊥
-Cause-asked job source out old new outcome cause usage =
-    let why = subst (Cause (ran (Some job) source out old new)) usage cause in
+pub Cause-asked : (job : Job) (source : Sourced) (out : Sunk) (outcome : Result Notes Failure) → Cause (ran (Some job) source out) outcome → outcome ≡ Err Usage → ⊥
+Cause-asked job source out outcome cause usage =
+    let why = subst (Cause (ran (Some job) source out)) usage cause in
     let nothing : Some job ≡ None = why.0 in cc
 
 -- ---- reports that are not written whole
@@ -89,9 +89,18 @@ Prints-refused reads out (CannotRead name) kept refuses = absurd refuses
 Prints-refused reads out CannotWrite kept refuses = absurd refuses
 
 -- a front of the table is written
-pub Prints-unwritten : (lists : EstateLists) (out : Sunk) (fault : WriteFault) → Writes out (table_text lists) (Err fault) → Prints (Ok lists) out (Err (write_failure fault))
-Prints-unwritten lists out unwritten.SinkFailed wrote = (refl, wrote.0, wrote.1)
-Prints-unwritten lists out unwritten.NoMemory wrote = wrote
+front_written : (lists : EstateLists) (out : Sunk) (fault : WriteFault) → Writes out (table_text lists) (Err fault) → Prints (Ok lists) out (Err (write_failure fault))
+front_written lists out unwritten.SinkFailed wrote = (refl, wrote.0, wrote.1)
+front_written lists out unwritten.NoMemory wrote = wrote
+
+pub Prints-unwritten : (reads : Result EstateLists Fault) (lists : EstateLists) (out : Sunk) (fault : WriteFault) → reads ≡ Ok lists → Writes out (table_text lists) (Err fault) → Prints reads out (Err (write_failure fault))
+Prints-unwritten reads lists out fault is wrote =
+    subst (λ (r : Result EstateLists Fault). Prints r out (Err (write_failure fault))) (sym is) (front_written lists out fault wrote)
+
+-- the table is written whole
+pub Prints-written : (reads : Result EstateLists Fault) (lists : EstateLists) (out : Sunk) (notes : Notes) → reads ≡ Ok lists → TookWhole out (table_text lists) → notes ≡ lists.notes → Prints reads out (Ok notes)
+Prints-written reads lists out notes is wrote left_out =
+    subst (λ (r : Result EstateLists Fault). Prints r out (Ok notes)) (sym is) (refl, wrote, left_out)
 
 -- ---- what is said
 

@@ -53,8 +53,8 @@ BlamesDevice run answer = answer ≡ status.Device
 abbrev pub BlamesWords : Option Job → Status → Type 0
 BlamesWords asked answer = (answer ≡ status.Usage → asked ≡ None) × (asked ≡ None → (answer ≡ status.Usage) ⊎ (answer ≡ status.NoMemory))
 
--- All that is promised of a run that ended with this status.
-pub record Promises (run : Run) (err : Sunk) (answer : Status) : Type 0 where
+-- All that is promised of a run that ended with this status, where so many rules were looked at before it and after it.
+pub record Promises (run : Run) (err : Sunk) (steps_before steps_after : ℕ) (answer : Status) : Type 0 where
   pub ends : Ends run err answer
   -- where the source tells its bytes and no call failed, the answer is determined, but for want of memory
   pub completes : Completes run err answer
@@ -64,4 +64,4 @@ pub record Promises (run : Run) (err : Sunk) (answer : Status) : Type 0 where
   pub words : BlamesWords run.asked answer
   pub device : BlamesDevice run answer
   -- how many rules were looked at: for a table at most four times as many for each pair of workloads, and six times for each workload, as speak of one of them in a direction
-  pub counted : Counted run
+  pub counted : Counted run steps_before steps_after

@@ -15,16 +15,14 @@ use Rattle.np_cli.specs.declared.sources.TheConstants.{SIZE_LIMIT}
 use Rattle.np_cli.specs.declared.status.Status.{Status}
 use Rattle.np_words.specs.declared.job.Job.{Job}
 
--- a run: what the words ask for, what it did to the source and to the sink of the report, and how many rules were looked at before it and after it
+-- a run: what the words ask for, and what it did to the source and to the sink of the report
 pub record Run : Type 0 where
   pub asked : Option Job
   pub source : Sourced
   pub out : Sunk
-  pub steps_before : ℕ
-  pub steps_after : ℕ
 
-abbrev pub ran : Option Job → Sourced → Sunk → ℕ → ℕ → Run
-ran asked source out old new = record { asked = asked; source = source; out = out; steps_before = old; steps_after = new }
+abbrev pub ran : Option Job → Sourced → Sunk → Run
+ran asked source out = record { asked = asked; source = source; out = out }
 
 -- no call for an input failed
 abbrev pub IsUnfailed : Run → Type 0

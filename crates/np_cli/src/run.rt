@@ -42,9 +42,8 @@ pub fn np_main<I: Inputs, O: Sink, E: Sink, L: Ledger>(
 ) -> Status
     ensures promises { let run = ran (asked_by words.now)
         (sourced I.holds I.left I.faults I.handed inputs.old inputs.new)
-        (sunk O.taken O.faults out.old out.new)
-        steps.old steps.new in
-        Promises run (sunk E.taken E.faults err.old err.new) result }
+        (sunk O.taken O.faults out.old out.new) in
+        Promises run (sunk E.taken E.faults err.old err.new) steps.old steps.new result }
 
     // Where the words ask for nothing, neither the inputs nor the sink of the report are touched.
     ensures usage { result ≡ Status.Usage → (inputs.new ≡ inputs.old) × (out.new ≡ out.old) }
@@ -64,9 +63,8 @@ fn run<I: Inputs, O: Sink, L: Ledger>(
 ) -> Result<Notes, Failure>
     ensures ran { let run = ran (asked_by words.now)
         (sourced I.holds I.left I.faults I.handed inputs.old inputs.new)
-        (sunk O.taken O.faults out.old out.new)
-        steps.old steps.new in
-        Cause run result × Counted run }
+        (sunk O.taken O.faults out.old out.new) in
+        Cause run result × Counted run steps.old steps.new }
     ensures usage { result ≡ Err Failure.Usage → (inputs.new ≡ inputs.old) × (out.new ≡ out.old) }
 {
     let job = read_words(alloc, words)?;
@@ -83,9 +81,8 @@ fn run_job<I: Inputs, O: Sink, L: Ledger>(
 ) -> Result<Notes, Failure>
     ensures { let run = ran (Some job.now)
         (sourced I.holds I.left I.faults I.handed inputs.old inputs.new)
-        (sunk O.taken O.faults out.old out.new)
-        steps.old steps.new in
-        Cause run result × Counted run }
+        (sunk O.taken O.faults out.old out.new) in
+        Cause run result × Counted run steps.old steps.new }
 {
     let texts = read_all(alloc, inputs, names_of(job))?;
     answer(alloc, job, &texts, out, steps)

@@ -7,11 +7,11 @@ use Rattle.np_cli.proofs.run.run_job.Goals as goal
 pub returns-in_err-texts : goal.returns-in_err-texts
 returns-in_err-texts g c =
     let p = err_from_is_err_and c.from_residual.result c.from_residual.ensures.1 in
-    rw (p.1, p.2) (Cause-unread c.args.job.now _ _ _ _ c.in_err-texts.field-0.0 (record { taken = refl; faults = refl }) (rw c.names_of.ensures at c.in_err-texts.ensures.err), Counted-none _ _ _ _)
+    rw (p.1, p.2) (Cause-unread c.args.job.now _ _ c.in_err-texts.field-0.0 (record { taken = refl; faults = refl }) (rw c.names_of.ensures at c.in_err-texts.ensures.err), Counted-none _ _ _ _)
 
 pub returns : goal.returns
 returns g c = (
-  Cause-from_answers c.args.job.now _ _ _ _ _ c.answer.result
+  Cause-from_answers c.args.job.now _ _ _ c.answer.result
       (λ told tells. rw c.deref.ensures.value (c.in_ok-texts.ensures.told told (rw c.names_of.ensures tells)))
       (rw c.deref.ensures.value c.in_ok-texts.ensures.fits)
       c.in_ok-texts.ensures.ok_faults
