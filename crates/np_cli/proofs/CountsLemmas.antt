@@ -4,6 +4,8 @@ use Rattle.std.proofs.lemmas.List.FromFn.{length-range_with_len}
 use Rattle.std.proofs.lemmas.List.Sums.{count_by-le-length, length-filter}
 use Rattle.std.proofs.Math.Nat.{mul-le-mul_left, mul-le-mul_right}
 use Rattle.np_cli.specs.Counts.{Counted, list_steps, most_steps}
+use Rattle.np_cli.specs.Runs.{ran}
+use Rattle.np_cli.specs.Sinks.{Sunk}
 use Rattle.np_cli.specs.Sources.{AreTold, Sourced}
 use Rattle.np_cli.specs.Words.{names_of}
 use Rattle.np_words.specs.declared.job.Job.{Job}
@@ -14,12 +16,12 @@ use Rattle.np_fold.specs.Workloads.{Folding, folding_of, kinds_alike, workload_c
 use Rattle.np_table.specs.ToCome.{most_rules}
 
 -- no rule was looked at
-pub Counted-none : (asked : Option Job) (source : Sourced) (steps : ℕ) → Counted asked source steps steps
-Counted-none asked source steps = record { least = omega arith; most = λ job texts is tells. omega arith }
+pub Counted-none : (asked : Option Job) (source : Sourced) (out : Sunk) (steps : ℕ) → Counted (ran asked source out) steps steps
+Counted-none asked source out steps = record { least = omega arith; most = λ job texts is tells. omega arith }
 
 -- the bytes that were read are those that the source told
-pub Counted-read : (job : Job) (source : Sourced) (texts : List (List ℕ)) (before after : ℕ) → ((told : List (List ℕ)) → AreTold source.holds source.left (names_of job) told → texts ≡ told) → before ≤ after → after ≤ before + most_steps job texts → Counted (Some job) source before after
-Counted-read job source texts before after read least most = record {
+pub Counted-read : (job : Job) (source : Sourced) (out : Sunk) (texts : List (List ℕ)) (before after : ℕ) → ((told : List (List ℕ)) → AreTold source.holds source.left (names_of job) told → texts ≡ told) → before ≤ after → after ≤ before + most_steps job texts → Counted (ran (Some job) source out) before after
+Counted-read job source out texts before after read least most = record {
   least = least;
   most = λ other told is tells.
       let same : job ≡ other = cc in

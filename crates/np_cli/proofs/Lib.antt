@@ -1,7 +1,6 @@
 pub mod InputsLemmas
 pub mod SourcesLemmas
 pub mod RowsLemmas
-pub mod TableLemmas
 pub mod RunsLemmas
 pub mod PromisesLemmas
 pub mod CountsLemmas

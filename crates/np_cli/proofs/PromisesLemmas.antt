@@ -1,5 +1,5 @@
 -- What follows from why a run ends as it does.
-use Rattle.std.proofs.Common.{◌≡◌, ℕ, List, Option, Some, None, is_some, true, sym, subst, inl, inr, arith}
+use Rattle.std.proofs.Common.{◌≡◌, ℕ, List, Option, Some, None, is_some, true, Result, Ok, Err, sym, subst, inl, inr, arith}
 use Rattle.std.specs.Prelude.{◌⊎◌, Contains}
 use Rattle.std.proofs.lemmas.Bool.{both_ways}
 use Rattle.np_estate.specs.declared.notes.Notes.{Notes}
@@ -7,14 +7,14 @@ use Rattle.np_io.specs.Counts.{Rose}
 use Rattle.np_cli.specs.Answers.{refusal, notes_of}
 use Rattle.np_cli.specs.Messages.{message, notes_text}
 use Rattle.np_cli.specs.Promises.{IsStill, Completes, RefusesTooLarge, RefusesFaults, BlamesDevice, BlamesWords}
-use Rattle.np_cli.specs.Runs.{Sunk, Cause, Said}
-use Rattle.np_cli.specs.Sources.{Sourced}
+use Rattle.np_cli.specs.Runs.{Run, Cause}
+use Rattle.np_cli.specs.Sinks.{Sunk, Said}
 use Rattle.np_cli.specs.Statuses.{status_of}
 use Rattle.np_cli.specs.Words.{names_asked}
 use Rattle.np_cli.specs.declared.fault.Fault.{Fault}
 use Rattle.np_words.specs.declared.job.Job.{Job}
-use Rattle.np_cli.specs.declared.outcome.Outcome.{Outcome}
-use Rattle.np_cli.specs.declared.outcome.Outcome.TheVariants.{Done, Usage, TooLarge, Refused, CannotRead, CannotWrite, NoMemory}
+use Rattle.np_cli.specs.declared.failure.Failure.{Failure}
+use Rattle.np_cli.specs.declared.failure.Failure.TheVariants.{Usage, TooLarge, Refused, CannotRead, CannotWrite, NoMemory}
 use Rattle.np_cli.specs.declared.status.Status.{Status}
 use Rattle.np_cli.specs.declared.status.Status.TheVariants as status
 
@@ -42,73 +42,73 @@ no_fault found fault none some = cc
 one_fault : (found : Option Fault) (fault other : Fault) → found ≡ Some fault → found ≡ Some other → other ≡ fault
 one_fault found fault other is is_other = cc
 
-pub completes : (asked : Option Job) (source : Sourced) (out err : Sunk) (answer : Status) (outcome : Outcome) → Cause asked source out outcome → Said err (message outcome) → answer ≡ status_of outcome → Completes asked source out err answer
-completes asked source out err answer (Done notes) cause said answered = λ job texts is told accepted inputs sink.
-    let same : notes ≡ notes_of job texts = subst (λ (j : Job). notes ≡ notes_of j texts) (one_job asked job cause.0 is cause.1) (cause.4 texts told).2 in
+pub completes : (run : Run) (err : Sunk) (answer : Status) (outcome : Result Notes Failure) → Cause run outcome → Said err (message outcome) → answer ≡ status_of outcome → Completes run err answer
+completes run err answer (Ok notes) cause said answered = λ job texts is told accepted inputs sink.
+    let same : notes ≡ notes_of job texts = subst (λ (j : Job). notes ≡ notes_of j texts) (one_job run.asked job cause.0 is cause.1) (cause.4 texts told).2 in
     inl (answered, (cause.4 texts told).1, subst (λ (n : Notes). Said err (notes_text n)) same said)
-completes asked source out err answer Usage cause said answered = λ job texts is told accepted inputs sink. asks asked job is cause.0
-completes asked source out err answer TooLarge cause said answered = λ job texts is told accepted inputs sink. absurd (both_ways _ accepted.fits (cause.4 texts told))
-completes asked source out err answer (Refused fault) cause said answered = λ job texts is told accepted inputs sink.
-    no_fault (refusal job texts) fault accepted.no_fault (subst (λ (j : Job). refusal j texts ≡ Some fault) (one_job asked job cause.0 is cause.1) (cause.4 texts told).1)
-completes asked source out err answer (CannotRead name) cause said answered = λ job texts is told accepted inputs sink.
+completes run err answer (Err Usage) cause said answered = λ job texts is told accepted inputs sink. asks run.asked job is cause.0
+completes run err answer (Err TooLarge) cause said answered = λ job texts is told accepted inputs sink. absurd (both_ways _ accepted.fits (cause.4 texts told))
+completes run err answer (Err (Refused fault)) cause said answered = λ job texts is told accepted inputs sink.
+    no_fault (refusal job texts) fault accepted.no_fault (subst (λ (j : Job). refusal j texts ≡ Some fault) (one_job run.asked job cause.0 is cause.1) (cause.4 texts told).1)
+completes run err answer (Err (CannotRead name)) cause said answered = λ job texts is told accepted inputs sink.
     absurd (still_or_rose _ _ (inputs name cause.0) cause.1)
-completes asked source out err answer CannotWrite cause said answered = λ job texts is told accepted inputs sink.
+completes run err answer (Err CannotWrite) cause said answered = λ job texts is told accepted inputs sink.
     absurd (still_or_rose _ _ sink cause.3)
-completes asked source out err answer NoMemory cause said answered = λ job texts is told accepted inputs sink. inr answered
+completes run err answer (Err NoMemory) cause said answered = λ job texts is told accepted inputs sink. inr answered
 
-pub refuses_too_large : (asked : Option Job) (source : Sourced) (out err : Sunk) (answer : Status) (outcome : Outcome) → Cause asked source out outcome → Said err (message outcome) → answer ≡ status_of outcome → RefusesTooLarge asked source out err answer
-refuses_too_large asked source out err answer (Done notes) cause said answered = λ job texts is told large inputs.
+pub refuses_too_large : (run : Run) (err : Sunk) (answer : Status) (outcome : Result Notes Failure) → Cause run outcome → Said err (message outcome) → answer ≡ status_of outcome → RefusesTooLarge run err answer
+refuses_too_large run err answer (Ok notes) cause said answered = λ job texts is told large inputs.
     absurd (both_ways _ (cause.4 texts told).0.fits large)
-refuses_too_large asked source out err answer Usage cause said answered = λ job texts is told large inputs. asks asked job is cause.0
-refuses_too_large asked source out err answer TooLarge cause said answered = λ job texts is told large inputs. inl (answered, cause.2, said)
-refuses_too_large asked source out err answer (Refused fault) cause said answered = λ job texts is told large inputs.
+refuses_too_large run err answer (Err Usage) cause said answered = λ job texts is told large inputs. asks run.asked job is cause.0
+refuses_too_large run err answer (Err TooLarge) cause said answered = λ job texts is told large inputs. inl (answered, cause.2, said)
+refuses_too_large run err answer (Err (Refused fault)) cause said answered = λ job texts is told large inputs.
     absurd (both_ways _ (cause.4 texts told).0 large)
-refuses_too_large asked source out err answer (CannotRead name) cause said answered = λ job texts is told large inputs.
+refuses_too_large run err answer (Err (CannotRead name)) cause said answered = λ job texts is told large inputs.
     absurd (still_or_rose _ _ (inputs name cause.0) cause.1)
-refuses_too_large asked source out err answer CannotWrite cause said answered = λ job texts is told large inputs.
+refuses_too_large run err answer (Err CannotWrite) cause said answered = λ job texts is told large inputs.
     absurd (both_ways _ (cause.4 texts told).0.fits large)
-refuses_too_large asked source out err answer NoMemory cause said answered = λ job texts is told large inputs. inr answered
+refuses_too_large run err answer (Err NoMemory) cause said answered = λ job texts is told large inputs. inr answered
 
-pub refuses_faults : (asked : Option Job) (source : Sourced) (out err : Sunk) (answer : Status) (outcome : Outcome) → Cause asked source out outcome → Said err (message outcome) → answer ≡ status_of outcome → RefusesFaults asked source out err answer
-refuses_faults asked source out err answer (Done notes) cause said answered = λ job texts fault is told fits found inputs.
-    no_fault (refusal job texts) fault (subst (λ (j : Job). refusal j texts ≡ None) (one_job asked job cause.0 is cause.1) (cause.4 texts told).0.no_fault) found
-refuses_faults asked source out err answer Usage cause said answered = λ job texts fault is told fits found inputs. asks asked job is cause.0
-refuses_faults asked source out err answer TooLarge cause said answered = λ job texts fault is told fits found inputs.
+pub refuses_faults : (run : Run) (err : Sunk) (answer : Status) (outcome : Result Notes Failure) → Cause run outcome → Said err (message outcome) → answer ≡ status_of outcome → RefusesFaults run err answer
+refuses_faults run err answer (Ok notes) cause said answered = λ job texts fault is told fits found inputs.
+    no_fault (refusal job texts) fault (subst (λ (j : Job). refusal j texts ≡ None) (one_job run.asked job cause.0 is cause.1) (cause.4 texts told).0.no_fault) found
+refuses_faults run err answer (Err Usage) cause said answered = λ job texts fault is told fits found inputs. asks run.asked job is cause.0
+refuses_faults run err answer (Err TooLarge) cause said answered = λ job texts fault is told fits found inputs.
     absurd (both_ways _ fits (cause.4 texts told))
-refuses_faults asked source out err answer (Refused other) cause said answered = λ job texts fault is told fits found inputs.
-    let same : other ≡ fault = one_fault (refusal job texts) fault other found (subst (λ (j : Job). refusal j texts ≡ Some other) (one_job asked job cause.0 is cause.1) (cause.4 texts told).1) in
-    inl (answered, cause.3, subst (λ (f : Fault). Said err (message (Refused f))) same said)
-refuses_faults asked source out err answer (CannotRead name) cause said answered = λ job texts fault is told fits found inputs.
+refuses_faults run err answer (Err (Refused other)) cause said answered = λ job texts fault is told fits found inputs.
+    let same : other ≡ fault = one_fault (refusal job texts) fault other found (subst (λ (j : Job). refusal j texts ≡ Some other) (one_job run.asked job cause.0 is cause.1) (cause.4 texts told).1) in
+    inl (answered, cause.3, subst (λ (f : Fault). Said err (message (Err (Refused f)))) same said)
+refuses_faults run err answer (Err (CannotRead name)) cause said answered = λ job texts fault is told fits found inputs.
     absurd (still_or_rose _ _ (inputs name cause.0) cause.1)
-refuses_faults asked source out err answer CannotWrite cause said answered = λ job texts fault is told fits found inputs.
-    no_fault (refusal job texts) fault (subst (λ (j : Job). refusal j texts ≡ None) (one_job asked job cause.0 is cause.1) (cause.4 texts told).0.no_fault) found
-refuses_faults asked source out err answer NoMemory cause said answered = λ job texts fault is told fits found inputs. inr answered
+refuses_faults run err answer (Err CannotWrite) cause said answered = λ job texts fault is told fits found inputs.
+    no_fault (refusal job texts) fault (subst (λ (j : Job). refusal j texts ≡ None) (one_job run.asked job cause.0 is cause.1) (cause.4 texts told).0.no_fault) found
+refuses_faults run err answer (Err NoMemory) cause said answered = λ job texts fault is told fits found inputs. inr answered
 
 -- a status is one alone
-pub blames_device : (asked : Option Job) (source : Sourced) (out : Sunk) (answer : Status) (outcome : Outcome) → Cause asked source out outcome → answer ≡ status_of outcome → BlamesDevice asked source out answer
-blames_device asked source out answer (Done notes) cause answered = λ device. cc
-blames_device asked source out answer Usage cause answered = λ device. cc
-blames_device asked source out answer TooLarge cause answered = λ device. cc
-blames_device asked source out answer (Refused fault) cause answered = λ device. cc
-blames_device asked source out answer (CannotRead name) cause answered = λ device. inl (name, cause.0, cause.1)
-blames_device asked source out answer CannotWrite cause answered = λ device. inr cause.3
-blames_device asked source out answer NoMemory cause answered = λ device. cc
+pub blames_device : (run : Run) (answer : Status) (outcome : Result Notes Failure) → Cause run outcome → answer ≡ status_of outcome → BlamesDevice run answer
+blames_device run answer (Ok notes) cause answered = λ device. cc
+blames_device run answer (Err Usage) cause answered = λ device. cc
+blames_device run answer (Err TooLarge) cause answered = λ device. cc
+blames_device run answer (Err (Refused fault)) cause answered = λ device. cc
+blames_device run answer (Err (CannotRead name)) cause answered = λ device. inl (name, cause.0, cause.1)
+blames_device run answer (Err CannotWrite) cause answered = λ device. inr cause.3
+blames_device run answer (Err NoMemory) cause answered = λ device. cc
 
-pub blames_words : (asked : Option Job) (source : Sourced) (out : Sunk) (answer : Status) (outcome : Outcome) → Cause asked source out outcome → answer ≡ status_of outcome → BlamesWords asked answer
-blames_words asked source out answer (Done notes) cause answered = (λ usage. cc, λ nothing. asks asked cause.0 cause.1 nothing)
-blames_words asked source out answer Usage cause answered = (λ usage. cause.0, λ nothing. inl answered)
-blames_words asked source out answer TooLarge cause answered = (λ usage. cc, λ nothing. asks_nothing asked cause.3 nothing)
-blames_words asked source out answer (Refused fault) cause answered = (λ usage. cc, λ nothing. asks asked cause.0 cause.1 nothing)
-blames_words asked source out answer (CannotRead name) cause answered = (λ usage. cc, λ nothing. names_something asked name cause.0 nothing)
-blames_words asked source out answer CannotWrite cause answered = (λ usage. cc, λ nothing. asks asked cause.0 cause.1 nothing)
-blames_words asked source out answer NoMemory cause answered = (λ usage. cc, λ nothing. inr answered)
+pub blames_words : (run : Run) (answer : Status) (outcome : Result Notes Failure) → Cause run outcome → answer ≡ status_of outcome → BlamesWords run.asked answer
+blames_words run answer (Ok notes) cause answered = (λ usage. cc, λ nothing. asks run.asked cause.0 cause.1 nothing)
+blames_words run answer (Err Usage) cause answered = (λ usage. cause.0, λ nothing. inl answered)
+blames_words run answer (Err TooLarge) cause answered = (λ usage. cc, λ nothing. asks_nothing run.asked cause.3 nothing)
+blames_words run answer (Err (Refused fault)) cause answered = (λ usage. cc, λ nothing. asks run.asked cause.0 cause.1 nothing)
+blames_words run answer (Err (CannotRead name)) cause answered = (λ usage. cc, λ nothing. names_something run.asked name cause.0 nothing)
+blames_words run answer (Err CannotWrite) cause answered = (λ usage. cc, λ nothing. asks run.asked cause.0 cause.1 nothing)
+blames_words run answer (Err NoMemory) cause answered = (λ usage. cc, λ nothing. inr answered)
 
 -- a run that says that the words ask for nothing ended so
-pub usage_ended : (ended said : Outcome) (answer : Status) → answer ≡ status_of said → answer ≡ status.Usage → (said ≡ ended) ⊎ (said ≡ NoMemory) → ended ≡ Usage
-usage_ended ended Usage answer answered usage which = elim which [ inl same ↦ sym same | inr memory ↦ cc ]
-usage_ended ended (Done notes) answer answered usage which = cc
-usage_ended ended TooLarge answer answered usage which = cc
-usage_ended ended (Refused fault) answer answered usage which = cc
-usage_ended ended (CannotRead name) answer answered usage which = cc
-usage_ended ended CannotWrite answer answered usage which = cc
-usage_ended ended NoMemory answer answered usage which = cc
+pub usage_ended : (ended said : Result Notes Failure) (answer : Status) → answer ≡ status_of said → answer ≡ status.Usage → (said ≡ ended) ⊎ (said ≡ Err NoMemory) → ended ≡ Err Usage
+usage_ended ended (Err Usage) answer answered usage which = elim which [ inl same ↦ sym same | inr memory ↦ cc ]
+usage_ended ended (Ok notes) answer answered usage which = cc
+usage_ended ended (Err TooLarge) answer answered usage which = cc
+usage_ended ended (Err (Refused fault)) answer answered usage which = cc
+usage_ended ended (Err (CannotRead name)) answer answered usage which = cc
+usage_ended ended (Err CannotWrite) answer answered usage which = cc
+usage_ended ended (Err NoMemory) answer answered usage which = cc

@@ -8,7 +8,8 @@ use Rattle.std.proofs.lemmas.List.Elements.{Contains-get_or}
 use Rattle.std.proofs.lemmas.List.Sums.{sum_by-append, sum_by_more_le}
 use Rattle.np_io.specs.Counts.{Rose, RosePast, handed_after}
 use Rattle.np_io.specs.Source.{IsTold}
-use Rattle.np_cli.specs.Sources.{AreTold, Sourced, Unread, NextUnread, size_limit, total_size, is_too_large}
+use Rattle.np_cli.specs.Sources.{AreTold, Sourced, Unread, NextUnread, total_size, is_too_large}
+use Rattle.np_cli.specs.declared.sources.TheConstants.{SIZE_LIMIT}
 use Rattle.np_cli.specs.declared.sources.SourceFault.{SourceFault}
 use Rattle.np_cli.specs.declared.sources.SourceFault.TheVariants.{CannotRead, TooLarge, NoMemory}
 
@@ -63,11 +64,11 @@ RosePast-joined n room limit old mid new whole rose past = elim past [
 ]
 
 -- the inputs so far leave room for fewer bytes than the next one has
-pub is_too_large-told : (texts : List (List ℕ)) (made : List (Vec ℕ Global)) (i room : ℕ) → i < length texts → bytes_of made ≡ take i texts → room + total_size (bytes_of made) ≡ size_limit → room < length (get_or texts i []) → is_too_large texts ≡ true
+pub is_too_large-told : (texts : List (List ℕ)) (made : List (Vec ℕ Global)) (i room : ℕ) → i < length texts → bytes_of made ≡ take i texts → room + total_size (bytes_of made) ≡ SIZE_LIMIT → room < length (get_or texts i []) → is_too_large texts ≡ true
 is_too_large-told texts made i room below so_far counted past =
     let sizes : total_size (bytes_of made) ≡ total_size (take i texts) = ap total_size so_far in
     let more = sum_by_more_le length texts i [] below in
-    lt-ltb size_limit (total_size texts) (omega arith)
+    lt-ltb SIZE_LIMIT (total_size texts) (omega arith)
 
 still_some : {X : Type 0} (old new : Option X) → is_some new ≡ is_some old → IsSome old → IsSome new
 still_some None None same is = is
@@ -86,14 +87,14 @@ told-next holds holds_now left left_now names texts i name same_holds same_left 
     }
 
 -- why the next input was not read is why all were not
-pub Unread-next : (source : Sourced) (holds_now : List ℕ → Option (List ℕ)) (left_now : Option (List ℕ)) (faults_now : List ℕ → ℕ) (handed_now : ℕ) (names : List (List ℕ)) (made : List (Vec ℕ Global)) (i room : ℕ) (name : List ℕ) (fault : SourceFault) → holds_now ≡ source.holds → is_some left_now ≡ is_some source.left → faults_now ≡ source.faults_before → i < length names → name ≡ get_or names i name → ((texts : List (List ℕ)) → AreTold source.holds source.left names texts → bytes_of made ≡ take i texts) → room + total_size (bytes_of made) ≡ size_limit → RoseBy (total_size (bytes_of made)) source.handed_before handed_now → NextUnread (record { holds = holds_now; left = left_now; faults_before = faults_now; faults_after = source.faults_after; handed_before = handed_now; handed_after = source.handed_after }) name room fault → Unread source names fault
+pub Unread-next : (source : Sourced) (holds_now : List ℕ → Option (List ℕ)) (left_now : Option (List ℕ)) (faults_now : List ℕ → ℕ) (handed_now : ℕ) (names : List (List ℕ)) (made : List (Vec ℕ Global)) (i room : ℕ) (name : List ℕ) (fault : SourceFault) → holds_now ≡ source.holds → is_some left_now ≡ is_some source.left → faults_now ≡ source.faults_before → i < length names → name ≡ get_or names i name → ((texts : List (List ℕ)) → AreTold source.holds source.left names texts → bytes_of made ≡ take i texts) → room + total_size (bytes_of made) ≡ SIZE_LIMIT → RoseBy (total_size (bytes_of made)) source.handed_before handed_now → NextUnread (record { holds = holds_now; left = left_now; faults_before = faults_now; faults_after = source.faults_after; handed_before = handed_now; handed_after = source.handed_after }) name room fault → Unread source names fault
 Unread-next source holds_now left_now faults_now handed_now names made i room name (CannotRead named) same_holds same_left same_faults below is so_far counted rose why =
     let at_name : (n : ℕ) → Rose n (source.faults_after name) → (source.faults_before name ≡ n) → Rose (source.faults_before name) (source.faults_after name) = λ n r e. subst (λ (m : ℕ). Rose m (source.faults_after name)) (sym e) r in
     let here : Contains names name = subst (Contains names) (sym is) (Contains-get_or names i name below) in
     let rose_here = at_name (faults_now name) why.1 (ap (λ (f : List ℕ → ℕ). f name) (sym same_faults)) in
     subst (λ (n : List ℕ). Contains names n × Rose (source.faults_before n) (source.faults_after n)) (sym why.0) (here, rose_here)
 Unread-next source holds_now left_now faults_now handed_now names made i room name TooLarge same_holds same_left same_faults below is so_far counted rose why = (
-  RosePast-joined (total_size (bytes_of made)) room size_limit source.handed_before handed_now source.handed_after counted rose why.0,
+  RosePast-joined (total_size (bytes_of made)) room SIZE_LIMIT source.handed_before handed_now source.handed_after counted rose why.0,
   why.1 ∙ same_faults,
   λ texts told.
       let fewer = AreTold-length source.holds source.left names texts told in

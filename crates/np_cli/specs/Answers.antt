@@ -3,7 +3,7 @@ use Rattle.std.specs.Prelude.{ℕ, List, [], Option, Some, None, Result, Ok, Err
 use Rattle.np_estate.specs.declared.lists.EstateLists.{EstateLists}
 use Rattle.np_estate.specs.declared.notes.Notes.{Notes}
 use Rattle.np_cli.specs.Inputs.{lists_of}
-use Rattle.np_cli.specs.Rows.{table_text}
+use Rattle.np_report.specs.TableText.{table_text}
 use Rattle.np_cli.specs.Sources.{is_too_large}
 use Rattle.np_cli.specs.declared.fault.Fault.{Fault}
 use Rattle.np_words.specs.declared.job.Job.{Job}

@@ -1,8 +1,7 @@
 -- How many rules a job looks at.
-use Rattle.std.specs.Prelude.{◌≡◌, ℕ, ◌+◌, ◌*◌, ◌≤◌, List, length, Option, Some, Result, Ok, Err}
+use Rattle.std.specs.Prelude.{◌≡◌, ℕ, ◌+◌, ◌*◌, ◌≤◌, List, length, Some, Result, Ok, Err}
 use Rattle.np_cli.specs.Inputs.{lists_of}
-use Rattle.np_cli.specs.Runs.{Tells}
-use Rattle.np_cli.specs.Sources.{Sourced}
+use Rattle.np_cli.specs.Runs.{Run, Tells}
 use Rattle.np_cli.specs.declared.fault.Fault.{Fault}
 use Rattle.np_words.specs.declared.job.Job.{Job}
 use Rattle.np_words.specs.declared.job.Job.TheVariants.{List as ListJob}
@@ -27,6 +26,6 @@ unfoldable pub most_steps : Job → List (List ℕ) → ℕ
 most_steps (ListJob files) texts = steps_in (lists_of texts)
 
 -- The count never falls, and where the source tells the bytes of a job's inputs, it rises by so many at most.
-pub record Counted (asked : Option Job) (source : Sourced) (before after : ℕ) : Type 0 where
+pub record Counted (run : Run) (before after : ℕ) : Type 0 where
   pub least : before ≤ after
-  pub most : (job : Job) (texts : List (List ℕ)) → asked ≡ Some job → Tells source asked texts → after ≤ before + most_steps job texts
+  pub most : (job : Job) (texts : List (List ℕ)) → run.asked ≡ Some job → Tells run texts → after ≤ before + most_steps job texts

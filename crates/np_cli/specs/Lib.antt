@@ -1,9 +1,10 @@
 pub mod Words
+pub mod Failures
 pub mod Messages
 pub mod Statuses
 pub mod Inputs
 pub mod Sources
-pub mod Rows
+pub mod Sinks
 pub mod Answers
 pub mod Written
 pub mod Runs

@@ -1,15 +1,23 @@
 -- What is said of a run on the error sink.
-use Rattle.std.specs.Prelude.{ℕ, List, [], ◌++◌, ◌==◌, codes, decimal, if◌then◌else◌}
+use Rattle.std.specs.Prelude.{ℕ, List, [], ◌++◌, ◌==◌, codes, decimal, if◌then◌else◌, Result, Ok, Err}
 use Rattle.np_estate.specs.declared.notes.Notes.{Notes}
-use Rattle.np_items.specs.Refusals.{refusal_text}
+use Rattle.np_estate.specs.Refusals.{refusal_text}
+use Rattle.np_cli.specs.declared.failure.Failure.{Failure}
+use Rattle.np_cli.specs.declared.failure.Failure.TheVariants.{Usage, CannotRead, TooLarge, Refused, CannotWrite, NoMemory}
 use Rattle.np_cli.specs.declared.fault.Fault.{Fault}
 use Rattle.np_cli.specs.declared.fault.Fault.TheVariants.{Inputs, TooManyWorkloads}
-use Rattle.np_cli.specs.declared.outcome.Outcome.{Outcome}
-use Rattle.np_cli.specs.declared.outcome.Outcome.TheVariants.{Done, Usage, TooLarge, Refused, CannotRead, CannotWrite, NoMemory}
 
 abbrev pub fault_text : Fault → List ℕ
 fault_text (Inputs refusal) = refusal_text refusal
 fault_text (TooManyWorkloads count) = codes "TooManyWorkloads " ++ decimal count
+
+abbrev pub failure_text : Failure → List ℕ
+failure_text Usage = codes "usage: np list [FILE]..."
+failure_text (CannotRead name) = codes "error: cannot read " ++ name
+failure_text TooLarge = codes "error: TooLarge"
+failure_text (Refused fault) = codes "error: " ++ fault_text fault
+failure_text CannotWrite = codes "error: cannot write"
+failure_text NoMemory = codes "error: out of memory"
 
 -- the line of a note, where its number is not 0
 unfoldable pub note : List ℕ → ℕ → List ℕ
@@ -23,12 +31,7 @@ notes_text notes =
     ++ note (codes "objects of other kinds skipped") notes.skipped
     ++ note (codes "pods without an address, matched by no networks peer") notes.unaddressed
 
--- the notes of a whole report, and one line for each other outcome
-abbrev pub message : Outcome → List ℕ
-message (Done notes) = notes_text notes
-message Usage = codes "usage: np list [FILE]...\n"
-message TooLarge = codes "error: TooLarge\n"
-message (Refused fault) = codes "error: " ++ fault_text fault ++ codes "\n"
-message (CannotRead name) = codes "error: cannot read " ++ name ++ codes "\n"
-message CannotWrite = codes "error: cannot write\n"
-message NoMemory = codes "error: out of memory\n"
+-- the notes of a whole report, and one line for a failure
+abbrev pub message : Result Notes Failure → List ℕ
+message (Ok notes) = notes_text notes
+message (Err failure) = failure_text failure ++ codes "\n"

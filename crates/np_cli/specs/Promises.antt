@@ -1,16 +1,18 @@
--- What follows from why a run ends as it does.
-use Rattle.std.specs.Prelude.{◌≡◌, ℕ, ◌+◌, ◌^◌, ◌<◌, ◌≤◌, ◌⊎◌, List, true, false, Option, Some, None, Contains}
+-- What a run promises, which follows from why it ends as it does.
+use Rattle.std.specs.Prelude.{◌≡◌, ℕ, ◌+◌, ◌^◌, ◌<◌, ◌≤◌, ◌⊎◌, List, true, false, None, Option, Some, Contains, Ok, Err}
 use Rattle.np_io.specs.Counts.{Rose}
 use Rattle.np_cli.specs.Answers.{refusal, notes_of, output}
-use Rattle.np_cli.specs.Messages.{message, notes_text}
-use Rattle.np_cli.specs.Runs.{Sunk, IsKept, TookWhole, Tells, IsAccepted, Said}
-use Rattle.np_cli.specs.Sources.{Sourced, is_too_large}
+use Rattle.np_cli.specs.Counts.{Counted}
+use Rattle.np_cli.specs.Messages.{message}
+use Rattle.np_cli.specs.Runs.{Run, Tells, IsAccepted, Ends}
+use Rattle.np_cli.specs.Sinks.{Sunk, IsKept, TookWhole, Said}
+use Rattle.np_cli.specs.Sources.{is_too_large}
 use Rattle.np_cli.specs.Words.{names_asked}
+use Rattle.np_cli.specs.declared.failure.Failure.TheVariants as failure
 use Rattle.np_cli.specs.declared.fault.Fault.{Fault}
-use Rattle.np_words.specs.declared.job.Job.{Job}
-use Rattle.np_cli.specs.declared.outcome.Outcome.TheVariants as outcome
 use Rattle.np_cli.specs.declared.status.Status.{Status}
 use Rattle.np_cli.specs.declared.status.Status.TheVariants as status
+use Rattle.np_words.specs.declared.job.Job.{Job}
 
 -- a count did not rise, and does not stand at its end
 pub record IsStill (old new : ℕ) : Type 0 where
@@ -18,35 +20,48 @@ pub record IsStill (old new : ℕ) : Type 0 where
   pub below_end : new + 1 < 2 ^ 64
 
 -- no call for an input that the words ask for was counted as failed
-abbrev pub NoInputFailed : Option Job → Sourced → Type 0
-NoInputFailed asked source = (name : List ℕ) → Contains (names_asked asked) name → IsStill (source.faults_before name) (source.faults_after name)
+abbrev pub NoInputFailed : Run → Type 0
+NoInputFailed run = (name : List ℕ) → Contains (names_asked run.asked) name → IsStill (run.source.faults_before name) (run.source.faults_after name)
 
 -- Accepted inputs that the source tells, with no failing call, are answered with the whole text, and what was left
 -- out is said, or for want of memory.
-abbrev pub Completes : Option Job → Sourced → Sunk → Sunk → Status → Type 0
-Completes asked source out err answer = (job : Job) (texts : List (List ℕ)) → asked ≡ Some job → Tells source asked texts → IsAccepted job texts
-    → NoInputFailed asked source → IsStill out.faults_before out.faults_after
-    → ((answer ≡ status.Done) × TookWhole out (output asked texts) × Said err (notes_text (notes_of job texts))) ⊎ (answer ≡ status.NoMemory)
+abbrev pub Completes : Run → Sunk → Status → Type 0
+Completes run err answer = (job : Job) (texts : List (List ℕ)) → run.asked ≡ Some job → Tells run texts → IsAccepted job texts
+    → NoInputFailed run → IsStill run.out.faults_before run.out.faults_after
+    → ((answer ≡ status.Done) × TookWhole run.out (output run.asked texts) × Said err (message (Ok (notes_of job texts)))) ⊎ (answer ≡ status.NoMemory)
 
 -- Inputs with too many bytes are refused for that, and nothing is written to the sink of the report.
-abbrev pub RefusesTooLarge : Option Job → Sourced → Sunk → Sunk → Status → Type 0
-RefusesTooLarge asked source out err answer = (job : Job) (texts : List (List ℕ)) → asked ≡ Some job → Tells source asked texts → is_too_large texts ≡ true
-    → NoInputFailed asked source
-    → ((answer ≡ status.Refused) × IsKept out × Said err (message outcome.TooLarge)) ⊎ (answer ≡ status.NoMemory)
+abbrev pub RefusesTooLarge : Run → Sunk → Status → Type 0
+RefusesTooLarge run err answer = (job : Job) (texts : List (List ℕ)) → run.asked ≡ Some job → Tells run texts → is_too_large texts ≡ true
+    → NoInputFailed run
+    → ((answer ≡ status.Refused) × IsKept run.out × Said err (message (Err failure.TooLarge))) ⊎ (answer ≡ status.NoMemory)
 
 -- Inputs with a fault are refused for the one that stands first, and nothing is written to the sink of the report.
-abbrev pub RefusesFaults : Option Job → Sourced → Sunk → Sunk → Status → Type 0
-RefusesFaults asked source out err answer = (job : Job) (texts : List (List ℕ)) (fault : Fault) → asked ≡ Some job → Tells source asked texts → is_too_large texts ≡ false → refusal job texts ≡ Some fault
-    → NoInputFailed asked source
-    → ((answer ≡ status.Refused) × IsKept out × Said err (message (outcome.Refused fault))) ⊎ (answer ≡ status.NoMemory)
+abbrev pub RefusesFaults : Run → Sunk → Status → Type 0
+RefusesFaults run err answer = (job : Job) (texts : List (List ℕ)) (fault : Fault) → run.asked ≡ Some job → Tells run texts → is_too_large texts ≡ false → refusal job texts ≡ Some fault
+    → NoInputFailed run
+    → ((answer ≡ status.Refused) × IsKept run.out × Said err (message (Err (failure.Refused fault)))) ⊎ (answer ≡ status.NoMemory)
 
 -- The device is at fault only where a count of its own rose: that of an input that the words ask for, or that of
 -- the sink of the report.
-abbrev pub BlamesDevice : Option Job → Sourced → Sunk → Status → Type 0
-BlamesDevice asked source out answer = answer ≡ status.Device
-    → ((name : List ℕ) × Contains (names_asked asked) name × Rose (source.faults_before name) (source.faults_after name))
-    ⊎ Rose out.faults_before out.faults_after
+abbrev pub BlamesDevice : Run → Status → Type 0
+BlamesDevice run answer = answer ≡ status.Device
+    → ((name : List ℕ) × Contains (names_asked run.asked) name × Rose (run.source.faults_before name) (run.source.faults_after name))
+    ⊎ Rose run.out.faults_before run.out.faults_after
 
 -- the words are at fault exactly where they ask for nothing
 abbrev pub BlamesWords : Option Job → Status → Type 0
 BlamesWords asked answer = (answer ≡ status.Usage → asked ≡ None) × (asked ≡ None → (answer ≡ status.Usage) ⊎ (answer ≡ status.NoMemory))
+
+-- All that is promised of a run that ended with this status, where so many rules were looked at before it and after it.
+pub record Promises (run : Run) (err : Sunk) (steps_before steps_after : ℕ) (answer : Status) : Type 0 where
+  pub ends : Ends run err answer
+  -- where the source tells its bytes and no call failed, the answer is determined, but for want of memory
+  pub completes : Completes run err answer
+  pub refuses_too_large : RefusesTooLarge run err answer
+  pub refuses_faults : RefusesFaults run err answer
+  -- who is at fault
+  pub words : BlamesWords run.asked answer
+  pub device : BlamesDevice run answer
+  -- how many rules were looked at: for a table at most four times as many for each pair of workloads, and six times for each workload, as speak of one of them in a direction
+  pub counted : Counted run steps_before steps_after

@@ -2,19 +2,16 @@
 use Rattle.std.specs.Prelude.{◌≡◌, ◌<◌, ℕ, List, [], ◌∷◌, Bool, true, Option, length, sum_by, nat_lt, Contains}
 use Rattle.np_io.specs.Counts.{Rose, RosePast}
 use Rattle.np_io.specs.Source.{IsTold}
+use Rattle.np_cli.specs.declared.sources.TheConstants.{SIZE_LIMIT}
 use Rattle.np_cli.specs.declared.sources.SourceFault.{SourceFault}
 use Rattle.np_cli.specs.declared.sources.SourceFault.TheVariants.{CannotRead, TooLarge, NoMemory}
-
--- how many bytes all inputs of a job may have together
-abbrev pub size_limit : ℕ
-size_limit = 33554432
 
 -- how many bytes the inputs have together
 abbrev pub total_size : List (List ℕ) → ℕ
 total_size texts = sum_by length texts
 
 abbrev pub is_too_large : List (List ℕ) → Bool
-is_too_large texts = nat_lt size_limit (total_size texts)
+is_too_large texts = nat_lt SIZE_LIMIT (total_size texts)
 
 -- the source tells these bytes for these names, one after another
 abbrev pub AreTold : (List ℕ → Option (List ℕ)) → Option (List ℕ) → List (List ℕ) → List (List ℕ) → Type 0
@@ -46,7 +43,7 @@ sourced holds left faults handed old new = record {
 -- why the inputs of these names were not read to their ends
 abbrev pub Unread : Sourced → List (List ℕ) → SourceFault → Type 0
 Unread source names (CannotRead name) = Contains names name × Rose (source.faults_before name) (source.faults_after name)
-Unread source names TooLarge = RosePast size_limit source.handed_before source.handed_after
+Unread source names TooLarge = RosePast SIZE_LIMIT source.handed_before source.handed_after
     × (source.faults_after ≡ source.faults_before)
     × ((texts : List (List ℕ)) → AreTold source.holds source.left names texts → is_too_large texts ≡ true)
 Unread source names NoMemory = Unit {0}

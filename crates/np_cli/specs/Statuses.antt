@@ -1,14 +1,19 @@
 -- The status of each outcome.
-use Rattle.np_cli.specs.declared.outcome.Outcome.{Outcome}
-use Rattle.np_cli.specs.declared.outcome.Outcome.TheVariants as outcome
+use Rattle.std.specs.Prelude.{Result, Ok, Err}
+use Rattle.np_estate.specs.declared.notes.Notes.{Notes}
+use Rattle.np_cli.specs.declared.failure.Failure.{Failure}
+use Rattle.np_cli.specs.declared.failure.Failure.TheVariants.{Usage, CannotRead, TooLarge, Refused, CannotWrite, NoMemory}
 use Rattle.np_cli.specs.declared.status.Status.{Status}
 use Rattle.np_cli.specs.declared.status.Status.TheVariants as status
 
-abbrev pub status_of : Outcome → Status
-status_of (outcome.Done notes) = status.Done
-status_of outcome.Usage = status.Usage
-status_of outcome.TooLarge = status.Refused
-status_of (outcome.Refused fault) = status.Refused
-status_of (outcome.CannotRead name) = status.Device
-status_of outcome.CannotWrite = status.Device
-status_of outcome.NoMemory = status.NoMemory
+abbrev pub failure_status : Failure → Status
+failure_status Usage = status.Usage
+failure_status (CannotRead name) = status.Device
+failure_status TooLarge = status.Refused
+failure_status (Refused fault) = status.Refused
+failure_status CannotWrite = status.Device
+failure_status NoMemory = status.NoMemory
+
+abbrev pub status_of : Result Notes Failure → Status
+status_of (Ok notes) = status.Done
+status_of (Err failure) = failure_status failure

@@ -1,7 +1,6 @@
-//! Why inputs are refused for what they say.
+//! The faults of inputs.
 
-use np_fold::FoldFault;
-use np_items::Refusal;
+use np_estate::Refusal;
 use std::fmt;
 
 /// The first fault of the inputs.
@@ -23,45 +22,6 @@ impl fmt::Display for Fault {
         match self {
             Fault::Inputs(refusal) => write!(f, "{refusal}"),
             Fault::TooManyWorkloads { count } => write!(f, "TooManyWorkloads {count}"),
-        }
-    }
-}
-
-/// Why inputs are not read to what they say.
-#[derive(Debug, Drop)]
-pub enum InputsFault {
-    /// They have this fault first.
-    Refused(Fault),
-    /// The system refused memory.
-    NoMemory,
-}
-
-impl From<Refusal> for InputsFault {
-    ghost use Rattle.std.specs.Prelude.{◌≡◌};
-    ghost use Rattle.np_cli.specs.Inputs.{fault_of};
-
-    ghost from_gives = { λ refusal fault. fault ≡ fault_of refusal };
-
-    fn from(refusal: Refusal) -> InputsFault {
-        match refusal {
-            Refusal::NoMemory => InputsFault::NoMemory,
-            refusal => InputsFault::Refused(Fault::Inputs(refusal)),
-        }
-    }
-}
-
-impl From<FoldFault> for InputsFault {
-    ghost use Rattle.std.specs.Prelude.{◌≡◌};
-    ghost use Rattle.np_cli.specs.Inputs.{fold_fault_of};
-
-    ghost from_gives = { λ fault made. made ≡ fold_fault_of fault };
-
-    fn from(fault: FoldFault) -> InputsFault {
-        match fault {
-            FoldFault::TooManyWorkloads { count } => {
-                InputsFault::Refused(Fault::TooManyWorkloads { count })
-            }
-            FoldFault::NoMemory => InputsFault::NoMemory,
         }
     }
 }

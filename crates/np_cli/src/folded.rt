@@ -1,23 +1,16 @@
 //! What the bytes of the inputs say, folded.
-ghost use Rattle.std.specs.Prelude.{map};
+ghost use Rattle.std.specs.Prelude.{◌≡◌, ◌<◌, ◌≤◌, ℕ, Err, IfOk, OnOk, map};
 ghost use Rattle.np_cli.specs.Inputs as spec;
 ghost use Rattle.np_estate.specs.Lawful.{IsLawful};
 
-use crate::fault::InputsFault;
+use crate::failure::Failure;
 use np_estate::Estate;
-use np_fold::Workloads;
+use np_fold::Folded;
 use std::alloc::Global;
 
-/// An estate and its workloads.
-#[derive(Debug, Drop)]
-pub struct Folded {
-    pub estate: Estate,
-    pub workloads: Workloads,
-}
-
 /// What all inputs say together, or their first fault.
-pub fn read_folded(alloc: Global, texts: &[Vec<u8>]) -> Result<Folded, InputsFault>
-    ensures { spec.GivesFolded result (spec.lists_of (map (λ text. text.items) texts.now)) }
+pub fn read_folded(alloc: Global, texts: &[Vec<u8>]) -> Result<Folded, Failure>
+    ensures { spec.Gives result (spec.lists_of (map (λ text. text.items) texts.now)) }
 {
     let estate = Estate::read(alloc, texts)?;
     fold(alloc, estate)
@@ -25,10 +18,9 @@ pub fn read_folded(alloc: Global, texts: &[Vec<u8>]) -> Result<Folded, InputsFau
 
 // The estate with its workloads, unless it has too many.
 #[tactic(auto, unfolding(crate::specs::Inputs::small_estate))]
-fn fold(alloc: Global, estate: Estate) -> Result<Folded, InputsFault>
+fn fold(alloc: Global, estate: Estate) -> Result<Folded, Failure>
     requires { IsLawful estate }
-    ensures { spec.GivesFolded result (spec.small_estate estate) }
+    ensures { spec.Gives result (spec.small_estate estate) }
 {
-    let workloads = Workloads::of(alloc, &estate)?;
-    Ok(Folded { estate, workloads })
+    Ok(Folded::of(alloc, estate)?)
 }

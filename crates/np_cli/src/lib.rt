@@ -1,20 +1,19 @@
 //! The program without its outside.
 #![tactic(auto)]
 
+mod failure;
 mod fault;
 mod folded;
-mod laws;
 mod notes;
 mod outcome;
-mod row_text;
 mod rows;
 mod run;
 mod sources;
 mod status;
 mod write_fault;
 
+pub use failure::Failure;
 pub use fault::Fault;
-pub use laws::equal_tables_print_equal_bytes;
 pub use np_words::{Job, WordsFault, read_words};
 pub use outcome::Outcome;
 pub use run::np_main;

@@ -1,29 +1,27 @@
 //! The top call: from the words of a command line and the bytes of its inputs to a report and a status.
-ghost use Rattle.std.specs.Prelude.{◌≡◌, ◌≢◌, ◌≤◌, ◌+◌, ◌⊎◌, None, Some, map};
-ghost use Rattle.np_cli.specs.Counts.{Counted, list_steps, most_steps, steps_in};
+ghost use Rattle.std.specs.Prelude.{◌≡◌, ◌≤◌, ◌+◌, ◌⊎◌, Err, Some, map};
+ghost use Rattle.np_cli.specs.Counts.{Counted, most_steps, steps_in};
 ghost use Rattle.np_cli.specs.Inputs.{lists_of};
-ghost use Rattle.np_cli.specs.Messages.{message};
-ghost use Rattle.np_cli.specs.Prints.{Answers, Prints, Wrote};
-ghost use Rattle.np_cli.specs.Promises.{BlamesDevice, BlamesWords, Completes, RefusesFaults, RefusesTooLarge};
-ghost use Rattle.np_cli.specs.Rows.{table_text};
-ghost use Rattle.np_cli.specs.Runs.{Cause, Ends, Said, sunk};
+ghost use Rattle.np_cli.specs.Messages as messages;
+ghost use Rattle.np_cli.specs.Prints.{Answers, Prints};
+ghost use Rattle.np_cli.specs.Promises.{Promises};
+ghost use Rattle.np_cli.specs.Runs.{Cause, ran};
+ghost use Rattle.np_cli.specs.Sinks.{Said, sunk};
 ghost use Rattle.np_cli.specs.Sources.{sourced};
 ghost use Rattle.np_cli.specs.Words as spec;
 ghost use Rattle.np_words.specs.CommandLines.{asked_by};
-ghost use Rattle.np_estate.specs.Lawful.{IsLawful};
-ghost use Rattle.np_fold.specs.Workloads.{folding_of};
 
-use crate::fault::InputsFault;
-use crate::folded::{Folded, read_folded};
-use crate::outcome::Outcome;
+use crate::failure::Failure;
+use crate::folded::read_folded;
+use crate::outcome::{Outcome, message, status_of};
 use crate::rows::write_table;
-use crate::sources::{SourceFault, read_all};
+use crate::sources::read_all;
 use crate::status::Status;
-use crate::write_fault::WriteFault;
 use np_base::{NoMemory, Text};
+use np_estate::Notes;
 use np_io::{Inputs, Sink, write_whole};
 use np_steps::Steps;
-use np_words::{Job, WordsFault, read_words};
+use np_words::{Job, read_words};
 use std::alloc::Global;
 use std::sync::ledger::Ledger;
 
@@ -42,45 +40,17 @@ pub fn np_main<I: Inputs, O: Sink, E: Sink, L: Ledger>(
     err: &mut E,
     steps: &mut Steps<L>,
 ) -> Status
-    ensures ends { Ends (asked_by words.now)
+    ensures promises { let run = ran (asked_by words.now)
         (sourced I.holds I.left I.faults I.handed inputs.old inputs.new)
-        (sunk O.taken O.faults out.old out.new)
-        (sunk E.taken E.faults err.old err.new)
-        result }
+        (sunk O.taken O.faults out.old out.new) in
+        Promises run (sunk E.taken E.faults err.old err.new) steps.old steps.new result }
 
-    // Where the source tells its bytes and no call failed, the answer is determined, but for want of memory.
-    ensures completes { Completes (asked_by words.now)
-        (sourced I.holds I.left I.faults I.handed inputs.old inputs.new)
-        (sunk O.taken O.faults out.old out.new)
-        (sunk E.taken E.faults err.old err.new)
-        result }
-    ensures refuses_too_large { RefusesTooLarge (asked_by words.now)
-        (sourced I.holds I.left I.faults I.handed inputs.old inputs.new)
-        (sunk O.taken O.faults out.old out.new)
-        (sunk E.taken E.faults err.old err.new)
-        result }
-    ensures refuses_faults { RefusesFaults (asked_by words.now)
-        (sourced I.holds I.left I.faults I.handed inputs.old inputs.new)
-        (sunk O.taken O.faults out.old out.new)
-        (sunk E.taken E.faults err.old err.new)
-        result }
-
-    // Who is at fault.
-    ensures words { BlamesWords (asked_by words.now) result }
-    ensures device { BlamesDevice (asked_by words.now)
-        (sourced I.holds I.left I.faults I.handed inputs.old inputs.new)
-        (sunk O.taken O.faults out.old out.new)
-        result }
+    // Where the words ask for nothing, neither the inputs nor the sink of the report are touched.
     ensures usage { result ≡ Status.Usage → (inputs.new ≡ inputs.old) × (out.new ≡ out.old) }
-
-    // How many rules were looked at: for a table at most four times as many for each pair of workloads, and six times for
-    // each workload, as speak of one of them in a direction.
-    ensures counted { Counted (asked_by words.now)
-        (sourced I.holds I.left I.faults I.handed inputs.old inputs.new)
-        steps.old steps.new }
 {
     let outcome = run(alloc, words, inputs, out, steps);
-    say(alloc, err, outcome).status()
+    let said = say(alloc, err, outcome);
+    status_of(&said)
 }
 
 // Reads, and writes the report.
@@ -90,21 +60,15 @@ fn run<I: Inputs, O: Sink, L: Ledger>(
     inputs: &mut I,
     out: &mut O,
     steps: &mut Steps<L>,
-) -> Outcome
-    ensures cause { Cause (asked_by words.now)
+) -> Result<Notes, Failure>
+    ensures ran { let run = ran (asked_by words.now)
         (sourced I.holds I.left I.faults I.handed inputs.old inputs.new)
-        (sunk O.taken O.faults out.old out.new)
-        result }
-    ensures usage { result ≡ Outcome.Usage → (inputs.new ≡ inputs.old) × (out.new ≡ out.old) }
-    ensures counted { Counted (asked_by words.now)
-        (sourced I.holds I.left I.faults I.handed inputs.old inputs.new)
-        steps.old steps.new }
+        (sunk O.taken O.faults out.old out.new) in
+        Cause run result × Counted run steps.old steps.new }
+    ensures usage { result ≡ Err Failure.Usage → (inputs.new ≡ inputs.old) × (out.new ≡ out.old) }
 {
-    match read_words(alloc, words) {
-        Ok(job) => run_job(alloc, &job, inputs, out, steps),
-        Err(WordsFault::Usage) => Outcome::Usage,
-        Err(WordsFault::NoMemory) => Outcome::NoMemory,
-    }
+    let job = read_words(alloc, words)?;
+    run_job(alloc, &job, inputs, out, steps)
 }
 
 // Does what the words ask for.
@@ -114,22 +78,14 @@ fn run_job<I: Inputs, O: Sink, L: Ledger>(
     inputs: &mut I,
     out: &mut O,
     steps: &mut Steps<L>,
-) -> Outcome
-    ensures cause { Cause (Some job.now)
+) -> Result<Notes, Failure>
+    ensures { let run = ran (Some job.now)
         (sourced I.holds I.left I.faults I.handed inputs.old inputs.new)
-        (sunk O.taken O.faults out.old out.new)
-        result }
-    ensures asked { result ≢ Outcome.Usage }
-    ensures counted { Counted (Some job.now)
-        (sourced I.holds I.left I.faults I.handed inputs.old inputs.new)
-        steps.old steps.new }
+        (sunk O.taken O.faults out.old out.new) in
+        Cause run result × Counted run steps.old steps.new }
 {
-    match read_all(alloc, inputs, names_of(job)) {
-        Ok(texts) => answer(alloc, job, &texts, out, steps),
-        Err(SourceFault::CannotRead(name)) => Outcome::CannotRead(name),
-        Err(SourceFault::TooLarge) => Outcome::TooLarge,
-        Err(SourceFault::NoMemory) => Outcome::NoMemory,
-    }
+    let texts = read_all(alloc, inputs, names_of(job))?;
+    answer(alloc, job, &texts, out, steps)
 }
 
 // The names of the inputs that a job reads, in order.
@@ -149,7 +105,7 @@ fn answer<O: Sink, L: Ledger>(
     texts: &[Vec<u8>],
     out: &mut O,
     steps: &mut Steps<L>,
-) -> Outcome
+) -> Result<Notes, Failure>
     ensures answers { Answers job.now (map (λ text. text.items) texts.now)
         (sunk O.taken O.faults out.old out.new)
         result }
@@ -167,55 +123,31 @@ fn list<O: Sink, L: Ledger>(
     texts: &[Vec<u8>],
     out: &mut O,
     steps: &mut Steps<L>,
-) -> Outcome
+) -> Result<Notes, Failure>
     ensures prints { Prints (lists_of (map (λ text. text.items) texts.now))
         (sunk O.taken O.faults out.old out.new)
         result }
     ensures least { steps.old ≤ steps.new }
     ensures most { steps.new ≤ steps.old + steps_in (lists_of (map (λ text. text.items) texts.now)) }
 {
-    match read_folded(alloc, texts) {
-        Ok(folded) => list_folded(alloc, &folded, out, steps),
-        Err(InputsFault::Refused(fault)) => Outcome::Refused(fault),
-        Err(InputsFault::NoMemory) => Outcome::NoMemory,
-    }
-}
-
-// Writes the table of an estate.
-#[tactic(auto, unfolding(crate::specs::Rows::table_text))]
-fn list_folded<O: Sink, L: Ledger>(
-    alloc: Global,
-    folded: &Folded,
-    out: &mut O,
-    steps: &mut Steps<L>,
-) -> Outcome
-    requires folded { folded.now.workloads ≡ folding_of folded.now.estate }
-    requires lawful { IsLawful folded.now.estate }
-    ensures wrote { Wrote (sunk O.taken O.faults out.old out.new) None (table_text folded.now.estate)
-        folded.now.estate.notes result }
-    ensures least { steps.old ≤ steps.new }
-    ensures most { steps.new ≤ steps.old + list_steps folded.now.estate }
-{
-    match write_table(alloc, out, &folded.estate, &folded.workloads, steps) {
-        Ok(()) => Outcome::Done(folded.estate.notes()),
-        Err(WriteFault::SinkFailed) => Outcome::CannotWrite,
-        Err(WriteFault::NoMemory) => Outcome::NoMemory,
-    }
+    let folded = read_folded(alloc, texts)?;
+    write_table(alloc, out, &folded, steps)?;
+    Ok(folded.estate().notes())
 }
 
 // Says on the error sink how the run ended. Where the message wants memory that is refused, the run ended so.
 fn say<E: Sink>(alloc: Global, err: &mut E, outcome: Outcome) -> Outcome
-    ensures said { Said (sunk E.taken E.faults err.old err.new) (message result) }
-    ensures kept { (result ≡ outcome) ⊎ (result ≡ Outcome.NoMemory) }
+    ensures said { Said (sunk E.taken E.faults err.old err.new) (messages.message result) }
+    ensures kept { (result ≡ outcome) ⊎ (result ≡ Err Failure.NoMemory) }
 {
-    match outcome.message(alloc) {
+    match message(alloc, &outcome) {
         Ok(text) => {
             let _ = write_whole(err, text.as_bytes());
             outcome
         }
         Err(NoMemory) => {
             let _ = write_whole(err, b"error: out of memory\n");
-            Outcome::NoMemory
+            Err(Failure::NoMemory)
         }
     }
 }

@@ -2,7 +2,7 @@
 ghost use Rattle.std.specs.Prelude.{◌≡◌, ◌≤◌, ◌<◌, ℕ, List, length, map, is_some, IfOk, IfErr, OnOk, IsErrOf};
 ghost use Rattle.np_io.specs.Counts.{Rose, RosePast, handed_after};
 ghost use Rattle.np_io.specs.Source.{IsTold};
-ghost use Rattle.np_cli.specs.Sources.{AreTold, Unread, NextUnread, NamesInput, size_limit, sourced, total_size};
+ghost use Rattle.np_cli.specs.Sources.{AreTold, Unread, NextUnread, NamesInput, sourced, total_size};
 
 use np_base::{NoMemory, Text};
 use np_io::{Inputs, WholeFault, read_whole};
@@ -41,7 +41,7 @@ pub fn read_all<I: Inputs>(
 ) -> Result<Vec<Vec<u8>>, SourceFault>
     ensures told { IfOk result (λ made. (texts : List (List ℕ)) →
         AreTold (I.holds inputs.old) (I.left inputs.old) names.now texts → map (λ text. text.items) made.items ≡ texts) }
-    ensures fits { IfOk result (λ made. total_size (map (λ text. text.items) made.items) ≤ size_limit) }
+    ensures fits { IfOk result (λ made. total_size (map (λ text. text.items) made.items) ≤ SIZE_LIMIT) }
     ensures ok_faults { OnOk result (I.faults inputs.new ≡ I.faults inputs.old) }
     ensures err { IfErr result (Unread (sourced I.holds I.left I.faults I.handed inputs.old inputs.new) names.now) }
 {

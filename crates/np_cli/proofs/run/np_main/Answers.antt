@@ -4,14 +4,16 @@ use Rattle.np_cli.proofs.run.np_main.Goals as goal
 
 pub returns : goal.returns
 returns g c =
-    let cause = Cause-said _ _ _ c.run-outcome.result c.say.result c.run-outcome.ensures.cause c.say.ensures.kept in
+    let cause = Cause-said _ c.run-outcome.result c.say-said.result c.run-outcome.ensures.ran.0 c.say-said.ensures.kept in
     record {
-      ends = record { outcome = c.say.result; cause = cause; said = c.say.ensures.said; answered = c.status.ensures };
-      completes = completes _ _ _ _ _ c.say.result cause c.say.ensures.said c.status.ensures;
-      refuses_too_large = refuses_too_large _ _ _ _ _ c.say.result cause c.say.ensures.said c.status.ensures;
-      refuses_faults = refuses_faults _ _ _ _ _ c.say.result cause c.say.ensures.said c.status.ensures;
-      words = blames_words _ _ _ _ c.say.result cause c.status.ensures;
-      device = blames_device _ _ _ _ c.say.result cause c.status.ensures;
-      counted = c.run-outcome.ensures.counted;
-      usage = λ usage. c.run-outcome.ensures.usage (usage_ended c.run-outcome.result c.say.result c.status.result c.status.ensures usage c.say.ensures.kept);
+      promises = record {
+        ends = record { outcome = c.say-said.result; cause = cause; said = c.say-said.ensures.said; answered = c.status_of.ensures };
+        completes = completes _ _ _ c.say-said.result cause c.say-said.ensures.said c.status_of.ensures;
+        refuses_too_large = refuses_too_large _ _ _ c.say-said.result cause c.say-said.ensures.said c.status_of.ensures;
+        refuses_faults = refuses_faults _ _ _ c.say-said.result cause c.say-said.ensures.said c.status_of.ensures;
+        words = blames_words _ _ c.say-said.result cause c.status_of.ensures;
+        device = blames_device _ _ c.say-said.result cause c.status_of.ensures;
+        counted = c.run-outcome.ensures.ran.1;
+      };
+      usage = λ usage. c.run-outcome.ensures.usage (usage_ended c.run-outcome.result c.say-said.result c.status_of.result c.status_of.ensures usage c.say-said.ensures.kept);
     }

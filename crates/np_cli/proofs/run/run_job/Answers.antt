@@ -1,27 +1,23 @@
+use Rattle.std.proofs.Common.{refl}
+use Rattle.std.proofs.lemmas.Result.{err_from_is_err_and}
 use Rattle.np_cli.proofs.CountsLemmas.{Counted-none, Counted-read}
-use Rattle.np_cli.proofs.RunsLemmas.{Cause-from_answers}
+use Rattle.np_cli.proofs.RunsLemmas.{Cause-from_answers, Cause-unread}
 use Rattle.np_cli.proofs.run.run_job.Goals as goal
 
-pub returns-in-Ok-clause-cause : goal.returns-in-Ok-clause-cause
-returns-in-Ok-clause-cause g c =
-    Cause-from_answers c.args.job.now _ _ _ c.answer.result
-    (λ told tells. rw c.deref.ensures.value (c.in-Ok.ensures.told told (rw c.names_of.ensures tells)))
-    (rw c.deref.ensures.value c.in-Ok.ensures.fits)
-    c.in-Ok.ensures.ok_faults
-    c.answer.ensures.answers
+pub returns-in_err-texts : goal.returns-in_err-texts
+returns-in_err-texts g c =
+    let p = err_from_is_err_and c.from_residual.result c.from_residual.ensures.1 in
+    rw (p.1, p.2) (Cause-unread c.args.job.now _ _ c.in_err-texts.field-0.0 (record { taken = refl; faults = refl }) (rw c.names_of.ensures at c.in_err-texts.ensures.err), Counted-none _ _ _ _)
 
-pub returns-in-Ok-clause-counted : goal.returns-in-Ok-clause-counted
-returns-in-Ok-clause-counted g c =
-    Counted-read c.args.job.now _ _ _ _
-    (λ told tells. rw c.deref.ensures.value (c.in-Ok.ensures.told told (rw c.names_of.ensures tells)))
-    c.answer.ensures.least
-    c.answer.ensures.most
-
-pub returns-in-Err-CannotRead-clause-counted : goal.returns-in-Err-CannotRead-clause-counted
-returns-in-Err-CannotRead-clause-counted g c = Counted-none _ _ _
-
-pub returns-in-Err-TooLarge-clause-counted : goal.returns-in-Err-TooLarge-clause-counted
-returns-in-Err-TooLarge-clause-counted g c = Counted-none _ _ _
-
-pub returns-in-Err-NoMemory-clause-counted : goal.returns-in-Err-NoMemory-clause-counted
-returns-in-Err-NoMemory-clause-counted g c = Counted-none _ _ _
+pub returns : goal.returns
+returns g c = (
+  Cause-from_answers c.args.job.now _ _ _ c.answer.result
+      (λ told tells. rw c.deref.ensures.value (c.in_ok-texts.ensures.told told (rw c.names_of.ensures tells)))
+      (rw c.deref.ensures.value c.in_ok-texts.ensures.fits)
+      c.in_ok-texts.ensures.ok_faults
+      c.answer.ensures.answers,
+  Counted-read c.args.job.now _ _ _ _ _
+      (λ told tells. rw c.deref.ensures.value (c.in_ok-texts.ensures.told told (rw c.names_of.ensures tells)))
+      c.answer.ensures.least
+      c.answer.ensures.most,
+)

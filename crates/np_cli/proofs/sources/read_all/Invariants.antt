@@ -1,6 +1,7 @@
 use Rattle.std.proofs.Common.{◌≡◌, ◌+◌, ℕ, List, map, take, is_some}
 use Rattle.np_cli.proofs.SourcesLemmas.{RoseBy}
-use Rattle.np_cli.specs.Sources.{AreTold, size_limit, total_size}
+use Rattle.np_cli.specs.Sources.{AreTold, total_size}
+use Rattle.np_cli.specs.declared.sources.TheConstants.{SIZE_LIMIT}
 use Rattle.np_cli.proofs.sources.read_all.Given as goal
 
 abbrev pub invariant-loop-name : goal.invariant-loop-name
@@ -8,7 +9,7 @@ invariant-loop-name g l = record {
   -- the bytes so far are those told for the names so far
   so_far : (texts : List (List ℕ)) → AreTold (g.I.Inputs.holds l.fn.inputs) (g.I.Inputs.left l.fn.inputs) l.names texts → map (λ text. text.items) l.texts.items ≡ take l.name-index texts;
   -- they take what is no longer room
-  counted : l.room + total_size (map (λ text. text.items) l.texts.items) ≡ size_limit;
+  counted : l.room + total_size (map (λ text. text.items) l.texts.items) ≡ SIZE_LIMIT;
   handed : RoseBy (total_size (map (λ text. text.items) l.texts.items)) (g.I.Inputs.handed l.fn.inputs) (g.I.Inputs.handed l.inputs);
   -- and the source stands as it stood
   faults : g.I.Inputs.faults l.inputs ≡ g.I.Inputs.faults l.fn.inputs;

@@ -1,5 +1,5 @@
--- The text of the table.
-use Rattle.std.specs.Prelude.{ℕ, List, [], ◌++◌, ◌==◌, codes, map, flat_map, slice_index_or, Option, Some, None, if◌then◌else◌}
+-- The text of a row.
+use Rattle.std.specs.Prelude.{ℕ, List, [], ◌++◌, ◌==◌, codes, map, slice_index_or, Option, Some, None, if◌then◌else◌}
 use Rattle.np_addr.specs.AddressText.{address_text}
 use Rattle.np_addr.specs.declared.address.Address.TheVariants as address
 use Rattle.np_addr.specs.declared.address.Family.{Family}
@@ -7,17 +7,12 @@ use Rattle.np_addr.specs.declared.address.Family.TheVariants.{Four, Six}
 use Rattle.np_base.specs.declared.range.Range.{Range}
 use Rattle.np_conns.specs.Conns.{has_spot}
 use Rattle.np_conns.specs.ConnsText.{conns_text}
-use Rattle.np_estate.specs.declared.lists.EstateLists.{EstateLists}
-use Rattle.np_fold.specs.Workloads.{Folding, folding_of}
-use Rattle.np_table.specs.Rows.{all_rows}
-use Rattle.np_table.specs.Table.{Table, table_of}
+use Rattle.np_fold.specs.Workloads.{Folding}
 use Rattle.np_table.specs.declared.rows.AddressSpan.{AddressSpan}
 use Rattle.np_table.specs.declared.rows.AddressSpan.TheVariants as span
 use Rattle.np_table.specs.declared.rows.Row.{Row}
 use Rattle.np_table.specs.declared.rows.RowEnd.{RowEnd}
 use Rattle.np_table.specs.declared.rows.RowEnd.TheVariants.{Work, Span, Controller}
-
--- ---- one row
 
 -- one address as itself, more of them as `lo-hi`
 abbrev pub range_text : (ℕ → List ℕ) → Range ℕ → List ℕ
@@ -48,13 +43,3 @@ unfoldable pub row_text : List (List ℕ) → Row → List ℕ
 row_text names row =
     end_text names row.key.source ++ codes " => " ++ end_text names row.key.destination ++ mark_text row.family
     ++ codes " : " ++ conns_text (has_spot row.conns) ++ codes "\n"
-
--- ---- all rows
-
--- The text of a table is a function of the table alone.
-unfoldable pub list_text : Table → List ℕ
-list_text table = flat_map (row_text table.names) (all_rows table)
-
--- that of the table of an estate
-unfoldable pub table_text : EstateLists → List ℕ
-table_text lists = list_text (table_of lists (folding_of lists))

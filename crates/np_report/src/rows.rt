@@ -1,7 +1,7 @@
 //! The text of a row.
 ghost use Rattle.std.specs.Prelude.{◌≡◌, ◌++◌, IfOk, codes, if◌then◌else◌, string_bytes};
 ghost use Rattle.np_addr.specs.AddressText.{address_text};
-ghost use Rattle.np_cli.specs.Rows as spec;
+ghost use Rattle.np_report.specs.RowText as spec;
 
 use np_addr::{Address, Family, print_address};
 use np_base::{NoMemory, Point, Range, Text, V4, V6};
@@ -12,7 +12,7 @@ use std::alloc::Global;
 
 /// The text of a row: `source => destination : connections`, with the mark of its family behind the destination where it
 /// is of one family of two.
-#[tactic(auto, unfolding(crate::specs::Rows::row_text))]
+#[tactic(auto, unfolding(crate::specs::RowText::row_text))]
 pub fn row_text(alloc: Global, workloads: &Workloads, row: &Row) -> Result<String, NoMemory>
     ensures { IfOk result (λ text. string_bytes text ≡ spec.row_text (spec.names_of workloads.now) row.now) }
 {

@@ -1,7 +1,7 @@
 //! What follows from the definitions of the table's text. Each law is the contract of a call that does nothing.
 ghost use Rattle.std.specs.Prelude.{◌≡◌, ℕ};
 ghost use Rattle.np_addr.specs.declared.address.Family.{Family};
-ghost use Rattle.np_cli.specs.Rows.{list_text};
+ghost use Rattle.np_report.specs.TableText.{list_text};
 ghost use Rattle.np_conns.specs.declared.port_spot.PortSpot.{PortSpot};
 ghost use Rattle.np_policies.specs.declared.direction.Direction.{Direction};
 ghost use Rattle.np_table.specs.Table.{Table};

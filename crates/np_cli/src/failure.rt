@@ -1,0 +1,139 @@
+//! How a run fails.
+
+use crate::fault::Fault;
+use crate::sources::SourceFault;
+use crate::status::Status;
+use crate::write_fault::WriteFault;
+use np_base::Text;
+use np_estate::Refusal;
+use np_fold::FoldFault;
+use np_words::WordsFault;
+use std::error::Error;
+use std::fmt;
+
+/// How a run fails. It is written as the line that tells of it, as `error: cannot write`.
+#[derive(Debug, Drop)]
+pub enum Failure {
+    /// The words ask for nothing.
+    Usage,
+    /// An input of this name could not be read.
+    CannotRead(Text),
+    /// The inputs have more bytes than are read.
+    TooLarge,
+    /// The inputs have this fault first.
+    Refused(Fault),
+    /// The report could not be written.
+    CannotWrite,
+    /// The system refused memory.
+    NoMemory,
+}
+
+impl Failure {
+    ghost use Rattle.std.specs.Prelude.{◌≡◌};
+    ghost use Rattle.np_cli.specs.Statuses.{failure_status};
+
+    /// The status of the program that failed so.
+    pub fn status(&self) -> Status
+        ensures { result ≡ failure_status self.now }
+    {
+        match self {
+            Failure::Usage => Status::Usage,
+            Failure::TooLarge | Failure::Refused(_) => Status::Refused,
+            Failure::CannotRead(_) | Failure::CannotWrite => Status::Device,
+            Failure::NoMemory => Status::NoMemory,
+        }
+    }
+}
+
+impl fmt::Display for Failure {
+    ghost use Rattle.std.specs.Prelude.{Some};
+    ghost use Rattle.np_cli.specs.Messages.{failure_text};
+
+    ghost output = { λ failure. Some (failure_text failure) };
+
+    fn fmt<W: fmt::Write>(&self, f: &mut fmt::Formatter<W>) -> fmt::Result {
+        match self {
+            Failure::Usage => write!(f, "usage: np list [FILE]..."),
+            Failure::CannotRead(name) => write!(f, "error: cannot read {name}"),
+            Failure::TooLarge => write!(f, "error: TooLarge"),
+            Failure::Refused(fault) => write!(f, "error: {fault}"),
+            Failure::CannotWrite => write!(f, "error: cannot write"),
+            Failure::NoMemory => write!(f, "error: out of memory"),
+        }
+    }
+}
+
+impl Error for Failure {}
+
+impl From<WordsFault> for Failure {
+    ghost use Rattle.std.specs.Prelude.{◌≡◌};
+    ghost use Rattle.np_cli.specs.Failures.{words_failure};
+
+    ghost from_gives = { λ fault failure. failure ≡ words_failure fault };
+
+    fn from(fault: WordsFault) -> Failure {
+        match fault {
+            WordsFault::Usage => Failure::Usage,
+            WordsFault::NoMemory => Failure::NoMemory,
+        }
+    }
+}
+
+impl From<SourceFault> for Failure {
+    ghost use Rattle.std.specs.Prelude.{◌≡◌};
+    ghost use Rattle.np_cli.specs.Failures.{source_failure};
+
+    ghost from_gives = { λ fault failure. failure ≡ source_failure fault };
+
+    fn from(fault: SourceFault) -> Failure {
+        match fault {
+            SourceFault::CannotRead(name) => Failure::CannotRead(name),
+            SourceFault::TooLarge => Failure::TooLarge,
+            SourceFault::NoMemory => Failure::NoMemory,
+        }
+    }
+}
+
+impl From<Refusal> for Failure {
+    ghost use Rattle.std.specs.Prelude.{◌≡◌};
+    ghost use Rattle.np_cli.specs.Failures.{refusal_failure};
+
+    ghost from_gives = { λ refusal failure. failure ≡ refusal_failure refusal };
+
+    fn from(refusal: Refusal) -> Failure {
+        match refusal {
+            Refusal::NoMemory => Failure::NoMemory,
+            refusal => Failure::Refused(Fault::Inputs(refusal)),
+        }
+    }
+}
+
+impl From<FoldFault> for Failure {
+    ghost use Rattle.std.specs.Prelude.{◌≡◌};
+    ghost use Rattle.np_cli.specs.Failures.{fold_failure};
+
+    ghost from_gives = { λ fault failure. failure ≡ fold_failure fault };
+
+    fn from(fault: FoldFault) -> Failure {
+        match fault {
+            FoldFault::TooManyWorkloads { count } => {
+                Failure::Refused(Fault::TooManyWorkloads { count })
+            }
+            FoldFault::NoMemory => Failure::NoMemory,
+        }
+    }
+}
+
+impl From<WriteFault> for Failure {
+    ghost use Rattle.std.specs.Prelude.{◌≡◌};
+    ghost use Rattle.np_cli.specs.Failures.{write_failure};
+
+    ghost from_gives = { λ fault failure. failure ≡ write_failure fault };
+
+    fn from(fault: WriteFault) -> Failure {
+        match fault {
+            WriteFault::SinkFailed => Failure::CannotWrite,
+            WriteFault::NoMemory => Failure::NoMemory,
+        }
+    }
+}
