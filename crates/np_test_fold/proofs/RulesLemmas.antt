@@ -1,8 +1,8 @@
 -- Where no policy is listed no rule is looked at.
-use Rattle.std.proofs.Common.{◌≡◌, ℕ, ◌+◌, ◌≤◌, List, [], ◌∷◌, arith, map, refl}
+use Rattle.std.proofs.Common.{◌≡◌, ℕ, ◌+◌, ◌*◌, ◌≤◌, length, List, [], ◌∷◌, arith, map, refl}
 use Rattle.np_estate.specs.declared.lists.EstateLists.{EstateLists}
-use Rattle.np_fold.specs.Workloads.{Folding}
-use Rattle.np_test_fold.specs.Rules.{HasNoPolicies, all_due}
+use Rattle.np_fold.specs.Workloads.{Folding, folding_of}
+use Rattle.np_test_fold.specs.Rules.{HasNoPolicies, due_for_all}
 use Rattle.np_policies.specs.declared.direction.Direction.{Direction}
 use Rattle.np_policies.specs.declared.direction.Direction.TheVariants.{Egress, Ingress}
 use Rattle.np_table.specs.ToCome.{greatest, most_rules, rules_of}
@@ -18,7 +18,8 @@ most_rules-none : (lists : EstateLists) (folding : Folding) → HasNoPolicies li
 unfolding most_rules
 most_rules-none lists folding none = greatest-zeros _ _ (λ workload. rw (rules_of-none lists folding Ingress workload none, rules_of-none lists folding Egress workload none))
 
-pub none_looked_at : (lists : EstateLists) (folding : Folding) (before after : ℕ) → HasNoPolicies lists → before ≤ after → after ≤ before + all_due folding (most_rules lists folding) → after ≡ before
-none_looked_at lists folding before after none least most =
-    let bound : after ≤ before + all_due folding 0 = rw (most_rules-none lists folding none) at most in
+pub none_looked_at : (lists : EstateLists) (before after : ℕ) → HasNoPolicies lists → before ≤ after → after ≤ before + due_for_all lists → after ≡ before
+none_looked_at lists before after none least most =
+    let folding = folding_of lists in
+    let bound : after ≤ before + (4 * length folding.workloads * folding.kind_count + 2 * length folding.workloads) * 0 = rw (most_rules-none lists folding none) at most in
     omega (arith, bound)

@@ -1,4 +1,4 @@
-//! Lists that are read, folded and asked. An estate and its workloads live nowhere else, so that few functions let them go.
+//! Lists that are read, folded and asked. An estate lives nowhere else, so that few functions let it go.
 ghost use Rattle.std.specs.Prelude.{◌≡◌, ◌<◌, length};
 ghost use Rattle.np_estate.specs.Lawful.{IsLawful};
 ghost use Rattle.np_fold.specs.Workloads.{folding_of};
@@ -10,7 +10,7 @@ use crate::seen::{blocks, keys, traits};
 use crate::tables::{pair_rows_text, pair_set_text, ranges_text, rows_text};
 use np_base::NoMemory;
 use np_estate::Estate;
-use np_fold::Workloads;
+use np_fold::Folded;
 use np_samples::input_of;
 use np_steps::Steps;
 use std::alloc::Global;
@@ -31,87 +31,78 @@ pub fn expect_answers(rt: &impl Abort, alloc: Global, list: List, wanted: &[(Que
 fn answer(alloc: Global, text: &str, question: &Question) -> Result<String, NoMemory> {
     let inputs = input_of(alloc, text)?;
     match Estate::read(alloc, &inputs) {
-        Ok(estate) => answer_of_estate(alloc, &estate, question),
+        Ok(estate) => answer_of_estate(alloc, estate, question),
         Err(refusal) => Ok(format!(in alloc; "{refusal}")?),
     }
 }
 
-// What an estate answers: that it has too many workloads, or what these answer.
-fn answer_of_estate(alloc: Global, estate: &Estate, question: &Question) -> Result<String, NoMemory>
-    requires { IsLawful estate.now }
+// What an estate answers: that it has too many workloads, or what it answers with these.
+fn answer_of_estate(alloc: Global, estate: Estate, question: &Question) -> Result<String, NoMemory>
+    requires { IsLawful estate }
 {
-    match Workloads::of(alloc, estate) {
-        Ok(workloads) => answer_of_workloads(alloc, estate, &workloads, question),
+    match Folded::of(alloc, estate) {
+        Ok(folded) => answer_of_folded(alloc, &folded, question),
         Err(fault) => Ok(format!(in alloc; "{fault}")?),
     }
 }
 
-// What workloads answer.
+// The same of an estate with its workloads.
 #[tactic(auto, using(crate::proofs::ShapeLemmas::kinds_count, crate::proofs::ShapeLemmas::numbers_count))]
-fn answer_of_workloads(
+fn answer_of_folded(
     alloc: Global,
-    estate: &Estate,
-    workloads: &Workloads,
+    folded: &Folded,
     question: &Question,
-) -> Result<String, NoMemory>
-    requires lawful { IsLawful estate.now }
-    requires folded { workloads.now ≡ folding_of estate.now }
-{
-    counted_answer::<Brand>(alloc, estate, workloads, question, Blank::new(1))
+) -> Result<String, NoMemory> {
+    counted_answer::<Brand>(alloc, folded, question, Blank::new(1))
 }
 
 // The same, with a counter on the ledger of this blank.
 fn counted_answer<L: Ledger>(
     alloc: Global,
-    estate: &Estate,
-    workloads: &Workloads,
+    folded: &Folded,
     question: &Question,
     blank: Blank,
 ) -> Result<String, NoMemory>
-    requires lawful { IsLawful estate.now }
-    requires folded { workloads.now ≡ folding_of estate.now }
-    requires kinds { length workloads.now.kinds ≡ length workloads.now.workloads }
-    requires numbers { length workloads.now.numbers ≡ length estate.now.pods }
+    requires kinds { length (folding_of folded.now).kinds ≡ length (folding_of folded.now).workloads }
+    requires numbers { length (folding_of folded.now).numbers ≡ length folded.now.pods }
     requires name { blank.name ≡ L.name }
     requires parts { blank.parts ≡ L.parts }
     requires some { 0 < blank.parts }
 {
     let mut steps: Steps<L> = Steps::new(blank);
-    answer_of_both(alloc, estate, workloads, question, &mut steps)
+    answer_with(alloc, folded, question, &mut steps)
 }
 
-// What an estate and its workloads answer.
-fn answer_of_both<L: Ledger>(
+// The same, with this counter.
+fn answer_with<L: Ledger>(
     alloc: Global,
-    estate: &Estate,
-    workloads: &Workloads,
+    folded: &Folded,
     question: &Question,
     steps: &mut Steps<L>,
 ) -> Result<String, NoMemory>
-    requires lawful { IsLawful estate.now }
-    requires folded { workloads.now ≡ folding_of estate.now }
-    requires kinds { length workloads.now.kinds ≡ length workloads.now.workloads }
-    requires numbers { length workloads.now.numbers ≡ length estate.now.pods }
+    requires kinds { length (folding_of folded.now).kinds ≡ length (folding_of folded.now).workloads }
+    requires numbers { length (folding_of folded.now).numbers ≡ length folded.now.pods }
 {
+    let workloads = folded.workloads();
     match *question {
         Question::Workloads => workloads_by_name(alloc, workloads),
         Question::Size(workload) => size(alloc, workloads, workload),
         Question::Counts => counts(alloc, workloads),
-        Question::Numbers => numbers_of_pods(alloc, estate, workloads),
+        Question::Numbers => numbers_of_pods(alloc, folded),
         Question::Named(name) => number_named(alloc, workloads, name),
         Question::Relevant => relevant(alloc, workloads),
-        Question::Keys => keys(alloc, estate),
-        Question::Blocks => blocks(alloc, estate),
-        Question::Traits => traits(alloc, estate),
+        Question::Keys => keys(alloc, folded.estate()),
+        Question::Blocks => blocks(alloc, folded.estate()),
+        Question::Traits => traits(alloc, folded.estate()),
         Question::PairSet(source, destination, family) => {
-            pair_set_text(alloc, estate, workloads, source, destination, family, steps)
+            pair_set_text(alloc, folded, source, destination, family, steps)
         }
         Question::PairRows(source, destination) => {
-            pair_rows_text(alloc, estate, workloads, source, destination, steps)
+            pair_rows_text(alloc, folded, source, destination, steps)
         }
         Question::Ranges(workload, direction) => {
-            ranges_text(alloc, estate, workloads, workload, direction, steps)
+            ranges_text(alloc, folded, workload, direction, steps)
         }
-        Question::Rows(calls) => rows_text(alloc, estate, workloads, calls, steps),
+        Question::Rows(calls) => rows_text(alloc, folded, calls, steps),
     }
 }

@@ -1,10 +1,9 @@
 //! Workloads as texts.
 ghost use Rattle.std.specs.Prelude.{◌≡◌, ◌<◌, length};
-ghost use Rattle.np_estate.specs.Lawful.{IsLawful};
+ghost use Rattle.np_fold.specs.Workloads.{folding_of};
 
 use np_base::{NoMemory, Text};
-use np_estate::Estate;
-use np_fold::Workloads;
+use np_fold::{Folded, Workloads};
 use std::alloc::{AllocError, Global};
 
 /// A line for each workload: its name, the number of its kind, and the places of its pods.
@@ -56,17 +55,12 @@ pub fn counts(alloc: Global, workloads: &Workloads) -> Result<String, NoMemory> 
 }
 
 /// The number of the workload of each pod, each behind a space.
-pub fn numbers_of_pods(
-    alloc: Global,
-    estate: &Estate,
-    workloads: &Workloads,
-) -> Result<String, NoMemory>
-    requires lawful { IsLawful estate.now }
-    requires numbers { length workloads.now.numbers ≡ length estate.now.pods }
+pub fn numbers_of_pods(alloc: Global, folded: &Folded) -> Result<String, NoMemory>
+    requires { length (folding_of folded.now).numbers ≡ length folded.now.pods }
 {
     let mut text = String::new(alloc);
-    for pod in 0..estate.pods().len() {
-        let number = workloads.workload_of(pod as u32);
+    for pod in 0..folded.estate().pods().len() {
+        let number = folded.workloads().workload_of(pod as u32);
         text.push_str(format!(in alloc; " {number}")?.as_str())?;
     }
     Ok(text)

@@ -97,7 +97,7 @@ static NETWORKS: &[&str] = &[concat!(
 
 // Rows have marks exactly where what passes differs by family, and none stands where nothing passes.
 #[test]
-fn rows_of_both_families(rt: HostRuntime) {
+fn example_row_text(rt: HostRuntime) {
     static WANTED: &[(Question, &str)] = &[
         (Question::PairRows(0, 0), ""),
         (

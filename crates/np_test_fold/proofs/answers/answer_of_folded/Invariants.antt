@@ -1,4 +1,4 @@
-use Rattle.np_test_fold.proofs.answers.answer_of_workloads.Given as goal
+use Rattle.np_test_fold.proofs.answers.answer_of_folded.Given as goal
 
 -- the ledger of the blank that was just made
 abbrev pub ghosts-counted_answer : goal.ghosts-counted_answer
