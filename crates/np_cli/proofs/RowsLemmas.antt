@@ -12,7 +12,7 @@ use Rattle.np_cli.specs.Written.{Puts, Writes}
 use Rattle.np_cli.specs.declared.write_fault.WriteFault.{WriteFault}
 use Rattle.np_cli.specs.declared.write_fault.WriteFault.TheVariants.{SinkFailed, NoMemory}
 use Rattle.np_table.specs.Rows.{all_rows}
-use Rattle.np_table.specs.Table.{table_of}
+use Rattle.np_table.specs.Table.{estate_table, table_of}
 
 abbrev pub between : Option (List ℕ) → Option (List ℕ) → ℕ → ℕ → Sunk
 between before after faults_before faults_after = record { before = before; after = after; faults_before = faults_before; faults_after = faults_after }
@@ -51,6 +51,6 @@ HasLeft-finish_fault before middle after faults_before faults_middle faults_afte
     (TookAllBut-fault before middle after whole held rest has.taken took, subst (λ (n : ℕ). Rose n faults_after) has.faults rose)
 
 -- the text of a table by the names of its workloads
-pub table_text-is : (lists : EstateLists) → table_text lists ≡ flat_map (row_text (names_of (folding_of lists))) (all_rows (table_of lists (folding_of lists)))
+pub table_text-is : (lists : EstateLists) → table_text lists ≡ flat_map (row_text (names_of (folding_of lists))) (all_rows (estate_table lists))
 unfolding table_text list_text table_of
 table_text-is lists = refl

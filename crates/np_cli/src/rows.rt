@@ -29,7 +29,7 @@ pub fn write_table<O: Sink, L: Ledger>(
     ensures most { steps.new ≤ steps.old + list_steps folded.now }
 {
     let mut gathered = Gathered::new(alloc)?;
-    let mut rows = Rows::new(alloc, folded.estate(), folded.workloads());
+    let mut rows = Rows::new(alloc, folded);
     while let Some(row) = rows.next(steps)? {
         put_row(alloc, &mut gathered, out, folded, &row)?;
     }
