@@ -16,29 +16,28 @@ fn gather(alloc: Global, out: &mut MemSink, texts: &[&[u8]]) -> Result<bool, NoM
     Ok(gathered.finish(out).is_ok())
 }
 
-// Texts, the number of the call of the sink that fails (no call has the number 0), and what a sink of pieces of 8 bytes
-// takes.
-type Gathering = (&'static [&'static [u8]], u64, &'static [u8]);
+// Texts, the number of the call of the sink that fails (no call has the number 0), what a sink of pieces of 8 bytes takes, and
+// whether that is all.
+type Gathering = (&'static [&'static [u8]], u64, &'static [u8], bool);
 
 const THREE: &[&[u8]] = &[b"one ", b"two ", b"three"];
 
 static GATHERINGS: &[Gathering] = &[
-    (&[], 1, b""),
-    (&[b"", b"one"], 0, b"one"),
-    (THREE, 0, b"one two three"),
-    (THREE, 1, b""),
-    (THREE, 2, b"one two "),
-    (THREE, 3, b"one two three"),
+    (&[], 1, b"", true),
+    (&[b"", b"one"], 0, b"one", true),
+    (THREE, 0, b"one two three", true),
+    (THREE, 1, b"", false),
+    (THREE, 2, b"one two ", false),
+    (THREE, 3, b"one two three", true),
 ];
 
 // Whether the sink takes that, and it is told whether that is all.
 fn is_taken(alloc: Global, gathering: &Gathering) -> Result<bool, NoMemory> {
-    let (texts, failing, taken) = *gathering;
+    let (texts, failing, taken, whole) = *gathering;
     let mut out = MemSink::new(alloc, 64, 8)?;
     out.fail_write(failing)?;
-    let whole = gather(alloc, &mut out, texts)?;
-    let length: usize = texts.iter().map(|text| text.len()).sum();
-    Ok(out.taken() == taken && whole == (taken.len() == length))
+    let took_all = gather(alloc, &mut out, texts)?;
+    Ok(out.taken() == taken && took_all == whole)
 }
 
 #[test]
