@@ -7,8 +7,8 @@ use Rattle.np_fold.specs.Workloads.{folding_of}
 use Rattle.np_report.specs.RowText.{names_of, row_text}
 use Rattle.np_table.specs.declared.rows.Row.{Row}
 
-pub loop-gathered-init : goal.loop-gathered-init
-loop-gathered-init g c =
+pub loop-rows-init : goal.loop-rows-init
+loop-rows-init g c =
     let text : List Row → List ℕ = λ rows. flat_map (row_text (names_of (folding_of c.args.folded.now))) rows in
     record {
       left = rw c.in_ok-gathered.ensures (subst (HasLeft _ _ _ _ _ _) (table_text-is c.args.folded.now ∙ ap text (sym c.new-rows.ensures.rows)) (HasLeft-all _ _ _));
@@ -20,20 +20,20 @@ pub returns-in_err-put_row-clause-written : goal.returns-in_err-put_row-clause-w
 returns-in_err-put_row-clause-written g c =
     let p = err_from_is_err_and c.from_residual-in_err-put_row.result c.from_residual-in_err-put_row.ensures.1 in
     let text : List Row → List ℕ = λ rows. flat_map (row_text (names_of (folding_of c.args.folded.now))) rows in
-    let came : c.loop-gathered.rows.rows ≡ c.in-Some.row ∷ c.next.new.self.rows = rw c.in-Some.is at c.in_ok-row.ensures.given in
-    rw (p.1, p.2) (HasLeft-fault _ _ _ _ _ _ _ _ c.put_row.new.gathered (row_text (names_of (folding_of c.args.folded.now)) c.in-Some.row) (text c.next.new.self.rows) _ (subst (HasLeft _ _ _ _ _ _) (ap text came) c.loop-gathered.invariant.left) c.in_err-put_row.ensures)
+    let came : c.loop-rows.rows.rows ≡ c.in-Some.row ∷ c.next.new.self.rows = rw c.in-Some.is at c.in_ok-row.ensures.given in
+    rw (p.1, p.2) (HasLeft-fault _ _ _ _ _ _ _ _ c.put_row.new.gathered (row_text (names_of (folding_of c.args.folded.now)) c.in-Some.row) (text c.next.new.self.rows) _ (subst (HasLeft _ _ _ _ _ _) (ap text came) c.loop-rows.invariant.left) c.in_err-put_row.ensures)
 
-pub loop-gathered-preserved : goal.loop-gathered-preserved
-loop-gathered-preserved g c =
+pub loop-rows-preserved : goal.loop-rows-preserved
+loop-rows-preserved g c =
     let text : List Row → List ℕ = λ rows. flat_map (row_text (names_of (folding_of c.args.folded.now))) rows in
-    let came : c.loop-gathered.rows.rows ≡ c.in-Some.row ∷ c.next.new.self.rows = rw c.in-Some.is at c.in_ok-row.ensures.given in
+    let came : c.loop-rows.rows.rows ≡ c.in-Some.row ∷ c.next.new.self.rows = rw c.in-Some.is at c.in_ok-row.ensures.given in
     record {
-      left = HasLeft-next _ _ _ _ _ _ _ _ _ (row_text (names_of (folding_of c.args.folded.now)) c.in-Some.row) (text c.next.new.self.rows) (subst (HasLeft _ _ _ _ _ _) (ap text came) c.loop-gathered.invariant.left) c.in_ok-put_row.ensures;
-      least = omega (arith, c.loop-gathered.invariant.least, c.in_ok-row.ensures.least);
-      most = omega (arith, c.loop-gathered.invariant.most, c.in_ok-row.ensures.counted);
+      left = HasLeft-next _ _ _ _ _ _ _ _ _ (row_text (names_of (folding_of c.args.folded.now)) c.in-Some.row) (text c.next.new.self.rows) (subst (HasLeft _ _ _ _ _ _) (ap text came) c.loop-rows.invariant.left) c.in_ok-put_row.ensures;
+      least = omega (arith, c.loop-rows.invariant.least, c.in_ok-row.ensures.least);
+      most = omega (arith, c.loop-rows.invariant.most, c.in_ok-row.ensures.counted);
     }
 
 pub returns-in_err-finish-clause-written : goal.returns-in_err-finish-clause-written
 returns-in_err-finish-clause-written g c =
     let p = err_from_is_err_and c.from_residual-in_err-finish.result c.from_residual-in_err-finish.ensures.1 in
-    rw (p.1, p.2) (HasLeft-finish_fault _ _ _ _ _ _ _ _ _ c.loop-gathered.invariant.left c.in_err-finish.ensures.front c.in_err-finish.ensures.failed)
+    rw (p.1, p.2) (HasLeft-finish_fault _ _ _ _ _ _ _ _ _ c.loop-rows.invariant.left c.in_err-finish.ensures.front c.in_err-finish.ensures.failed)
