@@ -1,5 +1,5 @@
 -- Writing the rows of a table one after another.
-use Rattle.std.proofs.Common.{◌≡◌, ℕ, List, [], ◌++◌, flat_map, Option, Ok, Err, refl, subst, ◌∙◌, append-nil}
+use Rattle.std.proofs.Common.{◌≡◌, ℕ, List, [], ◌∷◌, ◌++◌, flat_map, Option, None, Some, Ok, Err, MatchOption, refl, subst, ◌∙◌, append-nil}
 use Rattle.std.specs.Io.KnownBytes.{append_known}
 use Rattle.np_estate.specs.declared.lists.EstateLists.{EstateLists}
 use Rattle.np_fold.specs.Workloads.{folding_of}
@@ -13,6 +13,7 @@ use Rattle.np_cli.specs.declared.write_fault.WriteFault.{WriteFault}
 use Rattle.np_cli.specs.declared.write_fault.WriteFault.TheVariants.{SinkFailed, NoMemory}
 use Rattle.np_table.specs.Rows.{all_rows}
 use Rattle.np_table.specs.Table.{estate_table, table_of}
+use Rattle.np_table.specs.declared.rows.Row.{Row}
 
 abbrev pub between : Option (List ℕ) → Option (List ℕ) → ℕ → ℕ → Sunk
 between before after faults_before faults_after = record { before = before; after = after; faults_before = faults_before; faults_after = faults_after }
@@ -54,3 +55,8 @@ HasLeft-finish_fault before middle after faults_before faults_middle faults_afte
 pub table_text-is : (lists : EstateLists) → table_text lists ≡ flat_map (row_text (names_of (folding_of lists))) (all_rows (estate_table lists))
 unfolding table_text list_text table_of
 table_text-is lists = refl
+
+-- where no row is given, none was to come
+pub none_given : (given : Option Row) (before after : List Row) → MatchOption given (before ≡ []) (λ row. before ≡ row ∷ after) → ((row : Row) → given ≡ Some row → ⊥) → before ≡ []
+none_given None before after is never = is
+none_given (Some row) before after is never = absurd (never row refl)
