@@ -46,11 +46,17 @@ is_current() {
     [ -x "$root/dist/np" ] && [ -f "$root/dist/manifest" ] && manifest_body "$root/dist/np" | cmp -s - <(tail -n +2 "$root/dist/manifest")
 }
 
-# Tells how far a proof is, line by line on standard error, from what `rt ci` prints of so many crates.
+# Tells how far a proof is, a line a crate on standard error as each is done, from what `rt ci` prints of so many crates.
 tell_progress() {
-    awk -v total="$1" '
-        /^rt: [a-z0-9_]+ (proved|is kept)/ { printf "[%d/%d] %s\n", ++done, total, $2 > "/dev/stderr"; fflush("/dev/stderr") }
-        /^rt: [a-z0-9_]+ NOT PROVED/ { printf "%s could not be proved\n", $2 > "/dev/stderr"; fflush("/dev/stderr") }'
+    local total=$1 count=0 line
+    while IFS= read -r line; do
+        if [[ $line =~ ^rt:\ ([a-z0-9_]+)\ (proved|is\ kept) ]]; then
+            count=$((count + 1))
+            echo "[$count/$total] ${BASH_REMATCH[1]}" >&2
+        elif [[ $line =~ ^rt:\ ([a-z0-9_]+)\ NOT\ PROVED ]]; then
+            echo "${BASH_REMATCH[1]} could not be proved" >&2
+        fi
+    done
 }
 
 # Proves the crates of the program and builds it at the path $1. Tests and edits are not tried: `./prove` does.

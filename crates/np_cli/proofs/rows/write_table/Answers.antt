@@ -23,6 +23,16 @@ returns-in_err-put_row-clause-written g c =
     let came : c.loop-rows.rows.rows ≡ c.in-Some.row ∷ c.next.new.self.rows = rw c.in-Some.is at c.in_ok-row.ensures.given in
     rw (p.1, p.2) (HasLeft-fault _ _ _ _ _ _ _ _ c.put_row.new.gathered (row_text (names_of (folding_of c.args.folded.now)) c.in-Some.row) (text c.next.new.self.rows) _ (subst (HasLeft _ _ _ _ _ _) (ap text came) c.loop-rows.invariant.left) c.in_err-put_row.ensures)
 
+pub loop-rows-preserved : goal.loop-rows-preserved
+loop-rows-preserved g c =
+    let text : List Row → List ℕ = λ rows. flat_map (row_text (names_of (folding_of c.args.folded.now))) rows in
+    let came : c.loop-rows.rows.rows ≡ c.in-Some.row ∷ c.next.new.self.rows = rw c.in-Some.is at c.in_ok-row.ensures.given in
+    record {
+      left = HasLeft-next _ _ _ _ _ _ _ _ _ (row_text (names_of (folding_of c.args.folded.now)) c.in-Some.row) (text c.next.new.self.rows) (subst (HasLeft _ _ _ _ _ _) (ap text came) c.loop-rows.invariant.left) c.in_ok-put_row.ensures;
+      least = omega (arith, c.loop-rows.invariant.least, c.in_ok-row.ensures.least);
+      most = omega (arith, c.loop-rows.invariant.most, c.in_ok-row.ensures.counted);
+    }
+
 pub loop-rows-preserved-in_ok-put_row : goal.loop-rows-preserved-in_ok-put_row
 loop-rows-preserved-in_ok-put_row g c =
     let text : List Row → List ℕ = λ rows. flat_map (row_text (names_of (folding_of c.args.folded.now))) rows in
