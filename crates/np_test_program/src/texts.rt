@@ -1,7 +1,7 @@
 //! What the examples read, and what is written of it.
 
 use np_base::NoMemory;
-use np_samples::{BARE, Pod, Policy, list_of};
+use np_samples::{Policy, list_of};
 use std::alloc::Global;
 
 /// The pods `a` and `b`, and a policy on `b` that permits TCP port 80 from `a`.
@@ -64,13 +64,12 @@ fn item(alloc: Global, word: &str) -> Result<String, NoMemory> {
 
 // The pod of this name.
 fn pod(alloc: Global, name: &str) -> Result<String, NoMemory> {
-    let label = [r#""app":""#, name, r#"""#].concat(alloc)?;
-    let pod = Pod {
-        name,
-        labels: label.as_str(),
-        ..BARE
-    };
-    Ok(format!(in alloc; "{pod}")?)
+    let between_names = [
+        r#"{"apiVersion":"v1","kind":"Pod","metadata":{"name":""#,
+        r#"","namespace":"default","labels":{"app":""#,
+        r#""}},"spec":{"containers":[{"ports":[]}]}}"#,
+    ];
+    Ok(between_names.join(alloc, name)?)
 }
 
 // The policy of this port, which is its name too.
