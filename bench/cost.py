@@ -13,6 +13,7 @@ excepts    one block with many excepts
 addresses  one pod with many addresses
 ports      one pod with many named ports, and a rule with an entry for each name
 values     one selector with many values, over many pods
+formats    the rows of many pods as text, as CSV and as JSON, beside each other
 writes     how many calls of `write` the system sees for so many bytes of rows (needs strace)
 
 No time is promised to users: the numbers tell how the cost grows, on one machine, in one run.
@@ -154,6 +155,17 @@ def measure(program, folder, name, quick):
         before = seconds
 
 
+def compare_formats(program, folder):
+    path = os.path.join(folder, "formats.json")
+    with open(path, "w") as f:
+        json.dump(listing(uniform(1000)), f)
+    text = None
+    for name in ("text", "csv", "json"):
+        seconds, _ = best_of_three([program, "list", "--format", name, path])
+        text = text or seconds
+        print("%-22s %8.2f s   x%.2f of text" % ("formats " + name, seconds, seconds / text))
+
+
 def count_writes(program, folder):
     if not shutil.which("strace"):
         print("writes: strace is not here")
@@ -172,12 +184,14 @@ def main():
     words.add_argument("--quick", action="store_true", help="without the greatest size of each shape")
     words.add_argument("names", nargs="*", metavar="NAME")
     given = words.parse_args()
-    unknown = [n for n in given.names if n not in SHAPES and n != "writes"]
+    unknown = [n for n in given.names if n not in SHAPES and n not in ("formats", "writes")]
     if unknown:
         words.error("no shape is named %s" % unknown[0])
     with tempfile.TemporaryDirectory() as folder:
-        for name in given.names or [*SHAPES, "writes"]:
-            if name == "writes":
+        for name in given.names or [*SHAPES, "formats", "writes"]:
+            if name == "formats":
+                compare_formats(given.program, folder)
+            elif name == "writes":
                 count_writes(given.program, folder)
             else:
                 measure(given.program, folder, name, given.quick)

@@ -31,7 +31,7 @@ fn main(rt: HostRuntime) -> ExitCode {
         Err(error) if error.kind() == io::ErrorKind::OutOfMemory => Status::NoMemory,
         Err(_) => Status::Usage,
     };
-    ExitCode::from(code(status))
+    ExitCode::from(status.code())
 }
 
 // The top call, with a counter on the ledger of this blank.
@@ -54,15 +54,4 @@ fn run_counted<L: Ledger>(
 // The words after the program's name.
 fn words<R: Env + AllocGlobal>(rt: &R) -> io::Result<Vec<String>> {
     Ok(env::args(rt)?.skip(1).collect(rt.alloc())?)
-}
-
-// The exit code of a status.
-fn code(status: Status) -> u8 {
-    match status {
-        Status::Done => 0,
-        Status::Refused => 1,
-        Status::Usage => 2,
-        Status::Device => 3,
-        Status::NoMemory => 4,
-    }
 }

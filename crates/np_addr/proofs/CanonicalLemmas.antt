@@ -3,18 +3,22 @@ use Rattle.std.proofs.Common.{◌≡◌, ℕ, zero, suc, ◌+◌, ◌-◌, ◌*�
 use Rattle.std.proofs.Math.Nat.{div-lt_iff_lt-mul, div-eq_of_lt, pow-zero, pow-suc}
 use Rattle.std.proofs.NetLemmas.Texts.{IsZeroRun-longest_zero_run}
 use Rattle.std.proofs.lemmas.Bool.{eq-eqb, cond_both, cases_lt, lt-ltb, le-ltb}
-use Rattle.std.proofs.lemmas.Fmt.{digits_is_IsNumeral, decimal_is_IsNumeral, length-decimal-le}
+use Rattle.std.proofs.lemmas.Fmt.{digits_is_IsNumeral, decimal_is_IsNumeral, length-decimal-le, decimal_digit, first_decimal}
+use Rattle.std.proofs.lemmas.Nat.{shr_split}
 use Rattle.std.proofs.lemmas.Option.{same_Some}
 use Rattle.std.specs.Fmt.{digits, digits_onto, digit_glyph}
 use Rattle.std.specs.List.{AllByRecursion}
 use Rattle.std.specs.Net.Text.{longest_zero_run}
 use Rattle.np_addr.specs.declared.address.Address.{Address}
 use Rattle.np_addr.specs.declared.address.Address.TheVariants.{Four, Six}
-use Rattle.np_addr.specs.AddressGrammar.{address_of}
-use Rattle.np_addr.specs.AddressText.{low_groups, group_text, groups_text, shortened_text, ipv4_text, address_text}
-use Rattle.np_addr.specs.Addresses.{IsAddress}
-use Rattle.np_addr.specs.TextForms.{IsPart, IsGroup, IsDotted, AreGroups, IsSide, IsColonHex, IsAddressText}
-use Rattle.np_addr.proofs.GrammarLemmas.{address_text_iff}
+use Rattle.np_addr.specs.declared.cidr.Cidr.{Cidr}
+use Rattle.np_addr.specs.declared.cidr.Cidr.TheVariants as cidr
+use Rattle.np_addr.specs.AddressGrammar.{address_of, cleared, cidr_of}
+use Rattle.np_addr.specs.AddressText.{low_groups, group_text, groups_text, shortened_text, ipv4_text, address_text, cidr_text}
+use Rattle.np_addr.specs.Addresses.{IsAddress, IsCidr}
+use Rattle.np_addr.specs.Blocks.{base_of}
+use Rattle.np_addr.specs.TextForms.{IsPart, IsGroup, IsDotted, AreGroups, IsSide, IsColonHex, IsAddressText, IsLength, IsCidrText}
+use Rattle.np_addr.proofs.GrammarLemmas.{address_text_iff, cidr_text_iff}
 use Rattle.np_addr.proofs.GroupLemmas.{number-low_groups, length-low_groups}
 
 -- ---- decimal parts
@@ -142,3 +146,46 @@ address_of-address_text address fits = (address_text_iff (address_text address) 
 pub address_text_injective : (a b : Address) → IsAddress a → IsAddress b → address_text a ≡ address_text b → a ≡ b
 address_text_injective a b fits_a fits_b same =
     same_Some a b (sym (address_of-address_text a fits_a) ∙ ap address_of same ∙ address_of-address_text b fits_b)
+
+-- ---- blocks
+
+-- a length has no zero in front of other digits
+IsLength-decimal : (most n : ℕ) → n ≤ most → most ≤ 128 → IsLength most (decimal n) n
+IsLength-decimal most n within small =
+    let numeral = decimal_is_IsNumeral n (omega arith) in
+    record {
+      writes = record { numeral = numeral.0; short = length-decimal-le 3 n (lit< tt) (omega arith) (omega arith); value = numeral.1 };
+      within = within;
+      plain = λ zero_first. elim (cases_lt 0 n) [
+        | inl some ↦ absurd (omega (arith, first_decimal n some (omega arith), zero_first))
+        | inr none ↦ ap length (decimal_digit n (omega arith))
+      ];
+    }
+
+cleared_already : (bits n : ℕ) → n % 2 ^ bits ≡ 0 → n ≡ cleared bits n
+cleared_already bits n rest = omega (arith, shr_split n bits, rest)
+
+IsCidrText-cidr_text : (block : Cidr) → IsAddress (base_of block) → IsCidr block → IsCidrText (cidr_text block) block
+IsCidrText-cidr_text (cidr.Four base len) fits well = record {
+  before = address_text (Four base);
+  after = decimal len;
+  address = Four base;
+  len = len;
+  spelled = refl;
+  address_text = IsAddressText-address_text (Four base) fits;
+  length_text = IsLength-decimal 32 len well.0 (lit≤ tt);
+  value = ap (λ (n : ℕ). cidr.Four n len) (cleared_already (32 - len) base well.1);
+}
+IsCidrText-cidr_text (cidr.Six base len) fits well = record {
+  before = address_text (Six base);
+  after = decimal len;
+  address = Six base;
+  len = len;
+  spelled = refl;
+  address_text = IsAddressText-address_text (Six base) fits;
+  length_text = IsLength-decimal 128 len well.0 (lit≤ tt);
+  value = ap (λ (n : ℕ). cidr.Six n len) (cleared_already (128 - len) base well.1);
+}
+
+pub cidr_of-cidr_text : (block : Cidr) → IsAddress (base_of block) → IsCidr block → cidr_of (cidr_text block) ≡ Some block
+cidr_of-cidr_text block fits well = (cidr_text_iff (cidr_text block) block).1 (IsCidrText-cidr_text block fits well)

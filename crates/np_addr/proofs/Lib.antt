@@ -1,3 +1,4 @@
+pub mod BlockEnds
 pub mod BlockLemmas
 pub mod CanonicalLemmas
 pub mod CidrLemmas
@@ -8,7 +9,11 @@ pub mod GrammarLemmas
 pub mod GroupLemmas
 pub mod Ipv4Lemmas
 pub mod NumeralLemmas
+pub mod OnePrefixList
+pub mod Pairs
 pub mod PieceLemmas
+pub mod PrefixLemmas
+pub mod RightPrefixes
 pub mod SideLemmas
 pub mod SubsetLemmas
 pub mod TextLemmas

@@ -12,13 +12,13 @@ use Rattle.np_addr.specs.Blocks.{is_strict_part}
 use Rattle.np_addr.specs.Laws.{SharesFirstBits, IsStrictSubset}
 
 -- whether n is one of the block's numbers, in which so many bits are free
-abbrev in_block : ℕ → ℕ → ℕ → Bool
+abbrev pub in_block : ℕ → ℕ → ℕ → Bool
 in_block base free n = nat_le base n && nat_lt n (base + 2 ^ free)
 
-in_block-parts : (base free n : ℕ) → in_block base free n ≡ true → (base ≤ n) × (n < base + 2 ^ free)
+pub in_block-parts : (base free n : ℕ) → in_block base free n ≡ true → (base ≤ n) × (n < base + 2 ^ free)
 in_block-parts base free n held = let parts = and_parts _ _ held in (leb-true base n parts.0, ltb-true n (base + 2 ^ free) parts.1)
 
-in_block-from : (base free n : ℕ) → base ≤ n → n < base + 2 ^ free → in_block base free n ≡ true
+pub in_block-from : (base free n : ℕ) → base ≤ n → n < base + 2 ^ free → in_block base free n ≡ true
 in_block-from base free n above below = and_from _ _ (le-leb base n above) (lt-ltb n (base + 2 ^ free) below)
 
 in_block-out : (base free n : ℕ) → (base ≤ n → n < base + 2 ^ free → ⊥) → in_block base free n ≡ false
@@ -58,7 +58,7 @@ first_bits (cidr.Four base len) (address.Six n) well = (λ held. absurd (false�
 first_bits (cidr.Six base len) (address.Four n) well = (λ held. absurd (false≢true held), λ shares. absurd shares)
 
 -- a block that begins in a greater one ends in it
-ends_within : (base free inner fewer : ℕ) → base % 2 ^ free ≡ 0 → inner % 2 ^ fewer ≡ 0 → fewer ≤ free → inner < base + 2 ^ free → inner + 2 ^ fewer ≤ base + 2 ^ free
+pub ends_within : (base free inner fewer : ℕ) → base % 2 ^ free ≡ 0 → inner % 2 ^ fewer ≡ 0 → fewer ≤ free → inner < base + 2 ^ free → inner + 2 ^ fewer ≤ base + 2 ^ free
 ends_within base free inner fewer rest inner_rest less begins =
     let p = 2 ^ fewer in
     let times = 2 ^ (free - fewer) in

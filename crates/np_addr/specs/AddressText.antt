@@ -1,4 +1,4 @@
--- The one canonical text of each address (RFC 5952, section 4).
+-- The one canonical text of each address (RFC 5952, section 4), and of each block.
 use Rattle.std.specs.Prelude.{ℕ, zero, suc, ◌+◌, ◌*◌, ◌/◌, ◌%◌, ◌^◌, false, List, [], ◌∷◌, ◌++◌, take, drop, codes, decimal, nat_lt, if◌then◌else◌}
 use Rattle.std.specs.Fmt.{digits}
 use Rattle.std.specs.Int.{w32, to_be_bytes}
@@ -6,6 +6,8 @@ use Rattle.std.specs.List.{join_by}
 use Rattle.std.specs.Net.Text.{longest_zero_run}
 use Rattle.np_addr.specs.declared.address.Address.{Address}
 use Rattle.np_addr.specs.declared.address.Address.TheVariants.{Four, Six}
+use Rattle.np_addr.specs.declared.cidr.Cidr.{Cidr}
+use Rattle.np_addr.specs.Blocks.{base_of, bits_of}
 
 -- an IPv4 address: its bytes in decimal without leading zeros, the highest first, with a dot between each two
 abbrev pub ipv4_text : ℕ → List ℕ
@@ -48,3 +50,7 @@ ipv6_text n = shortened_text (groups_of n)
 abbrev pub address_text : Address → List ℕ
 address_text (Four n) = ipv4_text n
 address_text (Six n) = ipv6_text n
+
+-- a block: its first address, `/`, and how many first bits its addresses have in common
+abbrev pub cidr_text : Cidr → List ℕ
+cidr_text block = address_text (base_of block) ++ codes "/" ++ decimal (bits_of block)

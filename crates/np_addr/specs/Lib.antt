@@ -9,6 +9,7 @@ pub mod Ipv6Grammar
 pub mod Laws
 pub mod Numeral
 pub mod Pieces
+pub mod Prefixes
 pub mod Steps
 pub mod TextForms
 pub use Rattle.np_base.specs.Beside

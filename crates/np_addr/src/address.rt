@@ -1,6 +1,6 @@
 //! IP addresses of either family.
 ghost use Rattle.std.specs.Prelude.{◌≡◌};
-ghost use Rattle.np_addr.specs.Addresses.{family_of};
+ghost use Rattle.np_addr.specs.Addresses.{family_of, width_of};
 
 use np_base::{V4, V6};
 
@@ -25,5 +25,15 @@ pub fn family_of(address: Address) -> Family
     match address {
         Address::Four(_) => Family::Four,
         Address::Six(_) => Family::Six,
+    }
+}
+
+// How many bits an address of the family has.
+pub(crate) fn width_of(family: Family) -> u8
+    ensures { result ≡ width_of family }
+{
+    match family {
+        Family::Four => 32,
+        Family::Six => 128,
     }
 }

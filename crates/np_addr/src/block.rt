@@ -2,11 +2,10 @@
 ghost use Rattle.std.specs.Prelude.{◌≡◌, ℕ, ◌+◌, ◌-◌, ◌^◌, ◌≤◌, ◌↔◌, Err, Some, IfOk, IsOk, All, min};
 ghost use Rattle.std.specs.List.{list_any};
 ghost use Rattle.np_addr.specs.Addresses.{IsAddress, IsCidr, cidr_has};
-ghost use Rattle.np_addr.specs.Blocks.{set_has, IsAddressSet, bits_of, base_of, is_strict_part, first_bad_except, block_has};
+ghost use Rattle.np_addr.specs.Blocks.{set_has, IsAddressSet, is_strict_part, first_bad_except, block_has};
 ghost use Rattle.np_addr.specs.declared.address.Address.{Address};
 
-use crate::address::Address;
-use crate::cidr::{Cidr, cidr_has, free_bits, low_bits};
+use crate::cidr::{Cidr, base_of, bits_of, cidr_has, free_bits, low_bits};
 use np_base::{Beside, Cells, NoMemory, Point, V4, V6, join_all};
 use np_sets::IntervalSet;
 use std::alloc::Global;
@@ -107,25 +106,6 @@ fn is_strict_part(block: &Cidr, except: &Cidr) -> bool
     ensures { result ≡ is_strict_part block.now except.now }
 {
     bits_of(block) < bits_of(except) && cidr_has(block, base_of(except))
-}
-
-// How many first bits the addresses of the block have in common.
-fn bits_of(block: &Cidr) -> u8
-    ensures { result ≡ bits_of block.now }
-{
-    match block {
-        Cidr::Four { length, .. } | Cidr::Six { length, .. } => *length,
-    }
-}
-
-// The first address of the block.
-fn base_of(block: &Cidr) -> Address
-    ensures { result ≡ base_of block.now }
-{
-    match block {
-        Cidr::Four { base, .. } => Address::Four(*base),
-        Cidr::Six { base, .. } => Address::Six(*base),
-    }
 }
 
 /// All addresses of the block. Where it is not well formed, it is cut at the greatest address of its family. It takes

@@ -2,6 +2,7 @@
 ghost use Rattle.std.specs.Prelude.{◌≡◌, ◌+◌, ◌-◌, ◌%◌, ◌^◌, ◌≤◌, ◌&&◌, nat_le, nat_lt};
 ghost use Rattle.np_addr.specs.Addresses.{family_of, width_of, IsCidr, cidr_has};
 ghost use Rattle.np_addr.specs.AddressGrammar.{block_of, cleared};
+ghost use Rattle.np_addr.specs.Blocks.{bits_of, base_of};
 
 use crate::address::Address;
 use np_base::{Point, V4, V6};
@@ -27,6 +28,25 @@ pub fn cidr_has(cidr: &Cidr, address: Address) -> bool
             covers(base.number(), free_bits(128, *length), point.number())
         }
         _ => false,
+    }
+}
+
+// How many first bits the addresses of the block have in common.
+pub(crate) fn bits_of(block: &Cidr) -> u8
+    ensures { result ≡ bits_of block.now }
+{
+    match block {
+        Cidr::Four { length, .. } | Cidr::Six { length, .. } => *length,
+    }
+}
+
+// The first address of the block.
+pub(crate) fn base_of(block: &Cidr) -> Address
+    ensures { result ≡ base_of block.now }
+{
+    match block {
+        Cidr::Four { base, .. } => Address::Four(*base),
+        Cidr::Six { base, .. } => Address::Six(*base),
     }
 }
 

@@ -1,10 +1,11 @@
 //! Laws of the texts and of the blocks, in their own words.
-ghost use Rattle.std.specs.Prelude.{◌≡◌, ℕ, ◌≤◌, ◌↔◌, List, true, Some};
+ghost use Rattle.std.specs.Prelude.{◌≡◌, ℕ, ◌≤◌, ◌↔◌, List, length, true, All, Some};
 ghost use Rattle.std.specs.Net.Text.{longest_zero_run};
 ghost use Rattle.np_addr.specs.Addresses.{IsAddress, IsCidr, cidr_has};
-ghost use Rattle.np_addr.specs.AddressText.{address_text};
+ghost use Rattle.np_addr.specs.AddressText.{address_text, cidr_text};
 ghost use Rattle.np_addr.specs.AddressGrammar.{address_of, cidr_of};
-ghost use Rattle.np_addr.specs.Blocks.{is_strict_part};
+ghost use Rattle.np_addr.specs.Blocks.{AddressRanges, set_has, IsAddressSet, base_of, is_strict_part};
+ghost use Rattle.np_addr.specs.Prefixes.{IsRightPrefixList, prefixes_of, some_has};
 ghost use Rattle.np_addr.specs.TextForms.{IsAddressText, IsCidrText};
 ghost use Rattle.np_addr.specs.Laws.{IsZeroRun, SharesFirstBits, IsStrictSubset};
 ghost use Rattle.np_addr.specs.declared.address.Address.{Address};
@@ -46,4 +47,26 @@ pub fn texts_are_read_exactly()
     ensures addresses { (text : List ℕ) (address : Address) →
         (address_of text ≡ Some address) ↔ IsAddressText text address }
     ensures blocks { (text : List ℕ) (block : Cidr) → (cidr_of text ≡ Some block) ↔ IsCidrText text block }
+{}
+
+/// The text of a block is read as that block.
+pub fn printed_block_reads_again()
+    ensures { (block : Cidr) → IsAddress (base_of block) → IsCidr block → cidr_of (cidr_text block) ≡ Some block }
+{}
+
+/// What `prefixes` gives is right for its set.
+pub fn prefixes_are_right()
+    ensures { (set : AddressRanges) → IsAddressSet set → IsRightPrefixList set (prefixes_of set) }
+{}
+
+/// No other list is right for the set.
+pub fn one_prefix_list_is_right()
+    ensures { (set : AddressRanges) (blocks others : List Cidr) → IsRightPrefixList set blocks → IsRightPrefixList set others →
+        blocks ≡ others }
+{}
+
+/// No list of blocks with the same addresses is shorter than the right one.
+pub fn no_prefix_list_is_shorter()
+    ensures { (set : AddressRanges) (blocks others : List Cidr) → IsRightPrefixList set blocks → All IsCidr others →
+        ((address : Address) → some_has others address ≡ set_has set address) → length blocks ≤ length others }
 {}

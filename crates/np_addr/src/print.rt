@@ -1,11 +1,13 @@
-//! The one canonical text of each address.
+//! The one canonical text of each address and of each block.
 ghost use Rattle.std.specs.Prelude.{◌≡◌, ℕ, ◌+◌, ◌*◌, ◌/◌, ◌%◌, ◌^◌, ◌<◌, ◌≤◌, ◌++◌, length, codes, decimal, Some, IfOk, OnOk, string_bytes};
-ghost use Rattle.np_addr.specs.AddressGrammar.{address_of};
+ghost use Rattle.np_addr.specs.AddressGrammar.{address_of, cidr_of};
+ghost use Rattle.np_addr.specs.Addresses.{IsAddress, IsCidr};
 ghost use Rattle.std.specs.List.{join_by};
 ghost use Rattle.std.specs.Net.Text.{longest_zero_run};
-ghost use Rattle.np_addr.specs.AddressText.{ipv4_text, groups_of, group_at, groups_text, shortened_text, ipv6_text, address_text};
+ghost use Rattle.np_addr.specs.AddressText.{ipv4_text, groups_of, group_at, groups_text, shortened_text, ipv6_text, address_text, cidr_text};
 
 use crate::address::Address;
+use crate::cidr::{Cidr, base_of, bits_of};
 use itoa::Buffer;
 use np_base::{NoMemory, Point, Text};
 use std::alloc::Global;
@@ -17,15 +19,29 @@ pub fn print_address(alloc: Global, address: Address) -> Result<Text, NoMemory>
     ensures canonical { IfOk result (λ text. text ≡ address_text address) }
     ensures reads_again { IfOk result (λ text. address_of text ≡ Some address) }
 {
+    let text = address_string(alloc, address)?;
+    Ok(Text::from_string(text))
+}
+
+/// The text of a block: its first address as `print_address` prints it, `/`, and its length in decimal.
+pub fn print_cidr(alloc: Global, cidr: Cidr) -> Result<Text, NoMemory>
+    ensures canonical { IfOk result (λ text. text ≡ cidr_text cidr) }
+    ensures reads_again { IsCidr cidr → IfOk result (λ text. cidr_of text ≡ Some cidr) }
+{
+    let mut text = address_string(alloc, base_of(&cidr))?;
+    text.push('/')?;
+    push_decimal(&mut text, bits_of(&cidr))?;
+    Ok(Text::from_string(text))
+}
+
+// The canonical text of an address.
+fn address_string(alloc: Global, address: Address) -> Result<String, NoMemory>
+    ensures canonical { IfOk result (λ text. string_bytes text ≡ address_text address) }
+    ensures fits { IsAddress address }
+{
     match address {
-        Address::Four(point) => {
-            let text = print_ipv4(alloc, point.number() as u32)?;
-            Ok(Text::from_string(text))
-        }
-        Address::Six(point) => {
-            let text = print_ipv6(alloc, point.number())?;
-            Ok(Text::from_string(text))
-        }
+        Address::Four(point) => print_ipv4(alloc, point.number() as u32),
+        Address::Six(point) => print_ipv6(alloc, point.number()),
     }
 }
 
@@ -35,7 +51,7 @@ fn print_ipv4(alloc: Global, number: u32) -> Result<String, NoMemory>
 {
     let [first, second, third, fourth] = number.to_be_bytes();
     let mut text = String::new(alloc);
-    push_part(&mut text, first)?;
+    push_decimal(&mut text, first)?;
     push_dot_and_part(&mut text, second)?;
     push_dot_and_part(&mut text, third)?;
     push_dot_and_part(&mut text, fourth)?;
@@ -47,15 +63,15 @@ fn push_dot_and_part(text: &mut String, part: u8) -> Result<(), NoMemory>
     ensures { OnOk result (string_bytes text.new ≡ string_bytes text.old ++ codes "." ++ decimal part) }
 {
     text.push('.')?;
-    push_part(text, part)
+    push_decimal(text, part)
 }
 
-// Appends a part of an IPv4 address.
-fn push_part(text: &mut String, part: u8) -> Result<(), NoMemory>
-    ensures { OnOk result (string_bytes text.new ≡ string_bytes text.old ++ decimal part) }
+// Appends a number in decimal.
+fn push_decimal(text: &mut String, number: u8) -> Result<(), NoMemory>
+    ensures { OnOk result (string_bytes text.new ≡ string_bytes text.old ++ decimal number) }
 {
     let mut buffer = Buffer::new();
-    text.push_str(buffer.format(part))?;
+    text.push_str(buffer.format(number))?;
     Ok(())
 }
 

@@ -1,9 +1,10 @@
 -- How many rules a run looks at.
-use Rattle.std.proofs.Common.{◌≡◌, ℕ, ◌+◌, ◌*◌, ◌≤◌, Bool, List, length, Option, Some, arith, refl, sym, subst}
+use Rattle.std.proofs.Common.{◌≡◌, ℕ, ◌+◌, ◌*◌, ◌≤◌, Bool, List, length, Option, None, Some, arith, refl, sym, subst}
 use Rattle.std.proofs.lemmas.List.FromFn.{length-range_with_len}
 use Rattle.std.proofs.lemmas.List.Sums.{count_by-le-length, length-filter}
 use Rattle.std.proofs.Math.Nat.{mul-le-mul_left, mul-le-mul_right}
-use Rattle.np_cli.specs.Counts.{Counted, list_steps, most_steps}
+use Rattle.np_cli.specs.Counts.{Counted, RoseAtMost, list_steps, most_steps, steps_in}
+use Rattle.np_cli.specs.Inputs.{lists_of}
 use Rattle.np_cli.specs.Runs.{ran}
 use Rattle.np_cli.specs.Sinks.{Sunk}
 use Rattle.np_cli.specs.Sources.{AreTold, Sourced}
@@ -16,16 +17,21 @@ use Rattle.np_fold.specs.Workloads.{Folding, folding_of, kinds_alike, workload_c
 use Rattle.np_table.specs.ToCome.{most_rules}
 
 -- no rule was looked at
+RoseAtMost-still : (most : Option ℕ) (steps : ℕ) → RoseAtMost most steps steps
+RoseAtMost-still (Some most) steps = omega arith
+RoseAtMost-still None steps = tt
+
 pub Counted-none : (asked : Option Job) (source : Sourced) (out : Sunk) (steps : ℕ) → Counted (ran asked source out) steps steps
-Counted-none asked source out steps = record { least = omega arith; most = λ job texts is tells. omega arith }
+Counted-none asked source out steps = record { least = omega arith; most = λ job texts is tells. RoseAtMost-still (most_steps job texts) steps }
 
 -- the bytes that were read are those that the source told
-pub Counted-read : (job : Job) (source : Sourced) (out : Sunk) (texts : List (List ℕ)) (before after : ℕ) → ((told : List (List ℕ)) → AreTold source.holds source.left (names_of job) told → texts ≡ told) → before ≤ after → after ≤ before + most_steps job texts → Counted (ran (Some job) source out) before after
+pub Counted-read : (job : Job) (source : Sourced) (out : Sunk) (texts : List (List ℕ)) (before after : ℕ) → ((told : List (List ℕ)) → AreTold source.holds source.left (names_of job) told → texts ≡ told) → before ≤ after → RoseAtMost (steps_in job (lists_of texts)) before after → Counted (ran (Some job) source out) before after
+unfolding most_steps
 Counted-read job source out texts before after read least most = record {
   least = least;
   most = λ other told is tells.
       let same : job ≡ other = cc in
-      subst (λ (j : Job). after ≤ before + most_steps j told) same (subst (λ (ts : List (List ℕ)). after ≤ before + most_steps job ts) (read told tells) most);
+      subst (λ (j : Job). RoseAtMost (most_steps j told) before after) same (subst (λ (ts : List (List ℕ)). RoseAtMost (most_steps job ts) before after) (read told tells) most);
 }
 
 -- what is due for all rows of a table

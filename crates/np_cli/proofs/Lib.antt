@@ -1,6 +1,8 @@
-pub mod InputsLemmas
-pub mod SourcesLemmas
+pub mod CountsLemmas
+pub mod EvaluateLemmas
+pub mod HeadlineLemmas
+pub mod PromisesLemmas
 pub mod RowsLemmas
 pub mod RunsLemmas
-pub mod PromisesLemmas
-pub mod CountsLemmas
+pub mod SourcesLemmas
+pub mod WroteLemmas

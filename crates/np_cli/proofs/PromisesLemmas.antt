@@ -1,16 +1,19 @@
 -- What follows from why a run ends as it does.
-use Rattle.std.proofs.Common.{◌≡◌, ℕ, List, Option, Some, None, is_some, true, Result, Ok, Err, sym, subst, inl, inr, arith}
+use Rattle.std.proofs.Common.{◌≡◌, ℕ, List, ◌∷◌, ◌++◌, Option, Some, None, is_some, true, Result, Ok, Err, sym, subst, inl, inr, arith}
 use Rattle.std.specs.Prelude.{◌⊎◌, Contains}
 use Rattle.std.proofs.lemmas.Bool.{both_ways}
 use Rattle.np_estate.specs.declared.notes.Notes.{Notes}
 use Rattle.np_io.specs.Counts.{Rose}
 use Rattle.np_cli.specs.Answers.{refusal, notes_of}
 use Rattle.np_cli.specs.Messages.{message, notes_text}
-use Rattle.np_cli.specs.Promises.{IsStill, Completes, RefusesTooLarge, RefusesFaults, BlamesDevice, BlamesWords}
+use Rattle.np_cli.specs.Promises.{IsStill, Completes, RefusesTooLarge, RefusesMore, RefusesFaults, BlamesDevice, BlamesWords}
 use Rattle.np_cli.specs.Runs.{Run, Cause}
 use Rattle.np_cli.specs.Sinks.{Sunk, Said}
+use Rattle.np_cli.specs.Sources.{BeganFront, FailedAt, Sourced}
 use Rattle.np_cli.specs.Statuses.{status_of}
 use Rattle.np_cli.specs.Words.{names_asked}
+use Rattle.np_cli.proofs.RunsLemmas.{Cause-no_memory}
+use Rattle.np_cli.proofs.SourcesLemmas.{Contains-middle}
 use Rattle.np_cli.specs.declared.fault.Fault.{Fault}
 use Rattle.np_words.specs.declared.job.Job.{Job}
 use Rattle.np_cli.specs.declared.failure.Failure.{Failure}
@@ -33,7 +36,7 @@ names_something : {P : Type 0} (asked : Option Job) (name : List ℕ) → Contai
 names_something None name among nothing = absurd (omega (arith, among.1))
 names_something (Some job) name among nothing = cc
 
-one_job : (asked : Option Job) (job other : Job) → asked ≡ Some job → asked ≡ Some other → other ≡ job
+pub one_job : (asked : Option Job) (job other : Job) → asked ≡ Some job → asked ≡ Some other → other ≡ job
 one_job asked job other is is_other = cc
 
 no_fault : {P : Type 0} (found : Option Fault) (fault : Fault) → found ≡ None → found ≡ Some fault → P
@@ -42,46 +45,61 @@ no_fault found fault none some = cc
 one_fault : (found : Option Fault) (fault other : Fault) → found ≡ Some fault → found ≡ Some other → other ≡ fault
 one_fault found fault other is is_other = cc
 
+-- the name of which a call failed is among those that are asked for
+among : (source : Sourced) (names : List (List ℕ)) (name : List ℕ) → FailedAt source names name → Contains names name
+among source names name at = subst (λ (ns : List (List ℕ)). Contains ns name) (sym at.order) (Contains-middle at.earlier name at.later)
+
 pub completes : (run : Run) (err : Sunk) (answer : Status) (outcome : Result Notes Failure) → Cause run outcome → Said err (message outcome) → answer ≡ status_of outcome → Completes run err answer
 completes run err answer (Ok notes) cause said answered = λ job texts is told accepted inputs sink.
-    let same : notes ≡ notes_of job texts = subst (λ (j : Job). notes ≡ notes_of j texts) (one_job run.asked job cause.0 is cause.1) (cause.4 texts told).2 in
-    inl (answered, (cause.4 texts told).1, subst (λ (n : Notes). Said err (notes_text n)) same said)
-completes run err answer (Err Usage) cause said answered = λ job texts is told accepted inputs sink. asks run.asked job is cause.0
-completes run err answer (Err TooLarge) cause said answered = λ job texts is told accepted inputs sink. absurd (both_ways _ accepted.fits (cause.4 texts told))
+    let reported = cause.told texts told in
+    let same : notes ≡ notes_of job texts = subst (λ (j : Job). notes ≡ notes_of j texts) (one_job run.asked job cause.job is cause.asked) reported.left_out in
+    inl (answered, reported.took, subst (λ (n : Notes). Said err (notes_text n)) same said)
+completes run err answer (Err Usage) cause said answered = λ job texts is told accepted inputs sink. asks run.asked job is cause.asked
+completes run err answer (Err TooLarge) cause said answered = λ job texts is told accepted inputs sink. absurd (both_ways _ accepted.fits (cause.over.large texts told))
 completes run err answer (Err (Refused fault)) cause said answered = λ job texts is told accepted inputs sink.
-    no_fault (refusal job texts) fault accepted.no_fault (subst (λ (j : Job). refusal j texts ≡ Some fault) (one_job run.asked job cause.0 is cause.1) (cause.4 texts told).1)
+    no_fault (refusal job texts) fault accepted.no_fault (subst (λ (j : Job). refusal j texts ≡ Some fault) (one_job run.asked job cause.job is cause.asked) (cause.found texts told))
 completes run err answer (Err (CannotRead name)) cause said answered = λ job texts is told accepted inputs sink.
-    absurd (still_or_rose _ _ (inputs name cause.0) cause.1)
+    absurd (still_or_rose _ _ (inputs name (among run.source (names_asked run.asked) name cause.at)) cause.at.rose)
 completes run err answer (Err CannotWrite) cause said answered = λ job texts is told accepted inputs sink.
-    absurd (still_or_rose _ _ sink cause.3)
+    absurd (still_or_rose _ _ sink cause.rose)
 completes run err answer (Err NoMemory) cause said answered = λ job texts is told accepted inputs sink. inr answered
 
 pub refuses_too_large : (run : Run) (err : Sunk) (answer : Status) (outcome : Result Notes Failure) → Cause run outcome → Said err (message outcome) → answer ≡ status_of outcome → RefusesTooLarge run err answer
 refuses_too_large run err answer (Ok notes) cause said answered = λ job texts is told large inputs.
-    absurd (both_ways _ (cause.4 texts told).0.fits large)
-refuses_too_large run err answer (Err Usage) cause said answered = λ job texts is told large inputs. asks run.asked job is cause.0
-refuses_too_large run err answer (Err TooLarge) cause said answered = λ job texts is told large inputs. inl (answered, cause.2, said)
+    absurd (both_ways _ (cause.told texts told).accepted.fits large)
+refuses_too_large run err answer (Err Usage) cause said answered = λ job texts is told large inputs. asks run.asked job is cause.asked
+refuses_too_large run err answer (Err TooLarge) cause said answered = λ job texts is told large inputs. inl (answered, cause.kept, said)
 refuses_too_large run err answer (Err (Refused fault)) cause said answered = λ job texts is told large inputs.
-    absurd (both_ways _ (cause.4 texts told).0 large)
+    absurd (both_ways _ (cause.fits texts told) large)
 refuses_too_large run err answer (Err (CannotRead name)) cause said answered = λ job texts is told large inputs.
-    absurd (still_or_rose _ _ (inputs name cause.0) cause.1)
+    absurd (still_or_rose _ _ (inputs name (among run.source (names_asked run.asked) name cause.at)) cause.at.rose)
 refuses_too_large run err answer (Err CannotWrite) cause said answered = λ job texts is told large inputs.
-    absurd (both_ways _ (cause.4 texts told).0.fits large)
+    absurd (both_ways _ (cause.accepted texts told).fits large)
 refuses_too_large run err answer (Err NoMemory) cause said answered = λ job texts is told large inputs. inr answered
+
+-- where more bytes were handed out than inputs may have, no other outcome has its cause
+pub refuses_more : (run : Run) (err : Sunk) (answer : Status) (outcome : Result Notes Failure) → Cause run outcome → Said err (message outcome) → answer ≡ status_of outcome → RefusesMore run err answer
+refuses_more run err answer (Ok notes) cause said answered = λ more. absurd (omega (arith, more, cause.read.in_room))
+refuses_more run err answer (Err Usage) cause said answered = λ more. absurd (omega (arith, more, cause.source.handed))
+refuses_more run err answer (Err TooLarge) cause said answered = λ more. inl (answered, cause.kept, said)
+refuses_more run err answer (Err (Refused fault)) cause said answered = λ more. absurd (omega (arith, more, cause.read.in_room))
+refuses_more run err answer (Err (CannotRead name)) cause said answered = λ more. absurd (omega (arith, more, cause.at.in_room))
+refuses_more run err answer (Err CannotWrite) cause said answered = λ more. absurd (omega (arith, more, cause.read.in_room))
+refuses_more run err answer (Err NoMemory) cause said answered = λ more. inr answered
 
 pub refuses_faults : (run : Run) (err : Sunk) (answer : Status) (outcome : Result Notes Failure) → Cause run outcome → Said err (message outcome) → answer ≡ status_of outcome → RefusesFaults run err answer
 refuses_faults run err answer (Ok notes) cause said answered = λ job texts fault is told fits found inputs.
-    no_fault (refusal job texts) fault (subst (λ (j : Job). refusal j texts ≡ None) (one_job run.asked job cause.0 is cause.1) (cause.4 texts told).0.no_fault) found
-refuses_faults run err answer (Err Usage) cause said answered = λ job texts fault is told fits found inputs. asks run.asked job is cause.0
+    no_fault (refusal job texts) fault (subst (λ (j : Job). refusal j texts ≡ None) (one_job run.asked job cause.job is cause.asked) (cause.told texts told).accepted.no_fault) found
+refuses_faults run err answer (Err Usage) cause said answered = λ job texts fault is told fits found inputs. asks run.asked job is cause.asked
 refuses_faults run err answer (Err TooLarge) cause said answered = λ job texts fault is told fits found inputs.
-    absurd (both_ways _ fits (cause.4 texts told))
+    absurd (both_ways _ fits (cause.over.large texts told))
 refuses_faults run err answer (Err (Refused other)) cause said answered = λ job texts fault is told fits found inputs.
-    let same : other ≡ fault = one_fault (refusal job texts) fault other found (subst (λ (j : Job). refusal j texts ≡ Some other) (one_job run.asked job cause.0 is cause.1) (cause.4 texts told).1) in
-    inl (answered, cause.3, subst (λ (f : Fault). Said err (message (Err (Refused f)))) same said)
+    let same : other ≡ fault = one_fault (refusal job texts) fault other found (subst (λ (j : Job). refusal j texts ≡ Some other) (one_job run.asked job cause.job is cause.asked) (cause.found texts told)) in
+    inl (answered, cause.kept, subst (λ (f : Fault). Said err (message (Err (Refused f)))) same said)
 refuses_faults run err answer (Err (CannotRead name)) cause said answered = λ job texts fault is told fits found inputs.
-    absurd (still_or_rose _ _ (inputs name cause.0) cause.1)
+    absurd (still_or_rose _ _ (inputs name (among run.source (names_asked run.asked) name cause.at)) cause.at.rose)
 refuses_faults run err answer (Err CannotWrite) cause said answered = λ job texts fault is told fits found inputs.
-    no_fault (refusal job texts) fault (subst (λ (j : Job). refusal j texts ≡ None) (one_job run.asked job cause.0 is cause.1) (cause.4 texts told).0.no_fault) found
+    no_fault (refusal job texts) fault (subst (λ (j : Job). refusal j texts ≡ None) (one_job run.asked job cause.job is cause.asked) (cause.accepted texts told).no_fault) found
 refuses_faults run err answer (Err NoMemory) cause said answered = λ job texts fault is told fits found inputs. inr answered
 
 -- a status is one alone
@@ -90,18 +108,22 @@ blames_device run answer (Ok notes) cause answered = λ device. cc
 blames_device run answer (Err Usage) cause answered = λ device. cc
 blames_device run answer (Err TooLarge) cause answered = λ device. cc
 blames_device run answer (Err (Refused fault)) cause answered = λ device. cc
-blames_device run answer (Err (CannotRead name)) cause answered = λ device. inl (name, cause.0, cause.1)
-blames_device run answer (Err CannotWrite) cause answered = λ device. inr cause.3
+blames_device run answer (Err (CannotRead name)) cause answered = λ device. inl (name, among run.source (names_asked run.asked) name cause.at, cause.at.rose)
+blames_device run answer (Err CannotWrite) cause answered = λ device. inr cause.rose
 blames_device run answer (Err NoMemory) cause answered = λ device. cc
 
 pub blames_words : (run : Run) (answer : Status) (outcome : Result Notes Failure) → Cause run outcome → answer ≡ status_of outcome → BlamesWords run.asked answer
-blames_words run answer (Ok notes) cause answered = (λ usage. cc, λ nothing. asks run.asked cause.0 cause.1 nothing)
-blames_words run answer (Err Usage) cause answered = (λ usage. cause.0, λ nothing. inl answered)
-blames_words run answer (Err TooLarge) cause answered = (λ usage. cc, λ nothing. asks_nothing run.asked cause.3 nothing)
-blames_words run answer (Err (Refused fault)) cause answered = (λ usage. cc, λ nothing. asks run.asked cause.0 cause.1 nothing)
-blames_words run answer (Err (CannotRead name)) cause answered = (λ usage. cc, λ nothing. names_something run.asked name cause.0 nothing)
-blames_words run answer (Err CannotWrite) cause answered = (λ usage. cc, λ nothing. asks run.asked cause.0 cause.1 nothing)
+blames_words run answer (Ok notes) cause answered = (λ usage. cc, λ nothing. asks run.asked cause.job cause.asked nothing)
+blames_words run answer (Err Usage) cause answered = (λ usage. cause.asked, λ nothing. inl answered)
+blames_words run answer (Err TooLarge) cause answered = (λ usage. cc, λ nothing. asks_nothing run.asked cause.asked nothing)
+blames_words run answer (Err (Refused fault)) cause answered = (λ usage. cc, λ nothing. asks run.asked cause.job cause.asked nothing)
+blames_words run answer (Err (CannotRead name)) cause answered = (λ usage. cc, λ nothing. names_something run.asked name (among run.source (names_asked run.asked) name cause.at) nothing)
+blames_words run answer (Err CannotWrite) cause answered = (λ usage. cc, λ nothing. asks run.asked cause.job cause.asked nothing)
 blames_words run answer (Err NoMemory) cause answered = (λ usage. cc, λ nothing. inr answered)
+
+-- whatever the outcome, names of the job were begun in their order
+pub begins_in_order : (run : Run) (outcome : Result Notes Failure) → Cause run outcome → BeganFront run.source (names_asked run.asked)
+begins_in_order run outcome cause = (Cause-no_memory run outcome cause).began
 
 -- a run that says that the words ask for nothing ended so
 pub usage_ended : (ended said : Result Notes Failure) (answer : Status) → answer ≡ status_of said → answer ≡ status.Usage → (said ≡ ended) ⊎ (said ≡ Err NoMemory) → ended ≡ Err Usage

@@ -1,14 +1,15 @@
 -- Reading the inputs of a job one after another.
-use Rattle.std.proofs.Common.{◌≡◌, ℕ, zero, suc, ◌+◌, ◌^◌, ◌<◌, ◌≤◌, List, [], ◌∷◌, ◌++◌, length, take, get_or, map, Option, Some, None, is_some, IsSome, true, refl, sym, ap, ◌∙◌, subst, inl, inr, arith, Vec}
+use Rattle.std.proofs.Common.{◌≡◌, ℕ, zero, suc, ◌+◌, ◌^◌, ◌<◌, ◌≤◌, List, [], ◌∷◌, ◌++◌, length, take, drop, get_or, map, min, ◌-◌, Option, Some, None, is_some, IsSome, true, refl, sym, ap, ◌∙◌, subst, inl, inr, arith, Vec, append_assoc, append-nil, add-zero}
 use Rattle.std.specs.Prelude.{◌⊎◌, Contains}
+use Rattle.std.specs.Option.{option_map}
 use Rattle.std.specs.declared.alloc.Global.{Global}
 use Rattle.std.proofs.lemmas.Bool.{lt-ltb, cases_lt, true≢false}
-use Rattle.std.proofs.lemmas.List.{take_more, map-append, get_or_read}
-use Rattle.std.proofs.lemmas.List.Elements.{Contains-get_or}
+use Rattle.std.proofs.lemmas.List.{take_more, take-append-drop, map-append, get_or_read}
+use Rattle.std.proofs.lemmas.List.Elements.{Contains-append_left, Contains-append_right, Contains-get_or}
 use Rattle.std.proofs.lemmas.List.Sums.{sum_by-append, sum_by_more_le}
 use Rattle.np_io.specs.Counts.{Rose, RosePast, handed_after}
-use Rattle.np_io.specs.Source.{IsTold}
-use Rattle.np_cli.specs.Sources.{AreTold, Sourced, Unread, NextUnread, total_size, is_too_large}
+use Rattle.np_io.specs.Source.{BeganNext, IsTold}
+use Rattle.np_cli.specs.Sources.{AreTold, BeganFront, FailedAt, HandedOut, Sourced, Unread, NextUnread, total_size, is_too_large}
 use Rattle.np_cli.specs.declared.sources.TheConstants.{SIZE_LIMIT}
 use Rattle.np_cli.specs.declared.sources.SourceFault.{SourceFault}
 use Rattle.np_cli.specs.declared.sources.SourceFault.TheVariants.{CannotRead, TooLarge, NoMemory}
@@ -86,19 +87,82 @@ told-next holds holds_now left left_now names texts i name same_holds same_left 
       what_is_left = still_some left left_now same_left at_first.what_is_left;
     }
 
--- why the next input was not read is why all were not
-pub Unread-next : (source : Sourced) (holds_now : List ℕ → Option (List ℕ)) (left_now : Option (List ℕ)) (faults_now : List ℕ → ℕ) (handed_now : ℕ) (names : List (List ℕ)) (made : List (Vec ℕ Global)) (i room : ℕ) (name : List ℕ) (fault : SourceFault) → holds_now ≡ source.holds → is_some left_now ≡ is_some source.left → faults_now ≡ source.faults_before → i < length names → name ≡ get_or names i name → ((texts : List (List ℕ)) → AreTold source.holds source.left names texts → bytes_of made ≡ take i texts) → room + total_size (bytes_of made) ≡ SIZE_LIMIT → RoseBy (total_size (bytes_of made)) source.handed_before handed_now → NextUnread (record { holds = holds_now; left = left_now; faults_before = faults_now; faults_after = source.faults_after; handed_before = handed_now; handed_after = source.handed_after }) name room fault → Unread source names fault
-Unread-next source holds_now left_now faults_now handed_now names made i room name (CannotRead named) same_holds same_left same_faults below is so_far counted rose why =
+-- ---- names that were begun
+
+-- no name
+pub BeganNext-none : (old new : Option (List (List ℕ))) → new ≡ old → BeganNext old new []
+BeganNext-none None new same = inl same
+BeganNext-none (Some names) new same = inr (same ∙ ap (λ (ns : List (List ℕ)). Some ns) (sym (append-nil names)))
+
+-- some names, and then others
+pub BeganNext-more : (old middle new : Option (List (List ℕ))) (first second : List (List ℕ)) → BeganNext old middle first → BeganNext middle new second → BeganNext old new (first ++ second)
+BeganNext-more old middle new first second before after = elim after [
+  | inl untold ↦ inl untold
+  | inr more ↦ elim before [
+    | inl untold ↦ inl (more ∙ ap (option_map (λ (ns : List (List ℕ)). ns ++ second)) untold)
+    | inr some ↦ inr (more ∙ ap (option_map (λ (ns : List (List ℕ)). ns ++ second)) some ∙ both old)
+  ]
+]
+  where
+    both : (known : Option (List (List ℕ))) → option_map (λ (ns : List (List ℕ)). ns ++ second) (option_map (λ (ns : List (List ℕ)). ns ++ first) known) ≡ option_map (λ (ns : List (List ℕ)). ns ++ (first ++ second)) known
+    both None = refl
+    both (Some names) = ap (λ (ns : List (List ℕ)). Some ns) (append_assoc names first second)
+
+-- the names before a place, and then that of the place
+pub Began-next : (old middle new : Option (List (List ℕ))) (names : List (List ℕ)) (i : ℕ) (name : List ℕ) → i < length names → name ≡ get_or names i name → BeganNext old middle (take i names) → BeganNext middle new (name ∷ []) → BeganNext old new (take (i + 1) names)
+Began-next old middle new names i name below is before after =
+    let here : name ≡ get_or names i [] = get_or_read names i name below is [] in
+    let front : take i names ++ name ∷ [] ≡ take (i + 1) names = ap (λ (n : List ℕ). take i names ++ n ∷ []) here ∙ sym (take_more names i [] below) in
+    subst (BeganNext old new) front (BeganNext-more old middle new (take i names) (name ∷ []) before after)
+
+-- so a front of the names was begun
+pub BeganFront-next : (source : Sourced) (names : List (List ℕ)) (i : ℕ) → BeganNext source.began_before source.began_after (take (i + 1) names) → BeganFront source names
+BeganFront-next source names i began = record { front = take (i + 1) names; rest = drop (i + 1) names; order = sym (take-append-drop (i + 1) names); began = began }
+
+-- a name between others is one of them
+pub Contains-middle : (earlier : List (List ℕ)) (name : List ℕ) (later : List (List ℕ)) → Contains (earlier ++ name ∷ later) name
+Contains-middle earlier name later =
+    Contains-append_right earlier (name ∷ later) name (Contains-append_left (name ∷ []) later name (Contains-get_or (name ∷ []) 0 name (omega arith)))
+
+-- ---- bytes that were handed out
+
+pub HandedOut-none : (count : ℕ) → HandedOut count count 0
+HandedOut-none count = record { exact = rw add-zero refl; most = omega arith }
+
+pub HandedOut-more : (old middle new n m : ℕ) → HandedOut old middle n → new ≡ handed_after middle m → HandedOut old new (n + m)
+HandedOut-more old middle new n m out is =
+    let exact = out.exact in
+    let most = out.most in
+    record { exact = omega arith; most = omega arith }
+
+-- ---- why the next input was not read is why all were not
+
+pub Unread-next : (source : Sourced) (holds_now : List ℕ → Option (List ℕ)) (left_now : Option (List ℕ)) (faults_now : List ℕ → ℕ) (handed_now : ℕ) (began_now : Option (List (List ℕ))) (names : List (List ℕ)) (made : List (Vec ℕ Global)) (i room : ℕ) (name : List ℕ) (fault : SourceFault) → holds_now ≡ source.holds → is_some left_now ≡ is_some source.left → faults_now ≡ source.faults_before → i < length names → name ≡ get_or names i name → ((texts : List (List ℕ)) → AreTold source.holds source.left names texts → bytes_of made ≡ take i texts) → room + total_size (bytes_of made) ≡ SIZE_LIMIT → RoseBy (total_size (bytes_of made)) source.handed_before handed_now → HandedOut source.handed_before handed_now (total_size (bytes_of made)) → BeganNext source.began_before began_now (take i names) → BeganNext began_now source.began_after (name ∷ []) → NextUnread (record { holds = holds_now; left = left_now; faults_before = faults_now; faults_after = source.faults_after; handed_before = handed_now; handed_after = source.handed_after; began_before = began_now; began_after = source.began_after }) name room fault → Unread source names fault
+Unread-next source holds_now left_now faults_now handed_now began_now names made i room name (CannotRead named) same_holds same_left same_faults below is so_far counted rose out before after why =
     let at_name : (n : ℕ) → Rose n (source.faults_after name) → (source.faults_before name ≡ n) → Rose (source.faults_before name) (source.faults_after name) = λ n r e. subst (λ (m : ℕ). Rose m (source.faults_after name)) (sym e) r in
-    let here : Contains names name = subst (Contains names) (sym is) (Contains-get_or names i name below) in
-    let rose_here = at_name (faults_now name) why.1 (ap (λ (f : List ℕ → ℕ). f name) (sym same_faults)) in
-    subst (λ (n : List ℕ). Contains names n × Rose (source.faults_before n) (source.faults_after n)) (sym why.0) (here, rose_here)
-Unread-next source holds_now left_now faults_now handed_now names made i room name TooLarge same_holds same_left same_faults below is so_far counted rose why = (
-  RosePast-joined (total_size (bytes_of made)) room SIZE_LIMIT source.handed_before handed_now source.handed_after counted rose why.0,
-  why.1 ∙ same_faults,
-  λ texts told.
+    let here : name ≡ get_or names i [] = get_or_read names i name below is [] in
+    let parts : names ≡ take i names ++ (name ∷ drop (i + 1) names) =
+    sym (take-append-drop (i + 1) names)
+    ∙ ap (λ (front : List (List ℕ)). front ++ drop (i + 1) names) (take_more names i [] below ∙ ap (λ (n : List ℕ). take i names ++ n ∷ []) (sym here))
+    ∙ append_assoc (take i names) (name ∷ []) (drop (i + 1) names) in
+    let most = out.most in
+    let more = why.2 in
+    subst (FailedAt source names) (sym why.0) (record {
+      earlier = take i names;
+      later = drop (i + 1) names;
+      order = parts;
+      began = BeganNext-more source.began_before began_now source.began_after (take i names) (name ∷ []) before after;
+      in_room = omega arith;
+      rose = at_name (faults_now name) why.1 (ap (λ (f : List ℕ → ℕ). f name) (sym same_faults));
+    })
+Unread-next source holds_now left_now faults_now handed_now began_now names made i room name TooLarge same_holds same_left same_faults below is so_far counted rose out before after why = record {
+  past = RosePast-joined (total_size (bytes_of made)) room SIZE_LIMIT source.handed_before handed_now source.handed_after counted rose why.0;
+  unfailed = why.1 ∙ same_faults;
+  began = BeganFront-next source names i (Began-next source.began_before began_now source.began_after names i name below is before after);
+  large = λ texts told.
       let fewer = AreTold-length source.holds source.left names texts told in
       is_too_large-told texts made i room (omega arith) (so_far texts told) counted
-      (why.2 (get_or texts i []) (told-next source.holds holds_now source.left left_now names texts i name same_holds same_left below is told)),
-)
-Unread-next source holds_now left_now faults_now handed_now names made i room name NoMemory same_holds same_left same_faults below is so_far counted rose why = tt
+      (why.2 (get_or texts i []) (told-next source.holds holds_now source.left left_now names texts i name same_holds same_left below is told));
+}
+Unread-next source holds_now left_now faults_now handed_now began_now names made i room name NoMemory same_holds same_left same_faults below is so_far counted rose out before after why =
+    BeganFront-next source names i (Began-next source.began_before began_now source.began_after names i name below is before after)

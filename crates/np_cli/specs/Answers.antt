@@ -1,37 +1,54 @@
 -- What a job prints for its inputs, or why it refuses them.
 use Rattle.std.specs.Prelude.{ℕ, List, [], Option, Some, None, Result, Ok, Err, if◌then◌else◌}
+use Rattle.np_estate.specs.Lawful.{IsLawful}
 use Rattle.np_estate.specs.declared.lists.EstateLists.{EstateLists}
 use Rattle.np_estate.specs.declared.notes.Notes.{Notes}
 use Rattle.np_cli.specs.Inputs.{lists_of}
-use Rattle.np_report.specs.TableText.{table_text}
 use Rattle.np_cli.specs.Sources.{is_too_large}
+use Rattle.np_cli.specs.commands.Evaluate.{evaluate_reply}
+use Rattle.np_cli.specs.commands.List.{list_reply}
 use Rattle.np_cli.specs.declared.fault.Fault.{Fault}
 use Rattle.np_words.specs.declared.job.Job.{Job}
-use Rattle.np_words.specs.declared.job.Job.TheVariants.{List as ListJob}
+use Rattle.np_words.specs.declared.job.Job.TheVariants.{Evaluate, List as ListJob}
 
-abbrev pub fault_in : Result EstateLists Fault → Option Fault
-fault_in (Ok lists) = None
+-- what a job prints on what its inputs say, or why it refuses that
+unfoldable pub reply : Job → EstateLists → Result (List ℕ) Fault
+reply (ListJob format report focus side files) lists = list_reply format report focus side lists
+reply (Evaluate from to proto port files) lists = evaluate_reply from to (record { proto = proto; port = port }) lists
+
+-- the same on what the inputs are read as
+abbrev pub reply_in : Job → Result EstateLists Fault → Result (List ℕ) Fault
+reply_in job (Ok lists) = reply job lists
+reply_in job (Err fault) = Err fault
+
+abbrev pub fault_in : Result (List ℕ) Fault → Option Fault
+fault_in (Ok text) = None
 fault_in (Err fault) = Some fault
 
-abbrev pub table_in : Result EstateLists Fault → List ℕ
-table_in (Ok lists) = table_text lists
-table_in (Err fault) = []
+abbrev pub text_in : Result (List ℕ) Fault → List ℕ
+text_in (Ok text) = text
+text_in (Err fault) = []
 
 abbrev pub notes_in : Result EstateLists Fault → Notes
 notes_in (Ok lists) = lists.notes
 notes_in (Err fault) = record { host = 0; finished = 0; skipped = 0; unaddressed = 0 }
 
+-- what is read is lawful
+abbrev pub IsLawfulIn : Result EstateLists Fault → Type 0
+IsLawfulIn (Ok lists) = IsLawful lists
+IsLawfulIn (Err fault) = Unit {0}
+
 -- the fault of the inputs that stands first, if they have one
 unfoldable pub refusal : Job → List (List ℕ) → Option Fault
-refusal (ListJob files) texts = fault_in (lists_of texts)
+refusal job texts = fault_in (reply_in job (lists_of texts))
 
 -- what is printed for inputs without a fault
 unfoldable pub text_of : Job → List (List ℕ) → List ℕ
-text_of (ListJob files) texts = table_in (lists_of texts)
+text_of job texts = text_in (reply_in job (lists_of texts))
 
 -- what was left out of inputs without a fault
 unfoldable pub notes_of : Job → List (List ℕ) → Notes
-notes_of (ListJob files) texts = notes_in (lists_of texts)
+notes_of job texts = notes_in (lists_of texts)
 
 -- what may be written for inputs: the whole text where they are accepted, else nothing
 unfoldable pub output : Option Job → List (List ℕ) → List ℕ

@@ -1,10 +1,10 @@
 -- How many rules a job looks at.
-use Rattle.std.specs.Prelude.{◌≡◌, ℕ, ◌+◌, ◌*◌, ◌≤◌, List, length, Some, Result, Ok, Err}
+use Rattle.std.specs.Prelude.{◌≡◌, ℕ, ◌+◌, ◌*◌, ◌≤◌, List, length, Option, Some, None, Result, Ok, Err}
 use Rattle.np_cli.specs.Inputs.{lists_of}
 use Rattle.np_cli.specs.Runs.{Run, Tells}
 use Rattle.np_cli.specs.declared.fault.Fault.{Fault}
 use Rattle.np_words.specs.declared.job.Job.{Job}
-use Rattle.np_words.specs.declared.job.Job.TheVariants.{List as ListJob}
+use Rattle.np_words.specs.declared.job.Job.TheVariants.{Evaluate, List as ListJob}
 use Rattle.np_estate.specs.declared.lists.EstateLists.{EstateLists}
 use Rattle.np_fold.specs.Workloads.{folding_of}
 use Rattle.np_table.specs.ToCome.{most_rules}
@@ -17,15 +17,26 @@ table_steps count most = (4 * count * count + 6 * count) * most
 unfoldable pub list_steps : EstateLists → ℕ
 list_steps lists = table_steps (length (folding_of lists).workloads) (most_rules lists (folding_of lists))
 
-abbrev pub steps_in : Result EstateLists Fault → ℕ
-steps_in (Ok lists) = list_steps lists
-steps_in (Err fault) = 0
+-- for a job on what its inputs say; no number is stated for the verdict of one packet
+unfoldable pub reply_steps : Job → EstateLists → Option ℕ
+reply_steps (ListJob format report focus side files) lists = Some (list_steps lists)
+reply_steps (Evaluate from to proto port files) lists = None
 
--- for a job on inputs of these bytes; none where they have a fault
-unfoldable pub most_steps : Job → List (List ℕ) → ℕ
-most_steps (ListJob files) texts = steps_in (lists_of texts)
+-- for a job on what its inputs are read as; none where they have a fault
+abbrev pub steps_in : Job → Result EstateLists Fault → Option ℕ
+steps_in job (Ok lists) = reply_steps job lists
+steps_in job (Err fault) = Some 0
+
+-- for a job on inputs of these bytes
+unfoldable pub most_steps : Job → List (List ℕ) → Option ℕ
+most_steps job texts = steps_in job (lists_of texts)
+
+-- the count rose by that many at most, where a number is stated
+abbrev pub RoseAtMost : Option ℕ → ℕ → ℕ → Type 0
+RoseAtMost (Some most) before after = after ≤ before + most
+RoseAtMost None before after = Unit {0}
 
 -- The count never falls, and where the source tells the bytes of a job's inputs, it rises by so many at most.
 pub record Counted (run : Run) (before after : ℕ) : Type 0 where
   pub least : before ≤ after
-  pub most : (job : Job) (texts : List (List ℕ)) → run.asked ≡ Some job → Tells run texts → after ≤ before + most_steps job texts
+  pub most : (job : Job) (texts : List (List ℕ)) → run.asked ≡ Some job → Tells run texts → RoseAtMost (most_steps job texts) before after

@@ -4,12 +4,12 @@ use Rattle.np_cli.specs.declared.failure.Failure.TheVariants.{Usage, CannotRead,
 use Rattle.np_cli.specs.declared.fault.Fault.TheVariants.{Inputs, TooManyWorkloads}
 use Rattle.np_cli.specs.declared.sources.SourceFault.{SourceFault}
 use Rattle.np_cli.specs.declared.sources.SourceFault.TheVariants as source
-use Rattle.np_cli.specs.declared.write_fault.WriteFault.{WriteFault}
-use Rattle.np_cli.specs.declared.write_fault.WriteFault.TheVariants as write
 use Rattle.np_fold.specs.declared.fold_fault.FoldFault.{FoldFault}
 use Rattle.np_fold.specs.declared.fold_fault.FoldFault.TheVariants as fold
 use Rattle.np_estate.specs.declared.refusal.Refusal.{Refusal}
 use Rattle.np_estate.specs.declared.refusal.Refusal.TheVariants as why
+use Rattle.np_cli.specs.declared.write_fault.WriteFault.{WriteFault}
+use Rattle.np_cli.specs.declared.write_fault.WriteFault.TheVariants as write
 use Rattle.np_words.specs.declared.words_fault.WordsFault.{WordsFault}
 use Rattle.np_words.specs.declared.words_fault.WordsFault.TheVariants as words
 

@@ -23,16 +23,16 @@ small_reading (Err refusal) = Err (Inputs refusal)
 abbrev pub lists_of : List (List ℕ) → Result EstateLists Fault
 lists_of texts = small_reading (estate_of texts)
 
--- Inputs are refused for the fault that they have. Memory may be refused at any time.
-abbrev pub Refuses : Failure → Result EstateLists Fault → Type 0
-Refuses (Refused fault) reads = reads ≡ Err fault
-Refuses NoMemory reads = Unit {0}
-Refuses Usage reads = ⊥
-Refuses (CannotRead name) reads = ⊥
-Refuses TooLarge reads = ⊥
-Refuses CannotWrite reads = ⊥
+-- A refusal is for the fault that there is. Memory may be refused at any time.
+abbrev pub Refuses : {X : Type 0} → Failure → Result X Fault → Type 0
+Refuses (Refused fault) found = found ≡ Err fault
+Refuses NoMemory found = Unit {0}
+Refuses Usage found = ⊥
+Refuses (CannotRead name) found = ⊥
+Refuses TooLarge found = ⊥
+Refuses CannotWrite found = ⊥
 
--- what was read is what there is to read
-abbrev pub Gives : Result EstateLists Failure → Result EstateLists Fault → Type 0
-Gives (Ok lists) reads = reads ≡ Ok lists
-Gives (Err failure) reads = Refuses failure reads
+-- what the code gives is what there is, or its very fault
+abbrev pub Gives : {X : Type 0} → Result X Failure → Result X Fault → Type 0
+Gives (Ok x) found = found ≡ Ok x
+Gives (Err failure) found = Refuses failure found

@@ -5,14 +5,22 @@ use Rattle.np_estate.specs.Refusals.{refusal_text}
 use Rattle.np_cli.specs.declared.failure.Failure.{Failure}
 use Rattle.np_cli.specs.declared.failure.Failure.TheVariants.{Usage, CannotRead, TooLarge, Refused, CannotWrite, NoMemory}
 use Rattle.np_cli.specs.declared.fault.Fault.{Fault}
-use Rattle.np_cli.specs.declared.fault.Fault.TheVariants.{Inputs, TooManyWorkloads}
+use Rattle.np_cli.specs.declared.fault.Fault.TheVariants.{Inputs, SameEnd, TooManyWorkloads, UnknownEnd}
 
 abbrev pub fault_text : Fault → List ℕ
 fault_text (Inputs refusal) = refusal_text refusal
 fault_text (TooManyWorkloads count) = codes "TooManyWorkloads " ++ decimal count
+fault_text (UnknownEnd name) = codes "UnknownEnd " ++ name
+fault_text (SameEnd name) = codes "SameEnd " ++ name
+
+-- how the program is called, a line for each command
+abbrev pub usage_text : List ℕ
+usage_text =
+    codes "usage: np list [--format text|csv|json] [--report 1|2] [--focus NAME] [--side either|from|to] [FILE]...\n"
+    ++ codes "       np evaluate --from END --to END --protocol P --port N [FILE]..."
 
 abbrev pub failure_text : Failure → List ℕ
-failure_text Usage = codes "usage: np list [FILE]..."
+failure_text Usage = usage_text
 failure_text (CannotRead name) = codes "error: cannot read " ++ name
 failure_text TooLarge = codes "error: TooLarge"
 failure_text (Refused fault) = codes "error: " ++ fault_text fault

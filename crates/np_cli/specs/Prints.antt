@@ -1,30 +1,40 @@
 -- What a job leaves of its report, once its inputs are read.
-use Rattle.std.specs.Prelude.{◌≡◌, ℕ, List, Option, Some, None, Result, Ok, Err}
+use Rattle.std.specs.Prelude.{◌≡◌, ℕ, List, Result, Ok, Err, ⊤}
 use Rattle.np_estate.specs.declared.lists.EstateLists.{EstateLists}
 use Rattle.np_estate.specs.declared.notes.Notes.{Notes}
 use Rattle.np_io.specs.Counts.{Rose}
 use Rattle.np_io.specs.Taken.{TookFront}
-use Rattle.np_cli.specs.Answers.{refusal, text_of, notes_of, fault_in, table_in, notes_in}
+use Rattle.np_cli.specs.Answers.{IsLawfulIn, notes_in, reply_in, text_in}
 use Rattle.np_cli.specs.Sinks.{Sunk, IsKept, TookWhole}
 use Rattle.np_cli.specs.declared.failure.Failure.{Failure}
 use Rattle.np_cli.specs.declared.failure.Failure.TheVariants.{Usage, CannotRead, TooLarge, Refused, CannotWrite, NoMemory}
 use Rattle.np_cli.specs.declared.fault.Fault.{Fault}
 use Rattle.np_words.specs.declared.job.Job.{Job}
 
--- what was written of a text, and why so much, and what was left out of the whole
-abbrev pub Wrote : Sunk → Option Fault → List ℕ → Notes → Result Notes Failure → Type 0
-Wrote out found text left_out (Ok notes) = (found ≡ None) × TookWhole out text × (notes ≡ left_out)
-Wrote out found text left_out (Err (Refused fault)) = (found ≡ Some fault) × IsKept out
-Wrote out found text left_out (Err CannotWrite) = (found ≡ None) × TookFront out.before out.after text × Rose out.faults_before out.faults_after
-Wrote out found text left_out (Err NoMemory) = TookFront out.before out.after text
-Wrote out found text left_out (Err Usage) = ⊥
-Wrote out found text left_out (Err TooLarge) = ⊥
-Wrote out found text left_out (Err (CannotRead name)) = ⊥
+-- there is a text, and the sink took all of it
+pub record WroteAll (out : Sunk) (reply : Result (List ℕ) Fault) : Type 0 where
+  pub text : List ℕ
+  pub is : reply ≡ Ok text
+  pub took : TookWhole out text
 
--- the table of what the inputs say
-abbrev pub Prints : Result EstateLists Fault → Sunk → Result Notes Failure → Type 0
-Prints said out outcome = Wrote out (fault_in said) (table_in said) (notes_in said) outcome
+-- there is a text, and the sink took a front of it, since a call on it failed
+pub record WroteFront (out : Sunk) (reply : Result (List ℕ) Fault) : Type 0 where
+  pub text : List ℕ
+  pub is : reply ≡ Ok text
+  pub took : TookFront out.before out.after text
+  pub rose : Rose out.faults_before out.faults_after
 
--- the report of a job on these inputs
-abbrev pub Answers : Job → List (List ℕ) → Sunk → Result Notes Failure → Type 0
-Answers job texts out outcome = Wrote out (refusal job texts) (text_of job texts) (notes_of job texts) outcome
+-- what was written of a reply, and why no more
+abbrev pub Wrote : Sunk → Result (List ℕ) Fault → Result ⊤ Failure → Type 0
+Wrote out reply (Ok done) = WroteAll out reply
+Wrote out reply (Err (Refused fault)) = (reply ≡ Err fault) × IsKept out
+Wrote out reply (Err CannotWrite) = WroteFront out reply
+Wrote out reply (Err NoMemory) = TookFront out.before out.after (text_in reply)
+Wrote out reply (Err Usage) = ⊥
+Wrote out reply (Err TooLarge) = ⊥
+Wrote out reply (Err (CannotRead name)) = ⊥
+
+-- the reply of a job on what its inputs are read as, and what was left out of it
+abbrev pub Answers : Job → Result EstateLists Fault → Sunk → Result Notes Failure → Type 0
+Answers job reads out (Ok notes) = WroteAll out (reply_in job reads) × (notes ≡ notes_in reads) × IsLawfulIn reads
+Answers job reads out (Err failure) = Wrote out (reply_in job reads) (Err failure)

@@ -3,16 +3,22 @@ use Rattle.std.specs.Prelude.{◌≡◌, ℕ, ◌+◌, ◌^◌, ◌<◌, ◌≤�
 use Rattle.np_io.specs.Counts.{Rose}
 use Rattle.np_cli.specs.Answers.{refusal, notes_of, output}
 use Rattle.np_cli.specs.Counts.{Counted}
+use Rattle.np_cli.specs.Headline.{SaysAll}
 use Rattle.np_cli.specs.Messages.{message}
 use Rattle.np_cli.specs.Runs.{Run, Tells, IsAccepted, Ends}
 use Rattle.np_cli.specs.Sinks.{Sunk, IsKept, TookWhole, Said}
-use Rattle.np_cli.specs.Sources.{is_too_large}
+use Rattle.np_cli.specs.Sources.{BeganFront, is_too_large}
 use Rattle.np_cli.specs.Words.{names_asked}
 use Rattle.np_cli.specs.declared.failure.Failure.TheVariants as failure
 use Rattle.np_cli.specs.declared.fault.Fault.{Fault}
+use Rattle.np_cli.specs.declared.sources.TheConstants.{SIZE_LIMIT}
 use Rattle.np_cli.specs.declared.status.Status.{Status}
 use Rattle.np_cli.specs.declared.status.Status.TheVariants as status
+use Rattle.np_words.specs.declared.focus_side.FocusSide.{FocusSide}
+use Rattle.np_words.specs.declared.format.Format.{Format}
 use Rattle.np_words.specs.declared.job.Job.{Job}
+use Rattle.np_words.specs.declared.job.Job.TheVariants.{List as ListJob}
+use Rattle.np_words.specs.declared.report.Report.{Report}
 
 -- a count did not rise, and does not stand at its end
 pub record IsStill (old new : ℕ) : Type 0 where
@@ -36,6 +42,11 @@ RefusesTooLarge run err answer = (job : Job) (texts : List (List ℕ)) → run.a
     → NoInputFailed run
     → ((answer ≡ status.Refused) × IsKept run.out × Said err (message (Err failure.TooLarge))) ⊎ (answer ≡ status.NoMemory)
 
+-- Where more bytes were handed out than inputs may have, there is no other answer, whatever the source tells.
+abbrev pub RefusesMore : Run → Sunk → Status → Type 0
+RefusesMore run err answer = run.source.handed_before + SIZE_LIMIT < run.source.handed_after
+    → ((answer ≡ status.Refused) × IsKept run.out × Said err (message (Err failure.TooLarge))) ⊎ (answer ≡ status.NoMemory)
+
 -- Inputs with a fault are refused for the one that stands first, and nothing is written to the sink of the report.
 abbrev pub RefusesFaults : Run → Sunk → Status → Type 0
 RefusesFaults run err answer = (job : Job) (texts : List (List ℕ)) (fault : Fault) → run.asked ≡ Some job → Tells run texts → is_too_large texts ≡ false → refusal job texts ≡ Some fault
@@ -53,15 +64,26 @@ BlamesDevice run answer = answer ≡ status.Device
 abbrev pub BlamesWords : Option Job → Status → Type 0
 BlamesWords asked answer = (answer ≡ status.Usage → asked ≡ None) × (asked ≡ None → (answer ≡ status.Usage) ⊎ (answer ≡ status.NoMemory))
 
+-- Where `list` is done on inputs that the source tells, its report says exactly what the model allows.
+abbrev pub SaysWhatPasses : Run → Status → Type 0
+SaysWhatPasses run answer = (format : Format) (report : Report) (focus : Option (List ℕ)) (side : FocusSide) (files texts : List (List ℕ))
+    → run.asked ≡ Some (ListJob format report focus side files) → Tells run texts → answer ≡ status.Done
+    → SaysAll run.out format report focus side texts
+
 -- All that is promised of a run that ended with this status, where so many rules were looked at before it and after it.
 pub record Promises (run : Run) (err : Sunk) (steps_before steps_after : ℕ) (answer : Status) : Type 0 where
   pub ends : Ends run err answer
+  -- what a report says of the bytes of the inputs
+  pub says : SaysWhatPasses run answer
   -- where the source tells its bytes and no call failed, the answer is determined, but for want of memory
   pub completes : Completes run err answer
   pub refuses_too_large : RefusesTooLarge run err answer
+  pub refuses_more : RefusesMore run err answer
   pub refuses_faults : RefusesFaults run err answer
   -- who is at fault
   pub words : BlamesWords run.asked answer
   pub device : BlamesDevice run answer
+  -- which inputs were begun: those of the job in their order, each once, up to the last one
+  pub names : BeganFront run.source (names_asked run.asked)
   -- how many rules were looked at: for a table at most four times as many for each pair of workloads, and six times for each workload, as speak of one of them in a direction
   pub counted : Counted run steps_before steps_after

@@ -1,17 +1,18 @@
 -- What one call of the top call may do, and why.
-use Rattle.std.specs.Prelude.{◌≡◌, ℕ, List, true, false, Option, Some, None, is_some, Contains, Result, Ok, Err}
+use Rattle.std.specs.Prelude.{◌≡◌, ℕ, List, false, Option, Some, None, is_some, true, Result, Ok, Err}
 use Rattle.np_estate.specs.declared.notes.Notes.{Notes}
-use Rattle.np_io.specs.Counts.{Rose, RosePast}
+use Rattle.np_io.specs.Counts.{Rose}
 use Rattle.np_io.specs.Taken.{TookFront}
-use Rattle.np_cli.specs.Answers.{refusal, notes_of, output}
+use Rattle.np_cli.specs.Answers.{IsLawfulIn, refusal, notes_of, output}
+use Rattle.np_cli.specs.Inputs.{lists_of}
 use Rattle.np_cli.specs.Messages.{message}
 use Rattle.np_cli.specs.Sinks.{Sunk, IsKept, TookWhole, Said}
-use Rattle.np_cli.specs.Sources.{Sourced, AreTold, is_too_large}
+use Rattle.np_cli.specs.Sources.{Sourced, AreTold, BeganFront, FailedAt, IsUntouched, OverLimit, ReadOnce, is_too_large}
 use Rattle.np_cli.specs.Statuses.{status_of}
-use Rattle.np_cli.specs.Words.{names_asked}
+use Rattle.np_cli.specs.Words.{names_asked, names_of}
 use Rattle.np_cli.specs.declared.failure.Failure.{Failure}
 use Rattle.np_cli.specs.declared.failure.Failure.TheVariants.{Usage, CannotRead, TooLarge, Refused, CannotWrite, NoMemory}
-use Rattle.np_cli.specs.declared.sources.TheConstants.{SIZE_LIMIT}
+use Rattle.np_cli.specs.declared.fault.Fault.{Fault}
 use Rattle.np_cli.specs.declared.status.Status.{Status}
 use Rattle.np_words.specs.declared.job.Job.{Job}
 
@@ -24,10 +25,6 @@ pub record Run : Type 0 where
 abbrev pub ran : Option Job → Sourced → Sunk → Run
 ran asked source out = record { asked = asked; source = source; out = out }
 
--- no call for an input failed
-abbrev pub IsUnfailed : Run → Type 0
-IsUnfailed run = run.source.faults_after ≡ run.source.faults_before
-
 -- the inputs that the words ask for tell these bytes
 abbrev pub Tells : Run → List (List ℕ) → Type 0
 Tells run texts = AreTold run.source.holds run.source.left (names_asked run.asked) texts
@@ -37,21 +34,72 @@ pub record IsAccepted (job : Job) (texts : List (List ℕ)) : Type 0 where
   pub fits : is_too_large texts ≡ false
   pub no_fault : refusal job texts ≡ None
 
--- Why a run may end so, what the sink of the report took, and whose counts of faults stand still.
+-- ---- how a run ends, and why
+
+-- On these bytes, the sink of the report took the whole text, and this was left out.
+pub record IsReported (run : Run) (job : Job) (notes : Notes) (texts : List (List ℕ)) : Type 0 where
+  pub accepted : IsAccepted job texts
+  pub took : TookWhole run.out (output run.asked texts)
+  pub left_out : notes ≡ notes_of job texts
+  pub lawful : IsLawfulIn (lists_of texts)
+
+-- All inputs were read, and the report was written.
+pub record Reported (run : Run) (notes : Notes) : Type 0 where
+  pub job : Job
+  pub asked : run.asked ≡ Some job
+  pub read : ReadOnce run.source (names_of job)
+  pub unfailed : run.out.faults_after ≡ run.out.faults_before
+  pub told : (texts : List (List ℕ)) → Tells run texts → IsReported run job notes texts
+
+-- The words ask for nothing, and nothing was touched.
+pub record AskedNothing (run : Run) : Type 0 where
+  pub asked : run.asked ≡ None
+  pub source : IsUntouched run.source
+  pub kept : IsKept run.out
+
+-- The inputs were not read to their ends, since they are too large.
+pub record ReadTooMuch (run : Run) : Type 0 where
+  pub asked : is_some run.asked ≡ true
+  pub over : OverLimit run.source (names_asked run.asked)
+  pub kept : IsKept run.out
+
+-- All inputs were read, and have this fault first.
+pub record RefusedFor (run : Run) (fault : Fault) : Type 0 where
+  pub job : Job
+  pub asked : run.asked ≡ Some job
+  pub read : ReadOnce run.source (names_of job)
+  pub kept : IsKept run.out
+  pub fits : (texts : List (List ℕ)) → Tells run texts → is_too_large texts ≡ false
+  pub found : (texts : List (List ℕ)) → Tells run texts → refusal job texts ≡ Some fault
+
+-- A call for the input of this name failed.
+pub record StoppedReading (run : Run) (name : List ℕ) : Type 0 where
+  pub at : FailedAt run.source (names_asked run.asked) name
+  pub kept : IsKept run.out
+
+-- All inputs were read and accepted, and a call on the sink of the report failed.
+pub record StoppedWriting (run : Run) : Type 0 where
+  pub job : Job
+  pub asked : run.asked ≡ Some job
+  pub read : ReadOnce run.source (names_of job)
+  pub rose : Rose run.out.faults_before run.out.faults_after
+  pub accepted : (texts : List (List ℕ)) → Tells run texts → IsAccepted job texts
+  pub front : (texts : List (List ℕ)) → Tells run texts → TookFront run.out.before run.out.after (output run.asked texts)
+
+-- Memory was refused, at any time.
+pub record LackedMemory (run : Run) : Type 0 where
+  pub began : BeganFront run.source (names_asked run.asked)
+  pub front : (texts : List (List ℕ)) → Tells run texts → TookFront run.out.before run.out.after (output run.asked texts)
+
+-- Why a run may end so.
 abbrev pub Cause : Run → Result Notes Failure → Type 0
-Cause run (Ok notes) = (job : Job) × (run.asked ≡ Some job) × IsUnfailed run × (run.out.faults_after ≡ run.out.faults_before)
-    × ((texts : List (List ℕ)) → Tells run texts → IsAccepted job texts × TookWhole run.out (output run.asked texts) × (notes ≡ notes_of job texts))
-Cause run (Err Usage) = (run.asked ≡ None) × IsUnfailed run × IsKept run.out
-Cause run (Err TooLarge) = RosePast SIZE_LIMIT run.source.handed_before run.source.handed_after × IsUnfailed run × IsKept run.out
-    × (is_some run.asked ≡ true)
-    × ((texts : List (List ℕ)) → Tells run texts → is_too_large texts ≡ true)
-Cause run (Err (Refused fault)) = (job : Job) × (run.asked ≡ Some job) × IsUnfailed run × IsKept run.out
-    × ((texts : List (List ℕ)) → Tells run texts → (is_too_large texts ≡ false) × (refusal job texts ≡ Some fault))
-Cause run (Err (CannotRead name)) = Contains (names_asked run.asked) name
-    × Rose (run.source.faults_before name) (run.source.faults_after name) × IsKept run.out
-Cause run (Err CannotWrite) = (job : Job) × (run.asked ≡ Some job) × IsUnfailed run × Rose run.out.faults_before run.out.faults_after
-    × ((texts : List (List ℕ)) → Tells run texts → IsAccepted job texts × TookFront run.out.before run.out.after (output run.asked texts))
-Cause run (Err NoMemory) = (texts : List (List ℕ)) → Tells run texts → TookFront run.out.before run.out.after (output run.asked texts)
+Cause run (Ok notes) = Reported run notes
+Cause run (Err Usage) = AskedNothing run
+Cause run (Err TooLarge) = ReadTooMuch run
+Cause run (Err (Refused fault)) = RefusedFor run fault
+Cause run (Err (CannotRead name)) = StoppedReading run name
+Cause run (Err CannotWrite) = StoppedWriting run
+Cause run (Err NoMemory) = LackedMemory run
 
 -- Some outcome has its cause, was said on the error sink, and gives the status.
 pub record Ends (run : Run) (err : Sunk) (status : Status) : Type 0 where

@@ -1,10 +1,12 @@
--- What the inputs of a job tell, and why they are not read.
-use Rattle.std.specs.Prelude.{◌≡◌, ◌<◌, ℕ, List, [], ◌∷◌, Bool, true, Option, length, sum_by, nat_lt, Contains}
+-- What the inputs of a job tell, how they are read, and why they are not.
+use Rattle.std.specs.Prelude.{◌≡◌, ◌<◌, ◌≤◌, ◌+◌, ◌-◌, ◌^◌, min, ℕ, List, [], ◌∷◌, ◌++◌, Bool, true, Option, length, sum_by, nat_lt}
 use Rattle.np_io.specs.Counts.{Rose, RosePast}
-use Rattle.np_io.specs.Source.{IsTold}
+use Rattle.np_io.specs.Source.{BeganNext, IsTold}
 use Rattle.np_cli.specs.declared.sources.TheConstants.{SIZE_LIMIT}
 use Rattle.np_cli.specs.declared.sources.SourceFault.{SourceFault}
 use Rattle.np_cli.specs.declared.sources.SourceFault.TheVariants.{CannotRead, TooLarge, NoMemory}
+
+-- ---- what is told
 
 -- how many bytes the inputs have together
 abbrev pub total_size : List (List ℕ) → ℕ
@@ -20,7 +22,9 @@ AreTold holds left (name ∷ names) (text ∷ texts) = IsTold holds left name te
 AreTold holds left [] (text ∷ texts) = ⊥
 AreTold holds left (name ∷ names) [] = ⊥
 
--- what a source tells, and its counts before a call and after it
+-- ---- what a call did to a source
+
+-- what a source tells, and its counts and the names begun before a call and after it
 pub record Sourced : Type 0 where
   pub holds : List ℕ → Option (List ℕ)
   pub left : Option (List ℕ)
@@ -28,29 +32,82 @@ pub record Sourced : Type 0 where
   pub faults_after : List ℕ → ℕ
   pub handed_before : ℕ
   pub handed_after : ℕ
+  pub began_before : Option (List (List ℕ))
+  pub began_after : Option (List (List ℕ))
 
 -- the same, by what contracts see of a source
-abbrev pub sourced : {I : Type 0} → (I → List ℕ → Option (List ℕ)) → (I → Option (List ℕ)) → (I → List ℕ → ℕ) → (I → ℕ) → I → I → Sourced
-sourced holds left faults handed old new = record {
+abbrev pub sourced : {I : Type 0} → (I → List ℕ → Option (List ℕ)) → (I → Option (List ℕ)) → (I → List ℕ → ℕ) → (I → ℕ) → (I → Option (List (List ℕ))) → I → I → Sourced
+sourced holds left faults handed began old new = record {
   holds = holds old;
   left = left old;
   faults_before = faults old;
   faults_after = faults new;
   handed_before = handed old;
   handed_after = handed new;
+  began_before = began old;
+  began_after = began new;
 }
+
+-- these names were begun one after another, and no other, where it is told which were
+abbrev pub Began : Sourced → List (List ℕ) → Type 0
+Began source names = BeganNext source.began_before source.began_after names
+
+-- names of a list were begun in their order, each once, from the first on: no other name, and none behind the last one
+pub record BeganFront (source : Sourced) (names : List (List ℕ)) : Type 0 where
+  pub front : List (List ℕ)
+  pub rest : List (List ℕ)
+  pub order : names ≡ front ++ rest
+  pub began : Began source front
+
+-- no call was made
+pub record IsUntouched (source : Sourced) : Type 0 where
+  pub faults : source.faults_after ≡ source.faults_before
+  pub handed : source.handed_after ≡ source.handed_before
+  pub began : source.began_after ≡ source.began_before
+
+-- so many bytes were handed out: the count rose by them, at most to its end
+pub record HandedOut (old new count : ℕ) : Type 0 where
+  pub exact : min new (2 ^ 64 - 1) ≡ min (old + count) (2 ^ 64 - 1)
+  pub most : new ≤ old + count
+
+-- no more bytes were handed out than inputs may have
+abbrev pub InRoom : Sourced → Type 0
+InRoom source = source.handed_after ≤ source.handed_before + SIZE_LIMIT
+
+-- The inputs of these names were read, each once and in its turn: no call failed, no other name was begun, and the bytes
+-- that were handed out are those of the texts.
+pub record ReadOnce (source : Sourced) (names : List (List ℕ)) : Type 0 where
+  pub unfailed : source.faults_after ≡ source.faults_before
+  pub began : Began source names
+  pub in_room : InRoom source
+  pub handed : (texts : List (List ℕ)) → AreTold source.holds source.left names texts → HandedOut source.handed_before source.handed_after (total_size texts)
+
+-- The reading of the inputs of these names ended at this one, since a call for it failed. It was begun last.
+pub record FailedAt (source : Sourced) (names : List (List ℕ)) (name : List ℕ) : Type 0 where
+  pub earlier : List (List ℕ)
+  pub later : List (List ℕ)
+  pub order : names ≡ earlier ++ name ∷ later
+  pub began : Began source (earlier ++ name ∷ [])
+  pub in_room : InRoom source
+  pub rose : Rose (source.faults_before name) (source.faults_after name)
+
+-- More bytes were handed out than inputs may have, and no call failed.
+pub record OverLimit (source : Sourced) (names : List (List ℕ)) : Type 0 where
+  pub past : RosePast SIZE_LIMIT source.handed_before source.handed_after
+  pub unfailed : source.faults_after ≡ source.faults_before
+  pub began : BeganFront source names
+  pub large : (texts : List (List ℕ)) → AreTold source.holds source.left names texts → is_too_large texts ≡ true
 
 -- why the inputs of these names were not read to their ends
 abbrev pub Unread : Sourced → List (List ℕ) → SourceFault → Type 0
-Unread source names (CannotRead name) = Contains names name × Rose (source.faults_before name) (source.faults_after name)
-Unread source names TooLarge = RosePast SIZE_LIMIT source.handed_before source.handed_after
-    × (source.faults_after ≡ source.faults_before)
-    × ((texts : List (List ℕ)) → AreTold source.holds source.left names texts → is_too_large texts ≡ true)
-Unread source names NoMemory = Unit {0}
+Unread source names (CannotRead name) = FailedAt source names name
+Unread source names TooLarge = OverLimit source names
+Unread source names NoMemory = BeganFront source names
 
 -- why the next input was not read to its end, with room for so many bytes
 abbrev pub NextUnread : Sourced → List ℕ → ℕ → SourceFault → Type 0
 NextUnread source asked room (CannotRead name) = (name ≡ asked) × Rose (source.faults_before asked) (source.faults_after asked)
+    × (source.handed_after ≤ source.handed_before + room)
 NextUnread source asked room TooLarge = RosePast room source.handed_before source.handed_after
     × (source.faults_after ≡ source.faults_before)
     × ((bytes : List ℕ) → IsTold source.holds source.left asked bytes → room < length bytes)

@@ -1,5 +1,5 @@
 -- The status of each outcome.
-use Rattle.std.specs.Prelude.{Result, Ok, Err}
+use Rattle.std.specs.Prelude.{ℕ, Result, Ok, Err}
 use Rattle.np_estate.specs.declared.notes.Notes.{Notes}
 use Rattle.np_cli.specs.declared.failure.Failure.{Failure}
 use Rattle.np_cli.specs.declared.failure.Failure.TheVariants.{Usage, CannotRead, TooLarge, Refused, CannotWrite, NoMemory}
@@ -17,3 +17,11 @@ failure_status NoMemory = status.NoMemory
 abbrev pub status_of : Result Notes Failure → Status
 status_of (Ok notes) = status.Done
 status_of (Err failure) = failure_status failure
+
+-- the exit code of a status
+abbrev pub code_of : Status → ℕ
+code_of status.Done = 0
+code_of status.Refused = 1
+code_of status.Usage = 2
+code_of status.Device = 3
+code_of status.NoMemory = 4

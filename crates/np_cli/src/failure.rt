@@ -4,12 +4,20 @@ use crate::fault::Fault;
 use crate::sources::SourceFault;
 use crate::status::Status;
 use crate::write_fault::WriteFault;
-use np_base::Text;
+use np_base::{NoMemory, Text};
 use np_estate::Refusal;
 use np_fold::FoldFault;
+use np_io::SinkFailed;
 use np_words::WordsFault;
+use std::alloc::AllocError;
 use std::error::Error;
 use std::fmt;
+
+// How the program is called, a line for each command.
+static USAGE: &str = concat!(
+    "usage: np list [--format text|csv|json] [--report 1|2] [--focus NAME] [--side either|from|to] [FILE]...\n",
+    "       np evaluate --from END --to END --protocol P --port N [FILE]...",
+);
 
 /// How a run fails. It is written as the line that tells of it, as `error: cannot write`.
 #[derive(Debug, Drop)]
@@ -20,7 +28,7 @@ pub enum Failure {
     CannotRead(Text),
     /// The inputs have more bytes than are read.
     TooLarge,
-    /// The inputs have this fault first.
+    /// The inputs, or the words on what they say, have this fault first.
     Refused(Fault),
     /// The report could not be written.
     CannotWrite,
@@ -53,7 +61,7 @@ impl fmt::Display for Failure {
 
     fn fmt<W: fmt::Write>(&self, f: &mut fmt::Formatter<W>) -> fmt::Result {
         match self {
-            Failure::Usage => write!(f, "usage: np list [FILE]..."),
+            Failure::Usage => f.write_str(USAGE),
             Failure::CannotRead(name) => write!(f, "error: cannot read {name}"),
             Failure::TooLarge => write!(f, "error: TooLarge"),
             Failure::Refused(fault) => write!(f, "error: {fault}"),
@@ -121,6 +129,39 @@ impl From<FoldFault> for Failure {
             }
             FoldFault::NoMemory => Failure::NoMemory,
         }
+    }
+}
+
+impl From<SinkFailed> for Failure {
+    ghost use Rattle.std.specs.Prelude.{◌≡◌};
+    ghost use Rattle.np_cli.specs.declared.failure.Failure.TheVariants.{CannotWrite};
+
+    ghost from_gives = { λ _ failure. failure ≡ CannotWrite };
+
+    fn from(_error: SinkFailed) -> Failure {
+        Failure::CannotWrite
+    }
+}
+
+impl From<NoMemory> for Failure {
+    ghost use Rattle.std.specs.Prelude.{◌≡◌};
+    ghost use Rattle.np_cli.specs.declared.failure.Failure.TheVariants.{NoMemory};
+
+    ghost from_gives = { λ _ failure. failure ≡ NoMemory };
+
+    fn from(_error: NoMemory) -> Failure {
+        Failure::NoMemory
+    }
+}
+
+impl From<AllocError> for Failure {
+    ghost use Rattle.std.specs.Prelude.{◌≡◌};
+    ghost use Rattle.np_cli.specs.declared.failure.Failure.TheVariants.{NoMemory};
+
+    ghost from_gives = { λ _ failure. failure ≡ NoMemory };
+
+    fn from(_error: AllocError) -> Failure {
+        Failure::NoMemory
     }
 }
 

@@ -1,15 +1,20 @@
-//! The faults of inputs.
+//! The faults of inputs, and of words on what the inputs say.
 
+use np_base::Text;
 use np_estate::Refusal;
 use std::fmt;
 
-/// The first fault of the inputs.
+/// The first fault of the inputs, or of words on what the inputs say.
 #[derive(Debug, Drop)]
 pub enum Fault {
     /// They are read to no estate.
     Inputs(Refusal),
     /// Their estate has this many workloads, which is more than 2,000.
     TooManyWorkloads { count: u64 },
+    /// The words name an end that is not there: no workload has the name, or for `evaluate` no listed pod.
+    UnknownEnd { name: Text },
+    /// Both ends of a packet are one pod, of this name.
+    SameEnd { name: Text },
 }
 
 impl fmt::Display for Fault {
@@ -22,6 +27,8 @@ impl fmt::Display for Fault {
         match self {
             Fault::Inputs(refusal) => write!(f, "{refusal}"),
             Fault::TooManyWorkloads { count } => write!(f, "TooManyWorkloads {count}"),
+            Fault::UnknownEnd { name } => write!(f, "UnknownEnd {name}"),
+            Fault::SameEnd { name } => write!(f, "SameEnd {name}"),
         }
     }
 }

@@ -1,12 +1,12 @@
 //! The program without its outside.
 #![tactic(auto)]
 
+mod commands;
 mod failure;
 mod fault;
 mod folded;
 mod notes;
 mod outcome;
-mod rows;
 mod run;
 mod sources;
 mod status;
@@ -14,7 +14,7 @@ mod write_fault;
 
 pub use failure::Failure;
 pub use fault::Fault;
-pub use np_words::{Job, WordsFault, read_words};
+pub use np_words::{EndWord, Format, Job, WordsFault, read_words};
 pub use outcome::Outcome;
 pub use run::np_main;
 pub use status::Status;

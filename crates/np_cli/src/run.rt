@@ -1,9 +1,9 @@
 //! The top call: from the words of a command line and the bytes of its inputs to a report and a status.
-ghost use Rattle.std.specs.Prelude.{◌≡◌, ◌≤◌, ◌+◌, ◌⊎◌, Err, Some, map};
-ghost use Rattle.np_cli.specs.Counts.{Counted, most_steps, steps_in};
+ghost use Rattle.std.specs.Prelude.{◌≡◌, ◌≤◌, ◌⊎◌, Err, Some, map};
+ghost use Rattle.np_cli.specs.Counts.{Counted, RoseAtMost, steps_in};
 ghost use Rattle.np_cli.specs.Inputs.{lists_of};
 ghost use Rattle.np_cli.specs.Messages as messages;
-ghost use Rattle.np_cli.specs.Prints.{Answers, Prints};
+ghost use Rattle.np_cli.specs.Prints.{Answers};
 ghost use Rattle.np_cli.specs.Promises.{Promises};
 ghost use Rattle.np_cli.specs.Runs.{Cause, ran};
 ghost use Rattle.np_cli.specs.Sinks.{Said, sunk};
@@ -11,10 +11,10 @@ ghost use Rattle.np_cli.specs.Sources.{sourced};
 ghost use Rattle.np_cli.specs.Words as spec;
 ghost use Rattle.np_words.specs.CommandLines.{asked_by};
 
+use crate::commands::reply;
 use crate::failure::Failure;
 use crate::folded::read_folded;
 use crate::outcome::{Outcome, message, status_of};
-use crate::rows::write_table;
 use crate::sources::read_all;
 use crate::status::Status;
 use np_base::{NoMemory, Text};
@@ -41,7 +41,7 @@ pub fn np_main<I: Inputs, O: Sink, E: Sink, L: Ledger>(
     steps: &mut Steps<L>,
 ) -> Status
     ensures promises { let run = ran (asked_by words.now)
-        (sourced I.holds I.left I.faults I.handed inputs.old inputs.new)
+        (sourced I.holds I.left I.faults I.handed I.began inputs.old inputs.new)
         (sunk O.taken O.faults out.old out.new) in
         Promises run (sunk E.taken E.faults err.old err.new) steps.old steps.new result }
 
@@ -62,7 +62,7 @@ fn run<I: Inputs, O: Sink, L: Ledger>(
     steps: &mut Steps<L>,
 ) -> Result<Notes, Failure>
     ensures ran { let run = ran (asked_by words.now)
-        (sourced I.holds I.left I.faults I.handed inputs.old inputs.new)
+        (sourced I.holds I.left I.faults I.handed I.began inputs.old inputs.new)
         (sunk O.taken O.faults out.old out.new) in
         Cause run result × Counted run steps.old steps.new }
     ensures usage { result ≡ Err Failure.Usage → (inputs.new ≡ inputs.old) × (out.new ≡ out.old) }
@@ -80,7 +80,7 @@ fn run_job<I: Inputs, O: Sink, L: Ledger>(
     steps: &mut Steps<L>,
 ) -> Result<Notes, Failure>
     ensures { let run = ran (Some job.now)
-        (sourced I.holds I.left I.faults I.handed inputs.old inputs.new)
+        (sourced I.holds I.left I.faults I.handed I.began inputs.old inputs.new)
         (sunk O.taken O.faults out.old out.new) in
         Cause run result × Counted run steps.old steps.new }
 {
@@ -88,17 +88,16 @@ fn run_job<I: Inputs, O: Sink, L: Ledger>(
     answer(alloc, job, &texts, out, steps)
 }
 
-// The names of the inputs that a job reads, in order.
+// The names of the inputs of a job.
 fn names_of(job: &Job) -> &[Text]
     ensures { result.now ≡ spec.names_of job.now }
 {
     match job {
-        Job::List { files } => files.items(),
+        Job::List { files, .. } | Job::Evaluate { files, .. } => files.items(),
     }
 }
 
 // Writes the report of a job on these inputs.
-#[tactic(auto, unfolding(crate::specs::Answers::refusal, crate::specs::Answers::text_of, crate::specs::Answers::notes_of, crate::specs::Counts::most_steps))]
 fn answer<O: Sink, L: Ledger>(
     alloc: Global,
     job: &Job,
@@ -106,32 +105,14 @@ fn answer<O: Sink, L: Ledger>(
     out: &mut O,
     steps: &mut Steps<L>,
 ) -> Result<Notes, Failure>
-    ensures answers { Answers job.now (map (λ text. text.items) texts.now)
+    ensures answers { Answers job.now (lists_of (map (λ text. text.items) texts.now))
         (sunk O.taken O.faults out.old out.new)
         result }
     ensures least { steps.old ≤ steps.new }
-    ensures most { steps.new ≤ steps.old + most_steps job.now (map (λ text. text.items) texts.now) }
-{
-    match job {
-        Job::List { .. } => list(alloc, texts, out, steps),
-    }
-}
-
-// Writes the table of what the inputs say.
-fn list<O: Sink, L: Ledger>(
-    alloc: Global,
-    texts: &[Vec<u8>],
-    out: &mut O,
-    steps: &mut Steps<L>,
-) -> Result<Notes, Failure>
-    ensures prints { Prints (lists_of (map (λ text. text.items) texts.now))
-        (sunk O.taken O.faults out.old out.new)
-        result }
-    ensures least { steps.old ≤ steps.new }
-    ensures most { steps.new ≤ steps.old + steps_in (lists_of (map (λ text. text.items) texts.now)) }
+    ensures most { RoseAtMost (steps_in job.now (lists_of (map (λ text. text.items) texts.now))) steps.old steps.new }
 {
     let folded = read_folded(alloc, texts)?;
-    write_table(alloc, out, &folded, steps)?;
+    reply(alloc, job, &folded, out, steps)?;
     Ok(folded.estate().notes())
 }
 

@@ -1,8 +1,8 @@
 //! The bytes of all inputs of a job.
-ghost use Rattle.std.specs.Prelude.{◌≡◌, ◌≤◌, ◌<◌, ℕ, List, length, map, is_some, IfOk, IfErr, OnOk, IsErrOf};
+ghost use Rattle.std.specs.Prelude.{◌≡◌, ◌≤◌, ◌<◌, ℕ, List, [], ◌∷◌, length, map, is_some, IfOk, IfErr, OnOk, IsErrOf};
 ghost use Rattle.np_io.specs.Counts.{Rose, RosePast, handed_after};
-ghost use Rattle.np_io.specs.Source.{IsTold};
-ghost use Rattle.np_cli.specs.Sources.{AreTold, Unread, NextUnread, NamesInput, sourced, total_size};
+ghost use Rattle.np_io.specs.Source.{BeganNext, IsTold};
+ghost use Rattle.np_cli.specs.Sources.{AreTold, ReadOnce, Unread, NextUnread, NamesInput, sourced, total_size};
 
 use np_base::{NoMemory, Text};
 use np_io::{Inputs, WholeFault, read_whole};
@@ -32,8 +32,9 @@ impl<T: Drop> From<AllocFailed<T>> for SourceFault {
     }
 }
 
-/// The bytes of the inputs of these names, in order, of at most 33,554,432 bytes together. `CannotRead` comes only
-/// where the count of faults of its name rose, and `TooLarge` only where more bytes were handed out.
+/// The bytes of the inputs of these names, in order, of at most 33,554,432 bytes together. Each is begun and read once.
+/// `CannotRead` names the first for which a call failed, and no name behind it is begun; `TooLarge` comes only where more
+/// bytes were handed out.
 pub fn read_all<I: Inputs>(
     alloc: Global,
     inputs: &mut I,
@@ -42,8 +43,8 @@ pub fn read_all<I: Inputs>(
     ensures told { IfOk result (λ made. (texts : List (List ℕ)) →
         AreTold (I.holds inputs.old) (I.left inputs.old) names.now texts → map (λ text. text.items) made.items ≡ texts) }
     ensures fits { IfOk result (λ made. total_size (map (λ text. text.items) made.items) ≤ SIZE_LIMIT) }
-    ensures ok_faults { OnOk result (I.faults inputs.new ≡ I.faults inputs.old) }
-    ensures err { IfErr result (Unread (sourced I.holds I.left I.faults I.handed inputs.old inputs.new) names.now) }
+    ensures once { OnOk result (ReadOnce (sourced I.holds I.left I.faults I.handed I.began inputs.old inputs.new) names.now) }
+    ensures err { IfErr result (Unread (sourced I.holds I.left I.faults I.handed I.began inputs.old inputs.new) names.now) }
 {
     let mut texts = Vec::new(alloc);
     let mut room = SIZE_LIMIT;
@@ -68,9 +69,10 @@ fn read_next<I: Inputs>(
     ensures handed { IfOk result (λ made.
         I.handed inputs.new ≡ handed_after (I.handed inputs.old) (length made.items)) }
     ensures ok_faults { OnOk result (I.faults inputs.new ≡ I.faults inputs.old) }
+    ensures began { BeganNext (I.began inputs.old) (I.began inputs.new) (name.now ∷ []) }
     ensures names { I.holds inputs.new ≡ I.holds inputs.old }
     ensures left_told { is_some (I.left inputs.new) ≡ is_some (I.left inputs.old) }
-    ensures err { IfErr result (NextUnread (sourced I.holds I.left I.faults I.handed inputs.old inputs.new) name.now room) }
+    ensures err { IfErr result (NextUnread (sourced I.holds I.left I.faults I.handed I.began inputs.old inputs.new) name.now room) }
 {
     match read_whole(alloc, inputs, name.as_str(), room) {
         Ok(text) => Ok(text),

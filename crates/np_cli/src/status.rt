@@ -1,6 +1,8 @@
 //! The status that the program ends with.
+ghost use Rattle.std.specs.Prelude.{◌≡◌};
+ghost use Rattle.np_cli.specs.Statuses.{code_of};
 
-/// The status of the program: its exit code is the number beside each.
+/// The status of the program. Its exit code, by [`Status::code`], is the number beside each.
 #[derive(Clone, Copy, Debug, PartialEq, Eq)]
 pub enum Status {
     /// 0: the report was written whole.
@@ -13,4 +15,19 @@ pub enum Status {
     Device,
     /// 4: the system refused memory.
     NoMemory,
+}
+
+impl Status {
+    /// Its exit code.
+    pub fn code(self) -> u8
+        ensures { result ≡ code_of self }
+    {
+        match self {
+            Status::Done => 0,
+            Status::Refused => 1,
+            Status::Usage => 2,
+            Status::Device => 3,
+            Status::NoMemory => 4,
+        }
+    }
 }

@@ -2,6 +2,7 @@
 
 use np_base::NoMemory;
 use np_io::SinkFailed;
+use std::alloc::AllocFailed;
 
 /// Why a report is not written whole.
 #[derive(Clone, Copy, Debug, PartialEq, Eq)]
@@ -30,6 +31,17 @@ impl From<NoMemory> for WriteFault {
     ghost from_gives = { λ _ fault. fault ≡ NoMemory };
 
     fn from(_error: NoMemory) -> WriteFault {
+        WriteFault::NoMemory
+    }
+}
+
+impl<T: Drop> From<AllocFailed<T>> for WriteFault {
+    ghost use Rattle.std.specs.Prelude.{◌≡◌};
+    ghost use Rattle.np_cli.specs.declared.write_fault.WriteFault.TheVariants.{NoMemory};
+
+    ghost from_gives = { λ _ fault. fault ≡ NoMemory };
+
+    fn from(_error: AllocFailed<T>) -> WriteFault {
         WriteFault::NoMemory
     }
 }

@@ -4,7 +4,7 @@ use Rattle.std.specs.Prelude.{fold, option_to_list}
 use Rattle.std.specs.List.{cons_option, filter_map}
 use Rattle.std.specs.Option.{option_and_then}
 use Rattle.np_estate.specs.Ends.{end_of, end_of_object, pods_from, setting_at, settings_from, settings_of}
-use Rattle.np_estate.specs.Gathering.{Seen, in_order, nothing, or_first, with_item, with_items, with_object, with_pairs, with_pod, with_policy}
+use Rattle.np_estate.specs.steps.Gathering.{Seen, in_order, nothing, or_first, with_item, with_items, with_object, with_pairs, with_pod, with_policy}
 use Rattle.np_estate.specs.LeftOut.{count_left_out}
 use Rattle.np_estate.specs.Listed.{admin_policy, base_policy, first_of, ingress, ingresses_from, net_policy, placed, service, with_admin, with_net}
 use Rattle.np_estate.specs.Reading.{lists_of, notes_of}

@@ -1,7 +1,6 @@
 pub mod EachOnce
 pub mod Ends
 pub mod Families
-pub mod Gathering
 pub mod Lawful
 pub mod LeftOut
 pub mod Listed
@@ -11,3 +10,4 @@ pub mod Reading
 pub mod Readings
 pub mod Refusals
 pub mod TopOwners
+pub mod steps

@@ -2,7 +2,7 @@
 ghost use Rattle.std.specs.Prelude.{◌≡◌, IfOk, OnOk};
 ghost use Rattle.std.specs.Option.{option_and_then, option_map};
 ghost use Rattle.np_estate.specs.Ends as ends;
-ghost use Rattle.np_estate.specs.Gathering as spec;
+ghost use Rattle.np_estate.specs.steps.Gathering as spec;
 ghost use Rattle.np_estate.specs.Listed as listed;
 ghost use Rattle.np_objects.specs.declared.object.Object.TheVariants as object;
 

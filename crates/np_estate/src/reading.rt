@@ -1,6 +1,6 @@
 //! How an estate is read from the bytes of its inputs.
 ghost use Rattle.std.specs.Prelude.{◌≡◌, ◌≤◌, length, map, IfOk};
-ghost use Rattle.np_estate.specs.Gathering as gathering;
+ghost use Rattle.np_estate.specs.steps.Gathering as gathering;
 ghost use Rattle.np_estate.specs.Lawful.{IsLawful};
 ghost use Rattle.np_estate.specs.Reading as spec;
 ghost use Rattle.np_estate.specs.Readings.{Gives};

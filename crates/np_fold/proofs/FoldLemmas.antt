@@ -10,7 +10,7 @@ use Rattle.np_classes.specs.Classes.{class_of, firsts, keys_tie, places}
 use Rattle.np_estate.specs.declared.lists.EstateLists.{EstateLists}
 use Rattle.np_estate.specs.declared.pod.Pod.{Pod}
 use Rattle.np_fold.specs.Blocks.{cidrs_of_estate}
-use Rattle.np_fold.specs.Folded.{classes_of_pods, first_kinds, kind_at, kind_traits, kinds_of_workloads, nobody, number_among}
+use Rattle.np_fold.specs.steps.Folded.{classes_of_pods, first_kinds, kind_at, kind_traits, kinds_of_workloads, nobody, number_among}
 use Rattle.np_fold.specs.Keys.{keys_of_estate}
 use Rattle.np_fold.specs.Order.{compare_traits}
 use Rattle.np_fold.specs.Traits.{traits_of}

@@ -11,7 +11,7 @@ use Rattle.std.specs.Ordering.{nat_cmp}
 use Rattle.std.specs.declared.alloc.Global.{Global}
 use Rattle.np_classes.specs.Classes.{firsts, is_first, numbered, places}
 use Rattle.np_estate.specs.declared.lists.EstateLists.{EstateLists}
-use Rattle.np_fold.specs.Folded.{classes_of_pods, first_kinds, kinds_of_workloads, number_among, workload_of_pair}
+use Rattle.np_fold.specs.steps.Folded.{classes_of_pods, first_kinds, kinds_of_workloads, number_among, workload_of_pair}
 use Rattle.np_fold.specs.Keys.{keys_of_estate, with_keys}
 use Rattle.np_fold.specs.Workloads.{Folding, Workload, folding_of, kinds_alike, named_first_pods, number_of, workload, workload_count, workload_of_entry, workloads_of}
 use Rattle.np_fold.proofs.FoldLemmas.{numbers-are}

@@ -1,8 +1,8 @@
 pub mod Alike
 pub mod Blocks
 pub mod Faults
-pub mod Folded
 pub mod Keys
 pub mod Order
 pub mod Traits
 pub mod Workloads
+pub mod steps

@@ -2,7 +2,7 @@
 ghost use Rattle.std.specs.Prelude.{◌≡◌, ◌<◌, ◌^◌, All, IfOk, List, Some, ℕ, length, map};
 ghost use Rattle.np_classes.specs.Classes.{class_of, firsts, places};
 ghost use Rattle.np_fold.specs.Blocks.{cidrs_of_estate};
-ghost use Rattle.np_fold.specs.Folded as folded;
+ghost use Rattle.np_fold.specs.steps.Folded as folded;
 ghost use Rattle.np_fold.specs.Keys.{keys_of_estate};
 ghost use Rattle.np_fold.specs.Workloads as spec;
 ghost use Rattle.np_labels.specs.Selectors.{is_listed};

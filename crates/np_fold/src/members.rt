@@ -5,7 +5,7 @@ ghost use Rattle.std.specs.List.{zip};
 ghost use Rattle.std.specs.List.Sorted.{IsStrictlySortedBy};
 ghost use Rattle.std.specs.Ordering.{nat_cmp};
 ghost use Rattle.np_classes.specs.Classes.{numbered, places};
-ghost use Rattle.np_fold.specs.Folded as folded;
+ghost use Rattle.np_fold.specs.steps.Folded as folded;
 ghost use Rattle.np_fold.specs.Workloads as spec;
 
 use indexmap::IndexMap;

@@ -1,6 +1,6 @@
 //! Numbers by name.
 ghost use Rattle.std.specs.Prelude.{◌≡◌, ◌<◌, ◌^◌, ℕ, All, IfOk, length, map, slice_index};
-ghost use Rattle.np_fold.specs.Folded as spec;
+ghost use Rattle.np_fold.specs.steps.Folded as spec;
 
 use np_base::{NoMemory, Seq};
 use np_names::Named;

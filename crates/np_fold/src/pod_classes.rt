@@ -1,7 +1,7 @@
 //! The classes of alike pods.
 ghost use Rattle.std.specs.Prelude.{◌≡◌, ◌<◌, ◌^◌, IfOk, List, ℕ, length};
 ghost use Rattle.np_fold.specs.Blocks.{cidrs_of_estate};
-ghost use Rattle.np_fold.specs.Folded as folded;
+ghost use Rattle.np_fold.specs.steps.Folded as folded;
 ghost use Rattle.np_fold.specs.Keys.{keys_of_estate};
 ghost use Rattle.np_fold.specs.Workloads as spec;
 ghost use Rattle.np_labels.specs.Selectors.{is_listed};

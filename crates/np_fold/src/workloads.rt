@@ -1,7 +1,7 @@
 //! The workloads of an estate.
 ghost use Rattle.std.specs.Prelude.{◌≡◌, ◌<◌, ◌≤◌, ◌^◌, [], ℕ, Err, IfOk, OnOk, length, slice_index};
 ghost use Rattle.np_fold.specs.Blocks.{cidrs_of_estate};
-ghost use Rattle.np_fold.specs.Folded as folded;
+ghost use Rattle.np_fold.specs.steps.Folded as folded;
 ghost use Rattle.np_fold.specs.Keys.{keys_of_estate, with_keys};
 ghost use Rattle.np_fold.specs.Workloads as spec;
 ghost use Rattle.np_fold.specs.declared.fold_fault.FoldFault.TheVariants.{TooManyWorkloads};

@@ -2,4 +2,5 @@ mod Adding
 mod Counting
 mod HandingOut
 mod Places
+pub mod TakenLemmas
 mod Taking

@@ -44,6 +44,8 @@ pub record SourceState : Type 0 where
   pub failing_reads : List ℕ
   pub begins : ℕ
   pub reads : ℕ
+  -- the names that were begun so far, while the memory for them sufficed
+  pub began : Option (List (List ℕ))
   -- which name is begun, and how many bytes were handed out in all
   pub begun : Option Begun
   pub handed : ℕ
@@ -59,6 +61,7 @@ empty_source piece = record {
   failing_reads = [];
   begins = 0;
   reads = 0;
+  began = Some [];
   begun = None;
   handed = 0;
 }

@@ -1,9 +1,9 @@
 //! Sources of bytes by name.
-ghost use Rattle.std.specs.Prelude.{◌≡◌, ℕ, ◌<◌, ◌≤◌, List, [], length, take, Option, Some, None, Ok, is_some, IfOk, OnOk, OnErr};
+ghost use Rattle.std.specs.Prelude.{◌≡◌, ℕ, ◌<◌, ◌≤◌, List, [], ◌∷◌, length, take, Option, Some, None, Ok, is_some, IfOk, OnOk, OnErr};
 ghost use Rattle.std.specs.Option.{option_map};
 ghost use Rattle.std.specs.Io.KnownBytes.{prepend_known, IsAtEnd};
 ghost use Rattle.np_io.specs.Counts.{Rose, NeverFalls, handed_after};
-ghost use Rattle.np_io.specs.Source.{IsTold, ReadFailed};
+ghost use Rattle.np_io.specs.Source.{BeganNext, IsTold, ReadFailed};
 
 use std::fmt;
 
@@ -29,6 +29,9 @@ pub trait Inputs {
     /// Which name is begun: the outer `None` where this is untold, the inner one where no name is.
     ghost begun: { Self → Option (Option (List ℕ)) };
 
+    /// The names that were begun so far, in order. `None`: untold.
+    ghost began: { Self → Option (List (List ℕ)) };
+
     /// The bytes that are left of the begun name. `None`: untold.
     ghost left: { Self → Option (List ℕ) };
 
@@ -39,7 +42,8 @@ pub trait Inputs {
     ghost handed: { Self → ℕ };
 
     /// Begins a name, which is then the begun one, with all of its bytes left. `InputFailed` comes only where the
-    /// count of faults of this name rose; no name is then begun, and nothing is left.
+    /// count of faults of this name rose; no name is then begun, and nothing is left. Whatever the answer, the name is
+    /// the last of those that were begun, where that is still told.
     fn begin(&mut self, name: &str) -> Result<(), InputFailed>
         ensures begins { OnOk result (begun self.new ≡ option_map (λ _. Some name.now) (begun self.old)) }
         ensures all_left { OnOk result ((bytes : List ℕ) →
@@ -50,6 +54,7 @@ pub trait Inputs {
         ensures none_begun { OnErr result (begun self.new ≡ option_map (λ _. None) (begun self.old)) }
         ensures none_left { OnErr result (left self.new ≡ option_map (λ _. []) (left self.old)) }
 
+        ensures began { BeganNext (began self.old) (began self.new) (name.now ∷ []) }
         ensures counts { (other : List ℕ) → NeverFalls (faults self.old other) (faults self.new other) }
         ensures handed { handed self.new ≡ handed self.old }
         ensures names { holds self.new ≡ holds self.old }
@@ -59,7 +64,8 @@ pub trait Inputs {
     /// Hands out the next bytes that are left, into the first places of the buffer, and answers how many they
     /// are. For a buffer with room, `Ok(0)` is the end; for an empty one the answer is `Ok(0)`. `InputFailed`
     /// comes only where the count of faults of the begun name rose, or that of every name where it is untold
-    /// which one is begun; nothing is then handed out. No read changes which name is begun.
+    /// which one is begun; nothing is then handed out. No read changes which name is begun, or
+    /// which were.
     fn read(&mut self, into: &mut [u8]) -> Result<usize, InputFailed>
         ensures bound { IfOk result (λ n. n ≤ length into.new) }
         ensures next { IfOk result (λ n. left self.old ≡ prepend_known (take n into.new) (left self.new)) }
@@ -74,6 +80,7 @@ pub trait Inputs {
 
         ensures counts { (other : List ℕ) → NeverFalls (faults self.old other) (faults self.new other) }
         ensures begun { begun self.new ≡ begun self.old }
+        ensures began { began self.new ≡ began self.old }
         ensures names { holds self.new ≡ holds self.old }
         ensures left_told { is_some (left self.new) ≡ is_some (left self.old) };
 

@@ -1,6 +1,7 @@
 //! A source in memory, whose failures are chosen beforehand.
 ghost use Rattle.std.specs.Prelude.{◌≡◌, ◌≢◌, ℕ, ◌∷◌, ◌++◌, List, [], Some, None, min, ◌+◌, ◌^◌, ◌<◌, length, take, drop, IfSome, OnOk, OnErr};
 ghost use Rattle.np_io.specs.Memory.{empty_source, place_of, bytes_at, IsBegunAt};
+ghost use Rattle.np_io.specs.Source.{BeganNext};
 
 use crate::counts::{count, is_due};
 use crate::inputs::{InputFailed, Inputs};
@@ -26,7 +27,8 @@ struct Begun {
 /// that it does not hold fails, and so do the calls of `begin` and of `read` whose numbers are chosen. Both are
 /// numbered from 1, each by itself; a read while no name is begun and a read into an empty buffer never fail and
 /// have no number. Each name that it holds has a count of faults of its own, and all other names share one. It
-/// tells that a name which it does not hold holds no bytes.
+/// tells that a name which it does not hold holds no bytes. It tells which names were begun, until the memory to note one
+/// of them is refused.
 #[derive(Debug, Drop)]
 pub struct MemInputs {
     held: Vec<Held>,
@@ -37,6 +39,7 @@ pub struct MemInputs {
     failing_reads: Vec<u64>,
     begins: u64,
     reads: u64,
+    began: Option<Seq<Text>>,
     begun: Option<Begun>,
     handed: u64,
 }
@@ -55,6 +58,7 @@ impl Model for MemInputs {
       failing_reads = s.failing_reads.items;
       begins = s.begins;
       reads = s.reads;
+      began = s.began;
       begun = s.begun;
       handed = s.handed;
     } };
@@ -68,6 +72,7 @@ impl MemInputs {
         ensures state { result ≡ empty_source piece }
         ensures holds { (name : List ℕ) → ⟦<MemInputs as Inputs>⟧.holds result name ≡ Some [] }
         ensures begun { ⟦<MemInputs as Inputs>⟧.begun result ≡ Some None }
+        ensures began { ⟦<MemInputs as Inputs>⟧.began result ≡ Some [] }
         ensures left { ⟦<MemInputs as Inputs>⟧.left result ≡ Some [] }
         ensures faults { (name : List ℕ) → ⟦<MemInputs as Inputs>⟧.faults result name ≡ 0 }
         ensures handed { ⟦<MemInputs as Inputs>⟧.handed result ≡ 0 }
@@ -81,6 +86,7 @@ impl MemInputs {
             failing_reads: Vec::new(alloc),
             begins: 0,
             reads: 0,
+            began: Some(Seq::new(alloc)),
             begun: None,
             handed: 0,
         }
@@ -143,6 +149,25 @@ fn place_of(held: &[Held], name: &str) -> Option<usize>
     held.iter().position(|h| h.name.as_str() == name)
 }
 
+// Notes that a name was begun. Where the memory for that is refused, it is untold from then on which names were.
+fn note_begun(began: &mut Option<Seq<Text>>, name: &str)
+    ensures { BeganNext began.old began.new (name.now ∷ []) }
+{
+    if let Some(names) = began {
+        if push_name(names, name).is_err() {
+            *began = None;
+        }
+    }
+}
+
+// Puts a name last.
+fn push_name(names: &mut Seq<Text>, name: &str) -> Result<(), NoMemory>
+    ensures { OnOk result (names.new ≡ names.old ++ name.now ∷ []) }
+{
+    let name = Text::of(names.allocator(), name)?;
+    names.push(name)
+}
+
 // The bytes that are left of the begun name.
 fn left_of(held: &[Held], begun: Begun) -> &[u8]
     requires { IsBegunAt held.now begun.place begun.at }
@@ -170,6 +195,8 @@ impl Inputs for MemInputs {
 
     ghost begun = { λ s. Some (begun_name s) };
 
+    ghost began = { λ s. s.began };
+
     ghost left = { λ s. Some (bytes_left s) };
 
     ghost faults = { faults_of };
@@ -180,6 +207,7 @@ impl Inputs for MemInputs {
 
     fn begin(&mut self, name: &str) -> Result<(), InputFailed> {
         let fails = is_due(&self.failing_begins, &mut self.begins);
+        note_begun(&mut self.began, name);
         self.begun = None;
         match place_of(&self.held, name) {
             Some(place) if !fails => {

@@ -9,8 +9,8 @@ use std::io::Read;
 use std::rt::Files;
 
 /// A source over the system, whose name `-` is standard input; any other name is that of a file. Where `-` is begun
-/// again, it goes on where it stopped, and a file is read from its front. The source does not tell its bytes or which
-/// name is begun. It counts its failures, and that number is its count for every name.
+/// again, it goes on where it stopped, and a file is read from its front. The source does not tell its bytes, which
+/// name is begun or which were. It counts its failures, and that number is its count for every name.
 #[derive(Drop)]
 pub struct RealInputs<R: Input + Files + Drop> {
     runtime: R,
@@ -67,6 +67,8 @@ impl<R: Input + Files + Drop> Inputs for RealInputs<R> {
     ghost holds = { λ s name. None };
 
     ghost begun = { λ s. None };
+
+    ghost began = { λ s. None };
 
     ghost left = { λ s. None };
 

@@ -1,8 +1,8 @@
 //! Whole inputs and whole bytes, over sources and sinks that work piece by piece.
-ghost use Rattle.std.specs.Prelude.{◌≡◌, ◌+◌, ◌<◌, ◌≤◌, ℕ, List, length, is_some, IfOk, OnOk, OnErr, IsOk, IsErrOf};
+ghost use Rattle.std.specs.Prelude.{◌≡◌, ◌+◌, ◌<◌, ◌≤◌, ℕ, List, [], ◌∷◌, length, is_some, IfOk, OnOk, OnErr, IsOk, IsErrOf};
 ghost use Rattle.std.specs.Io.KnownBytes.{append_known};
 ghost use Rattle.np_io.specs.Counts.{Rose, RosePast, NeverFalls, handed_after};
-ghost use Rattle.np_io.specs.Source.{IsTold};
+ghost use Rattle.np_io.specs.Source.{BeganNext, IsTold};
 ghost use Rattle.np_io.specs.Taken.{TookFront};
 
 use crate::inputs::{InputFailed, Inputs};
@@ -90,6 +90,7 @@ pub fn read_whole<I: Inputs>(
 
     ensures memory_faults { IsErrOf result WholeFault.NoMemory → I.faults inputs.new ≡ I.faults inputs.old }
 
+    ensures began { BeganNext (I.began inputs.old) (I.began inputs.new) (name.now ∷ []) }
     ensures counts { (other : List ℕ) → NeverFalls (I.faults inputs.old other) (I.faults inputs.new other) }
     ensures names { I.holds inputs.new ≡ I.holds inputs.old }
     ensures begun_told { is_some (I.begun inputs.new) ≡ is_some (I.begun inputs.old) }

@@ -1,1 +1,5 @@
+mod CsvLemmas
+mod JsonLemmas
+mod SpanLemmas
 mod TableLemmas
+pub mod ToComeLemmas

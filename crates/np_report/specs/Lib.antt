@@ -1,2 +1,5 @@
+pub mod Forms
+pub mod Keeps
 pub mod RowText
 pub mod TableText
+pub mod Tallied

@@ -1,32 +1,51 @@
--- The text of a row.
+-- The texts of a row.
 use Rattle.std.specs.Prelude.{ℕ, List, [], ◌++◌, ◌==◌, codes, map, slice_index_or, Option, Some, None, if◌then◌else◌}
-use Rattle.np_addr.specs.AddressText.{address_text}
-use Rattle.np_addr.specs.declared.address.Address.TheVariants as address
+use Rattle.std.specs.List.{join_by}
+use Rattle.np_addr.specs.AddressText.{address_text, cidr_text}
+use Rattle.np_addr.specs.Prefixes.{range_prefixes}
 use Rattle.np_addr.specs.declared.address.Family.{Family}
 use Rattle.np_addr.specs.declared.address.Family.TheVariants.{Four, Six}
+use Rattle.np_addr.specs.declared.cidr.Cidr.{Cidr}
 use Rattle.np_base.specs.declared.range.Range.{Range}
 use Rattle.np_conns.specs.Conns.{has_spot}
 use Rattle.np_conns.specs.ConnsText.{conns_text}
 use Rattle.np_fold.specs.Workloads.{Folding}
+use Rattle.np_report.specs.declared.row.RowText.{RowText}
+use Rattle.np_table.specs.Table.{address_of}
 use Rattle.np_table.specs.declared.rows.AddressSpan.{AddressSpan}
 use Rattle.np_table.specs.declared.rows.AddressSpan.TheVariants as span
 use Rattle.np_table.specs.declared.rows.Row.{Row}
 use Rattle.np_table.specs.declared.rows.RowEnd.{RowEnd}
 use Rattle.np_table.specs.declared.rows.RowEnd.TheVariants.{Work, Span, Controller}
+use Rattle.np_words.specs.declared.report.Report.{Report}
+use Rattle.np_words.specs.declared.report.Report.TheVariants.{One, Two}
 
--- one address as itself, more of them as `lo-hi`
-abbrev pub range_text : (ℕ → List ℕ) → Range ℕ → List ℕ
-range_text text range = if range.lo == range.hi then text range.lo else text range.lo ++ codes "-" ++ text range.hi
+-- ---- ranges of addresses
 
-abbrev pub span_text : AddressSpan → List ℕ
-span_text (span.Four range) = range_text (λ n. address_text (address.Four n)) range
-span_text (span.Six range) = range_text (λ n. address_text (address.Six n)) range
+-- the first and the last address, or the one that there is
+abbrev pub ends_text : Family → Range ℕ → List ℕ
+ends_text family range =
+    if range.lo == range.hi then address_text (address_of family range.lo)
+    else address_text (address_of family range.lo) ++ codes "-" ++ address_text (address_of family range.hi)
+
+-- the right list of blocks of a range
+abbrev pub blocks_of : AddressSpan → List Cidr
+blocks_of (span.Four range) = range_prefixes Four range
+blocks_of (span.Six range) = range_prefixes Six range
+
+-- by its ends in report 1, and in report 2 by its blocks, joined by commas
+abbrev pub span_text : Report → AddressSpan → List ℕ
+span_text One (span.Four range) = ends_text Four range
+span_text One (span.Six range) = ends_text Six range
+span_text Two addresses = join_by cidr_text (codes ",") (blocks_of addresses)
+
+-- ---- rows
 
 -- a workload by its name
-abbrev pub end_text : List (List ℕ) → RowEnd → List ℕ
-end_text names (Work number) = slice_index_or names number []
-end_text names (Span addresses) = span_text addresses
-end_text names Controller = codes "{ingress-controller}"
+abbrev pub end_text : List (List ℕ) → Report → RowEnd → List ℕ
+end_text names report (Work number) = slice_index_or names number []
+end_text names report (Span addresses) = span_text report addresses
+end_text names report Controller = codes "{ingress-controller}"
 
 -- the mark of a row that is of one family of two
 abbrev pub mark_text : Option Family → List ℕ
@@ -38,8 +57,10 @@ mark_text (Some Six) = codes " (IPv6)"
 abbrev pub names_of : Folding → List (List ℕ)
 names_of folding = map (λ one. one.name) folding.workloads
 
--- `source => destination : connections`, where a mark may follow the destination
-unfoldable pub row_text : List (List ℕ) → Row → List ℕ
-row_text names row =
-    end_text names row.key.source ++ codes " => " ++ end_text names row.key.destination ++ mark_text row.family
-    ++ codes " : " ++ conns_text (has_spot row.conns) ++ codes "\n"
+-- its ends, where a mark may follow the destination, and the text of the spans of its connections
+unfoldable pub row_text : List (List ℕ) → Report → Row → RowText
+row_text names report row = record {
+  source = end_text names report row.key.source;
+  destination = end_text names report row.key.destination ++ mark_text row.family;
+  connections = conns_text (has_spot row.conns);
+}

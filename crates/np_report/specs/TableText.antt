@@ -1,14 +1,56 @@
 -- The text of a table.
-use Rattle.std.specs.Prelude.{ℕ, List, flat_map}
-use Rattle.np_estate.specs.declared.lists.EstateLists.{EstateLists}
+use Rattle.std.specs.Prelude.{◌≡◌, ℕ, ◌<◌, ◌^◌, List, [], ◌∷◌, Bool, true, filter, length, map}
+use Rattle.np_addr.specs.Addresses.{width_of}
+use Rattle.np_addr.specs.declared.address.Family.{Family}
+use Rattle.np_estate.specs.Families.{same_family}
+use Rattle.np_policies.specs.declared.direction.Direction.{Direction}
+use Rattle.np_report.specs.Forms.{Form, report_text, text_to_come}
+use Rattle.np_report.specs.Keeps.{keeps}
 use Rattle.np_report.specs.RowText.{row_text}
+use Rattle.np_report.specs.declared.query.Query.{Query}
+use Rattle.np_report.specs.declared.row.RowText.{RowText}
 use Rattle.np_table.specs.Rows.{all_rows}
-use Rattle.np_table.specs.Table.{Table, estate_table}
+use Rattle.np_table.specs.Said.{AllowSamePorts}
+use Rattle.np_table.specs.Table.{Table}
+use Rattle.np_table.specs.declared.rows.Row.{Row}
+use Rattle.np_words.specs.declared.format.Format.{Format}
+use Rattle.np_words.specs.declared.report.Report.{Report}
 
--- all rows, one after another: a function of the table alone
-unfoldable pub list_text : Table → List ℕ
-list_text table = flat_map (row_text table.names) (all_rows table)
+-- ---- the text
 
--- that of the table of an estate
-unfoldable pub table_text : EstateLists → List ℕ
-table_text lists = list_text (estate_table lists)
+-- those of some rows that a query asks for, in their order
+abbrev pub shown : Query → List Row → List Row
+shown query rows = filter (λ row. keeps query row.key) rows
+
+-- those of a table
+abbrev pub shown_rows : Table → Query → List Row
+shown_rows table query = shown query (all_rows table)
+
+-- their texts, where the workloads have these names
+abbrev pub texts_of : List (List ℕ) → Report → List Row → List RowText
+texts_of names report rows = map (row_text names report) rows
+
+-- the rows that a query asks for, in a format: a function of the table alone
+unfoldable pub list_text : Table → Query → Format → Report → List ℕ
+list_text table query format report = report_text format (texts_of table.names report (shown_rows table query))
+
+-- what is still to come of it while these rows are, where one knows whether a row came before
+unfoldable pub rows_to_come : Form → List (List ℕ) → Query → Report → Bool → List Row → List ℕ
+rows_to_come form names query report came rows = text_to_come form came (texts_of names report (shown query rows))
+
+-- ---- tables that say the same
+
+-- whether rows tell of a family: of that of the list where it has one, and else of both
+abbrev pub is_shown : List Family → Family → Bool
+is_shown (one ∷ []) family = same_family one family
+is_shown families family = true
+
+-- The names and the families are equal, and between the workloads that have names, in the families that rows tell of, and
+-- between such workloads and the addresses that there are, the same ports pass.
+pub record SayTheSame (a b : Table) : Type 0 where
+  pub names : a.names ≡ b.names
+  pub families : a.families ≡ b.families
+  pub pairs : (source destination : ℕ) (family : Family) → source < length a.names → destination < length a.names → is_shown a.families family ≡ true
+      → AllowSamePorts (a.pairs source destination family) (b.pairs source destination family)
+  pub addresses : (workload : ℕ) (direction : Direction) (family : Family) (number : ℕ) → workload < length a.names → number < 2 ^ width_of family
+      → AllowSamePorts (a.addresses workload direction family number) (b.addresses workload direction family number)

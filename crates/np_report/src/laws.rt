@@ -1,17 +1,14 @@
 //! What follows from the definitions of the table's text. Each law is the contract of a call that does nothing.
-ghost use Rattle.std.specs.Prelude.{◌≡◌, ℕ};
-ghost use Rattle.np_addr.specs.declared.address.Family.{Family};
-ghost use Rattle.np_report.specs.TableText.{list_text};
-ghost use Rattle.np_conns.specs.declared.port_spot.PortSpot.{PortSpot};
-ghost use Rattle.np_policies.specs.declared.direction.Direction.{Direction};
+ghost use Rattle.std.specs.Prelude.{◌≡◌};
+ghost use Rattle.np_report.specs.TableText.{SayTheSame, list_text};
+ghost use Rattle.np_report.specs.declared.query.Query.{Query};
 ghost use Rattle.np_table.specs.Table.{Table};
+ghost use Rattle.np_words.specs.declared.format.Format.{Format};
+ghost use Rattle.np_words.specs.declared.report.Report.{Report};
 
-/// Tables with the same names and families, where the same passes everywhere, have one text, whatever they were made of.
+/// Tables with the same names and families, where the same passes, have one text for each query, format and report, whatever
+/// they were made of.
 pub fn equal_tables_print_equal_bytes()
-    ensures { (a b : Table) → a.names ≡ b.names → a.families ≡ b.families →
-        ((source destination : ℕ) (family : Family) (spot : PortSpot) →
-        a.pairs source destination family spot ≡ b.pairs source destination family spot) →
-        ((workload : ℕ) (direction : Direction) (family : Family) (number : ℕ) (spot : PortSpot) →
-        a.addresses workload direction family number spot ≡ b.addresses workload direction family number spot) →
-        list_text a ≡ list_text b }
+    ensures { (a b : Table) (query : Query) (format : Format) (report : Report) → SayTheSame a b →
+        list_text a query format report ≡ list_text b query format report }
 {}

@@ -1,4 +1,5 @@
 pub mod AddressLemmas
+pub mod AddressRowLemmas
 pub mod DueLemmas
 pub mod KeptLemmas
 pub mod KindLemmas
@@ -16,6 +17,7 @@ pub mod RangeOneList
 pub mod RangePieces
 pub mod RangeSets
 pub mod RangeWalks
+pub mod RowLemmas
 pub mod SaidLemmas
 pub mod SetLemmas
 pub mod SideLemmas

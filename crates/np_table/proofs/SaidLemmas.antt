@@ -1,10 +1,9 @@
 -- What the rows of a pair say.
-use Rattle.std.proofs.Common.{◌≡◌, ◌≢◌, ◌<◌, ◌≤◌, ◌==◌, ◌+◌, ℕ, zero, suc, List, [], ◌∷◌, ◌++◌, Bool, true, false, ◌&&◌, ◌||◌, All, Contains, Option, None, Some, length, map, flat_map, append-nil, if◌then◌else◌, arith, refl, sym, ap, ◌∙◌, eq-eqb, inl, inr}
-use Rattle.std.specs.Prelude.{◌↔◌, filter}
-use Rattle.std.specs.List.{range_with_len}
-use Rattle.std.proofs.lemmas.Bool.{and_from, and_parts, and_right, cases_eq, false≢true, ne_eqb}
+use Rattle.std.proofs.Common.{◌≡◌, ◌≢◌, ◌<◌, ◌≤◌, ◌==◌, ℕ, List, [], ◌∷◌, ◌++◌, Bool, true, false, ◌&&◌, ◌||◌, All, Contains, Option, None, Some, length, flat_map, append-nil, if◌then◌else◌, arith, refl, sym, ap, ◌∙◌, eq-eqb}
+use Rattle.std.specs.Prelude.{◌↔◌}
+use Rattle.std.proofs.lemmas.Bool.{and_from, and_parts, and_right, false≢true, ne_eqb}
 use Rattle.std.proofs.lemmas.List.{length-map}
-use Rattle.std.proofs.lemmas.List.Elements.{All-append, All-cons, All-contains, All-head, All-nil, All-same, All-tail, filter-append}
+use Rattle.std.proofs.lemmas.List.Elements.{All-cons, All-contains, All-head, All-nil, All-same, All-tail, All-weaker, filter-append}
 use Rattle.std.proofs.lemmas.List.Folds.{list_any-append}
 use Rattle.np_addr.specs.declared.address.Family.{Family}
 use Rattle.np_addr.specs.declared.address.Family.TheVariants.{Four, Six}
@@ -26,9 +25,10 @@ use Rattle.np_policies.specs.declared.direction.Direction.TheVariants.{Egress, I
 use Rattle.np_table.proofs.RangeSets.{are_same_conns-Decides, conns_of-agrees}
 use Rattle.np_table.specs.Right.{are_same_conns, conns_of}
 use Rattle.np_table.proofs.PairLemmas.{between_pods-pair_allows, pair_allows-alone}
+use Rattle.np_table.proofs.RowLemmas.{HasKey, filter-by, filter-flat_map, filter-map_none, pair_rows-key, range-none, range-only}
 use Rattle.np_table.proofs.SetLemmas.{has_spot-conns_of, rows_of_both-same}
 use Rattle.np_table.specs.Rows.{address_rows, all_address_rows, all_pair_rows, all_rows, is_none, is_nothing, pair_key, pair_rows, row_if, row_of, rows_in, rows_of_both, rows_towards, workloads}
-use Rattle.np_table.specs.Said.{AllowSamePorts, IsUnmarked, allows_in, is_between, rows_between, says, speaks_of}
+use Rattle.np_table.specs.Said.{AllowSamePorts, IsUnmarked, allows_in, is_between, is_workload, rows_between, says, speaks_of}
 use Rattle.np_table.specs.Table.{Table, between_pods, pair_allows, table_of}
 use Rattle.np_table.specs.declared.rows.Row.{Row}
 use Rattle.np_table.specs.declared.rows.RowKey.{RowKey}
@@ -204,81 +204,13 @@ pub pair_rows-one_row : (table : Table) (source destination : ℕ) → Contains 
 pair_rows-one_row table source destination four six same =
     rw (pair_rows-same table source destination four six same) (row_if-one (pair_key source destination) None (conns_of (table.pairs source destination Four)))
 
--- ---- the ends of rows
-
--- what the test of the ends says of the rows of a pair
-abbrev TellsEnds : ℕ → ℕ → ℕ → ℕ → Row → Type 0
-TellsEnds source destination near far row = is_between source destination row ≡ (near == source && far == destination)
-
-row_if-ends : (source destination near far : ℕ) (mark : Option Family) (conns : Conns) → All (TellsEnds source destination near far) (row_if (pair_key near far) mark conns)
-row_if-ends source destination near far mark conns = by (is_nothing conns)
-  where
-    by : (nothing : Bool) → All {X = Row} (TellsEnds source destination near far) (if nothing then [] else record { key = pair_key near far; family = mark; conns = conns } ∷ [])
-    by true = All-nil (TellsEnds source destination near far)
-    by false = All-cons (TellsEnds source destination near far) (record { key = pair_key near far; family = mark; conns = conns }) [] refl (All-nil (TellsEnds source destination near far))
-
-rows_of_both-ends : (source destination near far : ℕ) (four six : Conns) → All (TellsEnds source destination near far) (rows_of_both (pair_key near far) four six)
-rows_of_both-ends source destination near far four six = by (are_same_conns four six)
-  where
-    by : (same : Bool) → All (TellsEnds source destination near far) (if same then row_if (pair_key near far) None four else row_if (pair_key near far) (Some Four) four ++ row_if (pair_key near far) (Some Six) six)
-    by true = row_if-ends source destination near far None four
-    by false =
-        All-append (TellsEnds source destination near far) (row_if (pair_key near far) (Some Four) four) (row_if (pair_key near far) (Some Six) six)
-        (row_if-ends source destination near far (Some Four) four) (row_if-ends source destination near far (Some Six) six)
-
-rows_in-ends : (families : List Family) (source destination near far : ℕ) (conns : Family → Conns) → All (TellsEnds source destination near far) (rows_in families (pair_key near far) conns)
-rows_in-ends [] source destination near far conns = rows_of_both-ends source destination near far (conns Four) (conns Six)
-rows_in-ends (family ∷ []) source destination near far conns = row_if-ends source destination near far None (conns family)
-rows_in-ends (family ∷ next ∷ families) source destination near far conns = rows_of_both-ends source destination near far (conns Four) (conns Six)
-
-pair_rows-ends : (table : Table) (source destination near far : ℕ) → All (TellsEnds source destination near far) (pair_rows table near far)
-unfolding pair_rows
-pair_rows-ends table source destination near far = rows_in-ends table.families source destination near far (λ family. conns_of (table.pairs near far family))
-
--- ---- rows of a list that pass a test
-
--- all rows or none of a list in which the test has one answer
-filter-by : (test : Row → Bool) (answer : Bool) (rows : List Row) → All (λ (row : Row). test row ≡ answer) rows → filter test rows ≡ (if answer then rows else [])
-filter-by test true [] alike = refl
-filter-by test false [] alike = refl
-filter-by test true (row ∷ rows) alike =
-    rw (All-head (λ (one : Row). test one ≡ true) row rows alike) (ap (λ (more : List Row). row ∷ more) (filter-by test true rows (All-tail (λ (one : Row). test one ≡ true) row rows alike)))
-filter-by test false (row ∷ rows) alike =
-    rw (All-head (λ (one : Row). test one ≡ false) row rows alike) (filter-by test false rows (All-tail (λ (one : Row). test one ≡ false) row rows alike))
-
-filter-flat_map : (test : Row → Bool) (f : ℕ → List Row) (ks : List ℕ) → filter test (flat_map f ks) ≡ flat_map (λ k. filter test (f k)) ks
-filter-flat_map test f [] = refl
-filter-flat_map test f (k ∷ ks) = filter-append test (f k) (flat_map f ks) ∙ ap (λ (rows : List Row). filter test (f k) ++ rows) (filter-flat_map test f ks)
-
-filter-map_none : {X : Type 0} (test : Row → Bool) (f : X → Row) (xs : List X) → ((x : X) → test (f x) ≡ false) → filter test (map f xs) ≡ []
-filter-map_none test f [] fails = refl
-filter-map_none test f (x ∷ xs) fails = rw (fails x) (filter-map_none test f xs fails)
-
--- numbers of which none has a row
-range-none : (f : ℕ → List Row) (a n : ℕ) → ((k : ℕ) → a ≤ k → f k ≡ []) → flat_map f (range_with_len a n) ≡ []
-range-none f a zero none = refl
-range-none f a (suc n) none =
-    ap (λ (rows : List Row). rows ++ flat_map f (range_with_len (a + 1) n)) (none a (omega arith)) ∙ range-none f (a + 1) n (λ k above. none k (omega arith))
-
--- numbers of which one has rows
-range-only : (f : ℕ → List Row) (a n at : ℕ) → a ≤ at → at < a + n → ((k : ℕ) → k ≢ at → f k ≡ []) → flat_map f (range_with_len a n) ≡ f at
-range-only f a zero at low below none = absurd (omega arith)
-range-only f a (suc n) at low below none =
-    elim (cases_eq a at) [
-      | inl here ↦
-          ap (λ (rows : List Row). f a ++ rows) (range-none f (a + 1) n (λ k above. none k (λ same. omega arith)))
-          ∙ append-nil (f a)
-          ∙ ap f here
-      | inr apart ↦
-          ap (λ (rows : List Row). rows ++ flat_map f (range_with_len (a + 1) n)) (none a apart)
-          ∙ range-only f (a + 1) n at (omega arith) (omega arith) none
-    ]
-
 -- ---- the rows of a pair among all rows
 
 rows_between-pair : (table : Table) (source destination near far : ℕ) → rows_between source destination (pair_rows table near far) ≡ (if near == source && far == destination then pair_rows table near far else [])
 rows_between-pair table source destination near far =
-    filter-by (is_between source destination) (near == source && far == destination) (pair_rows table near far) (pair_rows-ends table source destination near far)
+    filter-by (is_between source destination) (near == source && far == destination) (pair_rows table near far)
+    (All-weaker (HasKey (pair_key near far)) (λ (row : Row). is_between source destination row ≡ (near == source && far == destination))
+    (λ row has. ap (λ (key : RowKey). is_workload source key.source && is_workload destination key.destination) has) (pair_rows table near far) (pair_rows-key table near far))
 
 rows_between-other_source : (table : Table) (source destination near : ℕ) → near ≢ source → rows_between source destination (flat_map (pair_rows table near) (workloads table)) ≡ []
 rows_between-other_source table source destination near apart =
@@ -340,7 +272,7 @@ unfolding table_of
 names-count lists folding = length-map folding.workloads (λ (one : Workload). one.name)
 
 -- the number of a pod's workload is one of the table
-number-within : (lists : EstateLists) (place : ℕ) → place < length lists.pods → number_of lists place < length (table_of lists (folding_of lists)).names
+pub number-within : (lists : EstateLists) (place : ℕ) → place < length lists.pods → number_of lists place < length (table_of lists (folding_of lists)).names
 unfolding folding_of
 number-within lists place within = rw (names-count lists (folding_of lists)) (number-in_workloads lists place within)
 

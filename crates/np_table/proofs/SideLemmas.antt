@@ -26,7 +26,8 @@ use Rattle.np_table.proofs.PairLemmas.{in_folding, one_kind-sources, pair_allows
 use Rattle.np_table.proofs.RangeOneList.{walk-agrees}
 use Rattle.np_table.proofs.RangeSets.{conns_of-agrees}
 use Rattle.np_table.proofs.SetLemmas.{conns_of-set}
-use Rattle.np_table.specs.PairRules.{AreEnds, AreOfKinds, ends_of, first_side, rules_of_pair, side_allows_pod, side_with_address, sides_at, sides_of_kinds}
+use Rattle.np_table.specs.PairRules.{AreEnds, AreOfKinds, first_side, rules_of_pair, side_with_address, sides_of_kinds}
+use Rattle.np_table.specs.steps.PairSides.{ends_of, side_allows_pod, sides_at}
 use Rattle.np_table.specs.Right.{conns_of}
 use Rattle.np_table.specs.Rows.{address_rows, pair_key, pair_rows, rows_in, rows_of_addresses}
 use Rattle.np_table.specs.Table.{IsWorkload, address_allows, between_pods, estate_table, is_alone, pair_allows, source_pod, table_of}

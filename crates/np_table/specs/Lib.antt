@@ -6,3 +6,4 @@ pub mod Rows
 pub mod Said
 pub mod Table
 pub mod ToCome
+pub mod steps

@@ -7,13 +7,11 @@ use Rattle.np_fold.specs.Workloads.{folding_of}
 use Rattle.np_policies.specs.declared.direction.Direction.{Direction}
 use Rattle.np_policies.specs.declared.direction.Direction.TheVariants.{Egress, Ingress}
 use Rattle.np_rules.specs.Ends.{pod}
-use Rattle.np_rules.specs.PodSides.{PodSide, near_pod, side_of, side_rule_count, with_pod}
-use Rattle.np_rules.specs.Sides.{side_allows}
-use Rattle.np_table.specs.Table.{destination_pod, source_pod, with_address}
-use Rattle.np_table.specs.declared.pair_sets.PairEnds.{PairEnds}
+use Rattle.np_rules.specs.PodSides.{PodSide, near_pod, side_of, side_rule_count}
+use Rattle.np_table.specs.Table.{source_pod, with_address}
 use Rattle.np_table.specs.declared.rules_by_kind.KindRules.{KindRules}
 
--- ---- two pods
+-- ---- pods
 
 -- one side sends and the other receives, in one estate
 pub record AreEnds (sender receiver : PodSide) : Type 0 where
@@ -21,11 +19,7 @@ pub record AreEnds (sender receiver : PodSide) : Type 0 where
   pub sends : sender.direction ≡ Egress
   pub receives : receiver.direction ≡ Ingress
 
--- whether a side allows a port with another pod as the far end
-abbrev pub side_allows_pod : PodSide → ℕ → Family → PortSpot → Bool
-side_allows_pod side peer family spot = side_allows side.lists side.direction (near_pod side) (with_pod peer family side spot)
-
--- the same with an address of a family
+-- whether packets between the pod of a side and an address of a family are allowed, in the direction of the side
 abbrev pub side_with_address : PodSide → Family → ℕ → PortSpot → Bool
 side_with_address side = with_address side.lists side.direction (pod (near_pod side))
 
@@ -34,10 +28,6 @@ side_with_address side = with_address side.lists side.direction (pod (near_pod s
 -- the side of the first pod of a workload
 abbrev pub first_side : EstateLists → Direction → ℕ → PodSide
 first_side lists direction workload = side_of lists (source_pod (folding_of lists) workload) direction
-
--- the sides of the pods that stand for two workloads
-abbrev pub ends_of : EstateLists → ℕ → ℕ → PairEnds
-ends_of lists source destination = record { sender = first_side lists Egress source; receiver = side_of lists (destination_pod (folding_of lists) source destination) Ingress }
 
 -- how many rules speak of the first pods of two workloads, of the one as it sends and of the other as it receives
 abbrev pub rules_of_pair : EstateLists → ℕ → ℕ → ℕ
@@ -58,8 +48,3 @@ pub record AreOfKinds (lists : EstateLists) (rules : KindRules) : Type 0 where
 pub record AreOfKindsIfAny (lists : EstateLists) (rules : KindRules) : Type 0 where
   pub senders : 0 < length rules.senders.items → rules.senders.items ≡ sides_of_kinds lists Egress
   pub receivers : 0 < length rules.receivers.items → rules.receivers.items ≡ sides_of_kinds lists Ingress
-
--- the sides of a direction
-abbrev pub sides_at : KindRules → Direction → List PodSide
-sides_at rules Egress = rules.senders.items
-sides_at rules Ingress = rules.receivers.items

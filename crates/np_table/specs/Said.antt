@@ -1,10 +1,16 @@
 -- What rows say.
-use Rattle.std.specs.Prelude.{◌≡◌, ℕ, List, Bool, true, false, ◌&&◌, ◌==◌, filter, Option, None, Some}
+use Rattle.std.specs.Prelude.{◌≡◌, ◌≤◌, ◌-◌, ◌^◌, ℕ, List, [], ◌∷◌, Bool, true, false, ◌&&◌, ◌==◌, filter, Option, None, Some}
 use Rattle.std.specs.List.{list_any}
 use Rattle.np_addr.specs.declared.address.Family.{Family}
+use Rattle.np_addr.specs.declared.address.Family.TheVariants as family
+use Rattle.np_base.specs.Ranges.{is_within}
 use Rattle.np_conns.specs.Conns.{has_spot, is_spot}
 use Rattle.np_conns.specs.declared.port_spot.PortSpot.{PortSpot}
 use Rattle.np_estate.specs.Families.{same_family}
+use Rattle.np_policies.specs.declared.direction.Direction.{Direction}
+use Rattle.np_policies.specs.declared.direction.Direction.TheVariants.{Ingress, Egress}
+use Rattle.np_table.specs.declared.rows.AddressSpan.{AddressSpan}
+use Rattle.np_table.specs.declared.rows.AddressSpan.TheVariants as span
 use Rattle.np_table.specs.declared.rows.Row.{Row}
 use Rattle.np_table.specs.declared.rows.RowEnd.{RowEnd}
 use Rattle.np_table.specs.declared.rows.RowEnd.TheVariants.{Controller, Span, Work}
@@ -22,10 +28,12 @@ says family spot row = speaks_of row.family family && has_spot row.conns spot
 abbrev pub allows_in : List Row → Family → PortSpot → Bool
 allows_in rows family spot = list_any (says family spot) rows
 
+-- ---- rows between workloads
+
 -- whether an end of a row is the workload of the number
 abbrev pub is_workload : ℕ → RowEnd → Bool
 is_workload number (Work other) = other == number
-is_workload number (Span span) = false
+is_workload number (Span addresses) = false
 is_workload number Controller = false
 
 -- whether a row is from one workload to another
@@ -43,3 +51,37 @@ IsUnmarked row = row.family ≡ None
 -- the same ports pass by two tests
 abbrev pub AllowSamePorts : (PortSpot → Bool) → (PortSpot → Bool) → Type 0
 AllowSamePorts passes passes' = (spot : PortSpot) → is_spot spot ≡ true → passes spot ≡ passes' spot
+
+-- ---- rows of an address
+
+-- the number is that of an address of the family
+abbrev pub IsInFamily : Family → ℕ → Type 0
+IsInFamily family.Four number = number ≤ 2 ^ 32 - 1
+IsInFamily family.Six number = number ≤ 2 ^ 128 - 1
+
+-- whether a span has the address of a family and a number
+abbrev pub span_has : AddressSpan → Family → ℕ → Bool
+span_has (span.Four range) family.Four number = is_within (λ n. n) range number
+span_has (span.Six range) family.Six number = is_within (λ n. n) range number
+span_has one another number = false
+
+-- whether an end of a row is a span that has it
+abbrev pub is_address : Family → ℕ → RowEnd → Bool
+is_address family number (Span addresses) = span_has addresses family number
+is_address family number (Work other) = false
+is_address family number Controller = false
+
+-- whether a row is of the address and the workload: from the address in the direction of ingress, and to it in that of egress
+abbrev pub is_of_address : ℕ → Direction → Family → ℕ → Row → Bool
+is_of_address workload Ingress family number row = is_address family number row.key.source && is_workload workload row.key.destination
+is_of_address workload Egress family number row = is_workload workload row.key.source && is_address family number row.key.destination
+
+-- those rows of a list that are
+abbrev pub rows_of_address : ℕ → Direction → Family → ℕ → List Row → List Row
+rows_of_address workload direction family number rows = filter (is_of_address workload direction family number) rows
+
+-- exactly one row of a list is of them, and by it exactly those ports pass that the test lets pass
+abbrev pub OneRowSays : ℕ → Direction → Family → ℕ → List Row → (PortSpot → Bool) → Type 0
+OneRowSays workload direction family number rows passes =
+    (row : Row) × (rows_of_address workload direction family number rows ≡ row ∷ [])
+    × ((spot : PortSpot) → is_spot spot ≡ true → has_spot row.conns spot ≡ passes spot)

@@ -14,10 +14,11 @@ ghost use Rattle.np_table.specs.Right.{are_same_conns, conns_of};
 ghost use Rattle.np_rules.specs.Ends.{pod};
 ghost use Rattle.np_rules.specs.Verdict.{pod_at};
 ghost use Rattle.np_table.specs.Rows.{all_rows, pair_rows};
-ghost use Rattle.np_table.specs.Said.{AllowSamePorts, IsUnmarked, allows_in, rows_between};
+ghost use Rattle.np_table.specs.Said.{AllowSamePorts, IsInFamily, IsUnmarked, OneRowSays, allows_in, rows_between};
 ghost use Rattle.np_table.specs.Table.{Table, address_allows, between_pods, is_alone, pair_allows, table_of, with_address};
 
-/// Folding loses no verdict: between every two different pods passes what passes between their workloads.
+/// Folding loses no verdict: between every two different pods passes what passes between their workloads, and between a
+/// pod and every address what passes between its workload and the address.
 pub fn workloads_stand_for_their_pods()
     ensures pairs { (lists : EstateLists) (p q : ℕ) (family : Family) (spot : PortSpot) → IsLawful lists →
         p < length lists.pods → q < length lists.pods → p ≢ q →
@@ -71,6 +72,19 @@ pub fn one_row_where_the_same_ports_pass()
         Contains table.families Four → Contains table.families Six →
         AllowSamePorts (table.pairs source destination Four) (table.pairs source destination Six) →
         length (pair_rows table source destination) ≤ 1 }
+{}
+
+/// For every workload, direction and address exactly one row says what passes between them, and it says exactly which ports
+/// do, and so between the address and every pod of the workload.
+pub fn one_row_for_each_address()
+    ensures table { (table : Table) (workload : ℕ) (direction : Direction) (family : Family) (number : ℕ) →
+        workload < length table.names → IsInFamily family number →
+        OneRowSays workload direction family number (all_rows table)
+        (table.addresses workload direction family number) }
+    ensures pods { (lists : EstateLists) (p : ℕ) (direction : Direction) (family : Family) (number : ℕ) → IsLawful lists →
+        p < length lists.pods → IsInFamily family number →
+        OneRowSays (number_of lists p) direction family number (all_rows (table_of lists (folding_of lists)))
+        (with_address lists direction (pod (pod_at lists p)) family number) }
 {}
 
 /// A workload of one pod has no row with itself.

@@ -8,6 +8,7 @@ ghost use Rattle.np_rules.specs.PodSides.{side_rule_count};
 ghost use Rattle.np_table.specs.PairRules as rules;
 ghost use Rattle.np_table.specs.Right.{conns_of};
 ghost use Rattle.np_table.specs.Table as spec;
+ghost use Rattle.np_table.specs.steps.PairSides.{ends_of, side_allows_pod};
 
 use np_addr::Family;
 use np_base::{Cells, NoMemory};
@@ -66,7 +67,7 @@ pub(crate) fn ends_of_pair<'a>(
     requires source { spec.IsWorkload folded.now source }
     requires destination { spec.IsWorkload folded.now destination }
     ensures ends { IfOk result (λ made. made ≡ (if spec.is_alone (folding_of folded.now) source destination then None
-        else Some (rules.ends_of folded.now source destination))) }
+        else Some (ends_of folded.now source destination))) }
     ensures lawful { IsLawful folded.now }
 {
     let estate = folded.estate();
@@ -131,7 +132,7 @@ fn side_set<L: Ledger>(
 ) -> Result<ConnSet, NoMemory>
     requires { peer < length near.now.lists.pods }
     ensures members { IfOk result (λ made. (spot : PortSpot) → is_spot spot ≡ true →
-        has_spot made spot ≡ rules.side_allows_pod near.now peer family spot) }
+        has_spot made spot ≡ side_allows_pod near.now peer family spot) }
     ensures well { IfOk result IsConns }
     ensures least { steps.old ≤ steps.new }
     ensures most { steps.new ≤ steps.old + side_rule_count near.now }

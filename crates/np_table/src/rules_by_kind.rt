@@ -2,6 +2,7 @@
 ghost use Rattle.std.specs.Prelude.{◌≡◌, ◌<◌, Some, length, map, slice_get, IfOk, OnErr, OnOk};
 ghost use Rattle.np_table.specs.PairRules as spec;
 ghost use Rattle.np_table.specs.Table.{IsWorkload};
+ghost use Rattle.np_table.specs.steps.PairSides.{sides_at};
 
 use np_base::NoMemory;
 use np_fold::Folded;
@@ -43,8 +44,8 @@ impl<'a> KindRules<'a> {
 
     /// The rules of a kind in a direction.
     pub(crate) fn at(&self, direction: Direction, kind: u32) -> &PodRules<'a>
-        requires { kind < length (spec.sides_at self.now direction) }
-        ensures { slice_get (spec.sides_at self.now direction) kind ≡ Some result.now }
+        requires { kind < length (sides_at self.now direction) }
+        ensures { slice_get (sides_at self.now direction) kind ≡ Some result.now }
     {
         let sides = match direction {
             Direction::Egress => &self.senders,

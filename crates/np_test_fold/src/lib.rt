@@ -26,6 +26,8 @@ mod question;
 #[cfg(test)]
 mod ranges;
 #[cfg(test)]
+mod reports;
+#[cfg(test)]
 mod rows;
 #[cfg(test)]
 mod seen;

@@ -8,9 +8,9 @@ use np_base::NoMemory;
 use np_conns::{ConnSet, print_conns};
 use np_fold::Folded;
 use np_policies::Direction;
-use np_report::row_text;
+use np_report::{Report, row_text};
 use np_steps::Steps;
-use np_table::{Rows, address_rows, pair_rows, pair_set};
+use np_table::{Row, Rows, address_rows, pair_rows, pair_set};
 use std::alloc::Global;
 use std::sync::ledger::Ledger;
 
@@ -52,7 +52,7 @@ pub fn pair_rows_text<L: Ledger>(
     let rows = pair_rows(alloc, folded, source, destination, steps)?;
     let mut text = String::new(alloc);
     for row in rows.items() {
-        text.push_str(row_text(alloc, folded.workloads(), row)?.as_str())?;
+        text.push_str(line(alloc, folded, row)?.as_str())?;
     }
     Ok(text)
 }
@@ -105,9 +105,18 @@ fn lines<L: Ledger>(
     let mut text = String::new(alloc);
     for _call in 0..calls {
         match rows.next(steps)? {
-            Some(row) => text.push_str(row_text(alloc, folded.workloads(), &row)?.as_str())?,
+            Some(row) => text.push_str(line(alloc, folded, &row)?.as_str())?,
             None => text.push_str("none\n")?,
         }
     }
     Ok(text)
+}
+
+// The line of a row.
+fn line(alloc: Global, folded: &Folded, row: &Row) -> Result<String, NoMemory> {
+    let row = row_text(alloc, folded.workloads(), row, Report::One)?;
+    Ok(format!(in alloc;
+        "{} => {} : {}\n",
+        row.source, row.destination, row.connections
+    )?)
 }

@@ -1,149 +1,98 @@
 //! Lists of several kinds of objects, and their tables.
 
-use crate::case::{Case, expect_case};
-use crate::table_text::{Allowed, FREE};
+use crate::script::expect_script;
 use std::test::Fail;
 
-// A Deployment of one template, of so many replicas.
-const DEPLOYMENT: &str = concat!(
-    r#"{"apiVersion":"apps/v1","kind":"Deployment","metadata":{"name":"web"},"#,
-    r#""spec":{"replicas":NUMBER,"template":{"metadata":{"labels":{"app":"web"}},"spec":{}}}}"#,
-);
+static SCRIPT: &str = r#"# a template stands for a pod
+< {"apiVersion":"v1","items":[
+< {"apiVersion":"apps/v1","kind":"Deployment","metadata":{"name":"web"},"spec":{"replicas":2,"template":{"metadata":{"labels":{"app":"web"}},"spec":{}}}},
+< {"apiVersion":"v1","kind":"Pod","metadata":{"name":"c"},"spec":{}}
+< ],"kind":"List"}
+* list
+> default/c[Pod] => default/web[Deployment] : All Connections
+> default/web[Deployment] => default/c[Pod] : All Connections
+> 0.0.0.0-255.255.255.255 => default/c[Pod] : All Connections
+> ::-ffff:ffff:ffff:ffff:ffff:ffff:ffff:ffff => default/c[Pod] : All Connections
+> default/c[Pod] => 0.0.0.0-255.255.255.255 : All Connections
+> default/c[Pod] => ::-ffff:ffff:ffff:ffff:ffff:ffff:ffff:ffff : All Connections
+> 0.0.0.0-255.255.255.255 => default/web[Deployment] : All Connections
+> ::-ffff:ffff:ffff:ffff:ffff:ffff:ffff:ffff => default/web[Deployment] : All Connections
+> default/web[Deployment] => 0.0.0.0-255.255.255.255 : All Connections
+> default/web[Deployment] => ::-ffff:ffff:ffff:ffff:ffff:ffff:ffff:ffff : All Connections
 
-const POD_C: &str = r#"{"apiVersion":"v1","kind":"Pod","metadata":{"name":"c"},"spec":{}}"#;
+# a template of which none is wanted
+< {"apiVersion":"v1","items":[
+< {"apiVersion":"apps/v1","kind":"Deployment","metadata":{"name":"web"},"spec":{"replicas":0,"template":{"metadata":{"labels":{"app":"web"}},"spec":{}}}},
+< {"apiVersion":"v1","kind":"Pod","metadata":{"name":"c"},"spec":{}}
+< ],"kind":"List"}
+* list
+> 0.0.0.0-255.255.255.255 => default/c[Pod] : All Connections
+> ::-ffff:ffff:ffff:ffff:ffff:ffff:ffff:ffff => default/c[Pod] : All Connections
+> default/c[Pod] => 0.0.0.0-255.255.255.255 : All Connections
+> default/c[Pod] => ::-ffff:ffff:ffff:ffff:ffff:ffff:ffff:ffff : All Connections
 
-// A template stands for a pod, unless none is wanted.
+# a finished pod of a job of a cron job: neither controller stands for a pod
+< {"apiVersion":"v1","items":[
+< {"apiVersion":"batch/v1","kind":"CronJob","metadata":{"name":"nightly"},"spec":{"jobTemplate":{"spec":{"template":{"spec":{}}}}}},
+< {"apiVersion":"batch/v1","kind":"Job","metadata":{"name":"nightly-1","ownerReferences":[{"kind":"CronJob","name":"nightly","controller":true}]},"spec":{"template":{"spec":{}}}},
+< {"apiVersion":"v1","kind":"Pod","metadata":{"name":"nightly-1-x","ownerReferences":[{"kind":"Job","name":"nightly-1","controller":true}]},"spec":{},"status":{"phase":"Succeeded"}},
+< {"apiVersion":"v1","kind":"Pod","metadata":{"name":"c"},"spec":{}}
+< ],"kind":"List"}
+* list
+> 0.0.0.0-255.255.255.255 => default/c[Pod] : All Connections
+> ::-ffff:ffff:ffff:ffff:ffff:ffff:ffff:ffff => default/c[Pod] : All Connections
+> default/c[Pod] => 0.0.0.0-255.255.255.255 : All Connections
+> default/c[Pod] => ::-ffff:ffff:ffff:ffff:ffff:ffff:ffff:ffff : All Connections
+! note: finished pods left out: 1
+
+# one name of ports at two pods, each with its own number; no address has it
+< {"apiVersion":"v1","items":[
+< {"apiVersion":"v1","kind":"Pod","metadata":{"name":"x"},"spec":{"containers":[{"ports":[{"name":"http","containerPort":8080,"protocol":"TCP"}]}]}},
+< {"apiVersion":"v1","kind":"Pod","metadata":{"name":"y"},"spec":{"containers":[{"ports":[{"name":"http","containerPort":80,"protocol":"TCP"}]}]}},
+< {"apiVersion":"v1","kind":"Pod","metadata":{"name":"z","labels":{"app":"z"}},"spec":{}},
+< {"apiVersion":"networking.k8s.io/v1","kind":"NetworkPolicy","metadata":{"name":"p"},"spec":{"podSelector":{"matchLabels":{"app":"z"}},"policyTypes":["Egress"],"egress":[{"ports":[{"port":"http"}]}]}}
+< ],"kind":"List"}
+* list
+> default/x[Pod] => default/y[Pod] : All Connections
+> default/x[Pod] => default/z[Pod] : All Connections
+> default/y[Pod] => default/x[Pod] : All Connections
+> default/y[Pod] => default/z[Pod] : All Connections
+> default/z[Pod] => default/x[Pod] : TCP 8080
+> default/z[Pod] => default/y[Pod] : TCP 80
+> 0.0.0.0-255.255.255.255 => default/x[Pod] : All Connections
+> ::-ffff:ffff:ffff:ffff:ffff:ffff:ffff:ffff => default/x[Pod] : All Connections
+> default/x[Pod] => 0.0.0.0-255.255.255.255 : All Connections
+> default/x[Pod] => ::-ffff:ffff:ffff:ffff:ffff:ffff:ffff:ffff : All Connections
+> 0.0.0.0-255.255.255.255 => default/y[Pod] : All Connections
+> ::-ffff:ffff:ffff:ffff:ffff:ffff:ffff:ffff => default/y[Pod] : All Connections
+> default/y[Pod] => 0.0.0.0-255.255.255.255 : All Connections
+> default/y[Pod] => ::-ffff:ffff:ffff:ffff:ffff:ffff:ffff:ffff : All Connections
+> 0.0.0.0-255.255.255.255 => default/z[Pod] : All Connections
+> ::-ffff:ffff:ffff:ffff:ffff:ffff:ffff:ffff => default/z[Pod] : All Connections
+> default/z[Pod] => 0.0.0.0-255.255.255.255 : No Connections
+> default/z[Pod] => ::-ffff:ffff:ffff:ffff:ffff:ffff:ffff:ffff : No Connections
+
+# of two admin policies the one of the lower number decides, whatever a NetworkPolicy permits
+< {"apiVersion":"v1","items":[
+< {"apiVersion":"v1","kind":"Pod","metadata":{"name":"a","namespace":"x"},"spec":{}},
+< {"apiVersion":"v1","kind":"Pod","metadata":{"name":"b","namespace":"y"},"spec":{}},
+< {"apiVersion":"policy.networking.k8s.io/v1alpha1","kind":"AdminNetworkPolicy","metadata":{"name":"second"},"spec":{"priority":20,"subject":{"namespaces":{"matchLabels":{"kubernetes.io/metadata.name":"y"}}},"ingress":[{"action":"Allow","from":[{"namespaces":{"matchLabels":{"kubernetes.io/metadata.name":"x"}}}]}]}},
+< {"apiVersion":"policy.networking.k8s.io/v1alpha1","kind":"AdminNetworkPolicy","metadata":{"name":"first"},"spec":{"priority":10,"subject":{"namespaces":{"matchLabels":{"kubernetes.io/metadata.name":"y"}}},"ingress":[{"action":"Deny","from":[{"namespaces":{"matchLabels":{"kubernetes.io/metadata.name":"x"}}}]}]}},
+< {"apiVersion":"networking.k8s.io/v1","kind":"NetworkPolicy","metadata":{"name":"all","namespace":"y"},"spec":{"podSelector":{},"ingress":[{}]}}
+< ],"kind":"List"}
+* list
+> y/b[Pod] => x/a[Pod] : All Connections
+> 0.0.0.0-255.255.255.255 => x/a[Pod] : All Connections
+> ::-ffff:ffff:ffff:ffff:ffff:ffff:ffff:ffff => x/a[Pod] : All Connections
+> x/a[Pod] => 0.0.0.0-255.255.255.255 : All Connections
+> x/a[Pod] => ::-ffff:ffff:ffff:ffff:ffff:ffff:ffff:ffff : All Connections
+> 0.0.0.0-255.255.255.255 => y/b[Pod] : All Connections
+> ::-ffff:ffff:ffff:ffff:ffff:ffff:ffff:ffff => y/b[Pod] : All Connections
+> y/b[Pod] => 0.0.0.0-255.255.255.255 : All Connections
+> y/b[Pod] => ::-ffff:ffff:ffff:ffff:ffff:ffff:ffff:ffff : All Connections"#;
+
 #[test]
-fn templates(rt: HostRuntime) -> Result<(), Fail> {
-    static TWO: Case = Case {
-        items: &[(DEPLOYMENT, &[("NUMBER", "2")]), (POD_C, &[])],
-        rows: concat!(
-            "default/c[Pod] => default/web[Deployment] : All Connections\n",
-            "default/web[Deployment] => default/c[Pod] : All Connections\n",
-        ),
-        workloads: &[("default/c[Pod]", FREE), ("default/web[Deployment]", FREE)],
-        notes: "",
-    };
-    static NONE: Case = Case {
-        items: &[(DEPLOYMENT, &[("NUMBER", "0")]), (POD_C, &[])],
-        rows: "",
-        workloads: &[("default/c[Pod]", FREE)],
-        notes: "",
-    };
-    expect_case(&rt, rt.alloc(), &TWO)?;
-    expect_case(&rt, rt.alloc(), &NONE)
-}
-
-// A finished pod of a job of a cron job: neither controller stands for a pod.
-#[test]
-fn finished_jobs(rt: HostRuntime) -> Result<(), Fail> {
-    static CASE: Case = Case {
-        items: &[
-            (
-                r#"{"apiVersion":"batch/v1","kind":"CronJob","metadata":{"name":"nightly"},"spec":{"jobTemplate":{"spec":{"template":{"spec":{}}}}}}"#,
-                &[],
-            ),
-            (
-                r#"{"apiVersion":"batch/v1","kind":"Job","metadata":{"name":"nightly-1","ownerReferences":[{"kind":"CronJob","name":"nightly","controller":true}]},"spec":{"template":{"spec":{}}}}"#,
-                &[],
-            ),
-            (
-                r#"{"apiVersion":"v1","kind":"Pod","metadata":{"name":"nightly-1-x","ownerReferences":[{"kind":"Job","name":"nightly-1","controller":true}]},"spec":{},"status":{"phase":"Succeeded"}}"#,
-                &[],
-            ),
-            (POD_C, &[]),
-        ],
-        rows: "",
-        workloads: &[("default/c[Pod]", FREE)],
-        notes: "note: finished pods left out: 1\n",
-    };
-    expect_case(&rt, rt.alloc(), &CASE)
-}
-
-// Nothing to addresses.
-const AT_Z: Allowed = [
-    "All Connections",
-    "All Connections",
-    "No Connections",
-    "No Connections",
-];
-
-// One name of ports at two pods, each with its own number. No address has it.
-#[test]
-fn named_ports(rt: HostRuntime) -> Result<(), Fail> {
-    static CASE: Case = Case {
-        items: &[
-            (
-                r#"{"apiVersion":"v1","kind":"Pod","metadata":{"name":"x"},"spec":{"containers":[{"ports":[{"name":"http","containerPort":8080,"protocol":"TCP"}]}]}}"#,
-                &[],
-            ),
-            (
-                r#"{"apiVersion":"v1","kind":"Pod","metadata":{"name":"y"},"spec":{"containers":[{"ports":[{"name":"http","containerPort":80,"protocol":"TCP"}]}]}}"#,
-                &[],
-            ),
-            (
-                r#"{"apiVersion":"v1","kind":"Pod","metadata":{"name":"z","labels":{"app":"z"}},"spec":{}}"#,
-                &[],
-            ),
-            (
-                r#"{"apiVersion":"networking.k8s.io/v1","kind":"NetworkPolicy","metadata":{"name":"p"},"spec":{"podSelector":{"matchLabels":{"app":"z"}},"policyTypes":["Egress"],"egress":[{"ports":[{"port":"http"}]}]}}"#,
-                &[],
-            ),
-        ],
-        rows: concat!(
-            "default/x[Pod] => default/y[Pod] : All Connections\n",
-            "default/x[Pod] => default/z[Pod] : All Connections\n",
-            "default/y[Pod] => default/x[Pod] : All Connections\n",
-            "default/y[Pod] => default/z[Pod] : All Connections\n",
-            "default/z[Pod] => default/x[Pod] : TCP 8080\n",
-            "default/z[Pod] => default/y[Pod] : TCP 80\n",
-        ),
-        workloads: &[
-            ("default/x[Pod]", FREE),
-            ("default/y[Pod]", FREE),
-            ("default/z[Pod]", AT_Z),
-        ],
-        notes: "",
-    };
-    expect_case(&rt, rt.alloc(), &CASE)
-}
-
-// An AdminNetworkPolicy on the pods of the namespace `y`, with one action for those of `x`.
-const ADMIN: &str = concat!(
-    r#"{"apiVersion":"policy.networking.k8s.io/v1alpha1","kind":"AdminNetworkPolicy","metadata":{"name":"NAME"},"#,
-    r#""spec":{"priority":NUMBER,"subject":{"namespaces":{"matchLabels":{"kubernetes.io/metadata.name":"y"}}},"#,
-    r#""ingress":[{"action":"ACTION","from":[{"namespaces":{"matchLabels":{"kubernetes.io/metadata.name":"x"}}}]}]}}"#,
-);
-
-// Of two AdminNetworkPolicies the one of the lower number decides, whatever a NetworkPolicy permits.
-#[test]
-fn first_of_two_priorities(rt: HostRuntime) -> Result<(), Fail> {
-    static CASE: Case = Case {
-        items: &[
-            (
-                r#"{"apiVersion":"v1","kind":"Pod","metadata":{"name":"a","namespace":"x"},"spec":{}}"#,
-                &[],
-            ),
-            (
-                r#"{"apiVersion":"v1","kind":"Pod","metadata":{"name":"b","namespace":"y"},"spec":{}}"#,
-                &[],
-            ),
-            (
-                ADMIN,
-                &[("NAME", "second"), ("NUMBER", "20"), ("ACTION", "Allow")],
-            ),
-            (
-                ADMIN,
-                &[("NAME", "first"), ("NUMBER", "10"), ("ACTION", "Deny")],
-            ),
-            (
-                r#"{"apiVersion":"networking.k8s.io/v1","kind":"NetworkPolicy","metadata":{"name":"all","namespace":"y"},"spec":{"podSelector":{},"ingress":[{}]}}"#,
-                &[],
-            ),
-        ],
-        rows: "y/b[Pod] => x/a[Pod] : All Connections\n",
-        workloads: &[("x/a[Pod]", FREE), ("y/b[Pod]", FREE)],
-        notes: "",
-    };
-    expect_case(&rt, rt.alloc(), &CASE)
+fn cluster_lists(rt: HostRuntime) -> Result<(), Fail> {
+    expect_script(&rt, rt.alloc(), SCRIPT, None)?;
+    Ok(())
 }

@@ -1,149 +1,106 @@
-//! One call that fails, at each place in turn, until a run meets no such call.
+//! Runs of which one call fails.
 
-use crate::runs::{Ran, expect, is_cut, is_text, run, sink, source};
-use crate::texts::{BAD_PROTOCOL, TWO_PODS, TWO_PODS_TABLE};
-use np_base::NoMemory;
-use np_cli::Status;
-use np_io::{MemInputs, MemSink};
-use std::alloc::Global;
-use std::process::Abort;
+use crate::failing::Place;
+use crate::script::expect_script;
 use std::test::Fail;
 
-// How many bytes a read hands out at most.
-const READ_PIECE: usize = 16;
+static TABLES: &str = r#"# two pods
+< {"apiVersion":"v1","items":[
+< {"apiVersion":"v1","kind":"Pod","metadata":{"name":"a","namespace":"default","labels":{"app":"a"}},"spec":{"containers":[{"ports":[]}]}},
+< {"apiVersion":"v1","kind":"Pod","metadata":{"name":"b","namespace":"default","labels":{"app":"b"}},"spec":{"containers":[{"ports":[]}]}},
+< {"apiVersion":"networking.k8s.io/v1","kind":"NetworkPolicy","metadata":{"name":"p","namespace":"default"},"spec":{"podSelector":{"matchLabels":{"app":"b"}},"ingress":[{"from":[{"podSelector":{"matchLabels":{"app":"a"}}}],"ports":[{"protocol":"TCP","port":80}]}]}}
+< ],"kind":"List"}
+0 list --report 1
+> default/a[Pod] => default/b[Pod] : TCP 80
+> default/b[Pod] => default/a[Pod] : All Connections
+> 0.0.0.0-255.255.255.255 => default/a[Pod] : All Connections
+> ::-ffff:ffff:ffff:ffff:ffff:ffff:ffff:ffff => default/a[Pod] : All Connections
+> default/a[Pod] => 0.0.0.0-255.255.255.255 : All Connections
+> default/a[Pod] => ::-ffff:ffff:ffff:ffff:ffff:ffff:ffff:ffff : All Connections
+> 0.0.0.0-255.255.255.255 => default/b[Pod] : No Connections
+> ::-ffff:ffff:ffff:ffff:ffff:ffff:ffff:ffff => default/b[Pod] : No Connections
+> default/b[Pod] => 0.0.0.0-255.255.255.255 : All Connections
+> default/b[Pod] => ::-ffff:ffff:ffff:ffff:ffff:ffff:ffff:ffff : All Connections
 
-// How many bytes a write takes at most.
-const WRITE_PIECE: usize = 8;
+0 list
+> default/a[Pod] => default/b[Pod] : TCP 80
+> default/b[Pod] => default/a[Pod] : All Connections
+> 0.0.0.0/0 => default/a[Pod] : All Connections
+> ::/0 => default/a[Pod] : All Connections
+> default/a[Pod] => 0.0.0.0/0 : All Connections
+> default/a[Pod] => ::/0 : All Connections
+> 0.0.0.0/0 => default/b[Pod] : No Connections
+> ::/0 => default/b[Pod] : No Connections
+> default/b[Pod] => 0.0.0.0/0 : All Connections
+> default/b[Pod] => ::/0 : All Connections
 
-// More calls than a run makes at a place.
-const MANY_CALLS: u64 = 1000;
+0 list --format csv --focus default/b[Pod] --side to
+> source,destination,connections
+> default/a[Pod],default/b[Pod],TCP 80
+> 0.0.0.0/0,default/b[Pod],No Connections
+> ::/0,default/b[Pod],No Connections
 
-// Where a call fails.
-#[derive(Clone, Copy)]
-enum Place {
-    Begin,
-    Read,
-    Out,
-    Err,
-}
+0 list --format json --focus default/a[Pod] --side from
+> [{"connections":"TCP 80","destination":"default/b[Pod]","source":"default/a[Pod]"},
+> {"connections":"All Connections","destination":"0.0.0.0/0","source":"default/a[Pod]"},
+> {"connections":"All Connections","destination":"::/0","source":"default/a[Pod]"}]
 
-// The run on a list whose call of this number at the place fails.
-fn run_failing(alloc: Global, list: &str, place: Place, call: u64) -> Result<Ran, NoMemory> {
-    let mut inputs = source(alloc, list.as_bytes(), READ_PIECE)?;
-    let mut out = sink(alloc, WRITE_PIECE)?;
-    let mut err = sink(alloc, WRITE_PIECE)?;
-    fail(&mut inputs, &mut out, &mut err, place, call)?;
-    run(alloc, "list", inputs, out, err)
-}
+0 evaluate --from default/a --to default/b --protocol TCP --port 81
+> default/a => default/b : TCP 81 : Deny
 
-// From now on the call of this number at the place fails.
-fn fail(
-    inputs: &mut MemInputs,
-    out: &mut MemSink,
-    err: &mut MemSink,
-    place: Place,
-    call: u64,
-) -> Result<(), NoMemory> {
-    match place {
-        Place::Begin => inputs.fail_begin(call),
-        Place::Read => inputs.fail_read(call),
-        Place::Out => out.fail_write(call),
-        Place::Err => err.fail_write(call),
-    }
-}
+# no rows
+< {"apiVersion":"v1","items":[],"kind":"List"}
+0 list --format csv
+> source,destination,connections
 
-// How many calls at a place of the source there are to fail. The run in which one does writes no table, and says so.
-fn unread(rt: &impl Abort, alloc: Global, place: Place) -> Result<u64, NoMemory> {
-    for call in 1..MANY_CALLS {
-        let ran = run_failing(alloc, TWO_PODS, place, call)?;
-        if ran.status == Status::Done {
-            expect(
-                rt,
-                &ran,
-                Status::Done,
-                TWO_PODS_TABLE,
-                "",
-                "no failing call",
-            );
-            return Ok(call - 1);
-        }
-        expect(
-            rt,
-            &ran,
-            Status::Device,
-            "",
-            "error: cannot read -\n",
-            "a failing call",
-        );
-    }
-    panic!(rt; "each run meets a failing call")
-}
+0 list --format json
+> []"#;
+
+static MESSAGES: &str = r#"# notes
+< {"apiVersion":"v1","items":[
+< {"apiVersion":"v1","kind":"Pod","metadata":{"name":"a","namespace":"default"},"spec":{}},
+< {"apiVersion":"v1","kind":"Pod","metadata":{"name":"h"},"spec":{"hostNetwork":true}},
+< {"apiVersion":"v1","kind":"Pod","metadata":{"name":"f"},"spec":{},"status":{"phase":"Succeeded"}},
+< {"apiVersion":"v1","kind":"ConfigMap","metadata":{"name":"c"}}
+< ],"kind":"List"}
+* list
+> 0.0.0.0-255.255.255.255 => default/a[Pod] : All Connections
+> ::-ffff:ffff:ffff:ffff:ffff:ffff:ffff:ffff => default/a[Pod] : All Connections
+> default/a[Pod] => 0.0.0.0-255.255.255.255 : All Connections
+> default/a[Pod] => ::-ffff:ffff:ffff:ffff:ffff:ffff:ffff:ffff : All Connections
+! note: host network pods left out: 1
+! note: finished pods left out: 1
+! note: objects of other kinds skipped: 1
+
+0 evaluate --from default/a --to ::1 --protocol TCP --port 81
+> default/a => ::1 : TCP 81 : Allow
+! note: host network pods left out: 1
+! note: finished pods left out: 1
+! note: objects of other kinds skipped: 1
+
+# a fault
+< {"apiVersion":"v1","items":[
+< {"apiVersion":"policy.networking.k8s.io/v1alpha1","kind":"AdminNetworkPolicy","metadata":{"name":"deny-b"},"spec":{"priority":7,"subject":{"namespaces":{}}}},
+< {"apiVersion":"policy.networking.k8s.io/v1alpha1","kind":"AdminNetworkPolicy","metadata":{"name":"deny-a"},"spec":{"priority":7,"subject":{"namespaces":{}}}}
+< ],"kind":"List"}
+1 list
+1 list --format json
+1 evaluate --from default/a --to ::1 --protocol TCP --port 81
+! error: EqualPriority 7: deny-a, deny-b"#;
+
+static USAGE: &str = r#"# other words
+2 list --report 3
+! usage: np list [--format text|csv|json] [--report 1|2] [--focus NAME] [--side either|from|to] [FILE]...
+!        np evaluate --from END --to END --protocol P --port N [FILE]..."#;
 
 #[test]
-fn the_source_fails(rt: HostRuntime) -> Result<(), Fail> {
-    assert_eq!(rt; unread(&rt, rt.alloc(), Place::Begin)?, 1);
-    // A read for each piece, and one that tells the end.
-    let reads = TWO_PODS.len().div_ceil(READ_PIECE) as u64 + 1;
-    assert_eq!(rt; unread(&rt, rt.alloc(), Place::Read)?, reads);
+fn failures(rt: HostRuntime) -> Result<(), Fail> {
+    let alloc = rt.alloc();
+    expect_script(&rt, alloc, TABLES, None)?;
+    expect_script(&rt, alloc, TABLES, Some(Place::Begin))?;
+    expect_script(&rt, alloc, TABLES, Some(Place::Read))?;
+    expect_script(&rt, alloc, TABLES, Some(Place::Out))?;
+    expect_script(&rt, alloc, MESSAGES, Some(Place::Err))?;
+    expect_script(&rt, alloc, USAGE, Some(Place::Err))?;
     Ok(())
-}
-
-#[test]
-fn the_sink_of_the_table_fails(rt: HostRuntime) -> Result<(), Fail> {
-    let least = TWO_PODS_TABLE.len().div_ceil(WRITE_PIECE) as u64;
-    for call in 1..MANY_CALLS {
-        let ran = run_failing(rt.alloc(), TWO_PODS, Place::Out, call)?;
-        if ran.status == Status::Done {
-            expect(
-                &rt,
-                &ran,
-                Status::Done,
-                TWO_PODS_TABLE,
-                "",
-                "no failing call",
-            );
-            assert!(rt; least < call);
-            return Ok(());
-        }
-        assert!(rt; is_unwritten(&ran), "at call {call}");
-    }
-    panic!(rt; "each run meets a failing call")
-}
-
-// Whether the table was cut, and this is said.
-fn is_unwritten(ran: &Ran) -> bool {
-    ran.status == Status::Device
-        && is_cut(ran.out.taken(), TWO_PODS_TABLE)
-        && is_text(ran.err.taken(), "error: cannot write\n")
-}
-
-// A message that is cut changes nothing else.
-#[test]
-fn the_sink_of_messages_fails(rt: HostRuntime) -> Result<(), Fail> {
-    let least = BAD_PROTOCOL.len().div_ceil(WRITE_PIECE) as u64;
-    let list = TWO_PODS.replace(rt.alloc(), "TCP", "ICMP")?;
-    for call in 1..MANY_CALLS {
-        let ran = run_failing(rt.alloc(), list.as_str(), Place::Err, call)?;
-        if is_text(ran.err.taken(), BAD_PROTOCOL) {
-            expect(
-                &rt,
-                &ran,
-                Status::Refused,
-                "",
-                BAD_PROTOCOL,
-                "no failing call",
-            );
-            assert!(rt; least < call);
-            return Ok(());
-        }
-        assert!(rt; is_unsaid(&ran), "at call {call}");
-    }
-    panic!(rt; "each run meets a failing call")
-}
-
-// Whether the message of a refusal was cut.
-fn is_unsaid(ran: &Ran) -> bool {
-    ran.status == Status::Refused
-        && is_text(ran.out.taken(), "")
-        && is_cut(ran.err.taken(), BAD_PROTOCOL)
 }

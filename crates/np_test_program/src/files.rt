@@ -1,15 +1,12 @@
 //! Words that name files.
 
-use crate::runs::{LARGE_PIECE, Ran, expect, run, sink};
-use crate::texts::TWO_PODS_TABLE;
+use crate::runs::{LARGE_PIECE, Wanted, expect_over};
 use np_base::NoMemory;
 use np_cli::Status;
 use np_io::MemInputs;
 use std::alloc::Global;
+use std::process::Abort;
 use std::test::Fail;
-
-// How many bytes all inputs may have together.
-const SIZE_LIMIT: usize = 33_554_432;
 
 // The pods `a` and `b`.
 static PODS: &str = concat!(
@@ -32,7 +29,7 @@ static BAD_POLICY: &str = concat!(
 );
 
 // A source of these.
-fn source(alloc: Global) -> Result<MemInputs, NoMemory> {
+fn source_of_files(alloc: Global) -> Result<MemInputs, NoMemory> {
     let mut inputs = MemInputs::new(alloc, LARGE_PIECE);
     for (name, text) in [
         ("-", POLICY),
@@ -40,6 +37,7 @@ fn source(alloc: Global) -> Result<MemInputs, NoMemory> {
         ("policy", POLICY),
         ("--policy", POLICY),
         ("bad", BAD_POLICY),
+        ("empty", r#"{"apiVersion":"v1","items":[],"kind":"List"}"#),
         ("values", "[]"),
     ] {
         inputs.add(name, text.as_bytes())?;
@@ -47,107 +45,132 @@ fn source(alloc: Global) -> Result<MemInputs, NoMemory> {
     Ok(inputs)
 }
 
-// The run on this source.
-fn run_over(alloc: Global, line: &str, inputs: MemInputs) -> Result<Ran, NoMemory> {
-    let out = sink(alloc, LARGE_PIECE)?;
-    let err = sink(alloc, LARGE_PIECE)?;
-    run(alloc, line, inputs, out, err)
+// Stops the test where a run on these words over that source ends otherwise, or writes or says anything but the text beside
+// them.
+fn expect_files(
+    rt: &impl Abort,
+    alloc: Global,
+    lines: &[[&str; 2]],
+    status: Status,
+) -> Result<(), NoMemory> {
+    for [words, text] in lines {
+        let (out, err) = match status {
+            Status::Done => (*text, ""),
+            _ => ("", *text),
+        };
+        let wanted = Wanted {
+            input: "",
+            words,
+            status,
+            out,
+            err,
+        };
+        expect_over(rt, alloc, source_of_files(alloc)?, wanted)?;
+    }
+    Ok(())
 }
+
+// The table of the two pods and the policy, in both reports.
+const IN_RANGES: &str = concat!(
+    "default/a[Pod] => default/b[Pod] : TCP 80\n",
+    "default/b[Pod] => default/a[Pod] : All Connections\n",
+    "0.0.0.0-255.255.255.255 => default/a[Pod] : All Connections\n",
+    "::-ffff:ffff:ffff:ffff:ffff:ffff:ffff:ffff => default/a[Pod] : All Connections\n",
+    "default/a[Pod] => 0.0.0.0-255.255.255.255 : All Connections\n",
+    "default/a[Pod] => ::-ffff:ffff:ffff:ffff:ffff:ffff:ffff:ffff : All Connections\n",
+    "0.0.0.0-255.255.255.255 => default/b[Pod] : No Connections\n",
+    "::-ffff:ffff:ffff:ffff:ffff:ffff:ffff:ffff => default/b[Pod] : No Connections\n",
+    "default/b[Pod] => 0.0.0.0-255.255.255.255 : All Connections\n",
+    "default/b[Pod] => ::-ffff:ffff:ffff:ffff:ffff:ffff:ffff:ffff : All Connections\n",
+);
+
+const IN_CIDRS: &str = concat!(
+    "default/a[Pod] => default/b[Pod] : TCP 80\n",
+    "default/b[Pod] => default/a[Pod] : All Connections\n",
+    "0.0.0.0/0 => default/a[Pod] : All Connections\n",
+    "::/0 => default/a[Pod] : All Connections\n",
+    "default/a[Pod] => 0.0.0.0/0 : All Connections\n",
+    "default/a[Pod] => ::/0 : All Connections\n",
+    "0.0.0.0/0 => default/b[Pod] : No Connections\n",
+    "::/0 => default/b[Pod] : No Connections\n",
+    "default/b[Pod] => 0.0.0.0/0 : All Connections\n",
+    "default/b[Pod] => ::/0 : All Connections\n",
+);
 
 // The inputs are read in the order of the words, and their items are one list.
-static ONE_LIST: &[&str] = &[
-    "list pods policy",
-    "list policy pods",
-    "list pods -",
-    "list - pods",
-    "list pods -- policy",
-    "list -- pods policy",
-    "list pods -- --policy",
-    "list -- - pods",
+static ONE_LIST: &[[&str; 2]] = &[
+    ["list pods policy", IN_CIDRS],
+    ["list policy pods", IN_CIDRS],
+    ["list pods -", IN_CIDRS],
+    ["list - pods", IN_CIDRS],
+    ["list pods -- policy", IN_CIDRS],
+    ["list -- pods policy", IN_CIDRS],
+    ["list pods -- --policy", IN_CIDRS],
+    ["list -- - pods", IN_CIDRS],
+    ["list --report 1 pods policy", IN_RANGES],
+    ["list policy --report 1 pods", IN_RANGES],
+    ["list pods - --report=1", IN_RANGES],
+    ["list --report 1 -- - pods", IN_RANGES],
+    [
+        "evaluate --from default/a --to default/b --protocol TCP --port 80 pods policy",
+        "default/a => default/b : TCP 80 : Allow\n",
+    ],
+    [
+        "evaluate - pods --from default/a --to default/b --protocol TCP --port 81",
+        "default/a => default/b : TCP 81 : Deny\n",
+    ],
 ];
-
-#[test]
-fn files_are_one_list(rt: HostRuntime) -> Result<(), Fail> {
-    for line in ONE_LIST {
-        let ran = run_over(rt.alloc(), line, source(rt.alloc())?)?;
-        expect(&rt, &ran, Status::Done, TWO_PODS_TABLE, "", line);
-    }
-    Ok(())
-}
 
 // Items are numbered over all inputs, and inputs by the words.
-static REFUSED: &[(&str, &str)] = &[
-    (
+static REFUSED: &[[&str; 2]] = &[
+    [
         "list pods bad",
         "error: item 3: spec.podSelector: BadSelector\n",
-    ),
-    (
+    ],
+    [
         "list bad pods",
         "error: item 1: spec.podSelector: BadSelector\n",
-    ),
-    ("list pods values", "error: input 2: NotAList\n"),
-    ("list pods pods", "error: items 1 and 3: Duplicate\n"),
-    ("list policy - pods", "error: items 1 and 2: Duplicate\n"),
+    ],
+    ["list pods values", "error: input 2: NotAList\n"],
+    ["list empty values", "error: input 2: NotAList\n"],
+    ["list pods pods", "error: items 1 and 3: Duplicate\n"],
+    ["list policy - pods", "error: items 1 and 2: Duplicate\n"],
+];
+
+// The first name that is not there, and none behind it. Behind two hyphens an option is a name.
+static NOT_THERE: &[[&str; 2]] = &[
+    ["list absent", "error: cannot read absent\n"],
+    ["list pods absent missing", "error: cannot read absent\n"],
+    ["list bad absent", "error: cannot read absent\n"],
+    ["list --focus x absent", "error: cannot read absent\n"],
+    [
+        "evaluate --from default/q --to default/q --protocol TCP --port 80 absent missing",
+        "error: cannot read absent\n",
+    ],
+    ["list list", "error: cannot read list\n"],
+    ["list -- --format csv", "error: cannot read --format\n"],
 ];
 
 #[test]
-fn files_are_refused(rt: HostRuntime) -> Result<(), Fail> {
-    for (line, message) in REFUSED {
-        let ran = run_over(rt.alloc(), line, source(rt.alloc())?)?;
-        expect(&rt, &ran, Status::Refused, "", message, line);
-    }
-    Ok(())
-}
-
-// The first name that is not there, and none behind it.
-static NOT_THERE: &[(&str, &str)] = &[
-    ("list absent", "error: cannot read absent\n"),
-    ("list pods absent missing", "error: cannot read absent\n"),
-    ("list list", "error: cannot read list\n"),
-    ("list bad absent", "error: cannot read absent\n"),
-];
-
-#[test]
-fn files_that_are_not_there(rt: HostRuntime) -> Result<(), Fail> {
-    for (line, message) in NOT_THERE {
-        let ran = run_over(rt.alloc(), line, source(rt.alloc())?)?;
-        expect(&rt, &ran, Status::Device, "", message, line);
-    }
+fn files(rt: HostRuntime) -> Result<(), Fail> {
+    expect_files(&rt, rt.alloc(), ONE_LIST, Status::Done)?;
+    expect_files(&rt, rt.alloc(), REFUSED, Status::Refused)?;
+    expect_files(&rt, rt.alloc(), NOT_THERE, Status::Device)?;
     Ok(())
 }
 
 // A call for the second of two names fails.
 #[test]
 fn the_second_file_fails(rt: HostRuntime) -> Result<(), Fail> {
-    let mut inputs = source(rt.alloc())?;
+    let mut inputs = source_of_files(rt.alloc())?;
     inputs.fail_begin(2)?;
-    let ran = run_over(rt.alloc(), "list policy pods", inputs)?;
-    expect(
-        &rt,
-        &ran,
-        Status::Device,
-        "",
-        "error: cannot read pods\n",
-        "a failing call",
-    );
-    Ok(())
-}
-
-// All inputs together have one byte more than they may have.
-#[test]
-fn files_of_too_many_bytes(rt: HostRuntime) -> Result<(), Fail> {
-    let mut inputs = MemInputs::new(rt.alloc(), LARGE_PIECE);
-    let spaces = vec![in rt.alloc(); b' '; SIZE_LIMIT]?;
-    inputs.add("f1", &spaces)?;
-    inputs.add("f2", b" ")?;
-    let ran = run_over(rt.alloc(), "list f1 f2", inputs)?;
-    expect(
-        &rt,
-        &ran,
-        Status::Refused,
-        "",
-        "error: TooLarge\n",
-        "one byte more",
-    );
+    let wanted = Wanted {
+        input: "",
+        words: "list policy pods",
+        status: Status::Device,
+        out: "",
+        err: "error: cannot read pods\n",
+    };
+    expect_over(&rt, rt.alloc(), inputs, wanted)?;
     Ok(())
 }

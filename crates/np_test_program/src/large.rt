@@ -1,148 +1,69 @@
 //! Large lists that are accepted, and their tables.
 
-use crate::objects::{POD, filled, items_of_many};
-use crate::runs::expect_table;
-use crate::table_text::{FREE, SHUT, push_address_rows, sorted_names, table_text};
-use np_samples::list_of;
-use std::alloc::{AllocError, Global};
-use std::fmt::Write;
+use crate::script::expect_script;
 use std::test::Fail;
 
-// A pod of the first of the ReplicaSets.
-static POD_OF_THE_FIRST: &str = concat!(
-    r#"{"apiVersion":"v1","kind":"Pod","metadata":{"name":"p","#,
-    r#""ownerReferences":[{"kind":"ReplicaSet","name":"r0","controller":true}]},"spec":{}}"#,
-);
+static SCRIPT: &str =
+    r#"# a pod of the first of 2,000 ReplicaSets, each owned by the next: its workload has the name of the last
+< {"apiVersion":"v1","kind":"List","items":[{"apiVersion":"v1","kind":"Pod","metadata":{"name":"p","ownerReferences":[{"kind":"ReplicaSet","name":"r0","controller":true}]},"spec":{}},
+<1999 {"apiVersion":"apps/v1","kind":"ReplicaSet","metadata":{"name":"r#","ownerReferences":[{"kind":"ReplicaSet","name":"r%n","controller":true}]},"spec":{"template":{"spec":{}}}},
+< {"apiVersion":"apps/v1","kind":"ReplicaSet","metadata":{"name":"r1999"},"spec":{"template":{"spec":{}}}}]}
+* list
+> 0.0.0.0-255.255.255.255 => default/r1999[ReplicaSet] : All Connections
+> ::-ffff:ffff:ffff:ffff:ffff:ffff:ffff:ffff => default/r1999[ReplicaSet] : All Connections
+> default/r1999[ReplicaSet] => 0.0.0.0-255.255.255.255 : All Connections
+> default/r1999[ReplicaSet] => ::-ffff:ffff:ffff:ffff:ffff:ffff:ffff:ffff : All Connections
 
-// A ReplicaSet that the next one owns.
-static OWNED_SET: &str = concat!(
-    r#"{"apiVersion":"apps/v1","kind":"ReplicaSet","metadata":{"name":"rTHIS","#,
-    r#""ownerReferences":[{"kind":"ReplicaSet","name":"rNEXT","controller":true}]},"#,
-    r#""spec":{"template":{"spec":{}}}},"#,
-);
+# the same chain turned round
+< {"apiVersion":"v1","kind":"List","items":[
+<1999 {"apiVersion":"apps/v1","kind":"ReplicaSet","metadata":{"name":"r%-","ownerReferences":[{"kind":"ReplicaSet","name":"r%+","controller":true}]},"spec":{"template":{"spec":{}}}},
+< {"apiVersion":"v1","kind":"Pod","metadata":{"name":"p","ownerReferences":[{"kind":"ReplicaSet","name":"r0","controller":true}]},"spec":{}},{"apiVersion":"apps/v1","kind":"ReplicaSet","metadata":{"name":"r1999"},"spec":{"template":{"spec":{}}}}]}
+* list
+> 0.0.0.0-255.255.255.255 => default/r1999[ReplicaSet] : All Connections
+> ::-ffff:ffff:ffff:ffff:ffff:ffff:ffff:ffff => default/r1999[ReplicaSet] : All Connections
+> default/r1999[ReplicaSet] => 0.0.0.0-255.255.255.255 : All Connections
+> default/r1999[ReplicaSet] => ::-ffff:ffff:ffff:ffff:ffff:ffff:ffff:ffff : All Connections
 
-static LAST_SET: &str =
-    r#"{"apiVersion":"apps/v1","kind":"ReplicaSet","metadata":{"name":"r1999"},"spec":{"template":{"spec":{}}}}"#;
+# the greatest number of workloads, each of one pod, where nothing passes: no pair row, and four rows for each
+< {"apiVersion":"v1","kind":"List","items":[
+<2000 {"apiVersion":"v1","kind":"Pod","metadata":{"name":"p%k"},"spec":{}},
+< {"apiVersion":"networking.k8s.io/v1","kind":"NetworkPolicy","metadata":{"name":"shut"},"spec":{"podSelector":{},"policyTypes":["Ingress","Egress"]}}]}
+* list
+>2000 0.0.0.0-255.255.255.255 => default/p%k[Pod] : No Connections%;::-ffff:ffff:ffff:ffff:ffff:ffff:ffff:ffff => default/p%k[Pod] : No Connections%;default/p%k[Pod] => 0.0.0.0-255.255.255.255 : No Connections%;default/p%k[Pod] => ::-ffff:ffff:ffff:ffff:ffff:ffff:ffff:ffff : No Connections
 
-// The ReplicaSets but the last one, each owned by the next, from the first one on or the other way.
-fn owned_sets(alloc: Global, is_turned: bool) -> Result<String, AllocError> {
-    let mut text = String::new(alloc);
-    for place in 0..1_999usize {
-        let this = if is_turned { 1_998 - place } else { place };
-        let next = this + 1;
-        let this = format!(in alloc; "{this}")?;
-        let next = format!(in alloc; "{next}")?;
-        let words = [("THIS", this.as_str()), ("NEXT", next.as_str())];
-        text.push_str(filled(alloc, OWNED_SET, &words)?.as_str())?;
-    }
-    Ok(text)
-}
+# one pod more than there may be workloads, all of one owner
+< {"apiVersion":"v1","kind":"List","items":[
+<2000 {"apiVersion":"v1","kind":"Pod","metadata":{"name":"web-#","labels":{"n":"n#"},"ownerReferences":[{"kind":"ReplicaSet","name":"web","controller":true}]},"spec":{}},
+< {"apiVersion":"v1","kind":"Pod","metadata":{"name":"last","ownerReferences":[{"kind":"ReplicaSet","name":"web","controller":true}]},"spec":{}}]}
+* list
+> default/web[ReplicaSet] => default/web[ReplicaSet] : All Connections
+> 0.0.0.0-255.255.255.255 => default/web[ReplicaSet] : All Connections
+> ::-ffff:ffff:ffff:ffff:ffff:ffff:ffff:ffff => default/web[ReplicaSet] : All Connections
+> default/web[ReplicaSet] => 0.0.0.0-255.255.255.255 : All Connections
+> default/web[ReplicaSet] => ::-ffff:ffff:ffff:ffff:ffff:ffff:ffff:ffff : All Connections
 
-// A pod of the first of 2,000 ReplicaSets, each owned by the next: its workload has the name of the last.
+# a row for each of 2,000 rules, since each permits another port
+< {"apiVersion":"v1","kind":"List","items":[{"apiVersion":"v1","kind":"Pod","metadata":{"name":"a"},"spec":{}},{"apiVersion":"networking.k8s.io/v1","kind":"NetworkPolicy","metadata":{"name":"many"},"spec":{"podSelector":{},"ingress":[
+<1999 {"from":[{"ipBlock":{"cidr":"10.%h.%l.0/24"}}],"ports":[{"port":%n}]},
+< {"from":[{"ipBlock":{"cidr":"10.7.207.0/24"}}],"ports":[{"port":2000}]}]}}]}
+0 list --report 1
+> 0.0.0.0-9.255.255.255 => default/a[Pod] : No Connections
+>2000 10.%h.%l.0-10.%h.%l.255 => default/a[Pod] : TCP %n
+> 10.7.208.0-255.255.255.255 => default/a[Pod] : No Connections
+> ::-ffff:ffff:ffff:ffff:ffff:ffff:ffff:ffff => default/a[Pod] : No Connections
+> default/a[Pod] => 0.0.0.0-255.255.255.255 : All Connections
+> default/a[Pod] => ::-ffff:ffff:ffff:ffff:ffff:ffff:ffff:ffff : All Connections
+
+0 list
+> 0.0.0.0/5,8.0.0.0/7 => default/a[Pod] : No Connections
+>2000 10.%h.%l.0/24 => default/a[Pod] : TCP %n
+> 10.7.208.0/20,10.7.224.0/19,10.8.0.0/13,10.16.0.0/12,10.32.0.0/11,10.64.0.0/10,10.128.0.0/9,11.0.0.0/8,12.0.0.0/6,16.0.0.0/4,32.0.0.0/3,64.0.0.0/2,128.0.0.0/1 => default/a[Pod] : No Connections
+> ::/0 => default/a[Pod] : No Connections
+> default/a[Pod] => 0.0.0.0/0 : All Connections
+> default/a[Pod] => ::/0 : All Connections"#;
+
 #[test]
-fn a_long_chain_of_owners(rt: HostRuntime) -> Result<(), Fail> {
-    let alloc = rt.alloc();
-    let table = table_text(alloc, "", &[("default/r1999[ReplicaSet]", FREE)])?;
-    for (is_turned, case) in [(false, "from the first"), (true, "from the last")] {
-        let mut sets = owned_sets(alloc, is_turned)?;
-        sets.push_str(LAST_SET)?;
-        let text = list_of(alloc, &[sets.as_str(), POD_OF_THE_FIRST])?;
-        expect_table(&rt, alloc, text.as_str(), table.as_str(), "", case)?;
-    }
-    Ok(())
-}
-
-static BARE_POD: &str = r#"{"apiVersion":"v1","kind":"Pod","metadata":{"name":"p#"},"spec":{}}"#;
-
-static SHUT_ALL: &str = concat!(
-    r#"{"apiVersion":"networking.k8s.io/v1","kind":"NetworkPolicy","metadata":{"name":"shut"},"#,
-    r#""spec":{"podSelector":{},"policyTypes":["Ingress","Egress"]}}"#,
-);
-
-// The greatest number of workloads, each of one pod, where nothing passes: no pair row, and four rows for each.
-#[test]
-fn most_workloads_shut(rt: HostRuntime) -> Result<(), Fail> {
-    let alloc = rt.alloc();
-    let pods = items_of_many(alloc, 2_000, BARE_POD)?;
-    let text = list_of(alloc, &[pods.as_str(), SHUT_ALL])?;
-    let mut table = String::new(alloc);
-    for placed in &sorted_names(alloc, 2_000, "default/p#[Pod]")? {
-        push_address_rows(&mut table, placed.name.as_str(), SHUT)?;
-    }
-    expect_table(&rt, alloc, text.as_str(), table.as_str(), "", "2000 pods")?;
-    Ok(())
-}
-
-static OWNED_POD: &str = concat!(
-    r#"{"apiVersion":"v1","kind":"Pod","metadata":{"name":"web-#","labels":{"n":"n#"},"#,
-    r#""ownerReferences":[{"kind":"ReplicaSet","name":"web","controller":true}]},"spec":{}}"#,
-);
-
-// One pod more than there may be workloads, all of one owner.
-#[test]
-fn many_pods_of_one_owner(rt: HostRuntime) -> Result<(), Fail> {
-    let alloc = rt.alloc();
-    let pods = items_of_many(alloc, 2_001, OWNED_POD)?;
-    let text = list_of(alloc, &[pods.as_str()])?;
-    let table = table_text(
-        alloc,
-        "default/web[ReplicaSet] => default/web[ReplicaSet] : All Connections\n",
-        &[("default/web[ReplicaSet]", FREE)],
-    )?;
-    expect_table(&rt, alloc, text.as_str(), table.as_str(), "", "2001 pods")?;
-    Ok(())
-}
-
-// A policy on all pods with these ingress rules.
-static MANY_RULES: &str = concat!(
-    r#"{"apiVersion":"networking.k8s.io/v1","kind":"NetworkPolicy","metadata":{"name":"many"},"#,
-    r#""spec":{"podSelector":{},"ingress":[RULES]}}"#,
-);
-
-// The rules, each of a block and a port of its own.
-fn rules(alloc: Global) -> Result<String, AllocError> {
-    let mut text = String::new(alloc);
-    for rule in 0..2_000usize {
-        let [high, low, port] = [rule / 256, rule % 256, rule + 1];
-        let comma = if rule == 0 { "" } else { "," };
-        write!(
-            text,
-            r#"{comma}{{"from":[{{"ipBlock":{{"cidr":"10.{high}.{low}.0/24"}}}}],"ports":[{{"port":{port}}}]}}"#
-        )?;
-    }
-    Ok(text)
-}
-
-// The rows of the blocks.
-fn block_rows(alloc: Global) -> Result<String, AllocError> {
-    let mut text = String::new(alloc);
-    for rule in 0..2_000usize {
-        let [high, low, port] = [rule / 256, rule % 256, rule + 1];
-        writeln!(
-            text,
-            "10.{high}.{low}.0-10.{high}.{low}.255 => default/a[Pod] : TCP {port}"
-        )?;
-    }
-    Ok(text)
-}
-
-// A row for each of 2,000 rules, since each permits another port.
-#[test]
-fn many_rules(rt: HostRuntime) -> Result<(), Fail> {
-    let alloc = rt.alloc();
-    let rules = rules(alloc)?;
-    let policy = filled(alloc, MANY_RULES, &[("RULES", rules.as_str())])?;
-    let text = list_of(alloc, &[POD, policy.as_str()])?;
-    let blocks = block_rows(alloc)?;
-    let table = [
-        "0.0.0.0-9.255.255.255 => default/a[Pod] : No Connections\n",
-        blocks.as_str(),
-        "10.7.208.0-255.255.255.255 => default/a[Pod] : No Connections\n",
-        "::-ffff:ffff:ffff:ffff:ffff:ffff:ffff:ffff => default/a[Pod] : No Connections\n",
-        "default/a[Pod] => 0.0.0.0-255.255.255.255 : All Connections\n",
-        "default/a[Pod] => ::-ffff:ffff:ffff:ffff:ffff:ffff:ffff:ffff : All Connections\n",
-    ]
-    .concat(alloc)?;
-    expect_table(&rt, alloc, text.as_str(), table.as_str(), "", "2000 rules")?;
+fn large_lists(rt: HostRuntime) -> Result<(), Fail> {
+    expect_script(&rt, rt.alloc(), SCRIPT, None)?;
     Ok(())
 }

@@ -5,9 +5,13 @@
 #[cfg(test)]
 mod addresses;
 #[cfg(test)]
-mod case;
-#[cfg(test)]
 mod cluster_lists;
+#[cfg(test)]
+mod command_lines;
+#[cfg(test)]
+mod evaluations;
+#[cfg(test)]
+mod failing;
 #[cfg(test)]
 mod failures;
 #[cfg(test)]
@@ -15,28 +19,30 @@ mod families;
 #[cfg(test)]
 mod files;
 #[cfg(test)]
+mod focus;
+#[cfg(test)]
 mod folds;
+#[cfg(test)]
+mod formats;
 #[cfg(test)]
 mod large;
 #[cfg(test)]
 mod limits;
 #[cfg(test)]
+mod no_json;
+#[cfg(test)]
 mod notes;
 #[cfg(test)]
-mod objects;
+mod places;
 #[cfg(test)]
 mod refusals;
-#[cfg(test)]
-mod refused_lists;
 #[cfg(test)]
 mod runs;
 #[cfg(test)]
 mod sample;
 #[cfg(test)]
-mod table_text;
+mod script;
 #[cfg(test)]
 mod tables;
-#[cfg(test)]
-mod texts;
 #[cfg(test)]
 mod words;

@@ -1,76 +1,131 @@
-//! The greatest lists that are read, and one more.
+//! The greatest inputs that are read, and one more.
 
-use crate::objects::items_of_many;
-use crate::runs::{LARGE_PIECE, expect, run, run_on, sink, source};
-use np_base::NoMemory;
+use crate::runs::{LARGE_PIECE, Wanted, expect_over};
+use crate::script::expect_script;
 use np_cli::Status;
-use np_samples::list_of;
-use std::alloc::{AllocError, Global};
+use np_io::MemInputs;
 use std::test::Fail;
 
-static CONFIG_MAP: &str = r#"{"apiVersion":"v1","kind":"ConfigMap"}"#;
+// How many bytes all inputs may have together.
+const SIZE_LIMIT: usize = 33_554_432;
 
-static POD: &str = r#"{"apiVersion":"v1","kind":"Pod","metadata":{"name":"p#"},"spec":{}}"#;
+static SCRIPT: &str = r#"# the most items
+< {"apiVersion":"v1","kind":"List","items":[
+<19999 {"apiVersion":"v1","kind":"ConfigMap"},
+< {"apiVersion":"v1","kind":"ConfigMap"}]}
+* list
+! note: objects of other kinds skipped: 20000
 
-// The list of so many items of one text.
-fn list_of_many(alloc: Global, count: usize, item: &str) -> Result<String, NoMemory> {
-    let items = items_of_many(alloc, count, item)?;
-    list_of(alloc, &[items.as_str()])
-}
+# one item more
+< {"apiVersion":"v1","kind":"List","items":[
+<20000 {"apiVersion":"v1","kind":"ConfigMap"},
+< {"apiVersion":"v1","kind":"ConfigMap"}]}
+1 list
+! error: TooManyItems 20001
+
+# the most workloads: of the first rows, for which there is no room, nothing is written
+< {"apiVersion":"v1","kind":"List","items":[
+<1999 {"apiVersion":"v1","kind":"Pod","metadata":{"name":"p%k"},"spec":{}},
+< {"apiVersion":"v1","kind":"Pod","metadata":{"name":"last"},"spec":{}}]}
+3 list
+! error: cannot write
+
+# one workload more
+< {"apiVersion":"v1","kind":"List","items":[
+<2000 {"apiVersion":"v1","kind":"Pod","metadata":{"name":"p%k"},"spec":{}},
+< {"apiVersion":"v1","kind":"Pod","metadata":{"name":"last"},"spec":{}}]}
+1 list
+1 list --format json --focus x
+1 evaluate --from default/p1000 --to default/last --protocol TCP --port 80
+! error: TooManyWorkloads 2001
+
+# the most workloads, of which two are asked
+< {"apiVersion":"v1","kind":"List","items":[
+<1999 {"apiVersion":"v1","kind":"Pod","metadata":{"name":"p%k"},"spec":{}},
+< {"apiVersion":"v1","kind":"Pod","metadata":{"name":"last"},"spec":{}}]}
+0 evaluate --from default/p1000 --to default/last --protocol TCP --port 80
+> default/p1000 => default/last : TCP 80 : Allow
+
+# the deepest nesting
+< {"apiVersion":"v1","kind":"List","items":[{"apiVersion":"v1","kind":"ConfigMap","x":
+<124 [
+<124 ]
+< }]}
+0 list
+! note: objects of other kinds skipped: 1
+
+# one list deeper
+< {"apiVersion":"v1","kind":"List","items":[{"apiVersion":"v1","kind":"ConfigMap","x":
+<125 [
+<125 ]
+< }]}
+1 list
+! error: input 1: NotJson"#;
 
 #[test]
-fn most_items(rt: HostRuntime) -> Result<(), Fail> {
-    let text = list_of_many(rt.alloc(), 20_000, CONFIG_MAP)?;
-    let ran = run_on(rt.alloc(), "list", text.as_bytes())?;
-    let notes = "note: objects of other kinds skipped: 20000\n";
-    expect(&rt, &ran, Status::Done, "", notes, "20000 items");
-    let text = list_of_many(rt.alloc(), 20_001, CONFIG_MAP)?;
-    let ran = run_on(rt.alloc(), "list", text.as_bytes())?;
-    let said = "error: TooManyItems 20001\n";
-    expect(&rt, &ran, Status::Refused, "", said, "20001 items");
+fn limits(rt: HostRuntime) -> Result<(), Fail> {
+    expect_script(&rt, rt.alloc(), SCRIPT, None)?;
     Ok(())
 }
 
-// Bare pods are workloads of their own. Of the most that there may be the first row is written, which fails here.
-#[test]
-fn most_workloads(rt: HostRuntime) -> Result<(), Fail> {
-    let alloc = rt.alloc();
-    let text = list_of_many(alloc, 2_000, POD)?;
-    let inputs = source(alloc, text.as_bytes(), LARGE_PIECE)?;
-    let mut out = sink(alloc, LARGE_PIECE)?;
-    out.fail_write(1)?;
-    let ran = run(alloc, "list", inputs, out, sink(alloc, LARGE_PIECE)?)?;
-    let said = "error: cannot write\n";
-    expect(&rt, &ran, Status::Device, "", said, "2000 pods");
-    let text = list_of_many(alloc, 2_001, POD)?;
-    let ran = run_on(alloc, "list", text.as_bytes())?;
-    let said = "error: TooManyWorkloads 2001\n";
-    expect(&rt, &ran, Status::Refused, "", said, "2001 pods");
-    Ok(())
+// Inputs of so many spaces, which are no JSON text.
+struct Spaces {
+    words: &'static str,
+    first: usize,
+    second: usize,
+    err: &'static str,
 }
 
-// Lists in lists, in an object in a list of the list.
-#[test]
-fn deepest_nesting(rt: HostRuntime) -> Result<(), Fail> {
-    let text = nested(rt.alloc(), 124)?;
-    let ran = run_on(rt.alloc(), "list", text.as_bytes())?;
-    let notes = "note: objects of other kinds skipped: 1\n";
-    expect(&rt, &ran, Status::Done, "", notes, "124 lists");
-    let text = nested(rt.alloc(), 125)?;
-    let ran = run_on(rt.alloc(), "list", text.as_bytes())?;
-    let said = "error: input 1: NotJson\n";
-    expect(&rt, &ran, Status::Refused, "", said, "125 lists");
-    Ok(())
-}
+// As many spaces as are read, and one more in the same input or in another.
+static SPACES: &[Spaces] = &[
+    Spaces {
+        words: "list first",
+        first: SIZE_LIMIT,
+        second: 0,
+        err: "error: input 1: NotJson\n",
+    },
+    Spaces {
+        words: "list first",
+        first: SIZE_LIMIT + 1,
+        second: 0,
+        err: "error: TooLarge\n",
+    },
+    Spaces {
+        words: "evaluate --from a/b --to a/c --protocol TCP --port 1 first",
+        first: SIZE_LIMIT + 1,
+        second: 0,
+        err: "error: TooLarge\n",
+    },
+    Spaces {
+        words: "list first second",
+        first: SIZE_LIMIT,
+        second: 1,
+        err: "error: TooLarge\n",
+    },
+    Spaces {
+        words: "list first second",
+        first: 1,
+        second: SIZE_LIMIT,
+        err: "error: TooLarge\n",
+    },
+];
 
-// A list of one object that is not read, in which so many lists stand in one another.
-fn nested(alloc: Global, depth: usize) -> Result<String, AllocError> {
-    let mut text = String::from_str(
-        alloc,
-        r#"{"apiVersion":"v1","kind":"List","items":[{"apiVersion":"v1","kind":"ConfigMap","x":"#,
-    )?;
-    text.push_str("[".repeat(alloc, depth)?.as_str())?;
-    text.push_str("]".repeat(alloc, depth)?.as_str())?;
-    text.push_str("}]}")?;
-    Ok(text)
+#[test]
+fn many_bytes(rt: HostRuntime) -> Result<(), Fail> {
+    for spaces in SPACES {
+        let first = vec![in rt.alloc(); b' '; spaces.first]?;
+        let second = vec![in rt.alloc(); b' '; spaces.second]?;
+        let mut inputs = MemInputs::new(rt.alloc(), LARGE_PIECE);
+        inputs.add("first", &first)?;
+        inputs.add("second", &second)?;
+        let wanted = Wanted {
+            input: "",
+            words: spaces.words,
+            status: Status::Refused,
+            out: "",
+            err: spaces.err,
+        };
+        expect_over(&rt, rt.alloc(), inputs, wanted)?;
+    }
+    Ok(())
 }

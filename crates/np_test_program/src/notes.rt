@@ -1,50 +1,84 @@
-//! What is said of lists that are accepted: which objects were left out.
+//! Lists that list nothing, in each format, and what is said of objects that are left out.
 
-use crate::objects::{CONFIG_MAP, FINISHED_HOST_POD, FINISHED_POD, HOST_POD, POD};
-use crate::runs::expect_table;
-use crate::table_text::{FREE, table_text};
-use np_samples::list_of;
+use crate::script::expect_script;
 use std::test::Fail;
 
-// A list without items, in its three forms.
-#[test]
-fn no_items(rt: HostRuntime) -> Result<(), Fail> {
-    for text in [
-        r#"{"apiVersion":"v1","items":[],"kind":"List"}"#,
-        r#"{"apiVersion":"v1","kind":"List"}"#,
-        r#"{"apiVersion":"v1","items":null,"kind":"List"}"#,
-    ] {
-        expect_table(&rt, rt.alloc(), text, "", "", text)?;
-    }
-    Ok(())
-}
+static SCRIPT: &str = r#"# no items
+< {"apiVersion":"v1","items":[],"kind":"List"}
+* list
+
+0 list --format text
+0 list --report 2 --side to
+
+* list --format csv
+> source,destination,connections
+
+* list --format json
+> []
+
+# no member for items
+< {"apiVersion":"v1","kind":"List"}
+* list
+
+0 list --format text
+0 list --report 2 --side to
+
+* list --format csv
+> source,destination,connections
+
+* list --format json
+> []
+
+# null for items
+< {"apiVersion":"v1","items":null,"kind":"List"}
+* list
+
+0 list --format text
+0 list --report 2 --side to
+
+* list --format csv
+> source,destination,connections
+
+* list --format json
+> []
+
+# three objects left out
+< {"apiVersion":"v1","items":[
+< {"apiVersion":"v1","kind":"Pod","metadata":{"name":"a","namespace":"default"},"spec":{}},
+< {"apiVersion":"v1","kind":"Pod","metadata":{"name":"h"},"spec":{"hostNetwork":true}},
+< {"apiVersion":"v1","kind":"Pod","metadata":{"name":"f"},"spec":{},"status":{"phase":"Succeeded"}},
+< {"apiVersion":"v1","kind":"ConfigMap","metadata":{"name":"c"}}
+< ],"kind":"List"}
+* list
+> 0.0.0.0-255.255.255.255 => default/a[Pod] : All Connections
+> ::-ffff:ffff:ffff:ffff:ffff:ffff:ffff:ffff => default/a[Pod] : All Connections
+> default/a[Pod] => 0.0.0.0-255.255.255.255 : All Connections
+> default/a[Pod] => ::-ffff:ffff:ffff:ffff:ffff:ffff:ffff:ffff : All Connections
+! note: host network pods left out: 1
+! note: finished pods left out: 1
+! note: objects of other kinds skipped: 1
+
+# a pod that has ended on the network of its node is counted once
+< {"apiVersion":"v1","items":[
+< {"apiVersion":"v1","kind":"Pod","metadata":{"name":"g"},"spec":{"hostNetwork":true},"status":{"phase":"Failed"}}
+< ],"kind":"List"}
+* list
+! note: host network pods left out: 1
+
+0 list --format text
+0 list --report 2 --side to
+! note: host network pods left out: 1
+
+* list --format csv
+> source,destination,connections
+! note: host network pods left out: 1
+
+* list --format json
+> []
+! note: host network pods left out: 1"#;
 
 #[test]
-fn objects_left_out(rt: HostRuntime) -> Result<(), Fail> {
-    let items = [POD, HOST_POD, FINISHED_POD, CONFIG_MAP];
-    let text = list_of(rt.alloc(), &items)?;
-    let table = table_text(rt.alloc(), "", &[("default/a[Pod]", FREE)])?;
-    let notes = concat!(
-        "note: host network pods left out: 1\n",
-        "note: finished pods left out: 1\n",
-        "note: objects of other kinds skipped: 1\n",
-    );
-    expect_table(
-        &rt,
-        rt.alloc(),
-        text.as_str(),
-        table.as_str(),
-        notes,
-        "three left out",
-    )?;
-    Ok(())
-}
-
-// A finished pod on the network of its node is counted once.
-#[test]
-fn finished_on_the_host(rt: HostRuntime) -> Result<(), Fail> {
-    let text = list_of(rt.alloc(), &[FINISHED_HOST_POD])?;
-    let notes = "note: host network pods left out: 1\n";
-    expect_table(&rt, rt.alloc(), text.as_str(), "", notes, "both at once")?;
+fn notes(rt: HostRuntime) -> Result<(), Fail> {
+    expect_script(&rt, rt.alloc(), SCRIPT, None)?;
     Ok(())
 }

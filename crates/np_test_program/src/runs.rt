@@ -25,10 +25,24 @@ pub struct Ran {
     pub err: MemSink,
 }
 
+/// A run, and what is to come of it.
+#[derive(Clone, Copy)]
+pub struct Wanted<'a> {
+    /// Standard input. Where it is empty, no input is there.
+    pub input: &'a str,
+    /// The words of the command line, apart by spaces.
+    pub words: &'a str,
+    pub status: Status,
+    pub out: &'a str,
+    pub err: &'a str,
+}
+
 /// A source whose standard input has these bytes, of which a call hands out at most `piece`.
 pub fn source(alloc: Global, bytes: &[u8], piece: usize) -> Result<MemInputs, NoMemory> {
     let mut inputs = MemInputs::new(alloc, piece);
-    inputs.add("-", bytes)?;
+    if !bytes.is_empty() {
+        inputs.add("-", bytes)?;
+    }
     Ok(inputs)
 }
 
@@ -67,33 +81,6 @@ fn run_counted<L: Ledger>(
     Ran { status, out, err }
 }
 
-/// The same with these bytes as standard input, where no call fails.
-pub fn run_on(alloc: Global, line: &str, bytes: &[u8]) -> Result<Ran, NoMemory> {
-    run_in_room(alloc, line, bytes, 0)
-}
-
-// The same with room for so many bytes more in the sink of the table.
-fn run_in_room(alloc: Global, line: &str, bytes: &[u8], more: usize) -> Result<Ran, NoMemory> {
-    let inputs = source(alloc, bytes, LARGE_PIECE)?;
-    let out = MemSink::new(alloc, AMPLE_ROOM.saturating_add(more), LARGE_PIECE)?;
-    let err = sink(alloc, LARGE_PIECE)?;
-    run(alloc, line, inputs, out, err)
-}
-
-/// Stops the test where the run on a list is not done, or gives another table or other notes than these.
-pub fn expect_table(
-    rt: &impl Abort,
-    alloc: Global,
-    list: &str,
-    table: &str,
-    notes: &str,
-    case: &str,
-) -> Result<(), NoMemory> {
-    let ran = run_in_room(alloc, "list", list.as_bytes(), table.len())?;
-    expect(rt, &ran, Status::Done, table, notes, case);
-    Ok(())
-}
-
 /// The words of a line.
 pub fn words_of(alloc: Global, line: &str) -> Result<Vec<String>, NoMemory> {
     let mut words = Vec::new(alloc);
@@ -103,11 +90,32 @@ pub fn words_of(alloc: Global, line: &str) -> Result<Vec<String>, NoMemory> {
     Ok(words)
 }
 
-/// Stops the test where the run of a case gave anything else.
-pub fn expect(rt: &impl Abort, ran: &Ran, status: Status, out: &str, err: &str, case: &str) {
-    assert_eq!(rt; ran.status, status, "{case}");
-    assert!(rt; is_text(ran.out.taken(), out), "out at {case}");
-    assert!(rt; is_text(ran.err.taken(), err), "err at {case}");
+/// Stops the test where the run over these inputs, in which no call fails, gives anything else.
+pub fn expect_over(
+    rt: &impl Abort,
+    alloc: Global,
+    inputs: MemInputs,
+    wanted: Wanted,
+) -> Result<(), NoMemory> {
+    let room = AMPLE_ROOM.saturating_add(wanted.out.len());
+    let out = MemSink::new(alloc, room, LARGE_PIECE)?;
+    let ran = run(alloc, wanted.words, inputs, out, sink(alloc, LARGE_PIECE)?)?;
+    expect(rt, &ran, wanted);
+    Ok(())
+}
+
+/// The same over standard input alone.
+pub fn expect_run(rt: &impl Abort, alloc: Global, wanted: Wanted) -> Result<(), NoMemory> {
+    let inputs = source(alloc, wanted.input.as_bytes(), LARGE_PIECE)?;
+    expect_over(rt, alloc, inputs, wanted)
+}
+
+/// Stops the test where a run gave anything else.
+pub fn expect(rt: &impl Abort, ran: &Ran, wanted: Wanted) {
+    let words = wanted.words;
+    assert_eq!(rt; ran.status, wanted.status, "{words}");
+    assert!(rt; is_text(ran.out.taken(), wanted.out), "out of {words}");
+    assert!(rt; is_text(ran.err.taken(), wanted.err), "err of {words}");
 }
 
 /// Whether these are the bytes of the text.

@@ -20,7 +20,7 @@ static LINES: &[(&str, &str)] = &[
 // The names of the inputs that the words of a line ask for, each behind a space but the first.
 fn files(alloc: Global, line: &str) -> Result<String, NoMemory> {
     let words = words_of(alloc, line)?;
-    let Ok(Job::List { files }) = read_words(alloc, &words) else {
+    let Ok(Job::List { files, .. }) = read_words(alloc, &words) else {
         return Ok(String::from_str(alloc, "usage")?);
     };
     let mut text = String::new(alloc);

@@ -26,6 +26,8 @@ mod layers;
 #[cfg(test)]
 mod pieces;
 #[cfg(test)]
+mod prefixes;
+#[cfg(test)]
 mod tiers;
 #[cfg(test)]
 mod walk;

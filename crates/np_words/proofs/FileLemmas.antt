@@ -1,63 +1,62 @@
--- How clap walks over words that name files.
-use Rattle.std.proofs.Common.{◌≡◌, ◌∙◌, ◌⊎◌, ◌==◌, ◌||◌, ◌++◌, ap, ap₂, List, [], append-nil, append_assoc, ◌∷◌, Bool, true, false, Some, None, codes, fold, if◌then◌else◌, inl, inr, is_some, not, refl, sym, true≢false}
+-- How clap walks over the words of `list` that name files.
+use Rattle.std.proofs.Common.{◌≡◌, ◌∙◌, ◌⊎◌, ◌==◌, ◌&&◌, ◌||◌, ◌++◌, ap, ap₂, List, [], append-nil, append_assoc, ◌∷◌, Bool, true, false, Some, None, codes, fold, if◌then◌else◌, inl, inr, is_some, not, refl, sym, true≢false}
+use Rattle.std.proofs.lemmas.Bool.{or_parts}
 use Rattle.std.specs.List.{list_all}
 use Rattle.std.specs.Str.{bytes_eq}
-use Rattle.clap.proofs.OnLiterals.{clap_on_literals}
 use Rattle.clap.proofs.WalkLemmas.{both}
-use Rattle.clap.specs.Faults.{check_fault, defaults_fault, entered_fault, fault_of, settle_fault, turn_fault, walk_fault}
+use Rattle.clap.specs.Faults.{check_fault, defaults_fault, entered_fault, fault_of, positional_fault, settle_fault, turn_fault, walk_fault}
 use Rattle.clap.specs.Kinds.{Kinds, or_else}
 use Rattle.clap.specs.Lexer.{long_of, short_of}
 use Rattle.clap.specs.Simple.{App, Shape, built, entered, filled, matches_of, with_index}
-use Rattle.clap.specs.Walk.{Held, Row, Rule, Step, Walk, Waiting, after_step, finished, idle, nothing_held, positional, reading_by, settled, settled_rows, value, walk, walk_from, walked, word_met}
+use Rattle.clap.specs.Walk.{Held, Row, Rule, Step, Walk, Waiting, after_step, at_row, finished, has_row, idle, is_pending, more_values, nothing_held, positional, positional_held, pushed, reading_by, settled, settled_rows, takes_several, value, walked, word_met}
 use Rattle.clap.specs.declared.parser.matches.ValueSource.TheVariants.{CommandLine}
-use Rattle.np_words.specs.declared.job.Job.TheVariants.{List as ListJob}
-use Rattle.np_words.specs.CommandLines.{Text, are_files, file_rule, files_of, is_none, is_plain, job_of, list_command, list_job, list_of, or_standard_input}
+use Rattle.np_words.specs.Arguments.{file_rule, is_none}
+use Rattle.np_words.specs.CommandLines.{job_of}
+use Rattle.np_words.specs.Laws.{is_plain}
+use Rattle.np_words.specs.ListWords.{list_command, list_job, list_of}
+use Rattle.np_words.specs.Values.{Text}
 
--- ---- the one argument
+-- ---- the arguments
 
-abbrev pub rule : Rule
-rule = with_index 1 (filled file_rule)
+abbrev pub whole : App
+whole = built list_command
 
 abbrev pub shape : Shape
-shape = (built list_command).top
+shape = whole.top
 
-pub only_rule : shape.rules ≡ rule ∷ []
-only_rule = refl
+abbrev pub rules : List Rule
+rules = shape.rules
+
+-- FILE, the one positional
+abbrev pub file : Rule
+file = with_index 1 (filled file_rule)
 
 -- ---- where the walk stands
 
 -- what was found of these files
 abbrev pub rows_for : List Text → List Row
 rows_for [] = []
-rows_for (file ∷ files) = record { id = codes "FILE"; values = file ∷ files; count = None; source = Some CommandLine; reading = reading_by rule } ∷ []
+rows_for (one ∷ more) = record { id = codes "FILE"; values = one ∷ more; count = None; source = Some CommandLine; reading = reading_by file } ∷ []
 
 -- before the first file, after `--` or not
-abbrev pub start : Bool → Walk
-start trailing = record (walk_from nothing_held) { is_trailing = trailing }
+abbrev pub start : Bool → Held → Walk
+start trailing held = record { held = held; waiting = idle; position = 1; is_trailing = trailing; stopped = None }
 
--- after some files, of which the last is not noted yet
-abbrev pub after : Bool → List Text → Text → Walk
-after trailing done last = record {
-  held = record { rows = rows_for done; pending = Some (codes "FILE", last ∷ []); skip = 0 };
-  waiting = positional;
-  position = 1;
-  is_trailing = trailing;
-  stopped = None;
-}
-
-pub noted : (done : List Text) (last : Text) → settled_rows (rule ∷ []) (Some (codes "FILE", last ∷ [])) (rows_for done) ≡ rows_for (done ++ last ∷ [])
-noted [] last = refl
-noted (file ∷ files) last = refl
+-- what is held where these options were met, and nothing else
+pub record IsMet (held : Held) (options : List Row) : Type 0 where
+  pub settles : settled rules held ≡ record { rows = options ++ rows_for []; pending = None; skip = 0 }
+  pub passes : settle_fault rules false held ≡ []
+  pub other : is_pending file held.pending ≡ false
 
 -- ---- one word
 
 -- a plain word is no `--`, no long option and no bundle of short ones
-record IsNoOption (word : Text) : Type 0 where
-  hyphens : bytes_eq word (45 ∷ 45 ∷ []) ≡ false
-  long : long_of word ≡ None
-  short : short_of word ≡ None
+pub record IsNoOption (word : Text) : Type 0 where
+  pub hyphens : bytes_eq word (45 ∷ 45 ∷ []) ≡ false
+  pub long : long_of word ≡ None
+  pub short : short_of word ≡ None
 
-plain_words : (word : Text) → is_plain word ≡ true → IsNoOption word
+pub plain_words : (word : Text) → is_plain word ≡ true → IsNoOption word
 plain_words [] plain = record { hyphens = refl; long = refl; short = refl }
 plain_words (first ∷ rest) plain = go (first == 45) refl rest plain
   where
@@ -68,39 +67,10 @@ plain_words (first ∷ rest) plain = go (first == 45) refl rest plain
 
 -- a word that names a file
 met : (trailing : Bool) (waiting : Waiting) (word : Text) (held : Held) → (trailing || is_plain word) ≡ true
-    → (waiting ≡ idle) ⊎ (waiting ≡ positional) → word_met (rule ∷ []) [] trailing waiting 1 word held ≡ (held, value)
+    → (waiting ≡ idle) ⊎ (waiting ≡ positional) → word_met rules [] trailing waiting 1 word held ≡ (held, value)
 met true waiting word held names stands = refl
 met false waiting word held names (inl is) = let no = plain_words word names in rw (is, no.hyphens, no.long, no.short) refl
 met false waiting word held names (inr is) = let no = plain_words word names in rw (is, no.hyphens, no.long, no.short) refl
-
--- the walk after one more file
-pub first_file : (trailing : Bool) (word : Text) → (trailing || is_plain word) ≡ true → walked (rule ∷ []) [] (start trailing) word ≡ after trailing [] word
-unfolding walked
-first_file true word names = refl
-first_file false word names =
-    ap (λ (taken : Held × Step). after_step (rule ∷ []) word (start false) taken.0 taken.1) (met false idle word nothing_held names (inl refl))
-
-pub next_file : (trailing : Bool) (done : List Text) (last word : Text) → (trailing || is_plain word) ≡ true
-    → walked (rule ∷ []) [] (after trailing done last) word ≡ after trailing (done ++ last ∷ []) word
-unfolding walked
-next_file trailing done last word names =
-    ap (λ (taken : Held × Step). after_step (rule ∷ []) word (after trailing done last) taken.0 taken.1)
-    (met trailing positional word (after trailing done last).held names (inr refl))
-    ∙ noted_next trailing
-  where
-    noted_next : (trailing : Bool) → after_step (rule ∷ []) word (after trailing done last) (after trailing done last).held value ≡ after trailing (done ++ last ∷ []) word
-    noted_next true = ap (λ (rows : List Row). record (after true done word) { held = record { rows = rows; pending = Some (codes "FILE", word ∷ []); skip = 0 } }) (noted done last)
-    noted_next false = ap (λ (rows : List Row). record (after false done word) { held = record { rows = rows; pending = Some (codes "FILE", word ∷ []); skip = 0 } }) (noted done last)
-
--- no such word is refused
-pub first_passes : (trailing : Bool) (word : Text) → (trailing || is_plain word) ≡ true → turn_fault shape [] (start trailing) word ≡ []
-first_passes true word names = refl
-first_passes false word names = let no = plain_words word names in rw (no.hyphens, no.long, no.short) refl
-
-pub next_passes : (trailing : Bool) (done : List Text) (last word : Text) → (trailing || is_plain word) ≡ true
-    → turn_fault shape [] (after trailing done last) word ≡ []
-next_passes true done last word names = refl
-next_passes false done last word names = let no = plain_words word names in rw (no.hyphens, no.long, no.short) refl
 
 -- ---- many words
 
@@ -113,7 +83,7 @@ abbrev pub end : Text → List Text → Text
 end last [] = last
 end last (word ∷ words) = end word words
 
-in_order : (done : List Text) (last : Text) (words : List Text) → front done last words ++ end last words ∷ [] ≡ done ++ last ∷ words
+pub in_order : (done : List Text) (last : Text) (words : List Text) → front done last words ++ end last words ∷ [] ≡ done ++ last ∷ words
 in_order done last [] = refl
 in_order done last (word ∷ words) = in_order (done ++ last ∷ []) word words ∙ append_assoc done (last ∷ []) (word ∷ words)
 
@@ -121,140 +91,168 @@ in_order done last (word ∷ words) = in_order (done ++ last ∷ []) word words 
 abbrev pub name_files : Bool → List Text → Bool
 name_files trailing words = trailing || list_all is_plain words
 
-pub split : (trailing : Bool) (word : Text) (words : List Text) → name_files trailing (word ∷ words) ≡ true → ((trailing || is_plain word) ≡ true) × (name_files trailing words ≡ true)
+split : (trailing : Bool) (word : Text) (words : List Text) → name_files trailing (word ∷ words) ≡ true → ((trailing || is_plain word) ≡ true) × (name_files trailing words ≡ true)
 split true word words names = (refl, refl)
 split false word words names = both (is_plain word) (list_all is_plain words) names
 
--- Words that name files are walked over, whatever stands behind them.
-module _ (tail : List Text) where
-  pub walks : (trailing : Bool) (done : List Text) (last : Text) (words : List Text) → name_files trailing words ≡ true
-      → fold (walked (rule ∷ []) []) (after trailing done last) (words ++ tail) ≡ fold (walked (rule ∷ []) []) (after trailing (front done last words) (end last words)) tail
-  walks trailing done last [] names = refl
-  walks trailing done last (word ∷ words) names =
-      let parts = split trailing word words names in
-      ap (λ (walk : Walk). fold (walked (rule ∷ []) []) walk (words ++ tail)) (next_file trailing done last word parts.0)
-      ∙ walks trailing (done ++ last ∷ []) word words parts.1
-
-  pub passes : (trailing : Bool) (done : List Text) (last : Text) (words : List Text) → name_files trailing words ≡ true
-      → walk_fault shape [] (after trailing done last) (words ++ tail) ≡ walk_fault shape [] (after trailing (front done last words) (end last words)) tail
-  unfolding walk_fault
-  passes trailing done last [] names = refl
-  passes trailing done last (word ∷ words) names =
-      let parts = split trailing word words names in
-      ap (λ (kinds : Kinds). or_else kinds (walk_fault shape [] (walked shape.rules [] (after trailing done last) word) (words ++ tail))) (next_passes trailing done last word parts.0)
-      ∙ ap (λ (walk : Walk). walk_fault shape [] walk (words ++ tail)) (next_file trailing done last word parts.0)
-      ∙ passes trailing (done ++ last ∷ []) word words parts.1
-
--- ---- the end of the words
-
--- Words are walked over to their end without a fault, and so many files were found.
-pub record Ends (words files : List Text) : Type 0 where
-  trailing : Bool
-  done : List Text
-  last : Text
-  final : walk (rule ∷ []) [] nothing_held words ≡ after trailing done last
-  passed : walk_fault shape [] (start false) words ≡ []
-  found : done ++ last ∷ [] ≡ files
-
-abbrev whole : App
-whole = built list_command
+-- rows of other arguments stay where they are
+at_row-behind : (id : Text) (change : Row → List Row) (missing options rows : List Row) → has_row id options ≡ false
+    → at_row id change missing (options ++ rows) ≡ options ++ at_row id change missing rows
+at_row-behind id change missing [] rows new = refl
+at_row-behind id change missing (row ∷ options) rows new =
+    let parts = or_parts (bytes_eq row.id id) (has_row id options) new in
+    rw parts.0 (ap (λ (rest : List Row). row ∷ rest) (at_row-behind id change missing options rows parts.1))
 
 -- the faults of a walk, of its end and of what is missing there
 abbrev pub faults_from : Kinds → Walk → Kinds
 faults_from faults final =
     or_else faults
     (or_else (entered_fault whole final.stopped)
-    (or_else (settle_fault shape.rules shape.args_override_self final.held)
-    (or_else (defaults_fault (settled shape.rules final.held).rows shape.rules)
-    (check_fault shape (finished shape.rules final.held) (is_some (entered whole final.stopped))))))
+    (or_else (settle_fault rules shape.args_override_self final.held)
+    (or_else (defaults_fault (settled rules final.held).rows rules)
+    (check_fault shape (finished rules final.held) (is_some (entered whole final.stopped))))))
 
-no_fault_at_end : (trailing : Bool) (done : List Text) (last : Text) → faults_from [] (after trailing done last) ≡ []
-unfolding defaults_fault
-no_fault_at_end trailing [] last = refl
-no_fault_at_end trailing (file ∷ files) last = refl
+-- Words are walked over to an end without a fault.
+pub record Ends (held : Held) (words : List Text) (final : Walk) : Type 0 where
+  pub walks : fold (walked rules []) (start false held) words ≡ final
+  pub passes : walk_fault shape [] (start false held) words ≡ []
 
-files_at_end : (trailing : Bool) (done : List Text) (last : Text) → files_of (finished (rule ∷ []) (after trailing done last).held) ≡ done ++ last ∷ []
-files_at_end trailing [] last = refl
-files_at_end trailing (file ∷ files) last = refl
-
--- such words ask for a table over these files
-pub asked : (words files : List Text) → Ends words files → job_of (codes "list" ∷ words) ≡ list_of files
+-- such words ask for what was found
+pub asked : (words : List Text) (final : Walk) → Ends nothing_held words final → faults_from [] final ≡ []
+    → job_of (codes "list" ∷ words) ≡ list_of (finished rules final.held)
 unfolding list_job
-asked words files ends =
-    let none : fault_of list_command (codes "list" ∷ words) ≡ [] =
-    ap₂ faults_from ends.passed ends.final ∙ no_fault_at_end ends.trailing ends.done ends.last in
-    let some : files_of (matches_of list_command (codes "list" ∷ words)) ≡ files =
-    ap (λ (final : Walk). files_of (finished (rule ∷ []) final.held)) ends.final ∙ files_at_end ends.trailing ends.done ends.last ∙ ends.found in
-    ap (λ (kinds : Kinds). if is_none kinds then list_of (files_of (matches_of list_command (codes "list" ∷ words))) else None) none ∙ ap list_of some
+asked words final ends clean =
+    let none : fault_of list_command (codes "list" ∷ words) ≡ [] = ap₂ faults_from ends.passes ends.walks ∙ clean in
+    ap (λ (kinds : Kinds). if is_none kinds then list_of (matches_of list_command (codes "list" ∷ words)) else None) none
+    ∙ ap (λ (end : Walk). list_of (finished rules end.held)) ends.walks
 
--- ---- words before `--` and behind it
+-- ---- files behind options
 
-pub plain_end : (word : Text) (words : List Text) → list_all is_plain (word ∷ words) ≡ true → Ends (word ∷ words) (word ∷ words)
-unfolding walk_fault
-plain_end word words plain =
-    let parts = split false word words plain in record {
-      trailing = false;
-      done = front [] word words;
-      last = end word words;
-      final =
-          ap (λ (at : Walk). fold (walked (rule ∷ []) []) at words) (first_file false word parts.0)
-          ∙ ap (fold (walked (rule ∷ []) []) (after false [] word)) (sym (append-nil words)) ∙ walks [] false [] word words parts.1;
-      passed =
-          ap (λ (kinds : Kinds). or_else kinds (walk_fault shape [] (walked shape.rules [] (start false) word) words)) (first_passes false word parts.0)
-          ∙ ap (λ (at : Walk). walk_fault shape [] at words) (first_file false word parts.0)
-          ∙ ap (walk_fault shape [] (after false [] word)) (sym (append-nil words)) ∙ passes [] false [] word words parts.1;
-      found = in_order [] word words;
-    }
+module _ (options : List Row) (new : has_row (codes "FILE") options ≡ false) where
+  -- after some files, of which the last is not noted yet
+  abbrev pub after : Bool → List Text → Text → Walk
+  after trailing done last = record {
+    held = record { rows = options ++ rows_for done; pending = Some (codes "FILE", last ∷ []); skip = 0 };
+    waiting = positional;
+    position = 1;
+    is_trailing = trailing;
+    stopped = None;
+  }
 
--- behind `--` the first word is one more file, whatever it begins with
-begun_end : (word : Text) (words : List Text) → Ends (codes "--" ∷ word ∷ words) (word ∷ words)
-unfolding walk_fault walked
-begun_end word words = record {
-  trailing = true;
-  done = front [] word words;
-  last = end word words;
-  final = ap (fold (walked (rule ∷ []) []) (after true [] word)) (sym (append-nil words)) ∙ walks [] true [] word words refl;
-  passed = ap (walk_fault shape [] (after true [] word)) (sym (append-nil words)) ∙ passes [] true [] word words refl;
-  found = in_order [] word words;
-}
+  noted : (done : List Text) (last : Text) → settled_rows rules (Some (codes "FILE", last ∷ [])) (options ++ rows_for done) ≡ options ++ rows_for (done ++ last ∷ [])
+  noted done last =
+      at_row-behind (codes "FILE") (more_values CommandLine (last ∷ [])) (rows_for (last ∷ [])) options (rows_for done) new ∙ ap (λ (rows : List Row). options ++ rows) (more done)
+    where
+      more : (done : List Text) → at_row (codes "FILE") (more_values CommandLine (last ∷ [])) (rows_for (last ∷ [])) (rows_for done) ≡ rows_for (done ++ last ∷ [])
+      more [] = refl
+      more (one ∷ others) = refl
 
-pub split_end : (word : Text) (words others : List Text) → list_all is_plain (word ∷ words) ≡ true
-    → Ends (word ∷ words ++ codes "--" ∷ others) (word ∷ words ++ others)
-unfolding walk_fault walked
-split_end word words others plain =
-    let parts = split false word words plain in
-    let tail = codes "--" ∷ others in
-    let done = front [] word words in
-    let last = end word words in record {
-      trailing = true;
-      done = front done last others;
-      last = end last others;
-      final =
-          ap (λ (at : Walk). fold (walked (rule ∷ []) []) at (words ++ tail)) (first_file false word parts.0) ∙ walks tail false [] word words parts.1
-          ∙ ap (fold (walked (rule ∷ []) []) (after true done last)) (sym (append-nil others)) ∙ walks [] true done last others refl;
-      passed =
-          ap (λ (kinds : Kinds). or_else kinds (walk_fault shape [] (walked shape.rules [] (start false) word) (words ++ tail))) (first_passes false word parts.0)
-          ∙ ap (λ (at : Walk). walk_fault shape [] at (words ++ tail)) (first_file false word parts.0) ∙ passes tail false [] word words parts.1
-          ∙ ap (walk_fault shape [] (after true done last)) (sym (append-nil others)) ∙ passes [] true done last others refl;
-      found =
-          in_order done last others ∙ sym (append_assoc done (last ∷ []) others)
-          ∙ ap (λ (files : List Text). files ++ others) (in_order [] word words);
-    }
+  -- the walk after one more file
+  first_held : (held : Held) → IsMet held options → (word : Text) → positional_held rules file word held ≡ (after false [] word).held
+  first_held held is word =
+      ap (λ (pending : Bool). pushed (codes "FILE") word (if pending && takes_several file then held else settled rules held)) is.other
+      ∙ ap (pushed (codes "FILE") word) is.settles
 
--- words without options, and words behind `--`
-pub plain_job : (names : List Text) → list_all is_plain names ≡ true → are_files names ≡ true → job_of (codes "list" ∷ names) ≡ Some (ListJob (or_standard_input names))
-unfolding list_job clap_on_literals
-plain_job [] plain once = refl
-plain_job (word ∷ words) plain once =
-    asked (word ∷ words) (word ∷ words) (plain_end word words plain) ∙ ap (λ (taken : Bool). if taken then Some (ListJob (word ∷ words)) else None) once
+  first_file : (held : Held) → IsMet held options → (trailing : Bool) (word : Text) → (trailing || is_plain word) ≡ true
+      → walked rules [] (start trailing held) word ≡ after trailing [] word
+  unfolding walked
+  first_file held is true word names =
+      ap (λ (one : Held). record (after true [] word) { held = one }) (first_held held is word)
+  first_file held is false word names =
+      ap (λ (taken : Held × Step). after_step rules word (start false held) taken.0 taken.1) (met false idle word held names (inl refl))
+      ∙ ap (λ (one : Held). record (after false [] word) { held = one }) (first_held held is word)
 
-pub split_job : (names others : List Text) → list_all is_plain names ≡ true → are_files (names ++ others) ≡ true
-    → job_of (codes "list" ∷ names ++ codes "--" ∷ others) ≡ Some (ListJob (or_standard_input (names ++ others)))
-unfolding list_job clap_on_literals
-split_job [] [] plain once = refl
-split_job [] (other ∷ others) plain once =
-    asked (codes "--" ∷ other ∷ others) (other ∷ others) (begun_end other others)
-    ∙ ap (λ (taken : Bool). if taken then Some (ListJob (other ∷ others)) else None) once
-split_job (word ∷ words) others plain once =
-    asked (word ∷ words ++ codes "--" ∷ others) (word ∷ words ++ others) (split_end word words others plain)
-    ∙ ap (λ (taken : Bool). if taken then Some (ListJob (word ∷ words ++ others)) else None) once
+  next_file : (trailing : Bool) (done : List Text) (last word : Text) → (trailing || is_plain word) ≡ true
+      → walked rules [] (after trailing done last) word ≡ after trailing (done ++ last ∷ []) word
+  unfolding walked
+  next_file trailing done last word names =
+      ap (λ (taken : Held × Step). after_step rules word (after trailing done last) taken.0 taken.1)
+      (met trailing positional word (after trailing done last).held names (inr refl))
+      ∙ noted_next trailing
+    where
+      noted_next : (trailing : Bool) → after_step rules word (after trailing done last) (after trailing done last).held value ≡ after trailing (done ++ last ∷ []) word
+      noted_next true = ap (λ (rows : List Row). record (after true done word) { held = record { rows = rows; pending = Some (codes "FILE", word ∷ []); skip = 0 } }) (noted done last)
+      noted_next false = ap (λ (rows : List Row). record (after false done word) { held = record { rows = rows; pending = Some (codes "FILE", word ∷ []); skip = 0 } }) (noted done last)
+
+  -- no such word is refused
+  first_fault : (held : Held) → IsMet held options → positional_fault rules false file held ≡ []
+  first_fault held is =
+      ap (λ (pending : Bool). if pending && takes_several file then [] else settle_fault rules false held) is.other ∙ is.passes
+
+  first_passes : (held : Held) → IsMet held options → (trailing : Bool) (word : Text) → (trailing || is_plain word) ≡ true
+      → turn_fault shape [] (start trailing held) word ≡ []
+  first_passes held is true word names = first_fault held is
+  first_passes held is false word names = let no = plain_words word names in rw (no.hyphens, no.long, no.short) (first_fault held is)
+
+  next_passes : (trailing : Bool) (done : List Text) (last word : Text) → (trailing || is_plain word) ≡ true
+      → turn_fault shape [] (after trailing done last) word ≡ []
+  next_passes true done last word names = refl
+  next_passes false done last word names = let no = plain_words word names in rw (no.hyphens, no.long, no.short) refl
+
+  -- Words that name files are walked over, whatever stands behind them.
+  walks : (tail : List Text) (trailing : Bool) (done : List Text) (last : Text) (words : List Text) → name_files trailing words ≡ true
+      → fold (walked rules []) (after trailing done last) (words ++ tail) ≡ fold (walked rules []) (after trailing (front done last words) (end last words)) tail
+  walks tail trailing done last [] names = refl
+  walks tail trailing done last (word ∷ words) names =
+      let parts = split trailing word words names in
+      ap (λ (walk : Walk). fold (walked rules []) walk (words ++ tail)) (next_file trailing done last word parts.0)
+      ∙ walks tail trailing (done ++ last ∷ []) word words parts.1
+
+  passes : (tail : List Text) (trailing : Bool) (done : List Text) (last : Text) (words : List Text) → name_files trailing words ≡ true
+      → walk_fault shape [] (after trailing done last) (words ++ tail) ≡ walk_fault shape [] (after trailing (front done last words) (end last words)) tail
+  unfolding walk_fault
+  passes tail trailing done last [] names = refl
+  passes tail trailing done last (word ∷ words) names =
+      let parts = split trailing word words names in
+      ap (λ (kinds : Kinds). or_else kinds (walk_fault shape [] (walked shape.rules [] (after trailing done last) word) (words ++ tail))) (next_passes trailing done last word parts.0)
+      ∙ ap (λ (walk : Walk). walk_fault shape [] walk (words ++ tail)) (next_file trailing done last word parts.0)
+      ∙ passes tail trailing (done ++ last ∷ []) word words parts.1
+
+  -- the same from before the first file on
+  first_walks : (tail : List Text) (held : Held) → IsMet held options → (trailing : Bool) (word : Text) (words : List Text) → name_files trailing (word ∷ words) ≡ true
+      → fold (walked rules []) (start trailing held) (word ∷ words ++ tail) ≡ fold (walked rules []) (after trailing (front [] word words) (end word words)) tail
+  first_walks tail held is trailing word words names =
+      let parts = split trailing word words names in
+      ap (λ (at : Walk). fold (walked rules []) at (words ++ tail)) (first_file held is trailing word parts.0) ∙ walks tail trailing [] word words parts.1
+
+  pub first_all_pass : (tail : List Text) (held : Held) → IsMet held options → (trailing : Bool) (word : Text) (words : List Text) → name_files trailing (word ∷ words) ≡ true
+      → walk_fault shape [] (start trailing held) (word ∷ words ++ tail) ≡ walk_fault shape [] (after trailing (front [] word words) (end word words)) tail
+  unfolding walk_fault
+  first_all_pass tail held is trailing word words names =
+      let parts = split trailing word words names in
+      ap (λ (kinds : Kinds). or_else kinds (walk_fault shape [] (walked shape.rules [] (start trailing held) word) (words ++ tail))) (first_passes held is trailing word parts.0)
+      ∙ ap (λ (at : Walk). walk_fault shape [] at (words ++ tail)) (first_file held is trailing word parts.0) ∙ passes tail trailing [] word words parts.1
+
+  -- ---- words before `--` and behind it
+
+  pub plain_end : (held : Held) → IsMet held options → (word : Text) (words : List Text) → list_all is_plain (word ∷ words) ≡ true
+      → Ends held (word ∷ words) (after false (front [] word words) (end word words))
+  unfolding walk_fault
+  plain_end held is word words plain = record {
+    walks = ap (λ (rest : List Text). fold (walked rules []) (start false held) (word ∷ rest)) (sym (append-nil words)) ∙ first_walks [] held is false word words plain;
+    passes = ap (λ (rest : List Text). walk_fault shape [] (start false held) (word ∷ rest)) (sym (append-nil words)) ∙ first_all_pass [] held is false word words plain;
+  }
+
+  -- behind `--` the first word is one more file, whatever it begins with
+  pub begun_end : (held : Held) → IsMet held options → (word : Text) (words : List Text)
+      → Ends held (codes "--" ∷ word ∷ words) (after true (front [] word words) (end word words))
+  unfolding walk_fault walked
+  begun_end held is word words = record {
+    walks = ap (λ (rest : List Text). fold (walked rules []) (start true held) (word ∷ rest)) (sym (append-nil words)) ∙ first_walks [] held is true word words refl;
+    passes = ap (λ (rest : List Text). walk_fault shape [] (start true held) (word ∷ rest)) (sym (append-nil words)) ∙ first_all_pass [] held is true word words refl;
+  }
+
+  pub split_end : (held : Held) → IsMet held options → (word : Text) (words others : List Text) → list_all is_plain (word ∷ words) ≡ true
+      → Ends held (word ∷ words ++ codes "--" ∷ others) (after true (front (front [] word words) (end word words) others) (end (end word words) others))
+  unfolding walk_fault walked
+  split_end held is word words others plain =
+      let tail = codes "--" ∷ others in
+      let done = front [] word words in
+      let last = end word words in record {
+        walks =
+            first_walks tail held is false word words plain
+            ∙ ap (fold (walked rules []) (after true done last)) (sym (append-nil others)) ∙ walks [] true done last others refl;
+        passes =
+            first_all_pass tail held is false word words plain
+            ∙ ap (walk_fault shape [] (after true done last)) (sym (append-nil others)) ∙ passes [] true done last others refl;
+      }

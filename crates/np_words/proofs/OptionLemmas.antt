@@ -1,18 +1,61 @@
--- How clap refuses options, of which `list` has none.
-use Rattle.std.proofs.Common.{◌≡◌, ◌≢◌, ◌∙◌, ◌==◌, ◌++◌, ℕ, ap, List, [], ◌∷◌, Bool, true, false, Option, Some, None, arith, length, codes, if◌then◌else◌, slice_get, refl}
-use Rattle.std.proofs.lemmas.Bool.{eqb-true}
+-- Options that clap refuses: those that `list` does not have, and those that are given twice.
+use Rattle.std.proofs.Common.{◌≡◌, ◌≢◌, ◌∙◌, ◌==◌, ◌++◌, ℕ, ap, List, [], ◌∷◌, true, false, Option, Some, None, arith, length, codes, if◌then◌else◌, inl, inr, slice_get, subst, refl}
+use Rattle.std.proofs.lemmas.Bool.{false≢true, ne_eqb, or_cases, or_parts}
+use Rattle.std.proofs.lemmas.Slice.Eq.{bytes_eq-Decides}
 use Rattle.std.proofs.lemmas.Str.{encodes-chars}
-use Rattle.std.specs.List.{list_all}
+use Rattle.std.specs.List.{before_first, list_all}
 use Rattle.std.specs.Prelude.{IsUtf8}
 use Rattle.std.specs.Str.{bytes_eq, chars, encode_utf8_all}
+use Rattle.clap.proofs.OnLiterals.{clap_on_literals}
 use Rattle.clap.specs.Faults.{bundle_fault, bundle_step_fault, fault_of, flags_fault, turn_fault, walk_fault}
 use Rattle.clap.specs.Kinds.{Kinds, or_else}
 use Rattle.clap.specs.Lexer.{long_of, short_of}
 use Rattle.clap.specs.Simple.{matches_of}
-use Rattle.clap.specs.Walk.{Held, Walk, nothing_held, walk, walked}
-use Rattle.clap.specs.declared.error.kind.ErrorKind.TheVariants.{UnknownArgument}
-use Rattle.np_words.proofs.FileLemmas.{after, end, faults_from, first_file, first_passes, front, passes, rule, shape, split, start}
-use Rattle.np_words.specs.CommandLines.{Text, files_of, is_none, is_plain, job_of, list_command, list_job, list_of}
+use Rattle.clap.specs.Walk.{Held, Walk, arg_by_long, nothing_held, walk, walked}
+use Rattle.clap.specs.declared.error.kind.ErrorKind.{ErrorKind}
+use Rattle.clap.specs.declared.error.kind.ErrorKind.TheVariants.{ArgumentConflict, UnknownArgument}
+use Rattle.np_words.proofs.FileLemmas.{after, end, faults_from, first_all_pass, front, rules, shape, start}
+use Rattle.np_words.proofs.TableLemmas.{nothing_met}
+use Rattle.np_words.specs.Arguments.{is_none}
+use Rattle.np_words.specs.CommandLines.{job_of}
+use Rattle.np_words.specs.Laws.{is_list_option, is_plain}
+use Rattle.np_words.specs.ListWords.{list_command, list_job, list_of}
+use Rattle.np_words.specs.Values.{Text}
+
+-- words with a fault ask for nothing
+faulty : (words : List Text) (fault : ErrorKind) → walk_fault shape [] (start false nothing_held) words ≡ fault ∷ [] → job_of (codes "list" ∷ words) ≡ None
+unfolding list_job
+faulty words fault is =
+    let all : fault_of list_command (codes "list" ∷ words) ≡ fault ∷ [] =
+    ap (λ (kinds : Kinds). faults_from kinds (walk rules [] nothing_held words)) is in
+    ap (λ (kinds : Kinds). if is_none kinds then list_of (matches_of list_command (codes "list" ∷ words)) else None) all
+
+-- ---- options that `list` does not have
+
+-- where a word is met: before the first file, or after some
+abbrev at : Option (List Text × Text) → Walk
+at None = start false nothing_held
+at (Some files) = after [] refl false files.0 files.1
+
+-- the walk comes to such a word, and is refused
+refused : (names : List Text) (word : Text) (others : List Text) → list_all is_plain names ≡ true
+    → ((met : Option (List Text × Text)) → turn_fault shape [] (at met) word ≡ UnknownArgument ∷ [])
+    → walk_fault shape [] (start false nothing_held) (names ++ word ∷ others) ≡ UnknownArgument ∷ []
+unfolding walk_fault
+refused [] word others plain unknown =
+    ap (λ (kinds : Kinds). or_else kinds (walk_fault shape [] (walked shape.rules [] (start false nothing_held) word) others)) (unknown None)
+refused (name ∷ names) word others plain unknown =
+    let met : List Text × Text = (front [] name names, end name names) in
+    first_all_pass [] refl (word ∷ others) nothing_held nothing_met false name names plain
+    ∙ ap (λ (kinds : Kinds). or_else kinds (walk_fault shape [] (walked shape.rules [] (at (Some met)) word) others)) (unknown (Some met))
+
+unknown_job : (names : List Text) (word : Text) (others : List Text) → list_all is_plain names ≡ true
+    → ((met : Option (List Text × Text)) → turn_fault shape [] (at met) word ≡ UnknownArgument ∷ [])
+    → job_of (codes "list" ∷ names ++ word ∷ others) ≡ None
+unknown_job names word others plain unknown =
+    faulty (names ++ word ∷ others) UnknownArgument (refused names word others plain unknown)
+
+-- ---- short options
 
 -- a text that is not empty has a first character
 first_char : (first : ℕ) (rest : Text) → IsUtf8 (first ∷ rest) → (x : ℕ) × (slice_get (chars (first ∷ rest)) 0 ≡ Some x)
@@ -22,7 +65,7 @@ first_char first rest text = go (chars (first ∷ rest)) (encodes-chars (first �
     go [] is = let sizes = ap length is in absurd (omega arith)
     go (x ∷ xs) is = (x, refl)
 
--- short options are unknown
+-- there are none
 bundle_unknown : (held : Held) (first : ℕ) (rest : Text) → held.skip ≡ 0 → IsUtf8 (first ∷ rest)
     → bundle_fault shape.rules shape.args_override_self (first ∷ rest) held ≡ UnknownArgument ∷ []
 unfolding flags_fault
@@ -33,11 +76,6 @@ bundle_unknown held first rest none text =
     ap (λ (skip : ℕ). flags_fault shape.rules shape.args_override_self (length flags) flags skip bare) none
     ∙ ap (λ (found : Option ℕ). bundle_step_fault shape.rules shape.args_override_self found flags 0 bare (flags_fault shape.rules shape.args_override_self (length rest))) char.1
 
--- whether a word is met before the first file, or after some
-abbrev pub at : Option (List Text × Text) → Walk
-at None = start false
-at (Some files) = after false files.0 files.1
-
 -- a bundle of short options
 record IsBundle (flags : Text) : Type 0 where
   hyphens : bytes_eq (45 ∷ flags) (45 ∷ 45 ∷ []) ≡ false
@@ -47,48 +85,77 @@ record IsBundle (flags : Text) : Type 0 where
 bundle_word : (first : ℕ) (rest : Text) → (first == 45) ≡ false → IsBundle (first ∷ rest)
 bundle_word first rest other = record { hyphens = rw other refl; long = rw other refl; short = rw other refl }
 
--- a hyphen, and more that is no hyphen alone, is an unknown argument
-bundle_refused : (met : Option (List Text × Text)) (first : ℕ) (rest : Text) → (first == 45) ≡ false → IsUtf8 (first ∷ rest)
+short_unknown : (first : ℕ) (rest : Text) → (first == 45) ≡ false → IsUtf8 (first ∷ rest) → (met : Option (List Text × Text))
     → turn_fault shape [] (at met) (45 ∷ first ∷ rest) ≡ UnknownArgument ∷ []
-bundle_refused None first rest other text =
+short_unknown first rest other text None =
     let is = bundle_word first rest other in rw (is.hyphens, is.long, is.short, bundle_unknown (at None).held first rest refl text) refl
-bundle_refused (Some files) first rest other text =
+short_unknown first rest other text (Some files) =
     let is = bundle_word first rest other in rw (is.hyphens, is.long, is.short, bundle_unknown (at (Some files)).held first rest refl text) refl
 
-long_refused : (met : Option (List Text × Text)) (first second : ℕ) (rest : Text) → first ≡ 45 → turn_fault shape [] (at met) (45 ∷ first ∷ second ∷ rest) ≡ UnknownArgument ∷ []
-long_refused None first second rest same = rw same refl
-long_refused (Some files) first second rest same = rw same refl
+pub short_job : (names : List Text) (first : ℕ) (rest : Text) (others : List Text) → list_all is_plain names ≡ true → IsUtf8 (first ∷ rest) → first ≢ 45
+    → job_of (codes "list" ∷ names ++ (codes "-" ++ first ∷ rest) ∷ others) ≡ None
+short_job names first rest others plain text other =
+    unknown_job names (45 ∷ first ∷ rest) others plain (short_unknown first rest (ne_eqb first 45 other) text)
 
-unknown : (met : Option (List Text × Text)) (flags : Text) → IsUtf8 flags → flags ≢ [] → flags ≢ codes "-" → turn_fault shape [] (at met) (45 ∷ flags) ≡ UnknownArgument ∷ []
-unknown met [] text some more = absurd (some refl)
-unknown met (first ∷ rest) text some more = go (first == 45) refl rest text more
-  where
-    go : (b : Bool) → (first == 45) ≡ b → (rest : Text) → IsUtf8 (first ∷ rest) → (first ∷ rest) ≢ codes "-"
-        → turn_fault shape [] (at met) (45 ∷ first ∷ rest) ≡ UnknownArgument ∷ []
-    go false other rest text more = bundle_refused met first rest other text
-    go true same [] text more = absurd (more (ap (λ (one : ℕ). one ∷ []) (eqb-true first 45 same)))
-    go true same (second ∷ rest) text more = long_refused met first second rest (eqb-true first 45 same)
+-- ---- long options
 
--- the walk comes to an option and is refused
-refused : (names : List Text) (flags : Text) (others : List Text) → list_all is_plain names ≡ true → IsUtf8 flags → flags ≢ [] → flags ≢ codes "-"
-    → walk_fault shape [] (start false) (names ++ (45 ∷ flags) ∷ others) ≡ UnknownArgument ∷ []
-unfolding walk_fault
-refused [] flags others plain text some more =
-    ap (λ (kinds : Kinds). or_else kinds (walk_fault shape [] (walked shape.rules [] (start false) (45 ∷ flags)) others)) (unknown None flags text some more)
-refused (word ∷ words) flags others plain text some more =
-    let parts = split false word words plain in
-    let tail = (45 ∷ flags) ∷ others in
-    let met : List Text × Text = (front [] word words, end word words) in
-    ap (λ (kinds : Kinds). or_else kinds (walk_fault shape [] (walked shape.rules [] (start false) word) (words ++ tail))) (first_passes false word parts.0)
-    ∙ ap (λ (walk : Walk). walk_fault shape [] walk (words ++ tail)) (first_file false word parts.0) ∙ passes tail false [] word words parts.1
-    ∙ ap (λ (kinds : Kinds). or_else kinds (walk_fault shape [] (walked shape.rules [] (at (Some met)) (45 ∷ flags)) others)) (unknown (Some met) flags text some more)
+-- the name of an option, without what follows an `=` (61)
+no_rule : (name : Text) → is_list_option name ≡ false → arg_by_long rules name ≡ None
+no_rule name other =
+    let format = or_parts (bytes_eq (codes "format") name) _ other in
+    let report = or_parts (bytes_eq (codes "report") name) _ format.1 in
+    let focus = or_parts (bytes_eq (codes "focus") name) _ report.1 in
+    let side = or_parts (bytes_eq (codes "side") name) _ focus.1 in
+    rw (format.0, report.0, focus.0, side.0) refl
 
--- so the words ask for nothing
-pub option_job : (names : List Text) (flags : Text) (others : List Text) → list_all is_plain names ≡ true → IsUtf8 flags → flags ≢ [] → flags ≢ codes "-"
-    → job_of (codes "list" ∷ names ++ (codes "-" ++ flags) ∷ others) ≡ None
-unfolding list_job
-option_job names flags others plain text some more =
-    let words = names ++ (45 ∷ flags) ∷ others in
-    let faults : fault_of list_command (codes "list" ∷ words) ≡ UnknownArgument ∷ [] =
-    ap (λ (kinds : Kinds). faults_from kinds (walk (rule ∷ []) [] nothing_held words)) (refused names flags others plain text some more) in
-    ap (λ (kinds : Kinds). if is_none kinds then list_of (files_of (matches_of list_command (codes "list" ∷ words))) else None) faults
+long_unknown : (first : ℕ) (rest : Text) → is_list_option (before_first (λ c. c == 61) (first ∷ rest)) ≡ false → (met : Option (List Text × Text))
+    → turn_fault shape [] (at met) (45 ∷ 45 ∷ first ∷ rest) ≡ UnknownArgument ∷ []
+long_unknown first rest other None = let none = no_rule (before_first (λ c. c == 61) (first ∷ rest)) other in rw none refl
+long_unknown first rest other (Some files) = let none = no_rule (before_first (λ c. c == 61) (first ∷ rest)) other in rw none refl
+
+pub long_job : (names : List Text) (first : ℕ) (rest : Text) (others : List Text) → list_all is_plain names ≡ true
+    → is_list_option (before_first (λ c. c == 61) (first ∷ rest)) ≡ false
+    → job_of (codes "list" ∷ names ++ (codes "--" ++ first ∷ rest) ∷ others) ≡ None
+long_job names first rest others plain other = unknown_job names (45 ∷ 45 ∷ first ∷ rest) others plain (long_unknown first rest other)
+
+-- ---- an option that is given twice
+
+-- two words that give it
+abbrev IsRefused : Text → Type 0
+IsRefused name = (first second : Text) (others : List Text)
+    → job_of (codes "list" ∷ (codes "--" ++ name ++ codes "=" ++ first) ∷ (codes "--" ++ name ++ codes "=" ++ second) ∷ others) ≡ None
+
+format_twice : IsRefused (codes "format")
+unfolding clap_on_literals
+format_twice first second others = faulty _ ArgumentConflict refl
+
+report_twice : IsRefused (codes "report")
+unfolding clap_on_literals
+report_twice first second others = faulty _ ArgumentConflict refl
+
+focus_twice : IsRefused (codes "focus")
+unfolding clap_on_literals
+focus_twice first second others = faulty _ ArgumentConflict refl
+
+side_twice : IsRefused (codes "side")
+unfolding clap_on_literals
+side_twice first second others = faulty _ ArgumentConflict refl
+
+named : (known name : Text) → bytes_eq known name ≡ true → IsRefused known → IsRefused name
+named known name same refuses = subst IsRefused ((bytes_eq-Decides known name).0 same) refuses
+
+pub twice_job : (name : Text) → is_list_option name ≡ true → IsRefused name
+twice_job name known =
+    elim (or_cases (bytes_eq (codes "format") name) _ known) [
+      | inl format ↦ named (codes "format") name format format_twice
+      | inr others ↦ elim (or_cases (bytes_eq (codes "report") name) _ others) [
+        | inl report ↦ named (codes "report") name report report_twice
+        | inr more ↦ elim (or_cases (bytes_eq (codes "focus") name) _ more) [
+          | inl focus ↦ named (codes "focus") name focus focus_twice
+          | inr last ↦ elim (or_cases (bytes_eq (codes "side") name) _ last) [
+            | inl side ↦ named (codes "side") name side side_twice
+            | inr none ↦ absurd (false≢true none)
+          ]
+        ]
+      ]
+    ]

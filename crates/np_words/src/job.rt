@@ -1,11 +1,31 @@
 //! What a command line asks for.
 
-use np_base::{Seq, Text};
+use crate::end_word::EndWord;
+use crate::focus_side::FocusSide;
+use crate::format::Format;
+use crate::report::Report;
+use np_base::{PortNum, Seq, Text};
+use np_conns::Proto;
 
-/// What the words of a command line ask for.
+/// What the words of a command line ask for. The files of a job are the names of its inputs, in order. There is at least
+/// one, and the name `-`, which stands at most once, is standard input.
 #[derive(Debug, Drop)]
 pub enum Job {
-    /// The table of the connections that the policies permit, over the inputs of these names, in order. There is at
-    /// least one, and the name `-`, which stands at most once, is standard input.
-    List { files: Seq<Text> },
+    /// The table of the connections that the policies permit. With a focus, the rows in which the workload of that name
+    /// stands on the side.
+    List {
+        format: Format,
+        report: Report,
+        focus: Option<Text>,
+        side: FocusSide,
+        files: Seq<Text>,
+    },
+    /// The verdict of one packet. Its ends are addresses, or listed pods by `namespace/name`.
+    Evaluate {
+        from: EndWord,
+        to: EndWord,
+        proto: Proto,
+        port: PortNum,
+        files: Seq<Text>,
+    },
 }

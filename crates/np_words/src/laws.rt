@@ -1,27 +1,90 @@
 //! What follows from the definition of command lines, in words of its users. Each law is the contract of a call that does
 //! nothing.
-ghost use Rattle.std.specs.Prelude.{◌≡◌, ◌≢◌, ◌∷◌, ◌++◌, [], IsUtf8, List, None, Some, codes, true};
-ghost use Rattle.std.specs.List.{list_all};
-ghost use Rattle.np_words.specs.CommandLines.{Text, are_files, is_plain, job_of, or_standard_input};
-ghost use Rattle.np_words.specs.declared.job.Job.TheVariants.{List as ListJob};
+ghost use Rattle.std.specs.Prelude.{◌≡◌, ◌≢◌, ◌==◌, ◌∷◌, ◌++◌, ◌≤◌, ◌↔◌, [], ℕ, IsUtf8, List, None, Some, codes, decimal, false, true};
+ghost use Rattle.std.specs.List.{before_first, list_all};
+ghost use Rattle.np_conns.specs.ConnsText.{proto_named};
+ghost use Rattle.np_conns.specs.declared.proto.Proto.{Proto};
+ghost use Rattle.np_words.specs.Arguments.{are_files};
+ghost use Rattle.np_words.specs.CommandLines.{job_of};
+ghost use Rattle.np_words.specs.Laws.{is_list_option, is_plain, or_standard_input, text_table};
+ghost use Rattle.np_words.specs.Values.{Text, end_of, port_of, report_of};
+ghost use Rattle.np_words.specs.declared.end_word.EndWord.{EndWord};
+ghost use Rattle.np_words.specs.declared.job.Job.TheVariants.{Evaluate as EvaluateJob};
+ghost use Rattle.np_words.specs.declared.report.Report.{Report};
+ghost use Rattle.np_words.specs.declared.report.Report.TheVariants.{Two};
 
-/// Words after `list` that are no options are the names of its files, in their order. Where there is none, `list` reads
-/// standard input.
+/// Words after `list` that are no options are the names of its files, in their order, and each option is at its default:
+/// a table as text, in report 2, of all rows. Where there is none, `list` reads standard input.
 pub fn words_without_options_are_files()
     ensures { (names : List Text) → list_all is_plain names ≡ true → are_files names ≡ true →
-        job_of (codes "list" ∷ names) ≡ Some (ListJob (or_standard_input names)) }
+        job_of (codes "list" ∷ names) ≡ Some (text_table Two None (or_standard_input names)) }
 {}
 
 /// Words after `--` are names of files, whatever they begin with.
 pub fn words_after_two_hyphens_are_files()
     ensures { (names others : List Text) → list_all is_plain names ≡ true → are_files (names ++ others) ≡ true →
-        job_of (codes "list" ∷ names ++ codes "--" ∷ others) ≡ Some (ListJob (or_standard_input (names ++ others))) }
+        job_of (codes "list" ∷ names ++ codes "--" ∷ others)
+        ≡ Some (text_table Two None (or_standard_input (names ++ others))) }
 {}
 
-/// A word before `--` that begins with a hyphen and is more than that stands for an option, of which `list` has none: such
-/// words ask for nothing.
-pub fn words_with_options_ask_for_nothing()
-    ensures { (names : List Text) (flags : Text) (others : List Text) →
-        list_all is_plain names ≡ true → IsUtf8 flags → flags ≢ [] → flags ≢ codes "-" →
-        job_of (codes "list" ∷ names ++ (codes "-" ++ flags) ∷ others) ≡ None }
+/// Before the files, a report stands in the word after `--report`, or behind `=`, and leaves the other options at their
+/// defaults. A value that is no report asks for nothing.
+pub fn report_is_read_after_its_option()
+    ensures apart { (value : Text) (report : Report) (names : List Text) → report_of value ≡ Some report →
+        list_all is_plain names ≡ true → are_files names ≡ true →
+        job_of (codes "list" ∷ codes "--report" ∷ value ∷ names)
+        ≡ Some (text_table report None (or_standard_input names)) }
+    ensures joined { (value : Text) (report : Report) (names : List Text) → report_of value ≡ Some report →
+        list_all is_plain names ≡ true → are_files names ≡ true →
+        job_of (codes "list" ∷ (codes "--report=" ++ value) ∷ names)
+        ≡ Some (text_table report None (or_standard_input names)) }
+    ensures refused { (value : Text) (names : List Text) → report_of value ≡ None → list_all is_plain names ≡ true →
+        job_of (codes "list" ∷ (codes "--report=" ++ value) ∷ names) ≡ None }
+{}
+
+/// Before the files, any text behind `--focus=` is a name. In a word of its own a name begins with no hyphen, or is the
+/// hyphen alone.
+pub fn focus_is_any_name()
+    ensures apart { (name : Text) (names : List Text) → is_plain name ≡ true →
+        list_all is_plain names ≡ true → are_files names ≡ true →
+        job_of (codes "list" ∷ codes "--focus" ∷ name ∷ names)
+        ≡ Some (text_table Two (Some name) (or_standard_input names)) }
+    ensures joined { (name : Text) (names : List Text) → list_all is_plain names ≡ true → are_files names ≡ true →
+        job_of (codes "list" ∷ (codes "--focus=" ++ name) ∷ names)
+        ≡ Some (text_table Two (Some name) (or_standard_input names)) }
+{}
+
+/// Words that begin with one option of `list` twice ask for nothing, whatever its values are and whatever follows.
+pub fn options_given_twice_ask_for_nothing()
+    ensures { (name : Text) → is_list_option name ≡ true → (first second : Text) (others : List Text) →
+        job_of (codes "list" ∷ (codes "--" ++ name ++ codes "=" ++ first)
+        ∷ (codes "--" ++ name ++ codes "=" ++ second) ∷ others) ≡ None }
+{}
+
+/// A word before `--` that begins with a hyphen, is more than that, and is no option of `list` asks for nothing: there are
+/// no options of one letter, and of those of two hyphens only four, whose names end before an `=` (61).
+pub fn other_options_ask_for_nothing()
+    ensures short { (names : List Text) (first : ℕ) (rest : Text) (others : List Text) →
+        list_all is_plain names ≡ true → IsUtf8 (first ∷ rest) → first ≢ 45 →
+        job_of (codes "list" ∷ names ++ (codes "-" ++ first ∷ rest) ∷ others) ≡ None }
+    ensures long { (names : List Text) (first : ℕ) (rest : Text) (others : List Text) →
+        list_all is_plain names ≡ true → is_list_option (before_first (λ c. c == 61) (first ∷ rest)) ≡ false →
+        job_of (codes "list" ∷ names ++ (codes "--" ++ first ∷ rest) ∷ others) ≡ None }
+{}
+
+/// The packet of `evaluate` is that of its four options, each with a value that its reader takes. Where no file is named,
+/// `evaluate` reads standard input.
+pub fn packet_is_read_of_its_options()
+    ensures { (from to proto port : Text) (source destination : EndWord) (named : Proto) (number : ℕ) →
+        end_of from ≡ Some source → end_of to ≡ Some destination →
+        proto_named proto ≡ Some named → port_of port ≡ Some number →
+        job_of (codes "evaluate" ∷ (codes "--from=" ++ from) ∷ (codes "--to=" ++ to)
+        ∷ (codes "--protocol=" ++ proto) ∷ (codes "--port=" ++ port) ∷ [])
+        ≡ Some (EvaluateJob source destination named number (codes "-" ∷ [])) }
+{}
+
+/// The words that are ports are the decimals of the numbers from 1 to 65535.
+pub fn ports_are_decimals()
+    ensures { (word : Text) (port : ℕ) →
+        (port_of word ≡ Some port) ↔ ((1 ≤ port) × (port ≤ 65535) × (word ≡ decimal port)) }
 {}

@@ -1,16 +1,29 @@
 //! What the words of a command line ask for.
 #![tactic(auto)]
 
+mod arguments;
+mod end_word;
+mod evaluate_words;
+mod files;
+mod focus_side;
+mod format;
 mod job;
 mod laws;
 mod list_words;
+mod port;
+mod report;
 mod words;
 mod words_fault;
 
+pub use end_word::EndWord;
+pub use focus_side::FocusSide;
+pub use format::Format;
 pub use job::Job;
 pub use laws::{
-    words_after_two_hyphens_are_files, words_with_options_ask_for_nothing,
-    words_without_options_are_files,
+    focus_is_any_name, options_given_twice_ask_for_nothing, other_options_ask_for_nothing,
+    packet_is_read_of_its_options, ports_are_decimals, report_is_read_after_its_option,
+    words_after_two_hyphens_are_files, words_without_options_are_files,
 };
+pub use report::Report;
 pub use words::read_words;
 pub use words_fault::WordsFault;

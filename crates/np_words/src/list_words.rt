@@ -1,13 +1,19 @@
 //! The command line of `list`.
-ghost use Rattle.std.specs.Prelude.{◌≡◌, Some, None, IfOk, IsErrOf, false, map, string_bytes};
+ghost use Rattle.std.specs.Prelude.{◌≡◌, Some, None, IfOk, IsErrOf, map, string_bytes};
+ghost use Rattle.clap.specs.Matches.{found_of};
 ghost use Rattle.clap.specs.Simple.{app_of};
-ghost use Rattle.clap.specs.Walk.{rule_of};
-ghost use Rattle.np_words.specs.CommandLines as spec;
+ghost use Rattle.clap.specs.Walk.{rows_of};
+ghost use Rattle.np_words.specs.ListWords as spec;
 
+use crate::arguments::{file, option_of, option_or};
+use crate::files::read_files;
+use crate::focus_side::FocusSide;
+use crate::format::Format;
 use crate::job::Job;
+use crate::report::Report;
 use crate::words_fault::WordsFault;
-use clap::{Arg, ArgAction, Command};
-use np_base::{NoMemory, Seq, Text};
+use clap::{ArgMatches, Command};
+use np_base::Text;
 use std::alloc::{AllocError, Global};
 
 /// The job of words of which the first is `list`. `Usage` comes exactly where they ask for none.
@@ -16,55 +22,50 @@ pub(crate) fn read_list(alloc: Global, words: &[String]) -> Result<Job, WordsFau
     ensures usage { IsErrOf result WordsFault.Usage → spec.list_job (map string_bytes words.now) ≡ None }
 {
     let matches = list_command(alloc)?.try_get_matches_from(words)?;
-    list_of(alloc, matches.get_strs("FILE").unwrap_or(&[]))
+    list_of(alloc, &matches)
 }
 
-// `list [FILE]...`, without a flag for help.
+// `list [--format text|csv|json] [--report 1|2] [--focus NAME] [--side either|from|to] [FILE]...`
 fn list_command<'a>(alloc: Global) -> Result<Command<'a>, AllocError>
     ensures { IfOk result (λ command. app_of command ≡ spec.list_command) }
 {
     Command::new(alloc, "list")
         .disable_help_flag(true)
+        .arg(option_or(alloc, "format", "text"))?
+        .arg(option_or(alloc, "report", "2"))?
+        .arg(option_of(alloc, "focus"))?
+        .arg(option_or(alloc, "side", "either"))?
         .arg(file(alloc))
 }
 
-// FILE: the name of an input, as often as it is given, and where it is not, that of standard input.
-fn file<'a>(alloc: Global) -> Arg<'a>
-    ensures rule { rule_of result ≡ spec.file_rule }
-    ensures local { result.global ≡ false }
+// The table that was asked for. `Usage` comes exactly where a value is none that its option takes, or standard input is
+// named more than once.
+fn list_of(alloc: Global, matches: &ArgMatches) -> Result<Job, WordsFault>
+    ensures job { IfOk result (λ job. spec.list_of (rows_of (found_of matches.now)) ≡ Some job) }
+    ensures usage { IsErrOf result WordsFault.Usage → spec.list_of (rows_of (found_of matches.now)) ≡ None }
 {
-    Arg::new(alloc, "FILE")
-        .action(ArgAction::Append)
-        .default_value("-")
-}
-
-// The table over these files. `Usage` comes exactly where they name standard input more than once.
-fn list_of(alloc: Global, names: &[&str]) -> Result<Job, WordsFault>
-    ensures job { IfOk result (λ job. spec.list_of (map (λ name. name.now) names.now) ≡ Some job) }
-    ensures usage { IsErrOf result WordsFault.Usage → spec.list_of (map (λ name. name.now) names.now) ≡ None }
-{
-    let files = texts_of(alloc, names)?;
-    if are_files(files.items()) {
-        Ok(Job::List { files })
-    } else {
-        Err(WordsFault::Usage)
-    }
-}
-
-// Texts of the same bytes, in the same order.
-fn texts_of(alloc: Global, words: &[&str]) -> Result<Seq<Text>, NoMemory>
-    ensures { IfOk result (λ texts. texts ≡ map (λ word. word.now) words.now) }
-{
-    let mut texts = Seq::new(alloc);
-    for word in words {
-        texts.push(Text::of(alloc, word)?)?;
-    }
-    Ok(texts)
-}
-
-// Whether standard input is named at most once.
-fn are_files(names: &[Text]) -> bool
-    ensures { result ≡ spec.are_files names.now }
-{
-    names.iter().filter(|name| name.as_str() == "-").count() < 2
+    let format = matches
+        .get_str("format")
+        .and_then(Format::named)
+        .ok_or(WordsFault::Usage)?;
+    let report = matches
+        .get_str("report")
+        .and_then(Report::named)
+        .ok_or(WordsFault::Usage)?;
+    let side = matches
+        .get_str("side")
+        .and_then(FocusSide::named)
+        .ok_or(WordsFault::Usage)?;
+    let files = read_files(alloc, matches)?;
+    let focus = match matches.get_str("focus") {
+        Some(name) => Some(Text::of(alloc, name)?),
+        None => None,
+    };
+    Ok(Job::List {
+        format,
+        report,
+        focus,
+        side,
+        files,
+    })
 }

@@ -2,6 +2,7 @@
 ghost use Rattle.std.specs.Prelude.{◌≡◌, Some, None, IfOk, IsErrOf};
 ghost use Rattle.np_words.specs.CommandLines.{asked_by};
 
+use crate::evaluate_words::read_evaluate;
 use crate::job::Job;
 use crate::list_words::read_list;
 use crate::words_fault::WordsFault;
@@ -15,6 +16,7 @@ pub fn read_words(alloc: Global, words: &[String]) -> Result<Job, WordsFault>
 {
     match words.first() {
         Some(command) if command.as_str() == "list" => read_list(alloc, words),
+        Some(command) if command.as_str() == "evaluate" => read_evaluate(alloc, words),
         _ => Err(WordsFault::Usage),
     }
 }

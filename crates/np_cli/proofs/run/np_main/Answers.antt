@@ -1,4 +1,5 @@
-use Rattle.np_cli.proofs.PromisesLemmas.{completes, refuses_too_large, refuses_faults, blames_device, blames_words, usage_ended}
+use Rattle.np_cli.proofs.HeadlineLemmas.{says_what_passes}
+use Rattle.np_cli.proofs.PromisesLemmas.{begins_in_order, completes, refuses_too_large, refuses_more, refuses_faults, blames_device, blames_words, usage_ended}
 use Rattle.np_cli.proofs.RunsLemmas.{Cause-said}
 use Rattle.np_cli.proofs.run.np_main.Goals as goal
 
@@ -8,11 +9,14 @@ returns g c =
     record {
       promises = record {
         ends = record { outcome = c.say-said.result; cause = cause; said = c.say-said.ensures.said; answered = c.status_of.ensures };
+        says = says_what_passes _ _ c.say-said.result cause c.status_of.ensures;
         completes = completes _ _ _ c.say-said.result cause c.say-said.ensures.said c.status_of.ensures;
         refuses_too_large = refuses_too_large _ _ _ c.say-said.result cause c.say-said.ensures.said c.status_of.ensures;
+        refuses_more = refuses_more _ _ _ c.say-said.result cause c.say-said.ensures.said c.status_of.ensures;
         refuses_faults = refuses_faults _ _ _ c.say-said.result cause c.say-said.ensures.said c.status_of.ensures;
         words = blames_words _ _ c.say-said.result cause c.status_of.ensures;
         device = blames_device _ _ c.say-said.result cause c.status_of.ensures;
+        names = begins_in_order _ c.say-said.result cause;
         counted = c.run-outcome.ensures.ran.1;
       };
       usage = λ usage. c.run-outcome.ensures.usage (usage_ended c.run-outcome.result c.say-said.result c.status_of.result c.status_of.ensures usage c.say-said.ensures.kept);

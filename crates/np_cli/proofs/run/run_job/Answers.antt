@@ -14,7 +14,7 @@ returns g c = (
   Cause-from_answers c.args.job.now _ _ _ c.answer.result
       (λ told tells. rw c.deref.ensures.value (c.in_ok-texts.ensures.told told (rw c.names_of.ensures tells)))
       (rw c.deref.ensures.value c.in_ok-texts.ensures.fits)
-      c.in_ok-texts.ensures.ok_faults
+      (rw c.names_of.ensures at c.in_ok-texts.ensures.once)
       c.answer.ensures.answers,
   Counted-read c.args.job.now _ _ _ _ _
       (λ told tells. rw c.deref.ensures.value (c.in_ok-texts.ensures.told told (rw c.names_of.ensures tells)))

@@ -1,7 +1,9 @@
-use Rattle.std.proofs.Common.{◌≡◌, length, refl, ◌∙◌, inl, arith, rules}
+use Rattle.std.proofs.Common.{◌≡◌, length, map, refl, ap, subst, ◌∙◌, inl, arith, rules}
 use Rattle.std.proofs.lemmas.List.{take_all}
 use Rattle.std.proofs.lemmas.Result.{err_from_is_err_and}
-use Rattle.np_cli.proofs.SourcesLemmas.{AreTold-length, bytes_of-more, total_size-more, RoseBy-more, told-next, Unread-next}
+use Rattle.np_io.specs.Source.{BeganNext}
+use Rattle.np_cli.specs.Sources.{HandedOut, total_size}
+use Rattle.np_cli.proofs.SourcesLemmas.{AreTold-length, BeganFront-next, BeganNext-none, Began-next, HandedOut-more, HandedOut-none, bytes_of-more, total_size-more, RoseBy-more, told-next, Unread-next}
 use Rattle.np_cli.proofs.sources.read_all.Goals as goal
 
 pub loop-name-init : goal.loop-name-init
@@ -9,6 +11,8 @@ loop-name-init g c = record {
   so_far = λ texts told. rw c.new-texts.ensures.items refl;
   counted = rw c.new-texts.ensures.items refl;
   handed = rw c.new-texts.ensures.items (inl (omega arith));
+  out = rw c.new-texts.ensures.items (HandedOut-none _);
+  began = BeganNext-none _ _ refl;
   faults = refl;
   names = refl;
   left_told = refl;
@@ -28,6 +32,8 @@ loop-name-preserved g c =
           let counted = kept.counted in
           rw (c.in_ok-push.ensures.items, total_size-more) (omega arith);
       handed = rw (c.in_ok-push.ensures.items, total_size-more, c.in_ok-text.ensures.handed) (RoseBy-more _ _ _ _ kept.handed);
+      out = rw (c.in_ok-push.ensures.items, total_size-more) (HandedOut-more _ _ _ _ _ kept.out c.in_ok-text.ensures.handed);
+      began = Began-next _ _ _ c.args.names.now c.loop-name.name-index c.name-item.result c.loop-name-test.true c.name-item.is kept.began c.read_next.ensures.began;
       faults = c.in_ok-text.ensures.ok_faults ∙ kept.faults;
       names = c.read_next.ensures.names ∙ kept.names;
       left_told = c.read_next.ensures.left_told ∙ kept.left_told;
@@ -38,8 +44,28 @@ returns-clause-told g c = λ texts told.
     let fewer = AreTold-length _ _ c.args.names.now texts told in
     c.loop-name.invariant.so_far texts told ∙ take_all c.loop-name.name-index texts (omega arith)
 
+pub returns-clause-once : goal.returns-clause-once
+returns-clause-once g c =
+    let kept = c.loop-name.invariant in
+    let most = kept.out.most in
+    let counted = kept.counted in
+    record {
+      unfailed = kept.faults;
+      began = subst (BeganNext _ _) (take_all c.loop-name.name-index c.args.names.now (omega arith)) kept.began;
+      in_room = omega arith;
+      handed = λ texts told.
+          let fewer = AreTold-length _ _ c.args.names.now texts told in
+          subst (HandedOut _ _) (ap total_size (kept.so_far texts told ∙ take_all c.loop-name.name-index texts (omega arith))) kept.out;
+    }
+
 pub returns-in_err-text-clause-err : goal.returns-in_err-text-clause-err
 returns-in_err-text-clause-err g c =
     let p = err_from_is_err_and c.from_residual.result c.from_residual.ensures.1 in
     let kept = c.loop-name.invariant in
-    rw (p.1, p.2) (Unread-next _ _ _ _ _ c.args.names.now c.loop-name.texts.items c.loop-name.name-index c.loop-name.room c.name-item.result c.in_err-text.field-0.0 kept.names kept.left_told kept.faults c.loop-name-test.true c.name-item.is kept.so_far kept.counted kept.handed c.in_err-text.ensures.err)
+    rw (p.1, p.2) (Unread-next _ _ _ _ _ _ c.args.names.now c.loop-name.texts.items c.loop-name.name-index c.loop-name.room c.name-item.result c.in_err-text.field-0.0 kept.names kept.left_told kept.faults c.loop-name-test.true c.name-item.is kept.so_far kept.counted kept.handed kept.out kept.began c.read_next.ensures.began c.in_err-text.ensures.err)
+
+pub returns-in_err-push-clause-err : goal.returns-in_err-push-clause-err
+returns-in_err-push-clause-err g c =
+    let p = err_from_is_err_and c.from_residual-in_err-push.result c.from_residual-in_err-push.ensures.1 in
+    let kept = c.loop-name.invariant in
+    rw (p.1, p.2) (BeganFront-next _ c.args.names.now c.loop-name.name-index (Began-next _ _ _ c.args.names.now c.loop-name.name-index c.name-item.result c.loop-name-test.true c.name-item.is kept.began c.read_next.ensures.began))

@@ -1,6 +1,7 @@
 use Rattle.std.proofs.Common.{◌≡◌, ◌+◌, ℕ, List, map, take, is_some}
 use Rattle.np_cli.proofs.SourcesLemmas.{RoseBy}
-use Rattle.np_cli.specs.Sources.{AreTold, total_size}
+use Rattle.np_io.specs.Source.{BeganNext}
+use Rattle.np_cli.specs.Sources.{AreTold, HandedOut, total_size}
 use Rattle.np_cli.specs.declared.sources.TheConstants.{SIZE_LIMIT}
 use Rattle.np_cli.proofs.sources.read_all.Given as goal
 
@@ -11,6 +12,8 @@ invariant-loop-name g l = record {
   -- they take what is no longer room
   counted : l.room + total_size (map (λ text. text.items) l.texts.items) ≡ SIZE_LIMIT;
   handed : RoseBy (total_size (map (λ text. text.items) l.texts.items)) (g.I.Inputs.handed l.fn.inputs) (g.I.Inputs.handed l.inputs);
+  out : HandedOut (g.I.Inputs.handed l.fn.inputs) (g.I.Inputs.handed l.inputs) (total_size (map (λ text. text.items) l.texts.items));
+  began : BeganNext (g.I.Inputs.began l.fn.inputs) (g.I.Inputs.began l.inputs) (take l.name-index l.names);
   -- and the source stands as it stood
   faults : g.I.Inputs.faults l.inputs ≡ g.I.Inputs.faults l.fn.inputs;
   names : g.I.Inputs.holds l.inputs ≡ g.I.Inputs.holds l.fn.inputs;

@@ -2,7 +2,7 @@ use Rattle.std.proofs.Common.{◌∙◌, sym, ap}
 use Rattle.std.proofs.lemmas.Iterator.{YieldsList-from_zip}
 use Rattle.std.proofs.lemmas.Iterator.Adapters.{YieldsList-from_vec}
 use Rattle.std.proofs.lemmas.Iterator.Consumers.{YieldsList-end}
-use Rattle.np_estate.specs.Gathering as spec
+use Rattle.np_estate.specs.steps.Gathering as spec
 use Rattle.np_estate.proofs.GatherLemmas.{counted-more, gathered-more, pairs-same}
 use Rattle.np_estate.proofs.gathered.gather.Goals as goal
 

@@ -1,5 +1,5 @@
 use Rattle.std.proofs.Common.{◌≡◌, length}
-use Rattle.np_estate.specs.Gathering as spec
+use Rattle.np_estate.specs.steps.Gathering as spec
 use Rattle.np_estate.proofs.gathered.gather.Given as goal
 
 -- what the items so far give is gathered, and they are counted

@@ -1,7 +1,7 @@
 use Rattle.std.proofs.Common.{◌≡◌, ◌∙◌, List, Option, ap, subst}
 use Rattle.std.specs.Prelude.{IfOk}
 use Rattle.np_estate.specs.Ends.{settings_of}
-use Rattle.np_estate.specs.Gathering.{nothing, seen, with_items}
+use Rattle.np_estate.specs.steps.Gathering.{nothing, seen, with_items}
 use Rattle.np_estate.specs.LeftOut.{count_left_out}
 use Rattle.np_estate.specs.declared.left_out.LeftOut.TheVariants.{Host, Finished, Skipped}
 use Rattle.np_estate.specs.declared.lists.EstateLists.{EstateLists}

@@ -1,5 +1,5 @@
 use Rattle.std.proofs.Common.{◌≡◌, Some, map, take}
-use Rattle.np_fold.specs.Folded as folded
+use Rattle.np_fold.specs.steps.Folded as folded
 use Rattle.np_fold.proofs.kinds.traits_by_name.Given as goal
 
 -- what was made so far is for the things so far

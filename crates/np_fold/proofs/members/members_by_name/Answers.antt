@@ -4,7 +4,7 @@ use Rattle.std.proofs.lemmas.Iterator.Adapters.{YieldsList-from_vec}
 use Rattle.std.proofs.lemmas.Iterator.Consumers.{YieldsList-end, YieldsList-so_far, YieldsList-turn}
 use Rattle.std.specs.List.{zip}
 use Rattle.np_classes.specs.Classes.{numbered, places}
-use Rattle.np_fold.specs.Folded.{workload_of_pair}
+use Rattle.np_fold.specs.steps.Folded.{workload_of_pair}
 use Rattle.np_fold.specs.Workloads.{workload_of_entry}
 use Rattle.np_fold.proofs.MemberLemmas.{members-count, next-new, pairs-same, workloads-more}
 use Rattle.np_names.specs.declared.named.Named.{Named}

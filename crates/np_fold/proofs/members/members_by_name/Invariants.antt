@@ -1,5 +1,5 @@
 use Rattle.std.proofs.Common.{◌≡◌, map}
-use Rattle.np_fold.specs.Folded as folded
+use Rattle.np_fold.specs.steps.Folded as folded
 use Rattle.np_fold.specs.Workloads as spec
 use Rattle.np_fold.proofs.members.members_by_name.Given as goal
 

@@ -1,5 +1,5 @@
 use Rattle.std.proofs.Common.{◌≡◌, map, take}
-use Rattle.np_fold.specs.Folded as spec
+use Rattle.np_fold.specs.steps.Folded as spec
 use Rattle.np_fold.proofs.numbers.numbers_by_name.Given as goal
 
 -- the numbers so far are those of the classes so far

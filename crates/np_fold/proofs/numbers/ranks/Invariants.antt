@@ -1,5 +1,5 @@
 use Rattle.std.proofs.Common.{◌≡◌, ◌+◌, ◌<◌, ℕ, drop, length, get_or}
-use Rattle.np_fold.specs.Folded as spec
+use Rattle.np_fold.specs.steps.Folded as spec
 use Rattle.np_fold.proofs.numbers.ranks.Given as goal
 
 -- each place has its number among the things from here on

@@ -12,6 +12,7 @@ invariant-loop-bytes g l = record {
   no_fault : g.I.Inputs.faults l.inputs ≡ g.I.Inputs.faults l.initial.inputs;
   same_names : g.I.Inputs.holds l.inputs ≡ g.I.Inputs.holds l.initial.inputs;
   same_begun : g.I.Inputs.begun l.inputs ≡ g.I.Inputs.begun l.initial.inputs;
+  same_began : g.I.Inputs.began l.inputs ≡ g.I.Inputs.began l.initial.inputs;
 }
 
 abbrev pub decreases-loop-bytes : goal.decreases-loop-bytes

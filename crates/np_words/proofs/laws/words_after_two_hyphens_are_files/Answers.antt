@@ -1,4 +1,4 @@
-use Rattle.np_words.proofs.FileLemmas.{split_job}
+use Rattle.np_words.proofs.TableLemmas.{split_job}
 use Rattle.np_words.proofs.laws.words_after_two_hyphens_are_files.Goals as goal
 
 pub returns : goal.returns

@@ -1,4 +1,4 @@
-use Rattle.np_words.proofs.FileLemmas.{plain_job}
+use Rattle.np_words.proofs.TableLemmas.{plain_job}
 use Rattle.np_words.proofs.laws.words_without_options_are_files.Goals as goal
 
 pub returns : goal.returns

@@ -1,4 +1,4 @@
-use Rattle.np_base.specs.Beside.{empty_by_second, filled_by_first}
+use Rattle.np_base.proofs.BesideLemmas.{empty_by_second, filled_by_first}
 use Rattle.np_base.proofs.beside.BesideCells.is_empty.Goals as goal
 
 pub returns-then-first-clause-answer : goal.returns-then-first-clause-answer

@@ -1,4 +1,4 @@
-use Rattle.np_base.specs.Beside.{same_by_second, apart_by_first}
+use Rattle.np_base.proofs.BesideLemmas.{same_by_second, apart_by_first}
 use Rattle.np_base.proofs.beside.BesideCells.same.Goals as goal
 
 pub returns-then-first-clause-answer : goal.returns-then-first-clause-answer

@@ -1,5 +1,5 @@
 use Rattle.std.proofs.Common.{◌≡◌, map, refl, ◌∙◌, arith}
-use Rattle.np_fold.specs.Folded.{number_among}
+use Rattle.np_fold.specs.steps.Folded.{number_among}
 use Rattle.np_fold.specs.Workloads.{workload_of_entry}
 use Rattle.np_fold.proofs.FoldLemmas.{firsts-in}
 use Rattle.np_fold.proofs.PartLemmas.{classes-in, folding-is, keys-agree, kinds-few, names-ascend, names-few, numbers-few, numbers-in, numbers-made, places-in, workloads-few, workloads-made}

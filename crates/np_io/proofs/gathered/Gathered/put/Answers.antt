@@ -1,5 +1,5 @@
 use Rattle.std.proofs.lemmas.Result.{on_err_weaker, on_ok_weaker}
-use Rattle.np_io.specs.Taken.{TookAllBut-none, TookFront-after, took_together}
+use Rattle.np_io.proofs.TakenLemmas.{TookAllBut-none, TookFront-after, took_together}
 use Rattle.np_io.proofs.gathered.Gathered.put.Goals as goal
 
 pub returns-then-bytes-gt-ROOM-clause-put : goal.returns-then-bytes-gt-ROOM-clause-put

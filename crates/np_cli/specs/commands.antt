@@ -1,0 +1,3 @@
+-- What each command says of what its inputs say, or why it refuses it.
+pub mod Evaluate
+pub mod List

@@ -1,0 +1,122 @@
+-- `evaluate`: the verdict of one packet.
+use Rattle.std.specs.Prelude.{ℕ, List, [], ◌∷◌, ◌++◌, ◌==◌, ◌&&◌, Bool, true, false, codes, decimal, Option, Some, None, Result, Ok, Err, ⊤, if◌then◌else◌}
+use Rattle.std.specs.List.{position}
+use Rattle.std.specs.Option.{option_map}
+use Rattle.std.specs.Str.{bytes_eq}
+use Rattle.np_addr.specs.Addresses.{family_of}
+use Rattle.np_addr.specs.AddressText.{address_text}
+use Rattle.np_addr.specs.declared.address.Family.{Family}
+use Rattle.np_addr.specs.declared.address.Family.TheVariants.{Four, Six}
+use Rattle.np_cli.specs.declared.fault.Fault.{Fault}
+use Rattle.np_cli.specs.declared.fault.Fault.TheVariants.{SameEnd, UnknownEnd}
+use Rattle.np_conns.specs.ConnsText.{proto_name}
+use Rattle.np_conns.specs.declared.port_spot.PortSpot.{PortSpot}
+use Rattle.np_estate.specs.Families.{families_of}
+use Rattle.np_estate.specs.declared.lists.EstateLists.{EstateLists}
+use Rattle.np_estate.specs.declared.pod.Pod.{Pod}
+use Rattle.np_report.specs.RowText.{mark_text}
+use Rattle.np_rules.specs.Verdict.{allows, packet_of}
+use Rattle.np_rules.specs.declared.packet.End.{End}
+use Rattle.np_rules.specs.declared.packet.End.TheVariants as end
+use Rattle.np_words.specs.declared.end_word.EndWord.{EndWord}
+use Rattle.np_words.specs.declared.end_word.EndWord.TheVariants as word
+
+-- ---- ends
+
+-- a pod as a word names it: `namespace/name`
+abbrev pub pod_word : Pod → List ℕ
+pod_word pod = pod.namespace ++ (codes "/" ++ pod.name)
+
+-- whether a pod is the listed one that a word names; one that a template makes is none
+abbrev pub is_named : List ℕ → Pod → Bool
+is_named name pod = pod.listed && bytes_eq name (pod_word pod)
+
+-- the end that a word names: an address, or the listed pod of that name
+abbrev pub end_named : EstateLists → EndWord → Option End
+end_named lists (word.At address) = Some (end.At address)
+end_named lists (word.Named name) = option_map end.Pod (position (is_named name) lists.pods)
+
+-- an end as it is printed: an address in its canonical text, a pod as its word
+abbrev pub end_text : EndWord → List ℕ
+end_text (word.At address) = address_text address
+end_text (word.Named name) = name
+
+-- the same, or the fault that there is none
+abbrev pub or_unknown : List ℕ → Option End → Result End Fault
+or_unknown name (Some one) = Ok one
+or_unknown name None = Err (UnknownEnd name)
+
+unfoldable pub known_end : EstateLists → EndWord → Result End Fault
+known_end lists word = or_unknown (end_text word) (end_named lists word)
+
+abbrev pub are_one_pod : End → End → Bool
+are_one_pod (end.Pod p) (end.Pod q) = p == q
+are_one_pod source destination = false
+
+-- the ends of a packet are no one pod
+abbrev pub are_apart : List ℕ → End → End → Result ⊤ Fault
+are_apart from source destination = if are_one_pod source destination then Err (SameEnd from) else Ok tt
+
+-- ---- lines
+
+abbrev pub only_family : List Family → Option Family
+only_family (one ∷ []) = Some one
+only_family families = None
+
+-- The one family in which a packet is asked about: that of its address, the source's where both ends are addresses, and else
+-- that of the list. There is none where the list has both.
+abbrev pub family_asked : EstateLists → End → End → Option Family
+family_asked lists (end.At address) destination = Some (family_of address)
+family_asked lists (end.Pod p) (end.At address) = Some (family_of address)
+family_asked lists (end.Pod p) (end.Pod q) = only_family (families_of lists.pods)
+
+abbrev pub verdict_text : Bool → List ℕ
+verdict_text true = codes "Allow"
+verdict_text false = codes "Deny"
+
+-- `PROTOCOL port : Allow`
+abbrev pub said_text : PortSpot → Bool → List ℕ
+said_text spot verdict = proto_name spot.proto ++ codes " " ++ decimal spot.port ++ codes " : " ++ verdict_text verdict
+
+-- `from => to : PROTOCOL port : Allow`, where a mark may follow `to`
+unfoldable pub verdict_line : List ℕ → List ℕ → PortSpot → Option Family → Bool → List ℕ
+verdict_line from to spot mark verdict =
+    from ++ codes " => " ++ to ++ mark_text mark ++ codes " : " ++ said_text spot verdict ++ codes "\n"
+
+-- one line where the verdicts of both families are the same, and else one for each, with the family's mark
+abbrev pub lines_of_both : (Option Family → Bool → List ℕ) → Bool → Bool → List ℕ
+lines_of_both line true true = line None true
+lines_of_both line false false = line None false
+lines_of_both line four six = line (Some Four) four ++ line (Some Six) six
+
+-- one line where one family is asked about
+abbrev pub lines_in : (Option Family → Bool → List ℕ) → Option Family → (Family → Bool) → List ℕ
+lines_in line (Some one) verdict = line None (verdict one)
+lines_in line None verdict = lines_of_both line (verdict Four) (verdict Six)
+
+-- whether the packet of a family is allowed
+abbrev pub is_allowed : EstateLists → End → End → PortSpot → Family → Bool
+is_allowed lists source destination spot family =
+    allows lists (packet_of lists (record { source = source; destination = destination; family = family; proto = spot.proto; port = spot.port }))
+
+unfoldable pub verdict_lines : EstateLists → List ℕ → List ℕ → PortSpot → End → End → List ℕ
+verdict_lines lists from to spot source destination =
+    lines_in (verdict_line from to spot) (family_asked lists source destination) (is_allowed lists source destination spot)
+
+-- ---- all of it
+
+-- the lines of the packet between two ends that are no one pod
+abbrev pub lines_or : Result ⊤ Fault → List ℕ → Result (List ℕ) Fault
+lines_or (Ok done) lines = Ok lines
+lines_or (Err fault) lines = Err fault
+
+-- both ends are known; the fault of the first one stands first
+abbrev pub between : EstateLists → EndWord → EndWord → PortSpot → Result End Fault → Result End Fault → Result (List ℕ) Fault
+between lists from to spot (Err fault) destination = Err fault
+between lists from to spot (Ok source) (Err fault) = Err fault
+between lists from to spot (Ok source) (Ok destination) =
+    lines_or (are_apart (end_text from) source destination) (verdict_lines lists (end_text from) (end_text to) spot source destination)
+
+-- The verdict of the packet, or the fault of its ends that stands first.
+unfoldable pub evaluate_reply : EndWord → EndWord → PortSpot → EstateLists → Result (List ℕ) Fault
+evaluate_reply from to spot lists = between lists from to spot (known_end lists from) (known_end lists to)

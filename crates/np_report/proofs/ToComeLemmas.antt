@@ -1,0 +1,34 @@
+-- What is still to come of the text of a table, from row to row.
+use Rattle.std.proofs.Common.{◌≡◌, ℕ, List, [], ◌∷◌, ◌++◌, Bool, true, false, refl}
+use Rattle.np_report.specs.Forms.{Form, form_of}
+use Rattle.np_report.specs.Keeps.{keeps}
+use Rattle.np_report.specs.RowText.{row_text}
+use Rattle.np_report.specs.TableText.{list_text, rows_to_come}
+use Rattle.np_report.specs.declared.query.Query.{Query}
+use Rattle.np_table.specs.Rows.{all_rows}
+use Rattle.np_table.specs.Table.{Table}
+use Rattle.np_table.specs.declared.rows.Row.{Row}
+use Rattle.np_words.specs.declared.format.Format.{Format}
+use Rattle.np_words.specs.declared.report.Report.{Report}
+
+-- before the first row it is the whole
+pub list_text-rows : (table : Table) (query : Query) (format : Format) (report : Report) → list_text table query format report ≡ rows_to_come (form_of format) table.names query report false (all_rows table)
+unfolding list_text rows_to_come
+list_text-rows table query format report = refl
+
+module _ (form : Form) (names : List (List ℕ)) (query : Query) (report : Report) (came : Bool) where
+  -- behind the last row it is the end
+  pub rows_to_come-none : rows_to_come form names query report came [] ≡ form.end came
+  unfolding rows_to_come
+  rows_to_come-none = refl
+
+  module _ (row : Row) (rows : List Row) where
+    -- of a row that is asked for it is the text of the row, and what comes behind
+    pub rows_to_come-kept : keeps query row.key ≡ true → rows_to_come form names query report came (row ∷ rows) ≡ form.row came (row_text names report row) ++ rows_to_come form names query report true rows
+    unfolding rows_to_come
+    rows_to_come-kept kept = rw kept refl
+
+    -- and of another what comes behind
+    pub rows_to_come-left_out : keeps query row.key ≡ false → rows_to_come form names query report came (row ∷ rows) ≡ rows_to_come form names query report came rows
+    unfolding rows_to_come
+    rows_to_come-left_out left_out = rw left_out refl

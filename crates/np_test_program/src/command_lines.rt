@@ -1,0 +1,114 @@
+//! Words that ask for nothing. No input is there, so that one that was begun would be told.
+
+use crate::script::expect_script;
+use std::test::Fail;
+
+static SCRIPT: &str = r#"# no command
+2
+2 lst
+2 lists
+2 List
+2 -
+2 --
+2 -- list
+2 --help
+2 --version
+2 help
+2 --format csv list
+2 explain --from a
+2 sample 0
+! usage: np list [--format text|csv|json] [--report 1|2] [--focus NAME] [--side either|from|to] [FILE]...
+!        np evaluate --from END --to END --protocol P --port N [FILE]...
+
+# options of list
+2 list -x
+2 list -h
+2 list -f csv
+2 list --help
+2 list --version
+2 list --formats csv
+2 list --form csv
+2 list x --unknown y
+2 list --from default/a
+2 list --port 80
+2 list -x --focus
+! usage: np list [--format text|csv|json] [--report 1|2] [--focus NAME] [--side either|from|to] [FILE]...
+!        np evaluate --from END --to END --protocol P --port N [FILE]...
+
+# values of the options of list
+2 list --format xml
+2 list --format CSV
+2 list --format=
+2 list --format
+2 list --format --report 1
+2 list --format csv --format csv
+2 list --report 3
+2 list --report 0
+2 list --report 01
+2 list --report one
+2 list --report=
+2 list --report 1 --report 1
+2 list --side both
+2 list --side From
+2 list --side
+2 list --side to --side to
+2 list --focus
+2 list --focus --side to
+2 list --focus -x
+2 list --focus a --focus a
+! usage: np list [--format text|csv|json] [--report 1|2] [--focus NAME] [--side either|from|to] [FILE]...
+!        np evaluate --from END --to END --protocol P --port N [FILE]...
+
+# standard input twice
+2 list - -
+2 list - x -- -
+2 list - --format csv -
+2 evaluate --from a/b --to a/c --protocol TCP --port 1 - -
+! usage: np list [--format text|csv|json] [--report 1|2] [--focus NAME] [--side either|from|to] [FILE]...
+!        np evaluate --from END --to END --protocol P --port N [FILE]...
+
+# options of evaluate
+2 evaluate
+2 evaluate a/b a/c TCP 1
+2 evaluate --from a/b
+2 evaluate --to a/c --protocol TCP --port 1
+2 evaluate --from a/b --protocol TCP --port 1
+2 evaluate --from a/b --to a/c --port 1
+2 evaluate --from a/b --to a/c --protocol TCP
+2 evaluate --from a/b --to a/c --protocol TCP --port 1 --report 1
+2 evaluate --from a/b --to a/c --protocol TCP --port 1 --help
+2 evaluate --from a/b --from a/b --to a/c --protocol TCP --port 1
+! usage: np list [--format text|csv|json] [--report 1|2] [--focus NAME] [--side either|from|to] [FILE]...
+!        np evaluate --from END --to END --protocol P --port N [FILE]...
+
+# ends of evaluate
+2 evaluate --from x --to a/c --protocol TCP --port 1
+2 evaluate --from a/b --to x --protocol TCP --port 1
+2 evaluate --from= --to a/c --protocol TCP --port 1
+2 evaluate --from 1.2.3 --to a/c --protocol TCP --port 1
+2 evaluate --from 1.2.3.256 --to a/c --protocol TCP --port 1
+2 evaluate --from 1:2:3:4::5:6:7:8 --to a/c --protocol TCP --port 1
+2 evaluate --from a/b --to fe80::1%eth0 --protocol TCP --port 1
+! usage: np list [--format text|csv|json] [--report 1|2] [--focus NAME] [--side either|from|to] [FILE]...
+!        np evaluate --from END --to END --protocol P --port N [FILE]...
+
+# protocols and ports of evaluate
+2 evaluate --from a/b --to a/c --protocol tcp --port 1
+2 evaluate --from a/b --to a/c --protocol ICMP --port 1
+2 evaluate --from a/b --to a/c --protocol= --port 1
+2 evaluate --from a/b --to a/c --protocol TCP --port 0
+2 evaluate --from a/b --to a/c --protocol TCP --port 065
+2 evaluate --from a/b --to a/c --protocol TCP --port 65536
+2 evaluate --from a/b --to a/c --protocol TCP --port 99999999999999999999
+2 evaluate --from a/b --to a/c --protocol TCP --port +80
+2 evaluate --from a/b --to a/c --protocol TCP --port -80
+2 evaluate --from a/b --to a/c --protocol TCP --port http
+2 evaluate --from a/b --to a/c --protocol TCP --port=
+! usage: np list [--format text|csv|json] [--report 1|2] [--focus NAME] [--side either|from|to] [FILE]...
+!        np evaluate --from END --to END --protocol P --port N [FILE]..."#;
+
+#[test]
+fn command_lines(rt: HostRuntime) -> Result<(), Fail> {
+    expect_script(&rt, rt.alloc(), SCRIPT, None)?;
+    Ok(())
+}
