@@ -1,5 +1,5 @@
 -- Facts about two spaces side by side.
-use Rattle.std.specs.Prelude.{◌≡◌, Bool, true, false, not, MatchBool}
+use Rattle.std.specs.Prelude.{◌≡◌, Bool, true}
 use Rattle.std.proofs.Common.{ap, ◌∙◌}
 use Rattle.np_base.specs.declared.beside.Beside.{Beside}
 use Rattle.np_base.specs.declared.beside.Which.{Which}

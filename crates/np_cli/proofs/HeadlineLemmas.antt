@@ -1,5 +1,5 @@
 -- What a report of `list` says, from what was written of it.
-use Rattle.std.proofs.Common.{◌≡◌, ℕ, List, Option, Some, None, Result, Ok, Err, refl, sym, ap, subst, ◌∙◌}
+use Rattle.std.proofs.Common.{◌≡◌, ℕ, List, Option, None, Result, Ok, Err, refl, ap, subst, ◌∙◌}
 use Rattle.np_cli.proofs.PromisesLemmas.{one_job}
 use Rattle.np_cli.proofs.RunsLemmas.{output-fits}
 use Rattle.np_cli.specs.Answers.{IsLawfulIn, fault_in, output, refusal, reply, reply_in, text_in, text_of}
@@ -23,7 +23,7 @@ use Rattle.np_report.specs.declared.query.Query.{Query}
 use Rattle.np_table.proofs.AddressRowLemmas.{one_row-pods}
 use Rattle.np_table.proofs.RowLemmas.{rows_between-kept, rows_of_address-kept}
 use Rattle.np_table.proofs.SaidLemmas.{allows_in-pods}
-use Rattle.np_table.specs.Rows.{all_rows, pair_key}
+use Rattle.np_table.specs.Rows.{all_rows}
 use Rattle.np_table.specs.Said.{allows_in, rows_between}
 use Rattle.np_table.specs.Table.{table_of}
 use Rattle.np_table.specs.declared.rows.Row.{Row}

@@ -1,6 +1,5 @@
 -- What was written of a reply.
 use Rattle.std.proofs.Common.{◌≡◌, ℕ, List, Result, Ok, Err, ap, subst, sym, ◌∙◌}
-use Rattle.std.specs.Prelude.{⊤}
 use Rattle.np_cli.proofs.RunsLemmas.{TookFront-kept}
 use Rattle.np_cli.specs.Answers.{text_in}
 use Rattle.np_cli.specs.Failures.{write_failure}

@@ -1,5 +1,5 @@
 -- What a report of `list` says of the bytes of its inputs: the theorem of the program.
-use Rattle.std.specs.Prelude.{◌≡◌, ◌≢◌, ◌<◌, ℕ, List, [], ◌∷◌, map, length, Contains, true, Option, Result, Ok, if◌then◌else◌}
+use Rattle.std.specs.Prelude.{◌≡◌, ◌≢◌, ◌<◌, ℕ, List, [], ◌∷◌, length, Contains, true, Option, Ok, if◌then◌else◌}
 use Rattle.np_addr.specs.declared.address.Family.{Family}
 use Rattle.np_cli.specs.Inputs.{lists_of}
 use Rattle.np_cli.specs.Sinks.{Sunk, TookWhole}

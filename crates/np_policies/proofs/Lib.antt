@@ -1,5 +1,4 @@
 pub mod BlockLemmas
-pub mod DistinctLemmas
 pub mod KindLemmas
 pub mod PeersMeaning
 pub mod PortsMeaning

@@ -1,4 +1,4 @@
-use Rattle.std.proofs.Common.{◌≡◌, length, map, refl, ap, subst, ◌∙◌, inl, arith, rules}
+use Rattle.std.proofs.Common.{◌≡◌, length, refl, ap, subst, ◌∙◌, inl, arith, rules}
 use Rattle.std.proofs.lemmas.List.{take_all}
 use Rattle.std.proofs.lemmas.Result.{err_from_is_err_and}
 use Rattle.np_io.specs.Source.{BeganNext}

@@ -5,7 +5,7 @@ use Rattle.std.specs.List.Sorted.{IsStrictlySortedBy}
 use Rattle.std.specs.Ordering.{nat_cmp}
 use Rattle.np_fold.specs.Keys.{keys_of_estate, with_keys}
 use Rattle.np_labels.specs.Selectors.{is_listed}
-use Rattle.np_policies.proofs.DistinctLemmas.{distinct-ascends}
+use Rattle.np_labels.proofs.Distinct.{distinct-sorted}
 use Rattle.np_policies.proofs.SelectorLemmas.{is_listed-distinct}
 use Rattle.np_fold.proofs.relevant.relevant_keys.Goals as goal
 
@@ -17,7 +17,7 @@ members : (made keys : List (List ℕ)) → made ≡ with_keys [] keys → (key 
 members made keys same key = rw same (is_listed-distinct keys key)
 
 ascending : (made keys : List (List ℕ)) → made ≡ with_keys [] keys → IsStrictlySortedBy (slice_cmp nat_cmp) made
-ascending made keys same = rw same (distinct-ascends keys)
+ascending made keys same = rw same (distinct-sorted keys)
 
 pub returns-clause-members : goal.returns-clause-members
 returns-clause-members c = IfOk-weaker c.in_order.result _ _ (λ made is. members made (keys_of_estate c.args.estate.now) (is ∙ all c)) c.in_order.ensures

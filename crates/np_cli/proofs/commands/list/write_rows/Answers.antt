@@ -1,4 +1,4 @@
-use Rattle.std.proofs.Common.{◌≡◌, [], ◌∷◌, List, ap, arith, refl, subst, ◌∙◌}
+use Rattle.std.proofs.Common.{◌≡◌, [], ◌∷◌, ap, arith, refl, subst, ◌∙◌}
 use Rattle.std.proofs.lemmas.Result.{err_from_is_err_and}
 use Rattle.np_cli.proofs.CountsLemmas.{due-all}
 use Rattle.np_cli.proofs.RowsLemmas.{HasLeft, HasLeft-all, HasLeft-fault, HasLeft-finish, HasLeft-finish_fault, HasLeft-last, HasLeft-next, none_given, rows_to_come-next}
@@ -7,7 +7,6 @@ use Rattle.np_fold.specs.Workloads.{folding_of}
 use Rattle.np_report.proofs.ToComeLemmas.{rows_to_come-none}
 use Rattle.np_report.specs.RowText.{names_of}
 use Rattle.np_report.specs.TableText.{rows_to_come}
-use Rattle.np_table.specs.declared.rows.Row.{Row}
 
 pub loop-rows-init : goal.loop-rows-init
 loop-rows-init g c = record {
