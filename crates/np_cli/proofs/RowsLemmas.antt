@@ -4,17 +4,12 @@ use Rattle.std.specs.Io.KnownBytes.{append_known}
 use Rattle.np_io.specs.Counts.{Rose}
 use Rattle.np_io.specs.Taken.{TookAllBut, TookFront}
 use Rattle.np_io.proofs.TakenLemmas.{TookAllBut-all, TookAllBut-fault, TookAllBut-finish, TookAllBut-front, TookAllBut-put, TookAllBut-put_fault}
-use Rattle.np_estate.specs.declared.lists.EstateLists.{EstateLists}
-use Rattle.np_fold.specs.Workloads.{folding_of}
 use Rattle.np_report.proofs.ToComeLemmas.{rows_to_come-kept, rows_to_come-left_out}
-use Rattle.np_report.specs.Forms.{Form, form_of}
+use Rattle.np_report.specs.Forms.{Form}
 use Rattle.np_report.specs.Keeps.{keeps}
-use Rattle.np_report.specs.RowText.{names_of, row_text}
-use Rattle.np_report.specs.TableText.{list_text, rows_to_come}
+use Rattle.np_report.specs.RowText.{row_text}
+use Rattle.np_report.specs.TableText.{rows_to_come}
 use Rattle.np_report.specs.declared.query.Query.{Query}
-use Rattle.np_table.specs.Rows.{all_rows}
-use Rattle.np_table.specs.Table.{estate_table, table_of}
-use Rattle.np_words.specs.declared.format.Format.{Format}
 use Rattle.np_words.specs.declared.report.Report.{Report}
 use Rattle.np_cli.specs.Sinks.{Sunk}
 use Rattle.np_cli.specs.Written.{Writes}
@@ -64,19 +59,6 @@ HasLeft-finish_fault before middle after faults_before faults_middle faults_afte
     (TookAllBut-fault before middle after whole held rest has.taken took, subst (λ (n : ℕ). Rose n faults_after) has.faults rose)
 
 -- ---- rows that are still to come
-
--- the text of the table that is asked for is that of all its rows
-pub list_text_is : (lists : EstateLists) (query : Query) (format : Format) (report : Report) → list_text (estate_table lists) query format report ≡ rows_to_come (form_of format) (names_of (folding_of lists)) query report false (all_rows (estate_table lists))
-unfolding list_text rows_to_come table_of
-list_text_is lists query format report = refl
-
-or_true : (c : Bool) → (c || true) ≡ true
-or_true true = refl
-or_true false = refl
-
-or_false : (c : Bool) → (c || false) ≡ c
-or_false true = refl
-or_false false = refl
 
 -- the bytes of the next row, if it is asked for, stand before what is left then
 pub rows_to_come-next : (form : Form) (names : List (List ℕ)) (query : Query) (report : Report) (came : Bool) (row : Row) (rows : List Row) → rows_to_come form names query report came (row ∷ rows) ≡ (if keeps query row.key then form.row came (row_text names report row) else []) ++ rows_to_come form names query report (came || keeps query row.key) rows

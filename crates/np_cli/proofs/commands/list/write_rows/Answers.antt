@@ -1,6 +1,5 @@
 use Rattle.std.proofs.Common.{◌≡◌, [], ◌∷◌, ap, arith, refl, subst, ◌∙◌}
 use Rattle.std.proofs.lemmas.Result.{err_from_is_err_and}
-use Rattle.np_cli.proofs.CountsLemmas.{due-all}
 use Rattle.np_cli.proofs.RowsLemmas.{HasLeft, HasLeft-all, HasLeft-fault, HasLeft-finish, HasLeft-finish_fault, HasLeft-last, HasLeft-next, none_given, rows_to_come-next}
 use Rattle.np_cli.proofs.commands.list.write_rows.Goals as goal
 use Rattle.np_fold.specs.Workloads.{folding_of}
@@ -10,9 +9,9 @@ use Rattle.np_report.specs.TableText.{rows_to_come}
 
 pub loop-rows-init : goal.loop-rows-init
 loop-rows-init g c = record {
-  left = rw (c.in_ok-gathered.ensures, c.new-rows.ensures.rows) (HasLeft-all _ _ _);
+  left = rw c.in_ok-gathered.ensures (HasLeft-all _ _ _);
   least = omega arith;
-  most = omega (arith, c.new-rows.ensures.due, due-all c.args.folded.now (folding_of c.args.folded.now) refl);
+  most = omega arith;
 }
 
 pub returns-in_err-put-clause-written : goal.returns-in_err-put-clause-written
