@@ -121,16 +121,18 @@ fn broken_reports(rt: HostRuntime) {
 #[test]
 fn example_tally(rt: HostRuntime) {
     let mut tally = Tally::new();
-    for (source, destination) in [
-        (RowEnd::Work(0), RowEnd::Work(1)),
-        (RowEnd::Controller, RowEnd::Work(1)),
-        (RowEnd::Work(1), RowEnd::Work(0)),
-    ] {
-        tally.count(&RowKey {
-            source,
-            destination,
-        });
-    }
+    tally.count(&RowKey {
+        source: RowEnd::Work(0),
+        destination: RowEnd::Work(1),
+    });
+    tally.count(&RowKey {
+        source: RowEnd::Controller,
+        destination: RowEnd::Work(1),
+    });
+    tally.count(&RowKey {
+        source: RowEnd::Work(1),
+        destination: RowEnd::Work(0),
+    });
     assert_eq!(rt; tally.pairs(), 2);
     assert_eq!(rt; tally.addresses(), 0);
     assert_eq!(rt; tally.controllers(), 1);
