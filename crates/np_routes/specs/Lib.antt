@@ -1,0 +1,5 @@
+pub mod ClusterTable
+pub mod Controllers
+pub mod RouteNotes
+pub mod Routes
+pub mod Services
