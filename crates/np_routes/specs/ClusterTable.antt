@@ -1,5 +1,5 @@
 -- The table of a cluster: what passes between workloads, between them and addresses, and to them through ingresses.
-use Rattle.std.specs.Prelude.{ℕ, List, ◌++◌, Bool, filter, flat_map, Option, None}
+use Rattle.std.specs.Prelude.{ℕ, List, ◌++◌, Bool, true, false, ◌&&◌, filter, flat_map, Option, None}
 use Rattle.np_conns.specs.declared.port_spot.PortSpot.{PortSpot}
 use Rattle.np_estate.specs.declared.lists.EstateLists.{EstateLists}
 use Rattle.np_fold.specs.Workloads.{folding_of}
@@ -12,7 +12,6 @@ use Rattle.np_table.specs.declared.rows.Row.{Row}
 use Rattle.np_table.specs.declared.rows.RowEnd.{RowEnd}
 use Rattle.np_table.specs.declared.rows.RowEnd.TheVariants.{Controller, Span, Work}
 use Rattle.np_table.specs.declared.rows.RowKey.{RowKey}
-use Rattle.std.specs.Prelude.{◌&&◌, true, false}
 
 -- The table of an estate, and which ports of each workload are reached through ingresses.
 pub record ClusterTable : Type 0 where

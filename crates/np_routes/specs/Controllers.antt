@@ -60,6 +60,11 @@ unfoldable pub ingress_allows : EstateLists → Folding → Option ℕ → ℕ �
 ingress_allows lists folding controller workload spot =
     not (is_controller controller workload) && ingress_reaches lists (sender_of folding controller) (source_pod folding workload) spot
 
+-- an estate, and the controller of its ingresses: a workload's number, or none where it is not known
+pub record Routing : Type 0 where
+  pub lists : EstateLists
+  pub controller : Option ℕ
+
 -- How many rules may be looked at: twice those that speak of the workload, and of the controller where it is a workload.
 abbrev pub ingress_steps : EstateLists → Option ℕ → ℕ → ℕ
 ingress_steps lists None workload = 2 * side_rule_count (first_side lists Ingress workload)

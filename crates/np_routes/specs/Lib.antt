@@ -3,3 +3,4 @@ pub mod Controllers
 pub mod RouteNotes
 pub mod Routes
 pub mod Services
+pub mod steps
