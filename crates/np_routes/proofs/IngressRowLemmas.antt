@@ -1,5 +1,6 @@
 -- The rows of ingresses one after another.
-use Rattle.std.proofs.Common.{◌≡◌, ◌<◌, ◌≤◌, ◌+◌, ◌-◌, ◌*◌, ℕ, zero, suc, List, [], ◌∷◌, ◌++◌, true, false, Option, Some, None, IfSome, flat_map, length, append-nil, append_assoc, arith, refl, sym, ap, subst, ◌∙◌}
+use Rattle.std.proofs.Common.{◌≡◌, ◌<◌, ◌≤◌, ◌+◌, ◌-◌, ◌*◌, ℕ, zero, suc, List, [], ◌∷◌, ◌++◌, true, false, Option, Some, None, is_some, flat_map, length, append-nil, append_assoc, arith, refl, sym, ap, subst, ◌∙◌}
+use Rattle.std.specs.Prelude.{MatchOption}
 use Rattle.std.specs.List.{range_with_len}
 use Rattle.std.specs.Option.{option_map_or, option_to_list}
 use Rattle.std.proofs.Math.Nat.{mul-le-mul_left}
@@ -78,9 +79,14 @@ ingress_due-step lists workload within =
     spread most n = omega arith
 
 -- no more are looked at for one
-steps-due : (lists : EstateLists) (controller : Option ℕ) (workload : ℕ) → IfSome controller (IsWorkload lists) → IsWorkload lists workload → ingress_steps lists controller workload ≤ 4 * most_rules lists (folding_of lists)
-steps-due lists None workload sends within = omega (arith, rules-most lists (folding_of lists) Ingress workload within)
-steps-due lists (Some controller) workload sends within = omega (arith, rules-most lists (folding_of lists) Egress controller sends, rules-most lists (folding_of lists) Ingress workload within)
+steps-due : (lists : EstateLists) (controller : Option ℕ) (workload : ℕ) → ((number : ℕ) → controller ≡ Some number → IsWorkload lists number) → IsWorkload lists workload → ingress_steps lists controller workload ≤ 4 * most_rules lists (folding_of lists)
+steps-due lists None workload controls within = omega (arith, rules-most lists (folding_of lists) Ingress workload within)
+steps-due lists (Some controller) workload controls within = omega (arith, rules-most lists (folding_of lists) Egress controller (controls controller refl), rules-most lists (folding_of lists) Ingress workload within)
+
+-- what is left of them where a workload's were looked at
+pub due-next : (lists : EstateLists) (controller : Option ℕ) (workload old now new table : ℕ) → ((number : ℕ) → controller ≡ Some number → IsWorkload lists number) → IsWorkload lists workload → new ≤ now + ingress_steps lists controller workload → now + (table + ingress_due lists workload) ≤ old → new + (table + ingress_due lists (workload + 1)) ≤ old
+due-next lists controller workload old now new table controls within steps held =
+    omega (arith, steps, held, ingress_due-step lists workload within, steps-due lists controller workload controls within)
 
 -- ---- one row
 
@@ -100,3 +106,34 @@ some-row key conns some =
 -- and else the row of the set
 pub ingress_row-is : (lists : EstateLists) (controller : Option ℕ) (workload : ℕ) (conns : Conns) → conns ≡ conns_of (ingress_allows lists (folding_of lists) controller workload) → (spot : PortSpot) × (has_spot conns spot ≡ true) → record { key = ingress_key workload; family = None; conns = conns } ∷ [] ≡ ingress_row (cluster_table lists controller) workload
 ingress_row-is lists controller workload conns is some = sym (ingress_row-of lists controller workload conns is ∙ some-row (ingress_key workload) conns some)
+
+-- ---- the next row
+
+-- a workload's row, where it has one, comes before those from the next workload on
+pub row-next : (lists : EstateLists) (controller : Option ℕ) (workload : ℕ) (table whole : List Row) (given : Option Row) → IsWorkload lists workload → table ≡ [] → option_to_list given ≡ ingress_row (cluster_table lists controller) workload → table ++ ingress_rows_from (cluster_table lists controller) workload ≡ whole → option_to_list given ++ (table ++ ingress_rows_from (cluster_table lists controller) (workload + 1)) ≡ whole
+row-next lists controller workload table whole given within ended is held =
+    let cluster = cluster_table lists controller in
+    let here : workload < length cluster.table.names = subst (λ (n : ℕ). workload < n) (sym (cluster-names lists controller)) within in
+    ap (λ (rows : List Row). option_to_list given ++ (rows ++ ingress_rows_from cluster (workload + 1))) ended
+    ∙ ap (λ (rows : List Row). rows ++ ingress_rows_from cluster (workload + 1)) is
+    ∙ sym (ingress_rows-step cluster workload here)
+    ∙ ap (λ (rows : List Row). rows ++ ingress_rows_from cluster workload) (sym ended)
+    ∙ held
+
+-- behind the last workload there is none
+pub rows-ended : (lists : EstateLists) (controller : Option ℕ) (workload : ℕ) (table whole : List Row) → number_of_workloads lists ≤ workload → table ≡ [] → table ++ ingress_rows_from (cluster_table lists controller) workload ≡ whole → whole ≡ []
+rows-ended lists controller workload table whole behind ended held =
+    let cluster = cluster_table lists controller in
+    sym held
+    ∙ ap (λ (rows : List Row). rows ++ ingress_rows_from cluster workload) ended
+    ∙ ingress_rows-end cluster workload (subst (λ (n : ℕ). n ≤ workload) (sym (cluster-names lists controller)) behind)
+
+-- the row that is given
+pub given-some : (given : Option Row) (old new : List Row) → is_some given ≡ true → option_to_list given ++ new ≡ old → MatchOption given (old ≡ []) (λ row. old ≡ row ∷ new)
+given-some None old new some is = absurd (true≢false (sym some))
+given-some (Some row) old new some is = sym is
+
+-- no row comes before
+pub given-none : (given : Option Row) (old new : List Row) → is_some given ≡ false → option_to_list given ++ new ≡ old → new ≡ old
+given-none None old new none is = is
+given-none (Some row) old new none is = absurd (true≢false none)

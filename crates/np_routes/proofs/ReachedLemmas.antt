@@ -1,7 +1,8 @@
 -- The ports of a workload that are reached, and the rules that are looked at for them.
-use Rattle.std.proofs.Common.{◌≡◌, ◌<◌, ◌≤◌, ◌+◌, ◌*◌, ℕ, List, [], ◌∷◌, ◌++◌, Bool, true, false, not, ◌&&◌, ◌||◌, ◌==◌, Contains, Option, Some, None, length, get_or, take, arith, refl, sym, ap, subst, ◌∙◌, if◌then◌else◌}
+use Rattle.std.proofs.Common.{◌≡◌, ◌<◌, ◌≤◌, ◌+◌, ◌*◌, ℕ, List, [], ◌∷◌, ◌++◌, Bool, true, false, not, ◌&&◌, ◌||◌, ◌==◌, Contains, Option, Some, None, eqb, length, get_or, take, arith, refl, sym, ap, subst, ◌∙◌, if◌then◌else◌}
 use Rattle.std.specs.Prelude.{filter}
 use Rattle.std.specs.List.{list_any}
+use Rattle.std.specs.Option.{option_eq}
 use Rattle.std.proofs.Math.Nat.{mul-le-mul_right}
 use Rattle.std.proofs.lemmas.Bool.{and_left}
 use Rattle.std.proofs.lemmas.List.{get_or_default}
@@ -89,6 +90,15 @@ send_steps-most lists controller workload place backends sender stands same sent
     subst (λ (n : ℕ). n ≤ ingress_steps lists controller workload) (sym is) (steps-most lists controller workload)
 
 -- ---- the set of a workload
+
+-- whether a workload is the controller, as the code asks it
+controller-eq : (controller : Option ℕ) (workload : ℕ) → is_controller controller workload ≡ option_eq eqb controller (Some workload)
+controller-eq None workload = refl
+controller-eq (Some number) workload = refl
+
+pub controller-asked : (controller controller' : Option ℕ) (workload : ℕ) (asked answer : Bool) → controller' ≡ controller → asked ≡ option_eq eqb controller' (Some workload) → asked ≡ answer → is_controller controller workload ≡ answer
+controller-asked controller controller' workload asked answer same is answered =
+    controller-eq controller workload ∙ ap (λ (c : Option ℕ). option_eq eqb c (Some workload)) (sym same) ∙ sym is ∙ answered
 
 -- of the controller nothing is reached
 allows-controller : (lists : EstateLists) (controller : Option ℕ) (workload : ℕ) (spot : PortSpot) → is_controller controller workload ≡ true → ingress_allows lists (folding_of lists) controller workload spot ≡ false

@@ -12,7 +12,6 @@ use Rattle.np_conns.specs.declared.proto.Proto.{Proto}
 use Rattle.np_conns.specs.declared.proto.Proto.TheVariants.{Tcp, Udp, Sctp}
 use Rattle.np_estate.specs.declared.lists.EstateLists.{EstateLists}
 use Rattle.np_estate.specs.declared.placed_ingress.PlacedIngress.{PlacedIngress}
-use Rattle.np_estate.specs.declared.pod.Pod.{Pod}
 use Rattle.np_objects.specs.declared.ingress.Backend.{Backend}
 use Rattle.np_objects.specs.declared.ingress.Backend.TheVariants as backend
 use Rattle.np_objects.specs.declared.service.PortName.{PortName}
@@ -20,8 +19,7 @@ use Rattle.np_objects.specs.declared.service.ServiceItem.{ServiceItem}
 use Rattle.np_objects.specs.declared.service.ServicePort.{ServicePort}
 use Rattle.np_routes.specs.Routes.{LeadsTo, Route, is_in_namespace, is_routed, leads_to, routes_in, routes_of_backend, routes_of_ingress, routes_through}
 use Rattle.np_routes.specs.Services.{is_backend_port, is_target, service_named, serves}
-use Rattle.np_rules.specs.Ends.{PodEnd, pod_end}
-use Rattle.np_rules.specs.Verdict.{pod_at}
+use Rattle.np_rules.specs.Ends.{PodEnd}
 
 -- ---- lists of which some item passes
 
@@ -141,11 +139,3 @@ other_proto Sctp other = refl
 -- and a port of another protocol never is
 pub is_routed-others : (lists : EstateLists) (p : PodEnd) (spot : PortSpot) → spot.proto ≢ Tcp → is_routed lists p spot ≡ false
 is_routed-others lists p spot other = and_left (same_proto spot.proto Tcp) _ (other_proto spot.proto other)
-
--- ---- the routes of a pod of an estate
-
--- what was found of a pod is what is routed there
-pub routed-at : (lists : EstateLists) (place number : ℕ) (one : Pod) (namespace : List ℕ) (routes : List Route) → pod_end one ≡ pod_at lists place → namespace ≡ one.namespace → routes ≡ routes_in lists namespace → list_any (leads_to (pod_end one) number) routes ≡ list_any (leads_to (pod_at lists place) number) (routes_in lists (pod_at lists place).namespace)
-routed-at lists place number one namespace routes is own found =
-    ap (list_any (leads_to (pod_end one) number)) (found ∙ ap (routes_in lists) own)
-    ∙ ap (λ (p : PodEnd). list_any (leads_to p number) (routes_in lists p.namespace)) is

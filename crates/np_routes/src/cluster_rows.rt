@@ -41,7 +41,7 @@ impl<'a> Model for ClusterRows<'a> {
 
     ghost view = { λ r. record { rows = rows_left r.rows ++ ingress_rows_from (cluster_table r.routes.lists r.routes.controller) r.workload; due = due_left r.rows + ingress_due r.routes.lists r.workload } };
 
-    ghost invariant = { λ r. IsAtWorkload r.routes.lists r.workload r.count };
+    ghost invariant = { λ r. IsAtWorkload r.routes r.workload r.count };
 }
 
 impl<'a> ClusterRows<'a> {

@@ -1,11 +1,12 @@
 -- The rows of ingresses from a workload on.
-use Rattle.std.specs.Prelude.{ℕ, ◌≡◌, ◌≤◌, ◌-◌, ◌*◌, List, [], flat_map, length, Option}
+use Rattle.std.specs.Prelude.{ℕ, ◌≡◌, ◌≤◌, ◌-◌, ◌*◌, List, [], flat_map, length, Option, Some}
 use Rattle.std.specs.List.{range_with_len}
 use Rattle.std.specs.Option.{option_map_or}
 use Rattle.np_estate.specs.declared.lists.EstateLists.{EstateLists}
 use Rattle.np_fold.specs.Workloads.{folding_of}
 use Rattle.np_routes.specs.ClusterTable.{ClusterTable, ingress_row}
-use Rattle.np_table.specs.Table.{number_of_workloads}
+use Rattle.np_routes.specs.Controllers.{Routing}
+use Rattle.np_table.specs.Table.{IsWorkload, number_of_workloads}
 use Rattle.np_table.specs.ToCome.{RowsToCome, most_rules}
 use Rattle.np_table.specs.declared.rows.Row.{Row}
 
@@ -25,7 +26,8 @@ ingress_rows_from cluster workload = flat_map (ingress_row cluster) (range_with_
 unfoldable pub ingress_due : EstateLists → ℕ → ℕ
 ingress_due lists workload = 4 * most_rules lists (folding_of lists) * (number_of_workloads lists - workload)
 
--- the next workload is not behind the last one
-pub record IsAtWorkload (lists : EstateLists) (workload count : ℕ) : Type 0 where
-  pub all : count ≡ number_of_workloads lists
+-- the next workload is not behind the last one, and the controller is one where it is known
+pub record IsAtWorkload (routing : Routing) (workload count : ℕ) : Type 0 where
+  pub all : count ≡ number_of_workloads routing.lists
   pub within : workload ≤ count
+  pub controls : (controller : ℕ) → routing.controller ≡ Some controller → IsWorkload routing.lists controller
