@@ -88,6 +88,11 @@ pub due-next : (lists : EstateLists) (controller : Option ℕ) (workload old now
 due-next lists controller workload old now new table controls within steps held =
     omega (arith, steps, held, ingress_due-step lists workload within, steps-due lists controller workload controls within)
 
+-- no more are looked at for one than are due
+pub steps-within : (lists : EstateLists) (controller : Option ℕ) (workload old now new table : ℕ) → ((number : ℕ) → controller ≡ Some number → IsWorkload lists number) → IsWorkload lists workload → new ≤ now + ingress_steps lists controller workload → now + (table + ingress_due lists workload) ≤ old → new ≤ old
+steps-within lists controller workload old now new table controls within steps held =
+    omega (arith, due-next lists controller workload old now new table controls within steps held)
+
 -- ---- one row
 
 ingress_row-of : (lists : EstateLists) (controller : Option ℕ) (workload : ℕ) (conns : Conns) → conns ≡ conns_of (ingress_allows lists (folding_of lists) controller workload) → ingress_row (cluster_table lists controller) workload ≡ row_if (ingress_key workload) None conns

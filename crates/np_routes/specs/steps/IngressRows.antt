@@ -1,5 +1,5 @@
 -- The rows of ingresses from a workload on.
-use Rattle.std.specs.Prelude.{ℕ, ◌≡◌, ◌≤◌, ◌-◌, ◌*◌, List, [], flat_map, length, Option, Some}
+use Rattle.std.specs.Prelude.{ℕ, ◌≡◌, ◌<◌, ◌≤◌, ◌-◌, ◌*◌, ◌^◌, List, [], flat_map, length, Option, Some}
 use Rattle.std.specs.List.{range_with_len}
 use Rattle.std.specs.Option.{option_map_or}
 use Rattle.np_estate.specs.declared.lists.EstateLists.{EstateLists}
@@ -30,4 +30,5 @@ ingress_due lists workload = 4 * most_rules lists (folding_of lists) * (number_o
 pub record IsAtWorkload (routing : Routing) (workload count : ℕ) : Type 0 where
   pub all : count ≡ number_of_workloads routing.lists
   pub within : workload ≤ count
+  pub fits : count < 2 ^ 32
   pub controls : (controller : ℕ) → routing.controller ≡ Some controller → IsWorkload routing.lists controller
