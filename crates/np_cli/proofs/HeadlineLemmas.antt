@@ -1,16 +1,16 @@
 -- What a report of `list` says, from what was written of it.
-use Rattle.std.proofs.Common.{◌≡◌, ℕ, List, [], ◌∷◌, Option, None, IfSome, Result, Ok, Err, refl, ap, subst, sym, ◌∙◌}
-use Rattle.np_cli.proofs.ListingLemmas.{controller-among}
+use Rattle.std.proofs.Common.{◌≡◌, ◌<◌, ℕ, List, [], ◌∷◌, length, Bool, true, false, not, ◌&&◌, Option, None, Result, Ok, Err, refl, ap, subst, sym, ◌∙◌}
 use Rattle.np_cli.proofs.PromisesLemmas.{one_job}
 use Rattle.np_cli.proofs.RunsLemmas.{output-fits}
 use Rattle.np_cli.specs.Answers.{IsLawfulIn, fault_in, output, refusal, reply, reply_in, text_in, text_of}
+use Rattle.np_conns.specs.declared.port_spot.PortSpot.{PortSpot}
 use Rattle.np_cli.specs.Headline.{SaysAddresses, SaysAll, SaysIngresses, SaysPods, rows_shown}
 use Rattle.np_cli.specs.Inputs.{lists_of}
 use Rattle.np_cli.specs.Promises.{SaysWhatPasses}
 use Rattle.np_cli.specs.Runs.{Cause, Run}
 use Rattle.np_cli.specs.Sinks.{Sunk, TookWhole}
 use Rattle.np_cli.specs.Statuses.{status_of}
-use Rattle.np_cli.specs.commands.List.{controller_of, listing, listing_of, listing_text, query_of}
+use Rattle.np_cli.specs.commands.List.{listing_of, listing_text}
 use Rattle.np_cli.specs.declared.commands.list.Listing.{Listing}
 use Rattle.np_cli.specs.declared.failure.Failure.{Failure}
 use Rattle.np_cli.specs.declared.failure.Failure.TheVariants.{Usage, TooLarge, Refused, CannotRead, CannotWrite, NoMemory}
@@ -21,15 +21,16 @@ use Rattle.np_estate.specs.Lawful.{IsLawful}
 use Rattle.np_estate.specs.declared.lists.EstateLists.{EstateLists}
 use Rattle.np_fold.specs.Workloads.{folding_of, number_of}
 use Rattle.np_report.specs.Keeps.{keeps}
-use Rattle.np_report.specs.declared.query.Query.{Query}
-use Rattle.np_routes.proofs.ClusterLemmas.{allows_in-ingresses, ingress_allows-pods, rows_between-cluster, rows_from_controller-kept, rows_of_address-cluster}
+use Rattle.np_routes.proofs.ClusterLemmas.{allows_in-workloads, rows_between-cluster, rows_from_controller-kept, rows_of_address-cluster}
+use Rattle.np_routes.proofs.ReachedLemmas.{number-workload, reaches-allows}
 use Rattle.np_routes.specs.ClusterTable.{cluster_rows, cluster_table, rows_from_controller}
+use Rattle.np_routes.specs.Controllers.{ingress_allows, ingress_reaches, is_controller, sender_of}
 use Rattle.np_table.proofs.AddressRowLemmas.{one_row-pods}
 use Rattle.np_table.proofs.RowLemmas.{rows_between-kept, rows_of_address-kept}
 use Rattle.np_table.proofs.SaidLemmas.{allows_in-pods}
 use Rattle.np_table.specs.Rows.{all_rows}
 use Rattle.np_table.specs.Said.{allows_in, rows_between, rows_of_address}
-use Rattle.np_table.specs.Table.{IsWorkload, Table, table_of}
+use Rattle.np_table.specs.Table.{Table, source_pod, table_of}
 use Rattle.np_table.specs.declared.rows.Row.{Row}
 use Rattle.np_words.specs.declared.focus_side.FocusSide.{FocusSide}
 use Rattle.np_words.specs.declared.format.Format.{Format}
@@ -60,25 +61,27 @@ says_addresses lists asked lawful = λ p direction family number within in_famil
     ∙ ap (λ (table : Table). rows_of_address (number_of lists p) direction family number (all_rows table)) (table_is lists asked.controller) ∙ one.1 in
     (one.0, rows_of_address-kept (number_of lists p) direction family number (keeps asked.query) (cluster_rows cluster) one.0 among, one.2)
 
-says_ingresses : (lists : EstateLists) (asked : Listing) → IsLawful lists → IfSome asked.controller (IsWorkload lists) → SaysIngresses lists asked
-says_ingresses lists asked lawful among = λ p family spot within is kept.
+-- what is reached of a workload is what is reached of each of its pods, and nothing of the controller
+ingress_allows-pods : (lists : EstateLists) (controller : Option ℕ) (p : ℕ) (spot : PortSpot) → IsLawful lists → p < length lists.pods
+    → ingress_allows lists (folding_of lists) controller (number_of lists p) spot
+    ≡ (not (is_controller controller (number_of lists p)) && ingress_reaches lists (sender_of (folding_of lists) controller) p spot)
+unfolding ingress_allows
+ingress_allows-pods lists controller p spot lawful within = by (is_controller controller (number_of lists p)) refl
+  where
+    by : (own : Bool) → is_controller controller (number_of lists p) ≡ own
+        → (not own && ingress_reaches lists (sender_of (folding_of lists) controller) (source_pod (folding_of lists) (number_of lists p)) spot)
+        ≡ (not own && ingress_reaches lists (sender_of (folding_of lists) controller) p spot)
+    by true is = refl
+    by false is = let same = rw is at reaches-allows lists controller p spot lawful within is in sym same
+
+says_ingresses : (lists : EstateLists) (asked : Listing) → IsLawful lists → SaysIngresses lists asked
+says_ingresses lists asked lawful = λ p family spot within is kept.
     let cluster = cluster_table lists asked.controller in
     let shown : rows_from_controller (number_of lists p) (rows_shown lists asked) ≡ rows_from_controller (number_of lists p) (cluster_rows cluster) =
     rows_from_controller-kept (number_of lists p) (keeps asked.query) (cluster_rows cluster) ∙ rw kept refl in
     ap (λ (found : List Row). allows_in found family spot) shown
-    ∙ allows_in-ingresses lists asked.controller (number_of lists p) family spot (number-within lists p within) is
-    ∙ ingress_allows-pods lists asked.controller p spot lawful among within
-
--- the controller that is asked for is a workload
-listing-among : (lists : EstateLists) (controller focus : Option (List ℕ)) (side : FocusSide) (asked : Listing) → listing_of controller focus side lists ≡ Ok asked → IfSome asked.controller (IsWorkload lists)
-listing-among lists controller focus side asked is = with_parts (controller_of controller lists) (query_of focus side lists) refl is
-  where
-    with_parts : (sender : Result (Option ℕ) Fault) (query : Result Query Fault) → controller_of controller lists ≡ sender → listing sender query ≡ Ok asked → IfSome asked.controller (IsWorkload lists)
-    with_parts (Err fault) query found joined = cc
-    with_parts (Ok sender) (Err fault) found joined = cc
-    with_parts (Ok sender) (Ok query) found joined =
-        let same : asked ≡ record { controller = sender; query = query } = cc in
-        subst (λ (l : Listing). IfSome l.controller (IsWorkload lists)) (sym same) (controller-among lists controller sender found)
+    ∙ allows_in-workloads lists asked.controller (number_of lists p) family spot (number-workload lists p within) is
+    ∙ ingress_allows-pods lists asked.controller p spot lawful within
 
 -- a reply that is no fault is the rows that are asked for
 says_rows : (out : Sunk) (format : Format) (report : Report) (controller focus : Option (List ℕ)) (side : FocusSide) (texts : List (List ℕ)) (lists : EstateLists) (found : Result Listing Fault) → lists_of texts ≡ Ok lists → IsLawful lists → listing_of controller focus side lists ≡ found → fault_in (listing_text format report lists found) ≡ None → TookWhole out (text_in (listing_text format report lists found)) → SaysAll out format report controller focus side texts
@@ -92,7 +95,7 @@ says_rows out format report controller focus side texts lists (Ok asked) read la
   printed = took;
   pods = says_pods lists asked lawful;
   addresses = says_addresses lists asked lawful;
-  ingresses = says_ingresses lists asked lawful (listing-among lists controller focus side asked is);
+  ingresses = says_ingresses lists asked lawful;
 }
 
 says_read : (out : Sunk) (format : Format) (report : Report) (controller focus : Option (List ℕ)) (side : FocusSide) (files texts : List (List ℕ)) (reads : Result EstateLists Fault) → lists_of texts ≡ reads → IsLawfulIn reads → fault_in (reply_in (ListJob format report controller focus side files) reads) ≡ None → TookWhole out (text_in (reply_in (ListJob format report controller focus side files) reads)) → SaysAll out format report controller focus side texts

@@ -1,8 +1,7 @@
 -- What a table is asked for.
-use Rattle.std.proofs.Common.{◌≡◌, ℕ, List, [], Option, None, Some, IfSome, Ok, false, refl}
+use Rattle.std.proofs.Common.{◌≡◌, ℕ, List, [], Option, Some, false, refl}
 use Rattle.std.proofs.lemmas.List.Quantifiers.{position-Some}
 use Rattle.std.specs.Str.{bytes_eq}
-use Rattle.np_cli.specs.commands.List.{controller_of, or_unknown}
 use Rattle.np_estate.specs.declared.lists.EstateLists.{EstateLists}
 use Rattle.np_fold.specs.Workloads.{Workload, folding_of, number_named}
 use Rattle.np_report.specs.Forms.{form_of}
@@ -29,13 +28,3 @@ no_workload = record { name = []; members = [] }
 -- what has a name is a workload
 pub number-named : (lists : EstateLists) (name : List ℕ) (workload : ℕ) → number_named (folding_of lists) name ≡ Some workload → IsWorkload lists workload
 number-named lists name workload is = (position-Some (λ (one : Workload). bytes_eq one.name name) (folding_of lists).workloads workload no_workload is).0
-
--- and so is the controller that is asked for
-pub controller-among : (lists : EstateLists) (controller : Option (List ℕ)) (sender : Option ℕ) → controller_of controller lists ≡ Ok sender → IfSome sender (IsWorkload lists)
-unfolding controller_of
-controller-among lists None sender is = let same : sender ≡ None = cc in rw same tt
-controller-among lists (Some name) sender is = by (number_named (folding_of lists) name) refl is
-  where
-    by : (found : Option ℕ) → number_named (folding_of lists) name ≡ found → or_unknown name Some found ≡ Ok sender → IfSome sender (IsWorkload lists)
-    by None named joined = cc
-    by (Some workload) named joined = let same : sender ≡ Some workload = cc in rw same (number-named lists name workload named)
