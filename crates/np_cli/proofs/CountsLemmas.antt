@@ -53,7 +53,7 @@ unfolding folding_of
 kinds-fewer lists = subst (λ (n : ℕ). length (firsts (kinds_alike lists) (workload_count lists)) ≤ n) (sym (workloads-count lists)) (length-firsts (kinds_alike lists) (workload_count lists))
 
 -- so what is due for all rows of a table is within what a list may count
-pub due-all : (lists : EstateLists) (folding : Folding) → folding ≡ folding_of lists → (4 * length folding.workloads * folding.kind_count + 6 * length folding.workloads) * most_rules lists folding ≤ list_steps lists
-due-all lists folding is =
+pub due_all : (lists : EstateLists) (folding : Folding) → folding ≡ folding_of lists → (4 * length folding.workloads * folding.kind_count + 6 * length folding.workloads) * most_rules lists folding ≤ list_steps lists
+due_all lists folding is =
     subst (λ (f : Folding). (4 * length f.workloads * f.kind_count + 6 * length f.workloads) * most_rules lists f ≤ list_steps lists) (sym is)
     (due-within lists (length (folding_of lists).workloads) (folding_of lists).kind_count refl (kinds-fewer lists))

@@ -72,7 +72,9 @@ ingress_allows-pods lists controller p spot lawful within = by (is_controller co
         → (not own && ingress_reaches lists (sender_of (folding_of lists) controller) (source_pod (folding_of lists) (number_of lists p)) spot)
         ≡ (not own && ingress_reaches lists (sender_of (folding_of lists) controller) p spot)
     by true is = refl
-    by false is = let same = rw is at reaches-allows lists controller p spot lawful within is in sym same
+    by false is =
+        ap (λ (own : Bool). not own && ingress_reaches lists (sender_of (folding_of lists) controller) (source_pod (folding_of lists) (number_of lists p)) spot) (sym is)
+        ∙ sym (reaches-allows lists controller p spot lawful within is)
 
 says_ingresses : (lists : EstateLists) (asked : Listing) → IsLawful lists → SaysIngresses lists asked
 says_ingresses lists asked lawful = λ p family spot within is kept.

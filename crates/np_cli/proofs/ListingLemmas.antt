@@ -26,5 +26,5 @@ abbrev no_workload : Workload
 no_workload = record { name = []; members = [] }
 
 -- what has a name is a workload
-pub number-named : (lists : EstateLists) (name : List ℕ) (workload : ℕ) → number_named (folding_of lists) name ≡ Some workload → IsWorkload lists workload
-number-named lists name workload is = (position-Some (λ (one : Workload). bytes_eq one.name name) (folding_of lists).workloads workload no_workload is).0
+pub named_workload : (lists : EstateLists) (name : List ℕ) (workload : ℕ) → number_named (folding_of lists) name ≡ Some workload → IsWorkload lists workload
+named_workload lists name workload is = (position-Some (λ (one : Workload). bytes_eq one.name name) (folding_of lists).workloads workload no_workload is).0

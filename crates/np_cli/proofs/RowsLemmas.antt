@@ -60,6 +60,14 @@ HasLeft-finish_fault before middle after faults_before faults_middle faults_afte
 
 -- ---- rows that are still to come
 
+or_true : (c : Bool) → (c || true) ≡ true
+or_true true = refl
+or_true false = refl
+
+or_false : (c : Bool) → (c || false) ≡ c
+or_false true = refl
+or_false false = refl
+
 -- the bytes of the next row, if it is asked for, stand before what is left then
 pub rows_to_come-next : (form : Form) (names : List (List ℕ)) (query : Query) (report : Report) (came : Bool) (row : Row) (rows : List Row) → rows_to_come form names query report came (row ∷ rows) ≡ (if keeps query row.key then form.row came (row_text names report row) else []) ++ rows_to_come form names query report (came || keeps query row.key) rows
 rows_to_come-next form names query report came row rows = by (keeps query row.key) refl
@@ -71,14 +79,6 @@ rows_to_come-next form names query report came row rows = by (keeps query row.ke
     by false is =
         rows_to_come-left_out form names query report came row rows is
         ∙ ap (λ (c : Bool). rows_to_come form names query report c rows) (sym (or_false came))
-
-    or_true : (c : Bool) → (c || true) ≡ true
-    or_true true = refl
-    or_true false = refl
-
-    or_false : (c : Bool) → (c || false) ≡ c
-    or_false true = refl
-    or_false false = refl
 
 -- where no row is given, none was to come
 pub none_given : (given : Option Row) (before after : List Row) → MatchOption given (before ≡ []) (λ row. before ≡ row ∷ after) → ((row : Row) → given ≡ Some row → ⊥) → before ≡ []

@@ -4,6 +4,7 @@ ghost use Rattle.np_cli.specs.Answers as spec;
 ghost use Rattle.np_cli.specs.Counts.{RoseAtMost, reply_steps};
 ghost use Rattle.np_cli.specs.Prints.{Wrote};
 ghost use Rattle.np_cli.specs.Sinks.{sunk};
+ghost use Rattle.np_estate.specs.Lawful.{IsLawful};
 
 mod evaluate;
 mod list;
@@ -66,14 +67,15 @@ pub(crate) fn reply<O: Sink, L: Ledger>(
 }
 
 /// What is said of a job's report on what its inputs say: what was left out of it, and of `list` the backends of Ingresses
-/// that lead nowhere.
+/// that lead nowhere. The inputs are those of a lawful estate.
 #[tactic(auto, unfolding(crate::specs::Answers::report_notes))]
 pub(crate) fn report_notes(
     alloc: Global,
     job: &Job,
     folded: &Folded,
 ) -> Result<ReportNotes, NoMemory>
-    ensures { IfOk result (λ notes. notes ≡ spec.report_notes job.now folded.now) }
+    ensures notes { IfOk result (λ notes. notes ≡ spec.report_notes job.now folded.now) }
+    ensures lawful { IsLawful folded.now }
 {
     let estate = folded.estate();
     let routes = match job {

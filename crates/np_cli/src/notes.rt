@@ -1,4 +1,6 @@
 //! What is said of a whole report.
+ghost use Rattle.std.specs.Prelude.{◌≡◌, IfOk, string_bytes};
+ghost use Rattle.np_cli.specs.Messages as spec;
 
 use np_base::{NoMemory, Seq};
 use np_estate::Notes;
@@ -27,10 +29,17 @@ impl ReportNotes {
         };
         let mut text = format!(in alloc; "{left_out}")?;
         for note in self.routes.items() {
-            text.push_str(&format!(in alloc; "note: {note}\n")?)?;
+            text.push_str(route_line(alloc, note)?.as_str())?;
         }
         Ok(text)
     }
+}
+
+// The line of a backend of an Ingress.
+fn route_line(alloc: Global, note: &RouteNote) -> Result<String, NoMemory>
+    ensures { IfOk result (λ line. string_bytes line ≡ spec.route_line note.now) }
+{
+    Ok(format!(in alloc; "note: {note}\n")?)
 }
 
 // The lines of what was left out.

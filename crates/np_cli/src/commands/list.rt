@@ -63,7 +63,7 @@ pub(super) fn listing_of(
 }
 
 // The workload of a name.
-#[tactic(auto, using(crate::proofs::ListingLemmas::number-named))]
+#[tactic(auto, using(crate::proofs::ListingLemmas::named_workload))]
 fn workload_of(folded: &Folded, name: &Text) -> Result<u32, Failure>
     ensures named { Gives result (spec.or_unknown name.now (λ workload. workload) (number_named (folding_of folded.now) name.now)) }
     ensures workload { IfOk result (IsWorkload folded.now) }
@@ -76,7 +76,7 @@ fn workload_of(folded: &Folded, name: &Text) -> Result<u32, Failure>
 
 /// Writes the rows of the table that are asked for, in their order. Rows are gathered, so that many of them are one call of
 /// the sink. The room for that is made before the first byte is written. The rules that it looks at are counted.
-#[tactic(auto, using(crate::proofs::ListingLemmas::list_text_is, crate::proofs::CountsLemmas::due-all))]
+#[tactic(auto, using(crate::proofs::ListingLemmas::list_text_is, crate::proofs::CountsLemmas::due_all))]
 pub(super) fn list<O: Sink, L: Ledger>(
     alloc: Global,
     folded: &Folded,
@@ -96,11 +96,11 @@ pub(super) fn list<O: Sink, L: Ledger>(
     let query = asked.query;
     let keep = Box::new(alloc, move |key: &RowKey| keeps(&query, key))?;
     let focus = Focus::new(query, keep);
-    let rows = ClusterRows::of(alloc, folded, asked.controller)?;
+    let mut rows = ClusterRows::of(alloc, folded, asked.controller)?;
     match format {
-        Format::Plain => write_rows::<TextForm, O, L>(alloc, folded, rows, &focus, report, out, steps),
-        Format::Csv => write_rows::<CsvForm, O, L>(alloc, folded, rows, &focus, report, out, steps),
-        Format::Json => write_rows::<JsonForm, O, L>(alloc, folded, rows, &focus, report, out, steps),
+        Format::Plain => write_rows::<TextForm, O, L>(alloc, folded, &mut rows, &focus, report, out, steps),
+        Format::Csv => write_rows::<CsvForm, O, L>(alloc, folded, &mut rows, &focus, report, out, steps),
+        Format::Json => write_rows::<JsonForm, O, L>(alloc, folded, &mut rows, &focus, report, out, steps),
     }
 }
 
@@ -108,17 +108,17 @@ pub(super) fn list<O: Sink, L: Ledger>(
 fn write_rows<F: Form, O: Sink, L: Ledger>(
     alloc: Global,
     folded: &Folded,
-    mut rows: ClusterRows<'_>,
+    rows: &mut ClusterRows<'_>,
     focus: &Focus,
     report: Report,
     out: &mut O,
     steps: &mut Steps<L>,
 ) -> Result<(), WriteFault>
     ensures written { Writes (sunk O.taken O.faults out.old out.new)
-        (rows_to_come F.bytes (names_of (folding_of folded.now)) focus.now.query report false rows.rows)
+        (rows_to_come F.bytes (names_of (folding_of folded.now)) focus.now.query report false rows.old.rows)
         result }
     ensures least { steps.old ≤ steps.new }
-    ensures most { steps.new ≤ steps.old + rows.due }
+    ensures most { steps.new ≤ steps.old + rows.old.due }
 {
     let mut gathered = Gathered::new(alloc)?;
     let mut came = false;
