@@ -1,11 +1,11 @@
 -- The numbers to which routes lead.
-use Rattle.std.proofs.Common.{◌≡◌, ◌<◌, ◌+◌, ℕ, List, [], ◌∷◌, Bool, true, false, ◌&&◌, ◌||◌, Option, Some, None, flat_map, length, get_or, take, refl, sym, ap, ◌∙◌}
+use Rattle.std.proofs.Common.{◌≡◌, ◌<◌, ◌+◌, ℕ, List, [], ◌∷◌, Bool, true, false, ◌&&◌, ◌||◌, Some, flat_map, length, get_or, take, refl, sym, ap, ◌∙◌}
 use Rattle.std.specs.List.{list_any}
 use Rattle.np_objects.specs.declared.service.PortName.{PortName}
 use Rattle.np_objects.specs.declared.service.ServiceItem.{ServiceItem}
 use Rattle.np_objects.specs.declared.service.ServicePort.{ServicePort}
 use Rattle.np_routes.proofs.RouteLemmas.{list_any-filter, list_any-map}
-use Rattle.np_routes.specs.Routes.{Route, leads_to, routes_through}
+use Rattle.np_routes.specs.Routes.{leads_to, routes_through}
 use Rattle.np_routes.specs.Services.{is_backend_port, is_target, serves}
 use Rattle.np_routes.specs.declared.backends.ServiceBackend.{ServiceBackend}
 use Rattle.np_routes.specs.steps.BackendsByNamespace.{routes_of}
