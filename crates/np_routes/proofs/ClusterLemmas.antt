@@ -67,10 +67,6 @@ cluster-others test cluster fails =
 pub rows_between-cluster : (cluster : ClusterTable) (source destination : ℕ) → rows_between source destination (cluster_rows cluster) ≡ rows_between source destination (all_rows cluster.table)
 rows_between-cluster cluster source destination = cluster-others (is_between source destination) cluster (λ workload conns. refl)
 
-no_address : (b : Bool) → (b && false) ≡ false
-no_address true = refl
-no_address false = refl
-
 -- and so are those of an address
 pub rows_of_address-cluster : (cluster : ClusterTable) (workload : ℕ) (direction : Direction) (family : Family) (number : ℕ) → rows_of_address workload direction family number (cluster_rows cluster) ≡ rows_of_address workload direction family number (all_rows cluster.table)
 rows_of_address-cluster cluster workload Ingress family number = cluster-others (is_of_address workload Ingress family number) cluster (λ other conns. refl)
