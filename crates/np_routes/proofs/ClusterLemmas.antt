@@ -1,7 +1,6 @@
 -- The rows of a cluster, and what they say.
-use Rattle.std.proofs.Common.{◌≡◌, ◌≢◌, ◌<◌, ◌≤◌, ◌+◌, ◌-◌, ◌*◌, ℕ, List, [], ◌∷◌, ◌++◌, Bool, true, false, ◌&&◌, ◌||◌, ◌==◌, All, Option, Some, None, map, flat_map, length, append-nil, append_assoc, eq-eqb, arith, refl, sym, ap, subst, ◌∙◌, if◌then◌else◌}
+use Rattle.std.proofs.Common.{◌≡◌, ◌≢◌, ◌<◌, ◌≤◌, ℕ, List, [], ◌∷◌, ◌++◌, Bool, true, false, ◌&&◌, ◌||◌, Option, None, flat_map, length, append-nil, eq-eqb, arith, refl, sym, ap, subst, ◌∙◌, if◌then◌else◌}
 use Rattle.std.specs.Prelude.{filter}
-use Rattle.std.specs.List.{range_with_len}
 use Rattle.std.proofs.lemmas.Bool.{and_parts, eqb-true, false≢true, ne_eqb}
 use Rattle.std.proofs.lemmas.List.{length-map}
 use Rattle.std.proofs.lemmas.List.Elements.{All-weaker, filter-append, filter_passes}
@@ -24,7 +23,7 @@ use Rattle.np_table.proofs.SetLemmas.{has_spot-conns_of}
 use Rattle.np_table.specs.Right.{conns_of}
 use Rattle.np_table.specs.Rows.{address_rows, all_address_rows, all_pair_rows, all_rows, is_none, is_nothing, pair_key, pair_rows, row_if, row_of, rows_towards, workloads}
 use Rattle.np_table.specs.Said.{allows_in, is_between, is_of_address, is_workload, rows_between, rows_of_address}
-use Rattle.np_table.specs.Table.{IsWorkload, Table, estate_table, number_of_workloads, table_of}
+use Rattle.np_table.specs.Table.{IsWorkload, Table, number_of_workloads, table_of}
 use Rattle.np_table.specs.declared.rows.Row.{Row}
 use Rattle.np_table.specs.declared.rows.RowEnd.{RowEnd}
 use Rattle.np_table.specs.declared.rows.RowEnd.TheVariants.{Controller, Span, Work}
@@ -67,10 +66,6 @@ cluster-others test cluster fails =
 -- the rows between two workloads are those of the table
 pub rows_between-cluster : (cluster : ClusterTable) (source destination : ℕ) → rows_between source destination (cluster_rows cluster) ≡ rows_between source destination (all_rows cluster.table)
 rows_between-cluster cluster source destination = cluster-others (is_between source destination) cluster (λ workload conns. refl)
-
-no_address : (b : Bool) → (b && false) ≡ false
-no_address true = refl
-no_address false = refl
 
 -- and so are those of an address
 pub rows_of_address-cluster : (cluster : ClusterTable) (workload : ℕ) (direction : Direction) (family : Family) (number : ℕ) → rows_of_address workload direction family number (cluster_rows cluster) ≡ rows_of_address workload direction family number (all_rows cluster.table)

@@ -1,9 +1,8 @@
 -- The rows of ingresses one after another.
-use Rattle.std.proofs.Common.{◌≡◌, ◌<◌, ◌≤◌, ◌+◌, ◌-◌, ◌*◌, ℕ, zero, suc, List, [], ◌∷◌, ◌++◌, true, false, Option, Some, None, is_some, flat_map, length, append-nil, append_assoc, arith, refl, sym, ap, subst, ◌∙◌}
+use Rattle.std.proofs.Common.{◌≡◌, ◌<◌, ◌≤◌, ◌+◌, ◌-◌, ◌*◌, ℕ, suc, List, [], ◌∷◌, ◌++◌, true, false, Option, Some, None, is_some, flat_map, length, arith, refl, sym, ap, subst, ◌∙◌}
 use Rattle.std.specs.Prelude.{MatchOption}
 use Rattle.std.specs.List.{range_with_len}
-use Rattle.std.specs.Option.{option_map_or, option_to_list}
-use Rattle.std.proofs.Math.Nat.{mul-le-mul_left}
+use Rattle.std.specs.Option.{option_to_list}
 use Rattle.std.proofs.lemmas.Bool.{false_from_ne_true, true≢false}
 use Rattle.np_conns.specs.Conns.{Conns, IsConns, has_spot}
 use Rattle.np_conns.specs.declared.port_spot.PortSpot.{PortSpot}
@@ -11,15 +10,15 @@ use Rattle.np_estate.specs.declared.lists.EstateLists.{EstateLists}
 use Rattle.np_fold.specs.Workloads.{folding_of}
 use Rattle.np_policies.specs.declared.direction.Direction.TheVariants.{Egress, Ingress}
 use Rattle.np_routes.proofs.ClusterLemmas.{cluster-names, has_spot-nothing}
-use Rattle.np_routes.specs.ClusterTable.{ClusterTable, ClusterToCome, all_ingress_rows, cluster_rows, cluster_table, ingress_key, ingress_row}
+use Rattle.np_routes.specs.ClusterTable.{ClusterTable, all_ingress_rows, cluster_rows, cluster_table, ingress_key, ingress_row}
 use Rattle.np_routes.specs.Controllers.{ingress_allows, ingress_steps}
-use Rattle.np_routes.specs.steps.IngressRows.{due_left, ingress_due, ingress_rows_from, rows_left}
+use Rattle.np_routes.specs.steps.IngressRows.{ingress_due, ingress_rows_from}
 use Rattle.np_table.proofs.KindLemmas.{rules-most}
 use Rattle.np_table.proofs.SetLemmas.{row_if-none}
 use Rattle.np_table.specs.Right.{conns_of}
 use Rattle.np_table.specs.Rows.{all_rows, is_nothing, row_if}
 use Rattle.np_table.specs.Table.{IsWorkload, estate_table, number_of_workloads}
-use Rattle.np_table.specs.ToCome.{RowsToCome, most_rules}
+use Rattle.np_table.specs.ToCome.{most_rules}
 use Rattle.np_table.specs.declared.rows.Row.{Row}
 use Rattle.np_table.specs.declared.rows.RowKey.{RowKey}
 

@@ -1,5 +1,5 @@
 -- Pods that no service and no rule tells apart.
-use Rattle.std.proofs.Common.{◌≡◌, ◌<◌, ℕ, List, [], ◌∷◌, ◌++◌, Bool, true, false, not, ◌&&◌, ◌==◌, AllPairs, Contains, Option, Some, None, IfSome, length, map, flat_map, slice_get, get_or, arith, refl, sym, ap, subst, ◌∙◌, inl, inr, if◌then◌else◌}
+use Rattle.std.proofs.Common.{◌≡◌, ◌<◌, ℕ, List, [], ◌∷◌, ◌++◌, Bool, true, false, not, ◌&&◌, ◌==◌, AllPairs, Option, Some, None, IfSome, length, map, flat_map, slice_get, get_or, refl, sym, ap, subst, ◌∙◌, inl, inr, if◌then◌else◌}
 use Rattle.std.specs.Prelude.{filter}
 use Rattle.std.specs.List.{AllByRecursion, find, list_any}
 use Rattle.std.specs.Option.{option_map_or}
@@ -17,7 +17,7 @@ use Rattle.np_estate.specs.declared.pod.Pod.{Pod}
 use Rattle.np_fold.proofs.WorkloadLemmas.{one_workload}
 use Rattle.np_fold.specs.Alike.{IsSameKind}
 use Rattle.np_fold.specs.Keys.{keys_of_admin_policy, keys_of_baseline, keys_of_estate, keys_of_net_policy, keys_of_optional, keys_of_service}
-use Rattle.np_fold.specs.Workloads.{folding_of, members_of, number_of}
+use Rattle.np_fold.specs.Workloads.{number_of}
 use Rattle.np_labels.specs.Selectors.{meets_selector}
 use Rattle.np_labels.specs.declared.selector.Selector.{Selector}
 use Rattle.np_objects.specs.declared.ingress.Backend.{Backend}
@@ -28,7 +28,7 @@ use Rattle.np_objects.specs.declared.service.PortName.TheVariants.{Number, Named
 use Rattle.np_objects.specs.declared.service.ServiceItem.{ServiceItem}
 use Rattle.np_objects.specs.declared.service.ServicePort.{ServicePort}
 use Rattle.np_policies.specs.declared.direction.Direction.TheVariants.{Ingress}
-use Rattle.np_routes.specs.Controllers.{any_controller, anyone_may_send, ingress_reaches, may_send, pod_may_send}
+use Rattle.np_routes.specs.Controllers.{any_controller, anyone_may_send, ingress_reaches, may_send}
 use Rattle.np_routes.specs.Routes.{Route, is_in_namespace, is_routed, leads_to, routes_in, routes_of_backend, routes_of_ingress, routes_through}
 use Rattle.np_routes.specs.Services.{is_backend_port, is_pod_port, is_service, is_target, service_named, serves}
 use Rattle.np_rules.proofs.DeciderLemmas.{decider_says}
@@ -39,7 +39,6 @@ use Rattle.np_rules.specs.Verdict.{pod_at, pod_or_none}
 use Rattle.np_table.proofs.KindLists.{All-append, All-each, All-flat, All-parts, list_any-same}
 use Rattle.np_table.proofs.KindSelectors.{AgreeOn, All-from_listed, selector-same}
 use Rattle.np_table.proofs.KindVerdicts.{SameKindEnd-ends, got-same, packet-same}
-use Rattle.np_table.proofs.MemberLemmas.{member-number}
 use Rattle.np_table.proofs.PairLemmas.{pod_there}
 use Rattle.np_table.specs.Ends.{AreOneKind}
 use Rattle.np_table.specs.Table.{between_pods}

@@ -1,10 +1,8 @@
 -- The ports of a workload that are reached, and the rules that are looked at for them.
-use Rattle.std.proofs.Common.{◌≡◌, ◌<◌, ◌≤◌, ◌+◌, ◌*◌, ℕ, List, [], ◌∷◌, ◌++◌, Bool, true, false, not, ◌&&◌, ◌||◌, ◌==◌, Contains, Option, Some, None, eqb, length, get_or, take, arith, refl, sym, ap, subst, ◌∙◌, if◌then◌else◌}
-use Rattle.std.specs.Prelude.{filter}
+use Rattle.std.proofs.Common.{◌≡◌, ◌<◌, ◌≤◌, ◌+◌, ◌*◌, ℕ, List, [], ◌∷◌, ◌++◌, Bool, true, false, ◌&&◌, ◌||◌, Contains, Option, Some, None, eqb, length, get_or, take, arith, refl, sym, ap, subst, ◌∙◌, if◌then◌else◌}
 use Rattle.std.specs.List.{list_any}
 use Rattle.std.specs.Option.{option_eq}
 use Rattle.std.proofs.Math.Nat.{mul-le-mul_right}
-use Rattle.std.proofs.lemmas.Bool.{and_left}
 use Rattle.std.proofs.lemmas.List.{get_or_default}
 use Rattle.std.proofs.lemmas.List.Folds.{list_any-append}
 use Rattle.np_addr.specs.declared.address.Family.{Family}
@@ -16,15 +14,15 @@ use Rattle.np_estate.specs.Lawful.{IsLawful}
 use Rattle.np_estate.specs.declared.lists.EstateLists.{EstateLists}
 use Rattle.np_estate.specs.declared.pod.Pod.{Pod}
 use Rattle.np_fold.proofs.WorkloadLemmas.{number-in_workloads}
-use Rattle.np_fold.specs.Workloads.{Folding, folding_of, members_of, number_of}
+use Rattle.np_fold.specs.Workloads.{folding_of, members_of, number_of}
 use Rattle.np_policies.specs.declared.direction.Direction.TheVariants.{Egress, Ingress}
 use Rattle.np_routes.proofs.KindRoutes.{one_workload-alike, reaches-same}
 use Rattle.np_routes.specs.Controllers.{ingress_allows, ingress_reaches, ingress_steps, is_controller, may_send, sender_of}
 use Rattle.np_routes.specs.Routes.{is_routed}
 use Rattle.np_routes.specs.declared.senders.Sender.{Sender}
-use Rattle.np_routes.specs.steps.Senders.{IsReceiver, reaches, send_steps, sender_for, sends}
+use Rattle.np_routes.specs.steps.Senders.{reaches, send_steps, sender_for, sends}
 use Rattle.np_rules.proofs.JoinsLemmas.{joins-next}
-use Rattle.np_rules.specs.PodSides.{PodSide, side_of, side_rule_count}
+use Rattle.np_rules.specs.PodSides.{side_of, side_rule_count}
 use Rattle.np_rules.specs.Verdict.{pod_at}
 use Rattle.np_table.proofs.MemberLemmas.{member-number, members-some, members-within, own-member, source-member}
 use Rattle.np_table.proofs.SetLemmas.{conns_of-set, has_spot-conns_of}
@@ -33,15 +31,6 @@ use Rattle.np_table.specs.Right.{conns_of}
 use Rattle.np_table.specs.Table.{IsWorkload, source_pod}
 
 -- ---- the sender
-
--- the receiver's side is one that the sender can ask
-pub IsReceiver-of : (lists : EstateLists) (controller : Option ℕ) (place : ℕ) (backends : EstateLists) (sender : Sender) → backends ≡ lists → sender ≡ sender_for lists controller → IsReceiver sender (side_of backends place Ingress)
-IsReceiver-of lists controller place backends sender same sent =
-    subst (λ (s : Sender). IsReceiver s (side_of backends place Ingress)) (sym sent) (subst (λ (l : EstateLists). IsReceiver (sender_for lists controller) (side_of l place Ingress)) (sym same) (by controller))
-  where
-    by : (controller : Option ℕ) → IsReceiver (sender_for lists controller) (side_of lists place Ingress)
-    by None = tt
-    by (Some number) = record { lists = refl; sends = refl; receives = refl }
 
 sends-is : (lists : EstateLists) (controller : Option ℕ) (place : ℕ) (spot : PortSpot) → sends (sender_for lists controller) (side_of lists place Ingress) (families_of lists.pods) spot ≡ may_send lists (sender_of (folding_of lists) controller) place spot
 sends-is lists None place spot = refl

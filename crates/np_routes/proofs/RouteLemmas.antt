@@ -3,7 +3,6 @@ use Rattle.std.proofs.Common.{◌≡◌, ◌≢◌, ℕ, List, [], ◌∷◌, Bo
 use Rattle.std.specs.Prelude.{◌↔◌, filter}
 use Rattle.std.specs.Cmp.Lexicographic.{bytes_decides}
 use Rattle.std.specs.List.{list_any}
-use Rattle.std.specs.Str.{bytes_eq}
 use Rattle.std.proofs.lemmas.Bool.{and_from, and_left, and_parts, false≢true}
 use Rattle.std.proofs.lemmas.List.Folds.{Any-from_list_any, list_any-append, list_any-from_Any}
 use Rattle.np_conns.specs.Conns.{same_proto}
@@ -17,27 +16,27 @@ use Rattle.np_objects.specs.declared.ingress.Backend.TheVariants as backend
 use Rattle.np_objects.specs.declared.service.PortName.{PortName}
 use Rattle.np_objects.specs.declared.service.ServiceItem.{ServiceItem}
 use Rattle.np_objects.specs.declared.service.ServicePort.{ServicePort}
-use Rattle.np_routes.specs.Routes.{LeadsTo, Route, is_in_namespace, is_routed, leads_to, routes_in, routes_of_backend, routes_of_ingress, routes_through}
+use Rattle.np_routes.specs.Routes.{LeadsTo, is_in_namespace, is_routed, leads_to, routes_in, routes_of_backend, routes_of_ingress, routes_through}
 use Rattle.np_routes.specs.Services.{is_backend_port, is_target, service_named, serves}
 use Rattle.np_rules.specs.Ends.{PodEnd}
 
 -- ---- lists of which some item passes
 
 -- an item that passes
-pub some_passes : {X : Type 0} (test : X → Bool) (xs : List X) → list_any test xs ≡ true → (x : X) × Contains xs x × (test x ≡ true)
+some_passes : {X : Type 0} (test : X → Bool) (xs : List X) → list_any test xs ≡ true → (x : X) × Contains xs x × (test x ≡ true)
 some_passes test xs any =
     let found = Any-from_list_any test xs any in
     (found.1, (found.0, found.2, found.3), found.4)
 
 -- makes the list pass
-pub passes_some : {X : Type 0} (test : X → Bool) (xs : List X) (x : X) → Contains xs x → test x ≡ true → list_any test xs ≡ true
+passes_some : {X : Type 0} (test : X → Bool) (xs : List X) (x : X) → Contains xs x → test x ≡ true → list_any test xs ≡ true
 passes_some test xs x has is = list_any-from_Any test xs (has.0, x, has.1, has.2, is)
 
-pub list_any-flat_map : {X Y : Type 0} (test : Y → Bool) (f : X → List Y) (xs : List X) → list_any test (flat_map f xs) ≡ list_any (λ x. list_any test (f x)) xs
+list_any-flat_map : {X Y : Type 0} (test : Y → Bool) (f : X → List Y) (xs : List X) → list_any test (flat_map f xs) ≡ list_any (λ x. list_any test (f x)) xs
 list_any-flat_map test f [] = refl
 list_any-flat_map test f (x ∷ xs) = list_any-append test (f x) (flat_map f xs) ∙ ap (λ (b : Bool). list_any test (f x) || b) (list_any-flat_map test f xs)
 
-pub list_any-filter : {X : Type 0} (test keep : X → Bool) (xs : List X) → list_any test (filter keep xs) ≡ list_any (λ x. keep x && test x) xs
+list_any-filter : {X : Type 0} (test keep : X → Bool) (xs : List X) → list_any test (filter keep xs) ≡ list_any (λ x. keep x && test x) xs
 list_any-filter test keep [] = refl
 list_any-filter {X} test keep (x ∷ xs) = by (keep x) (list_any-filter test keep xs)
   where
@@ -45,22 +44,22 @@ list_any-filter {X} test keep (x ∷ xs) = by (keep x) (list_any-filter test kee
     by true rest = ap (λ (b : Bool). test x || b) rest
     by false rest = rest
 
-pub list_any-map : {X Y : Type 0} (test : Y → Bool) (f : X → Y) (xs : List X) → list_any test (map f xs) ≡ list_any (λ x. test (f x)) xs
+list_any-map : {X Y : Type 0} (test : Y → Bool) (f : X → Y) (xs : List X) → list_any test (map f xs) ≡ list_any (λ x. test (f x)) xs
 list_any-map test f [] = refl
 list_any-map test f (x ∷ xs) = ap (λ (b : Bool). test (f x) || b) (list_any-map test f xs)
 
 -- ---- routes, ingress by ingress and port by port
 
+-- whether a port of a service is named by the backend, and leads to the number
+abbrev pub port_leads : PodEnd → ℕ → PortName → ServiceItem → ServicePort → Bool
+port_leads p number named service port = is_backend_port named port && leads_to p number (record { service = service; port = port })
+
+pub through-ports : (p : PodEnd) (number : ℕ) (named : PortName) (service : ServiceItem) → list_any (leads_to p number) (routes_through named (Some service)) ≡ list_any (port_leads p number named service) service.ports
+through-ports p number named service =
+    list_any-map (leads_to p number) (λ port. record { service = service; port = port }) (filter (is_backend_port named) service.ports)
+    ∙ list_any-filter (λ port. leads_to p number (record { service = service; port = port })) (is_backend_port named) service.ports
+
 module _ (lists : EstateLists) (p : PodEnd) (number : ℕ) where
-  -- a port of a service is named by the backend, and leads to the number
-  abbrev port_leads : PortName → ServiceItem → ServicePort → Bool
-  port_leads named service port = is_backend_port named port && leads_to p number (record { service = service; port = port })
-
-  pub through-ports : (named : PortName) (service : ServiceItem) → list_any (leads_to p number) (routes_through named (Some service)) ≡ list_any (port_leads named service) service.ports
-  through-ports named service =
-      list_any-map (leads_to p number) (λ port. record { service = service; port = port }) (filter (is_backend_port named) service.ports)
-      ∙ list_any-filter (λ port. leads_to p number (record { service = service; port = port })) (is_backend_port named) service.ports
-
   abbrev backend_leads : List ℕ → Backend → Bool
   backend_leads namespace one = list_any (leads_to p number) (routes_of_backend lists.services namespace one)
 
@@ -82,7 +81,7 @@ module _ (lists : EstateLists) (p : PodEnd) (number : ℕ) where
     of_service : (name : List ℕ) (named : PortName) (found : Option ServiceItem) → Contains placed.ingress.backends (backend.Service name named) → service_named lists.services placed.ingress.namespace name ≡ found → list_any (leads_to p number) (routes_through named found) ≡ true → LeadsTo lists p number
     of_service name named None has is leads = absurd (false≢true leads)
     of_service name named (Some service) has is leads =
-        let port = some_passes (port_leads named service) service.ports (sym (through-ports named service) ∙ leads) in
+        let port = some_passes (port_leads p number named service) service.ports (sym (through-ports p number named service) ∙ leads) in
         let both = and_parts (is_backend_port named port.0) (leads_to p number (record { service = service; port = port.0 })) port.2 in
         let ends = and_parts (serves service p) (is_target service port.0 p number) both.1 in
         record {
@@ -116,9 +115,9 @@ module _ (lists : EstateLists) (p : PodEnd) (number : ℕ) where
   -- and it is a route
   leads-to : LeadsTo lists p number → list_any (leads_to p number) (routes_in lists p.namespace) ≡ true
   leads-to route =
-      let port = passes_some (port_leads route.named route.service) route.service.ports route.port route.is_port (and_from _ _ route.names_it (and_from _ _ route.serves_it route.leads)) in
+      let port = passes_some (port_leads p number route.named route.service) route.service.ports route.port route.is_port (and_from _ _ route.names_it (and_from _ _ route.serves_it route.leads)) in
       let service = ap (λ (namespace : List ℕ). service_named lists.services namespace route.name) route.in_namespace ∙ route.is_service in
-      let through = ap (λ (found : Option ServiceItem). list_any (leads_to p number) (routes_through route.named found)) service ∙ through-ports route.named route.service ∙ port in
+      let through = ap (λ (found : Option ServiceItem). list_any (leads_to p number) (routes_through route.named found)) service ∙ through-ports p number route.named route.service ∙ port in
       let one = passes_some (backend_leads route.placed.ingress.namespace) route.placed.ingress.backends (backend.Service route.name route.named) route.is_backend through in
       by_ingresses ∙ passes_some ingress_leads lists.ingresses route.placed route.is_listed (and_from _ _ ((bytes_decides route.placed.ingress.namespace p.namespace).1 route.in_namespace) (by_backends route.placed ∙ one))
 

@@ -1,6 +1,6 @@
 -- Services that are kept by namespace and name.
 use Rattle.std.proofs.Common.{◌≡◌, ℕ, List, [], ◌∷◌, ◌++◌, Bool, true, false, ◌&&◌, Option, Some, None, Bor, Less, Equal, Greater, Ordering, refl, sym, ap, ◌∙◌, if◌then◌else◌, cond}
-use Rattle.std.specs.BTreeMap.{BTreeMap, Updates, get, get_by}
+use Rattle.std.specs.BTreeMap.{BTreeMap, Updates, get}
 use Rattle.std.specs.Cmp.Lexicographic.{slice_cmp}
 use Rattle.std.specs.Option.{option_map, option_or}
 use Rattle.std.proofs.lemmas.List.Folds.{find-append}
@@ -9,7 +9,7 @@ use Rattle.std.specs.Str.{bytes_eq}
 use Rattle.std.proofs.lemmas.Map.Text.{is_eq-slice_cmp}
 use Rattle.np_objects.specs.declared.service.ServiceItem.{ServiceItem}
 use Rattle.np_routes.specs.Services.{is_service, service_named}
-use Rattle.np_routes.specs.steps.ServicesByName.{compare_names, service_at}
+use Rattle.np_routes.specs.steps.ServicesByName.{service_at}
 
 -- the order of two keys
 abbrev pub compare_keys : Bor (List ℕ) × Bor (List ℕ) → Bor (List ℕ) × Bor (List ℕ) → Ordering

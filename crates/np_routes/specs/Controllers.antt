@@ -1,5 +1,5 @@
 -- Who sends what comes through ingresses, and what may come.
-use Rattle.std.specs.Prelude.{ℕ, ◌+◌, ◌*◌, List, [], ◌∷◌, Bool, false, ◌&&◌, ◌==◌, not, codes, Option, Some, None, option_map}
+use Rattle.std.specs.Prelude.{ℕ, ◌*◌, [], ◌∷◌, Bool, false, ◌&&◌, ◌==◌, not, codes, Option, Some, None, option_map}
 use Rattle.std.specs.List.{list_any}
 use Rattle.std.specs.Option.{option_map_or}
 use Rattle.np_addr.specs.declared.address.Family.TheVariants.{Four}
@@ -7,7 +7,6 @@ use Rattle.np_conns.specs.declared.port_spot.PortSpot.{PortSpot}
 use Rattle.np_estate.specs.Families.{families_of}
 use Rattle.np_estate.specs.declared.lists.EstateLists.{EstateLists}
 use Rattle.np_fold.specs.Workloads.{Folding}
-use Rattle.np_labels.specs.declared.pair.Pair.{Pair}
 use Rattle.np_policies.specs.declared.direction.Direction.TheVariants.{Ingress}
 use Rattle.np_routes.specs.Routes.{is_routed}
 use Rattle.np_rules.specs.Ends.{PodEnd, contact, pod, stranger_end}

@@ -1,5 +1,5 @@
 -- Backends that lead nowhere, or not where they seem to.
-use Rattle.std.specs.Prelude.{ℕ, List, [], ◌++◌, Bool, true, ◌||◌, not, codes, decimal, flat_map, map, Option, Some, None, is_none, option_map, option_to_list, if◌then◌else◌}
+use Rattle.std.specs.Prelude.{ℕ, List, ◌++◌, Bool, ◌||◌, not, codes, decimal, flat_map, Option, Some, None, is_none, option_map, option_to_list, if◌then◌else◌}
 use Rattle.std.specs.List.{enumerate_from, list_any}
 use Rattle.np_estate.specs.declared.lists.EstateLists.{EstateLists}
 use Rattle.np_estate.specs.declared.placed_ingress.PlacedIngress.{PlacedIngress}

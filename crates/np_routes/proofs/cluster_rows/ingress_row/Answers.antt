@@ -1,5 +1,3 @@
-use Rattle.std.proofs.Common.{None, sym, ap, ◌∙◌}
-use Rattle.np_conns.specs.Conns.{Conns}
 use Rattle.np_routes.proofs.IngressRowLemmas.{ingress_row-is, ingress_row-none}
 use Rattle.np_routes.proofs.cluster_rows.ingress_row.Goals as goal
 

@@ -1,4 +1,3 @@
-use Rattle.std.proofs.Common.{ℕ, List, Option, Some, Bool, ◌&&◌, ◌≡◌, ap, ◌∙◌, if◌then◌else◌}
 use Rattle.np_routes.proofs.ServiceLemmas.{service_at-put}
 use Rattle.np_routes.proofs.services.put.Goals as goal
 

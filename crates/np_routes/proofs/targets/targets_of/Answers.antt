@@ -1,5 +1,4 @@
-use Rattle.std.proofs.Common.{Vec, ap, ℕ, sym, ◌∙◌}
-use Rattle.std.specs.declared.alloc.Global.{Global}
+use Rattle.std.proofs.Common.{sym, ◌∙◌}
 use Rattle.np_routes.proofs.TargetLemmas.{or_nothing, targets-next, through-unserved}
 use Rattle.np_routes.proofs.targets.targets_of.Goals as goal
 use Rattle.np_routes.proofs.targets.targets_of.Goals.{else-serves, then-serves+in_ok-add_of_backend}

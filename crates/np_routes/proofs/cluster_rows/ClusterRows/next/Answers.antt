@@ -1,4 +1,4 @@
-use Rattle.std.proofs.Common.{◌≡◌, ◌<◌, ◌≤◌, ◌+◌, ◌^◌, ◌++◌, arith, sym, subst, ◌∙◌}
+use Rattle.std.proofs.Common.{◌≤◌, ◌+◌, ◌++◌, arith, sym, ◌∙◌}
 use Rattle.np_routes.proofs.IngressRowLemmas.{due-next, given-none, given-some, row-next, rows-ended, steps-within}
 use Rattle.np_routes.proofs.cluster_rows.ClusterRows.next.Goals as goal
 use Rattle.np_routes.specs.ClusterTable.{cluster_table}
@@ -36,7 +36,7 @@ loop-self-preserved g c =
     record {
       ended = c.loop-self.invariant.ended;
       to_come = given-none c.in_ok-row-2.row c.args.self.now.rows (rows_left inside.rows ++ ingress_rows_from (cluster_table inside.routes.lists inside.routes.controller) (inside.workload + 1)) (sym c.is_some.ensures ∙ c.if-is_some.false)
-      (row-next inside.routes.lists inside.routes.controller inside.workload (rows_left inside.rows) c.args.self.now.rows c.in_ok-row-2.row here c.loop-self.invariant.ended c.in_ok-row-2.ensures.row c.loop-self.invariant.to_come);
+          (row-next inside.routes.lists inside.routes.controller inside.workload (rows_left inside.rows) c.args.self.now.rows c.in_ok-row-2.row here c.loop-self.invariant.ended c.in_ok-row-2.ensures.row c.loop-self.invariant.to_come);
       at_workload = record { all = at.all; within = omega (arith, c.loop-self-test.true); fits = at.fits; controls = at.controls };
       counted = due-next inside.routes.lists inside.routes.controller inside.workload (c.args.steps.now + c.args.self.now.due) c.loop-self.steps c.ingress_row.new.steps (due_left inside.rows) at.controls here c.ingress_row.ensures.most c.loop-self.invariant.counted;
       least = omega (arith, c.loop-self.invariant.least, c.ingress_row.ensures.least);
