@@ -56,9 +56,7 @@ pub fn explain<L: Ledger>(
         Direction::Ingress => (destination, source),
     };
     match near {
-        End::Pod(pod) => {
-            pod_parts(alloc, estate, pod, direction, far, family, steps)
-        }
+        End::Pod(pod) => { pod_parts(alloc, estate, pod, direction, far, family, steps) }
         End::At(_) => everything(alloc),
     }
 }

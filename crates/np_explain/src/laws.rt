@@ -33,8 +33,8 @@ pub fn parts_give_the_verdict()
     ensures { (lists : EstateLists) (direction : Direction) (source destination : End) (family : Family) (parts : List Part) →
         AreRightParts (decider_between lists direction source destination family) parts →
         All (λ part. (spot : PortSpot) → has_spot part.conns spot ≡ true → decider_allows part.decider
-            ≡ end_allows lists direction (end_at direction (packet_between lists source destination family spot))
-                (contact_of direction (packet_between lists source destination family spot))) parts }
+        ≡ end_allows lists direction (end_at direction (packet_between lists source destination family spot))
+        (contact_of direction (packet_between lists source destination family spot))) parts }
 {}
 
 /// A packet is allowed where what decides at its source allows it and what decides at its destination does.

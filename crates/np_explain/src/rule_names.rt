@@ -60,7 +60,9 @@ fn net_policy_name(alloc: Global, policy: &NetPolicy) -> Result<Text, NoMemory>
     ensures { IfOk result (λ name. name ≡ net_policy_name policy.now) }
 {
     let NetPolicy {
-        namespace, name, ..
+        namespace,
+        name,
+        ..
     } = policy;
     Ok(Text::from_string(format!(in alloc; "{namespace}/{name}")?))
 }
