@@ -26,17 +26,17 @@ place_told {X} {N} name xs apart p q x y at_p at_q same =
 -- ---- the items of several owners
 
 -- what holds of the items of each owner
-all_flat : {A X : Type 0} (P : A → Type 0) (Q : X → Type 0) (f : A → List X) → ((a : A) → P a → All Q (f a)) → (as : List A) → All P as → All Q (flat_map f as)
+all_flat : {A X : Type 0} (P : A → Type 0) (Q : X → Type 0) (f : A → List X) → ((a : A) → P a → All Q (f a)) → (owners : List A) → All P owners → All Q (flat_map f owners)
 all_flat P Q f each [] all = All-nil Q
-all_flat P Q f each (a ∷ as) all = All-append Q (f a) (flat_map f as) (each a (All-head P a as all)) (all_flat P Q f each as (All-tail P a as all))
+all_flat P Q f each (a ∷ owners) all = All-append Q (f a) (flat_map f owners) (each a (All-head P a owners all)) (all_flat P Q f each owners (All-tail P a owners all))
 
 -- Items are related where those of one owner are, and those of two owners that stand apart.
-pub pairs_flat : {A X : Type 0} (R : X → X → Type 0) (Apart : A → A → Type 0) (Of : A → X → Type 0) (f : A → List X) → ((a : A) → All (Of a) (f a)) → ((a : A) → AllPairs R (f a)) → ((a b : A) (x y : X) → Apart a b → Of a x → Of b y → R x y) → (as : List A) → AllPairs Apart as → AllPairs R (flat_map f as)
+pub pairs_flat : {A X : Type 0} (R : X → X → Type 0) (Apart : A → A → Type 0) (Of : A → X → Type 0) (f : A → List X) → ((a : A) → All (Of a) (f a)) → ((a : A) → AllPairs R (f a)) → ((a b : A) (x y : X) → Apart a b → Of a x → Of b y → R x y) → (owners : List A) → AllPairs Apart owners → AllPairs R (flat_map f owners)
 pairs_flat R Apart Of f of one across [] apart = AllPairs-nil R
-pairs_flat {A} {X} R Apart Of f of one across (a ∷ as) apart =
-    AllPairs-append R (Of a) (λ y. (b : A) × Apart a b × Of b y) (λ x y of_x found. across a found.0 x y found.1 of_x found.2) (f a) (flat_map f as)
-    (one a) (pairs_flat R Apart Of f of one across as (AllPairs-tail Apart a as apart)) (of a)
-    (all_flat (Apart a) (λ y. (b : A) × Apart a b × Of b y) f (λ b from. All-weaker (Of b) (λ y. (c : A) × Apart a c × Of c y) (λ y of_y. (b, from, of_y)) (f b) (of b)) as (AllPairs-head Apart a as apart))
+pairs_flat {A} {X} R Apart Of f of one across (a ∷ owners) apart =
+    AllPairs-append R (Of a) (λ y. (b : A) × Apart a b × Of b y) (λ x y of_x found. across a found.0 x y found.1 of_x found.2) (f a) (flat_map f owners)
+    (one a) (pairs_flat R Apart Of f of one across owners (AllPairs-tail Apart a owners apart)) (of a)
+    (all_flat (Apart a) (λ y. (b : A) × Apart a b × Of b y) f (λ b from. All-weaker (Of b) (λ y. (c : A) × Apart a c × Of c y) (λ y of_y. (b, from, of_y)) (f b) (of b)) owners (AllPairs-head Apart a owners apart))
 
 -- ---- numbered items
 

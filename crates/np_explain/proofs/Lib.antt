@@ -1,7 +1,9 @@
 pub mod FirstLemmas
 pub mod ApartLemmas
 pub mod NetOrderLemmas
+pub mod SideLemmas
 pub mod WalkLemmas
+pub mod WholeLemmas
 pub mod MarkLemmas
 pub mod PartLemmas
 pub mod OneListLemmas

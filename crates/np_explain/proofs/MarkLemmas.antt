@@ -1,5 +1,5 @@
 -- Marks stand for different deciders.
-use Rattle.std.proofs.Common.{◌≡◌, ◌≢◌, ℕ, ◌<◌, List, length, Option, Some, None, AllPairs, refl, sym, ap, ◌∙◌, subst, inl, inr, arith}
+use Rattle.std.proofs.Common.{◌≡◌, ◌≢◌, ◌⊎◌, ℕ, ◌<◌, ◌≤◌, List, length, get_or, Option, Some, None, AllPairs, refl, sym, ap, ◌∙◌, subst, inl, inr, arith}
 use Rattle.std.specs.List.{slice_get}
 use Rattle.std.specs.Option.{option_map, option_map_or}
 use Rattle.std.proofs.lemmas.Option.{slice_get_cases}
@@ -74,13 +74,20 @@ IsNamed side (decider.Isolated pass policies) m = IsIsolated side pass m
 IsNamed side (decider.Base pass rule allow) m = IsBase side pass rule m
 IsNamed side (decider.Free pass) m = IsFree side pass m
 
+none_is_some : {X : Type 0} {x : X} → None ≡ Some x → ⊥
+none_is_some same = cc
+
 met_named : (side : PodSide) (pass : Option ℕ) → IsPassOf side pass → IsMet side (pass_name side pass) pass
 unfolding IsMet
 met_named side None there = tt
 met_named side (Some place) there = go (slice_get (admin_rules side) place) refl
   where
     go : (o : Option PlacedAdminRule) → slice_get (admin_rules side) place ≡ o → IsMet side (option_map admin_rule_name o) (Some place)
-    go None is = absurd (at_place (λ (o : Option PlacedAdminRule). o ≢ None) Some None (admin_rules side) place there (λ placed at same. cc) is)
+    go None is = absurd (missing (slice_get_cases (admin_rules side) place).1)
+      where
+        missing : ((placed : PlacedAdminRule) × (place < length (admin_rules side)) × (slice_get (admin_rules side) place ≡ Some placed) × (get_or (admin_rules side) place placed ≡ placed)) ⊎ ((length (admin_rules side) ≤ place) × (slice_get (admin_rules side) place ≡ None)) → ⊥
+        missing (inl found) = none_is_some (sym is ∙ found.2)
+        missing (inr past) = absurd (omega (arith, past.0))
     go (Some placed) is = record { placed = placed; is = is; named = refl }
 
 mark_is_named : (side : PodSide) (m : Mark) → IsMarkOf side m → IsNamed side (mark_decider side m) m

@@ -12,7 +12,6 @@ use Rattle.std.proofs.lemmas.List.Elements.{All-nil, recursion_from_All}
 use Rattle.std.proofs.lemmas.Slice.Eq.{bytes_eq-Decides}
 use Rattle.np_addr.proofs.Pairs.{AllPairs-head, AllPairs-nil, AllPairs-tail}
 use Rattle.np_estate.specs.Lawful.{AreNamesApart, StandsBefore, comes_before}
-use Rattle.np_labels.specs.Selectors.{meets_selector}
 use Rattle.np_policies.specs.declared.admin_policy.AdminPolicy.{AdminPolicy}
 use Rattle.np_policies.specs.declared.admin_policy.AdminRule.{AdminRule}
 use Rattle.np_policies.specs.declared.admin_policy.BasePolicy.{BasePolicy}
@@ -45,7 +44,7 @@ net_by direction p policy = if net_selects policy p then net_places_of direction
 
 -- a rule of a policy that selects the pod is of the pod's namespace
 record IsNetOf (p : PodEnd) (policy : NetPolicy) (placed : PlacedNetRule) : Type 0 where
-  pub policy : placed.policy ≡ policy
+  pub owner : placed.policy ≡ policy
   pub namespace : policy.namespace ≡ p.namespace
 
 -- a rule stands before another, of one namespace
@@ -57,7 +56,7 @@ net_of : (direction : Direction) (p : PodEnd) (policy : NetPolicy) → All (IsNe
 net_of direction p policy =
     if_any (All (IsNetOf p policy)) (net_selects policy p) (net_places_of direction policy)
     (λ selects. all_made (IsNetOf p policy) (λ numbered. record { policy = policy; place = numbered.0; rule = numbered.1 })
-    (λ numbered. record { policy = refl; namespace = (bytes_eq-Decides policy.namespace p.namespace).0 (and_parts (bytes_eq policy.namespace p.namespace) (meets_selector policy.subject p.labels) selects).0 })
+    (λ numbered. record { owner = refl; namespace = (bytes_eq-Decides policy.namespace p.namespace).0 (and_parts _ _ selects).0 })
     0 (unwrap_or (net_rules_of direction policy) []))
     (All-nil (IsNetOf p policy))
 
@@ -72,7 +71,7 @@ one_net : (p : PodEnd) (policy : NetPolicy) (x y : PlacedNetRule) → IsNetOf p 
 one_net p policy x y of_x of_y below =
     let name : NetPolicy → List ℕ = λ q. q.name in
     let space : NetPolicy → List ℕ = λ q. q.namespace in
-    let same : x.policy ≡ y.policy = of_x.policy ∙ sym of_y.policy in
+    let same : x.policy ≡ y.policy = of_x.owner ∙ sym of_y.owner in
     record {
       precedes = precedes_by x y Equal (ap (slice_cmp nat_cmp x.policy.name) (sym (ap name same)) ∙ tied_itself nat_list_cmp_total x.policy.name) (lt_true x.place y.place below);
       namespace = ap space same;
@@ -92,10 +91,10 @@ two_nets p a b x y stands of_x of_y =
     let spaces : a.namespace ≡ b.namespace = of_x.namespace ∙ sym of_y.namespace in
     let equal : slice_cmp nat_cmp a.namespace b.namespace ≡ Equal = ap (slice_cmp nat_cmp a.namespace) (sym spaces) ∙ tied_itself nat_list_cmp_total a.namespace in
     let less : slice_cmp nat_cmp a.name b.name ≡ Less = stands_less _ _ equal stands in
-    let names : slice_cmp nat_cmp x.policy.name y.policy.name ≡ slice_cmp nat_cmp a.name b.name = ap (λ n. slice_cmp nat_cmp n y.policy.name) (ap name of_x.policy) ∙ ap (slice_cmp nat_cmp a.name) (ap name of_y.policy) in
+    let names : slice_cmp nat_cmp x.policy.name y.policy.name ≡ slice_cmp nat_cmp a.name b.name = ap (λ n. slice_cmp nat_cmp n y.policy.name) (ap name of_x.owner) ∙ ap (slice_cmp nat_cmp a.name) (ap name of_y.owner) in
     record {
       precedes = precedes_by x y Less (names ∙ less) refl;
-      namespace = ap space of_x.policy ∙ spaces ∙ sym (ap space of_y.policy);
+      namespace = ap space of_x.owner ∙ spaces ∙ sym (ap space of_y.owner);
     }
 
 all_nets : (policies : List NetPolicy) (direction : Direction) (p : PodEnd) → AllPairs StandsBefore policies → AllPairs Before (net_places policies direction p)

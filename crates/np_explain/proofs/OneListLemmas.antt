@@ -1,5 +1,5 @@
 -- One list of parts is right, and what the right one says of each spot.
-use Rattle.std.proofs.Common.{◌≡◌, ◌≢◌, ◌⊎◌, ◌↔◌, IsTrue, List, [], ◌∷◌, Bool, true, false, ◌&&◌, filter, map, All, AllPairs, refl, sym, ap, ◌∙◌, subst, arith, inl, inr, if◌then◌else◌}
+use Rattle.std.proofs.Common.{◌≡◌, ◌≢◌, ◌⊎◌, ◌↔◌, IsTrue, List, [], ◌∷◌, Bool, true, false, ◌&&◌, ◌||◌, filter, map, All, AllPairs, refl, sym, ap, ◌∙◌, subst, arith, inl, inr, if◌then◌else◌}
 use Rattle.std.specs.Cmp.{both_ways}
 use Rattle.std.specs.List.{list_any}
 use Rattle.std.proofs.lemmas.Bool.{false≢true}
@@ -75,11 +75,11 @@ starts_strictly = record {
 -- some part among them has the spot
 some_among : (spot : PortSpot) (parts : List Part) → some_has spot parts ≡ true → (part : Part) × IsAmong part parts × (has_spot part.conns spot ≡ true)
 some_among spot [] has = absurd (false≢true has)
-some_among spot (part ∷ parts) has = go (has_spot part.conns spot) refl has
+some_among spot (part ∷ parts) has = go (has_spot part.conns spot) refl has (λ some. some_among spot parts some)
   where
-    go : (b : Bool) → has_spot part.conns spot ≡ b → (if b then true else some_has spot parts) ≡ true → (one : Part) × IsAmong one (part ∷ parts) × (has_spot one.conns spot ≡ true)
-    go true is some = (part, inl refl, is)
-    go false is some = let found = some_among spot parts some in (found.0, inr found.1, found.2)
+    go : (b : Bool) → has_spot part.conns spot ≡ b → (b || some_has spot parts) ≡ true → (some_has spot parts ≡ true → (one : Part) × IsAmong one parts × (has_spot one.conns spot ≡ true)) → (one : Part) × IsAmong one (part ∷ parts) × (has_spot one.conns spot ≡ true)
+    go true is some later = (part, inl refl, is)
+    go false is some later = let found = later some in (found.0, inr found.1, found.2)
 
 module _ (decides : PortSpot → Decider) where
   -- a right part is among all right parts
@@ -132,23 +132,24 @@ module _ (decides : PortSpot → Decider) where
 
 none_kept : {X : Type 0} (test : X → Bool) (xs : List X) → All (λ x. test x ≡ true → ⊥) xs → filter test xs ≡ []
 none_kept test [] none = refl
-none_kept {X} test (x ∷ xs) none = go (test x) refl
+none_kept {X} test (x ∷ xs) none = go (test x) refl (none_kept test xs (All-tail (λ y. test y ≡ true → ⊥) x xs none))
   where
-    go : (b : Bool) → test x ≡ b → (if b then x ∷ filter test xs else filter test xs) ≡ []
-    go true is = absurd (All-head (λ y. test y ≡ true → ⊥) x xs none is)
-    go false is = none_kept test xs (All-tail (λ y. test y ≡ true → ⊥) x xs none)
+    go : (b : Bool) → test x ≡ b → filter test xs ≡ [] → (if b then x ∷ filter test xs else filter test xs) ≡ []
+    go true is rest = absurd (All-head (λ y. test y ≡ true → ⊥) x xs none is)
+    go false is rest = rest
 
 one_kept : (test : Part → Bool) (d : Decider) (parts : List Part) → AllPairs (λ a b. test a ≡ true → test b ≡ true → ⊥) parts → All (λ a. test a ≡ true → d ≡ a.decider) parts → list_any test parts ≡ true → map (λ part. part.decider) (filter test parts) ≡ d ∷ []
 one_kept test d [] apart are some = absurd (false≢true some)
-one_kept test d (part ∷ parts) apart are some = go (test part) refl some
+one_kept test d (part ∷ parts) apart are some =
+    go (test part) refl some (λ any. one_kept test d parts (AllPairs-tail (λ a b. test a ≡ true → test b ≡ true → ⊥) part parts apart) (All-tail (λ a. test a ≡ true → d ≡ a.decider) part parts are) any)
   where
-    go : (b : Bool) → test part ≡ b → (if b then true else list_any test parts) ≡ true → map (λ p. p.decider) (if b then part ∷ filter test parts else filter test parts) ≡ d ∷ []
-    go true is any =
+    go : (b : Bool) → test part ≡ b → (b || list_any test parts) ≡ true → (list_any test parts ≡ true → map (λ p. p.decider) (filter test parts) ≡ d ∷ []) → map (λ p. p.decider) (if b then part ∷ filter test parts else filter test parts) ≡ d ∷ []
+    go true is any later =
         let others : List Part → List Decider = λ ps. part.decider ∷ map (λ p. p.decider) ps in
         let single : Decider → List Decider = λ e. e ∷ [] in
         ap others (none_kept test parts (λ k e within passes. AllPairs-head (λ a b. test a ≡ true → test b ≡ true → ⊥) part parts apart k e within is passes))
         ∙ ap single (sym (All-head (λ a. test a ≡ true → d ≡ a.decider) part parts are is))
-    go false is any = one_kept test d parts (AllPairs-tail (λ a b. test a ≡ true → test b ≡ true → ⊥) part parts apart) (All-tail (λ a. test a ≡ true → d ≡ a.decider) part parts are) any
+    go false is any later = later any
 
 pub one_part : (decides : PortSpot → Decider) (parts : List Part) (spot : PortSpot) → AreRightParts decides parts → is_spot spot ≡ true → map (λ part. part.decider) (filter (λ part. has_spot part.conns spot) parts) ≡ decides spot ∷ []
 one_part decides parts spot right inside =

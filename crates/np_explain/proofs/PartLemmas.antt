@@ -43,11 +43,11 @@ pub record IsCarved (layer : Layer Conns) (entries : List (Marked Conns)) : Type
 -- where the marks at a spot are not none, some part has it
 some_marked : (side : PodSide) (spot : PortSpot) (m : Mark) (entries : List (Marked Conns)) → marks_at (λ set. has_spot set spot) entries ≡ m ∷ [] → some_has spot (map (named_part side) entries) ≡ true
 some_marked side spot m [] marks = cc
-some_marked side spot m (entry ∷ entries) marks = go (has_spot entry.set spot) marks
+some_marked side spot m (entry ∷ entries) marks = go (has_spot entry.set spot) marks (λ is. some_marked side spot m entries is)
   where
-    go : (b : Bool) → map (λ e. e.mark) (if b then entry ∷ filter (λ e. has_spot e.set spot) entries else filter (λ e. has_spot e.set spot) entries) ≡ m ∷ [] → (b || some_has spot (map (named_part side) entries)) ≡ true
-    go true is = refl
-    go false is = some_marked side spot m entries is
+    go : (b : Bool) → map (λ e. e.mark) (if b then entry ∷ filter (λ e. has_spot e.set spot) entries else filter (λ e. has_spot e.set spot) entries) ≡ m ∷ [] → (map (λ e. e.mark) (filter (λ e. has_spot e.set spot) entries) ≡ m ∷ [] → some_has spot (map (named_part side) entries) ≡ true) → (b || some_has spot (map (named_part side) entries)) ≡ true
+    go true is later = refl
+    go false is later = later is
 
 -- related images of related items
 AllPairs-map : {X Y : Type 0} (R : Y → Y → Type 0) (f : X → Y) (xs : List X) → AllPairs (λ a b. R (f a) (f b)) xs → AllPairs R (map f xs)

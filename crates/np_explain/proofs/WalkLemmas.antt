@@ -57,21 +57,22 @@ found {S} {X} at test all n (set ∷ sets) (x ∷ items) related stands =
     go true rest = ap {A = Option X} Some (stands_first all n x items stands)
     go false rest = rest
 
+-- the rule at the place of an admin part, and what the part says; and a rule with what it says
+abbrev seen : List PlacedAdminRule → ℕ × AdminPart Conns → Option PlacedAdminRule × TierAction
+seen all numbered = (slice_get all numbered.0, numbered.1.action)
+
+abbrev spoken : PlacedAdminRule → Option PlacedAdminRule × TierAction
+spoken placed = (Some placed, tier_action placed.rule.action)
+
 -- so it is for the admin parts, of which each says what its rule says
-admin_found : (at : Conns → Bool) (test : PlacedAdminRule → Bool) (all : List PlacedAdminRule) (n : ℕ) (parts : List (AdminPart Conns)) (items : List PlacedAdminRule) → Pairwise (λ part placed. (part.action ≡ tier_action placed.rule.action) × (at part.set ≡ test placed)) parts items → StandsFrom all n items → option_map (λ numbered. (slice_get all numbered.0, numbered.1.action)) (find (λ numbered. at numbered.1.set) (enumerate_from n parts)) ≡ option_map (λ placed. (Some placed, tier_action placed.rule.action)) (find test items)
+admin_found : (at : Conns → Bool) (test : PlacedAdminRule → Bool) (all : List PlacedAdminRule) (n : ℕ) (parts : List (AdminPart Conns)) (items : List PlacedAdminRule) → Pairwise (λ part placed. (part.action ≡ tier_action placed.rule.action) × (at part.set ≡ test placed)) parts items → StandsFrom all n items → option_map (seen all) (find (λ numbered. at numbered.1.set) (enumerate_from n parts)) ≡ option_map spoken (find test items)
 admin_found at test all n [] [] related stands = refl
 admin_found at test all n [] (placed ∷ items) related stands = absurd related
 admin_found at test all n (part ∷ parts) [] related stands = absurd related
 admin_found at test all n (part ∷ parts) (placed ∷ items) related stands =
     rw related.0.1 (go (test placed) (admin_found at test all (n + 1) parts items related.1 (stands_rest all n placed items stands)))
   where
-    seen : ℕ × AdminPart Conns → Option PlacedAdminRule × TierAction
-    seen numbered = (slice_get all numbered.0, numbered.1.action)
-
-    are : PlacedAdminRule → Option PlacedAdminRule × TierAction
-    are placed = (Some placed, tier_action placed.rule.action)
-
-    go : (b : Bool) → option_map (λ numbered. (slice_get all numbered.0, numbered.1.action)) (find (λ numbered. at numbered.1.set) (enumerate_from (n + 1) parts)) ≡ option_map (λ p. (Some p, tier_action p.rule.action)) (find test items) → option_map (λ numbered. (slice_get all numbered.0, numbered.1.action)) (if b then Some (n, part) else find (λ numbered. at numbered.1.set) (enumerate_from (n + 1) parts)) ≡ option_map (λ p. (Some p, tier_action p.rule.action)) (if b then Some placed else find test items)
+    go : (b : Bool) → option_map (seen all) (find (λ numbered. at numbered.1.set) (enumerate_from (n + 1) parts)) ≡ option_map spoken (find test items) → option_map (seen all) (if b then Some (n, part) else find (λ numbered. at numbered.1.set) (enumerate_from (n + 1) parts)) ≡ option_map spoken (if b then Some placed else find test items)
     go true rest = cc (stands_first all n placed items stands, related.0.0)
     go false rest = rest
 
@@ -119,7 +120,7 @@ action_named side place placed policy.Pass lower decides is says below =
     let passed = below (Some place) (slice_get_within (admin_rules side) place placed is) in
     (passed.0 ∙ ap met is, passed.1)
 
-admin_named : (side : PodSide) (numbered : Option (ℕ × AdminPart Conns)) (decides : Option PlacedAdminRule) (lower : Option ℕ → Mark) (below : Option RuleName → Decider) → option_map (λ n. (slice_get (admin_rules side) n.0, n.1.action)) numbered ≡ option_map (λ placed. (Some placed, tier_action placed.rule.action)) decides → ((pass : Option ℕ) → IsPassOf side pass → (mark_decider side (lower pass) ≡ below (pass_name side pass)) × IsMarkOf side (lower pass)) → (mark_decider side (admin_mark numbered lower) ≡ admin_decides decides below) × IsMarkOf side (admin_mark numbered lower)
+admin_named : (side : PodSide) (numbered : Option (ℕ × AdminPart Conns)) (decides : Option PlacedAdminRule) (lower : Option ℕ → Mark) (below : Option RuleName → Decider) → option_map (seen (admin_rules side)) numbered ≡ option_map spoken decides → ((pass : Option ℕ) → IsPassOf side pass → (mark_decider side (lower pass) ≡ below (pass_name side pass)) × IsMarkOf side (lower pass)) → (mark_decider side (admin_mark numbered lower) ≡ admin_decides decides below) × IsMarkOf side (admin_mark numbered lower)
 admin_named side None None lower below same lowers = lowers None tt
 admin_named side None (Some placed) lower below same lowers = none_is_some _ same
 admin_named side (Some numbered) None lower below same lowers = some_is_none _ same
@@ -154,7 +155,7 @@ module _ (side : PodSide) (looks_at : PortSpot → Contact) (layer : Layer Conns
       (Pairwise-weaker (λ part placed. IsBasePart has_spot is_spot looks_at part placed.rule) (λ part placed. has_spot part.set spot ≡ admin_rule_matches placed.rule (looks_at spot)) (λ part placed one. one.members spot within) layer.base (base_rules side) is.base)
       (stands_all (base_rules side))
 
-  admins : option_map (λ n. (slice_get (admin_rules side) n.0, n.1.action)) (find (λ n. has_spot n.1.set spot) (enumerate_from 0 layer.admin)) ≡ option_map (λ placed. (Some placed, tier_action placed.rule.action)) (find (λ placed. admin_rule_matches placed.rule (looks_at spot)) (admin_rules side))
+  admins : option_map (seen (admin_rules side)) (find (λ n. has_spot n.1.set spot) (enumerate_from 0 layer.admin)) ≡ option_map spoken (find (λ placed. admin_rule_matches placed.rule (looks_at spot)) (admin_rules side))
   admins =
       admin_found (λ set. has_spot set spot) (λ placed. admin_rule_matches placed.rule (looks_at spot)) (admin_rules side) 0 layer.admin (admin_rules side)
       (Pairwise-weaker (λ part placed. IsAdminPart has_spot is_spot looks_at part placed.rule) (λ part placed. (part.action ≡ tier_action placed.rule.action) × (has_spot part.set spot ≡ admin_rule_matches placed.rule (looks_at spot))) (λ part placed one. (one.action, one.members spot within)) layer.admin (admin_rules side) is.admin)

@@ -54,6 +54,15 @@ decider_at lists direction packet = decider lists direction (end_at direction pa
 abbrev pub decider_between : EstateLists → Direction → PlacedEnd → PlacedEnd → Family → PortSpot → Decider
 decider_between lists direction source destination family spot = decider_at lists direction (packet_between lists source destination family spot)
 
+-- The side of a pod at the near end looks at packets of the far end's family; at an address nothing does.
+abbrev pub IsFamilyWith : PlacedEnd → PlacedEnd → Family → Type 0
+IsFamilyWith (Pod p) far family = IsFamilyAt far family
+IsFamilyWith (At a) far family = Unit {0}
+
+-- what decides at a near end, with a far one
+abbrev pub decider_near : EstateLists → Direction → PlacedEnd → PlacedEnd → Family → PortSpot → Decider
+decider_near lists direction near far family spot = decider lists direction (end_of lists near) (contact direction (end_of lists near) (end_of lists far) family spot)
+
 -- what a pod's side looks at, by its far end
 abbrev pub with_end : PlacedEnd → Family → PodSide → PortSpot → Contact
 with_end far family side = contact side.direction (pod (near_pod side)) (end_of side.lists far) family

@@ -1,7 +1,7 @@
 //! Why: which rule decides every packet between two ends, protocol by protocol and port by port, and the text of that.
 #![tactic(auto)]
 
-mod explain;
+mod explaining;
 mod laws;
 mod order;
 mod part;
@@ -9,7 +9,7 @@ mod print;
 mod rule_names;
 mod side;
 
-pub use explain::explain;
+pub use explaining::explain;
 pub use laws::{
     both_sides_give_the_verdict, each_spot_is_in_one_part, one_list_of_parts_is_right,
     parts_give_the_verdict,

@@ -3,7 +3,9 @@ ghost use Rattle.std.specs.Prelude.{◌≡◌, ◌<◌, length, IfOk, Some};
 ghost use Rattle.std.specs.List.{slice_get};
 ghost use Rattle.np_estate.specs.Lawful.{IsFew};
 ghost use Rattle.np_explain.specs.Marks.{IsMarkOf, IsPassOf, SaysActions, admin_rules, base_rules, mark_decider, net_rules, pass_name};
+ghost use Rattle.np_policies.specs.declared.admin_policy.Action.{Action as PolicyAction};
 ghost use Rattle.np_rules.specs.Deciders.{admin_rule_name, base_rule_name, isolating_names, net_rule_name};
+ghost use Rattle.np_rules.specs.Layers.{tier_action};
 ghost use Rattle.np_rules.specs.Places.{PlacedAdminRule, PlacedBaseRule, PlacedNetRule};
 ghost use Rattle.np_rules.specs.PodSides.{near_pod, side_of};
 ghost use Rattle.np_rules.specs.Sides.{is_allow};
@@ -125,7 +127,7 @@ impl<'a> Side<'a> {
         ensures { (placed : PlacedAdminRule) →
             slice_get (admin_rules self.now) place ≡ Some placed → result ≡ is_allow placed.rule.action }
     {
-        self.layer.admin.items()[place as usize].action == Action::Allow
+        is_allow(self.layer.admin.items()[place as usize].action)
     }
 
     // The name of a rule of a NetworkPolicy.
@@ -169,4 +171,11 @@ impl<'a> Side<'a> {
     {
         self.layer.base.items()[place as usize].allow
     }
+}
+
+// Whether a rule that says so allows.
+fn is_allow(action: Action) -> bool
+    ensures { (said : PolicyAction) → action ≡ tier_action said → result ≡ is_allow said }
+{
+    action == Action::Allow
 }

@@ -6,7 +6,7 @@ ghost use Rattle.std.specs.List.Sorted.{IsNonDecreasingBy, IsPermutation};
 ghost use Rattle.np_explain.specs.Marks.{IsMarkOf, named_part};
 ghost use Rattle.np_explain.specs.Order.{first_number};
 ghost use Rattle.np_explain.specs.Parts.{AreRightParts};
-ghost use Rattle.np_explain.specs.Sides.{IsFamilyAt, IsFamilyOf, are_one_pod, decider_between, decider_with, placed_at, with_end};
+ghost use Rattle.np_explain.specs.Sides.{IsFamilyAt, IsFamilyOf, IsFamilyWith, are_one_pod, decider_between, decider_near, decider_with, placed_at, with_end};
 ghost use Rattle.np_rules.specs.Places.{end_rule_count};
 ghost use Rattle.np_rules.specs.PodSides.{IsSideLayer, side_of, side_rule_count};
 ghost use Rattle.np_rules.specs.Verdict.{IsEndOf, end_of};
@@ -51,19 +51,48 @@ pub fn explain<L: Ledger>(
     ensures most { steps.new
         ≤ steps.old + end_rule_count estate.now direction (end_of estate.now (placed_at direction source destination)) }
 {
-    let (near, far) = match direction {
-        Direction::Egress => (source, destination),
-        Direction::Ingress => (destination, source),
-    };
+    match direction {
+        Direction::Egress => parts_at(alloc, estate, source, destination, direction, family, steps),
+        Direction::Ingress => parts_at(
+            alloc,
+            estate,
+            destination,
+            source,
+            direction,
+            family,
+            steps,
+        ),
+    }
+}
+
+// The parts at an end.
+fn parts_at<L: Ledger>(
+    alloc: Global,
+    estate: &Estate,
+    near: End,
+    far: End,
+    direction: Direction,
+    family: Family,
+    steps: &mut Steps<L>,
+) -> Result<Seq<Part>, NoMemory>
+    requires lawful { IsLawful estate.now }
+    requires near { IsEndOf estate.now near }
+    requires far { IsEndOf estate.now far }
+    requires family { IsFamilyWith near far family }
+    ensures parts { IfOk result (AreRightParts (decider_near estate.now direction near far family)) }
+    ensures cost { OnOk result (steps.new ≡ steps.old + end_rule_count estate.now direction (end_of estate.now near)) }
+    ensures least { steps.old ≤ steps.new }
+    ensures most { steps.new ≤ steps.old + end_rule_count estate.now direction (end_of estate.now near) }
+{
     match near {
-        End::Pod(pod) => { pod_parts(alloc, estate, pod, direction, far, family, steps) }
+        End::Pod(pod) => pod_parts(alloc, estate, pod, direction, far, family, steps),
         End::At(_) => everything(alloc),
     }
 }
 
 // The one part at an end without a side.
 fn everything(alloc: Global) -> Result<Seq<Part>, NoMemory>
-    ensures { IfOk result (AreRightParts (λ _. NoSide)) }
+    ensures { IfOk result (AreRightParts (λ _. Decider.NoSide)) }
 {
     let conns = ConnSet::everything(alloc)?;
     let mut parts = Seq::new(alloc);
