@@ -1,5 +1,5 @@
 -- The carved sets, named and in order, are the right parts.
-use Rattle.std.proofs.Common.{◌≡◌, ◌≢◌, ◌↔◌, ℕ, ◌<◌, ◌≤◌, List, [], ◌∷◌, Bool, true, false, ◌&&◌, ◌||◌, IsTrue, eqb, length, get_or, map, filter, All, AllPairs, refl, sym, ap, ◌∙◌, subst, arith, inl, inr, if◌then◌else◌}
+use Rattle.std.proofs.Common.{◌≡◌, ◌≢◌, ◌↔◌, ℕ, ◌<◌, ◌≤◌, List, [], ◌∷◌, ◌++◌, Bool, true, false, ◌&&◌, ◌||◌, IsTrue, eqb, length, get_or, map, filter, All, AllPairs, refl, sym, ap, append_assoc, ◌∙◌, subst, arith, inl, inr, if◌then◌else◌}
 use Rattle.std.specs.List.{IsDistinct, list_any}
 use Rattle.std.specs.List.Sorted.{IsNonDecreasing, IsNonDecreasingBy, IsPermutation}
 use Rattle.std.proofs.lemmas.Bool.{false≢true}
@@ -48,6 +48,15 @@ some_marked side spot m (entry ∷ entries) marks = go (has_spot entry.set spot)
     go : (b : Bool) → map (λ e. e.mark) (if b then entry ∷ filter (λ e. has_spot e.set spot) entries else filter (λ e. has_spot e.set spot) entries) ≡ m ∷ [] → (map (λ e. e.mark) (filter (λ e. has_spot e.set spot) entries) ≡ m ∷ [] → some_has spot (map (named_part side) entries) ≡ true) → (b || some_has spot (map (named_part side) entries)) ≡ true
     go true is later = refl
     go false is later = later is
+
+-- one part more is made, of the first of the entries that are left
+pub parts_more : (side : PodSide) (before made : List Part) (entry : Marked Conns) (rest left : List (Marked Conns)) (decider : Decider) (all : List Part) → left ≡ entry ∷ rest → decider ≡ mark_decider side entry.mark → made ≡ before ++ record { decider = decider; conns = entry.set } ∷ [] → before ++ map (named_part side) left ≡ all → made ++ map (named_part side) rest ≡ all
+parts_more side before made entry rest left decider all is decides pushed so_far =
+    let others : List Part = map (named_part side) rest in
+    let of_decider : Decider → List Part = λ d. before ++ record { decider = d; conns = entry.set } ∷ others in
+    let with_others : List Part → List Part = λ parts. parts ++ others in
+    let after : List (Marked Conns) → List Part = λ entries. before ++ map (named_part side) entries in
+    ap with_others pushed ∙ append_assoc before (record { decider = decider; conns = entry.set } ∷ []) others ∙ ap of_decider decides ∙ sym (ap after is) ∙ so_far
 
 -- related images of related items
 AllPairs-map : {X Y : Type 0} (R : Y → Y → Type 0) (f : X → Y) (xs : List X) → AllPairs (λ a b. R (f a) (f b)) xs → AllPairs R (map f xs)

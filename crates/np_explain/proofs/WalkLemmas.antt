@@ -6,7 +6,7 @@ use Rattle.std.proofs.lemmas.Option.{slice_get_within}
 use Rattle.np_conns.specs.Conns.{Conns, has_spot, is_spot}
 use Rattle.np_conns.specs.declared.port_spot.PortSpot.{PortSpot}
 use Rattle.np_estate.specs.Lawful.{IsLawful}
-use Rattle.np_explain.specs.Marks.{IsMarkOf, IsPassOf, admin_rules, base_rules, mark_decider, net_rules, pass_name}
+use Rattle.np_explain.specs.Marks.{IsMarkOf, IsPassOf, SaysActions, admin_rules, base_rules, mark_decider, net_rules, pass_name}
 use Rattle.np_explain.proofs.NetOrderLemmas.{net_decider_is_first}
 use Rattle.np_policies.specs.declared.admin_policy.Action.{Action}
 use Rattle.np_policies.specs.declared.admin_policy.Action.TheVariants as policy
@@ -138,6 +138,13 @@ Pairwise-weaker R S weaker [] [] related = tt
 Pairwise-weaker R S weaker [] (y ∷ ys) related = absurd related
 Pairwise-weaker R S weaker (x ∷ xs) [] related = absurd related
 Pairwise-weaker R S weaker (x ∷ xs) (y ∷ ys) related = (weaker x y related.0, Pairwise-weaker R S weaker xs ys related.1)
+
+-- the parts of a layer say what the rules at their places say
+pub says_of : (side : PodSide) (looks_at : PortSpot → Contact) (layer : Layer Conns) → IsLayer has_spot is_spot looks_at side.lists side.direction (near_pod side) layer → SaysActions side layer
+says_of side looks_at layer is = record {
+  admin = Pairwise-weaker (λ part placed. IsAdminPart has_spot is_spot looks_at part placed.rule) (λ part placed. part.action ≡ tier_action placed.rule.action) (λ part placed one. one.action) layer.admin (admin_rules side) is.admin;
+  base = Pairwise-weaker (λ part placed. IsBasePart has_spot is_spot looks_at part placed.rule) (λ part placed. part.allow ≡ is_allow placed.rule.action) (λ part placed one. one.allow) layer.base (base_rules side) is.base;
+}
 
 module _ (side : PodSide) (looks_at : PortSpot → Contact) (layer : Layer Conns) (lawful : IsLawful side.lists) (is : IsLayer has_spot is_spot looks_at side.lists side.direction (near_pod side) layer) (spot : PortSpot) (within : is_spot spot ≡ true) where
   at : Conns → Bool
