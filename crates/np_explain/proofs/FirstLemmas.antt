@@ -1,8 +1,8 @@
 -- The least spot of a set.
-use Rattle.std.proofs.Common.{◌≡◌, ℕ, ◌+◌, ◌*◌, ◌<◌, ◌≤◌, List, [], ◌∷◌, Bool, true, ◌||◌, refl, ap, ◌∙◌, arith}
+use Rattle.std.proofs.Common.{◌≡◌, ℕ, ◌+◌, ◌*◌, ◌≤◌, List, [], ◌∷◌, Bool, true, ◌||◌, refl, ap, ◌∙◌, arith}
 use Rattle.std.proofs.lemmas.Bool.{and_parts, leb-true, false≢true}
 use Rattle.np_base.proofs.Ranges.{is_within-inside}
-use Rattle.np_base.specs.Ranges.{IsAscending, holds, is_within}
+use Rattle.np_base.specs.Ranges.{IsAscending, holds}
 use Rattle.np_base.specs.declared.range.Range.{Range}
 use Rattle.np_conns.specs.Conns.{AscendsInPorts, Conns, IsConns, has_spot, is_spot, ranges_of}
 use Rattle.np_conns.specs.declared.port_spot.PortSpot.{PortSpot}

@@ -8,7 +8,7 @@ use Rattle.np_explain.specs.Marks.{IsMarkOf, IsPassOf, admin_rules, base_rules, 
 use Rattle.np_explain.proofs.ApartLemmas.{place_told}
 use Rattle.np_explain.proofs.NetOrderLemmas.{admin_names_apart, base_names_apart, net_names_apart}
 use Rattle.np_rules.specs.Deciders.{admin_rule_name, base_rule_name, net_rule_name}
-use Rattle.np_rules.specs.Places.{PlacedAdminRule, PlacedBaseRule, PlacedNetRule}
+use Rattle.np_rules.specs.Places.{PlacedAdminRule}
 use Rattle.np_rules.specs.PodSides.{PodSide, near_pod}
 use Rattle.np_rules.specs.Sides.{is_allow}
 use Rattle.np_rules.specs.declared.decider.Decider.{Decider}

@@ -1,9 +1,8 @@
 -- The rules of a pod's side: those of NetworkPolicies stand in order, and no two of one tier have one name.
-use Rattle.std.proofs.Common.{◌≡◌, ◌≢◌, ℕ, ◌<◌, List, [], ◌∷◌, ◌++◌, Bool, true, false, not, codes, nat_lt, filter, find, length, get_or, map, Some, None, Option, All, AllPairs, Ordering, Less, Equal, Greater, refl, sym, ◌∙◌, ap, subst, arith, unwrap_or, if◌then◌else◌}
+use Rattle.std.proofs.Common.{◌≡◌, ◌≢◌, ℕ, ◌<◌, List, [], ◌∷◌, ◌++◌, Bool, true, false, not, codes, nat_lt, find, map, Some, None, Option, All, AllPairs, Ordering, Less, Equal, Greater, refl, sym, ◌∙◌, ap, arith, unwrap_or, if◌then◌else◌}
 use Rattle.std.specs.Cmp.Lexicographic.{slice_cmp}
-use Rattle.std.specs.List.{enumerate_from, flat_map}
+use Rattle.std.specs.List.{enumerate_from}
 use Rattle.std.specs.Ordering.{match_ordering, nat_cmp, ordering_reverse}
-use Rattle.std.specs.Str.{bytes_eq}
 use Rattle.std.proofs.lemmas.Bool.{and_parts, false≢true}
 use Rattle.std.proofs.lemmas.Bool.Decides.{nat_tests}
 use Rattle.std.proofs.lemmas.Cmp.{nat_list_cmp_total, tied_itself}
@@ -13,16 +12,13 @@ use Rattle.std.proofs.lemmas.Slice.Eq.{bytes_eq-Decides}
 use Rattle.np_addr.proofs.Pairs.{AllPairs-head, AllPairs-nil, AllPairs-tail}
 use Rattle.np_estate.specs.Lawful.{AreNamesApart, StandsBefore, comes_before}
 use Rattle.np_policies.specs.declared.admin_policy.AdminPolicy.{AdminPolicy}
-use Rattle.np_policies.specs.declared.admin_policy.AdminRule.{AdminRule}
 use Rattle.np_policies.specs.declared.admin_policy.BasePolicy.{BasePolicy}
 use Rattle.np_policies.specs.declared.direction.Direction.{Direction}
 use Rattle.np_policies.specs.declared.network_policy.NetPolicy.{NetPolicy}
-use Rattle.np_policies.specs.declared.network_policy.NetRule.{NetRule}
-use Rattle.np_rules.specs.AdminTier.{least_by}
 use Rattle.np_rules.specs.Deciders.{admin_rule_name, base_rule_name, net_decider, net_precedes, net_rule_name}
 use Rattle.np_rules.specs.Ends.{Contact, PodEnd}
 use Rattle.np_rules.specs.NetTier.{placed_net_matches}
-use Rattle.np_rules.specs.Places.{PlacedAdminRule, PlacedBaseRule, PlacedNetRule, admin_places, admin_places_of, admin_rules_of, base_places, base_rules_of, net_places, net_places_of, net_rules_of}
+use Rattle.np_rules.specs.Places.{PlacedAdminRule, PlacedNetRule, admin_places, admin_places_of, admin_rules_of, base_places, base_rules_of, net_places, net_places_of, net_rules_of}
 use Rattle.np_rules.specs.Selection.{net_selects, subject_selects}
 use Rattle.np_rules.specs.declared.decider.RuleName.{RuleName}
 use Rattle.np_rules.proofs.AdminTierLemmas.{IsInOrder, least_is_first}

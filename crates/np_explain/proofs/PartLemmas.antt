@@ -1,8 +1,7 @@
 -- The carved sets, named and in order, are the right parts.
-use Rattle.std.proofs.Common.{◌≡◌, ◌≢◌, ◌↔◌, ℕ, ◌<◌, ◌≤◌, List, [], ◌∷◌, ◌++◌, Bool, true, false, ◌&&◌, ◌||◌, IsTrue, eqb, length, get_or, map, filter, All, AllPairs, refl, sym, ap, append_assoc, ◌∙◌, subst, arith, inl, inr, if◌then◌else◌}
-use Rattle.std.specs.List.{IsDistinct, list_any}
+use Rattle.std.proofs.Common.{◌≡◌, ◌≢◌, ◌↔◌, ℕ, ◌<◌, ◌≤◌, List, [], ◌∷◌, ◌++◌, Bool, true, false, ◌||◌, IsTrue, eqb, length, get_or, map, filter, All, AllPairs, refl, sym, ap, append_assoc, ◌∙◌, subst, arith, inl, inr, if◌then◌else◌}
+use Rattle.std.specs.List.{IsDistinct}
 use Rattle.std.specs.List.Sorted.{IsNonDecreasing, IsNonDecreasingBy, IsPermutation}
-use Rattle.std.proofs.lemmas.Bool.{false≢true}
 use Rattle.std.proofs.lemmas.Bool.Decides.{nat_tests}
 use Rattle.std.proofs.lemmas.List.{get_or-map, length-map}
 use Rattle.std.proofs.lemmas.List.Elements.{All-map}
@@ -16,7 +15,7 @@ use Rattle.np_conns.specs.declared.port_spot.PortSpot.{PortSpot}
 use Rattle.np_estate.specs.Lawful.{IsLawful}
 use Rattle.np_explain.specs.Marks.{IsMarkOf, mark_decider, named_part}
 use Rattle.np_explain.specs.Order.{first_number}
-use Rattle.np_explain.specs.Parts.{AreRightParts, StartsBefore, some_has, spot_number}
+use Rattle.np_explain.specs.Parts.{AreRightParts, StartsBefore, some_has}
 use Rattle.np_explain.specs.declared.part.Part.{Part}
 use Rattle.np_explain.proofs.FirstLemmas.{first_is, numbers_tell}
 use Rattle.np_explain.proofs.MarkLemmas.{marks_told}

@@ -1,5 +1,5 @@
 -- The mark of a spot stands for what decides it.
-use Rattle.std.proofs.Common.{◌≡◌, ℕ, zero, suc, ◌+◌, ◌<◌, List, [], ◌∷◌, Bool, true, false, find, length, Option, Some, None, refl, sym, ap, ◌∙◌, subst, arith, if◌then◌else◌}
+use Rattle.std.proofs.Common.{◌≡◌, ℕ, suc, ◌+◌, List, [], ◌∷◌, Bool, true, false, find, Option, Some, None, refl, sym, ap, ◌∙◌, subst, arith, if◌then◌else◌}
 use Rattle.std.specs.List.{enumerate_from, position_from, slice_get}
 use Rattle.std.specs.Option.{option_map, option_map_or}
 use Rattle.std.proofs.lemmas.Option.{slice_get_within}
@@ -28,7 +28,6 @@ use Rattle.np_tiers.specs.declared.layer.Action.{Action as TierAction}
 use Rattle.np_tiers.specs.declared.layer.AdminPart.{AdminPart}
 use Rattle.np_tiers.specs.declared.layer.Layer.{Layer}
 use Rattle.np_tiers.specs.declared.mark.Mark.{Mark}
-use Rattle.np_tiers.specs.declared.mark.Mark.TheVariants as mark
 
 -- ---- places and items
 

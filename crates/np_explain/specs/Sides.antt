@@ -1,5 +1,5 @@
 -- What decides the packets between two ends, at one side of them.
-use Rattle.std.specs.Prelude.{◌≡◌, ℕ, Bool, false, ◌==◌}
+use Rattle.std.specs.Prelude.{◌≡◌, Bool, false, ◌==◌}
 use Rattle.np_addr.specs.Addresses.{family_of}
 use Rattle.np_addr.specs.declared.address.Family.{Family}
 use Rattle.np_conns.specs.declared.port_spot.PortSpot.{PortSpot}
@@ -66,7 +66,3 @@ decider_near lists direction near far family spot = decider lists direction (end
 -- what a pod's side looks at, by its far end
 abbrev pub with_end : PlacedEnd → Family → PodSide → PortSpot → Contact
 with_end far family side = contact side.direction (pod (near_pod side)) (end_of side.lists far) family
-
--- what decides at a pod's side, spot by spot
-abbrev pub decider_with : PodSide → PlacedEnd → Family → PortSpot → Decider
-decider_with side far family spot = decider side.lists side.direction (pod (near_pod side)) (with_end far family side spot)

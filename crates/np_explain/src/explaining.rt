@@ -6,7 +6,7 @@ ghost use Rattle.std.specs.List.Sorted.{IsNonDecreasingBy, IsPermutation};
 ghost use Rattle.np_explain.specs.Marks.{IsMarkOf, named_part};
 ghost use Rattle.np_explain.specs.Order.{first_number};
 ghost use Rattle.np_explain.specs.Parts.{AreRightParts};
-ghost use Rattle.np_explain.specs.Sides.{IsFamilyAt, IsFamilyOf, IsFamilyWith, are_one_pod, decider_between, decider_near, decider_with, placed_at, with_end};
+ghost use Rattle.np_explain.specs.Sides.{IsFamilyAt, IsFamilyOf, IsFamilyWith, are_one_pod, decider_between, decider_near, placed_at, with_end};
 ghost use Rattle.np_rules.specs.Places.{end_rule_count};
 ghost use Rattle.np_rules.specs.PodSides.{IsSideLayer, side_of, side_rule_count};
 ghost use Rattle.np_rules.specs.Verdict.{IsEndOf, end_of};
@@ -117,7 +117,7 @@ fn pod_parts<L: Ledger>(
     requires pod { pod < length estate.now.pods }
     requires far { IsEndOf estate.now far }
     requires family { IsFamilyAt far family }
-    ensures parts { IfOk result (AreRightParts (decider_with (side_of estate.now pod direction) far family)) }
+    ensures parts { IfOk result (AreRightParts (decider_near estate.now direction (End.Pod pod) far family)) }
     ensures cost { OnOk result (steps.new ≡ steps.old + side_rule_count (side_of estate.now pod direction)) }
     ensures least { steps.old ≤ steps.new }
     ensures most { steps.new ≤ steps.old + side_rule_count (side_of estate.now pod direction) }

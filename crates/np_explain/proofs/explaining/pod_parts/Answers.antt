@@ -5,9 +5,10 @@ use Rattle.np_explain.proofs.WalkLemmas.{says_of}
 use Rattle.np_explain.proofs.explaining.pod_parts.Goals as goal
 use Rattle.np_explain.specs.Marks.{IsMarkOf, named_part}
 use Rattle.np_explain.specs.Parts.{AreRightParts}
-use Rattle.np_explain.specs.Sides.{decider_with, with_end}
+use Rattle.np_explain.specs.Sides.{decider_near, with_end}
 use Rattle.np_explain.specs.declared.part.Part.{Part}
 use Rattle.np_rules.specs.PodSides.{PodSide, side_of}
+use Rattle.np_rules.specs.declared.packet.End.TheVariants.{Pod}
 
 pub of-requires-clause-says : goal.of-requires-clause-says
 of-requires-clause-says g c = says_of (side_of c.args.estate.now c.args.pod c.args.direction) _ c.in_ok-layer.layer c.in_ok-layer.ensures.layer
@@ -25,7 +26,7 @@ returns-clause-parts g c =
     let side = side_of c.args.estate.now c.args.pod c.args.direction in
     let carved = c.in_ok-entries.ensures in
     let moved : IsPermutation (map (named_part (side_of c.args.estate.now c.args.pod c.args.direction)) c.in_ok-entries.entries) c.sort_by_first.new.parts.items = subst (λ (s : PodSide). IsPermutation (map (named_part s) c.in_ok-entries.entries) c.sort_by_first.new.parts.items) c.in_ok-side.ensures (subst (λ (before : List Part). IsPermutation before c.sort_by_first.new.parts.items) c.in_ok-parts.ensures c.sort_by_first.ensures.same) in
-    subst (AreRightParts (decider_with (side_of c.args.estate.now c.args.pod c.args.direction) c.args.far c.args.family)) (sym c.from_vec.ensures)
+    subst (AreRightParts (decider_near c.args.estate.now c.args.direction (Pod c.args.pod) c.args.far c.args.family)) (sym c.from_vec.ensures)
     (right_parts side (with_end c.args.far c.args.family side) c.in_ok-layer.layer c.in_ok-entries.entries c.requires.lawful c.in_ok-layer.ensures.layer
     (record { marks = carved.marks; exact = carved.exact; distinct = carved.distinct; some_spot = carved.some_spot; well = carved.well })
     c.sort_by_first.new.parts.items moved c.sort_by_first.ensures.ordered)
