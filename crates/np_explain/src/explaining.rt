@@ -126,7 +126,7 @@ fn pod_parts<L: Ledger>(
     let entries = carve(alloc, &layer)?;
     let side = Side::of(alloc, estate, pod, direction, &layer)?;
     let mut parts = named_parts(alloc, &side, entries)?;
-    sort_by_first(&mut parts);
+    parts.sort_unstable_by_key(|part| first_number(&part.conns));
     Ok(Seq::from_vec(parts))
 }
 
@@ -173,12 +173,4 @@ fn named_parts(
         })?;
     }
     Ok(parts)
-}
-
-// Puts parts in the order of their least spots.
-fn sort_by_first(parts: &mut Vec<Part>)
-    ensures same { IsPermutation parts.old.items parts.new.items }
-    ensures ordered { IsNonDecreasingBy (λ part. first_number part.conns) parts.new.items }
-{
-    parts.sort_unstable_by_key(|part| first_number(&part.conns));
 }
