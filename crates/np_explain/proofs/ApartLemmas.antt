@@ -1,13 +1,22 @@
 -- Lists of placed rules of which no two have one name.
-use Rattle.std.proofs.Common.{◌≡◌, ◌≢◌, ℕ, ◌+◌, ◌<◌, ◌≤◌, List, [], ◌∷◌, map, Some, All, AllPairs, sym, ◌∙◌, ap, arith, inl, inr}
+use Rattle.std.proofs.Common.{◌≡◌, ◌≢◌, ℕ, ◌+◌, ◌<◌, ◌≤◌, List, [], ◌∷◌, length, map, Option, Some, All, AllPairs, sym, ◌∙◌, ap, subst, arith, inl, inr}
 use Rattle.std.specs.List.{enumerate_from, flat_map, slice_get}
+use Rattle.std.specs.Option.{option_map_or}
 use Rattle.std.proofs.lemmas.Bool.{cases_order}
 use Rattle.std.proofs.lemmas.List.Elements.{All-append, All-cons, All-head, All-nil, All-tail, All-weaker}
 use Rattle.std.proofs.lemmas.List.Kept.{AllPairs-cons}
-use Rattle.std.proofs.lemmas.Option.{get_or_from_slice_get, slice_get_within}
+use Rattle.std.proofs.lemmas.Option.{get_or_from_slice_get, slice_get_cases, slice_get_within}
 use Rattle.np_addr.proofs.Pairs.{AllPairs-append, AllPairs-head, AllPairs-nil, AllPairs-tail}
 
--- ---- places by names
+-- ---- places
+
+-- what is of the item at a place that is there
+pub at_place : {X D : Type 0} (P : D → Type 0) (give : X → D) (none : D) (items : List X) (place : ℕ) → place < length items → ((item : X) → slice_get items place ≡ Some item → P (give item)) → P (option_map_or give (slice_get items place) none)
+at_place {X} P give none items place within holds =
+    elim (slice_get_cases items place).1 [
+      | inl there ↦ subst (λ (o : Option X). P (option_map_or give o none)) (sym there.2) (holds there.0 there.2)
+      | inr past ↦ absurd (omega (arith, past.0))
+    ]
 
 -- where no two items have one name, a name tells the place
 pub place_told : {X N : Type 0} (name : X → N) (xs : List X) → AllPairs (λ x y. name x ≢ name y) xs → (p q : ℕ) (x y : X) → slice_get xs p ≡ Some x → slice_get xs q ≡ Some y → name x ≡ name y → p ≡ q

@@ -1,6 +1,7 @@
 pub mod FirstLemmas
 pub mod ApartLemmas
 pub mod NetOrderLemmas
+pub mod NoSideLemmas
 pub mod SideLemmas
 pub mod WalkLemmas
 pub mod WholeLemmas

@@ -1,11 +1,11 @@
 -- Marks stand for different deciders.
 use Rattle.std.proofs.Common.{◌≡◌, ◌≢◌, ◌⊎◌, ℕ, ◌<◌, ◌≤◌, List, length, get_or, Option, Some, None, AllPairs, refl, sym, ap, ◌∙◌, subst, inl, inr, arith}
 use Rattle.std.specs.List.{slice_get}
-use Rattle.std.specs.Option.{option_map, option_map_or}
+use Rattle.std.specs.Option.{option_map}
 use Rattle.std.proofs.lemmas.Option.{slice_get_cases}
 use Rattle.np_estate.specs.Lawful.{IsLawful}
 use Rattle.np_explain.specs.Marks.{IsMarkOf, IsPassOf, admin_rules, base_rules, mark_decider, net_rules, pass_name}
-use Rattle.np_explain.proofs.ApartLemmas.{place_told}
+use Rattle.np_explain.proofs.ApartLemmas.{at_place, place_told}
 use Rattle.np_explain.proofs.NetOrderLemmas.{admin_names_apart, base_names_apart, net_names_apart}
 use Rattle.np_rules.specs.Deciders.{admin_rule_name, base_rule_name, net_rule_name}
 use Rattle.np_rules.specs.Places.{PlacedAdminRule}
@@ -27,14 +27,6 @@ record IsAt {X : Type 0} (name : X → RuleName) (rules : List X) (rule : RuleNa
 
 one_place : {X : Type 0} (name : X → RuleName) (rules : List X) → AllPairs (λ x y. name x ≢ name y) rules → (rule : RuleName) (p q : ℕ) → IsAt name rules rule p → IsAt name rules rule q → p ≡ q
 one_place name rules apart rule p q at_p at_q = place_told name rules apart p q at_p.placed at_q.placed at_p.is at_q.is (sym at_p.named ∙ at_q.named)
-
--- what a function gives of the rule at a place that is there
-at_place : {X D : Type 0} (P : D → Type 0) (give : X → D) (none : D) (rules : List X) (place : ℕ) → place < length rules → ((placed : X) → slice_get rules place ≡ Some placed → P (give placed)) → P (option_map_or give (slice_get rules place) none)
-at_place {X} P give none rules place within holds =
-    elim (slice_get_cases rules place).1 [
-      | inl there ↦ subst (λ (o : Option X). P (option_map_or give o none)) (sym there.2) (holds there.0 there.2)
-      | inr past ↦ absurd (omega (arith, past.0))
-    ]
 
 -- ---- the decider of a mark
 

@@ -5,6 +5,7 @@ use Rattle.std.specs.Option.{option_map, option_map_or}
 use Rattle.std.proofs.lemmas.List.{map-append, take_more}
 use Rattle.std.proofs.lemmas.List.Elements.{All-cons, All-nil}
 use Rattle.std.proofs.lemmas.Option.{slice_get_cases, slice_get_read, slice_get_within}
+use Rattle.np_explain.proofs.ApartLemmas.{at_place}
 use Rattle.np_explain.specs.Marks.{KeepsNames, admin_rules, base_rules, mark_decider, net_rules, pass_name, policy_name_at}
 use Rattle.np_policies.specs.declared.admin_policy.AdminPolicy.{AdminPolicy}
 use Rattle.np_policies.specs.declared.network_policy.NetPolicy.{NetPolicy}
@@ -146,14 +147,6 @@ base_name policy id placed is named =
 
 -- ---- what is found at the places of a mark
 
--- what is of the rule at a place that is there
-of_rule : {X D : Type 0} (P : D → Type 0) (give : X → D) (none : D) (rules : List X) (place : ℕ) → place < length rules → ((placed : X) → slice_get rules place ≡ Some placed → P (give placed)) → P (option_map_or give (slice_get rules place) none)
-of_rule {X} P give none rules place within holds =
-    elim (slice_get_cases rules place).1 [
-      | inl there ↦ subst (λ (o : Option X). P (option_map_or give o none)) (sym there.2) (holds there.0 there.2)
-      | inr past ↦ absurd (omega (arith, past.0))
-    ]
-
 pub pass_found : (side : PodSide) (place : ℕ) (rule : RuleName) → place < length (admin_rules side) → ((placed : PlacedAdminRule) → slice_get (admin_rules side) place ≡ Some placed → rule ≡ admin_rule_name placed) → Some rule ≡ pass_name side (Some place)
 pass_found side place rule within named =
     elim (slice_get_cases (admin_rules side) place).1 [
@@ -163,15 +156,15 @@ pass_found side place rule within named =
 
 pub admin_found : (side : PodSide) (place : ℕ) (rule : RuleName) (allow : Bool) → place < length (admin_rules side) → ((placed : PlacedAdminRule) → slice_get (admin_rules side) place ≡ Some placed → rule ≡ admin_rule_name placed) → ((placed : PlacedAdminRule) → slice_get (admin_rules side) place ≡ Some placed → allow ≡ is_allow placed.rule.action) → decider.Admin rule allow ≡ mark_decider side (mark.Admin place)
 admin_found side place rule allow within named says =
-    of_rule (λ (d : Decider). decider.Admin rule allow ≡ d) (λ placed. decider.Admin (admin_rule_name placed) (is_allow placed.rule.action)) decider.NoSide (admin_rules side) place within
+    at_place (λ (d : Decider). decider.Admin rule allow ≡ d) (λ placed. decider.Admin (admin_rule_name placed) (is_allow placed.rule.action)) decider.NoSide (admin_rules side) place within
     (λ placed is. ap (λ r. decider.Admin r allow) (named placed is) ∙ ap (decider.Admin (admin_rule_name placed)) (says placed is))
 
 pub net_found : (side : PodSide) (met : Option ℕ) (place : ℕ) (pass : Option RuleName) (rule : RuleName) → place < length (net_rules side) → pass ≡ pass_name side met → ((placed : PlacedNetRule) → slice_get (net_rules side) place ≡ Some placed → rule ≡ net_rule_name placed) → decider.Net pass rule ≡ mark_decider side (mark.Net met place)
 net_found side met place pass rule within passed named =
-    of_rule (λ (d : Decider). decider.Net pass rule ≡ d) (λ placed. decider.Net (pass_name side met) (net_rule_name placed)) decider.NoSide (net_rules side) place within
+    at_place (λ (d : Decider). decider.Net pass rule ≡ d) (λ placed. decider.Net (pass_name side met) (net_rule_name placed)) decider.NoSide (net_rules side) place within
     (λ placed is. ap (λ p. decider.Net p rule) passed ∙ ap (decider.Net (pass_name side met)) (named placed is))
 
 pub base_found : (side : PodSide) (met : Option ℕ) (place : ℕ) (pass : Option RuleName) (rule : RuleName) (allow : Bool) → place < length (base_rules side) → pass ≡ pass_name side met → ((placed : PlacedBaseRule) → slice_get (base_rules side) place ≡ Some placed → rule ≡ base_rule_name placed) → ((placed : PlacedBaseRule) → slice_get (base_rules side) place ≡ Some placed → allow ≡ is_allow placed.rule.action) → decider.Base pass rule allow ≡ mark_decider side (mark.Base met place)
 base_found side met place pass rule allow within passed named says =
-    of_rule (λ (d : Decider). decider.Base pass rule allow ≡ d) (λ placed. decider.Base (pass_name side met) (base_rule_name placed) (is_allow placed.rule.action)) decider.NoSide (base_rules side) place within
+    at_place (λ (d : Decider). decider.Base pass rule allow ≡ d) (λ placed. decider.Base (pass_name side met) (base_rule_name placed) (is_allow placed.rule.action)) decider.NoSide (base_rules side) place within
     (λ placed is. ap (λ p. decider.Base p rule allow) passed ∙ ap (λ r. decider.Base (pass_name side met) r allow) (named placed is) ∙ ap (decider.Base (pass_name side met) (base_rule_name placed)) (says placed is))

@@ -1,5 +1,5 @@
 -- What decides the packets between two ends, at one side of them.
-use Rattle.std.specs.Prelude.{◌≡◌, Bool, false, ◌==◌}
+use Rattle.std.specs.Prelude.{◌≡◌, Bool, true, false, ◌==◌}
 use Rattle.np_addr.specs.Addresses.{family_of}
 use Rattle.np_addr.specs.declared.address.Family.{Family}
 use Rattle.np_conns.specs.declared.port_spot.PortSpot.{PortSpot}
@@ -7,7 +7,7 @@ use Rattle.np_estate.specs.declared.lists.EstateLists.{EstateLists}
 use Rattle.np_policies.specs.declared.direction.Direction.{Direction}
 use Rattle.np_policies.specs.declared.direction.Direction.TheVariants.{Ingress, Egress}
 use Rattle.np_rules.specs.Deciders.{decider}
-use Rattle.np_rules.specs.Ends.{Contact, End, Packet, contact, contact_of, pod}
+use Rattle.np_rules.specs.Ends.{Contact, End, Packet, address, contact, contact_of, pod}
 use Rattle.np_rules.specs.PodSides.{PodSide, near_pod}
 use Rattle.np_rules.specs.Verdict.{end_of}
 use Rattle.np_rules.specs.declared.decider.Decider.{Decider}
@@ -45,6 +45,10 @@ end_at Ingress packet = packet.destination
 abbrev pub placed_at : Direction → PlacedEnd → PlacedEnd → PlacedEnd
 placed_at Egress source destination = source
 placed_at Ingress source destination = destination
+
+abbrev pub is_address : End → Bool
+is_address (pod p) = false
+is_address (address a) = true
 
 -- what decides a packet at that side
 abbrev pub decider_at : EstateLists → Direction → Packet → Decider

@@ -2,9 +2,7 @@
 ghost use Rattle.std.specs.Prelude.{◌≡◌, ◌+◌, ◌≤◌, ◌<◌, false, length, map, All, IfOk, OnOk};
 ghost use Rattle.np_conns.specs.Conns.{has_spot, is_spot};
 ghost use Rattle.np_estate.specs.Lawful.{IsLawful};
-ghost use Rattle.std.specs.List.Sorted.{IsNonDecreasingBy, IsPermutation};
 ghost use Rattle.np_explain.specs.Marks.{IsMarkOf, named_part};
-ghost use Rattle.np_explain.specs.Order.{first_number};
 ghost use Rattle.np_explain.specs.Parts.{AreRightParts};
 ghost use Rattle.np_explain.specs.Sides.{IsFamilyAt, IsFamilyOf, IsFamilyWith, are_one_pod, decider_between, decider_near, placed_at, with_end};
 ghost use Rattle.np_rules.specs.Places.{end_rule_count};
@@ -28,8 +26,10 @@ use std::sync::ledger::Ledger;
 /// What decides every packet of a family from one end to another, at one side: with `Egress` at the source, with `Ingress`
 /// at the destination. There is one part for each decider that decides some protocol and port, with exactly those that it
 /// decides, in the order of the least of them: TCP, UDP, SCTP, and then by port. So the sets are disjoint, none is empty,
-/// and together they are all protocols and ports. An address has no side: at one, a single part has everything. All rules
-/// that speak of the side's pod are counted. Want of memory is the one refusal.
+/// and together they are all protocols and ports. An address has no side: at one, a single part has everything.
+///
+/// The ends are not one pod. Where an end is an address the family is its own, and that of the source where both are. All
+/// rules that speak of the side's pod are counted. Want of memory is the one refusal.
 pub fn explain<L: Ledger>(
     alloc: Global,
     estate: &Estate,

@@ -1,18 +1,19 @@
 //! What follows from the definitions. Each law is the contract of a call that does nothing.
-ghost use Rattle.std.specs.Prelude.{◌≡◌, ◌&&◌, List, [], ◌∷◌, map, filter, true, All};
+ghost use Rattle.std.specs.Prelude.{◌≡◌, ◌↔◌, ◌&&◌, IsTrue, List, [], ◌∷◌, map, filter, true, All};
 ghost use Rattle.np_addr.specs.declared.address.Family.{Family};
 ghost use Rattle.np_conns.specs.Conns.{has_spot, is_spot};
 ghost use Rattle.np_conns.specs.declared.port_spot.PortSpot.{PortSpot};
 ghost use Rattle.np_estate.specs.declared.lists.EstateLists.{EstateLists};
 ghost use Rattle.np_explain.specs.Parts.{AreRightParts};
-ghost use Rattle.np_explain.specs.Sides.{decider_at, decider_between, end_at, packet_between};
+ghost use Rattle.np_explain.specs.Sides.{decider_at, decider_between, end_at, is_address, packet_between};
 ghost use Rattle.np_explain.specs.declared.part.Part.{Part};
 ghost use Rattle.np_policies.specs.declared.direction.Direction.{Direction};
 ghost use Rattle.np_policies.specs.declared.direction.Direction.TheVariants.{Ingress, Egress};
-ghost use Rattle.np_rules.specs.Deciders.{decider_allows};
-ghost use Rattle.np_rules.specs.Ends.{Packet, contact_of};
+ghost use Rattle.np_rules.specs.Deciders.{decider, decider_allows};
+ghost use Rattle.np_rules.specs.Ends.{Contact, End as RuleEnd, Packet, contact_of};
 ghost use Rattle.np_rules.specs.Verdict.{allows, end_allows};
 ghost use Rattle.np_rules.specs.declared.decider.Decider.{Decider};
+ghost use Rattle.np_rules.specs.declared.decider.Decider.TheVariants.{NoSide};
 ghost use Rattle.np_rules.specs.declared.packet.End.{End};
 
 /// At most one list of parts is right for what decides each spot.
@@ -41,4 +42,10 @@ pub fn parts_give_the_verdict()
 pub fn both_sides_give_the_verdict()
     ensures { (lists : EstateLists) (packet : Packet) → allows lists packet
         ≡ (decider_allows (decider_at lists Egress packet) && decider_allows (decider_at lists Ingress packet)) }
+{}
+
+/// A packet has no side at an end exactly where the end is an address.
+pub fn only_addresses_have_no_side()
+    ensures { (lists : EstateLists) (direction : Direction) (end : RuleEnd) (contact : Contact) →
+        IsTrue (is_address end) ↔ (decider lists direction end contact ≡ NoSide) }
 {}
