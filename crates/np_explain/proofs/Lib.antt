@@ -1,10 +1,10 @@
 pub mod FirstLemmas
-pub mod ApartLemmas
-pub mod NetOrderLemmas
+pub mod MarkLemmas
 pub mod NoSideLemmas
+pub mod OneListLemmas
+pub mod PartLemmas
+pub mod PlaceLemmas
+pub mod RuleLemmas
 pub mod SideLemmas
 pub mod WalkLemmas
 pub mod WholeLemmas
-pub mod MarkLemmas
-pub mod PartLemmas
-pub mod OneListLemmas

@@ -5,8 +5,8 @@ use Rattle.std.specs.Option.{option_map}
 use Rattle.std.proofs.lemmas.Option.{slice_get_cases}
 use Rattle.np_estate.specs.Lawful.{IsLawful}
 use Rattle.np_explain.specs.Marks.{IsMarkOf, IsPassOf, admin_rules, base_rules, mark_decider, net_rules, pass_name}
-use Rattle.np_explain.proofs.ApartLemmas.{at_place, place_told}
-use Rattle.np_explain.proofs.NetOrderLemmas.{admin_names_apart, base_names_apart, net_names_apart}
+use Rattle.np_explain.proofs.PlaceLemmas.{at_place, place_told}
+use Rattle.np_explain.proofs.RuleLemmas.{admin_names_apart, base_names_apart, net_names_apart}
 use Rattle.np_rules.specs.Deciders.{admin_rule_name, base_rule_name, net_rule_name}
 use Rattle.np_rules.specs.Places.{PlacedAdminRule}
 use Rattle.np_rules.specs.PodSides.{PodSide, near_pod}

@@ -7,7 +7,7 @@ use Rattle.np_conns.specs.Conns.{Conns, has_spot, is_spot}
 use Rattle.np_conns.specs.declared.port_spot.PortSpot.{PortSpot}
 use Rattle.np_estate.specs.Lawful.{IsLawful}
 use Rattle.np_explain.specs.Marks.{IsMarkOf, IsPassOf, SaysActions, admin_rules, base_rules, mark_decider, net_rules, pass_name}
-use Rattle.np_explain.proofs.NetOrderLemmas.{net_decider_is_first}
+use Rattle.np_explain.proofs.RuleLemmas.{net_decider_is_first}
 use Rattle.np_policies.specs.declared.admin_policy.Action.{Action}
 use Rattle.np_policies.specs.declared.admin_policy.Action.TheVariants as policy
 use Rattle.np_rules.proofs.AdminTierLemmas.{decider_is_first}

@@ -22,7 +22,7 @@ use Rattle.np_rules.specs.Places.{PlacedAdminRule, PlacedNetRule, admin_places, 
 use Rattle.np_rules.specs.Selection.{net_selects, subject_selects}
 use Rattle.np_rules.specs.declared.decider.RuleName.{RuleName}
 use Rattle.np_rules.proofs.AdminTierLemmas.{IsInOrder, least_is_first}
-use Rattle.np_explain.proofs.ApartLemmas.{all_made, numbered_pairs, pairs_flat}
+use Rattle.np_explain.proofs.PlaceLemmas.{all_made, numbered_pairs, pairs_flat}
 
 -- what relates two items of which the same holds
 pairs_with : {X : Type 0} (P : X → Type 0) (S R : X → X → Type 0) → ((x y : X) → P x → P y → S x y → R x y) → (xs : List X) → All P xs → AllPairs S xs → AllPairs R xs
