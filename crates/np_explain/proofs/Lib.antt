@@ -1,0 +1,10 @@
+pub mod FirstLemmas
+pub mod MarkLemmas
+pub mod NoSideLemmas
+pub mod OneListLemmas
+pub mod PartLemmas
+pub mod PlaceLemmas
+pub mod RuleLemmas
+pub mod SideLemmas
+pub mod WalkLemmas
+pub mod WholeLemmas

@@ -1,0 +1,5 @@
+pub mod DeciderText
+pub mod Marks
+pub mod Order
+pub mod Parts
+pub mod Sides
