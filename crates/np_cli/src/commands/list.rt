@@ -98,9 +98,15 @@ pub(super) fn list<O: Sink, L: Ledger>(
     let focus = Focus::new(query, keep);
     let mut rows = ClusterRows::of(alloc, folded, asked.controller)?;
     match format {
-        Format::Plain => write_rows::<TextForm, O, L>(alloc, folded, &mut rows, &focus, report, out, steps),
-        Format::Csv => write_rows::<CsvForm, O, L>(alloc, folded, &mut rows, &focus, report, out, steps),
-        Format::Json => write_rows::<JsonForm, O, L>(alloc, folded, &mut rows, &focus, report, out, steps),
+        Format::Plain => write_rows::<TextForm, O, L>(
+            alloc, folded, &mut rows, &focus, report, out, steps,
+        ),
+        Format::Csv => write_rows::<CsvForm, O, L>(
+            alloc, folded, &mut rows, &focus, report, out, steps,
+        ),
+        Format::Json => write_rows::<JsonForm, O, L>(
+            alloc, folded, &mut rows, &focus, report, out, steps,
+        ),
     }
 }
 

@@ -1,4 +1,4 @@
-use Rattle.std.proofs.Common.{◌≡◌, [], ◌∷◌, ap, arith, refl, subst, ◌∙◌}
+use Rattle.std.proofs.Common.{◌≡◌, [], ◌∷◌, ap, arith, subst, ◌∙◌}
 use Rattle.std.proofs.lemmas.Result.{err_from_is_err_and}
 use Rattle.np_cli.proofs.RowsLemmas.{HasLeft, HasLeft-all, HasLeft-fault, HasLeft-finish, HasLeft-finish_fault, HasLeft-last, HasLeft-next, none_given, rows_to_come-next}
 use Rattle.np_cli.proofs.commands.list.write_rows.Goals as goal
