@@ -1,0 +1,23 @@
+//! What a pod that nobody has written yet could reach, and be reached by.
+//!
+//! Such a pod has any namespace, any labels of it under which `kubernetes.io/metadata.name` is its name, and any labels of
+//! its own. What the side of a listed pod allows it is the same for all that meet the same requirements, and a list of
+//! rows says for which requirements it is what.
+#![tactic(auto)]
+
+mod exposure_fault;
+mod exposure_row;
+mod labels;
+mod mentions;
+mod peer_text;
+mod requirements;
+mod side;
+mod sided_requirement;
+mod weights;
+
+pub use exposure_fault::ExposureFault;
+pub use exposure_row::ExposureRow;
+pub use peer_text::print_peer;
+pub use side::Side;
+pub use sided_requirement::SidedRequirement;
+pub use weights::weight;
