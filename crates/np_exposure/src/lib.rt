@@ -5,18 +5,28 @@
 //! rows says for which requirements it is what.
 #![tactic(auto)]
 
+mod choices;
 mod exposure_fault;
 mod exposure_row;
+mod exposures;
+mod label;
 mod labels;
 mod mentions;
+mod open_row;
 mod peer_text;
+mod pending;
 mod requirements;
+mod same;
 mod side;
 mod sided_requirement;
+mod step;
+mod walk;
 mod weights;
+mod witness;
 
 pub use exposure_fault::ExposureFault;
 pub use exposure_row::ExposureRow;
+pub use exposures::exposure;
 pub use peer_text::print_peer;
 pub use side::Side;
 pub use sided_requirement::SidedRequirement;

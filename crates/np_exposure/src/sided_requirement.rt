@@ -1,8 +1,11 @@
 //! A requirement on the labels of a pod or of its namespace.
+ghost use Rattle.std.specs.Prelude.{◌≡◌};
+ghost use Rattle.std.specs.Option.{option_map};
+ghost use Rattle.np_labels.specs.Selectors.{allows, is_listed};
 
 use crate::side::Side;
 use np_base::{NoMemory, TryCopy};
-use np_labels::Requirement;
+use np_labels::{Op, Requirement};
 use np_rules::Stranger;
 use std::alloc::Global;
 
@@ -15,9 +18,11 @@ pub struct SidedRequirement {
 
 impl SidedRequirement {
     ghost use Rattle.std.specs.Prelude.{◌≡◌};
+    ghost use Rattle.std.specs.Option.{option_map};
     ghost use Rattle.np_exposure.specs.Mentions as mentions;
     ghost use Rattle.np_exposure.specs.Strangers as strangers;
     ghost use Rattle.np_exposure.specs.Weight as weight;
+    ghost use Rattle.np_exposure.specs.steps.Choices as choices;
 
     /// Whether a stranger meets it.
     pub fn meets(&self, stranger: &Stranger) -> bool
@@ -45,6 +50,17 @@ impl SidedRequirement {
     {
         self.side == side && self.requirement.key.as_str() == key
     }
+
+    /// Whether what is found at its key is as wanted: the requirement is met, or it is missed.
+    pub(crate) fn suits(&self, found: Option<&str>, wanted: bool) -> bool
+        ensures { result ≡ choices.as_wanted wanted (choices.allows_found self.now (option_map (λ value. value.now) found.entry)) }
+    {
+        if wanted {
+            allows(&self.requirement, found)
+        } else {
+            !allows(&self.requirement, found)
+        }
+    }
 }
 
 impl TryCopy for SidedRequirement {
@@ -54,4 +70,27 @@ impl TryCopy for SidedRequirement {
             requirement: self.requirement.try_copy(alloc)?,
         })
     }
+}
+
+// Whether the value that a key has, or that it has none, is as a requirement asks.
+fn allows(requirement: &Requirement, found: Option<&str>) -> bool
+    ensures { result ≡ allows requirement.now.op requirement.now.values (option_map (λ value. value.now) found.entry) }
+{
+    match requirement.op {
+        Op::OneOf => found.is_some_and(|value| lists(requirement, value)),
+        Op::NoneOf => !found.is_some_and(|value| lists(requirement, value)),
+        Op::Present => found.is_some(),
+        Op::Absent => found.is_none(),
+    }
+}
+
+// Whether a value is one of the listed ones. It is looked up by halves.
+fn lists(requirement: &Requirement, value: &str) -> bool
+    ensures { result ≡ is_listed requirement.now.values value.now }
+{
+    requirement
+        .values
+        .items()
+        .binary_search_by(|listed| listed.as_str().cmp(value))
+        .is_ok()
 }
