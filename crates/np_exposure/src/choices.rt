@@ -75,9 +75,12 @@ impl<'a> KeyChoices<'a> {
         ensures { result ≡ list_any (spec.suits wanted asked.now self.now) self.now.found }
     {
         let looks = asked.looks_at(self.side, self.key);
-        self.found
-            .iter()
-            .any(|found| !looks || asked.suits(*found, wanted))
+        for choice in &self.found {
+            if asked.suits(looks, *choice, wanted) {
+                return true;
+            }
+        }
+        false
     }
 
     /// The choices that are as wanted.
@@ -92,7 +95,7 @@ impl<'a> KeyChoices<'a> {
         let looks = asked.looks_at(self.side, self.key);
         let mut found = Vec::new(alloc);
         for choice in &self.found {
-            if !looks || asked.suits(*choice, wanted) {
+            if asked.suits(looks, *choice, wanted) {
                 found.push(*choice)?;
             }
         }

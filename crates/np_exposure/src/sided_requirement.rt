@@ -17,7 +17,7 @@ pub struct SidedRequirement {
 }
 
 impl SidedRequirement {
-    ghost use Rattle.std.specs.Prelude.{◌≡◌};
+    ghost use Rattle.std.specs.Prelude.{◌≡◌, not, ◌||◌};
     ghost use Rattle.std.specs.Option.{option_map};
     ghost use Rattle.np_exposure.specs.Mentions as mentions;
     ghost use Rattle.np_exposure.specs.Strangers as strangers;
@@ -51,15 +51,11 @@ impl SidedRequirement {
         self.side == side && self.requirement.key.as_str() == key
     }
 
-    /// Whether what is found at its key is as wanted: the requirement is met, or it is missed.
-    pub(crate) fn suits(&self, found: Option<&str>, wanted: bool) -> bool
-        ensures { result ≡ choices.as_wanted wanted (choices.allows_found self.now (option_map (λ value. value.now) found.entry)) }
+    /// Whether what is found at a key is as wanted, the requirement met or missed, where it looks at that key.
+    pub(crate) fn suits(&self, looks: bool, found: Option<&str>, wanted: bool) -> bool
+        ensures { result ≡ (not looks || choices.as_wanted wanted (choices.allows_found self.now (option_map (λ value. value.now) found.entry))) }
     {
-        if wanted {
-            allows(&self.requirement, found)
-        } else {
-            !allows(&self.requirement, found)
-        }
+        !looks || allows(&self.requirement, found) == wanted
     }
 }
 

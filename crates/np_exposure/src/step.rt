@@ -35,7 +35,9 @@ pub(crate) fn next_step<'a>(
     ensures next { IfOk result (λ made. IsState made.next.items) }
     ensures aside { IfOk result (λ made. IfSome made.aside (λ aside. IsState aside.state.items)) }
 {
-    if !can_be(&state, asked, true) || !can_be(&state, asked, false) {
+    let can_meet = can_be(&state, asked, true);
+    let can_miss = can_be(&state, asked, false);
+    if !(can_meet & can_miss) {
         return Ok(Step {
             next: state,
             aside: None,
