@@ -5,3 +5,8 @@ pub mod StateLemmas
 pub mod FillLemmas
 pub mod WitnessLemmas
 pub mod WalkLemmas
+pub mod ListLemmas
+pub mod ExposureLemmas
+pub mod FirstLemmas
+pub mod StandsLemmas
+pub mod BeginLemmas

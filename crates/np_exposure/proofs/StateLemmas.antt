@@ -128,9 +128,10 @@ module _ (wanted : Bool) (asked : SidedRequirement) where
       let away = and_parts (are_apart here choices) (list_all (are_apart here) state) apart in
       let some = and_parts (has_choice choices) (is_open state) «open» in
       let elsewhere : looks_at choices.side choices.key asked ≡ false = by (looks_at choices.side choices.key asked) refl away.0 in
-      let rest = all-elsewhere here state looks away.1 some.1 in
-      (and_from _ (can_be wanted asked state) (can-elsewhere choices some.0 elsewhere) rest.0,
-      ap (λ (c : Choices). c ∷ state) (same-elsewhere choices elsewhere) ∙ ap (λ (all : List Choices). narrowed_at wanted asked choices ∷ all) rest.1)
+      let rest = all-elsewhere here state looks away.1 some.1 in (
+        and_from _ (can_be wanted asked state) (can-elsewhere choices some.0 elsewhere) rest.0,
+        ap (λ (c : Choices). c ∷ state) (same-elsewhere choices elsewhere) ∙ ap (λ (all : List Choices). narrowed_at wanted asked choices ∷ all) rest.1,
+      )
     where
       by : (b : Bool) → looks_at choices.side choices.key asked ≡ b → are_apart here choices ≡ true → b ≡ false
       by true is away = absurd (looks-both asked here choices looks is away)
@@ -147,7 +148,7 @@ module _ (wanted : Bool) (asked : SidedRequirement) where
   -- a requirement that cannot be otherwise is as wanted, and leaves all choices
   pub only-wanted : (state : List Choices) → is_open state ≡ true → is_apart state ≡ true → can_be (not wanted) asked state ≡ false → (can_be wanted asked state ≡ true) × (state ≡ narrowed wanted asked state)
   only-wanted [] «open» apart none = absurd (true≢false none)
-  only-wanted (choices ∷ state) «open» apart none = 
+  only-wanted (choices ∷ state) «open» apart none =
       by (looks_at choices.side choices.key asked) refl (only-wanted state (and_parts (has_choice choices) (is_open state) «open»).1 (and_parts (list_all (are_apart choices) state) (is_apart state) apart).1)
     where
       some : (has_choice choices ≡ true) × (is_open state ≡ true)
@@ -160,13 +161,15 @@ module _ (wanted : Bool) (asked : SidedRequirement) where
           → (can_be wanted asked (choices ∷ state) ≡ true) × (choices ∷ state ≡ narrowed wanted asked (choices ∷ state))
       by true looks rest =
           let others = all-elsewhere wanted asked choices state looks away.0 some.1 in
-          let every = none-here wanted asked choices choices.found looks (left-false _ _ none (all-elsewhere (not wanted) asked choices state looks away.0 some.1).0) in
-          (and_from _ (can_be wanted asked state) (any-every (suits wanted asked choices) choices.found some.0 every) others.0,
-          ap (λ (c : Choices). c ∷ state) (ap (λ (found : List (Option (List ℕ))). record choices { found = found }) (filter-every (suits wanted asked choices) choices.found every)) ∙ ap (λ (all : List Choices). narrowed_at wanted asked choices ∷ all) others.1)
+          let every = none-here wanted asked choices choices.found looks (left-false _ _ none (all-elsewhere (not wanted) asked choices state looks away.0 some.1).0) in (
+            and_from _ (can_be wanted asked state) (any-every (suits wanted asked choices) choices.found some.0 every) others.0,
+            ap (λ (c : Choices). c ∷ state) (ap (λ (found : List (Option (List ℕ))). record choices { found = found }) (filter-every (suits wanted asked choices) choices.found every)) ∙ ap (λ (all : List Choices). narrowed_at wanted asked choices ∷ all) others.1,
+          )
       by false elsewhere rest =
-          let more = rest (right-false _ _ none (can-elsewhere (not wanted) asked choices some.0 elsewhere)) in
-          (and_from _ (can_be wanted asked state) (can-elsewhere wanted asked choices some.0 elsewhere) more.0,
-          ap (λ (c : Choices). c ∷ state) (same-elsewhere wanted asked choices elsewhere) ∙ ap (λ (all : List Choices). narrowed_at wanted asked choices ∷ all) more.1)
+          let more = rest (right-false _ _ none (can-elsewhere (not wanted) asked choices some.0 elsewhere)) in (
+            and_from _ (can_be wanted asked state) (can-elsewhere wanted asked choices some.0 elsewhere) more.0,
+            ap (λ (c : Choices). c ∷ state) (same-elsewhere wanted asked choices elsewhere) ∙ ap (λ (all : List Choices). narrowed_at wanted asked choices ∷ all) more.1,
+          )
 
 -- ---- a step
 

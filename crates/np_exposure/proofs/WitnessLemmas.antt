@@ -66,12 +66,13 @@ HasFirst side labels choices = same_side choices.side side ≡ true → last_val
 later-first : (side : Side) (here : Choices) (labels : List Pair) (state : List Choices) → list_all (are_apart here) state ≡ true → AllByRecursion (HasFirst side labels) state → AllByRecursion (HasFirst side (first_label side here ++ labels)) state
 later-first side here labels [] apart all = tt
 later-first side here labels (choices ∷ state) apart all =
-    let parts = and_parts (are_apart here choices) (list_all (are_apart here) state) apart in
-    (λ of.
-    last-append (first_label side here) labels choices.key
-    ∙ ap (λ (found : Option (List ℕ)). option_or found (last_value_of (first_label side here) choices.key)) (all.0 of)
-    ∙ by (first_found choices.found) (same_side here.side side) refl (bytes_eq here.key choices.key) refl of parts.0,
-    later-first side here labels state parts.1 all.1)
+    let parts = and_parts (are_apart here choices) (list_all (are_apart here) state) apart in (
+      λ of.
+          last-append (first_label side here) labels choices.key
+          ∙ ap (λ (found : Option (List ℕ)). option_or found (last_value_of (first_label side here) choices.key)) (all.0 of)
+          ∙ by (first_found choices.found) (same_side here.side side) refl (bytes_eq here.key choices.key) refl of parts.0,
+      later-first side here labels state parts.1 all.1,
+    )
   where
     by : (found : Option (List ℕ)) (b : Bool) → same_side here.side side ≡ b → (k : Bool) → bytes_eq here.key choices.key ≡ k → same_side choices.side side ≡ true → are_apart here choices ≡ true
         → option_or found (last_value_of (label_if here.key (cond b (first_found here.found) None)) choices.key) ≡ found
@@ -86,13 +87,14 @@ later-first side here labels (choices ∷ state) apart all =
 all-first : (side : Side) (state : List Choices) → is_apart state ≡ true → AllByRecursion (HasFirst side (flat_map (first_label side) state)) state
 all-first side [] apart = tt
 all-first side (choices ∷ state) apart =
-    let parts = and_parts (list_all (are_apart choices) state) (is_apart state) apart in
-    (λ of.
-    last-append (first_label side choices) (flat_map (first_label side) state) choices.key
-    ∙ ap (λ (found : Option (List ℕ)). option_or found (last_value_of (first_label side choices) choices.key)) (none-last side choices state of parts.0)
-    ∙ ap (λ b. last_value_of (label_if choices.key (cond b (first_found choices.found) None)) choices.key) of
-    ∙ last-label_if choices.key (first_found choices.found),
-    later-first side choices (flat_map (first_label side) state) state parts.0 (all-first side state parts.1))
+    let parts = and_parts (list_all (are_apart choices) state) (is_apart state) apart in (
+      λ of.
+          last-append (first_label side choices) (flat_map (first_label side) state) choices.key
+          ∙ ap (λ (found : Option (List ℕ)). option_or found (last_value_of (first_label side choices) choices.key)) (none-last side choices state of parts.0)
+          ∙ ap (λ b. last_value_of (label_if choices.key (cond b (first_found choices.found) None)) choices.key) of
+          ∙ last-label_if choices.key (first_found choices.found),
+      later-first side choices (flat_map (first_label side) state) state parts.0 (all-first side state parts.1),
+    )
 
 -- ---- the witness
 
@@ -113,9 +115,8 @@ named-found (None ∷ found) key false same some all =
     no-label_if (codes "kubernetes.io/metadata.name") key (Some (codes "a")) (nat_list_eq_equiv.symm (codes "kubernetes.io/metadata.name") key ∙ sym same)
 
 module _ (state : List Choices) (s : Stranger) (is : IsState state)
-  (namespaces : (key : List ℕ) → value_of s.namespace key ≡ last_value_of (named ++ flat_map (first_label Namespace) state) key)
-  (pods : (key : List ℕ) → value_of s.labels key ≡ last_value_of (flat_map (first_label Pod) state) key) where
-
+    (namespaces : (key : List ℕ) → value_of s.namespace key ≡ last_value_of (named ++ flat_map (first_label Namespace) state) key)
+    (pods : (key : List ℕ) → value_of s.labels key ≡ last_value_of (flat_map (first_label Pod) state) key) where
   some-or : (found : Option (List ℕ)) (value : List ℕ) → is_some (option_or found (Some value)) ≡ true
   some-or None value = refl
   some-or (Some other) value = refl

@@ -9,8 +9,8 @@ loop-first-preserved-in_ok-push g t c = record {
   state = c.in_ok-next.ensures.next;
   shorter = omega (arith, c.in-Some.ensures.cases.1);
   filled =
-    filled-joined c.args.rules.now c.in-Some.first.now c.loop-first.left.now c.in-Some.rest.now c.loop-first.state.items c.in_ok-next.field-0.next.items c.loop-first.pending.items _
-    c.in-Some.ensures.cases.0 c.loop-first.invariant.filled c.in_ok-next.field-0.aside c.in-Some-aside.aside _ c.push.new.self.items c.in-Some-aside.is c.in_ok-next.ensures.step c.in_ok-push.ensures.items refl refl c.in_ok-rows.ensures;
+      filled-joined c.args.rules.now c.in-Some.first.now c.loop-first.left.now c.in-Some.rest.now c.loop-first.state.items c.in_ok-next.field-0.next.items c.loop-first.pending.items _
+      c.in-Some.ensures.cases.0 c.loop-first.invariant.filled c.in_ok-next.field-0.aside c.in-Some-aside.aside _ c.push.new.self.items c.in-Some-aside.is c.in_ok-next.ensures.step c.in_ok-push.ensures.items refl refl c.in_ok-rows.ensures;
 }
 
 pub loop-first-preserved : goal.loop-first-preserved
@@ -18,8 +18,8 @@ loop-first-preserved g t c = record {
   state = c.in_ok-next.ensures.next;
   shorter = omega (arith, c.in-Some.ensures.cases.1);
   filled =
-    filled-alone c.args.rules.now c.in-Some.first.now c.loop-first.left.now c.in-Some.rest.now c.loop-first.state.items c.in_ok-next.field-0.next.items c.loop-first.pending.items _
-    c.in-Some.ensures.cases.0 c.loop-first.invariant.filled c.in_ok-next.field-0.aside c.in_default-aside.is c.in_ok-next.ensures.step;
+      filled-alone c.args.rules.now c.in-Some.first.now c.loop-first.left.now c.in-Some.rest.now c.loop-first.state.items c.in_ok-next.field-0.next.items c.loop-first.pending.items _
+      c.in-Some.ensures.cases.0 c.loop-first.invariant.filled c.in_ok-next.field-0.aside c.in_default-aside.is c.in_ok-next.ensures.step;
 }
 
 pub returns : goal.returns
