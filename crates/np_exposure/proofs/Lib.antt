@@ -10,3 +10,5 @@ pub mod ExposureLemmas
 pub mod FirstLemmas
 pub mod StandsLemmas
 pub mod BeginLemmas
+pub mod RightLemmas
+pub mod FewLemmas

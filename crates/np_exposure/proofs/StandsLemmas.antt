@@ -62,6 +62,9 @@ meets-answered : (wanted : Bool) (asked : SidedRequirement) (s : Stranger) → m
 meets-answered true asked s = refl
 meets-answered false asked s = allows-opposite asked.requirement.op asked.requirement.values (value_of (labels_at asked.side s) asked.requirement.key)
 
+pub meets-negated : (asked : SidedRequirement) (s : Stranger) → meets (negated asked) s ≡ not (meets asked s)
+meets-negated asked s = meets-answered false asked s
+
 -- what a stranger has at the key of a requirement that looks there
 pub meets-found : (asked : SidedRequirement) (choices : Choices) (s : Stranger) → looks_at choices.side choices.key asked ≡ true → meets asked s ≡ allows_found asked (value_of (labels_at choices.side s) choices.key)
 meets-found asked choices s looks =

@@ -11,6 +11,7 @@ mod exposure_row;
 mod exposures;
 mod label;
 mod labels;
+mod laws;
 mod mentions;
 mod open_row;
 mod peer_text;
@@ -27,6 +28,10 @@ mod witness;
 pub use exposure_fault::ExposureFault;
 pub use exposure_row::ExposureRow;
 pub use exposures::exposure;
+pub use laws::{
+    alike_strangers_have_one_exposure, each_row_is_first_for_some, first_row_tells,
+    one_list_of_rows, rows_are_few,
+};
 pub use peer_text::print_peer;
 pub use side::Side;
 pub use sided_requirement::SidedRequirement;
