@@ -12,3 +12,4 @@ pub mod StandsLemmas
 pub mod BeginLemmas
 pub mod RightLemmas
 pub mod FewLemmas
+pub mod PeerLemmas

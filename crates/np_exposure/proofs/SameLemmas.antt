@@ -66,7 +66,7 @@ same_op-refl Absent = refl
 texts_decide : (xs ys : List (List ℕ)) → (pointwise bytes_eq xs ys ≡ true → xs ≡ ys) × (xs ≡ ys → pointwise bytes_eq xs ys ≡ true)
 texts_decide = pointwise_decides bytes_decides
 
-sided-equal : (a b : SidedRequirement) → a.side ≡ b.side → a.requirement ≡ b.requirement → a ≡ b
+pub sided-equal : (a b : SidedRequirement) → a.side ≡ b.side → a.requirement ≡ b.requirement → a ≡ b
 sided-equal a b side requirement = ap (λ (s : Side). record { side = s; requirement = a.requirement }) side ∙ ap (λ (r : Requirement). record { side = b.side; requirement = r }) requirement
 
 -- the test tells equal requirements

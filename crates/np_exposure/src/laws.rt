@@ -3,11 +3,13 @@ ghost use Rattle.std.specs.Prelude.{◌≡◌, ◌≤◌, List, length, true};
 ghost use Rattle.std.specs.List.{AllByRecursion};
 ghost use Rattle.np_conns.specs.declared.port_spot.PortSpot.{PortSpot};
 ghost use Rattle.np_exposure.specs.Mentions.{mentions};
+ghost use Rattle.np_exposure.specs.PeerText.{are_well, peer_text};
 ghost use Rattle.np_exposure.specs.Right.{FirstRowTells, IsEachFirst};
 ghost use Rattle.np_exposure.specs.Strangers.{exposes, is_hypothetical, meets};
 ghost use Rattle.np_exposure.specs.Tree.{AreRowsOf};
 ghost use Rattle.np_exposure.specs.Weight.{weight};
 ghost use Rattle.np_exposure.specs.declared.exposure_row.ExposureRow.{ExposureRow};
+ghost use Rattle.np_exposure.specs.declared.sided_requirement.SidedRequirement.{SidedRequirement};
 ghost use Rattle.np_rules.specs.PodSides.{PodSide};
 ghost use Rattle.np_rules.specs.declared.stranger.Stranger.{Stranger};
 
@@ -36,4 +38,11 @@ pub fn each_row_is_first_for_some()
 /// There are at most as many rows as the weight.
 pub fn rows_are_few()
     ensures { (side : PodSide) (rows : List ExposureRow) → AreRowsOf side rows → length rows ≤ weight (mentions side) }
+{}
+
+/// The text of requirements that are as the policies have them that are read belongs to no other list of such
+/// requirements.
+pub fn one_text_has_one_peer()
+    ensures { (requirements others : List SidedRequirement) → are_well requirements ≡ true → are_well others ≡ true →
+        peer_text requirements ≡ peer_text others → requirements ≡ others }
 {}
