@@ -7,6 +7,7 @@ use np_base::NoMemory;
 use np_conns::print_conns;
 use np_estate::Estate;
 use np_explain::{explain, print_decider};
+use np_exposure::{ExposureFault, ExposureRow, exposure, print_peer, weight};
 use np_fold::Folded;
 use np_policies::Direction;
 use np_routes::{ingress_set, route_notes};
@@ -28,6 +29,10 @@ pub enum Question {
     Flaws,
     /// A line for each part of what decides between two pods at a side, over IPv4.
     Explained(u32, u32, Direction),
+    /// A line for each row of the exposure of a pod.
+    Exposed(u32, Direction),
+    /// How many patterns the requirements that are mentioned at a pod may tell apart.
+    Weight(u32, Direction),
 }
 
 /// Stops the test unless a list of these items gives these answers.
@@ -78,6 +83,10 @@ fn counted_answer<L: Ledger>(
         Question::Explained(source, destination, direction) => {
             explained_text(alloc, folded, source, destination, direction, &mut steps)
         }
+        Question::Exposed(pod, direction) => {
+            exposed_text(alloc, folded.estate(), pod, direction, &mut steps)
+        }
+        Question::Weight(pod, direction) => weight_text(alloc, folded.estate(), pod, direction),
     }
 }
 
@@ -130,4 +139,49 @@ fn explained_text<L: Ledger>(
         text.push_str(format!(in alloc; "{conns} : {decider}\n")?.as_str())?;
     }
     Ok(text)
+}
+
+// The rows of the exposure of a pod, or why there are none.
+fn exposed_text<L: Ledger>(
+    alloc: Global,
+    estate: &Estate,
+    pod: u32,
+    direction: Direction,
+    steps: &mut Steps<L>,
+) -> Result<String, NoMemory> {
+    if pod as usize >= estate.pods().len() {
+        return Ok(String::from_str(alloc, "no such pod")?);
+    }
+    match exposure(alloc, estate, pod, direction, steps) {
+        Ok(rows) => rows_text(alloc, rows.items()),
+        Err(ExposureFault::TooManyPatterns { weight }) => {
+            Ok(format!(in alloc; "TooManyPatterns {weight}")?)
+        }
+        Err(ExposureFault::NoMemory) => Err(NoMemory),
+    }
+}
+
+// Rows of an exposure.
+fn rows_text(alloc: Global, rows: &[ExposureRow]) -> Result<String, NoMemory> {
+    let mut text = String::new(alloc);
+    for row in rows {
+        let peer = print_peer(alloc, row)?;
+        let conns = print_conns(alloc, &row.conns)?;
+        text.push_str(format!(in alloc; "{peer} : {conns}\n")?.as_str())?;
+    }
+    Ok(text)
+}
+
+// How many patterns there may be.
+fn weight_text(
+    alloc: Global,
+    estate: &Estate,
+    pod: u32,
+    direction: Direction,
+) -> Result<String, NoMemory> {
+    if pod as usize >= estate.pods().len() {
+        return Ok(String::from_str(alloc, "no such pod")?);
+    }
+    let weight = weight(alloc, estate, pod, direction)?;
+    Ok(format!(in alloc; "{weight}")?)
 }

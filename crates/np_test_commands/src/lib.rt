@@ -6,4 +6,6 @@ mod asked;
 #[cfg(test)]
 mod explained;
 #[cfg(test)]
+mod exposed;
+#[cfg(test)]
 mod routed;
