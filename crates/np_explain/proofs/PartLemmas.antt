@@ -58,7 +58,7 @@ parts_more side before made entry rest left decider all is decides pushed so_far
     ap with_others pushed ∙ append_assoc before (record { decider = decider; conns = entry.set } ∷ []) others ∙ ap of_decider decides ∙ sym (ap after is) ∙ so_far
 
 -- related images of related items
-AllPairs-map : {X Y : Type 0} (R : Y → Y → Type 0) (f : X → Y) (xs : List X) → AllPairs (λ a b. R (f a) (f b)) xs → AllPairs R (map f xs)
+pub AllPairs-map : {X Y : Type 0} (R : Y → Y → Type 0) (f : X → Y) (xs : List X) → AllPairs (λ a b. R (f a) (f b)) xs → AllPairs R (map f xs)
 AllPairs-map {X} {Y} R f xs pairs i j d earlier within = read (rw length-map at within)
   where
     read : j < length xs → R (get_or (map f xs) i d) (get_or (map f xs) j d)

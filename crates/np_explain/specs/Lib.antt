@@ -2,4 +2,5 @@ pub mod DeciderText
 pub mod Marks
 pub mod Order
 pub mod Parts
+pub mod RightParts
 pub mod Sides

@@ -4,6 +4,7 @@ ghost use Rattle.np_conns.specs.Conns.{has_spot, is_spot};
 ghost use Rattle.np_estate.specs.Lawful.{IsLawful};
 ghost use Rattle.np_explain.specs.Marks.{IsMarkOf, named_part};
 ghost use Rattle.np_explain.specs.Parts.{AreRightParts};
+ghost use Rattle.np_explain.specs.RightParts.{parts_of};
 ghost use Rattle.np_explain.specs.Sides.{IsFamilyAt, IsFamilyOf, IsFamilyWith, are_one_pod, decider_between, decider_near, placed_at, with_end};
 ghost use Rattle.np_rules.specs.Places.{end_rule_count};
 ghost use Rattle.np_rules.specs.PodSides.{IsSideLayer, side_of, side_rule_count};
@@ -45,6 +46,7 @@ pub fn explain<L: Ledger>(
     requires apart { are_one_pod source destination ≡ false }
     requires family { IsFamilyOf source destination family }
     ensures parts { IfOk result (AreRightParts (decider_between estate.now direction source destination family)) }
+    ensures list { IfOk result (λ parts. parts ≡ parts_of (decider_between estate.now direction source destination family)) }
     ensures cost { OnOk result (steps.new
         ≡ steps.old + end_rule_count estate.now direction (end_of estate.now (placed_at direction source destination))) }
     ensures least { steps.old ≤ steps.new }

@@ -5,6 +5,7 @@ ghost use Rattle.np_conns.specs.Conns.{has_spot, is_spot};
 ghost use Rattle.np_conns.specs.declared.port_spot.PortSpot.{PortSpot};
 ghost use Rattle.np_estate.specs.declared.lists.EstateLists.{EstateLists};
 ghost use Rattle.np_explain.specs.Parts.{AreRightParts};
+ghost use Rattle.np_explain.specs.RightParts.{parts_of};
 ghost use Rattle.np_explain.specs.Sides.{decider_at, decider_between, end_at, is_address, packet_between};
 ghost use Rattle.np_explain.specs.declared.part.Part.{Part};
 ghost use Rattle.np_policies.specs.declared.direction.Direction.{Direction};
@@ -20,6 +21,12 @@ ghost use Rattle.np_rules.specs.declared.packet.End.{End};
 pub fn one_list_of_parts_is_right()
     ensures { (decides : PortSpot → Decider) (parts others : List Part) →
         AreRightParts decides parts → AreRightParts decides others → parts ≡ others }
+{}
+
+/// The parts that are made from what decides each spot are right, and whatever parts are right are these.
+pub fn right_parts_are_these()
+    ensures right { (decides : PortSpot → Decider) → AreRightParts decides (parts_of decides) }
+    ensures only { (decides : PortSpot → Decider) (parts : List Part) → AreRightParts decides parts → parts ≡ parts_of decides }
 {}
 
 /// Each spot is in exactly one of the right parts, that of its decider. So the sets are disjoint and cover the space.

@@ -12,7 +12,7 @@ mod side;
 pub use explaining::explain;
 pub use laws::{
     both_sides_give_the_verdict, each_spot_is_in_one_part, one_list_of_parts_is_right,
-    only_addresses_have_no_side, parts_give_the_verdict,
+    only_addresses_have_no_side, parts_give_the_verdict, right_parts_are_these,
 };
 pub use part::Part;
 pub use print::print_decider;
