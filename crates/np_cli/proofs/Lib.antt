@@ -1,6 +1,7 @@
 pub mod CountsLemmas
 pub mod EvaluateLemmas
 pub mod HeadlineLemmas
+pub mod ListingLemmas
 pub mod PromisesLemmas
 pub mod RowsLemmas
 pub mod RunsLemmas

@@ -4,17 +4,12 @@ use Rattle.std.specs.Io.KnownBytes.{append_known}
 use Rattle.np_io.specs.Counts.{Rose}
 use Rattle.np_io.specs.Taken.{TookAllBut, TookFront}
 use Rattle.np_io.proofs.TakenLemmas.{TookAllBut-all, TookAllBut-fault, TookAllBut-finish, TookAllBut-front, TookAllBut-put, TookAllBut-put_fault}
-use Rattle.np_estate.specs.declared.lists.EstateLists.{EstateLists}
-use Rattle.np_fold.specs.Workloads.{folding_of}
 use Rattle.np_report.proofs.ToComeLemmas.{rows_to_come-kept, rows_to_come-left_out}
-use Rattle.np_report.specs.Forms.{Form, form_of}
+use Rattle.np_report.specs.Forms.{Form}
 use Rattle.np_report.specs.Keeps.{keeps}
-use Rattle.np_report.specs.RowText.{names_of, row_text}
-use Rattle.np_report.specs.TableText.{list_text, rows_to_come}
+use Rattle.np_report.specs.RowText.{row_text}
+use Rattle.np_report.specs.TableText.{rows_to_come}
 use Rattle.np_report.specs.declared.query.Query.{Query}
-use Rattle.np_table.specs.Rows.{all_rows}
-use Rattle.np_table.specs.Table.{estate_table, table_of}
-use Rattle.np_words.specs.declared.format.Format.{Format}
 use Rattle.np_words.specs.declared.report.Report.{Report}
 use Rattle.np_cli.specs.Sinks.{Sunk}
 use Rattle.np_cli.specs.Written.{Writes}
@@ -65,11 +60,6 @@ HasLeft-finish_fault before middle after faults_before faults_middle faults_afte
 
 -- ---- rows that are still to come
 
--- the text of the table that is asked for is that of all its rows
-pub list_text_is : (lists : EstateLists) (query : Query) (format : Format) (report : Report) → list_text (estate_table lists) query format report ≡ rows_to_come (form_of format) (names_of (folding_of lists)) query report false (all_rows (estate_table lists))
-unfolding list_text rows_to_come table_of
-list_text_is lists query format report = refl
-
 or_true : (c : Bool) → (c || true) ≡ true
 or_true true = refl
 or_true false = refl
@@ -89,14 +79,6 @@ rows_to_come-next form names query report came row rows = by (keeps query row.ke
     by false is =
         rows_to_come-left_out form names query report came row rows is
         ∙ ap (λ (c : Bool). rows_to_come form names query report c rows) (sym (or_false came))
-
-    or_true : (c : Bool) → (c || true) ≡ true
-    or_true true = refl
-    or_true false = refl
-
-    or_false : (c : Bool) → (c || false) ≡ c
-    or_false true = refl
-    or_false false = refl
 
 -- where no row is given, none was to come
 pub none_given : (given : Option Row) (before after : List Row) → MatchOption given (before ≡ []) (λ row. before ≡ row ∷ after) → ((row : Row) → given ≡ Some row → ⊥) → before ≡ []

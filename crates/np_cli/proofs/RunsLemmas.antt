@@ -4,7 +4,6 @@ use Rattle.std.specs.Prelude.{◌⊎◌}
 use Rattle.std.proofs.lemmas.Bool.{le-ltb}
 use Rattle.np_io.specs.Taken.{TookFront}
 use Rattle.np_io.proofs.TakenLemmas.{TookFront-none, TookFront-all}
-use Rattle.np_estate.specs.declared.notes.Notes.{Notes}
 use Rattle.np_cli.proofs.SourcesLemmas.{BeganNext-none}
 use Rattle.np_cli.specs.Answers.{fault_in, text_in, reply_in, refusal, text_of, notes_of, output}
 use Rattle.np_cli.specs.Failures.{source_failure, words_failure}
@@ -21,6 +20,7 @@ use Rattle.np_cli.specs.declared.failure.Failure.TheVariants.{Usage, TooLarge, R
 use Rattle.np_cli.specs.declared.fault.Fault.{Fault}
 use Rattle.np_cli.specs.declared.sources.SourceFault.{SourceFault}
 use Rattle.np_cli.specs.declared.sources.SourceFault.TheVariants as unread
+use Rattle.np_cli.specs.declared.notes.ReportNotes.{ReportNotes}
 use Rattle.np_words.specs.declared.words_fault.WordsFault.{WordsFault}
 use Rattle.np_words.specs.declared.words_fault.WordsFault.TheVariants as words
 
@@ -61,7 +61,7 @@ text-is : (job : Job) (texts : List (List ℕ)) (reply : Result (List ℕ) Fault
 unfolding text_of
 text-is job texts reply fits is = output-fits job texts fits ∙ ap text_in is
 
-pub Cause-from_answers : (job : Job) (source : Sourced) (out : Sunk) (texts : List (List ℕ)) (outcome : Result Notes Failure) → ((told : List (List ℕ)) → AreTold source.holds source.left (names_of job) told → texts ≡ told) → total_size texts ≤ SIZE_LIMIT → ReadOnce source (names_of job) → Answers job (lists_of texts) out outcome → Cause (ran (Some job) source out) outcome
+pub Cause-from_answers : (job : Job) (source : Sourced) (out : Sunk) (texts : List (List ℕ)) (outcome : Result ReportNotes Failure) → ((told : List (List ℕ)) → AreTold source.holds source.left (names_of job) told → texts ≡ told) → total_size texts ≤ SIZE_LIMIT → ReadOnce source (names_of job) → Answers job (lists_of texts) out outcome → Cause (ran (Some job) source out) outcome
 unfolding notes_of
 Cause-from_answers job source out texts (Ok notes) read size once answers =
     let fits = fits_limit texts size in
@@ -123,7 +123,7 @@ Cause-unread job source out unread.TooLarge kept why = record { asked = refl; ov
 Cause-unread job source out unread.NoMemory kept why = record { began = why; front = λ texts told. TookFront-kept out (output (Some job) texts) kept }
 
 -- words that ask for a job do not ask for nothing
-pub Cause-asked : (job : Job) (source : Sourced) (out : Sunk) (outcome : Result Notes Failure) → Cause (ran (Some job) source out) outcome → outcome ≡ Err Usage → ⊥
+pub Cause-asked : (job : Job) (source : Sourced) (out : Sunk) (outcome : Result ReportNotes Failure) → Cause (ran (Some job) source out) outcome → outcome ≡ Err Usage → ⊥
 Cause-asked job source out outcome cause usage =
     let why : AskedNothing (ran (Some job) source out) = subst (Cause (ran (Some job) source out)) usage cause in
     let nothing : Some job ≡ None = why.asked in cc
@@ -131,7 +131,7 @@ Cause-asked job source out outcome cause usage =
 -- ---- what is said
 
 -- where the message wants memory that is refused, the run ended for want of memory
-pub Cause-no_memory : (run : Run) (outcome : Result Notes Failure) → Cause run outcome → Cause run (Err NoMemory)
+pub Cause-no_memory : (run : Run) (outcome : Result ReportNotes Failure) → Cause run outcome → Cause run (Err NoMemory)
 Cause-no_memory run (Ok notes) cause = record {
   began = subst (BeganFront run.source) (sym (ap names_asked cause.asked)) (BeganFront-all run.source (names_of cause.job) cause.read);
   front = λ texts told. TookFront-all run.out.before run.out.after (output run.asked texts) (cause.told texts told).took.taken;
@@ -159,7 +159,7 @@ Cause-no_memory run (Err CannotWrite) cause = record {
 Cause-no_memory run (Err NoMemory) cause = cause
 
 -- so whatever was said, it has its cause
-pub Cause-said : (run : Run) (ended said : Result Notes Failure) → Cause run ended → (said ≡ ended) ⊎ (said ≡ Err NoMemory) → Cause run said
+pub Cause-said : (run : Run) (ended said : Result ReportNotes Failure) → Cause run ended → (said ≡ ended) ⊎ (said ≡ Err NoMemory) → Cause run said
 Cause-said run ended said cause which = elim which [
   | inl same ↦ subst (Cause run) (sym same) cause
   | inr memory ↦ subst (Cause run) (sym memory) (Cause-no_memory run ended cause)

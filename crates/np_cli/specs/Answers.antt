@@ -2,18 +2,19 @@
 use Rattle.std.specs.Prelude.{ℕ, List, [], Option, Some, None, Result, Ok, Err, if◌then◌else◌}
 use Rattle.np_estate.specs.Lawful.{IsLawful}
 use Rattle.np_estate.specs.declared.lists.EstateLists.{EstateLists}
-use Rattle.np_estate.specs.declared.notes.Notes.{Notes}
 use Rattle.np_cli.specs.Inputs.{lists_of}
 use Rattle.np_cli.specs.Sources.{is_too_large}
 use Rattle.np_cli.specs.commands.Evaluate.{evaluate_reply}
 use Rattle.np_cli.specs.commands.List.{list_reply}
 use Rattle.np_cli.specs.declared.fault.Fault.{Fault}
+use Rattle.np_cli.specs.declared.notes.ReportNotes.{ReportNotes}
+use Rattle.np_routes.specs.RouteNotes.{notes_of_routes}
 use Rattle.np_words.specs.declared.job.Job.{Job}
 use Rattle.np_words.specs.declared.job.Job.TheVariants.{Evaluate, List as ListJob}
 
 -- what a job prints on what its inputs say, or why it refuses that
 unfoldable pub reply : Job → EstateLists → Result (List ℕ) Fault
-reply (ListJob format report focus side files) lists = list_reply format report focus side lists
+reply (ListJob format report controller focus side files) lists = list_reply format report controller focus side lists
 reply (Evaluate from to proto port files) lists = evaluate_reply from to (record { proto = proto; port = port }) lists
 
 -- the same on what the inputs are read as
@@ -29,9 +30,17 @@ abbrev pub text_in : Result (List ℕ) Fault → List ℕ
 text_in (Ok text) = text
 text_in (Err fault) = []
 
-abbrev pub notes_in : Result EstateLists Fault → Notes
-notes_in (Ok lists) = lists.notes
-notes_in (Err fault) = record { host = 0; finished = 0; skipped = 0; unaddressed = 0 }
+-- what is said of a job's report on what its inputs say: what was left out of it, and of `list` the backends of ingresses that lead nowhere
+unfoldable pub report_notes : Job → EstateLists → ReportNotes
+report_notes (ListJob format report controller focus side files) lists = record { left_out = lists.notes; routes = notes_of_routes lists }
+report_notes (Evaluate from to proto port files) lists = record { left_out = lists.notes; routes = [] }
+
+abbrev pub no_notes : ReportNotes
+no_notes = record { left_out = record { host = 0; finished = 0; skipped = 0; unaddressed = 0 }; routes = [] }
+
+abbrev pub notes_in : Job → Result EstateLists Fault → ReportNotes
+notes_in job (Ok lists) = report_notes job lists
+notes_in job (Err fault) = no_notes
 
 -- what is read is lawful
 abbrev pub IsLawfulIn : Result EstateLists Fault → Type 0
@@ -46,9 +55,9 @@ refusal job texts = fault_in (reply_in job (lists_of texts))
 unfoldable pub text_of : Job → List (List ℕ) → List ℕ
 text_of job texts = text_in (reply_in job (lists_of texts))
 
--- what was left out of inputs without a fault
-unfoldable pub notes_of : Job → List (List ℕ) → Notes
-notes_of job texts = notes_in (lists_of texts)
+-- what is said of the report on inputs without a fault
+unfoldable pub notes_of : Job → List (List ℕ) → ReportNotes
+notes_of job texts = notes_in job (lists_of texts)
 
 -- what may be written for inputs: the whole text where they are accepted, else nothing
 unfoldable pub output : Option Job → List (List ℕ) → List ℕ

@@ -19,7 +19,7 @@ list_steps lists = table_steps (length (folding_of lists).workloads) (most_rules
 
 -- for a job on what its inputs say; no number is stated for the verdict of one packet
 unfoldable pub reply_steps : Job → EstateLists → Option ℕ
-reply_steps (ListJob format report focus side files) lists = Some (list_steps lists)
+reply_steps (ListJob format report controller focus side files) lists = Some (list_steps lists)
 reply_steps (Evaluate from to proto port files) lists = None
 
 -- for a job on what its inputs are read as; none where they have a fault

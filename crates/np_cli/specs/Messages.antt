@@ -1,11 +1,14 @@
 -- What is said of a run on the error sink.
-use Rattle.std.specs.Prelude.{ℕ, List, [], ◌++◌, ◌==◌, codes, decimal, if◌then◌else◌, Result, Ok, Err}
+use Rattle.std.specs.Prelude.{ℕ, List, [], ◌++◌, ◌==◌, codes, decimal, flat_map, if◌then◌else◌, Result, Ok, Err}
 use Rattle.np_estate.specs.declared.notes.Notes.{Notes}
 use Rattle.np_estate.specs.Refusals.{refusal_text}
 use Rattle.np_cli.specs.declared.failure.Failure.{Failure}
 use Rattle.np_cli.specs.declared.failure.Failure.TheVariants.{Usage, CannotRead, TooLarge, Refused, CannotWrite, NoMemory}
 use Rattle.np_cli.specs.declared.fault.Fault.{Fault}
 use Rattle.np_cli.specs.declared.fault.Fault.TheVariants.{Inputs, SameEnd, TooManyWorkloads, UnknownEnd}
+use Rattle.np_cli.specs.declared.notes.ReportNotes.{ReportNotes}
+use Rattle.np_routes.specs.RouteNotes.{route_note_text}
+use Rattle.np_routes.specs.declared.route_note.RouteNote.{RouteNote}
 
 abbrev pub fault_text : Fault → List ℕ
 fault_text (Inputs refusal) = refusal_text refusal
@@ -16,7 +19,7 @@ fault_text (SameEnd name) = codes "SameEnd " ++ name
 -- how the program is called, a line for each command
 abbrev pub usage_text : List ℕ
 usage_text =
-    codes "usage: np list [--format text|csv|json] [--report 1|2] [--focus NAME] [--side either|from|to] [FILE]...\n"
+    codes "usage: np list [--format text|csv|json] [--report 1|2] [--controller NAME] [--focus NAME] [--side either|from|to] [FILE]...\n"
     ++ codes "       np evaluate --from END --to END --protocol P --port N [FILE]..."
 
 abbrev pub failure_text : Failure → List ℕ
@@ -32,14 +35,22 @@ unfoldable pub note : List ℕ → ℕ → List ℕ
 note what count = if count == 0 then [] else codes "note: " ++ what ++ codes ": " ++ decimal count ++ codes "\n"
 
 -- what was left out of a whole report
-abbrev pub notes_text : Notes → List ℕ
-notes_text notes =
+abbrev pub left_out_text : Notes → List ℕ
+left_out_text notes =
     note (codes "host network pods left out") notes.host
     ++ note (codes "finished pods left out") notes.finished
     ++ note (codes "objects of other kinds skipped") notes.skipped
     ++ note (codes "pods without an address, matched by no networks peer") notes.unaddressed
 
+-- the line of a backend of an ingress that leads nowhere, or not where it seems to
+abbrev pub route_line : RouteNote → List ℕ
+route_line note = codes "note: " ++ route_note_text note ++ codes "\n"
+
+-- what is said of a whole report
+abbrev pub notes_text : ReportNotes → List ℕ
+notes_text notes = left_out_text notes.left_out ++ flat_map route_line notes.routes
+
 -- the notes of a whole report, and one line for a failure
-abbrev pub message : Result Notes Failure → List ℕ
+abbrev pub message : Result ReportNotes Failure → List ℕ
 message (Ok notes) = notes_text notes
 message (Err failure) = failure_text failure ++ codes "\n"

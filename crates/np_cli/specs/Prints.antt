@@ -1,7 +1,6 @@
 -- What a job leaves of its report, once its inputs are read.
 use Rattle.std.specs.Prelude.{◌≡◌, ℕ, List, Result, Ok, Err, ⊤}
 use Rattle.np_estate.specs.declared.lists.EstateLists.{EstateLists}
-use Rattle.np_estate.specs.declared.notes.Notes.{Notes}
 use Rattle.np_io.specs.Counts.{Rose}
 use Rattle.np_io.specs.Taken.{TookFront}
 use Rattle.np_cli.specs.Answers.{IsLawfulIn, notes_in, reply_in, text_in}
@@ -9,6 +8,7 @@ use Rattle.np_cli.specs.Sinks.{Sunk, IsKept, TookWhole}
 use Rattle.np_cli.specs.declared.failure.Failure.{Failure}
 use Rattle.np_cli.specs.declared.failure.Failure.TheVariants.{Usage, CannotRead, TooLarge, Refused, CannotWrite, NoMemory}
 use Rattle.np_cli.specs.declared.fault.Fault.{Fault}
+use Rattle.np_cli.specs.declared.notes.ReportNotes.{ReportNotes}
 use Rattle.np_words.specs.declared.job.Job.{Job}
 
 -- there is a text, and the sink took all of it
@@ -35,6 +35,6 @@ Wrote out reply (Err TooLarge) = ⊥
 Wrote out reply (Err (CannotRead name)) = ⊥
 
 -- the reply of a job on what its inputs are read as, and what was left out of it
-abbrev pub Answers : Job → Result EstateLists Fault → Sunk → Result Notes Failure → Type 0
-Answers job reads out (Ok notes) = WroteAll out (reply_in job reads) × (notes ≡ notes_in reads) × IsLawfulIn reads
+abbrev pub Answers : Job → Result EstateLists Fault → Sunk → Result ReportNotes Failure → Type 0
+Answers job reads out (Ok notes) = WroteAll out (reply_in job reads) × (notes ≡ notes_in job reads) × IsLawfulIn reads
 Answers job reads out (Err failure) = Wrote out (reply_in job reads) (Err failure)

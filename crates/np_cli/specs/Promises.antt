@@ -66,9 +66,9 @@ BlamesWords asked answer = (answer ≡ status.Usage → asked ≡ None) × (aske
 
 -- Where `list` is done on inputs that the source tells, its report says exactly what the model allows.
 abbrev pub SaysWhatPasses : Run → Status → Type 0
-SaysWhatPasses run answer = (format : Format) (report : Report) (focus : Option (List ℕ)) (side : FocusSide) (files texts : List (List ℕ))
-    → run.asked ≡ Some (ListJob format report focus side files) → Tells run texts → answer ≡ status.Done
-    → SaysAll run.out format report focus side texts
+SaysWhatPasses run answer = (format : Format) (report : Report) (controller focus : Option (List ℕ)) (side : FocusSide) (files texts : List (List ℕ))
+    → run.asked ≡ Some (ListJob format report controller focus side files) → Tells run texts → answer ≡ status.Done
+    → SaysAll run.out format report controller focus side texts
 
 -- All that is promised of a run that ended with this status, where so many rules were looked at before it and after it.
 pub record Promises (run : Run) (err : Sunk) (steps_before steps_after : ℕ) (answer : Status) : Type 0 where

@@ -1,8 +1,8 @@
 -- The status of each outcome.
 use Rattle.std.specs.Prelude.{ℕ, Result, Ok, Err}
-use Rattle.np_estate.specs.declared.notes.Notes.{Notes}
 use Rattle.np_cli.specs.declared.failure.Failure.{Failure}
 use Rattle.np_cli.specs.declared.failure.Failure.TheVariants.{Usage, CannotRead, TooLarge, Refused, CannotWrite, NoMemory}
+use Rattle.np_cli.specs.declared.notes.ReportNotes.{ReportNotes}
 use Rattle.np_cli.specs.declared.status.Status.{Status}
 use Rattle.np_cli.specs.declared.status.Status.TheVariants as status
 
@@ -14,7 +14,7 @@ failure_status (Refused fault) = status.Refused
 failure_status CannotWrite = status.Device
 failure_status NoMemory = status.NoMemory
 
-abbrev pub status_of : Result Notes Failure → Status
+abbrev pub status_of : Result ReportNotes Failure → Status
 status_of (Ok notes) = status.Done
 status_of (Err failure) = failure_status failure
 

@@ -5,7 +5,7 @@ use Rattle.np_words.specs.declared.job.Job.TheVariants.{Evaluate, List as ListJo
 
 -- the names of the inputs that a job reads, in order
 abbrev pub names_of : Job → List (List ℕ)
-names_of (ListJob format report focus side files) = files
+names_of (ListJob format report controller focus side files) = files
 names_of (Evaluate from to proto port files) = files
 
 -- the names that the words ask for

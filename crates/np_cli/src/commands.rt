@@ -1,19 +1,23 @@
 //! What a job asks of what its inputs say, command by command.
-ghost use Rattle.std.specs.Prelude.{◌≤◌};
+ghost use Rattle.std.specs.Prelude.{◌≡◌, ◌≤◌, IfOk};
 ghost use Rattle.np_cli.specs.Answers as spec;
 ghost use Rattle.np_cli.specs.Counts.{RoseAtMost, reply_steps};
 ghost use Rattle.np_cli.specs.Prints.{Wrote};
 ghost use Rattle.np_cli.specs.Sinks.{sunk};
+ghost use Rattle.np_estate.specs.Lawful.{IsLawful};
 
 mod evaluate;
 mod list;
 
 use self::evaluate::evaluate;
-use self::list::{list, query_of};
+use self::list::{list, listing_of};
 use crate::failure::Failure;
+use crate::notes::ReportNotes;
+use np_base::{NoMemory, Seq};
 use np_conns::PortSpot;
 use np_fold::Folded;
 use np_io::Sink;
+use np_routes::route_notes;
 use np_steps::Steps;
 use np_words::Job;
 use std::alloc::Global;
@@ -37,12 +41,13 @@ pub(crate) fn reply<O: Sink, L: Ledger>(
         Job::List {
             format,
             report,
+            controller,
             focus,
             side,
             ..
         } => {
-            let query = query_of(folded, focus, *side)?;
-            list(alloc, folded, query, *format, *report, out, steps)?;
+            let asked = listing_of(folded, controller, focus, *side)?;
+            list(alloc, folded, asked, *format, *report, out, steps)?;
             Ok(())
         }
         Job::Evaluate {
@@ -59,4 +64,26 @@ pub(crate) fn reply<O: Sink, L: Ledger>(
             evaluate(alloc, folded, from, to, spot, out, steps)
         }
     }
+}
+
+/// What is said of a job's report on what its inputs say: what was left out of it, and of `list` the backends of Ingresses
+/// that lead nowhere. The inputs are those of a lawful estate.
+#[tactic(auto, unfolding(crate::specs::Answers::report_notes))]
+pub(crate) fn report_notes(
+    alloc: Global,
+    job: &Job,
+    folded: &Folded,
+) -> Result<ReportNotes, NoMemory>
+    ensures notes { IfOk result (λ notes. notes ≡ spec.report_notes job.now folded.now) }
+    ensures lawful { IsLawful folded.now }
+{
+    let estate = folded.estate();
+    let routes = match job {
+        Job::List { .. } => route_notes(alloc, estate)?,
+        Job::Evaluate { .. } => Seq::new(alloc),
+    };
+    Ok(ReportNotes {
+        left_out: estate.notes(),
+        routes,
+    })
 }

@@ -15,7 +15,7 @@ use std::fmt;
 
 // How the program is called, a line for each command.
 static USAGE: &str = concat!(
-    "usage: np list [--format text|csv|json] [--report 1|2] [--focus NAME] [--side either|from|to] [FILE]...\n",
+    "usage: np list [--format text|csv|json] [--report 1|2] [--controller NAME] [--focus NAME] [--side either|from|to] [FILE]...\n",
     "       np evaluate --from END --to END --protocol P --port N [FILE]...",
 );
 

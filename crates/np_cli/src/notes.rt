@@ -1,19 +1,58 @@
-//! What is said of the objects that were left out.
+//! What is said of a whole report.
+ghost use Rattle.std.specs.Prelude.{◌≡◌, IfOk, string_bytes};
+ghost use Rattle.np_cli.specs.Messages as spec;
 
+use np_base::{NoMemory, Seq};
 use np_estate::Notes;
+use np_routes::RouteNote;
+use std::alloc::Global;
 use std::fmt;
 
-/// The lines that notes are said by.
-#[derive(Clone, Copy, Debug)]
-pub struct NotesText {
-    pub notes: Notes,
+/// What is said of a whole report: how many objects were left out of it, and which backends of Ingresses lead nowhere, or
+/// not where they seem to, in the order of the Ingresses.
+#[derive(Debug, Drop)]
+pub struct ReportNotes {
+    pub left_out: Notes,
+    pub routes: Seq<RouteNote>,
 }
 
-impl fmt::Display for NotesText {
-    ghost use Rattle.std.specs.Prelude.{Some};
+impl ReportNotes {
+    ghost use Rattle.std.specs.Prelude.{◌≡◌, IfOk, string_bytes};
     ghost use Rattle.np_cli.specs.Messages.{notes_text};
 
-    ghost output = { λ text. Some (notes_text text.notes) };
+    /// The lines of the notes: those of the objects first, each where its number is not 0.
+    pub fn text(&self, alloc: Global) -> Result<String, NoMemory>
+        ensures { IfOk result (λ text. string_bytes text ≡ notes_text self.now) }
+    {
+        let left_out = LeftOut {
+            notes: self.left_out,
+        };
+        let mut text = format!(in alloc; "{left_out}")?;
+        for note in self.routes.items() {
+            text.push_str(route_line(alloc, note)?.as_str())?;
+        }
+        Ok(text)
+    }
+}
+
+// The line of a backend of an Ingress.
+fn route_line(alloc: Global, note: &RouteNote) -> Result<String, NoMemory>
+    ensures { IfOk result (λ line. string_bytes line ≡ spec.route_line note.now) }
+{
+    Ok(format!(in alloc; "note: {note}\n")?)
+}
+
+// The lines of what was left out.
+#[derive(Clone, Copy, Debug)]
+struct LeftOut {
+    notes: Notes,
+}
+
+impl fmt::Display for LeftOut {
+    ghost use Rattle.std.specs.Prelude.{Some};
+    ghost use Rattle.np_cli.specs.Messages.{left_out_text};
+
+    ghost output = { λ text. Some (left_out_text text.notes) };
 
     fn fmt<W: fmt::Write>(&self, f: &mut fmt::Formatter<W>) -> fmt::Result {
         let host = Note {

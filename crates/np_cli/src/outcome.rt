@@ -4,14 +4,13 @@ ghost use Rattle.np_cli.specs.Messages as messages;
 ghost use Rattle.np_cli.specs.Statuses as statuses;
 
 use crate::failure::Failure;
-use crate::notes::NotesText;
+use crate::notes::ReportNotes;
 use crate::status::Status;
 use np_base::NoMemory;
-use np_estate::Notes;
 use std::alloc::Global;
 
-/// How a run ends: the report was written whole, and these objects were left out of it; or the run failed.
-pub type Outcome = Result<Notes, Failure>;
+/// How a run ends: the report was written whole, and this is said of it; or the run failed.
+pub type Outcome = Result<ReportNotes, Failure>;
 
 /// The status of the program that ended so.
 pub fn status_of(outcome: &Outcome) -> Status
@@ -23,15 +22,12 @@ pub fn status_of(outcome: &Outcome) -> Status
     }
 }
 
-/// What is said of it on the error sink: the notes on what was left out, or the line of the failure.
+/// What is said of it on the error sink: the notes on the report, or the line of the failure.
 pub fn message(alloc: Global, outcome: &Outcome) -> Result<String, NoMemory>
     ensures { IfOk result (λ text. string_bytes text ≡ messages.message outcome.now) }
 {
     match outcome {
-        Ok(notes) => {
-            let notes = NotesText { notes: *notes };
-            Ok(format!(in alloc; "{notes}")?)
-        }
+        Ok(notes) => notes.text(alloc),
         Err(failure) => Ok(format!(in alloc; "{failure}\n")?),
     }
 }

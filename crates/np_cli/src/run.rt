@@ -11,14 +11,14 @@ ghost use Rattle.np_cli.specs.Sources.{sourced};
 ghost use Rattle.np_cli.specs.Words as spec;
 ghost use Rattle.np_words.specs.CommandLines.{asked_by};
 
-use crate::commands::reply;
+use crate::commands::{reply, report_notes};
 use crate::failure::Failure;
 use crate::folded::read_folded;
+use crate::notes::ReportNotes;
 use crate::outcome::{Outcome, message, status_of};
 use crate::sources::read_all;
 use crate::status::Status;
 use np_base::{NoMemory, Text};
-use np_estate::Notes;
 use np_io::{Inputs, Sink, write_whole};
 use np_steps::Steps;
 use np_words::{Job, read_words};
@@ -60,7 +60,7 @@ fn run<I: Inputs, O: Sink, L: Ledger>(
     inputs: &mut I,
     out: &mut O,
     steps: &mut Steps<L>,
-) -> Result<Notes, Failure>
+) -> Result<ReportNotes, Failure>
     ensures ran { let run = ran (asked_by words.now)
         (sourced I.holds I.left I.faults I.handed I.began inputs.old inputs.new)
         (sunk O.taken O.faults out.old out.new) in
@@ -78,7 +78,7 @@ fn run_job<I: Inputs, O: Sink, L: Ledger>(
     inputs: &mut I,
     out: &mut O,
     steps: &mut Steps<L>,
-) -> Result<Notes, Failure>
+) -> Result<ReportNotes, Failure>
     ensures { let run = ran (Some job.now)
         (sourced I.holds I.left I.faults I.handed I.began inputs.old inputs.new)
         (sunk O.taken O.faults out.old out.new) in
@@ -104,7 +104,7 @@ fn answer<O: Sink, L: Ledger>(
     texts: &[Vec<u8>],
     out: &mut O,
     steps: &mut Steps<L>,
-) -> Result<Notes, Failure>
+) -> Result<ReportNotes, Failure>
     ensures answers { Answers job.now (lists_of (map (λ text. text.items) texts.now))
         (sunk O.taken O.faults out.old out.new)
         result }
@@ -112,8 +112,9 @@ fn answer<O: Sink, L: Ledger>(
     ensures most { RoseAtMost (steps_in job.now (lists_of (map (λ text. text.items) texts.now))) steps.old steps.new }
 {
     let folded = read_folded(alloc, texts)?;
+    let notes = report_notes(alloc, job, &folded)?;
     reply(alloc, job, &folded, out, steps)?;
-    Ok(folded.estate().notes())
+    Ok(notes)
 }
 
 // Says on the error sink how the run ended. Where the message wants memory that is refused, the run ended so.

@@ -7,9 +7,10 @@ use Rattle.np_conns.specs.Conns.{Conns}
 use Rattle.np_estate.specs.Families.{same_family}
 use Rattle.np_policies.specs.declared.direction.Direction.{Direction}
 use Rattle.np_policies.specs.declared.direction.Direction.TheVariants.{Egress, Ingress}
-use Rattle.np_report.specs.TableText.{SayTheSame, is_shown, list_text, shown, texts_of}
+use Rattle.np_report.specs.TableText.{AreSameTables, SayTheSame, is_shown, list_text, shown, texts_of}
 use Rattle.np_report.specs.Forms.{report_text}
 use Rattle.np_report.specs.declared.query.Query.{Query}
+use Rattle.np_routes.specs.ClusterTable.{ClusterTable, all_ingress_rows, cluster_rows, ingress_key, ingress_row}
 use Rattle.np_table.proofs.RangeOneList.{walk-agrees}
 use Rattle.np_table.proofs.RangeSets.{conns_of-agrees}
 use Rattle.np_table.specs.Right.{Stretch, conns_of, walk}
@@ -42,7 +43,7 @@ rows_in-agrees [] key conns conns' same = rows_of_both-agrees key (conns Four) (
 rows_in-agrees (one ∷ []) key conns conns' same = ap (λ (made : Conns). row_if key None made) (same one (same_family-itself one))
 rows_in-agrees (one ∷ two ∷ more) key conns conns' same = rows_of_both-agrees key (conns Four) (conns' Four) (conns Six) (conns' Six) (same Four refl) (same Six refl)
 
-module _ (a b : Table) (same : SayTheSame a b) where
+module _ (a b : Table) (same : AreSameTables a b) where
   pair_rows-same : (source destination : ℕ) → source < length a.names → destination < length a.names → pair_rows a source destination ≡ pair_rows b source destination
   unfolding pair_rows
   pair_rows-same source destination is is' =
@@ -93,8 +94,26 @@ module _ (a b : Table) (same : SayTheSame a b) where
   all_rows-same : all_rows a ≡ all_rows b
   all_rows-same = ap (λ (rows : List Row). rows ++ all_address_rows a) all_pair_rows-same ∙ ap (λ (rows : List Row). all_pair_rows b ++ rows) all_address_rows-same
 
+-- ---- clusters
+
+module _ (a b : ClusterTable) (same : SayTheSame a b) where
+  ingress_row-same : (workload : ℕ) → workload < length a.table.names → ingress_row a workload ≡ ingress_row b workload
+  unfolding ingress_row
+  ingress_row-same workload is = ap (row_if (ingress_key workload) None) (conns_of-agrees (a.ingresses workload) (b.ingresses workload) (same.ingresses workload is))
+
+  all_ingress_rows-same : all_ingress_rows a ≡ all_ingress_rows b
+  unfolding all_ingress_rows
+  all_ingress_rows-same =
+      flat_map-agrees (ingress_row a) (ingress_row b) 0 (length a.table.names) (λ workload low is. ingress_row-same workload (omega arith))
+      ∙ ap (flat_map (ingress_row b)) (workloads-same a.table b.table same.tables)
+
+  cluster_rows-same : cluster_rows a ≡ cluster_rows b
+  cluster_rows-same =
+      ap (λ (rows : List Row). rows ++ all_ingress_rows a) (all_rows-same a.table b.table same.tables)
+      ∙ ap (λ (rows : List Row). all_rows b.table ++ rows) all_ingress_rows-same
+
   pub list_text-same : (query : Query) (format : Format) (report : Report) → list_text a query format report ≡ list_text b query format report
   unfolding list_text
   list_text-same query format report =
-      ap (λ (names : List (List ℕ)). report_text format (texts_of names report (shown query (all_rows a)))) same.names
-      ∙ ap (λ (rows : List Row). report_text format (texts_of b.names report (shown query rows))) all_rows-same
+      ap (λ (names : List (List ℕ)). report_text format (texts_of names report (shown query (cluster_rows a)))) same.tables.names
+      ∙ ap (λ (rows : List Row). report_text format (texts_of b.table.names report (shown query rows))) cluster_rows-same

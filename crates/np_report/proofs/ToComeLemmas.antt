@@ -1,20 +1,12 @@
--- What is still to come of the text of a table, from row to row.
+-- What is still to come of the text of the table of a cluster, from row to row.
 use Rattle.std.proofs.Common.{◌≡◌, ℕ, List, [], ◌∷◌, ◌++◌, Bool, true, false, refl}
-use Rattle.np_report.specs.Forms.{Form, form_of}
+use Rattle.np_report.specs.Forms.{Form}
 use Rattle.np_report.specs.Keeps.{keeps}
 use Rattle.np_report.specs.RowText.{row_text}
-use Rattle.np_report.specs.TableText.{list_text, rows_to_come}
+use Rattle.np_report.specs.TableText.{rows_to_come}
 use Rattle.np_report.specs.declared.query.Query.{Query}
-use Rattle.np_table.specs.Rows.{all_rows}
-use Rattle.np_table.specs.Table.{Table}
 use Rattle.np_table.specs.declared.rows.Row.{Row}
-use Rattle.np_words.specs.declared.format.Format.{Format}
 use Rattle.np_words.specs.declared.report.Report.{Report}
-
--- before the first row it is the whole
-pub list_text-rows : (table : Table) (query : Query) (format : Format) (report : Report) → list_text table query format report ≡ rows_to_come (form_of format) table.names query report false (all_rows table)
-unfolding list_text rows_to_come
-list_text-rows table query format report = refl
 
 module _ (form : Form) (names : List (List ℕ)) (query : Query) (report : Report) (came : Bool) where
   -- behind the last row it is the end

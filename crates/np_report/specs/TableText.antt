@@ -9,7 +9,7 @@ use Rattle.np_report.specs.Keeps.{keeps}
 use Rattle.np_report.specs.RowText.{row_text}
 use Rattle.np_report.specs.declared.query.Query.{Query}
 use Rattle.np_report.specs.declared.row.RowText.{RowText}
-use Rattle.np_table.specs.Rows.{all_rows}
+use Rattle.np_routes.specs.ClusterTable.{ClusterTable, cluster_rows}
 use Rattle.np_table.specs.Said.{AllowSamePorts}
 use Rattle.np_table.specs.Table.{Table}
 use Rattle.np_table.specs.declared.rows.Row.{Row}
@@ -22,17 +22,17 @@ use Rattle.np_words.specs.declared.report.Report.{Report}
 abbrev pub shown : Query → List Row → List Row
 shown query rows = filter (λ row. keeps query row.key) rows
 
--- those of a table
-abbrev pub shown_rows : Table → Query → List Row
-shown_rows table query = shown query (all_rows table)
+-- those of a cluster
+abbrev pub shown_rows : ClusterTable → Query → List Row
+shown_rows cluster query = shown query (cluster_rows cluster)
 
 -- their texts, where the workloads have these names
 abbrev pub texts_of : List (List ℕ) → Report → List Row → List RowText
 texts_of names report rows = map (row_text names report) rows
 
--- the rows that a query asks for, in a format: a function of the table alone
-unfoldable pub list_text : Table → Query → Format → Report → List ℕ
-list_text table query format report = report_text format (texts_of table.names report (shown_rows table query))
+-- the rows that a query asks for, in a format: a function of the table of the cluster alone
+unfoldable pub list_text : ClusterTable → Query → Format → Report → List ℕ
+list_text cluster query format report = report_text format (texts_of cluster.table.names report (shown_rows cluster query))
 
 -- what is still to come of it while these rows are, where one knows whether a row came before
 unfoldable pub rows_to_come : Form → List (List ℕ) → Query → Report → Bool → List Row → List ℕ
@@ -47,10 +47,15 @@ is_shown families family = true
 
 -- The names and the families are equal, and between the workloads that have names, in the families that rows tell of, and
 -- between such workloads and the addresses that there are, the same ports pass.
-pub record SayTheSame (a b : Table) : Type 0 where
+pub record AreSameTables (a b : Table) : Type 0 where
   pub names : a.names ≡ b.names
   pub families : a.families ≡ b.families
   pub pairs : (source destination : ℕ) (family : Family) → source < length a.names → destination < length a.names → is_shown a.families family ≡ true
       → AllowSamePorts (a.pairs source destination family) (b.pairs source destination family)
   pub addresses : (workload : ℕ) (direction : Direction) (family : Family) (number : ℕ) → workload < length a.names → number < 2 ^ width_of family
       → AllowSamePorts (a.addresses workload direction family number) (b.addresses workload direction family number)
+
+-- And through ingresses the same ports of the workloads that have names are reached.
+pub record SayTheSame (a b : ClusterTable) : Type 0 where
+  pub tables : AreSameTables a.table b.table
+  pub ingresses : (workload : ℕ) → workload < length a.table.names → AllowSamePorts (a.ingresses workload) (b.ingresses workload)

@@ -2,13 +2,13 @@
 ghost use Rattle.std.specs.Prelude.{◌≡◌};
 ghost use Rattle.np_report.specs.TableText.{SayTheSame, list_text};
 ghost use Rattle.np_report.specs.declared.query.Query.{Query};
-ghost use Rattle.np_table.specs.Table.{Table};
+ghost use Rattle.np_routes.specs.ClusterTable.{ClusterTable};
 ghost use Rattle.np_words.specs.declared.format.Format.{Format};
 ghost use Rattle.np_words.specs.declared.report.Report.{Report};
 
-/// Tables with the same names and families, where the same passes, have one text for each query, format and report, whatever
-/// they were made of.
+/// Tables of clusters with the same names and families, where the same passes, have one text for each query, format and
+/// report, whatever they were made of.
 pub fn equal_tables_print_equal_bytes()
-    ensures { (a b : Table) (query : Query) (format : Format) (report : Report) → SayTheSame a b →
+    ensures { (a b : ClusterTable) (query : Query) (format : Format) (report : Report) → SayTheSame a b →
         list_text a query format report ≡ list_text b query format report }
 {}

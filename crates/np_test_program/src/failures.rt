@@ -90,7 +90,7 @@ static MESSAGES: &str = r#"# notes
 
 static USAGE: &str = r#"# other words
 2 list --report 3
-! usage: np list [--format text|csv|json] [--report 1|2] [--focus NAME] [--side either|from|to] [FILE]...
+! usage: np list [--format text|csv|json] [--report 1|2] [--controller NAME] [--focus NAME] [--side either|from|to] [FILE]...
 !        np evaluate --from END --to END --protocol P --port N [FILE]..."#;
 
 #[test]

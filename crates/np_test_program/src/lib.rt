@@ -37,6 +37,8 @@ mod places;
 #[cfg(test)]
 mod refusals;
 #[cfg(test)]
+mod routes;
+#[cfg(test)]
 mod runs;
 #[cfg(test)]
 mod sample;

@@ -23,20 +23,22 @@ unfolding list_job
 list_asked words = refl
 
 -- the table of these values, where each is there
-abbrev pub table_of : Option Format → Option Report → Option FocusSide → Option (List Text) → Option Text → Option Job
-table_of format report side files focus = do
+abbrev pub table_of : Option Format → Option Report → Option FocusSide → Option (List Text) → Option Text → Option Text → Option Job
+table_of format report side files controller focus = do
   one ← format
   two ← report
   three ← side
   four ← files
-  Some (ListJob one two focus three four)
+  Some (ListJob one two controller focus three four)
 
-pub list_of-values : (rows : List Row) (format : Option Format) (report : Option Report) (side : Option FocusSide) (files : Option (List Text)) (focus : Option Text)
+pub list_of-values : (rows : List Row) (format : Option Format) (report : Option Report) (side : Option FocusSide) (files : Option (List Text)) (controller focus : Option Text)
     → value_in format_of (codes "format") rows ≡ format → value_in report_of (codes "report") rows ≡ report → value_in side_of (codes "side") rows ≡ side
-    → files_in rows ≡ files → first_of (codes "focus") rows ≡ focus → list_of rows ≡ table_of format report side files focus
-list_of-values rows format report side files focus one two three four five =
-    ap (λ (value : Option Format). table_of value (value_in report_of (codes "report") rows) (value_in side_of (codes "side") rows) (files_in rows) (first_of (codes "focus") rows)) one
-    ∙ ap (λ (value : Option Report). table_of format value (value_in side_of (codes "side") rows) (files_in rows) (first_of (codes "focus") rows)) two
-    ∙ ap (λ (value : Option FocusSide). table_of format report value (files_in rows) (first_of (codes "focus") rows)) three
-    ∙ ap (λ (value : Option (List Text)). table_of format report side value (first_of (codes "focus") rows)) four
-    ∙ ap (table_of format report side files) five
+    → files_in rows ≡ files → first_of (codes "controller") rows ≡ controller → first_of (codes "focus") rows ≡ focus
+    → list_of rows ≡ table_of format report side files controller focus
+list_of-values rows format report side files controller focus one two three four five six =
+    ap (λ (value : Option Format). table_of value (value_in report_of (codes "report") rows) (value_in side_of (codes "side") rows) (files_in rows) (first_of (codes "controller") rows) (first_of (codes "focus") rows)) one
+    ∙ ap (λ (value : Option Report). table_of format value (value_in side_of (codes "side") rows) (files_in rows) (first_of (codes "controller") rows) (first_of (codes "focus") rows)) two
+    ∙ ap (λ (value : Option FocusSide). table_of format report value (files_in rows) (first_of (codes "controller") rows) (first_of (codes "focus") rows)) three
+    ∙ ap (λ (value : Option (List Text)). table_of format report side value (first_of (codes "controller") rows) (first_of (codes "focus") rows)) four
+    ∙ ap (λ (value : Option Text). table_of format report side files value (first_of (codes "focus") rows)) five
+    ∙ ap (table_of format report side files controller) six

@@ -104,9 +104,10 @@ no_rule : (name : Text) → is_list_option name ≡ false → arg_by_long rules 
 no_rule name other =
     let format = or_parts (bytes_eq (codes "format") name) _ other in
     let report = or_parts (bytes_eq (codes "report") name) _ format.1 in
-    let focus = or_parts (bytes_eq (codes "focus") name) _ report.1 in
+    let controller = or_parts (bytes_eq (codes "controller") name) _ report.1 in
+    let focus = or_parts (bytes_eq (codes "focus") name) _ controller.1 in
     let side = or_parts (bytes_eq (codes "side") name) _ focus.1 in
-    rw (format.0, report.0, focus.0, side.0) refl
+    rw (format.0, report.0, controller.0, focus.0, side.0) refl
 
 long_unknown : (first : ℕ) (rest : Text) → is_list_option (before_first (λ c. c == 61) (first ∷ rest)) ≡ false → (met : Option (List Text × Text))
     → turn_fault shape [] (at met) (45 ∷ 45 ∷ first ∷ rest) ≡ UnknownArgument ∷ []
@@ -133,6 +134,10 @@ report_twice : IsRefused (codes "report")
 unfolding clap_on_literals
 report_twice first second others = faulty _ ArgumentConflict refl
 
+controller_twice : IsRefused (codes "controller")
+unfolding clap_on_literals
+controller_twice first second others = faulty _ ArgumentConflict refl
+
 focus_twice : IsRefused (codes "focus")
 unfolding clap_on_literals
 focus_twice first second others = faulty _ ArgumentConflict refl
@@ -150,11 +155,14 @@ twice_job name known =
       | inl format ↦ named (codes "format") name format format_twice
       | inr others ↦ elim (or_cases (bytes_eq (codes "report") name) _ others) [
         | inl report ↦ named (codes "report") name report report_twice
-        | inr more ↦ elim (or_cases (bytes_eq (codes "focus") name) _ more) [
-          | inl focus ↦ named (codes "focus") name focus focus_twice
-          | inr last ↦ elim (or_cases (bytes_eq (codes "side") name) _ last) [
-            | inl side ↦ named (codes "side") name side side_twice
-            | inr none ↦ absurd (false≢true none)
+        | inr more ↦ elim (or_cases (bytes_eq (codes "controller") name) _ more) [
+          | inl controller ↦ named (codes "controller") name controller controller_twice
+          | inr two ↦ elim (or_cases (bytes_eq (codes "focus") name) _ two) [
+            | inl focus ↦ named (codes "focus") name focus focus_twice
+            | inr last ↦ elim (or_cases (bytes_eq (codes "side") name) _ last) [
+              | inl side ↦ named (codes "side") name side side_twice
+              | inr none ↦ absurd (false≢true none)
+            ]
           ]
         ]
       ]

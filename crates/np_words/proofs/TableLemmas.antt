@@ -47,12 +47,12 @@ optioned_job first held options new make holds makes (word ∷ words) plain =
     ∙ makes.made (front [] word words) (end word words) ∙ ap make (in_order [] word words)
 
 -- the table of files that name standard input at most once
-abbrev made_of : Report → Option Text → List Text → Option Job
-made_of report focus files = option_and_then (λ names. Some (text_table report focus names)) (checked_files files)
+abbrev made_of : Report → Option Text → Option Text → List Text → Option Job
+made_of report controller focus files = option_and_then (λ names. Some (text_table report controller focus names)) (checked_files files)
 
-taken : (report : Report) (focus : Option Text) (files : List Text) → are_files files ≡ true → made_of report focus files ≡ Some (text_table report focus files)
-taken report focus files once =
-    ap (λ (few : Bool). option_and_then (λ (names : List Text). Some (text_table report focus names)) (if few then Some files else None)) once
+taken : (report : Report) (controller focus : Option Text) (files : List Text) → are_files files ≡ true → made_of report controller focus files ≡ Some (text_table report controller focus files)
+taken report controller focus files once =
+    ap (λ (few : Bool). option_and_then (λ (names : List Text). Some (text_table report controller focus names)) (if few then Some files else None)) once
 
 once_or_alone : (names : List Text) → are_files names ≡ true → are_files (or_standard_input names) ≡ true
 once_or_alone [] once = refl
@@ -65,14 +65,14 @@ unfolding defaults_fault
 clean-none trailing [] last = refl
 clean-none trailing (one ∷ more) last = refl
 
-made-none : (trailing : Bool) (done : List Text) (last : Text) → list_of (finished rules (after [] refl trailing done last).held) ≡ made_of Two None (done ++ last ∷ [])
+made-none : (trailing : Bool) (done : List Text) (last : Text) → list_of (finished rules (after [] refl trailing done last).held) ≡ made_of Two None None (done ++ last ∷ [])
 made-none trailing [] last = refl
 made-none trailing (one ∷ more) last = refl
 
 pub nothing_met : IsMet nothing_held []
 nothing_met = record { settles = refl; passes = refl; other = refl }
 
-makes_none : Makes nothing_held [] refl (made_of Two None)
+makes_none : Makes nothing_held [] refl (made_of Two None None)
 unfolding defaults_fault
 makes_none = record {
   met = nothing_met;
@@ -82,25 +82,25 @@ makes_none = record {
   made_alone = refl;
 }
 
-pub plain_job : (names : List Text) → list_all is_plain names ≡ true → are_files names ≡ true → job_of (codes "list" ∷ names) ≡ Some (text_table Two None (or_standard_input names))
+pub plain_job : (names : List Text) → list_all is_plain names ≡ true → are_files names ≡ true → job_of (codes "list" ∷ names) ≡ Some (text_table Two None None (or_standard_input names))
 plain_job names plain once =
-    optioned_job [] nothing_held [] refl (made_of Two None) (record { walks = λ rest. refl; passes = λ rest. refl }) makes_none names plain
-    ∙ taken Two None (or_standard_input names) (once_or_alone names once)
+    optioned_job [] nothing_held [] refl (made_of Two None None) (record { walks = λ rest. refl; passes = λ rest. refl }) makes_none names plain
+    ∙ taken Two None None (or_standard_input names) (once_or_alone names once)
 
 pub split_job : (names others : List Text) → list_all is_plain names ≡ true → are_files (names ++ others) ≡ true
-    → job_of (codes "list" ∷ names ++ codes "--" ∷ others) ≡ Some (text_table Two None (or_standard_input (names ++ others)))
+    → job_of (codes "list" ∷ names ++ codes "--" ∷ others) ≡ Some (text_table Two None None (or_standard_input (names ++ others)))
 unfolding list_job clap_on_literals
 split_job [] [] plain once = refl
 split_job [] (other ∷ others) plain once =
     asked (codes "--" ∷ other ∷ others) _ (begun_end [] refl nothing_held nothing_met other others) (clean-none true (front [] other others) (end other others))
-    ∙ made-none true (front [] other others) (end other others) ∙ ap (made_of Two None) (in_order [] other others) ∙ taken Two None (other ∷ others) once
+    ∙ made-none true (front [] other others) (end other others) ∙ ap (made_of Two None None) (in_order [] other others) ∙ taken Two None None (other ∷ others) once
 split_job (word ∷ words) others plain once =
     let done = front [] word words in
     let last = end word words in
     let files : front done last others ++ end last others ∷ [] ≡ word ∷ words ++ others =
     in_order done last others ∙ sym (append_assoc done (last ∷ []) others) ∙ ap (λ (before : List Text). before ++ others) (in_order [] word words) in
     asked (word ∷ words ++ codes "--" ∷ others) _ (split_end [] refl nothing_held nothing_met word words others plain) (clean-none true (front done last others) (end last others))
-    ∙ made-none true (front done last others) (end last others) ∙ ap (made_of Two None) files ∙ taken Two None (word ∷ words ++ others) once
+    ∙ made-none true (front done last others) (end last others) ∙ ap (made_of Two None None) files ∙ taken Two None None (word ∷ words ++ others) once
 
 -- ---- one option
 
@@ -121,7 +121,7 @@ abbrev report_row : Text → Row
 report_row value = row_of_value (default_rule (codes "report") (codes "2")) value
 
 abbrev report_made : Text → List Text → Option Job
-report_made value files = option_and_then (λ report. made_of report None files) (report_of value)
+report_made value files = option_and_then (λ report. made_of report None None files) (report_of value)
 
 clean-report : (value : Text) (done : List Text) (last : Text) → faults_from [] (after (report_row value ∷ []) refl false done last) ≡ []
 unfolding defaults_fault
@@ -176,27 +176,89 @@ report_of-plain (first ∷ rest) report reads = go (first == 45) refl
     go true same = absurd (none-some report (rw (eqb-true first 45 same) at reads))
 
 pub report_apart_job : (value : Text) (report : Report) (names : List Text) → report_of value ≡ Some report → list_all is_plain names ≡ true → are_files names ≡ true
-    → job_of (codes "list" ∷ codes "--report" ∷ value ∷ names) ≡ Some (text_table report None (or_standard_input names))
+    → job_of (codes "list" ∷ codes "--report" ∷ value ∷ names) ≡ Some (text_table report None None (or_standard_input names))
 report_apart_job value report names reads plain once =
     optioned_job (codes "--report" ∷ value ∷ []) (apart (codes "report") value) (report_row value ∷ []) refl (report_made value)
     (report_apart value (report_of-plain value report reads)) (makes_report_apart value) names plain
-    ∙ ap (option_and_then (λ (one : Report). made_of one None (or_standard_input names))) reads
-    ∙ taken report None (or_standard_input names) (once_or_alone names once)
+    ∙ ap (option_and_then (λ (one : Report). made_of one None None (or_standard_input names))) reads
+    ∙ taken report None None (or_standard_input names) (once_or_alone names once)
 
 pub report_joined_job : (value : Text) (report : Report) (names : List Text) → report_of value ≡ Some report → list_all is_plain names ≡ true → are_files names ≡ true
-    → job_of (codes "list" ∷ (codes "--report=" ++ value) ∷ names) ≡ Some (text_table report None (or_standard_input names))
+    → job_of (codes "list" ∷ (codes "--report=" ++ value) ∷ names) ≡ Some (text_table report None None (or_standard_input names))
 report_joined_job value report names reads plain once =
     optioned_job ((codes "--report=" ++ value) ∷ []) (joined (report_row value)) (report_row value ∷ []) refl (report_made value)
     (report_joined value) (makes_report_joined value) names plain
-    ∙ ap (option_and_then (λ (one : Report). made_of one None (or_standard_input names))) reads
-    ∙ taken report None (or_standard_input names) (once_or_alone names once)
+    ∙ ap (option_and_then (λ (one : Report). made_of one None None (or_standard_input names))) reads
+    ∙ taken report None None (or_standard_input names) (once_or_alone names once)
 
 pub no_report_job : (value : Text) (names : List Text) → report_of value ≡ None → list_all is_plain names ≡ true
     → job_of (codes "list" ∷ (codes "--report=" ++ value) ∷ names) ≡ None
 no_report_job value names reads plain =
     optioned_job ((codes "--report=" ++ value) ∷ []) (joined (report_row value)) (report_row value ∷ []) refl (report_made value)
     (report_joined value) (makes_report_joined value) names plain
-    ∙ ap (option_and_then (λ (one : Report). made_of one None (or_standard_input names))) reads
+    ∙ ap (option_and_then (λ (one : Report). made_of one None None (or_standard_input names))) reads
+
+-- ---- `--controller`
+
+abbrev controller_row : Text → Row
+controller_row value = row_of_value (option_rule (codes "controller")) value
+
+clean-controller : (value : Text) (done : List Text) (last : Text) → faults_from [] (after (controller_row value ∷ []) refl false done last) ≡ []
+unfolding defaults_fault
+clean-controller value [] last = refl
+clean-controller value (one ∷ more) last = refl
+
+made-controller : (value : Text) (done : List Text) (last : Text)
+    → list_of (finished rules (after (controller_row value ∷ []) refl false done last).held) ≡ made_of Two (Some value) None (done ++ last ∷ [])
+made-controller value [] last = refl
+made-controller value (one ∷ more) last = refl
+
+controller_apart : (value : Text) → is_plain value ≡ true → Holds (codes "--controller" ∷ value ∷ []) (apart (codes "controller") value)
+unfolding clap_on_literals
+controller_apart value plain =
+    let no = plain_words value plain in
+    record {
+      walks = λ rest. ap (λ (at : Walk). fold (walked rules []) at rest) (rw (no.hyphens, no.long, no.short) refl);
+      passes = λ rest. rw (no.hyphens, no.long, no.short) refl;
+    }
+
+makes_controller_apart : (value : Text) → Makes (apart (codes "controller") value) (controller_row value ∷ []) refl (made_of Two (Some value) None)
+unfolding defaults_fault
+makes_controller_apart value = record {
+  met = record { settles = refl; passes = refl; other = refl };
+  clean = clean-controller value;
+  made = made-controller value;
+  clean_alone = refl;
+  made_alone = refl;
+}
+
+controller_joined : (value : Text) → Holds ((codes "--controller=" ++ value) ∷ []) (joined (controller_row value))
+unfolding clap_on_literals
+controller_joined value = record { walks = λ rest. refl; passes = λ rest. refl }
+
+makes_controller_joined : (value : Text) → Makes (joined (controller_row value)) (controller_row value ∷ []) refl (made_of Two (Some value) None)
+unfolding defaults_fault
+makes_controller_joined value = record {
+  met = record { settles = refl; passes = refl; other = refl };
+  clean = clean-controller value;
+  made = made-controller value;
+  clean_alone = refl;
+  made_alone = refl;
+}
+
+pub controller_apart_job : (value : Text) (names : List Text) → is_plain value ≡ true → list_all is_plain names ≡ true → are_files names ≡ true
+    → job_of (codes "list" ∷ codes "--controller" ∷ value ∷ names) ≡ Some (text_table Two (Some value) None (or_standard_input names))
+controller_apart_job value names word plain once =
+    optioned_job (codes "--controller" ∷ value ∷ []) (apart (codes "controller") value) (controller_row value ∷ []) refl (made_of Two (Some value) None)
+    (controller_apart value word) (makes_controller_apart value) names plain
+    ∙ taken Two (Some value) None (or_standard_input names) (once_or_alone names once)
+
+pub controller_joined_job : (value : Text) (names : List Text) → list_all is_plain names ≡ true → are_files names ≡ true
+    → job_of (codes "list" ∷ (codes "--controller=" ++ value) ∷ names) ≡ Some (text_table Two (Some value) None (or_standard_input names))
+controller_joined_job value names plain once =
+    optioned_job ((codes "--controller=" ++ value) ∷ []) (joined (controller_row value)) (controller_row value ∷ []) refl (made_of Two (Some value) None)
+    (controller_joined value) (makes_controller_joined value) names plain
+    ∙ taken Two (Some value) None (or_standard_input names) (once_or_alone names once)
 
 -- ---- `--focus`
 
@@ -209,7 +271,7 @@ clean-focus value [] last = refl
 clean-focus value (one ∷ more) last = refl
 
 made-focus : (value : Text) (done : List Text) (last : Text)
-    → list_of (finished rules (after (focus_row value ∷ []) refl false done last).held) ≡ made_of Two (Some value) (done ++ last ∷ [])
+    → list_of (finished rules (after (focus_row value ∷ []) refl false done last).held) ≡ made_of Two None (Some value) (done ++ last ∷ [])
 made-focus value [] last = refl
 made-focus value (one ∷ more) last = refl
 
@@ -222,7 +284,7 @@ focus_apart value plain =
       passes = λ rest. rw (no.hyphens, no.long, no.short) refl;
     }
 
-makes_focus_apart : (value : Text) → Makes (apart (codes "focus") value) (focus_row value ∷ []) refl (made_of Two (Some value))
+makes_focus_apart : (value : Text) → Makes (apart (codes "focus") value) (focus_row value ∷ []) refl (made_of Two None (Some value))
 unfolding defaults_fault
 makes_focus_apart value = record {
   met = record { settles = refl; passes = refl; other = refl };
@@ -236,7 +298,7 @@ focus_joined : (value : Text) → Holds ((codes "--focus=" ++ value) ∷ []) (jo
 unfolding clap_on_literals
 focus_joined value = record { walks = λ rest. refl; passes = λ rest. refl }
 
-makes_focus_joined : (value : Text) → Makes (joined (focus_row value)) (focus_row value ∷ []) refl (made_of Two (Some value))
+makes_focus_joined : (value : Text) → Makes (joined (focus_row value)) (focus_row value ∷ []) refl (made_of Two None (Some value))
 unfolding defaults_fault
 makes_focus_joined value = record {
   met = record { settles = refl; passes = refl; other = refl };
@@ -247,15 +309,15 @@ makes_focus_joined value = record {
 }
 
 pub focus_apart_job : (value : Text) (names : List Text) → is_plain value ≡ true → list_all is_plain names ≡ true → are_files names ≡ true
-    → job_of (codes "list" ∷ codes "--focus" ∷ value ∷ names) ≡ Some (text_table Two (Some value) (or_standard_input names))
+    → job_of (codes "list" ∷ codes "--focus" ∷ value ∷ names) ≡ Some (text_table Two None (Some value) (or_standard_input names))
 focus_apart_job value names word plain once =
-    optioned_job (codes "--focus" ∷ value ∷ []) (apart (codes "focus") value) (focus_row value ∷ []) refl (made_of Two (Some value))
+    optioned_job (codes "--focus" ∷ value ∷ []) (apart (codes "focus") value) (focus_row value ∷ []) refl (made_of Two None (Some value))
     (focus_apart value word) (makes_focus_apart value) names plain
-    ∙ taken Two (Some value) (or_standard_input names) (once_or_alone names once)
+    ∙ taken Two None (Some value) (or_standard_input names) (once_or_alone names once)
 
 pub focus_joined_job : (value : Text) (names : List Text) → list_all is_plain names ≡ true → are_files names ≡ true
-    → job_of (codes "list" ∷ (codes "--focus=" ++ value) ∷ names) ≡ Some (text_table Two (Some value) (or_standard_input names))
+    → job_of (codes "list" ∷ (codes "--focus=" ++ value) ∷ names) ≡ Some (text_table Two None (Some value) (or_standard_input names))
 focus_joined_job value names plain once =
-    optioned_job ((codes "--focus=" ++ value) ∷ []) (joined (focus_row value)) (focus_row value ∷ []) refl (made_of Two (Some value))
+    optioned_job ((codes "--focus=" ++ value) ∷ []) (joined (focus_row value)) (focus_row value ∷ []) refl (made_of Two None (Some value))
     (focus_joined value) (makes_focus_joined value) names plain
-    ∙ taken Two (Some value) (or_standard_input names) (once_or_alone names once)
+    ∙ taken Two None (Some value) (or_standard_input names) (once_or_alone names once)

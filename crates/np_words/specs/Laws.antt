@@ -22,8 +22,8 @@ or_standard_input (name ∷ names) = name ∷ names
 
 -- the names of the options of `list`
 abbrev pub is_list_option : Text → Bool
-is_list_option name = list_any (λ option. bytes_eq option name) (codes "format" ∷ codes "report" ∷ codes "focus" ∷ codes "side" ∷ [])
+is_list_option name = list_any (λ option. bytes_eq option name) (codes "format" ∷ codes "report" ∷ codes "controller" ∷ codes "focus" ∷ codes "side" ∷ [])
 
 -- the table as text, of rows at either side
-abbrev pub text_table : Report → Option Text → List Text → Job
-text_table report focus files = ListJob Plain report focus Either files
+abbrev pub text_table : Report → Option Text → Option Text → List Text → Job
+text_table report controller focus files = ListJob Plain report controller focus Either files

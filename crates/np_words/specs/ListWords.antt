@@ -8,12 +8,12 @@ use Rattle.np_words.specs.Values.{Text, format_of, report_of, side_of}
 use Rattle.np_words.specs.declared.job.Job.{Job}
 use Rattle.np_words.specs.declared.job.Job.TheVariants.{List as ListJob}
 
--- `list [--format text|csv|json] [--report 1|2] [--focus NAME] [--side either|from|to] [FILE]...`
+-- `list [--format text|csv|json] [--report 1|2] [--controller NAME] [--focus NAME] [--side either|from|to] [FILE]...`
 abbrev pub list_command : App
 list_command =
     command_of (codes "list")
-    (default_rule (codes "format") (codes "text") ∷ default_rule (codes "report") (codes "2") ∷ option_rule (codes "focus")
-    ∷ default_rule (codes "side") (codes "either") ∷ file_rule ∷ [])
+    (default_rule (codes "format") (codes "text") ∷ default_rule (codes "report") (codes "2") ∷ option_rule (codes "controller")
+    ∷ option_rule (codes "focus") ∷ default_rule (codes "side") (codes "either") ∷ file_rule ∷ [])
 
 -- the table that was asked for
 abbrev pub list_of : List Row → Option Job
@@ -22,7 +22,7 @@ list_of rows = do
   report ← value_in report_of (codes "report") rows
   side ← value_in side_of (codes "side") rows
   files ← files_in rows
-  Some (ListJob format report (first_of (codes "focus") rows) side files)
+  Some (ListJob format report (first_of (codes "controller") rows) (first_of (codes "focus") rows) side files)
 
 -- what words ask for of which the first is `list`
 unfoldable pub list_job : List Text → Option Job

@@ -11,11 +11,12 @@ use np_conns::Proto;
 /// one, and the name `-`, which stands at most once, is standard input.
 #[derive(Debug, Drop)]
 pub enum Job {
-    /// The table of the connections that the policies permit. With a focus, the rows in which the workload of that name
-    /// stands on the side.
+    /// The table of the connections that the policies permit. With a controller, what comes through Ingresses is sent by
+    /// the workload of that name. With a focus, the rows in which the workload of that name stands on the side.
     List {
         format: Format,
         report: Report,
+        controller: Option<Text>,
         focus: Option<Text>,
         side: FocusSide,
         files: Seq<Text>,

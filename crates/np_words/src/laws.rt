@@ -17,14 +17,14 @@ ghost use Rattle.np_words.specs.declared.report.Report.TheVariants.{Two};
 /// a table as text, in report 2, of all rows. Where there is none, `list` reads standard input.
 pub fn words_without_options_are_files()
     ensures { (names : List Text) → list_all is_plain names ≡ true → are_files names ≡ true →
-        job_of (codes "list" ∷ names) ≡ Some (text_table Two None (or_standard_input names)) }
+        job_of (codes "list" ∷ names) ≡ Some (text_table Two None None (or_standard_input names)) }
 {}
 
 /// Words after `--` are names of files, whatever they begin with.
 pub fn words_after_two_hyphens_are_files()
     ensures { (names others : List Text) → list_all is_plain names ≡ true → are_files (names ++ others) ≡ true →
         job_of (codes "list" ∷ names ++ codes "--" ∷ others)
-        ≡ Some (text_table Two None (or_standard_input (names ++ others))) }
+        ≡ Some (text_table Two None None (or_standard_input (names ++ others))) }
 {}
 
 /// Before the files, a report stands in the word after `--report`, or behind `=`, and leaves the other options at their
@@ -33,11 +33,11 @@ pub fn report_is_read_after_its_option()
     ensures apart { (value : Text) (report : Report) (names : List Text) → report_of value ≡ Some report →
         list_all is_plain names ≡ true → are_files names ≡ true →
         job_of (codes "list" ∷ codes "--report" ∷ value ∷ names)
-        ≡ Some (text_table report None (or_standard_input names)) }
+        ≡ Some (text_table report None None (or_standard_input names)) }
     ensures joined { (value : Text) (report : Report) (names : List Text) → report_of value ≡ Some report →
         list_all is_plain names ≡ true → are_files names ≡ true →
         job_of (codes "list" ∷ (codes "--report=" ++ value) ∷ names)
-        ≡ Some (text_table report None (or_standard_input names)) }
+        ≡ Some (text_table report None None (or_standard_input names)) }
     ensures refused { (value : Text) (names : List Text) → report_of value ≡ None → list_all is_plain names ≡ true →
         job_of (codes "list" ∷ (codes "--report=" ++ value) ∷ names) ≡ None }
 {}
@@ -48,10 +48,22 @@ pub fn focus_is_any_name()
     ensures apart { (name : Text) (names : List Text) → is_plain name ≡ true →
         list_all is_plain names ≡ true → are_files names ≡ true →
         job_of (codes "list" ∷ codes "--focus" ∷ name ∷ names)
-        ≡ Some (text_table Two (Some name) (or_standard_input names)) }
+        ≡ Some (text_table Two None (Some name) (or_standard_input names)) }
     ensures joined { (name : Text) (names : List Text) → list_all is_plain names ≡ true → are_files names ≡ true →
         job_of (codes "list" ∷ (codes "--focus=" ++ name) ∷ names)
-        ≡ Some (text_table Two (Some name) (or_standard_input names)) }
+        ≡ Some (text_table Two None (Some name) (or_standard_input names)) }
+{}
+
+/// Before the files, any text behind `--controller=` is a name, and so is one in a word of its own that begins with no
+/// hyphen, or is the hyphen alone.
+pub fn controller_is_any_name()
+    ensures apart { (name : Text) (names : List Text) → is_plain name ≡ true →
+        list_all is_plain names ≡ true → are_files names ≡ true →
+        job_of (codes "list" ∷ codes "--controller" ∷ name ∷ names)
+        ≡ Some (text_table Two (Some name) None (or_standard_input names)) }
+    ensures joined { (name : Text) (names : List Text) → list_all is_plain names ≡ true → are_files names ≡ true →
+        job_of (codes "list" ∷ (codes "--controller=" ++ name) ∷ names)
+        ≡ Some (text_table Two (Some name) None (or_standard_input names)) }
 {}
 
 /// Words that begin with one option of `list` twice ask for nothing, whatever its values are and whatever follows.
@@ -62,7 +74,7 @@ pub fn options_given_twice_ask_for_nothing()
 {}
 
 /// A word before `--` that begins with a hyphen, is more than that, and is no option of `list` asks for nothing: there are
-/// no options of one letter, and of those of two hyphens only four, whose names end before an `=` (61).
+/// no options of one letter, and of those of two hyphens only five, whose names end before an `=` (61).
 pub fn other_options_ask_for_nothing()
     ensures short { (names : List Text) (first : ℕ) (rest : Text) (others : List Text) →
         list_all is_plain names ≡ true → IsUtf8 (first ∷ rest) → first ≢ 45 →

@@ -2,7 +2,7 @@
 ghost use Rattle.std.specs.Prelude.{◌≡◌, Some, None, IfOk, IsErrOf, map, string_bytes};
 ghost use Rattle.clap.specs.Matches.{found_of};
 ghost use Rattle.clap.specs.Simple.{app_of};
-ghost use Rattle.clap.specs.Walk.{rows_of};
+ghost use Rattle.clap.specs.Walk.{first_of, rows_of};
 ghost use Rattle.np_words.specs.ListWords as spec;
 
 use crate::arguments::{file, option_of, option_or};
@@ -13,7 +13,7 @@ use crate::job::Job;
 use crate::report::Report;
 use crate::words_fault::WordsFault;
 use clap::{ArgMatches, Command};
-use np_base::Text;
+use np_base::{NoMemory, Text};
 use std::alloc::{AllocError, Global};
 
 /// The job of words of which the first is `list`. `Usage` comes exactly where they ask for none.
@@ -25,7 +25,7 @@ pub(crate) fn read_list(alloc: Global, words: &[String]) -> Result<Job, WordsFau
     list_of(alloc, &matches)
 }
 
-// `list [--format text|csv|json] [--report 1|2] [--focus NAME] [--side either|from|to] [FILE]...`
+// `list [--format text|csv|json] [--report 1|2] [--controller NAME] [--focus NAME] [--side either|from|to] [FILE]...`
 fn list_command<'a>(alloc: Global) -> Result<Command<'a>, AllocError>
     ensures { IfOk result (λ command. app_of command ≡ spec.list_command) }
 {
@@ -33,6 +33,7 @@ fn list_command<'a>(alloc: Global) -> Result<Command<'a>, AllocError>
         .disable_help_flag(true)
         .arg(option_or(alloc, "format", "text"))?
         .arg(option_or(alloc, "report", "2"))?
+        .arg(option_of(alloc, "controller"))?
         .arg(option_of(alloc, "focus"))?
         .arg(option_or(alloc, "side", "either"))?
         .arg(file(alloc))
@@ -57,15 +58,24 @@ fn list_of(alloc: Global, matches: &ArgMatches) -> Result<Job, WordsFault>
         .and_then(FocusSide::named)
         .ok_or(WordsFault::Usage)?;
     let files = read_files(alloc, matches)?;
-    let focus = match matches.get_str("focus") {
-        Some(name) => Some(Text::of(alloc, name)?),
-        None => None,
-    };
+    let controller = name_in(alloc, matches, "controller")?;
+    let focus = name_in(alloc, matches, "focus")?;
     Ok(Job::List {
         format,
         report,
+        controller,
         focus,
         side,
         files,
     })
+}
+
+// The name that an option was given, if it was.
+fn name_in(alloc: Global, matches: &ArgMatches, option: &str) -> Result<Option<Text>, NoMemory>
+    ensures { IfOk result (λ name. first_of option.now (rows_of (found_of matches.now)) ≡ name) }
+{
+    match matches.get_str(option) {
+        Some(name) => Ok(Some(Text::of(alloc, name)?)),
+        None => Ok(None),
+    }
 }

@@ -1,16 +1,16 @@
 //! `list`: the rows of the table that are asked for.
-ghost use Rattle.std.specs.Prelude.{◌≡◌, ◌≤◌, ◌+◌, [], IfOk, false, if◌then◌else◌};
+ghost use Rattle.std.specs.Prelude.{◌≡◌, ◌≤◌, ◌+◌, [], IfOk, IfSome, false, if◌then◌else◌};
 ghost use Rattle.np_cli.specs.Counts.{list_steps};
 ghost use Rattle.np_cli.specs.Inputs.{Gives};
 ghost use Rattle.np_cli.specs.Sinks.{sunk};
 ghost use Rattle.np_cli.specs.Written.{Writes};
 ghost use Rattle.np_cli.specs.commands.List as spec;
-ghost use Rattle.np_fold.specs.Workloads.{folding_of};
+ghost use Rattle.np_fold.specs.Workloads.{folding_of, number_named};
 ghost use Rattle.np_report.specs.Keeps.{keeps};
 ghost use Rattle.np_report.specs.RowText.{names_of, row_text};
 ghost use Rattle.np_report.specs.TableText.{list_text, rows_to_come};
-ghost use Rattle.np_table.specs.Rows.{all_rows};
-ghost use Rattle.np_table.specs.Table.{estate_table};
+ghost use Rattle.np_routes.specs.ClusterTable.{cluster_table};
+ghost use Rattle.np_table.specs.Table.{IsWorkload};
 
 use crate::failure::Failure;
 use crate::fault::Fault;
@@ -21,73 +21,112 @@ use np_io::{Gathered, Sink};
 use np_report::{
     CsvForm, Focus, FocusSide, Form, JsonForm, Query, Report, TextForm, keeps, row_text,
 };
+use np_routes::ClusterRows;
 use np_steps::Steps;
-use np_table::{Row, RowKey, Rows};
+use np_table::{Row, RowKey};
 use np_words::Format;
 use std::alloc::Global;
 use std::sync::ledger::Ledger;
 
-/// Which rows are asked for: all, or with a focus those in which the workload of that name stands on the side.
-/// `UnknownEnd` comes exactly where no workload has the name.
-#[tactic(auto, unfolding(crate::specs::commands::List::query_of))]
-pub(super) fn query_of(
+/// What a table is asked for: who sends what comes through Ingresses, a workload or, where there is `None`, a controller
+/// that is not known; and which rows.
+#[derive(Clone, Copy, Debug)]
+pub(super) struct Listing {
+    pub controller: Option<u32>,
+    pub query: Query,
+}
+
+/// What the names of a command line ask for. `UnknownEnd` comes exactly where no workload has a name, that of the controller
+/// first.
+#[tactic(auto, unfolding(crate::specs::commands::List::controller_of, crate::specs::commands::List::query_of))]
+pub(super) fn listing_of(
     folded: &Folded,
+    controller: &Option<Text>,
     focus: &Option<Text>,
     side: FocusSide,
-) -> Result<Query, Failure>
-    ensures { Gives result (spec.query_of focus.now side folded.now) }
+) -> Result<Listing, Failure>
+    ensures asked { Gives result (spec.listing_of controller.now focus.now side folded.now) }
+    ensures workload { IfOk result (λ asked. IfSome asked.controller (IsWorkload folded.now)) }
 {
-    let Some(name) = focus else {
-        return Ok(Query::All);
+    let controller = match controller {
+        Some(name) => Some(workload_of(folded, name)?),
+        None => None,
     };
+    let query = match focus {
+        Some(name) => Query::Work {
+            workload: workload_of(folded, name)?,
+            side,
+        },
+        None => Query::All,
+    };
+    Ok(Listing { controller, query })
+}
+
+// The workload of a name.
+#[tactic(auto, using(crate::proofs::ListingLemmas::named_workload))]
+fn workload_of(folded: &Folded, name: &Text) -> Result<u32, Failure>
+    ensures named { Gives result (spec.or_unknown name.now (λ workload. workload) (number_named (folding_of folded.now) name.now)) }
+    ensures workload { IfOk result (IsWorkload folded.now) }
+{
     match folded.workloads().by_name(name.as_str()) {
-        Some(workload) => Ok(Query::Work { workload, side }),
+        Some(workload) => Ok(workload),
         None => Err(Failure::Refused(Fault::UnknownEnd { name: name.copy()? })),
     }
 }
 
 /// Writes the rows of the table that are asked for, in their order. Rows are gathered, so that many of them are one call of
 /// the sink. The room for that is made before the first byte is written. The rules that it looks at are counted.
-#[tactic(auto, using(crate::proofs::RowsLemmas::list_text_is))]
+#[tactic(auto, using(crate::proofs::ListingLemmas::list_text_is, crate::proofs::CountsLemmas::due_all))]
 pub(super) fn list<O: Sink, L: Ledger>(
     alloc: Global,
     folded: &Folded,
-    query: Query,
+    asked: Listing,
     format: Format,
     report: Report,
     out: &mut O,
     steps: &mut Steps<L>,
 ) -> Result<(), WriteFault>
-    ensures written { Writes (sunk O.taken O.faults out.old out.new) (list_text (estate_table folded.now) query format report) result }
+    requires { IfSome asked.controller (IsWorkload folded.now) }
+    ensures written { Writes (sunk O.taken O.faults out.old out.new)
+        (list_text (cluster_table folded.now asked.controller) asked.query format report)
+        result }
     ensures least { steps.old ≤ steps.new }
     ensures most { steps.new ≤ steps.old + list_steps folded.now }
 {
+    let query = asked.query;
     let keep = Box::new(alloc, move |key: &RowKey| keeps(&query, key))?;
     let focus = Focus::new(query, keep);
+    let mut rows = ClusterRows::of(alloc, folded, asked.controller)?;
     match format {
-        Format::Plain => write_rows::<TextForm, O, L>(alloc, folded, &focus, report, out, steps),
-        Format::Csv => write_rows::<CsvForm, O, L>(alloc, folded, &focus, report, out, steps),
-        Format::Json => write_rows::<JsonForm, O, L>(alloc, folded, &focus, report, out, steps),
+        Format::Plain => write_rows::<TextForm, O, L>(
+            alloc, folded, &mut rows, &focus, report, out, steps,
+        ),
+        Format::Csv => write_rows::<CsvForm, O, L>(
+            alloc, folded, &mut rows, &focus, report, out, steps,
+        ),
+        Format::Json => write_rows::<JsonForm, O, L>(
+            alloc, folded, &mut rows, &focus, report, out, steps,
+        ),
     }
 }
 
-// Writes the rows that a focus admits in a form.
+// Writes those of some rows that a focus admits in a form.
 fn write_rows<F: Form, O: Sink, L: Ledger>(
     alloc: Global,
     folded: &Folded,
+    rows: &mut ClusterRows<'_>,
     focus: &Focus,
     report: Report,
     out: &mut O,
     steps: &mut Steps<L>,
 ) -> Result<(), WriteFault>
     ensures written { Writes (sunk O.taken O.faults out.old out.new)
-        (rows_to_come F.bytes (names_of (folding_of folded.now)) focus.now.query report false (all_rows (estate_table folded.now)))
+        (rows_to_come F.bytes (names_of (folding_of folded.now)) focus.now.query report false rows.old.rows)
         result }
     ensures least { steps.old ≤ steps.new }
-    ensures most { steps.new ≤ steps.old + list_steps folded.now }
+    ensures most { steps.new ≤ steps.old + rows.old.due }
 {
     let mut gathered = Gathered::new(alloc)?;
-    let mut rows = Rows::new(alloc, folded);
     let mut came = false;
     while let Some(row) = rows.next(steps)? {
         let line = line_of::<F>(alloc, folded, focus, report, came, &row)?;

@@ -1,23 +1,20 @@
 use Rattle.std.proofs.Common.{◌+◌, ◌≤◌, false, length}
 use Rattle.np_cli.proofs.RowsLemmas.{HasLeft}
 use Rattle.np_cli.proofs.commands.list.write_rows.Given as goal
-use Rattle.np_cli.specs.Counts.{list_steps}
 use Rattle.np_fold.specs.Workloads.{folding_of}
 use Rattle.np_report.specs.RowText.{names_of}
 use Rattle.np_report.specs.TableText.{rows_to_come}
-use Rattle.np_table.specs.Rows.{all_rows}
-use Rattle.np_table.specs.Table.{estate_table}
 
 -- what is held and the rows that are still to come are what is left of the text, and what is due for them is what may still be counted
-abbrev pub invariant-loop-rows : goal.invariant-loop-rows
-invariant-loop-rows g l = record {
+abbrev pub invariant-loop-gathered : goal.invariant-loop-gathered
+invariant-loop-gathered g l = record {
   left : HasLeft (g.O.Sink.taken l.fn.out) (g.O.Sink.taken l.out) (g.O.Sink.faults l.fn.out) (g.O.Sink.faults l.out)
-      (rows_to_come g.F.Form.bytes (names_of (folding_of l.fn.folded)) l.fn.focus.query l.fn.report false (all_rows (estate_table l.fn.folded)))
+      (rows_to_come g.F.Form.bytes (names_of (folding_of l.fn.folded)) l.fn.focus.query l.fn.report false l.fn.rows.rows)
       l.gathered
       (rows_to_come g.F.Form.bytes (names_of (folding_of l.fn.folded)) l.fn.focus.query l.fn.report l.came l.rows.rows);
   least : l.fn.steps ≤ l.steps;
-  most : l.steps + l.rows.due ≤ l.fn.steps + list_steps l.fn.folded;
+  most : l.steps + l.rows.due ≤ l.fn.steps + l.fn.rows.due;
 }
 
-abbrev pub decreases-loop-rows : goal.decreases-loop-rows
-decreases-loop-rows g l = length l.rows.rows
+abbrev pub decreases-loop-gathered : goal.decreases-loop-gathered
+decreases-loop-gathered g l = length l.rows.rows

@@ -1,0 +1,13 @@
+pub mod FirstLemmas
+pub mod MarkLemmas
+pub mod NoSideLemmas
+pub mod OneListLemmas
+pub mod PartLemmas
+pub mod PlaceLemmas
+pub mod RightPartsLemmas
+pub mod RuleLemmas
+pub mod SameDecider
+pub mod SideLemmas
+pub mod SpotLemmas
+pub mod WalkLemmas
+pub mod WholeLemmas

@@ -1,0 +1,37 @@
+-- What decides, as it is printed.
+use Rattle.std.specs.Prelude.{ℕ, List, [], ◌++◌, codes, decimal, Bool, true, false, Option, Some, None}
+use Rattle.std.specs.List.{join_by}
+use Rattle.np_policies.specs.declared.direction.Direction.{Direction}
+use Rattle.np_policies.specs.declared.direction.Direction.TheVariants.{Ingress, Egress}
+use Rattle.np_rules.specs.declared.decider.Decider.{Decider}
+use Rattle.np_rules.specs.declared.decider.Decider.TheVariants.{NoSide, Admin, Net, Isolated, Base, Free}
+use Rattle.np_rules.specs.declared.decider.RuleName.{RuleName}
+
+abbrev pub verdict_text : Bool → List ℕ
+verdict_text true = codes "Allow"
+verdict_text false = codes "Deny"
+
+abbrev pub direction_text : Direction → List ℕ
+direction_text Ingress = codes "ingress"
+direction_text Egress = codes "egress"
+
+-- `name ingress[n]`, where n is the rule's place from 0
+abbrev pub rule_text : Direction → RuleName → List ℕ
+rule_text direction rule = rule.policy ++ codes " " ++ direction_text direction ++ codes "[" ++ decimal rule.place ++ codes "]"
+
+-- the rule with Pass that was met first, if one was
+abbrev pub pass_text : Direction → Option RuleName → List ℕ
+pass_text direction None = []
+pass_text direction (Some rule) = codes " after Pass by AdminNetworkPolicy " ++ rule_text direction rule
+
+-- names of policies, joined by `, `
+abbrev pub names_text : List (List ℕ) → List ℕ
+names_text names = join_by (λ name. name) (codes ", ") names
+
+unfoldable pub decider_text : Direction → Decider → List ℕ
+decider_text direction NoSide = codes "Allow since no pod is at this side"
+decider_text direction (Admin rule allow) = verdict_text allow ++ codes " by AdminNetworkPolicy " ++ rule_text direction rule
+decider_text direction (Net pass rule) = codes "Allow by NetworkPolicy " ++ rule_text direction rule ++ pass_text direction pass
+decider_text direction (Isolated pass policies) = codes "Deny since isolated by NetworkPolicy " ++ names_text policies ++ pass_text direction pass
+decider_text direction (Base pass rule allow) = verdict_text allow ++ codes " by BaselineAdminNetworkPolicy " ++ rule_text direction rule ++ pass_text direction pass
+decider_text direction (Free pass) = codes "Allow by default" ++ pass_text direction pass

@@ -1,0 +1,6 @@
+pub mod DeciderText
+pub mod Marks
+pub mod Order
+pub mod Parts
+pub mod RightParts
+pub mod Sides

@@ -1,0 +1,72 @@
+-- What decides the packets between two ends, at one side of them.
+use Rattle.std.specs.Prelude.{◌≡◌, Bool, true, false, ◌==◌}
+use Rattle.np_addr.specs.Addresses.{family_of}
+use Rattle.np_addr.specs.declared.address.Family.{Family}
+use Rattle.np_conns.specs.declared.port_spot.PortSpot.{PortSpot}
+use Rattle.np_estate.specs.declared.lists.EstateLists.{EstateLists}
+use Rattle.np_policies.specs.declared.direction.Direction.{Direction}
+use Rattle.np_policies.specs.declared.direction.Direction.TheVariants.{Ingress, Egress}
+use Rattle.np_rules.specs.Deciders.{decider}
+use Rattle.np_rules.specs.Ends.{Contact, End, Packet, address, contact, contact_of, pod}
+use Rattle.np_rules.specs.PodSides.{PodSide, near_pod}
+use Rattle.np_rules.specs.Verdict.{end_of}
+use Rattle.np_rules.specs.declared.decider.Decider.{Decider}
+use Rattle.np_rules.specs.declared.packet.End.{End as PlacedEnd}
+use Rattle.np_rules.specs.declared.packet.End.TheVariants.{Pod, At}
+
+-- ---- two ends
+
+-- the packet of a family from one end to another, at a spot
+abbrev pub packet_between : EstateLists → PlacedEnd → PlacedEnd → Family → PortSpot → Packet
+packet_between lists source destination family spot = record { source = end_of lists source; destination = end_of lists destination; family = family; spot = spot }
+
+-- whether both ends are one pod
+abbrev pub are_one_pod : PlacedEnd → PlacedEnd → Bool
+are_one_pod (Pod p) (Pod q) = p == q
+are_one_pod source destination = false
+
+-- the family is that of an end that is an address; at a pod it may be either
+abbrev pub IsFamilyAt : PlacedEnd → Family → Type 0
+IsFamilyAt (At a) family = family ≡ family_of a
+IsFamilyAt (Pod p) family = Unit {0}
+
+-- the family is that of the end that is an address, and of the source where both are
+abbrev pub IsFamilyOf : PlacedEnd → PlacedEnd → Family → Type 0
+IsFamilyOf (At a) destination family = IsFamilyAt (At a) family
+IsFamilyOf (Pod p) destination family = IsFamilyAt destination family
+
+-- ---- one side of them
+
+-- a source sends, and a destination receives
+abbrev pub end_at : Direction → Packet → End
+end_at Egress packet = packet.source
+end_at Ingress packet = packet.destination
+
+abbrev pub placed_at : Direction → PlacedEnd → PlacedEnd → PlacedEnd
+placed_at Egress source destination = source
+placed_at Ingress source destination = destination
+
+abbrev pub is_address : End → Bool
+is_address (pod p) = false
+is_address (address a) = true
+
+-- what decides a packet at that side
+abbrev pub decider_at : EstateLists → Direction → Packet → Decider
+decider_at lists direction packet = decider lists direction (end_at direction packet) (contact_of direction packet)
+
+-- what decides there between two ends, spot by spot
+abbrev pub decider_between : EstateLists → Direction → PlacedEnd → PlacedEnd → Family → PortSpot → Decider
+decider_between lists direction source destination family spot = decider_at lists direction (packet_between lists source destination family spot)
+
+-- The side of a pod at the near end looks at packets of the far end's family; at an address nothing does.
+abbrev pub IsFamilyWith : PlacedEnd → PlacedEnd → Family → Type 0
+IsFamilyWith (Pod p) far family = IsFamilyAt far family
+IsFamilyWith (At a) far family = Unit {0}
+
+-- what decides at a near end, with a far one
+abbrev pub decider_near : EstateLists → Direction → PlacedEnd → PlacedEnd → Family → PortSpot → Decider
+decider_near lists direction near far family spot = decider lists direction (end_of lists near) (contact direction (end_of lists near) (end_of lists far) family spot)
+
+-- what a pod's side looks at, by its far end
+abbrev pub with_end : PlacedEnd → Family → PodSide → PortSpot → Contact
+with_end far family side = contact side.direction (pod (near_pod side)) (end_of side.lists far) family

@@ -1,0 +1,178 @@
+//! What decides every packet between two ends.
+ghost use Rattle.std.specs.Prelude.{◌≡◌, ◌+◌, ◌≤◌, ◌<◌, false, length, map, All, IfOk, OnOk};
+ghost use Rattle.np_conns.specs.Conns.{has_spot, is_spot};
+ghost use Rattle.np_estate.specs.Lawful.{IsLawful};
+ghost use Rattle.np_explain.specs.Marks.{IsMarkOf, named_part};
+ghost use Rattle.np_explain.specs.Parts.{AreRightParts};
+ghost use Rattle.np_explain.specs.RightParts.{parts_of};
+ghost use Rattle.np_explain.specs.Sides.{IsFamilyAt, IsFamilyOf, IsFamilyWith, are_one_pod, decider_between, decider_near, placed_at, with_end};
+ghost use Rattle.np_rules.specs.Places.{end_rule_count};
+ghost use Rattle.np_rules.specs.PodSides.{IsSideLayer, side_of, side_rule_count};
+ghost use Rattle.np_rules.specs.Verdict.{IsEndOf, end_of};
+
+use crate::order::first_number;
+use crate::part::Part;
+use crate::side::Side;
+use np_addr::Family;
+use np_base::{Cells, NoMemory, Seq};
+use np_conns::ConnSet;
+use np_estate::Estate;
+use np_policies::Direction;
+use np_rules::{Decider, End, pod_layer, point_layer};
+use np_steps::Steps;
+use np_tiers::{Layer, Marked, carve};
+use std::alloc::Global;
+use std::sync::ledger::Ledger;
+
+/// What decides every packet of a family from one end to another, at one side: with `Egress` at the source, with `Ingress`
+/// at the destination. There is one part for each decider that decides some protocol and port, with exactly those that it
+/// decides, in the order of the least of them: TCP, UDP, SCTP, and then by port. So the sets are disjoint, none is empty,
+/// and together they are all protocols and ports. An address has no side: at one, a single part has everything.
+///
+/// The ends are not one pod. Where an end is an address the family is its own, and that of the source where both are. All
+/// rules that speak of the side's pod are counted. Want of memory is the one refusal.
+pub fn explain<L: Ledger>(
+    alloc: Global,
+    estate: &Estate,
+    source: End,
+    destination: End,
+    direction: Direction,
+    family: Family,
+    steps: &mut Steps<L>,
+) -> Result<Seq<Part>, NoMemory>
+    requires lawful { IsLawful estate.now }
+    requires source { IsEndOf estate.now source }
+    requires destination { IsEndOf estate.now destination }
+    requires apart { are_one_pod source destination ≡ false }
+    requires family { IsFamilyOf source destination family }
+    ensures parts { IfOk result (AreRightParts (decider_between estate.now direction source destination family)) }
+    ensures list { IfOk result (λ parts. parts ≡ parts_of (decider_between estate.now direction source destination family)) }
+    ensures cost { OnOk result (steps.new
+        ≡ steps.old + end_rule_count estate.now direction (end_of estate.now (placed_at direction source destination))) }
+    ensures least { steps.old ≤ steps.new }
+    ensures most { steps.new
+        ≤ steps.old + end_rule_count estate.now direction (end_of estate.now (placed_at direction source destination)) }
+{
+    match direction {
+        Direction::Egress => parts_at(alloc, estate, source, destination, direction, family, steps),
+        Direction::Ingress => parts_at(
+            alloc,
+            estate,
+            destination,
+            source,
+            direction,
+            family,
+            steps,
+        ),
+    }
+}
+
+// The parts at an end.
+fn parts_at<L: Ledger>(
+    alloc: Global,
+    estate: &Estate,
+    near: End,
+    far: End,
+    direction: Direction,
+    family: Family,
+    steps: &mut Steps<L>,
+) -> Result<Seq<Part>, NoMemory>
+    requires lawful { IsLawful estate.now }
+    requires near { IsEndOf estate.now near }
+    requires far { IsEndOf estate.now far }
+    requires family { IsFamilyWith near far family }
+    ensures parts { IfOk result (AreRightParts (decider_near estate.now direction near far family)) }
+    ensures cost { OnOk result (steps.new ≡ steps.old + end_rule_count estate.now direction (end_of estate.now near)) }
+    ensures least { steps.old ≤ steps.new }
+    ensures most { steps.new ≤ steps.old + end_rule_count estate.now direction (end_of estate.now near) }
+{
+    match near {
+        End::Pod(pod) => pod_parts(alloc, estate, pod, direction, far, family, steps),
+        End::At(_) => everything(alloc),
+    }
+}
+
+// The one part at an end without a side.
+fn everything(alloc: Global) -> Result<Seq<Part>, NoMemory>
+    ensures { IfOk result (AreRightParts (λ _. Decider.NoSide)) }
+{
+    let conns = ConnSet::everything(alloc)?;
+    let mut parts = Seq::new(alloc);
+    parts.push(Part {
+        decider: Decider::NoSide,
+        conns,
+    })?;
+    Ok(parts)
+}
+
+// The parts at a pod.
+fn pod_parts<L: Ledger>(
+    alloc: Global,
+    estate: &Estate,
+    pod: u32,
+    direction: Direction,
+    far: End,
+    family: Family,
+    steps: &mut Steps<L>,
+) -> Result<Seq<Part>, NoMemory>
+    requires lawful { IsLawful estate.now }
+    requires pod { pod < length estate.now.pods }
+    requires far { IsEndOf estate.now far }
+    requires family { IsFamilyAt far family }
+    ensures parts { IfOk result (AreRightParts (decider_near estate.now direction (End.Pod pod) far family)) }
+    ensures cost { OnOk result (steps.new ≡ steps.old + side_rule_count (side_of estate.now pod direction)) }
+    ensures least { steps.old ≤ steps.new }
+    ensures most { steps.new ≤ steps.old + side_rule_count (side_of estate.now pod direction) }
+{
+    let layer = layer_with(alloc, estate, pod, direction, far, family, steps)?;
+    let entries = carve(alloc, &layer)?;
+    let side = Side::of(alloc, estate, pod, direction, &layer)?;
+    let mut parts = named_parts(alloc, &side, entries)?;
+    parts.sort_unstable_by_key(|part| first_number(&part.conns));
+    Ok(Seq::from_vec(parts))
+}
+
+// The rules that speak of a pod, as sets of what they match with a far end.
+fn layer_with<L: Ledger>(
+    alloc: Global,
+    estate: &Estate,
+    pod: u32,
+    direction: Direction,
+    far: End,
+    family: Family,
+    steps: &mut Steps<L>,
+) -> Result<Layer<ConnSet>, NoMemory>
+    requires pod { pod < length estate.now.pods }
+    requires far { IsEndOf estate.now far }
+    requires family { IsFamilyAt far family }
+    ensures layer { IfOk result (IsSideLayer has_spot is_spot (side_of estate.now pod direction) (with_end far family)) }
+    ensures cost { OnOk result (steps.new ≡ steps.old + side_rule_count (side_of estate.now pod direction)) }
+    ensures least { steps.old ≤ steps.new }
+    ensures most { steps.new ≤ steps.old + side_rule_count (side_of estate.now pod direction) }
+{
+    match far {
+        End::Pod(peer) => pod_layer(alloc, estate, pod, direction, peer, family, steps),
+        End::At(address) => point_layer(alloc, estate, pod, direction, address, steps),
+    }
+}
+
+// The carved sets, with what decides in place of their marks.
+fn named_parts(
+    alloc: Global,
+    side: &Side<'_>,
+    entries: Seq<Marked<ConnSet>>,
+) -> Result<Vec<Part>, NoMemory>
+    requires { All (λ entry. IsMarkOf side.now entry.mark) entries }
+    ensures { IfOk result (λ parts. parts.items ≡ map (named_part side.now) entries) }
+{
+    let mut parts = Vec::new(alloc);
+    for entry in entries.into_vec() {
+        let Marked { mark, set } = entry;
+        let decider = side.decider(alloc, mark)?;
+        parts.push(Part {
+            decider,
+            conns: set,
+        })?;
+    }
+    Ok(parts)
+}

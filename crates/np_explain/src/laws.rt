@@ -1,0 +1,58 @@
+//! What follows from the definitions. Each law is the contract of a call that does nothing.
+ghost use Rattle.std.specs.Prelude.{◌≡◌, ◌↔◌, ◌&&◌, IsTrue, List, [], ◌∷◌, map, filter, true, All};
+ghost use Rattle.np_addr.specs.declared.address.Family.{Family};
+ghost use Rattle.np_conns.specs.Conns.{has_spot, is_spot};
+ghost use Rattle.np_conns.specs.declared.port_spot.PortSpot.{PortSpot};
+ghost use Rattle.np_estate.specs.declared.lists.EstateLists.{EstateLists};
+ghost use Rattle.np_explain.specs.Parts.{AreRightParts};
+ghost use Rattle.np_explain.specs.RightParts.{parts_of};
+ghost use Rattle.np_explain.specs.Sides.{decider_at, decider_between, end_at, is_address, packet_between};
+ghost use Rattle.np_explain.specs.declared.part.Part.{Part};
+ghost use Rattle.np_policies.specs.declared.direction.Direction.{Direction};
+ghost use Rattle.np_policies.specs.declared.direction.Direction.TheVariants.{Ingress, Egress};
+ghost use Rattle.np_rules.specs.Deciders.{decider, decider_allows};
+ghost use Rattle.np_rules.specs.Ends.{Contact, End as RuleEnd, Packet, contact_of};
+ghost use Rattle.np_rules.specs.Verdict.{allows, end_allows};
+ghost use Rattle.np_rules.specs.declared.decider.Decider.{Decider};
+ghost use Rattle.np_rules.specs.declared.decider.Decider.TheVariants.{NoSide};
+ghost use Rattle.np_rules.specs.declared.packet.End.{End};
+
+/// At most one list of parts is right for what decides each spot.
+pub fn one_list_of_parts_is_right()
+    ensures { (decides : PortSpot → Decider) (parts others : List Part) →
+        AreRightParts decides parts → AreRightParts decides others → parts ≡ others }
+{}
+
+/// The parts that are made from what decides each spot are right, and whatever parts are right are these.
+pub fn right_parts_are_these()
+    ensures right { (decides : PortSpot → Decider) → AreRightParts decides (parts_of decides) }
+    ensures only { (decides : PortSpot → Decider) (parts : List Part) → AreRightParts decides parts → parts ≡ parts_of decides }
+{}
+
+/// Each spot is in exactly one of the right parts, that of its decider. So the sets are disjoint and cover the space.
+pub fn each_spot_is_in_one_part()
+    ensures { (decides : PortSpot → Decider) (parts : List Part) (spot : PortSpot) →
+        AreRightParts decides parts → is_spot spot ≡ true →
+        map (λ part. part.decider) (filter (λ part. has_spot part.conns spot) parts) ≡ decides spot ∷ [] }
+{}
+
+/// What the decider of a right part says is the verdict of its side at each of its spots.
+pub fn parts_give_the_verdict()
+    ensures { (lists : EstateLists) (direction : Direction) (source destination : End) (family : Family) (parts : List Part) →
+        AreRightParts (decider_between lists direction source destination family) parts →
+        All (λ part. (spot : PortSpot) → has_spot part.conns spot ≡ true → decider_allows part.decider
+        ≡ end_allows lists direction (end_at direction (packet_between lists source destination family spot))
+        (contact_of direction (packet_between lists source destination family spot))) parts }
+{}
+
+/// A packet is allowed where what decides at its source allows it and what decides at its destination does.
+pub fn both_sides_give_the_verdict()
+    ensures { (lists : EstateLists) (packet : Packet) → allows lists packet
+        ≡ (decider_allows (decider_at lists Egress packet) && decider_allows (decider_at lists Ingress packet)) }
+{}
+
+/// A packet has no side at an end exactly where the end is an address.
+pub fn only_addresses_have_no_side()
+    ensures { (lists : EstateLists) (direction : Direction) (end : RuleEnd) (contact : Contact) →
+        IsTrue (is_address end) ↔ (decider lists direction end contact ≡ NoSide) }
+{}

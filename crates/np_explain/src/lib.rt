@@ -1,0 +1,18 @@
+//! Why: which rule decides every packet between two ends, protocol by protocol and port by port, and the text of that.
+#![tactic(auto)]
+
+mod explaining;
+mod laws;
+mod order;
+mod part;
+mod print;
+mod rule_names;
+mod side;
+
+pub use explaining::explain;
+pub use laws::{
+    both_sides_give_the_verdict, each_spot_is_in_one_part, one_list_of_parts_is_right,
+    only_addresses_have_no_side, parts_give_the_verdict, right_parts_are_these,
+};
+pub use part::Part;
+pub use print::print_decider;

@@ -1,0 +1,181 @@
+//! A pod's side: what decides where the walk of its layer ends.
+ghost use Rattle.std.specs.Prelude.{◌≡◌, ◌<◌, length, IfOk, Some};
+ghost use Rattle.std.specs.List.{slice_get};
+ghost use Rattle.np_estate.specs.Lawful.{IsFew};
+ghost use Rattle.np_explain.specs.Marks.{IsMarkOf, IsPassOf, SaysActions, admin_rules, base_rules, mark_decider, net_rules, pass_name};
+ghost use Rattle.np_policies.specs.declared.admin_policy.Action.{Action as PolicyAction};
+ghost use Rattle.np_rules.specs.Deciders.{admin_rule_name, base_rule_name, isolating_names, net_rule_name};
+ghost use Rattle.np_rules.specs.Layers.{tier_action};
+ghost use Rattle.np_rules.specs.Places.{PlacedAdminRule, PlacedBaseRule, PlacedNetRule};
+ghost use Rattle.np_rules.specs.PodSides.{near_pod, side_of};
+ghost use Rattle.np_rules.specs.Sides.{is_allow};
+
+use crate::rule_names::{admin_rule_name, net_policy_names, net_rule_name};
+use np_base::{NoMemory, Seq, Text};
+use np_conns::ConnSet;
+use np_estate::Estate;
+use np_policies::Direction;
+use np_rules::{Decider, LayerRules, RuleName, layer_rules};
+use np_tiers::{Action, Layer, Mark};
+use std::alloc::Global;
+use std::marker::Model;
+
+/// The rules that speak of a pod in a direction: what they say, by its layer, and how they are named. Contracts see the
+/// estate's lists, the pod's place among its pods, and the direction.
+#[derive(Drop)]
+pub(crate) struct Side<'a> {
+    estate: &'a Estate,
+    pod: u32,
+    direction: Direction,
+    layer: &'a Layer<ConnSet>,
+    rules: LayerRules,
+}
+
+impl<'a> Model for Side<'a> {
+    ghost use Rattle.np_explain.specs.Marks.{KeepsNames};
+    ghost use Rattle.np_rules.specs.PodSides.{PodSide, side_of};
+
+    ghost Value = { PodSide };
+
+    ghost view = { λ s. side_of s.estate.now s.pod s.direction };
+
+    ghost invariant = { λ s. KeepsNames (side_of s.estate.now s.pod s.direction) s.layer.now s.rules };
+}
+
+impl<'a> Side<'a> {
+    /// The side of a pod, which is named by its place in the estate.
+    pub(crate) fn of(
+        alloc: Global,
+        estate: &'a Estate,
+        pod: u32,
+        direction: Direction,
+        layer: &'a Layer<ConnSet>,
+    ) -> Result<Side<'a>, NoMemory>
+        requires few { IsFew estate.now }
+        requires pod { pod < length estate.now.pods }
+        requires says { SaysActions (side_of estate.now pod direction) layer.now }
+        ensures { IfOk result (λ made. made ≡ side_of estate.now pod direction) }
+    {
+        let rules = layer_rules(alloc, estate, pod, direction)?;
+        Ok(Side {
+            estate,
+            pod,
+            direction,
+            layer,
+            rules,
+        })
+    }
+
+    /// What decides where a walk ends.
+    pub(crate) fn decider(&self, alloc: Global, mark: Mark) -> Result<Decider, NoMemory>
+        requires { IsMarkOf self.now mark }
+        ensures { IfOk result (λ made. made ≡ mark_decider self.now mark) }
+    {
+        match mark {
+            Mark::Admin { place } => {
+                let rule = self.admin_rule(place)?;
+                let allow = self.admin_allows(place);
+                Ok(Decider::Admin { rule, allow })
+            }
+            Mark::Net { pass, place } => {
+                let rule = self.net_rule(alloc, place)?;
+                let pass = self.pass_rule(pass)?;
+                Ok(Decider::Net { pass, rule })
+            }
+            Mark::Isolated { pass } => {
+                let policies = self.isolating(alloc)?;
+                let pass = self.pass_rule(pass)?;
+                Ok(Decider::Isolated { pass, policies })
+            }
+            Mark::Base { pass, place } => {
+                let rule = self.base_rule(alloc, place)?;
+                let allow = self.base_allows(place);
+                let pass = self.pass_rule(pass)?;
+                Ok(Decider::Base { pass, rule, allow })
+            }
+            Mark::Free { pass } => {
+                let pass = self.pass_rule(pass)?;
+                Ok(Decider::Free { pass })
+            }
+        }
+    }
+
+    // The name of the admin rule with Pass that was met, where one was.
+    fn pass_rule(&self, pass: Option<u64>) -> Result<Option<RuleName>, NoMemory>
+        requires { IsPassOf self.now pass }
+        ensures { IfOk result (λ name. name ≡ pass_name self.now pass) }
+    {
+        match pass {
+            Some(place) => Ok(Some(self.admin_rule(place)?)),
+            None => Ok(None),
+        }
+    }
+
+    // The name of an admin rule.
+    fn admin_rule(&self, place: u64) -> Result<RuleName, NoMemory>
+        requires { place < length (admin_rules self.now) }
+        ensures { IfOk result (λ name. (placed : PlacedAdminRule) →
+            slice_get (admin_rules self.now) place ≡ Some placed → name ≡ admin_rule_name placed) }
+    {
+        let id = self.rules.admin.items()[place as usize];
+        admin_rule_name(self.estate.admin_policies(), id)
+    }
+
+    // Whether an admin rule allows.
+    fn admin_allows(&self, place: u64) -> bool
+        requires { place < length (admin_rules self.now) }
+        ensures { (placed : PlacedAdminRule) →
+            slice_get (admin_rules self.now) place ≡ Some placed → result ≡ is_allow placed.rule.action }
+    {
+        is_allow(self.layer.admin.items()[place as usize].action)
+    }
+
+    // The name of a rule of a NetworkPolicy.
+    fn net_rule(&self, alloc: Global, place: u64) -> Result<RuleName, NoMemory>
+        requires { place < length (net_rules self.now) }
+        ensures { IfOk result (λ name. (placed : PlacedNetRule) →
+            slice_get (net_rules self.now) place ≡ Some placed → name ≡ net_rule_name placed) }
+    {
+        let id = self.rules.net.items()[place as usize];
+        net_rule_name(alloc, self.estate.net_policies(), id)
+    }
+
+    // The names of the NetworkPolicies that isolate the pod.
+    fn isolating(&self, alloc: Global) -> Result<Seq<Text>, NoMemory>
+        ensures { IfOk result (λ names. names
+            ≡ isolating_names self.now.lists.net_policies self.now.direction (near_pod self.now)) }
+    {
+        net_policy_names(
+            alloc,
+            self.estate.net_policies(),
+            self.rules.isolating.items(),
+        )
+    }
+
+    // The name of a rule of the baseline.
+    fn base_rule(&self, alloc: Global, place: u64) -> Result<RuleName, NoMemory>
+        requires { place < length (base_rules self.now) }
+        ensures { IfOk result (λ name. (placed : PlacedBaseRule) →
+            slice_get (base_rules self.now) place ≡ Some placed → name ≡ base_rule_name placed) }
+    {
+        let place = self.rules.base.items()[place as usize].place;
+        let policy = Text::of(alloc, "default")?;
+        Ok(RuleName { policy, place })
+    }
+
+    // Whether a rule of the baseline allows.
+    fn base_allows(&self, place: u64) -> bool
+        requires { place < length (base_rules self.now) }
+        ensures { (placed : PlacedBaseRule) →
+            slice_get (base_rules self.now) place ≡ Some placed → result ≡ is_allow placed.rule.action }
+    {
+        self.layer.base.items()[place as usize].allow
+    }
+}
+
+// Whether a rule that says so allows.
+fn is_allow(action: Action) -> bool
+    ensures { (said : PolicyAction) → action ≡ tier_action said → result ≡ is_allow said }
+{
+    action == Action::Allow
+}

@@ -1,0 +1,15 @@
+pub mod MentionLemmas
+pub mod WeightLemmas
+pub mod SameLemmas
+pub mod StateLemmas
+pub mod FillLemmas
+pub mod WitnessLemmas
+pub mod WalkLemmas
+pub mod ListLemmas
+pub mod ExposureLemmas
+pub mod FirstLemmas
+pub mod StandsLemmas
+pub mod BeginLemmas
+pub mod RightLemmas
+pub mod FewLemmas
+pub mod PeerLemmas

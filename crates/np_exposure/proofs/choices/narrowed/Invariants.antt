@@ -1,0 +1,6 @@
+use Rattle.std.proofs.Common.{◌≡◌, map, take}
+use Rattle.np_exposure.specs.steps.Choices.{narrowed_at}
+use Rattle.np_exposure.proofs.choices.narrowed.Given as goal
+
+abbrev pub invariant-loop-choices : goal.invariant-loop-choices
+invariant-loop-choices l = l.made.items ≡ map (narrowed_at l.wanted l.asked) (take l.choices-index l.state)

@@ -1,0 +1,7 @@
+use Rattle.np_exposure.proofs.BeginLemmas.{walked-rows_of}
+use Rattle.np_rules.specs.PodSides.{side_of}
+use Rattle.np_exposure.proofs.exposures.exposure.Goals as goal
+
+pub returns-clause-rows : goal.returns-clause-rows
+returns-clause-rows g c =
+    walked-rows_of (side_of c.args.estate.now c.args.pod c.args.direction) _ c.in_ok-mentions.mentions.items _ c.in_ok-rules.ensures c.in_ok-mentions.ensures c.in_ok-rows_of_mentions.ensures

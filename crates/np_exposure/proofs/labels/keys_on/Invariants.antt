@@ -1,0 +1,12 @@
+use Rattle.std.proofs.Common.{◌≡◌, drop, filter, fold, map}
+use Rattle.std.specs.BTreeSet.{insert_key}
+use Rattle.std.specs.Cmp.Lexicographic.{slice_cmp}
+use Rattle.std.specs.Ordering.{nat_cmp}
+use Rattle.np_exposure.specs.Mentions.{same_side}
+use Rattle.np_exposure.specs.Weight.{keys_on}
+use Rattle.np_exposure.proofs.labels.keys_on.Given as goal
+
+-- with the keys of the requirements that are left they are all
+abbrev pub invariant-loop-asked : goal.invariant-loop-asked
+invariant-loop-asked l =
+    fold (insert_key (slice_cmp nat_cmp)) l.keys.keys (map (λ asked. asked.requirement.key) (filter (λ asked. same_side asked.side l.side) (drop l.asked-index l.mentions))) ≡ keys_on l.side l.mentions

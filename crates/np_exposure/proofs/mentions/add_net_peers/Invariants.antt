@@ -1,0 +1,6 @@
+use Rattle.std.proofs.Common.{◌≡◌, ◌++◌, flat_map, take}
+use Rattle.np_exposure.specs.Mentions.{of_net_peer}
+use Rattle.np_exposure.proofs.mentions.add_net_peers.Given as goal
+
+abbrev pub invariant-loop-peer : goal.invariant-loop-peer
+invariant-loop-peer l = l.made.items ≡ l.fn.made.items ++ flat_map (of_net_peer l.namespace) (take l.peer-index l.peers)

@@ -1,0 +1,6 @@
+use Rattle.std.proofs.Common.{◌≡◌, ◌++◌, codes, flat_map, string_bytes, take}
+use Rattle.np_exposure.specs.PeerText.{requirement_text}
+use Rattle.np_exposure.proofs.peer_text.push_others.Given as goal
+
+abbrev pub invariant-loop-asked : goal.invariant-loop-asked
+invariant-loop-asked l = string_bytes l.text ≡ string_bytes l.fn.text ++ flat_map (λ asked. codes " and " ++ requirement_text asked) (take l.asked-index l.others)

@@ -1,0 +1,26 @@
+use Rattle.std.proofs.Common.{ap, ◌∙◌, true, false}
+use Rattle.np_exposure.proofs.StateLemmas.{alone-step, fork-states-by}
+use Rattle.np_exposure.specs.steps.Choices.{can_be, narrowed}
+use Rattle.np_exposure.proofs.step.next_step.Goals as goal
+
+pub returns-then-not-can_meet-can_miss-clause-step : goal.returns-then-not-can_meet-can_miss-clause-step
+returns-then-not-can_meet-can_miss-clause-step c =
+    alone-step c.args.asked.now c.args.state.items c.requires c.can_be-can_meet.result c.can_be-can_miss.result
+    (c.can_be-can_meet.ensures ∙ ap (can_be true c.args.asked.now) c.deref.ensures.value)
+    (c.can_be-can_miss.ensures ∙ ap (can_be false c.args.asked.now) c.deref-2.ensures.value) c.if-not-can_meet-can_miss.true
+
+pub returns-clause-next : goal.returns-clause-next
+returns-clause-next c =
+    (fork-states-by c.args.asked.now c.args.state.items c.in_ok-met.met.items c.in_ok-unmet.unmet.items c.fork.result.next.items
+    (c.in_ok-met.ensures ∙ ap (narrowed true c.args.asked.now) c.deref-3.ensures.value) (c.in_ok-unmet.ensures ∙ ap (narrowed false c.args.asked.now) c.deref-4.ensures.value)
+    c.fork.result.aside c.can_be-can_meet.result c.can_be-can_miss.result c.requires
+    (c.can_be-can_meet.ensures ∙ ap (can_be true c.args.asked.now) c.deref.ensures.value)
+    (c.can_be-can_miss.ensures ∙ ap (can_be false c.args.asked.now) c.deref-2.ensures.value) c.if-not-can_meet-can_miss.false c.fork.ensures).0
+
+pub returns-clause-aside : goal.returns-clause-aside
+returns-clause-aside c =
+    (fork-states-by c.args.asked.now c.args.state.items c.in_ok-met.met.items c.in_ok-unmet.unmet.items c.fork.result.next.items
+    (c.in_ok-met.ensures ∙ ap (narrowed true c.args.asked.now) c.deref-3.ensures.value) (c.in_ok-unmet.ensures ∙ ap (narrowed false c.args.asked.now) c.deref-4.ensures.value)
+    c.fork.result.aside c.can_be-can_meet.result c.can_be-can_miss.result c.requires
+    (c.can_be-can_meet.ensures ∙ ap (can_be true c.args.asked.now) c.deref.ensures.value)
+    (c.can_be-can_miss.ensures ∙ ap (can_be false c.args.asked.now) c.deref-2.ensures.value) c.if-not-can_meet-can_miss.false c.fork.ensures).1

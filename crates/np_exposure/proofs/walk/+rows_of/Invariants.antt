@@ -1,0 +1,19 @@
+use Rattle.std.proofs.Common.{List, ◌≤◌, length}
+use Rattle.np_exposure.proofs.WalkLemmas.{IsFilled}
+use Rattle.np_exposure.specs.steps.Choices.{IsState}
+use Rattle.np_exposure.specs.steps.Walks.{AreWalked}
+use Rattle.np_exposure.proofs.walk.+rows_of.Given as goal
+
+-- what those that wait make of the rows of the requirements that are left, are the rows of all
+abbrev pub invariant-loop-first : goal.invariant-loop-first
+invariant-loop-first g l = record {
+  state : IsState l.state.items;
+  shorter : length l.left ≤ length l.fn.asked;
+  filled : IsFilled l.rules l.pending.items l.left l.state.items (AreWalked l.rules l.fn.asked l.fn.state.items);
+}
+
+abbrev pub decreases-loop-first : goal.decreases-loop-first
+decreases-loop-first g l = length l.left
+
+abbrev pub decreases-rows_of : goal.decreases-rows_of
+decreases-rows_of g l = length l.asked.now

@@ -1,0 +1,161 @@
+//! What may be found at the keys of labels.
+ghost use Rattle.std.specs.Prelude.{◌≡◌, map, IfOk, IfSome, IsTrue};
+ghost use Rattle.std.specs.List.{list_all, list_any};
+ghost use Rattle.std.specs.Option.{option_map};
+ghost use Rattle.np_exposure.specs.steps.Choices as spec;
+
+use crate::label::Label;
+use crate::side::Side;
+use crate::sided_requirement::SidedRequirement;
+use np_base::{NoMemory, Text};
+use std::alloc::Global;
+use std::marker::Model;
+
+/// What may be found at a key of a side's labels: one of some values, or none. To every mentioned requirement all other
+/// values are the same as one of these.
+#[derive(Drop)]
+pub(crate) struct KeyChoices<'a> {
+    side: Side,
+    key: &'a str,
+    found: Vec<Option<&'a str>>,
+}
+
+impl<'a> Model for KeyChoices<'a> {
+    ghost use Rattle.std.specs.Prelude.{map};
+    ghost use Rattle.std.specs.Option.{option_map};
+    ghost use Rattle.np_exposure.specs.steps.Choices.{Choices};
+
+    ghost Value = { Choices };
+
+    ghost view = { λ c. record { side = c.side; key = c.key.now; found = map (option_map (λ value. value.now)) c.found.items } };
+}
+
+impl<'a> KeyChoices<'a> {
+    /// All that may be found at a key.
+    pub(crate) fn of(alloc: Global, label: &'a Label) -> Result<KeyChoices<'a>, NoMemory>
+        ensures { IfOk result (λ made. made ≡ spec.choices_of label.now) }
+    {
+        let mut found = Vec::new(alloc);
+        for value in label.values.items() {
+            found.push(Some(value.as_str()))?;
+        }
+        found.push(Some(label.other.as_str()))?;
+        if !is_name_key(label.side, label.key.as_str()) {
+            found.push(None)?;
+        }
+        Ok(KeyChoices {
+            side: label.side,
+            key: label.key.as_str(),
+            found,
+        })
+    }
+
+    /// The key.
+    pub(crate) fn key(&self) -> &str
+        ensures { result.now ≡ self.now.key }
+    {
+        self.key
+    }
+
+    /// The first choice, where the key is one of the side.
+    pub(crate) fn first_on(&self, side: Side) -> Option<&str>
+        ensures { option_map (λ value. value.now) result ≡ spec.first_on side self.now }
+    {
+        if self.side != side {
+            return None;
+        }
+        match self.found.first() {
+            Some(found) => *found,
+            None => None,
+        }
+    }
+
+    /// Whether some choice is as wanted: a requirement on it is met, or it is missed.
+    fn can_be(&self, asked: &SidedRequirement, wanted: bool) -> bool
+        ensures { result ≡ list_any (spec.suits wanted asked.now self.now) self.now.found }
+    {
+        let looks = asked.looks_at(self.side, self.key);
+        for choice in &self.found {
+            if asked.suits(looks, *choice, wanted) {
+                return true;
+            }
+        }
+        false
+    }
+
+    /// The choices that are as wanted.
+    fn narrowed(
+        &self,
+        alloc: Global,
+        asked: &SidedRequirement,
+        wanted: bool,
+    ) -> Result<KeyChoices<'a>, NoMemory>
+        ensures { IfOk result (λ made. made ≡ spec.narrowed_at wanted asked.now self.now) }
+    {
+        let looks = asked.looks_at(self.side, self.key);
+        let mut found = Vec::new(alloc);
+        for choice in &self.found {
+            if asked.suits(looks, *choice, wanted) {
+                found.push(*choice)?;
+            }
+        }
+        Ok(KeyChoices {
+            side: self.side,
+            key: self.key,
+            found,
+        })
+    }
+}
+
+// Whether it is the key under which a namespace's labels say its name.
+fn is_name_key(side: Side, key: &str) -> bool
+    ensures { result ≡ spec.is_name_key side key.now }
+{
+    side == Side::Namespace && key == "kubernetes.io/metadata.name"
+}
+
+/// All that may be found at these keys.
+pub(crate) fn all_choices<'a>(
+    alloc: Global,
+    labels: &'a [Label],
+) -> Result<Vec<KeyChoices<'a>>, NoMemory>
+    ensures { IfOk result (λ made. made.items ≡ map spec.choices_of labels.now) }
+{
+    let mut state = Vec::new(alloc);
+    for label in labels {
+        state.push(KeyChoices::of(alloc, label)?)?;
+    }
+    Ok(state)
+}
+
+/// Whether some choice at each key is as wanted: a requirement is met, or it is missed.
+pub(crate) fn can_be(state: &[KeyChoices<'_>], asked: &SidedRequirement, wanted: bool) -> bool
+    ensures { result ≡ spec.can_be wanted asked.now state.now }
+{
+    state.iter().all(|choices| choices.can_be(asked, wanted))
+}
+
+/// The choices at each key that are as wanted.
+pub(crate) fn narrowed<'a>(
+    alloc: Global,
+    state: &[KeyChoices<'a>],
+    asked: &SidedRequirement,
+    wanted: bool,
+) -> Result<Vec<KeyChoices<'a>>, NoMemory>
+    ensures { IfOk result (λ made. made.items ≡ spec.narrowed wanted asked.now state.now) }
+{
+    let mut made = Vec::new(alloc);
+    for choices in state {
+        made.push(choices.narrowed(alloc, asked, wanted)?)?;
+    }
+    Ok(made)
+}
+
+/// How many choices there are at all keys together.
+pub(crate) fn count(state: &[KeyChoices<'_>]) -> usize {
+    let mut count = 0usize;
+    for choices in state {
+        count = count.saturating_add(choices.found.len());
+    }
+    count
+}

@@ -1,0 +1,12 @@
+//! A row of an exposure.
+
+use crate::sided_requirement::SidedRequirement;
+use np_base::Seq;
+use np_conns::ConnSet;
+
+/// A row of an exposure: the protocols and ports of the pods that meet all its requirements and no row before it.
+#[derive(Debug, Drop)]
+pub struct ExposureRow {
+    pub requirements: Seq<SidedRequirement>,
+    pub conns: ConnSet,
+}

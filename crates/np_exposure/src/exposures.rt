@@ -1,0 +1,70 @@
+//! The exposure of a pod.
+ghost use Rattle.std.specs.Prelude.{◌≤◌, ◌<◌, length, IfErr, IfOk, OnOk};
+ghost use Rattle.np_exposure.specs.Mentions.{each_once, mentions};
+ghost use Rattle.np_exposure.specs.Tree.{AreRowsOf};
+ghost use Rattle.np_exposure.specs.Weight.{IsWeightFault, weight};
+ghost use Rattle.np_exposure.specs.steps.Choices.{choices_at_first};
+ghost use Rattle.np_exposure.specs.steps.Walks.{AreWalked};
+ghost use Rattle.np_rules.specs.PodSides.{side_of};
+
+use crate::choices::all_choices;
+use crate::exposure_fault::ExposureFault;
+use crate::exposure_row::ExposureRow;
+use crate::label::labels_of;
+use crate::mentions::mentions;
+use crate::open_row::finished;
+use crate::requirements::each_once;
+use crate::sided_requirement::SidedRequirement;
+use crate::walk::rows_of;
+use crate::weights::weight_of;
+use np_base::{NoMemory, Seq};
+use np_estate::Estate;
+use np_policies::Direction;
+use np_rules::PodRules;
+use np_steps::Steps;
+use std::alloc::Global;
+use std::sync::ledger::Ledger;
+
+// More patterns of labels are not looked at.
+const MOST_PATTERNS: u64 = 65_536;
+
+/// What the side of a listed pod allows in a direction to pods that nobody has written yet, as rows: the first row whose
+/// requirements such a pod meets has exactly the protocols and ports that it is allowed. The pod is named by its place in
+/// the estate. Where the mentioned requirements may tell apart more than 65,536 patterns of labels, the answer is how many.
+/// The rules are looked at once for each row that is made on the way, and counted each time.
+pub fn exposure<L: Ledger>(
+    alloc: Global,
+    estate: &Estate,
+    pod: u32,
+    direction: Direction,
+    steps: &mut Steps<L>,
+) -> Result<Seq<ExposureRow>, ExposureFault>
+    requires { pod < length estate.now.pods }
+    ensures rows { IfOk result (AreRowsOf (side_of estate.now pod direction)) }
+    ensures few { OnOk result (weight (mentions (side_of estate.now pod direction)) ≤ 65536) }
+    ensures fault { IfErr result (IsWeightFault (weight (mentions (side_of estate.now pod direction)))) }
+{
+    let mentions = mentions(alloc, estate, pod, direction)?;
+    let weight = weight_of(alloc, &mentions)?;
+    if weight > MOST_PATTERNS {
+        return Err(ExposureFault::TooManyPatterns { weight });
+    }
+    let rules = PodRules::of(alloc, estate, pod, direction)?;
+    Ok(rows_of_mentions(alloc, &rules, mentions, steps)?)
+}
+
+// The rows of the mentioned requirements.
+fn rows_of_mentions<L: Ledger>(
+    alloc: Global,
+    rules: &PodRules<'_>,
+    mentions: Vec<SidedRequirement>,
+    steps: &mut Steps<L>,
+) -> Result<Seq<ExposureRow>, NoMemory>
+    ensures { IfOk result (λ rows. AreWalked rules.now (each_once mentions.items) (choices_at_first mentions.items) rows) }
+{
+    let labels = labels_of(alloc, &mentions)?;
+    let state = all_choices(alloc, &labels)?;
+    let asked = each_once(alloc, mentions)?;
+    let rows = rows_of(alloc, rules, &asked, state, steps)?;
+    finished(alloc, rows)
+}

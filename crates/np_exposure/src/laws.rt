@@ -1,0 +1,48 @@
+//! What follows of the rows of a pod's side. Each law is the contract of a call that does nothing.
+ghost use Rattle.std.specs.Prelude.{◌≡◌, ◌≤◌, List, length, true};
+ghost use Rattle.std.specs.List.{AllByRecursion};
+ghost use Rattle.np_conns.specs.declared.port_spot.PortSpot.{PortSpot};
+ghost use Rattle.np_exposure.specs.Mentions.{mentions};
+ghost use Rattle.np_exposure.specs.PeerText.{are_well, peer_text};
+ghost use Rattle.np_exposure.specs.Right.{FirstRowTells, IsEachFirst};
+ghost use Rattle.np_exposure.specs.Strangers.{exposes, is_hypothetical, meets};
+ghost use Rattle.np_exposure.specs.Tree.{AreRowsOf};
+ghost use Rattle.np_exposure.specs.Weight.{weight};
+ghost use Rattle.np_exposure.specs.declared.exposure_row.ExposureRow.{ExposureRow};
+ghost use Rattle.np_exposure.specs.declared.sided_requirement.SidedRequirement.{SidedRequirement};
+ghost use Rattle.np_rules.specs.PodSides.{PodSide};
+ghost use Rattle.np_rules.specs.declared.stranger.Stranger.{Stranger};
+
+/// Hypothetical pods that meet the same mentioned requirements have the same exposure.
+pub fn alike_strangers_have_one_exposure()
+    ensures { (side : PodSide) (s t : Stranger) (spot : PortSpot) → is_hypothetical s ≡ true → is_hypothetical t ≡ true →
+        AllByRecursion (λ asked. meets asked s ≡ meets asked t) (mentions side) → exposes side s spot ≡ exposes side t spot }
+{}
+
+/// A pod's side has one list of rows.
+pub fn one_list_of_rows()
+    ensures { (side : PodSide) (rows others : List ExposureRow) → AreRowsOf side rows → AreRowsOf side others → rows ≡ others }
+{}
+
+/// Every hypothetical pod meets a row, and the first that it meets has exactly its exposure.
+pub fn first_row_tells()
+    ensures { (side : PodSide) (rows : List ExposureRow) (s : Stranger) → AreRowsOf side rows → is_hypothetical s ≡ true →
+        FirstRowTells side rows s }
+{}
+
+/// Each row is the first that some hypothetical pod meets.
+pub fn each_row_is_first_for_some()
+    ensures { (side : PodSide) (rows : List ExposureRow) → AreRowsOf side rows → IsEachFirst is_hypothetical rows }
+{}
+
+/// There are at most as many rows as the weight.
+pub fn rows_are_few()
+    ensures { (side : PodSide) (rows : List ExposureRow) → AreRowsOf side rows → length rows ≤ weight (mentions side) }
+{}
+
+/// The text of requirements that are as the policies have them that are read belongs to no other list of such
+/// requirements.
+pub fn one_text_has_one_peer()
+    ensures { (requirements others : List SidedRequirement) → are_well requirements ≡ true → are_well others ≡ true →
+        peer_text requirements ≡ peer_text others → requirements ≡ others }
+{}

@@ -1,0 +1,135 @@
+//! Rows as the walk makes them.
+ghost use Rattle.std.specs.Prelude.{◌≡◌, ◌≢◌, [], ◌++◌, map, IfOk, MatchBool, OnOk};
+ghost use Rattle.np_exposure.specs.Tree.{IsJoined, with_first};
+ghost use Rattle.np_exposure.specs.declared.exposure_row.ExposureRow.{ExposureRow};
+
+use crate::exposure_row::ExposureRow;
+use crate::same::{Same, are_same};
+use crate::sided_requirement::SidedRequirement;
+use np_base::{Cells, NoMemory, Seq, TryCopy};
+use np_conns::ConnSet;
+use std::alloc::Global;
+use std::marker::Model;
+
+/// A requirement that is lent.
+#[derive(Drop)]
+struct Lent<'a> {
+    asked: &'a SidedRequirement,
+}
+
+impl<'a> Model for Lent<'a> {
+    ghost use Rattle.np_exposure.specs.declared.sided_requirement.SidedRequirement.{SidedRequirement};
+
+    ghost Value = { SidedRequirement };
+
+    ghost view = { λ lent. lent.asked.now };
+}
+
+impl<'a> Same for Lent<'a> {
+    fn is_same(&self, other: &Lent<'a>) -> bool {
+        self.asked.is_same(other.asked)
+    }
+}
+
+/// A row whose requirements are lent, the last one first, so that one is put before all others at once.
+#[derive(Drop)]
+pub(crate) struct OpenRow<'a> {
+    backwards: Vec<Lent<'a>>,
+    conns: ConnSet,
+}
+
+impl<'a> Model for OpenRow<'a> {
+    ghost use Rattle.std.specs.Prelude.{reverse};
+    ghost use Rattle.np_exposure.specs.declared.exposure_row.ExposureRow.{ExposureRow};
+
+    ghost Value = { ExposureRow };
+
+    ghost view = { λ r. record { requirements = reverse r.backwards.items; conns = r.conns } };
+}
+
+impl<'a> Same for OpenRow<'a> {
+    fn is_same(&self, other: &OpenRow<'a>) -> bool {
+        are_same(&self.backwards, &other.backwards) && self.conns.same(&other.conns)
+    }
+}
+
+impl<'a> OpenRow<'a> {
+    /// The row without requirements.
+    pub(crate) fn of(alloc: Global, conns: ConnSet) -> OpenRow<'a>
+        ensures { result ≡ record { requirements = []; conns = conns } }
+    {
+        OpenRow {
+            backwards: Vec::new(alloc),
+            conns,
+        }
+    }
+
+    // Puts a requirement before all others.
+    fn put_first(&mut self, asked: &'a SidedRequirement) -> Result<(), NoMemory>
+        ensures { OnOk result (self.new ≡ with_first asked.now self.old) }
+    {
+        self.backwards.push(Lent { asked })?;
+        Ok(())
+    }
+
+    // The row with requirements of its own.
+    fn finished(self, alloc: Global) -> Result<ExposureRow, NoMemory>
+        ensures { IfOk result (λ made. made ≡ self.entry) }
+    {
+        let OpenRow {
+            mut backwards,
+            conns,
+        } = self;
+        let mut requirements = Seq::new(alloc);
+        while let Some(lent) = backwards.pop() {
+            requirements.push(lent.asked.try_copy(alloc)?)?;
+        }
+        Ok(ExposureRow {
+            requirements,
+            conns,
+        })
+    }
+}
+
+/// The rows of a requirement, from those where it is met and those where it is not. Equal lists are not kept apart.
+pub(crate) fn joined<'a>(
+    asked: &'a SidedRequirement,
+    met: Vec<OpenRow<'a>>,
+    unmet: Vec<OpenRow<'a>>,
+) -> Result<Vec<OpenRow<'a>>, NoMemory>
+    ensures { IfOk result (λ made. IsJoined asked.now met.entry.items unmet.entry.items made.items) }
+{
+    if are_same(&met, &unmet) {
+        return Ok(met);
+    }
+    let mut rows = all_with_first(asked, met)?;
+    let mut others = unmet;
+    rows.append(&mut others)?;
+    Ok(rows)
+}
+
+// The rows with a requirement before all others.
+fn all_with_first<'a>(
+    asked: &'a SidedRequirement,
+    rows: Vec<OpenRow<'a>>,
+) -> Result<Vec<OpenRow<'a>>, NoMemory>
+    ensures { IfOk result (λ made. made.items ≡ map (with_first asked.now) rows.entry.items) }
+{
+    let mut made = Vec::with_capacity(*rows.allocator(), rows.len())?;
+    for mut row in rows {
+        row.put_first(asked)?;
+        made.push(row)?;
+    }
+    Ok(made)
+}
+
+/// The rows with requirements of their own.
+pub(crate) fn finished(alloc: Global, rows: Vec<OpenRow<'_>>) -> Result<Seq<ExposureRow>, NoMemory>
+    ensures { IfOk result (λ made. made ≡ rows.entry.items) }
+{
+    let mut made = Seq::new(alloc);
+    for row in rows {
+        made.push(row.finished(alloc)?)?;
+    }
+    Ok(made)
+}

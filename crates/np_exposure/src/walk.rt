@@ -1,0 +1,68 @@
+//! The walk over the requirements.
+ghost use Rattle.std.specs.Prelude.{IfOk};
+ghost use Rattle.np_exposure.specs.steps.Choices.{IsState};
+ghost use Rattle.np_exposure.specs.steps.Walks.{AreWalked, IsLeaf};
+
+use crate::choices::KeyChoices;
+use crate::open_row::OpenRow;
+use crate::pending::{Pending, all_joined};
+use crate::sided_requirement::SidedRequirement;
+use crate::step::{Step, next_step};
+use crate::witness::stranger_of;
+use np_base::NoMemory;
+use np_rules::PodRules;
+use np_steps::Steps;
+use np_tiers::verdict_set;
+use std::alloc::Global;
+use std::sync::ledger::Ledger;
+
+/// The rows of the requirements that are left, with the choices that are left. Where a requirement can be both met and
+/// missed, the case with fewer choices is a call of its own, and the other goes on here. So calls stand at most 16 deep in
+/// one another, since each has at most half of the patterns, of which there are 65,536 at most.
+pub(crate) fn rows_of<'a, L: Ledger>(
+    alloc: Global,
+    rules: &PodRules<'_>,
+    asked: &'a [SidedRequirement],
+    state: Vec<KeyChoices<'_>>,
+    steps: &mut Steps<L>,
+) -> Result<Vec<OpenRow<'a>>, NoMemory>
+    requires { IsState state.items }
+    ensures { IfOk result (λ rows. AreWalked rules.now asked.now state.entry.items rows.items) }
+{
+    let mut left = asked;
+    let mut state = state;
+    let mut pending = Vec::new(alloc);
+    while let Some((first, rest)) = left.split_first() {
+        let Step { next, aside } = next_step(alloc, first, state)?;
+        if let Some(aside) = aside {
+            let rows = rows_of(alloc, rules, rest, aside.state, steps)?;
+            pending.push(Pending {
+                asked: first,
+                wanted: aside.wanted,
+                rows,
+            })?;
+        }
+        state = next;
+        left = rest;
+    }
+    let last = leaf(alloc, rules, &state, steps)?;
+    all_joined(pending, last)
+}
+
+// One row of the exposure of a hypothetical pod with labels among the choices.
+fn leaf<'a, L: Ledger>(
+    alloc: Global,
+    rules: &PodRules<'_>,
+    state: &[KeyChoices<'_>],
+    steps: &mut Steps<L>,
+) -> Result<Vec<OpenRow<'a>>, NoMemory>
+    requires { IsState state.now }
+    ensures { IfOk result (λ rows. IsLeaf rules.now state.now rows.items) }
+{
+    let stranger = stranger_of(alloc, state)?;
+    let layer = rules.stranger_layer(alloc, &stranger, steps)?;
+    let conns = verdict_set(alloc, &layer)?;
+    let mut rows = Vec::new(alloc);
+    rows.push(OpenRow::of(alloc, conns))?;
+    Ok(rows)
+}

@@ -1,0 +1,187 @@
+-- Pods that no service and no rule tells apart.
+use Rattle.std.proofs.Common.{◌≡◌, ◌<◌, ℕ, List, [], ◌∷◌, ◌++◌, Bool, true, false, not, ◌&&◌, ◌==◌, AllPairs, Option, Some, None, IfSome, length, map, flat_map, slice_get, get_or, refl, sym, ap, subst, ◌∙◌, inl, inr, if◌then◌else◌}
+use Rattle.std.specs.Prelude.{filter}
+use Rattle.std.specs.List.{AllByRecursion, find, list_any}
+use Rattle.std.specs.Option.{option_map_or}
+use Rattle.std.specs.Str.{bytes_eq}
+use Rattle.std.proofs.lemmas.Bool.{cases_order}
+use Rattle.std.proofs.lemmas.Option.{get_or_from_slice_get, slice_get_within}
+use Rattle.np_addr.specs.declared.address.Family.TheVariants.{Four}
+use Rattle.np_conns.specs.Conns.{same_proto}
+use Rattle.np_conns.specs.declared.port_spot.PortSpot.{PortSpot}
+use Rattle.np_conns.specs.declared.proto.Proto.TheVariants.{Tcp}
+use Rattle.np_estate.specs.Families.{families_of}
+use Rattle.np_estate.specs.Lawful.{AgreeOnNamespace, IsLawful}
+use Rattle.np_estate.specs.declared.lists.EstateLists.{EstateLists}
+use Rattle.np_estate.specs.declared.pod.Pod.{Pod}
+use Rattle.np_fold.proofs.WorkloadLemmas.{one_workload}
+use Rattle.np_fold.specs.Alike.{IsSameKind}
+use Rattle.np_fold.specs.Keys.{keys_of_admin_policy, keys_of_baseline, keys_of_estate, keys_of_net_policy, keys_of_optional, keys_of_service}
+use Rattle.np_fold.specs.Workloads.{number_of}
+use Rattle.np_labels.specs.Selectors.{meets_selector}
+use Rattle.np_labels.specs.declared.selector.Selector.{Selector}
+use Rattle.np_objects.specs.declared.ingress.Backend.{Backend}
+use Rattle.np_objects.specs.declared.ingress.Backend.TheVariants as backend
+use Rattle.np_objects.specs.declared.named_port.NamedPort.{NamedPort}
+use Rattle.np_objects.specs.declared.service.PortName.{PortName}
+use Rattle.np_objects.specs.declared.service.PortName.TheVariants.{Number, Named}
+use Rattle.np_objects.specs.declared.service.ServiceItem.{ServiceItem}
+use Rattle.np_objects.specs.declared.service.ServicePort.{ServicePort}
+use Rattle.np_policies.specs.declared.direction.Direction.TheVariants.{Ingress}
+use Rattle.np_routes.specs.Controllers.{any_controller, anyone_may_send, ingress_reaches, may_send}
+use Rattle.np_routes.specs.Routes.{Route, is_in_namespace, is_routed, leads_to, routes_in, routes_of_backend, routes_of_ingress, routes_through}
+use Rattle.np_routes.specs.Services.{is_backend_port, is_pod_port, is_service, is_target, service_named, serves}
+use Rattle.np_rules.proofs.DeciderLemmas.{decider_says}
+use Rattle.np_rules.specs.Deciders.{decider_allows}
+use Rattle.np_rules.specs.Ends.{Contact, End, PodEnd, contact, pod, pod_end, stranger_end}
+use Rattle.np_rules.specs.PortEntries.{is_named}
+use Rattle.np_rules.specs.Verdict.{pod_at, pod_or_none}
+use Rattle.np_table.proofs.KindLists.{All-append, All-each, All-flat, All-parts, list_any-same}
+use Rattle.np_table.proofs.KindSelectors.{AgreeOn, All-from_listed, selector-same}
+use Rattle.np_table.proofs.KindVerdicts.{SameKindEnd-ends, got-same, packet-same}
+use Rattle.np_table.proofs.PairLemmas.{pod_there}
+use Rattle.np_table.specs.Ends.{AreOneKind}
+use Rattle.np_table.specs.Table.{between_pods}
+
+-- ---- items of lists
+
+All-flat_map : {X Y : Type 0} (P : Y → Type 0) (f : X → List Y) → ((x : X) → AllByRecursion P (f x)) → (xs : List X) → AllByRecursion P (flat_map f xs)
+All-flat_map P f each [] = tt
+All-flat_map P f each (x ∷ xs) = All-append P (f x) (flat_map f xs) (each x) (All-flat_map P f each xs)
+
+All-map : {X Y : Type 0} (P : Y → Type 0) (f : X → Y) → ((x : X) → P (f x)) → (xs : List X) → AllByRecursion P (map f xs)
+All-map P f each [] = tt
+All-map P f each (x ∷ xs) = (each x, All-map P f each xs)
+
+-- what is found is one of the list
+found-among : {X : Type 0} (P : X → Type 0) (test : X → Bool) (xs : List X) → AllByRecursion P xs → IfSome (find test xs) P
+found-among P test [] all = tt
+found-among {X} P test (x ∷ xs) all = by (test x) (found-among P test xs all.1)
+  where
+    by : (here : Bool) → IfSome (find test xs) P → IfSome (if here then Some x else find test xs) P
+    by true rest = all.0
+    by false rest = rest
+
+-- ---- routes
+
+-- two pods of one namespace, with the same named ports, that have the same values of the keys that services name
+pub record AreServedAlike (services : List ServiceItem) (p q : PodEnd) : Type 0 where
+  namespace : p.namespace ≡ q.namespace
+  ports : p.ports ≡ q.ports
+  labels : AllByRecursion (λ service. AllByRecursion (AgreeOn p.labels q.labels) (keys_of_service service)) services
+
+module _ (lists : EstateLists) (p q : PodEnd) (alike : AreServedAlike lists.services p q) where
+  selected-same : (selector : Option Selector) → AllByRecursion (AgreeOn p.labels q.labels) (keys_of_optional selector) → option_map_or (λ asked. meets_selector asked p.labels) selector false ≡ option_map_or (λ asked. meets_selector asked q.labels) selector false
+  selected-same None agree = refl
+  selected-same (Some selector) agree = selector-same p.labels q.labels selector agree
+
+  -- a service serves both, or neither
+  serves-same : (service : ServiceItem) → AllByRecursion (AgreeOn p.labels q.labels) (keys_of_service service) → serves service p ≡ serves service q
+  serves-same service agree =
+      ap (λ (namespace : List ℕ). not service.external && (bytes_eq service.namespace namespace && option_map_or (λ asked. meets_selector asked p.labels) service.selector false)) alike.namespace
+      ∙ ap (λ (b : Bool). not service.external && (bytes_eq service.namespace q.namespace && b)) (selected-same service.selector agree)
+
+  pod_port-same : (named : PortName) (number : ℕ) → is_pod_port named p number ≡ is_pod_port named q number
+  pod_port-same (Number own) number = refl
+  pod_port-same (Named name) number = ap (λ (ports : List NamedPort). list_any (is_named name (record { proto = Tcp; port = number })) ports) alike.ports
+
+  -- a port leads to the same numbers at both
+  target-same : (service : ServiceItem) (port : ServicePort) (number : ℕ) → is_target service port p number ≡ is_target service port q number
+  target-same service port number = ap (λ (b : Bool). if service.headless then port.port == number else b) (pod_port-same port.target number)
+
+  -- a route leads to the same numbers at both
+  abbrev LeadsAlike : ℕ → Route → Type 0
+  LeadsAlike number route = leads_to p number route ≡ leads_to q number route
+
+  through-same : (number : ℕ) (named : PortName) (found : Option ServiceItem) → IfSome found (λ service. AllByRecursion (AgreeOn p.labels q.labels) (keys_of_service service)) → AllByRecursion (LeadsAlike number) (routes_through named found)
+  through-same number named None agree = tt
+  through-same number named (Some service) agree =
+      All-map (LeadsAlike number) (λ port. record { service = service; port = port }) (λ port.
+      ap (λ (b : Bool). b && is_target service port p number) (serves-same service agree)
+      ∙ ap (λ (b : Bool). serves service q && b) (target-same service port number)) (filter (is_backend_port named) service.ports)
+
+  backend-same : (number : ℕ) (namespace : List ℕ) (one : Backend) → AllByRecursion (LeadsAlike number) (routes_of_backend lists.services namespace one)
+  backend-same number namespace (backend.Service name named) = through-same number named (service_named lists.services namespace name) (found-among (λ service. AllByRecursion (AgreeOn p.labels q.labels) (keys_of_service service)) (is_service namespace name) lists.services alike.labels)
+  backend-same number namespace backend.Resource = tt
+
+  routes-same : (number : ℕ) (namespace : List ℕ) → AllByRecursion (LeadsAlike number) (routes_in lists namespace)
+  unfolding routes_in
+  routes-same number namespace =
+      All-flat_map (LeadsAlike number) (λ placed. routes_of_ingress lists.services placed.ingress) (λ placed. All-flat_map (LeadsAlike number) (routes_of_backend lists.services placed.ingress.namespace) (backend-same number placed.ingress.namespace) placed.ingress.backends) (filter (is_in_namespace namespace) lists.ingresses)
+
+  -- the same ports of both are routed
+  pub routed-same : (spot : PortSpot) → is_routed lists p spot ≡ is_routed lists q spot
+  routed-same spot =
+      ap (λ (namespace : List ℕ). same_proto spot.proto Tcp && list_any (leads_to p spot.port) (routes_in lists namespace)) alike.namespace
+      ∙ ap (λ (b : Bool). same_proto spot.proto Tcp && b) (list_any-same (leads_to p spot.port) (leads_to q spot.port) (routes_in lists q.namespace) (routes-same spot.port q.namespace))
+
+-- ---- pods of one kind
+
+served-pods : (lists : EstateLists) (a b : Pod) → IsSameKind lists a b → AreServedAlike lists.services (pod_end a) (pod_end b)
+served-pods lists a b kind =
+    let all = All-from_listed (AgreeOn a.labels b.labels) (keys_of_estate lists) kind.labels in
+    let services = (All-parts (AgreeOn a.labels b.labels) (flat_map keys_of_net_policy lists.net_policies ++ flat_map keys_of_admin_policy lists.admin_policies ++ keys_of_baseline lists.baseline) (flat_map keys_of_service lists.services) all).1 in
+    record { namespace = kind.namespace; ports = kind.ports; labels = All-flat (AgreeOn a.labels b.labels) keys_of_service lists.services services }
+
+-- pods that stand in order and are of one namespace have the same labels of it
+namespaces_agree : (pods : List Pod) (i j : ℕ) (a b : Pod) → AllPairs AgreeOnNamespace pods → slice_get pods i ≡ Some a → slice_get pods j ≡ Some b → i < j → AgreeOnNamespace a b
+namespaces_agree pods i j a b agree is is' before =
+    let later = agree i j a before (slice_get_within pods j b is') in
+    subst (λ (x : Pod). AgreeOnNamespace x b) (get_or_from_slice_get pods i a a is) (subst (λ (y : Pod). AgreeOnNamespace (get_or pods i a) y) (get_or_from_slice_get pods j b a is') later)
+
+same_some : (found : Option Pod) (a b : Pod) → found ≡ Some a → found ≡ Some b → a ≡ b
+same_some found a b is is' = cc
+
+-- and so in whatever order they stand
+labels_agree : (lists : EstateLists) (i j : ℕ) (a b : Pod) → IsLawful lists → slice_get lists.pods i ≡ Some a → slice_get lists.pods j ≡ Some b → a.namespace ≡ b.namespace → a.namespace_labels ≡ b.namespace_labels
+labels_agree lists i j a b lawful is is' same =
+    elim (cases_order i j) [
+      | inl equal ↦ ap (λ (p : Pod). p.namespace_labels) (same_some (slice_get lists.pods j) a b (subst (λ (k : ℕ). slice_get lists.pods k ≡ Some a) equal is) is')
+      | inr (inl before) ↦ namespaces_agree lists.pods i j a b lawful.namespaces_agree is is' before same
+      | inr (inr after) ↦ sym (namespaces_agree lists.pods j i b a lawful.namespaces_agree is' is after (sym same))
+    ]
+
+-- the pods at two places are of one kind, and the same ports of both are routed
+pub record AreAlikeAt (lists : EstateLists) (p q : ℕ) : Type 0 where
+  kind : AreOneKind lists (pod (pod_at lists p)) (pod (pod_at lists q))
+  served : AreServedAlike lists.services (pod_at lists p) (pod_at lists q)
+
+alike-by : (lists : EstateLists) (p q : ℕ) (a b : Pod) → IsLawful lists → slice_get lists.pods p ≡ Some a → slice_get lists.pods q ≡ Some b → IsSameKind lists a b → AreAlikeAt lists p q
+alike-by lists p q a b lawful is is' kind =
+    let one_is : pod_at lists p ≡ pod_end a = ap pod_or_none is in
+    let other_is : pod_at lists q ≡ pod_end b = ap pod_or_none is' in
+    record {
+      kind = inl (record { first = a; second = b; one_is = ap pod one_is; other_is = ap pod other_is; kind = kind; namespace = labels_agree lists p q a b lawful is is' kind.namespace });
+      served = subst (λ (x : PodEnd). AreServedAlike lists.services x (pod_at lists q)) (sym one_is) (subst (λ (y : PodEnd). AreServedAlike lists.services (pod_end a) y) (sym other_is) (served-pods lists a b kind));
+    }
+
+-- so are those of one workload
+pub one_workload-alike : (lists : EstateLists) (p q : ℕ) → IsLawful lists → p < length lists.pods → q < length lists.pods → number_of lists p ≡ number_of lists q → AreAlikeAt lists p q
+one_workload-alike lists p q lawful p_in q_in same =
+    let a = pod_there lists p p_in in
+    let b = pod_there lists q q_in in
+    alike-by lists p q a.0 b.0 lawful a.1 b.1 ((one_workload lists p q a.0 b.0 a.1 b.1).0 same).kind
+
+-- ---- what may be sent
+
+anyone-same : (lists : EstateLists) (p q : PodEnd) (spot : PortSpot) → AreOneKind lists (pod p) (pod q) → anyone_may_send lists p spot ≡ anyone_may_send lists q spot
+anyone-same lists p q spot kind =
+    let anyone : End = pod (stranger_end any_controller) in
+    let at : PodEnd → Contact = λ near. contact Ingress (pod near) anyone Four spot in
+    sym (decider_says lists Ingress (pod p) (at p))
+    ∙ ap decider_allows (got-same lists Four spot anyone anyone (pod p) (pod q) (SameKindEnd-ends lists anyone anyone (inr refl)) (SameKindEnd-ends lists (pod p) (pod q) kind))
+    ∙ decider_says lists Ingress (pod q) (at q)
+
+sent-same : (lists : EstateLists) (sender : Option ℕ) (p q : ℕ) (spot : PortSpot) → AreOneKind lists (pod (pod_at lists p)) (pod (pod_at lists q)) → may_send lists sender p spot ≡ may_send lists sender q spot
+sent-same lists None p q spot kind = anyone-same lists (pod_at lists p) (pod_at lists q) spot kind
+sent-same lists (Some sender) p q spot kind =
+    let from : End = pod (pod_at lists sender) in
+    list_any-same (λ family. between_pods lists sender p family spot) (λ family. between_pods lists sender q family spot) (families_of lists.pods)
+    (All-each (λ family. between_pods lists sender p family spot ≡ between_pods lists sender q family spot) (λ family. packet-same lists family spot from from (pod (pod_at lists p)) (pod (pod_at lists q)) (SameKindEnd-ends lists from from (inr refl)) (SameKindEnd-ends lists _ _ kind)) (families_of lists.pods))
+
+-- the same ports of two such pods are reached
+pub reaches-same : (lists : EstateLists) (sender : Option ℕ) (p q : ℕ) (spot : PortSpot) → AreAlikeAt lists p q → ingress_reaches lists sender p spot ≡ ingress_reaches lists sender q spot
+unfolding ingress_reaches
+reaches-same lists sender p q spot alike =
+    ap (λ (b : Bool). b && may_send lists sender p spot) (routed-same lists (pod_at lists p) (pod_at lists q) alike.served spot)
+    ∙ ap (λ (b : Bool). is_routed lists (pod_at lists q) spot && b) (sent-same lists sender p q spot alike.kind)

@@ -1,0 +1,70 @@
+-- Who sends what comes through ingresses, and what may come.
+use Rattle.std.specs.Prelude.{ℕ, ◌*◌, [], ◌∷◌, Bool, false, ◌&&◌, ◌==◌, not, codes, Option, Some, None, option_map}
+use Rattle.std.specs.List.{list_any}
+use Rattle.std.specs.Option.{option_map_or}
+use Rattle.np_addr.specs.declared.address.Family.TheVariants.{Four}
+use Rattle.np_conns.specs.declared.port_spot.PortSpot.{PortSpot}
+use Rattle.np_estate.specs.Families.{families_of}
+use Rattle.np_estate.specs.declared.lists.EstateLists.{EstateLists}
+use Rattle.np_fold.specs.Workloads.{Folding}
+use Rattle.np_policies.specs.declared.direction.Direction.TheVariants.{Ingress}
+use Rattle.np_routes.specs.Routes.{is_routed}
+use Rattle.np_rules.specs.Ends.{PodEnd, contact, pod, stranger_end}
+use Rattle.np_rules.specs.PodSides.{side_rule_count}
+use Rattle.np_rules.specs.Sides.{side_allows}
+use Rattle.np_rules.specs.Verdict.{pod_at}
+use Rattle.np_rules.specs.declared.stranger.Stranger.{Stranger}
+use Rattle.np_table.specs.PairRules.{first_side, rules_of_pair}
+use Rattle.np_table.specs.Table.{between_pods, source_pod}
+
+-- ---- a controller that is not known
+
+-- a pod without labels, whose namespace has the empty name
+abbrev pub any_controller : Stranger
+any_controller = record { namespace = record { key = codes "kubernetes.io/metadata.name"; value = [] } ∷ []; labels = [] }
+
+-- whether the pod's own side allows what comes from it; it has no address, so the family changes nothing
+abbrev pub anyone_may_send : EstateLists → PodEnd → PortSpot → Bool
+anyone_may_send lists p spot = side_allows lists Ingress p (contact Ingress (pod p) (pod (stranger_end any_controller)) Four spot)
+
+-- ---- a controller that is a pod
+
+-- whether packets from a pod to another are allowed in some family of the list
+abbrev pub pod_may_send : EstateLists → ℕ → ℕ → PortSpot → Bool
+pod_may_send lists sender receiver spot = list_any (λ family. between_pods lists sender receiver family spot) (families_of lists.pods)
+
+-- ---- what may come to a pod
+
+-- whether the controller may send it: the pod at a place, or one that is not known
+abbrev pub may_send : EstateLists → Option ℕ → ℕ → PortSpot → Bool
+may_send lists None receiver spot = anyone_may_send lists (pod_at lists receiver) spot
+may_send lists (Some sender) receiver spot = pod_may_send lists sender receiver spot
+
+-- Whether a TCP port of the pod at a place is reached through ingresses: a route leads to it, and the controller may send to it.
+unfoldable pub ingress_reaches : EstateLists → Option ℕ → ℕ → PortSpot → Bool
+ingress_reaches lists sender receiver spot = is_routed lists (pod_at lists receiver) spot && may_send lists sender receiver spot
+
+-- ---- the same of workloads
+
+-- whether a workload is the controller
+abbrev pub is_controller : Option ℕ → ℕ → Bool
+is_controller controller workload = option_map_or (λ number. number == workload) controller false
+
+-- the pod that stands for a controller that is a workload: its first one
+abbrev pub sender_of : Folding → Option ℕ → Option ℕ
+sender_of folding controller = option_map (source_pod folding) controller
+
+-- whether a TCP port of a workload is reached through ingresses; of the controller itself none is
+unfoldable pub ingress_allows : EstateLists → Folding → Option ℕ → ℕ → PortSpot → Bool
+ingress_allows lists folding controller workload spot =
+    not (is_controller controller workload) && ingress_reaches lists (sender_of folding controller) (source_pod folding workload) spot
+
+-- an estate, and the controller of its ingresses: a workload's number, or none where it is not known
+pub record Routing : Type 0 where
+  pub lists : EstateLists
+  pub controller : Option ℕ
+
+-- How many rules may be looked at: twice those that speak of the workload, and of the controller where it is a workload.
+abbrev pub ingress_steps : EstateLists → Option ℕ → ℕ → ℕ
+ingress_steps lists None workload = 2 * side_rule_count (first_side lists Ingress workload)
+ingress_steps lists (Some controller) workload = 2 * rules_of_pair lists controller workload

@@ -1,0 +1,6 @@
+pub mod ClusterTable
+pub mod Controllers
+pub mod RouteNotes
+pub mod Routes
+pub mod Services
+pub mod steps

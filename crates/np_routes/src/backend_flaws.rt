@@ -1,0 +1,79 @@
+//! Backends that lead nowhere, or not where they seem to.
+ghost use Rattle.std.specs.Prelude.{◌≡◌, ◌++◌, IfOk, OnOk};
+ghost use Rattle.np_routes.specs.RouteNotes as spec;
+
+use crate::route_note::{RouteFlaw, RouteNote};
+use crate::service_ports::has_backend_port;
+use crate::services::Services;
+use np_base::{NoMemory, Seq};
+use np_estate::{Estate, PlacedIngress};
+use np_objects::{Backend, PortName, ServiceItem};
+use std::alloc::Global;
+
+/// The backends of the ingresses that lead nowhere, or not where they seem to: one note at most for each, by item and then
+/// in the order of the backends.
+#[tactic(auto, unfolding(crate::specs::RouteNotes::notes_of_routes))]
+pub fn route_notes(alloc: Global, estate: &Estate) -> Result<Seq<RouteNote>, NoMemory>
+    ensures notes { IfOk result (λ made. made ≡ spec.notes_of_routes estate.now) }
+{
+    let services = Services::of(alloc, estate.services())?;
+    let mut notes = Seq::new(alloc);
+    for placed in estate.ingresses() {
+        add_notes(&mut notes, &services, placed)?;
+    }
+    Ok(notes)
+}
+
+// Adds the notes of the backends of an ingress.
+fn add_notes<'a>(
+    notes: &mut Seq<RouteNote>,
+    services: &Services<'a>,
+    placed: &'a PlacedIngress,
+) -> Result<(), NoMemory>
+    ensures { OnOk result (notes.new ≡ notes.old ++ spec.notes_of_ingress services.now placed.now) }
+{
+    let namespace = placed.ingress.namespace.as_str();
+    for (place, backend) in placed.ingress.backends.items().iter().enumerate() {
+        if let Some(flaw) = backend_flaw(services, namespace, backend) {
+            notes.push(RouteNote {
+                item: placed.item,
+                backend: place as u64 + 1,
+                flaw,
+            })?;
+        }
+    }
+    Ok(())
+}
+
+// The first flaw of a backend of an ingress of a namespace.
+fn backend_flaw<'a>(
+    services: &Services<'a>,
+    namespace: &'a str,
+    backend: &'a Backend,
+) -> Option<RouteFlaw>
+    ensures { result ≡ spec.backend_flaw services.now namespace.now backend.now }
+{
+    match backend {
+        Backend::Service { name, port } => match services.named(namespace, name.as_str()) {
+            Some(service) => service_flaw(port, service),
+            None => Some(RouteFlaw::NoService),
+        },
+        Backend::Resource => Some(RouteFlaw::Resource),
+    }
+}
+
+// The first flaw of a backend that names a port of a listed service.
+fn service_flaw(named: &PortName, service: &ServiceItem) -> Option<RouteFlaw>
+    ensures { result ≡ spec.service_flaw named.now service.now }
+{
+    if service.external || service.selector.is_none() {
+        return Some(RouteFlaw::NoSelector);
+    }
+    if !has_backend_port(named, service.ports.items()) {
+        return Some(RouteFlaw::NoPort);
+    }
+    if service.headless {
+        return Some(RouteFlaw::Headless);
+    }
+    None
+}

@@ -1,0 +1,59 @@
+//! Which rule decides between two pods.
+
+use crate::asked::{Question, expect_answers};
+use np_policies::Direction;
+
+// A rule of the baseline, and none, after a Pass.
+#[test]
+fn example_explain(rt: HostRuntime) {
+    static ITEMS: &[&str] = &[
+        r#"{"apiVersion":"v1","kind":"Pod","metadata":{"name":"a"},"spec":{},"status":{"podIP":"10.0.0.1"}}"#,
+        r#"{"apiVersion":"v1","kind":"Pod","metadata":{"name":"b"},"spec":{},"status":{"podIP":"10.0.0.2"}}"#,
+        r#"{"apiVersion":"policy.networking.k8s.io/v1alpha1","kind":"AdminNetworkPolicy","metadata":{"name":"five"},"spec":{"priority":5,"subject":{"namespaces":{}},"egress":[{"action":"Pass","to":[{"namespaces":{}}]}]}}"#,
+        r#"{"apiVersion":"policy.networking.k8s.io/v1alpha1","kind":"AdminNetworkPolicy","metadata":{"name":"six"},"spec":{"priority":6,"subject":{"namespaces":{}},"egress":[{"action":"Deny","to":[{"networks":["0.0.0.0/0"]}]}]}}"#,
+        r#"{"apiVersion":"policy.networking.k8s.io/v1alpha1","kind":"BaselineAdminNetworkPolicy","metadata":{"name":"default"},"spec":{"subject":{"namespaces":{}},"egress":[{"action":"Deny","to":[{"namespaces":{}}],"ports":[{"portNumber":{"protocol":"TCP","port":23}}]}]}}"#,
+    ];
+    static WANTED: &[(Question, &str)] = &[
+        (
+            Question::Explained(0, 1, Direction::Egress),
+            concat!(
+                "TCP 1-22,24-65535; UDP 1-65535; SCTP 1-65535 : Allow by default after Pass by AdminNetworkPolicy five egress[0]\n",
+                "TCP 23 : Deny by BaselineAdminNetworkPolicy default egress[0] after Pass by AdminNetworkPolicy five egress[0]\n",
+            ),
+        ),
+        (
+            Question::Explained(0, 1, Direction::Ingress),
+            "All Connections : Allow by default\n",
+        ),
+    ];
+    expect_answers(&rt, rt.alloc(), ITEMS, WANTED);
+}
+
+// Admin rules, rules of NetworkPolicies, and the isolation by two of them.
+#[test]
+fn each_tier_decides(rt: HostRuntime) {
+    static ITEMS: &[&str] = &[
+        r#"{"apiVersion":"v1","kind":"Pod","metadata":{"name":"a"},"spec":{}}"#,
+        r#"{"apiVersion":"v1","kind":"Pod","metadata":{"name":"b","labels":{"app":"b"}},"spec":{}}"#,
+        r#"{"apiVersion":"policy.networking.k8s.io/v1alpha1","kind":"AdminNetworkPolicy","metadata":{"name":"first"},"spec":{"priority":1,"subject":{"namespaces":{}},"ingress":[{"action":"Allow","from":[{"namespaces":{}}],"ports":[{"portNumber":{"protocol":"UDP","port":53}}]},{"action":"Deny","from":[{"namespaces":{}}],"ports":[{"portNumber":{"protocol":"TCP","port":22}}]}]}}"#,
+        r#"{"apiVersion":"networking.k8s.io/v1","kind":"NetworkPolicy","metadata":{"name":"shut"},"spec":{"podSelector":{"matchLabels":{"app":"b"}},"policyTypes":["Ingress"]}}"#,
+        r#"{"apiVersion":"networking.k8s.io/v1","kind":"NetworkPolicy","metadata":{"name":"open"},"spec":{"podSelector":{"matchLabels":{"app":"b"}},"ingress":[{"ports":[{"port":443}]},{"ports":[{"port":80},{"port":443}]}]}}"#,
+    ];
+    static WANTED: &[(Question, &str)] = &[
+        (
+            Question::Explained(0, 1, Direction::Ingress),
+            concat!(
+                "TCP 1-21,23-79,81-442,444-65535; UDP 1-52,54-65535; SCTP 1-65535 : Deny since isolated by NetworkPolicy default/open, default/shut\n",
+                "TCP 22 : Deny by AdminNetworkPolicy first ingress[1]\n",
+                "TCP 80 : Allow by NetworkPolicy default/open ingress[1]\n",
+                "TCP 443 : Allow by NetworkPolicy default/open ingress[0]\n",
+                "UDP 53 : Allow by AdminNetworkPolicy first ingress[0]\n",
+            ),
+        ),
+        (
+            Question::Explained(1, 0, Direction::Egress),
+            "All Connections : Allow by default\n",
+        ),
+    ];
+    expect_answers(&rt, rt.alloc(), ITEMS, WANTED);
+}

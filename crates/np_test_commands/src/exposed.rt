@@ -1,0 +1,71 @@
+//! What pods that nobody has written yet could reach, and be reached by.
+
+use crate::asked::{Question, expect_answers};
+use np_policies::Direction;
+
+// A peer of two selectors, and one of the policy's own namespace.
+#[test]
+fn example_exposure(rt: HostRuntime) {
+    static ITEMS: &[&str] = &[
+        r#"{"apiVersion":"v1","kind":"Pod","metadata":{"name":"web","namespace":"shop"},"spec":{}}"#,
+        r#"{"apiVersion":"networking.k8s.io/v1","kind":"NetworkPolicy","metadata":{"name":"p","namespace":"shop"},"spec":{"podSelector":{},"ingress":[{"from":[{"namespaceSelector":{"matchLabels":{"kubernetes.io/metadata.name":"monitoring"}},"podSelector":{"matchLabels":{"app":"prom"}}}],"ports":[{"port":9090}]},{"from":[{"podSelector":{}}]}]}}"#,
+    ];
+    static WANTED: &[(Question, &str)] = &[
+        (
+            Question::Exposed(0, Direction::Ingress),
+            concat!(
+                "{namespace kubernetes.io/metadata.name In (monitoring) and pod app In (prom)} : TCP 9090\n",
+                "{namespace kubernetes.io/metadata.name In (monitoring)} : No Connections\n",
+                "{namespace kubernetes.io/metadata.name In (shop)} : All Connections\n",
+                "{any pod} : No Connections\n",
+            ),
+        ),
+        (
+            Question::Exposed(0, Direction::Egress),
+            "{any pod} : All Connections\n",
+        ),
+        (Question::Weight(0, Direction::Ingress), "12"),
+    ];
+    expect_answers(&rt, rt.alloc(), ITEMS, WANTED);
+}
+
+// As many patterns as there may be.
+#[test]
+fn eight_requirements(rt: HostRuntime) {
+    static ITEMS: &[&str] = &[
+        r#"{"apiVersion":"v1","kind":"Pod","metadata":{"name":"a"},"spec":{}}"#,
+        r#"{"apiVersion":"networking.k8s.io/v1","kind":"NetworkPolicy","metadata":{"name":"p"},"spec":{"podSelector":{},"ingress":[{"from":[{"namespaceSelector":{},"podSelector":{"matchExpressions":[{"key":"k0","operator":"In","values":["x","y"]},{"key":"k1","operator":"In","values":["x","y"]},{"key":"k2","operator":"In","values":["x","y"]},{"key":"k3","operator":"In","values":["x","y"]},{"key":"k4","operator":"In","values":["x","y"]},{"key":"k5","operator":"In","values":["x","y"]},{"key":"k6","operator":"In","values":["x","y"]},{"key":"k7","operator":"In","values":["x","y"]}]}}]}]}}"#,
+    ];
+    static WANTED: &[(Question, &str)] = &[
+        (Question::Weight(0, Direction::Ingress), "65536"),
+        (
+            Question::Exposed(0, Direction::Ingress),
+            concat!(
+                "{pod k0 In (x,y) and pod k1 In (x,y) and pod k2 In (x,y) and pod k3 In (x,y) and pod k4 In (x,y) and pod k5 In (x,y) and pod k6 In (x,y) and pod k7 In (x,y)} : All Connections\n",
+                "{pod k0 In (x,y) and pod k1 In (x,y) and pod k2 In (x,y) and pod k3 In (x,y) and pod k4 In (x,y) and pod k5 In (x,y) and pod k6 In (x,y)} : No Connections\n",
+                "{pod k0 In (x,y) and pod k1 In (x,y) and pod k2 In (x,y) and pod k3 In (x,y) and pod k4 In (x,y) and pod k5 In (x,y)} : No Connections\n",
+                "{pod k0 In (x,y) and pod k1 In (x,y) and pod k2 In (x,y) and pod k3 In (x,y) and pod k4 In (x,y)} : No Connections\n",
+                "{pod k0 In (x,y) and pod k1 In (x,y) and pod k2 In (x,y) and pod k3 In (x,y)} : No Connections\n",
+                "{pod k0 In (x,y) and pod k1 In (x,y) and pod k2 In (x,y)} : No Connections\n",
+                "{pod k0 In (x,y) and pod k1 In (x,y)} : No Connections\n",
+                "{pod k0 In (x,y)} : No Connections\n",
+                "{any pod} : No Connections\n",
+            ),
+        ),
+    ];
+    expect_answers(&rt, rt.alloc(), ITEMS, WANTED);
+}
+
+// One requirement more.
+#[test]
+fn too_many_patterns(rt: HostRuntime) {
+    static ITEMS: &[&str] = &[
+        r#"{"apiVersion":"v1","kind":"Pod","metadata":{"name":"a"},"spec":{}}"#,
+        r#"{"apiVersion":"networking.k8s.io/v1","kind":"NetworkPolicy","metadata":{"name":"p"},"spec":{"podSelector":{},"ingress":[{"from":[{"namespaceSelector":{},"podSelector":{"matchExpressions":[{"key":"k0","operator":"In","values":["x","y"]},{"key":"k1","operator":"In","values":["x","y"]},{"key":"k2","operator":"In","values":["x","y"]},{"key":"k3","operator":"In","values":["x","y"]},{"key":"k4","operator":"In","values":["x","y"]},{"key":"k5","operator":"In","values":["x","y"]},{"key":"k6","operator":"In","values":["x","y"]},{"key":"k7","operator":"In","values":["x","y"]},{"key":"k8","operator":"Exists"}]}}]}]}}"#,
+    ];
+    static WANTED: &[(Question, &str)] = &[(
+        Question::Exposed(0, Direction::Ingress),
+        "TooManyPatterns 131072",
+    )];
+    expect_answers(&rt, rt.alloc(), ITEMS, WANTED);
+}
