@@ -1,5 +1,5 @@
 #!/usr/bin/env python3
-"""How the time of `np list` grows with its input: bench/cost.py [--program ./np] [--quick] [NAME..]
+"""How the time of `np list` grows with its input: bench/cost.py [--program dist/np] [--quick] [NAME..]
 
 Makes inputs of several shapes, each in two or more sizes, and prints for each the seconds (the best of three runs, of one where
 it takes long), the greatest memory, and how many times the seconds of the size before. A shape that grows as its answer does
@@ -13,6 +13,7 @@ excepts    one block with many excepts
 addresses  one pod with many addresses
 ports      one pod with many named ports, and a rule with an entry for each name
 values     one selector with many values, over many pods
+ingress    one Ingress with a backend for each Service of one workload, and as many workloads again: no pairs, one row for each Service
 formats    the rows of many pods as text, as CSV and as JSON, beside each other
 writes     how many calls of `write` the system sees for so many bytes of rows (needs strace)
 
@@ -113,6 +114,20 @@ def values(count):
             {"key": "app", "operator": "In", "values": ["v%05d" % i for i in range(count)]}]}}]}]})]
 
 
+def ingress(services):
+    """Pods that reach no other, so that the time is that of the routes."""
+    items = [pod("p%d" % i, labels={"app": "a%d" % i}, ports=[("http", 8080)]) for i in range(2 * services)]
+    for i in range(services):
+        items.append({"apiVersion": "v1", "kind": "Service", "metadata": {"name": "s%d" % i}, "spec": {
+            "selector": {"app": "a%d" % i}, "ports": [{"name": "web", "port": 80, "targetPort": "http"}]}})
+    items.append({"apiVersion": "networking.k8s.io/v1", "kind": "Ingress", "metadata": {"name": "i"}, "spec": {"rules": [{"http": {"paths": [
+        {"backend": {"service": {"name": "s%d" % i, "port": {"name": "web"}}}} for i in range(services)]}}]}})
+    items.append({"apiVersion": "policy.networking.k8s.io/v1alpha1", "kind": "AdminNetworkPolicy", "metadata": {"name": "apart"}, "spec": {
+        "priority": 1, "subject": {"namespaces": {}}, "ingress": [{"action": "Deny", "from": [{"namespaces": {"matchExpressions": [
+            {"key": NAME_KEY, "operator": "NotIn", "values": [""]}]}}]}]}})
+    return items
+
+
 SHAPES = {
     "cluster": (cluster, (250, 500, 1000, 2000)),
     "uniform": (uniform, (500, 1000, 2000)),
@@ -122,6 +137,7 @@ SHAPES = {
     "addresses": (addresses, (10000, 20000, 40000)),
     "ports": (ports, (2500, 5000, 10000)),
     "values": (values, (2500, 5000, 10000)),
+    "ingress": (ingress, (250, 500, 1000)),
 }
 
 
@@ -180,7 +196,7 @@ def count_writes(program, folder):
 
 def main():
     words = argparse.ArgumentParser(description=__doc__, formatter_class=argparse.RawDescriptionHelpFormatter)
-    words.add_argument("--program", default=os.path.join(os.path.dirname(os.path.abspath(__file__)), "..", "np"))
+    words.add_argument("--program", default=os.path.join(os.path.dirname(os.path.abspath(__file__)), "..", "dist", "np"))
     words.add_argument("--quick", action="store_true", help="without the greatest size of each shape")
     words.add_argument("names", nargs="*", metavar="NAME")
     given = words.parse_args()
