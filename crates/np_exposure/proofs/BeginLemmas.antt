@@ -1,24 +1,23 @@
 -- The choices at first are those of nothing assumed.
-use Rattle.std.proofs.Common.{◌≡◌, ℕ, ◌+◌, ◌<◌, ◌≤◌, List, [], ◌∷◌, ◌++◌, length, map, filter, flat_map, fold, Bool, true, false, not, cond, ◌&&◌, ◌||◌, Option, Some, None, is_some, codes, refl, sym, ap, ◌∙◌, subst, inl, inr, ◌⊎◌, arith, if◌then◌else◌}
+use Rattle.std.proofs.Common.{◌≡◌, ℕ, ◌<◌, List, [], ◌∷◌, ◌++◌, length, map, filter, flat_map, fold, Bool, true, false, not, cond, ◌||◌, Option, Some, None, is_some, codes, refl, sym, ap, ◌∙◌, subst, inl, inr, ◌⊎◌, arith, if◌then◌else◌}
 use Rattle.std.specs.List.{AllByRecursion, list_all, list_any}
 use Rattle.std.specs.Str.{bytes_eq}
 use Rattle.std.specs.Cmp.Lexicographic.{bytes_decides, nat_list_eq_equiv}
-use Rattle.std.proofs.lemmas.Bool.{and_parts, and_from, or_parts, false≢true, true≢false, not_from_true, not_from_false, cases_Bool, or_cases}
+use Rattle.std.proofs.lemmas.Bool.{and_parts, and_from, false≢true, true≢false, or_cases}
 use Rattle.std.proofs.lemmas.List.{length-append}
 use Rattle.np_exposure.proofs.FirstLemmas.{first-parts}
-use Rattle.np_exposure.proofs.ListLemmas.{All-each, All-from, IsAmong-filter, list_all-from, list_any-at}
-use Rattle.np_exposure.proofs.SameLemmas.{is_same-equal, same_side-equal, same_side-refl}
+use Rattle.np_exposure.proofs.ListLemmas.{All-each, All-from, IsAmong-filter, list_all-from}
+use Rattle.np_exposure.proofs.SameLemmas.{is_same-equal}
 use Rattle.np_exposure.proofs.StandsLemmas.{Alike, HasLike, Stands, fits, is_at, walked-rows}
 use Rattle.np_exposure.specs.Mentions.{each_once, is_same, mentions, same_side, with_more}
 use Rattle.np_exposure.specs.Strangers.{is_hypothetical, labels_at, meets_all}
-use Rattle.np_exposure.specs.Tree.{AreRowsOf, IsAssumed}
+use Rattle.np_exposure.specs.Tree.{AreRowsOf}
 use Rattle.np_exposure.specs.Weight.{keys_on, looks_at, values_at}
 use Rattle.np_exposure.specs.declared.exposure_row.ExposureRow.{ExposureRow}
-use Rattle.np_exposure.specs.declared.label.Label.{Label}
 use Rattle.np_exposure.specs.declared.side.Side.{Side}
 use Rattle.np_exposure.specs.declared.side.Side.TheVariants.{Namespace, Pod}
 use Rattle.np_exposure.specs.declared.sided_requirement.SidedRequirement.{SidedRequirement}
-use Rattle.np_exposure.specs.steps.Choices.{Choices, allows_found, choices_at_first, choices_of, is_name_key, label_at, labels_of, labels_on, other_than}
+use Rattle.np_exposure.specs.steps.Choices.{Choices, choices_at_first, choices_of, is_name_key, label_at, labels_on, other_than}
 use Rattle.np_exposure.specs.steps.Walks.{AreWalked}
 use Rattle.np_labels.proofs.Distinct.{is_listed-distinct}
 use Rattle.np_labels.specs.Labels.{value_of}

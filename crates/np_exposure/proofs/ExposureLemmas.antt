@@ -1,11 +1,11 @@
 -- Strangers that meet the same mentioned requirements have one exposure.
-use Rattle.std.proofs.Common.{◌≡◌, ℕ, List, [], ◌∷◌, ◌++◌, map, filter, flat_map, Bool, true, false, ◌&&◌, ◌||◌, Option, Some, None, is_some, unwrap_or, codes, refl, sym, ap, ◌∙◌, subst, if◌then◌else◌}
-use Rattle.std.specs.List.{AllByRecursion, find, list_all, list_any}
+use Rattle.std.proofs.Common.{◌≡◌, ℕ, List, [], ◌∷◌, ◌++◌, map, flat_map, Bool, true, false, ◌&&◌, ◌||◌, Option, Some, None, is_some, unwrap_or, codes, refl, sym, ap, ◌∙◌, if◌then◌else◌}
+use Rattle.std.specs.List.{AllByRecursion, list_all, list_any}
 use Rattle.std.specs.Str.{bytes_eq}
 use Rattle.std.proofs.lemmas.Bool.{false≢true}
 use Rattle.np_addr.specs.declared.address.Family.TheVariants.{Four}
 use Rattle.np_conns.specs.declared.port_spot.PortSpot.{PortSpot}
-use Rattle.np_exposure.proofs.ListLemmas.{All-each, All-flat, All-parts, All-weaker, filter-same, find-same, list_all-same, list_any-same, none_or_any-same}
+use Rattle.np_exposure.proofs.ListLemmas.{All-each, All-flat, All-parts, All-weaker, filter-same, find-same, list_any-same, none_or_any-same}
 use Rattle.np_exposure.specs.Mentions.{mentions, named, of_admin_peer, of_admin_rule, of_net_peer, of_net_rule, of_placed, of_selector}
 use Rattle.np_exposure.specs.Strangers.{exposes, is_hypothetical, labels_at, meets}
 use Rattle.np_exposure.specs.declared.side.Side.{Side}
@@ -30,10 +30,10 @@ use Rattle.np_policies.specs.declared.network_policy.NetPort.TheVariants as net_
 use Rattle.np_policies.specs.declared.network_policy.NetRule.{NetRule}
 use Rattle.np_rules.specs.AdminTier.{admin_decider, admin_precedes, least_by}
 use Rattle.np_rules.specs.BaseTier.{base_decider}
-use Rattle.np_rules.specs.Ends.{Contact, End, PodEnd, contact, destination_of, pod, stranger_end}
+use Rattle.np_rules.specs.Ends.{Contact, PodEnd, destination_of, pod, stranger_end}
 use Rattle.np_rules.specs.NetTier.{is_isolated, permits, placed_net_matches}
 use Rattle.np_rules.specs.Peers.{admin_peer_matches, net_peer_matches, pods_match}
-use Rattle.np_rules.specs.Places.{PlacedAdminRule, PlacedBaseRule, PlacedNetRule, admin_places, base_places, net_places}
+use Rattle.np_rules.specs.Places.{admin_places, base_places, net_places}
 use Rattle.np_rules.specs.PodSides.{PodSide, near_pod, with_stranger}
 use Rattle.np_rules.specs.PortEntries.{admin_entry_matches, net_entry_matches}
 use Rattle.np_rules.specs.Rules.{admin_rule_matches, net_rule_matches, none_or_any}

@@ -1,5 +1,5 @@
 -- Rows that wait.
-use Rattle.std.proofs.Common.{◌≡◌, List, [], ◌∷◌, ◌++◌, refl, sym, subst}
+use Rattle.std.proofs.Common.{List, [], ◌∷◌, ◌++◌, refl, sym, subst}
 use Rattle.np_exposure.specs.declared.exposure_row.ExposureRow.{ExposureRow}
 use Rattle.np_exposure.specs.declared.pending.Pending.{Pending}
 use Rattle.np_exposure.specs.steps.Walks.{Fills, IsJoinedBy}

@@ -1,22 +1,21 @@
 -- The choices at first.
-use Rattle.std.proofs.Common.{◌≡◌, ℕ, ◌+◌, ◌≤◌, ◌<◌, suc, List, [], ◌∷◌, ◌++◌, length, map, filter, flat_map, fold, Bool, true, false, not, cond, ◌&&◌, ◌||◌, Option, Some, None, is_some, codes, refl, sym, ap, ◌∙◌, subst, inl, inr, arith, if◌then◌else◌}
-use Rattle.std.specs.List.{AllByRecursion, list_all, list_any}
-use Rattle.std.specs.Str.{bytes_eq}
-use Rattle.std.specs.Cmp.Lexicographic.{bytes_decides, slice_cmp}
+use Rattle.std.proofs.Common.{◌≡◌, ℕ, List, [], ◌∷◌, ◌++◌, map, filter, Bool, true, false, not, ◌||◌, Some, None, is_some, refl, ap, ◌∙◌, if◌then◌else◌}
+use Rattle.std.specs.List.{list_all, list_any}
+use Rattle.std.specs.Cmp.Lexicographic.{slice_cmp}
 use Rattle.std.specs.Ordering.{nat_cmp}
-use Rattle.std.proofs.lemmas.Bool.{and_parts, and_from, or_cases, or_parts, false≢true, true≢false, not_from_false, cases_Bool}
-use Rattle.std.proofs.lemmas.List.{length-append, map-append}
-use Rattle.np_exposure.proofs.SameLemmas.{same_side-equal, same_side-refl}
+use Rattle.std.proofs.lemmas.Bool.{and_parts, and_from}
+use Rattle.std.proofs.lemmas.List.{map-append}
+use Rattle.np_exposure.proofs.SameLemmas.{same_side-refl}
 use Rattle.np_exposure.specs.Mentions.{same_side}
-use Rattle.np_exposure.specs.Weight.{keys_on, looks_at, values_at}
+use Rattle.np_exposure.specs.Weight.{keys_on}
 use Rattle.np_exposure.specs.declared.label.Label.{Label}
 use Rattle.np_exposure.specs.declared.side.Side.{Side}
 use Rattle.np_exposure.specs.declared.side.Side.TheVariants.{Namespace, Pod}
 use Rattle.np_exposure.specs.declared.sided_requirement.SidedRequirement.{SidedRequirement}
-use Rattle.np_exposure.specs.steps.Choices.{Choices, IsState, are_apart, choices_at_first, choices_of, has_choice, is_apart, is_name_key, is_named_at, is_open, label_at, labels_of, labels_on, other_than}
+use Rattle.np_exposure.specs.steps.Choices.{Choices, IsState, are_apart, choices_at_first, choices_of, has_choice, is_apart, is_name_key, is_named_at, is_open, label_at, labels_of, labels_on}
 use Rattle.np_labels.proofs.Ascending.{bytes_eq-below}
 use Rattle.np_labels.specs.DistinctAscends.{Less-from_test, distinct-ascends}
-use Rattle.np_labels.specs.Values.{distinct, is_ascending, is_below}
+use Rattle.np_labels.specs.Values.{is_ascending, is_below}
 
 -- ---- there is a choice at each key
 

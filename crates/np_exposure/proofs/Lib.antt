@@ -13,3 +13,4 @@ pub mod BeginLemmas
 pub mod RightLemmas
 pub mod FewLemmas
 pub mod PeerLemmas
+pub mod WellLemmas

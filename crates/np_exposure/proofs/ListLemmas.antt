@@ -1,7 +1,7 @@
 -- Lists whose items pass alike, and what holds of all items.
-use Rattle.std.proofs.Common.{◌≡◌, ℕ, ◌+◌, List, [], ◌∷◌, ◌++◌, Bool, true, false, cond, ◌&&◌, ◌||◌, map, filter, Some, refl, sym, ap, ◌∙◌, inl, inr, subst}
-use Rattle.std.specs.List.{AllByRecursion, enumerate_from, find, flat_map, list_all, list_any}
-use Rattle.std.proofs.lemmas.Bool.{and_parts, and_from, false≢true}
+use Rattle.std.proofs.Common.{◌≡◌, List, [], ◌∷◌, ◌++◌, Bool, true, false, cond, ◌||◌, filter, Some, refl, sym, ap, ◌∙◌, inl, inr, subst}
+use Rattle.std.specs.List.{AllByRecursion, find, flat_map, list_all, list_any}
+use Rattle.std.proofs.lemmas.Bool.{and_parts, and_from}
 use Rattle.np_rules.specs.Laws.{IsAmong}
 use Rattle.np_rules.specs.Rules.{none_or_any}
 
@@ -10,10 +10,6 @@ use Rattle.np_rules.specs.Rules.{none_or_any}
 pub list_any-same : {X : Type 0} (one other : X → Bool) (xs : List X) → AllByRecursion (λ x. one x ≡ other x) xs → list_any one xs ≡ list_any other xs
 list_any-same one other [] same = refl
 list_any-same one other (x ∷ xs) same = ap (λ b. b || list_any one xs) same.0 ∙ ap (λ b. other x || b) (list_any-same one other xs same.1)
-
-pub list_all-same : {X : Type 0} (one other : X → Bool) (xs : List X) → AllByRecursion (λ x. one x ≡ other x) xs → list_all one xs ≡ list_all other xs
-list_all-same one other [] same = refl
-list_all-same one other (x ∷ xs) same = ap (λ b. b && list_all one xs) same.0 ∙ ap (λ b. other x && b) (list_all-same one other xs same.1)
 
 pub none_or_any-same : {X : Type 0} (one other : X → Bool) (xs : List X) → AllByRecursion (λ x. one x ≡ other x) xs → none_or_any one xs ≡ none_or_any other xs
 none_or_any-same one other [] same = refl
@@ -50,10 +46,6 @@ All-flat P f [] all = tt
 All-flat P f (x ∷ xs) all =
     let parts = All-parts P (f x) (flat_map f xs) all in
     (parts.0, All-flat P f xs parts.1)
-
-pub All-map : {X Y : Type 0} (P : Y → Type 0) (f : X → Y) (xs : List X) → AllByRecursion P (map f xs) → AllByRecursion (λ x. P (f x)) xs
-All-map P f [] all = tt
-All-map P f (x ∷ xs) all = (all.0, All-map P f xs all.1)
 
 -- ---- one of the items
 

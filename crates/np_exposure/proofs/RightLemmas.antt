@@ -1,6 +1,6 @@
 -- Rows say right, once and each for some.
-use Rattle.std.proofs.Common.{◌≡◌, ◌≢◌, ℕ, List, [], ◌∷◌, ◌++◌, map, Bool, true, false, not, cond, ◌&&◌, ◌||◌, Option, Some, None, find, refl, sym, ap, ◌∙◌, subst, codes, IsTrue}
-use Rattle.std.specs.List.{list_all, list_any}
+use Rattle.std.proofs.Common.{◌≡◌, List, [], ◌∷◌, ◌++◌, map, Bool, true, false, not, cond, ◌&&◌, ◌||◌, Option, Some, find, refl, sym, ap, ◌∙◌, subst, codes}
+use Rattle.std.specs.List.{list_any}
 use Rattle.std.proofs.lemmas.Bool.{and_parts, and_from, false≢true, true≢false, not-true, not_from_false}
 use Rattle.np_conns.specs.Conns.{Conns, has_spot, is_spot}
 use Rattle.np_conns.specs.Spots.{equal_by_spots, has_spot-is_spot}
@@ -9,7 +9,7 @@ use Rattle.np_exposure.proofs.StandsLemmas.{meets-negated}
 use Rattle.np_exposure.specs.Mentions.{requirements}
 use Rattle.np_exposure.specs.Right.{FirstRowTells, IsEachFirst, meets_row}
 use Rattle.np_exposure.specs.Strangers.{IsExposure, is_hypothetical, meets, meets_all, negated}
-use Rattle.np_exposure.specs.Tree.{AreRows, AreRowsAt, AreRowsOf, HasExposure, IsAssumed, IsJoined, IsPossible, always, apart, either, equal, never, with_first}
+use Rattle.np_exposure.specs.Tree.{AreRows, AreRowsAt, AreRowsOf, IsAssumed, IsJoined, IsPossible, always, apart, either, equal, never, with_first}
 use Rattle.np_exposure.specs.declared.exposure_row.ExposureRow.{ExposureRow}
 use Rattle.np_exposure.specs.declared.sided_requirement.SidedRequirement.{SidedRequirement}
 use Rattle.np_rules.specs.PodSides.{PodSide}

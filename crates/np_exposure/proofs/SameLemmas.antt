@@ -1,13 +1,11 @@
 -- When requirements and rows are equal.
-use Rattle.std.proofs.Common.{◌≡◌, ◌≢◌, ℕ, List, [], ◌∷◌, Bool, true, false, MatchBool, ◌&&◌, reverse, refl, sym, ap, ◌∙◌, subst}
-use Rattle.std.specs.Bool.{Decides}
+use Rattle.std.proofs.Common.{◌≡◌, ◌≢◌, ℕ, List, Bool, true, false, MatchBool, reverse, refl, sym, ap, ◌∙◌, subst}
 use Rattle.std.specs.Cmp.Lexicographic.{bytes_decides}
 use Rattle.std.proofs.lemmas.Bool.{and_parts, and_from, false≢true, true≢false}
 use Rattle.std.proofs.lemmas.List.{reverse-reverse}
 use Rattle.std.specs.Str.{bytes_eq}
 use lib.Pointwise.{pointwise, pointwise_decides}
 use mathlib.Core.Bool.{Bool-set}
-use Rattle.np_conns.specs.Conns.{Conns}
 use Rattle.np_exposure.specs.Mentions.{is_same, same_op, same_side}
 use Rattle.np_exposure.specs.declared.exposure_row.ExposureRow.{ExposureRow}
 use Rattle.np_exposure.specs.declared.side.Side.{Side}

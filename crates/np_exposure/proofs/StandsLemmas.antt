@@ -1,22 +1,22 @@
 -- What the choices say of what is assumed, and so that the rows of the walk are those of the requirements.
-use Rattle.std.proofs.Common.{◌≡◌, ℕ, List, [], ◌∷◌, ◌++◌, map, filter, Bool, true, false, not, cond, ◌&&◌, ◌||◌, Option, Some, None, refl, sym, ap, ◌∙◌, subst, inl, inr, ◌⊎◌, IsTrue}
+use Rattle.std.proofs.Common.{◌≡◌, ℕ, List, [], ◌∷◌, filter, Bool, true, false, not, cond, ◌&&◌, ◌||◌, Option, Some, None, refl, sym, ap, ◌∙◌, subst, inl, inr, ◌⊎◌}
 use Rattle.std.specs.List.{AllByRecursion, list_all, list_any}
 use Rattle.std.specs.Str.{bytes_eq}
 use Rattle.std.specs.Cmp.Lexicographic.{bytes_decides}
-use Rattle.std.proofs.lemmas.Bool.{and_parts, and_from, or_cases, false≢true, true≢false, not_from_true, not_from_false, cases_Bool}
-use Rattle.np_conns.specs.Conns.{Conns, has_spot, is_spot}
+use Rattle.std.proofs.lemmas.Bool.{and_parts, and_from, false≢true}
+use Rattle.np_conns.specs.Conns.{Conns}
 use Rattle.np_exposure.proofs.ExposureLemmas.{Agree, exposes-same}
-use Rattle.np_exposure.proofs.ListLemmas.{All-at, All-from, All-weaker, IsAmong-filter, list_all-at, list_all-from, list_any-at}
+use Rattle.np_exposure.proofs.ListLemmas.{All-at, All-weaker, IsAmong-filter, list_all-at, list_all-from, list_any-at}
 use Rattle.np_exposure.proofs.SameLemmas.{same_side-equal}
 use Rattle.np_exposure.specs.Mentions.{mentions, same_side}
-use Rattle.np_exposure.specs.Strangers.{IsExposure, exposes, is_hypothetical, labels_at, meets, meets_all, negated}
-use Rattle.np_exposure.specs.Tree.{AreRows, AreRowsAt, HasExposure, IsAssumed, IsJoined, IsPossible, always, either, never}
+use Rattle.np_exposure.specs.Strangers.{IsExposure, is_hypothetical, labels_at, meets, meets_all, negated}
+use Rattle.np_exposure.specs.Tree.{AreRows, AreRowsAt, HasExposure, IsAssumed, IsPossible, always, either, never}
 use Rattle.np_exposure.specs.Weight.{looks_at}
 use Rattle.np_exposure.specs.declared.exposure_row.ExposureRow.{ExposureRow}
 use Rattle.np_exposure.specs.declared.side.Side.{Side}
 use Rattle.np_exposure.specs.declared.sided_requirement.SidedRequirement.{SidedRequirement}
-use Rattle.np_exposure.specs.steps.Choices.{Choices, IsChosen, IsWitness, allows_found, as_wanted, can_be, narrowed, narrowed_at, suits}
-use Rattle.np_exposure.specs.steps.Walks.{AreJoinedAt, AreWalked, IsLeaf}
+use Rattle.np_exposure.specs.steps.Choices.{Choices, IsChosen, IsWitness, allows_found, as_wanted, can_be, narrowed, suits}
+use Rattle.np_exposure.specs.steps.Walks.{AreJoinedAt, AreWalked}
 use Rattle.np_labels.specs.Labels.{value_of}
 use Rattle.np_labels.specs.Selectors.{allows, opposite_of}
 use Rattle.np_labels.specs.declared.op.Op.{Op}
@@ -30,10 +30,6 @@ use Rattle.np_rules.specs.declared.stranger.Stranger.{Stranger}
 not-not : (b : Bool) → b ≡ not (not b)
 not-not true = refl
 not-not false = refl
-
-is_some-none : (found : Option (List ℕ)) → allows Absent [] found ≡ not (allows Present [] found)
-is_some-none None = refl
-is_some-none (Some value) = refl
 
 allows-opposite : (op : Op) (values : List (List ℕ)) (found : Option (List ℕ)) → allows (opposite_of op) values found ≡ not (allows op values found)
 allows-opposite OneOf values None = refl

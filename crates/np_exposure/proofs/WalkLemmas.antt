@@ -1,5 +1,5 @@
 -- The rows at a requirement, from those behind it.
-use Rattle.std.proofs.Common.{◌≡◌, List, [], ◌∷◌, ◌++◌, Bool, true, false, not, Option, Some, None, refl, sym, ap, ◌∙◌, subst, length, arith}
+use Rattle.std.proofs.Common.{◌≡◌, List, [], ◌∷◌, ◌++◌, Bool, true, false, not, Option, Some, None, sym, subst, length, arith}
 use Rattle.std.proofs.lemmas.Bool.{false≢true, true≢false}
 use Rattle.np_exposure.proofs.FillLemmas.{Fills-last}
 use Rattle.np_exposure.specs.Tree.{IsJoined}

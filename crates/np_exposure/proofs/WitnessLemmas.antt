@@ -1,5 +1,5 @@
 -- The labels of the first choices at all keys.
-use Rattle.std.proofs.Common.{◌≡◌, ℕ, List, [], ◌∷◌, ◌++◌, reverse, flat_map, Bool, true, false, not, cond, ◌&&◌, ◌||◌, Option, Some, None, is_some, codes, refl, sym, ap, ◌∙◌, subst, inl, inr}
+use Rattle.std.proofs.Common.{◌≡◌, ℕ, List, [], ◌∷◌, ◌++◌, reverse, flat_map, Bool, true, false, not, cond, ◌||◌, Option, Some, None, is_some, codes, refl, sym, ap, ◌∙◌, subst, inl}
 use Rattle.std.specs.List.{AllByRecursion, list_all, list_any}
 use Rattle.std.specs.Str.{bytes_eq}
 use Rattle.std.specs.Cmp.Lexicographic.{bytes_decides, nat_list_eq_equiv}
@@ -11,7 +11,7 @@ use Rattle.np_exposure.specs.Mentions.{same_side}
 use Rattle.np_exposure.specs.Strangers.{is_hypothetical, labels_at}
 use Rattle.np_exposure.specs.declared.side.Side.{Side}
 use Rattle.np_exposure.specs.declared.side.Side.TheVariants.{Namespace, Pod}
-use Rattle.np_exposure.specs.steps.Choices.{Choices, IsChosen, IsState, IsWitness, are_apart, first_found, first_label, first_on, has_choice, is_apart, is_name_key, is_named_at, is_open, label_if}
+use Rattle.np_exposure.specs.steps.Choices.{Choices, IsChosen, IsState, IsWitness, are_apart, first_found, first_label, has_choice, is_apart, is_name_key, is_named_at, is_open, label_if}
 use Rattle.np_labels.specs.Labels.{last_value_of, value_of}
 use Rattle.np_labels.specs.declared.pair.Pair.{Pair}
 use Rattle.np_rules.specs.Laws.{IsAmong}

@@ -9,7 +9,6 @@ use Rattle.np_exposure.specs.declared.sided_requirement.SidedRequirement.{SidedR
 use Rattle.np_labels.specs.Selectors.{label_requirement}
 use Rattle.np_labels.specs.declared.op.Op.{Op}
 use Rattle.np_labels.specs.declared.op.Op.TheVariants.{OneOf, NoneOf, Present, Absent}
-use Rattle.np_labels.specs.declared.requirement.Requirement.{Requirement}
 use Rattle.np_labels.specs.declared.selector.Selector.{Selector}
 use Rattle.np_policies.specs.declared.admin_policy.AdminPeer.{AdminPeer}
 use Rattle.np_policies.specs.declared.admin_policy.AdminPeer.TheVariants as admin

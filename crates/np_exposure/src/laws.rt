@@ -1,7 +1,8 @@
 //! What follows of the rows of a pod's side. Each law is the contract of a call that does nothing.
 ghost use Rattle.std.specs.Prelude.{◌≡◌, ◌≤◌, List, length, true};
-ghost use Rattle.std.specs.List.{AllByRecursion};
+ghost use Rattle.std.specs.List.{AllByRecursion, list_all};
 ghost use Rattle.np_conns.specs.declared.port_spot.PortSpot.{PortSpot};
+ghost use Rattle.np_estate.specs.Lawful.{is_well};
 ghost use Rattle.np_exposure.specs.Mentions.{mentions};
 ghost use Rattle.np_exposure.specs.PeerText.{are_well, peer_text};
 ghost use Rattle.np_exposure.specs.Right.{FirstRowTells, IsEachFirst};
@@ -45,4 +46,11 @@ pub fn rows_are_few()
 pub fn one_text_has_one_peer()
     ensures { (requirements others : List SidedRequirement) → are_well requirements ≡ true → are_well others ≡ true →
         peer_text requirements ≡ peer_text others → requirements ≡ others }
+{}
+
+/// Where all names and words of the lists are well formed, as in every estate that is read, the requirements of rows are
+/// such. So their texts tell them.
+pub fn requirements_of_read_policies_are_well()
+    ensures { (side : PodSide) (rows : List ExposureRow) → is_well side.lists ≡ true → AreRowsOf side rows →
+        list_all (λ row. are_well row.requirements) rows ≡ true }
 {}

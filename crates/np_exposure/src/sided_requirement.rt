@@ -12,6 +12,7 @@ use std::alloc::Global;
 /// A requirement on the labels of a pod or of its namespace.
 #[derive(Debug, Drop)]
 pub struct SidedRequirement {
+    /// Whose labels they are.
     pub side: Side,
     pub requirement: Requirement,
 }

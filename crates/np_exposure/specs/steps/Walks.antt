@@ -1,5 +1,5 @@
 -- The rows of a walk over the requirements, with the choices that are left.
-use Rattle.std.specs.Prelude.{◌≡◌, List, [], ◌∷◌, ◌++◌, Bool, true, false, not, Option, Some, None, if◌then◌else◌}
+use Rattle.std.specs.Prelude.{◌≡◌, List, [], ◌∷◌, Bool, true, false, not, Option, Some, None, if◌then◌else◌}
 use Rattle.np_conns.specs.Conns.{Conns}
 use Rattle.np_exposure.specs.Strangers.{IsExposure}
 use Rattle.np_exposure.specs.Tree.{IsJoined}

@@ -1,7 +1,6 @@
-use Rattle.std.proofs.Common.{arith, ap, length, refl, List, subst, sym}
+use Rattle.std.proofs.Common.{arith, refl}
 use Rattle.std.proofs.lemmas.Result.{IfOk-weaker}
 use Rattle.np_exposure.proofs.WalkLemmas.{filled-alone, filled-joined, walked-leaf}
-use Rattle.np_exposure.specs.steps.Walks.{AreWalked}
 use Rattle.np_exposure.proofs.walk.+rows_of.Goals as goal
 
 pub loop-first-preserved-in_ok-push : goal.loop-first-preserved-in_ok-push

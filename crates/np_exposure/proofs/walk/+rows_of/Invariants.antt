@@ -1,4 +1,4 @@
-use Rattle.std.proofs.Common.{List, ◌≤◌, length}
+use Rattle.std.proofs.Common.{◌≤◌, length}
 use Rattle.np_exposure.proofs.WalkLemmas.{IsFilled}
 use Rattle.np_exposure.specs.steps.Choices.{IsState}
 use Rattle.np_exposure.specs.steps.Walks.{AreWalked}
