@@ -1,4 +1,5 @@
 pub mod DeciderText
+pub mod Explanations
 pub mod Marks
 pub mod Order
 pub mod Parts

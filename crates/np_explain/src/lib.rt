@@ -2,17 +2,21 @@
 #![tactic(auto)]
 
 mod explaining;
+mod explanation;
 mod laws;
 mod order;
 mod part;
 mod print;
 mod rule_names;
+mod same;
 mod side;
 
 pub use explaining::explain;
+pub use explanation::{Explanation, explanation};
 pub use laws::{
     both_sides_give_the_verdict, each_spot_is_in_one_part, one_list_of_parts_is_right,
     only_addresses_have_no_side, parts_give_the_verdict, right_parts_are_these,
 };
 pub use part::Part;
 pub use print::print_decider;
+pub use same::same_sides;

@@ -1,5 +1,7 @@
 pub mod AskedLemmas
 pub mod EvaluateLemmas
+pub mod ExplainLemmas
+pub mod ExposureLemmas
 pub mod FileLemmas
 pub mod ListLemmas
 pub mod OptionLemmas

@@ -3,6 +3,8 @@ use Rattle.std.specs.Prelude.{◌∷◌, [], List, None, Option, String, codes, 
 use Rattle.std.specs.Str.{bytes_eq}
 use Rattle.std.specs.declared.alloc.Global.{Global}
 use Rattle.np_words.specs.EvaluateWords.{evaluate_job}
+use Rattle.np_words.specs.ExplainWords.{explain_job}
+use Rattle.np_words.specs.ExposureWords.{exposure_job}
 use Rattle.np_words.specs.ListWords.{list_job}
 use Rattle.np_words.specs.Values.{Text}
 use Rattle.np_words.specs.declared.job.Job.{Job}
@@ -12,6 +14,8 @@ abbrev pub job_of : List Text → Option Job
 job_of [] = None
 job_of (command ∷ rest) =
     if bytes_eq command (codes "list") then list_job (command ∷ rest)
+    else if bytes_eq command (codes "explain") then explain_job (command ∷ rest)
+    else if bytes_eq command (codes "exposure") then exposure_job (command ∷ rest)
     else if bytes_eq command (codes "evaluate") then evaluate_job (command ∷ rest)
     else None
 

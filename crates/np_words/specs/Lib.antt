@@ -1,6 +1,8 @@
 pub mod Arguments
 pub mod CommandLines
 pub mod EvaluateWords
+pub mod ExplainWords
+pub mod ExposureWords
 pub mod Faults
 pub mod Laws
 pub mod ListWords

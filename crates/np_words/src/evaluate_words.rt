@@ -3,13 +3,11 @@ ghost use Rattle.std.specs.Prelude.{◌≡◌, Some, None, IfOk, IsErrOf, map, s
 ghost use Rattle.clap.specs.Matches.{found_of};
 ghost use Rattle.clap.specs.Simple.{app_of};
 ghost use Rattle.clap.specs.Walk.{rows_of};
-ghost use Rattle.np_words.specs.Arguments.{value_in};
 ghost use Rattle.np_words.specs.EvaluateWords as spec;
-ghost use Rattle.np_words.specs.Values.{end_of};
 
 use crate::arguments::{file, required_option};
-use crate::end_word::EndWord;
 use crate::files::read_files;
+use crate::found::end_in;
 use crate::job::Job;
 use crate::port::read_port;
 use crate::words_fault::WordsFault;
@@ -65,14 +63,4 @@ fn evaluate_of(alloc: Global, matches: &ArgMatches) -> Result<Job, WordsFault>
         port,
         files,
     })
-}
-
-// The end that an option names. `Usage` comes exactly where it was not found, or names none.
-fn end_in(alloc: Global, matches: &ArgMatches, option: &str) -> Result<EndWord, WordsFault>
-    ensures end { IfOk result (λ end. value_in end_of option.now (rows_of (found_of matches.now)) ≡ Some end) }
-    ensures usage { IsErrOf result WordsFault.Usage →
-        value_in end_of option.now (rows_of (found_of matches.now)) ≡ None }
-{
-    let word = matches.get_str(option).ok_or(WordsFault::Usage)?;
-    EndWord::of(alloc, word)
 }

@@ -21,6 +21,18 @@ pub enum Job {
         side: FocusSide,
         files: Seq<Text>,
     },
+    /// What decides between two ends, at both sides of them. The ends are addresses, or workloads by their names.
+    Explain {
+        from: EndWord,
+        to: EndWord,
+        files: Seq<Text>,
+    },
+    /// What a pod that nobody has written yet could send to workloads and be sent by them: to those of one name, or to all.
+    Exposure {
+        workload: Option<Text>,
+        format: Format,
+        files: Seq<Text>,
+    },
     /// The verdict of one packet. Its ends are addresses, or listed pods by `namespace/name`.
     Evaluate {
         from: EndWord,

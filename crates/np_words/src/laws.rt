@@ -7,9 +7,11 @@ ghost use Rattle.np_conns.specs.declared.proto.Proto.{Proto};
 ghost use Rattle.np_words.specs.Arguments.{are_files};
 ghost use Rattle.np_words.specs.CommandLines.{job_of};
 ghost use Rattle.np_words.specs.Laws.{is_list_option, is_plain, or_standard_input, text_table};
-ghost use Rattle.np_words.specs.Values.{Text, end_of, port_of, report_of};
+ghost use Rattle.np_words.specs.Values.{Text, end_of, format_of, port_of, report_of};
 ghost use Rattle.np_words.specs.declared.end_word.EndWord.{EndWord};
-ghost use Rattle.np_words.specs.declared.job.Job.TheVariants.{Evaluate as EvaluateJob};
+ghost use Rattle.np_words.specs.declared.format.Format.{Format};
+ghost use Rattle.np_words.specs.declared.format.Format.TheVariants.{Plain};
+ghost use Rattle.np_words.specs.declared.job.Job.TheVariants.{Evaluate as EvaluateJob, Explain as ExplainJob, Exposure as ExposureJob};
 ghost use Rattle.np_words.specs.declared.report.Report.{Report};
 ghost use Rattle.np_words.specs.declared.report.Report.TheVariants.{Two};
 
@@ -93,6 +95,24 @@ pub fn packet_is_read_of_its_options()
         job_of (codes "evaluate" ∷ (codes "--from=" ++ from) ∷ (codes "--to=" ++ to)
         ∷ (codes "--protocol=" ++ proto) ∷ (codes "--port=" ++ port) ∷ [])
         ≡ Some (EvaluateJob source destination named number (codes "-" ∷ [])) }
+{}
+
+/// The ends of `explain` are those of its two options, each with a value that is an address or has a `/` in it. Where no
+/// file is named, `explain` reads standard input.
+pub fn ends_are_read_of_their_options()
+    ensures { (from to : Text) (source destination : EndWord) → end_of from ≡ Some source → end_of to ≡ Some destination →
+        job_of (codes "explain" ∷ (codes "--from=" ++ from) ∷ (codes "--to=" ++ to) ∷ [])
+        ≡ Some (ExplainJob source destination (codes "-" ∷ [])) }
+{}
+
+/// `exposure` without options is that of all workloads, as text, of standard input. With `--workload=` it is that of the
+/// workload of any name, and with `--format=` it is in that format.
+pub fn exposure_is_of_all_or_of_one()
+    ensures all { job_of (codes "exposure" ∷ []) ≡ Some (ExposureJob None Plain (codes "-" ∷ [])) }
+    ensures one { (name : Text) → job_of (codes "exposure" ∷ (codes "--workload=" ++ name) ∷ [])
+        ≡ Some (ExposureJob (Some name) Plain (codes "-" ∷ [])) }
+    ensures format { (value : Text) (format : Format) → format_of value ≡ Some format →
+        job_of (codes "exposure" ∷ (codes "--format=" ++ value) ∷ []) ≡ Some (ExposureJob None format (codes "-" ∷ [])) }
 {}
 
 /// The words that are ports are the decimals of the numbers from 1 to 65535.

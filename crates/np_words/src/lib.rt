@@ -4,9 +4,12 @@
 mod arguments;
 mod end_word;
 mod evaluate_words;
+mod explain_words;
+mod exposure_words;
 mod files;
 mod focus_side;
 mod format;
+mod found;
 mod job;
 mod laws;
 mod list_words;
@@ -20,10 +23,10 @@ pub use focus_side::FocusSide;
 pub use format::Format;
 pub use job::Job;
 pub use laws::{
-    controller_is_any_name, focus_is_any_name, options_given_twice_ask_for_nothing,
-    other_options_ask_for_nothing, packet_is_read_of_its_options, ports_are_decimals,
-    report_is_read_after_its_option, words_after_two_hyphens_are_files,
-    words_without_options_are_files,
+    controller_is_any_name, ends_are_read_of_their_options, exposure_is_of_all_or_of_one,
+    focus_is_any_name, options_given_twice_ask_for_nothing, other_options_ask_for_nothing,
+    packet_is_read_of_its_options, ports_are_decimals, report_is_read_after_its_option,
+    words_after_two_hyphens_are_files, words_without_options_are_files,
 };
 pub use report::Report;
 pub use words::read_words;

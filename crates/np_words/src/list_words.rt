@@ -2,18 +2,18 @@
 ghost use Rattle.std.specs.Prelude.{◌≡◌, Some, None, IfOk, IsErrOf, map, string_bytes};
 ghost use Rattle.clap.specs.Matches.{found_of};
 ghost use Rattle.clap.specs.Simple.{app_of};
-ghost use Rattle.clap.specs.Walk.{first_of, rows_of};
+ghost use Rattle.clap.specs.Walk.{rows_of};
 ghost use Rattle.np_words.specs.ListWords as spec;
 
 use crate::arguments::{file, option_of, option_or};
 use crate::files::read_files;
 use crate::focus_side::FocusSide;
 use crate::format::Format;
+use crate::found::name_in;
 use crate::job::Job;
 use crate::report::Report;
 use crate::words_fault::WordsFault;
 use clap::{ArgMatches, Command};
-use np_base::{NoMemory, Text};
 use std::alloc::{AllocError, Global};
 
 /// The job of words of which the first is `list`. `Usage` comes exactly where they ask for none.
@@ -68,14 +68,4 @@ fn list_of(alloc: Global, matches: &ArgMatches) -> Result<Job, WordsFault>
         side,
         files,
     })
-}
-
-// The name that an option was given, if it was.
-fn name_in(alloc: Global, matches: &ArgMatches, option: &str) -> Result<Option<Text>, NoMemory>
-    ensures { IfOk result (λ name. first_of option.now (rows_of (found_of matches.now)) ≡ name) }
-{
-    match matches.get_str(option) {
-        Some(name) => Ok(Some(Text::of(alloc, name)?)),
-        None => Ok(None),
-    }
 }

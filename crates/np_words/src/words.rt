@@ -3,6 +3,8 @@ ghost use Rattle.std.specs.Prelude.{◌≡◌, Some, None, IfOk, IsErrOf};
 ghost use Rattle.np_words.specs.CommandLines.{asked_by};
 
 use crate::evaluate_words::read_evaluate;
+use crate::explain_words::read_explain;
+use crate::exposure_words::read_exposure;
 use crate::job::Job;
 use crate::list_words::read_list;
 use crate::words_fault::WordsFault;
@@ -16,6 +18,8 @@ pub fn read_words(alloc: Global, words: &[String]) -> Result<Job, WordsFault>
 {
     match words.first() {
         Some(command) if command.as_str() == "list" => read_list(alloc, words),
+        Some(command) if command.as_str() == "explain" => read_explain(alloc, words),
+        Some(command) if command.as_str() == "exposure" => read_exposure(alloc, words),
         Some(command) if command.as_str() == "evaluate" => read_evaluate(alloc, words),
         _ => Err(WordsFault::Usage),
     }

@@ -1,7 +1,7 @@
 use Rattle.std.proofs.Common.{◌∙◌, Some, ap, sym}
 use Rattle.clap.proofs.WalkLemmas.{first_value-rows}
 use Rattle.clap.specs.Matches.{found_of}
-use Rattle.np_words.proofs.list_words.name_in.Goals as goal
+use Rattle.np_words.proofs.found.name_in.Goals as goal
 
 pub returns-in_ok-of-in-Some : goal.returns-in_ok-of-in-Some
 returns-in_ok-of-in-Some c = sym (first_value-rows (found_of c.args.matches.now) c.args.option.now) ∙ sym c.in-Some.ensures ∙ ap Some (sym c.in_ok-of-in-Some.ensures)

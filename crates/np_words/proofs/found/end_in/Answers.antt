@@ -3,7 +3,7 @@ use Rattle.std.proofs.lemmas.Result.{IfOk-weaker}
 use Rattle.clap.specs.Matches.{found_of}
 use Rattle.np_words.proofs.AskedLemmas.{value_in-found}
 use Rattle.np_words.specs.Values.{Text, end_of}
-use Rattle.np_words.proofs.evaluate_words.end_in.Goals as goal
+use Rattle.np_words.proofs.found.end_in.Goals as goal
 
 pub returns-in_err-word-clause-usage : goal.returns-in_err-word-clause-usage
 returns-in_err-word-clause-usage c = λ usage.

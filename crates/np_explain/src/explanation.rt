@@ -1,0 +1,91 @@
+//! What decides between two ends, at both sides of them, and what passes.
+ghost use Rattle.std.specs.Prelude.{◌≡◌, ◌≤◌, false, true, IfOk};
+ghost use Rattle.np_conns.specs.Conns.{IsConns, has_spot, is_spot};
+ghost use Rattle.np_conns.specs.declared.port_spot.PortSpot.{PortSpot};
+ghost use Rattle.np_estate.specs.Lawful.{IsLawful};
+ghost use Rattle.np_explain.specs.Explanations as spec;
+ghost use Rattle.np_explain.specs.Sides.{IsFamilyOf, are_one_pod};
+ghost use Rattle.np_rules.specs.Deciders.{decider_allows};
+ghost use Rattle.np_rules.specs.Verdict.{IsEndOf};
+
+use crate::explaining::explain;
+use crate::part::Part;
+use np_addr::Family;
+use np_base::{Cells, NoMemory, Seq};
+use np_conns::ConnSet;
+use np_estate::Estate;
+use np_policies::Direction;
+use np_rules::{Decider, End};
+use np_steps::Steps;
+use std::alloc::Global;
+use std::sync::ledger::Ledger;
+
+/// What decides every packet of a family between two ends, at its source and at its destination, and the protocols and ports
+/// at which packets are allowed.
+#[derive(Debug, Drop)]
+pub struct Explanation {
+    pub egress: Seq<Part>,
+    pub ingress: Seq<Part>,
+    pub conns: ConnSet,
+}
+
+/// The explanation of two ends. A packet is allowed where what decides at its source allows it, and what decides at its
+/// destination does.
+///
+/// The ends are not one pod. Where an end is an address the family is its own, and that of the source where both are. The
+/// rules that are looked at are counted. Want of memory is the one refusal.
+pub fn explanation<L: Ledger>(
+    alloc: Global,
+    estate: &Estate,
+    source: End,
+    destination: End,
+    family: Family,
+    steps: &mut Steps<L>,
+) -> Result<Explanation, NoMemory>
+    requires lawful { IsLawful estate.now }
+    requires source { IsEndOf estate.now source }
+    requires destination { IsEndOf estate.now destination }
+    requires apart { are_one_pod source destination ≡ false }
+    requires family { IsFamilyOf source destination family }
+    ensures made { IfOk result (λ made. made ≡ spec.explanation_of estate.now source destination family) }
+    ensures right { IfOk result (spec.IsRightFor estate.now source destination family) }
+    ensures least { steps.old ≤ steps.new }
+{
+    let sending = Direction::Egress;
+    let receiving = Direction::Ingress;
+    let egress = explain(alloc, estate, source, destination, sending, family, steps)?;
+    let ingress = explain(alloc, estate, source, destination, receiving, family, steps)?;
+    let sent = allowed(alloc, egress.items())?;
+    let received = allowed(alloc, ingress.items())?;
+    let conns = sent.meet(&received)?;
+    Ok(Explanation {
+        egress,
+        ingress,
+        conns,
+    })
+}
+
+// The protocols and ports of the parts that allow.
+fn allowed(alloc: Global, parts: &[Part]) -> Result<ConnSet, NoMemory>
+    ensures members { IfOk result (λ made. (spot : PortSpot) → has_spot made spot ≡ spec.some_allows parts.now spot) }
+    ensures well { IfOk result IsConns }
+{
+    let mut set = ConnSet::nothing(alloc)?;
+    for part in parts {
+        if allows(&part.decider) {
+            set = set.join(&part.conns)?;
+        }
+    }
+    Ok(set)
+}
+
+// Whether what decides allows.
+fn allows(decider: &Decider) -> bool
+    ensures { result ≡ decider_allows decider.now }
+{
+    match decider {
+        Decider::NoSide | Decider::Net { .. } | Decider::Free { .. } => true,
+        Decider::Isolated { .. } => false,
+        Decider::Admin { allow, .. } | Decider::Base { allow, .. } => *allow,
+    }
+}
