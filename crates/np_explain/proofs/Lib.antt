@@ -1,3 +1,4 @@
+pub mod ExplanationLemmas
 pub mod FirstLemmas
 pub mod MarkLemmas
 pub mod NoSideLemmas

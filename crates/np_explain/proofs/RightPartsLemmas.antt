@@ -123,12 +123,12 @@ module _ (passes : PortSpot → Bool) (port : ℕ) (low : 1 ≤ port) (high : po
   has_port Udp = runs-hold (λ (n : ℕ). passes (record { proto = Udp; port = n })) port low high
   has_port Sctp = runs-hold (λ (n : ℕ). passes (record { proto = Sctp; port = n })) port low high
 
-conns_of-has : (passes : PortSpot → Bool) (spot : PortSpot) → is_spot spot ≡ true → has_spot (conns_of passes) spot ≡ passes spot
+pub conns_of-has : (passes : PortSpot → Bool) (spot : PortSpot) → is_spot spot ≡ true → has_spot (conns_of passes) spot ≡ passes spot
 conns_of-has passes spot inside =
     let ends = and_parts (nat_le 1 spot.port) (nat_le spot.port 65535) inside in
     has_port passes spot.port (leb-true 1 spot.port ends.0) (leb-true spot.port 65535 ends.1) spot.proto
 
-conns_of-well : (passes : PortSpot → Bool) → IsConns (conns_of passes)
+pub conns_of-well : (passes : PortSpot → Bool) → IsConns (conns_of passes)
 conns_of-well passes = record { tcp = runs-ascend _; udp = runs-ascend _; sctp = runs-ascend _ }
 
 -- ---- the parts

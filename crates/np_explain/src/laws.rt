@@ -4,9 +4,11 @@ ghost use Rattle.np_addr.specs.declared.address.Family.{Family};
 ghost use Rattle.np_conns.specs.Conns.{has_spot, is_spot};
 ghost use Rattle.np_conns.specs.declared.port_spot.PortSpot.{PortSpot};
 ghost use Rattle.np_estate.specs.declared.lists.EstateLists.{EstateLists};
+ghost use Rattle.np_explain.specs.Explanations.{IsRightFor, explanation_of, same_sides};
 ghost use Rattle.np_explain.specs.Parts.{AreRightParts};
 ghost use Rattle.np_explain.specs.RightParts.{parts_of};
 ghost use Rattle.np_explain.specs.Sides.{decider_at, decider_between, end_at, is_address, packet_between};
+ghost use Rattle.np_explain.specs.declared.explanation.Explanation.{Explanation};
 ghost use Rattle.np_explain.specs.declared.part.Part.{Part};
 ghost use Rattle.np_policies.specs.declared.direction.Direction.{Direction};
 ghost use Rattle.np_policies.specs.declared.direction.Direction.TheVariants.{Ingress, Egress};
@@ -55,4 +57,21 @@ pub fn both_sides_give_the_verdict()
 pub fn only_addresses_have_no_side()
     ensures { (lists : EstateLists) (direction : Direction) (end : RuleEnd) (contact : Contact) →
         IsTrue (is_address end) ↔ (decider lists direction end contact ≡ NoSide) }
+{}
+
+/// The explanation of two ends is right for them, and for all ends between which the same decides at both sides.
+pub fn explanations_are_right()
+    ensures right { (lists : EstateLists) (source destination : End) (family : Family) →
+        IsRightFor lists source destination family (explanation_of lists source destination family) }
+    ensures alike { (lists : EstateLists) (s d s' d' : End) (family : Family) (made : Explanation) →
+        ((spot : PortSpot) → decider_between lists Egress s d family spot ≡ decider_between lists Egress s' d' family spot) →
+        ((spot : PortSpot) → decider_between lists Ingress s d family spot ≡ decider_between lists Ingress s' d' family spot) →
+        IsRightFor lists s d family made → IsRightFor lists s' d' family made }
+{}
+
+/// Where the parts of both sides are the same in two families, the explanation of the one is right in the other.
+pub fn same_sides_explain_both_families()
+    ensures { (lists : EstateLists) (source destination : End) (family other : Family) →
+        same_sides (explanation_of lists source destination family) (explanation_of lists source destination other) ≡ true →
+        IsRightFor lists source destination other (explanation_of lists source destination family) }
 {}

@@ -14,8 +14,9 @@ mod side;
 pub use explaining::explain;
 pub use explanation::{Explanation, explanation};
 pub use laws::{
-    both_sides_give_the_verdict, each_spot_is_in_one_part, one_list_of_parts_is_right,
-    only_addresses_have_no_side, parts_give_the_verdict, right_parts_are_these,
+    both_sides_give_the_verdict, each_spot_is_in_one_part, explanations_are_right,
+    one_list_of_parts_is_right, only_addresses_have_no_side, parts_give_the_verdict,
+    right_parts_are_these, same_sides_explain_both_families,
 };
 pub use part::Part;
 pub use print::print_decider;

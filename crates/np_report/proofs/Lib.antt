@@ -2,4 +2,5 @@ mod CsvLemmas
 mod JsonLemmas
 mod SpanLemmas
 mod TableLemmas
+pub mod LineLemmas
 pub mod ToComeLemmas

@@ -58,6 +58,11 @@ abbrev pub text_to_come : Form → Bool → List RowText → List ℕ
 text_to_come form came [] = form.end came
 text_to_come form came (row ∷ rows) = form.row came row ++ text_to_come form true rows
 
+-- the bytes of some rows, and no end
+abbrev pub lines_of : Form → Bool → List RowText → List ℕ
+lines_of form came [] = []
+lines_of form came (row ∷ rows) = form.row came row ++ lines_of form true rows
+
 -- the bytes of a whole report
 abbrev pub report_text : Format → List RowText → List ℕ
 report_text format rows = text_to_come (form_of format) false rows

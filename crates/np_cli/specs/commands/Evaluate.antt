@@ -1,17 +1,15 @@
 -- `evaluate`: the verdict of one packet.
-use Rattle.std.specs.Prelude.{ℕ, List, [], ◌∷◌, ◌++◌, ◌==◌, ◌&&◌, Bool, true, false, codes, decimal, Option, Some, None, Result, Ok, Err, ⊤, if◌then◌else◌}
+use Rattle.std.specs.Prelude.{ℕ, List, ◌++◌, ◌==◌, ◌&&◌, Bool, true, false, codes, decimal, Option, Some, None, Result, Ok, Err, ⊤, if◌then◌else◌}
 use Rattle.std.specs.List.{position}
 use Rattle.std.specs.Option.{option_map}
 use Rattle.std.specs.Str.{bytes_eq}
-use Rattle.np_addr.specs.Addresses.{family_of}
-use Rattle.np_addr.specs.AddressText.{address_text}
 use Rattle.np_addr.specs.declared.address.Family.{Family}
 use Rattle.np_addr.specs.declared.address.Family.TheVariants.{Four, Six}
+use Rattle.np_cli.specs.commands.Ends.{end_text, family_asked, or_unknown}
 use Rattle.np_cli.specs.declared.fault.Fault.{Fault}
-use Rattle.np_cli.specs.declared.fault.Fault.TheVariants.{SameEnd, UnknownEnd}
+use Rattle.np_cli.specs.declared.fault.Fault.TheVariants.{SameEnd}
 use Rattle.np_conns.specs.ConnsText.{proto_name}
 use Rattle.np_conns.specs.declared.port_spot.PortSpot.{PortSpot}
-use Rattle.np_estate.specs.Families.{families_of}
 use Rattle.np_estate.specs.declared.lists.EstateLists.{EstateLists}
 use Rattle.np_estate.specs.declared.pod.Pod.{Pod}
 use Rattle.np_report.specs.RowText.{mark_text}
@@ -36,18 +34,9 @@ abbrev pub end_named : EstateLists → EndWord → Option End
 end_named lists (word.At address) = Some (end.At address)
 end_named lists (word.Named name) = option_map end.Pod (position (is_named name) lists.pods)
 
--- an end as it is printed: an address in its canonical text, a pod as its word
-abbrev pub end_text : EndWord → List ℕ
-end_text (word.At address) = address_text address
-end_text (word.Named name) = name
-
 -- the same, or the fault that there is none
-abbrev pub or_unknown : List ℕ → Option End → Result End Fault
-or_unknown name (Some one) = Ok one
-or_unknown name None = Err (UnknownEnd name)
-
 unfoldable pub known_end : EstateLists → EndWord → Result End Fault
-known_end lists word = or_unknown (end_text word) (end_named lists word)
+known_end lists word = or_unknown (end_text word) (λ one. one) (end_named lists word)
 
 abbrev pub are_one_pod : End → End → Bool
 are_one_pod (end.Pod p) (end.Pod q) = p == q
@@ -58,17 +47,6 @@ abbrev pub are_apart : List ℕ → End → End → Result ⊤ Fault
 are_apart from source destination = if are_one_pod source destination then Err (SameEnd from) else Ok tt
 
 -- ---- lines
-
-abbrev pub only_family : List Family → Option Family
-only_family (one ∷ []) = Some one
-only_family families = None
-
--- The one family in which a packet is asked about: that of its address, the source's where both ends are addresses, and else
--- that of the list. There is none where the list has both.
-abbrev pub family_asked : EstateLists → End → End → Option Family
-family_asked lists (end.At address) destination = Some (family_of address)
-family_asked lists (end.Pod p) (end.At address) = Some (family_of address)
-family_asked lists (end.Pod p) (end.Pod q) = only_family (families_of lists.pods)
 
 abbrev pub verdict_text : Bool → List ℕ
 verdict_text true = codes "Allow"

@@ -1,8 +1,8 @@
 -- `list`: the rows of the table that are asked for.
 use Rattle.std.specs.Prelude.{ℕ, List, Option, Some, None, Result, Ok, Err}
+use Rattle.np_cli.specs.commands.Ends.{or_unknown}
 use Rattle.np_cli.specs.declared.commands.list.Listing.{Listing}
 use Rattle.np_cli.specs.declared.fault.Fault.{Fault}
-use Rattle.np_cli.specs.declared.fault.Fault.TheVariants.{UnknownEnd}
 use Rattle.np_estate.specs.declared.lists.EstateLists.{EstateLists}
 use Rattle.np_fold.specs.Workloads.{folding_of, number_named}
 use Rattle.np_report.specs.TableText.{list_text}
@@ -12,11 +12,6 @@ use Rattle.np_routes.specs.ClusterTable.{cluster_table}
 use Rattle.np_words.specs.declared.focus_side.FocusSide.{FocusSide}
 use Rattle.np_words.specs.declared.format.Format.{Format}
 use Rattle.np_words.specs.declared.report.Report.{Report}
-
--- what is made of the workload that has a name, or the fault that none has it
-abbrev pub or_unknown : {X : Type 0} → List ℕ → (ℕ → X) → Option ℕ → Result X Fault
-or_unknown name make (Some workload) = Ok (make workload)
-or_unknown name make None = Err (UnknownEnd name)
 
 -- Who sends what comes through ingresses: the workload of that name, or a controller that is not known.
 unfoldable pub controller_of : Option (List ℕ) → EstateLists → Result (Option ℕ) Fault

@@ -6,12 +6,12 @@ ghost use Rattle.np_cli.specs.Inputs.{Gives};
 ghost use Rattle.np_cli.specs.Prints.{Wrote};
 ghost use Rattle.np_cli.specs.Sinks.{sunk};
 ghost use Rattle.np_cli.specs.commands.Evaluate as spec;
-ghost use Rattle.np_report.specs.RowText.{mark_text};
 ghost use Rattle.np_rules.specs.Verdict.{IsEndOf};
 
+use crate::commands::ends::{end_text, family_asked, mark_text};
 use crate::failure::Failure;
 use crate::fault::Fault;
-use np_addr::{Family, family_of, print_address};
+use np_addr::Family;
 use np_base::{NoMemory, Text};
 use np_conns::PortSpot;
 use np_estate::{Estate, Pod};
@@ -138,16 +138,6 @@ fn is_slash_and(bytes: &[u8], name: &str) -> bool
     }
 }
 
-// An end as it is printed.
-fn end_text(alloc: Global, word: &EndWord) -> Result<Text, NoMemory>
-    ensures { IfOk result (λ text. text ≡ spec.end_text word.now) }
-{
-    match word {
-        EndWord::At(address) => print_address(alloc, *address),
-        EndWord::Named(name) => name.copy(),
-    }
-}
-
 // Refuses ends that are one pod.
 fn must_be_apart(source: End, destination: End, from: &Text) -> Result<(), Failure>
     ensures { Gives result (spec.are_apart from.now source destination) }
@@ -195,19 +185,6 @@ fn verdict_lines<L: Ledger>(
     let first = verdict_line(alloc, question, Some(Family::Four), four)?;
     let second = verdict_line(alloc, question, Some(Family::Six), six)?;
     Ok(format!(in alloc; "{first}{second}")?)
-}
-
-// The one family in which a packet between two ends is asked about, and none where it is both.
-fn family_asked(estate: &Estate, source: End, destination: End) -> Option<Family>
-    ensures { result ≡ spec.family_asked estate.now source destination }
-{
-    match (source, destination) {
-        (End::At(address), _) | (End::Pod(_), End::At(address)) => Some(family_of(address)),
-        (End::Pod(_), End::Pod(_)) => match estate.families() {
-            [one] => Some(*one),
-            _ => None,
-        },
-    }
 }
 
 // Whether the packet of a family is allowed.
@@ -258,17 +235,6 @@ fn said_text(alloc: Global, spot: PortSpot, verdict: bool) -> Result<String, NoM
     let port = spot.port.get();
     let verdict = verdict_text(verdict);
     Ok(format!(in alloc; "{proto} {port} : {verdict}")?)
-}
-
-// The mark of a family.
-fn mark_text(mark: Option<Family>) -> &'static str
-    ensures { result.now ≡ mark_text mark }
-{
-    match mark {
-        Some(Family::Four) => " (IPv4)",
-        Some(Family::Six) => " (IPv6)",
-        None => "",
-    }
 }
 
 fn verdict_text(verdict: bool) -> &'static str

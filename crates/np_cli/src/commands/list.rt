@@ -5,15 +5,15 @@ ghost use Rattle.np_cli.specs.Inputs.{Gives};
 ghost use Rattle.np_cli.specs.Sinks.{sunk};
 ghost use Rattle.np_cli.specs.Written.{Writes};
 ghost use Rattle.np_cli.specs.commands.List as spec;
-ghost use Rattle.np_fold.specs.Workloads.{folding_of, number_named};
+ghost use Rattle.np_fold.specs.Workloads.{folding_of};
 ghost use Rattle.np_report.specs.Keeps.{keeps};
 ghost use Rattle.np_report.specs.RowText.{names_of, row_text};
 ghost use Rattle.np_report.specs.TableText.{list_text, rows_to_come};
 ghost use Rattle.np_routes.specs.ClusterTable.{cluster_table};
 ghost use Rattle.np_table.specs.Table.{IsWorkload};
 
+use crate::commands::ends::workload_of;
 use crate::failure::Failure;
-use crate::fault::Fault;
 use crate::write_fault::WriteFault;
 use np_base::{NoMemory, Text};
 use np_fold::Folded;
@@ -60,18 +60,6 @@ pub(super) fn listing_of(
         None => Query::All,
     };
     Ok(Listing { controller, query })
-}
-
-// The workload of a name.
-#[tactic(auto, using(crate::proofs::ListingLemmas::named_workload))]
-fn workload_of(folded: &Folded, name: &Text) -> Result<u32, Failure>
-    ensures named { Gives result (spec.or_unknown name.now (λ workload. workload) (number_named (folding_of folded.now) name.now)) }
-    ensures workload { IfOk result (IsWorkload folded.now) }
-{
-    match folded.workloads().by_name(name.as_str()) {
-        Some(workload) => Ok(workload),
-        None => Err(Failure::Refused(Fault::UnknownEnd { name: name.copy()? })),
-    }
 }
 
 /// Writes the rows of the table that are asked for, in their order. Rows are gathered, so that many of them are one call of

@@ -1,0 +1,26 @@
+-- Ends that are there.
+use Rattle.std.specs.Prelude.{◌≡◌, ◌<◌, length, false}
+use Rattle.np_cli.specs.declared.commands.explain.AskedEnd.{AskedEnd}
+use Rattle.np_cli.specs.declared.commands.explain.AskedEnd.TheVariants.{At, Work}
+use Rattle.np_cli.specs.declared.commands.explain.Ends.{Ends}
+use Rattle.np_estate.specs.declared.lists.EstateLists.{EstateLists}
+use Rattle.np_explain.specs.Sides.{are_one_pod}
+use Rattle.np_fold.specs.Workloads.{Folding, members_of}
+use Rattle.np_rules.specs.Verdict.{IsEndOf}
+use Rattle.np_table.specs.Table.{IsWorkload}
+
+-- the number is a workload's
+abbrev pub IsAsked : EstateLists → AskedEnd → Type 0
+IsAsked lists (At address) = Unit {0}
+IsAsked lists (Work number) = IsWorkload lists number
+
+-- so it is, and the workload has a pod
+abbrev pub HasPods : Folding → AskedEnd → Type 0
+HasPods folding (At address) = Unit {0}
+HasPods folding (Work number) = (number < length folding.workloads) × (0 < length (members_of folding number))
+
+-- both ends are there, and they are no one pod
+pub record AreEnds (lists : EstateLists) (ends : Ends) : Type 0 where
+  pub source : IsEndOf lists ends.source
+  pub destination : IsEndOf lists ends.destination
+  pub apart : are_one_pod ends.source ends.destination ≡ false

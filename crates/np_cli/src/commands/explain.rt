@@ -1,0 +1,312 @@
+//! `explain`: what decides between two ends.
+ghost use Rattle.std.specs.Prelude.{◌≡◌, ◌≤◌, ◌++◌, IfOk, None, OnOk, Some, flat_map, if◌then◌else◌, string_bytes};
+ghost use Rattle.np_cli.specs.Inputs.{Gives};
+ghost use Rattle.np_cli.specs.Prints.{Wrote};
+ghost use Rattle.np_cli.specs.Sinks.{sunk};
+ghost use Rattle.np_cli.specs.commands.Explain as spec;
+ghost use Rattle.np_cli.specs.steps.Explaining.{AreEnds, HasPods, IsAsked};
+ghost use Rattle.np_estate.specs.Lawful.{IsLawful};
+ghost use Rattle.np_explain.specs.Explanations.{explanation_of};
+ghost use Rattle.np_explain.specs.Sides.{IsFamilyOf};
+ghost use Rattle.np_fold.specs.Workloads.{folding_of};
+
+use crate::commands::ends::{end_text, family_asked, mark_text, workload_of};
+use crate::failure::Failure;
+use crate::fault::Fault;
+use np_addr::{Address, Family};
+use np_base::{NoMemory, Seq, Text};
+use np_conns::print_conns;
+use np_estate::Estate;
+use np_explain::{Explanation, Part, explanation, print_decider, same_sides};
+use np_fold::{Folded, Workloads};
+use np_io::{Sink, write_whole};
+use np_policies::Direction;
+use np_rules::End;
+use np_steps::Steps;
+use np_words::EndWord;
+use std::alloc::Global;
+use std::sync::ledger::Ledger;
+
+// An end that is asked about: an address, or the workload of a number.
+#[derive(Clone, Copy, Debug)]
+enum AskedEnd {
+    At(Address),
+    Work(u32),
+}
+
+// The two ends that stand for those that are asked about: pods of the workloads, or the addresses.
+#[derive(Clone, Copy, Debug)]
+struct Ends {
+    source: End,
+    destination: End,
+}
+
+// An explanation, with the family that it is of where that of the other one is different.
+#[derive(Debug, Drop)]
+struct Shown {
+    mark: Option<Family>,
+    made: Explanation,
+}
+
+/// Writes what decides between two ends: for each side what decides, with all that it decides, and then the row of what passes.
+/// It is written once, or for each family where both ends are pods and either side has other parts in the list's two families.
+/// `UnknownEnd` comes exactly where a word names no workload, with the first such word, and `SameEnd` exactly where both name
+/// one workload of one pod.
+#[tactic(auto, unfolding(crate::specs::commands::Explain::explain_reply))]
+pub(super) fn explain<O: Sink, L: Ledger>(
+    alloc: Global,
+    folded: &Folded,
+    from: &EndWord,
+    to: &EndWord,
+    out: &mut O,
+    steps: &mut Steps<L>,
+) -> Result<(), Failure>
+    ensures wrote { Wrote (sunk O.taken O.faults out.old out.new) (spec.explain_reply from.now to.now folded.now) result }
+    ensures least { steps.old ≤ steps.new }
+{
+    let ends = ends_named(alloc, folded, from, to)?;
+    let shown = explanations(alloc, folded.estate(), ends, steps)?;
+    let from = end_text(alloc, from)?;
+    let to = end_text(alloc, to)?;
+    let text = explain_text(alloc, &from, &to, shown.items())?;
+    write_whole(out, text.as_bytes())?;
+    Ok(())
+}
+
+// ---- ends
+
+// What stands for the ends that words name.
+#[tactic(auto, unfolding(crate::specs::commands::Explain::ends_named))]
+fn ends_named(alloc: Global, folded: &Folded, from: &EndWord, to: &EndWord) -> Result<Ends, Failure>
+    ensures named { Gives result (spec.ends_named folded.now from.now to.now) }
+    ensures ends { IfOk result (AreEnds folded.now) }
+    ensures lawful { OnOk result (IsLawful folded.now) }
+{
+    let source = asked_end(folded, from)?;
+    let destination = asked_end(folded, to)?;
+    let from = end_text(alloc, from)?;
+    ends_between(folded, source, destination, &from)
+}
+
+// The end that a word names.
+#[tactic(auto, unfolding(crate::specs::commands::Explain::asked_end))]
+fn asked_end(folded: &Folded, word: &EndWord) -> Result<AskedEnd, Failure>
+    ensures asked { Gives result (spec.asked_end folded.now word.now) }
+    ensures there { IfOk result (IsAsked folded.now) }
+{
+    match word {
+        EndWord::At(address) => Ok(AskedEnd::At(*address)),
+        EndWord::Named(name) => Ok(AskedEnd::Work(workload_of(folded, name)?)),
+    }
+}
+
+// What stands for two ends. `SameEnd` comes exactly where both are one workload of one pod, with the word of the source.
+#[tactic(auto, unfolding(crate::specs::commands::Explain::ends_between))]
+fn ends_between(
+    folded: &Folded,
+    source: AskedEnd,
+    destination: AskedEnd,
+    from: &Text,
+) -> Result<Ends, Failure>
+    requires source { IsAsked folded.now source }
+    requires destination { IsAsked folded.now destination }
+    ensures between { Gives result (spec.ends_between (folding_of folded.now) from.now source destination) }
+    ensures ends { IfOk result (AreEnds folded.now) }
+{
+    let workloads = folded.workloads();
+    match destination_end(workloads, source, destination) {
+        Some(far) => Ok(Ends {
+            source: source_end(workloads, source),
+            destination: far,
+        }),
+        None => Err(Failure::Refused(Fault::SameEnd { name: from.copy()? })),
+    }
+}
+
+// What stands for a source: of a workload its first pod.
+fn source_end(workloads: &Workloads, asked: AskedEnd) -> End
+    requires { HasPods workloads.now asked }
+    ensures { result ≡ spec.source_end workloads.now asked }
+{
+    match asked {
+        AskedEnd::At(address) => End::At(address),
+        AskedEnd::Work(number) => End::Pod(workloads.members(number)[0]),
+    }
+}
+
+// What stands for a destination: of a workload its first pod, or its second where the source is the same workload. `None`
+// exactly where there is no second.
+fn destination_end(workloads: &Workloads, source: AskedEnd, destination: AskedEnd) -> Option<End>
+    requires { HasPods workloads.now destination }
+    ensures { result ≡ (if spec.are_one workloads.now source destination then None
+        else Some (spec.destination_end workloads.now source destination)) }
+{
+    match (source, destination) {
+        (AskedEnd::Work(sender), AskedEnd::Work(receiver)) => {
+            let place = if sender == receiver { 1 } else { 0 };
+            match workloads.members(receiver).get(place) {
+                Some(pod) => Some(End::Pod(*pod)),
+                None => None,
+            }
+        }
+        _ => Some(source_end(workloads, destination)),
+    }
+}
+
+// ---- explanations
+
+// What is shown of two ends.
+#[tactic(auto, unfolding(crate::specs::commands::Explain::explanations))]
+fn explanations<L: Ledger>(
+    alloc: Global,
+    estate: &Estate,
+    ends: Ends,
+    steps: &mut Steps<L>,
+) -> Result<Seq<Shown>, NoMemory>
+    requires lawful { IsLawful estate.now }
+    requires ends { AreEnds estate.now ends }
+    ensures shown { IfOk result (λ shown. shown ≡ spec.explanations estate.now ends) }
+    ensures least { steps.old ≤ steps.new }
+{
+    match family_asked(estate, ends.source, ends.destination) {
+        Some(family) => {
+            let made = explanation_in(alloc, estate, ends, family, steps)?;
+            let mut shown = Seq::new(alloc);
+            shown.push(Shown { mark: None, made })?;
+            Ok(shown)
+        }
+        None => {
+            let four = explanation_in(alloc, estate, ends, Family::Four, steps)?;
+            let six = explanation_in(alloc, estate, ends, Family::Six, steps)?;
+            of_both(alloc, four, six)
+        }
+    }
+}
+
+// The explanation of two ends in a family.
+fn explanation_in<L: Ledger>(
+    alloc: Global,
+    estate: &Estate,
+    ends: Ends,
+    family: Family,
+    steps: &mut Steps<L>,
+) -> Result<Explanation, NoMemory>
+    requires lawful { IsLawful estate.now }
+    requires ends { AreEnds estate.now ends }
+    requires family { IsFamilyOf ends.source ends.destination family }
+    ensures made { IfOk result (λ made. made ≡ explanation_of estate.now ends.source ends.destination family) }
+    ensures least { steps.old ≤ steps.new }
+{
+    explanation(
+        alloc,
+        estate,
+        ends.source,
+        ends.destination,
+        family,
+        steps,
+    )
+}
+
+// One of them where both sides have the same parts in both families, and else both, with their marks.
+fn of_both(alloc: Global, four: Explanation, six: Explanation) -> Result<Seq<Shown>, NoMemory>
+    ensures { IfOk result (λ shown. shown ≡ spec.of_both four six) }
+{
+    let mut shown = Seq::new(alloc);
+    if same_sides(&four, &six) {
+        shown.push(Shown {
+            mark: None,
+            made: four,
+        })?;
+        return Ok(shown);
+    }
+    shown.push(Shown {
+        mark: Some(Family::Four),
+        made: four,
+    })?;
+    shown.push(Shown {
+        mark: Some(Family::Six),
+        made: six,
+    })?;
+    Ok(shown)
+}
+
+// ---- text
+
+// The text of what is shown.
+#[tactic(auto, unfolding(crate::specs::commands::Explain::explain_text))]
+fn explain_text(
+    alloc: Global,
+    from: &Text,
+    to: &Text,
+    shown: &[Shown],
+) -> Result<String, NoMemory>
+    ensures { IfOk result (λ text. string_bytes text ≡ spec.explain_text from.now to.now shown.now) }
+{
+    let mut text = String::new(alloc);
+    for one in shown {
+        push_shown(alloc, &mut text, from, to, one)?;
+    }
+    Ok(text)
+}
+
+// Appends both sides of an explanation, and the row of what passes.
+#[tactic(auto, unfolding(crate::specs::commands::Explain::shown_text))]
+fn push_shown(
+    alloc: Global,
+    text: &mut String,
+    from: &Text,
+    to: &Text,
+    one: &Shown,
+) -> Result<(), NoMemory>
+    ensures { OnOk result (string_bytes text.new ≡ string_bytes text.old ++ spec.shown_text from.now to.now one.now) }
+{
+    let Shown { mark, made } = one;
+    push_side(alloc, text, Direction::Egress, from, *mark, made.egress.items())?;
+    push_side(alloc, text, Direction::Ingress, to, *mark, made.ingress.items())?;
+    let mark = mark_text(*mark);
+    let conns = print_conns(alloc, &made.conns)?;
+    let row = format!(in alloc; "{from} => {to}{mark} : {conns}\n")?;
+    text.push_str(row.as_str())?;
+    Ok(())
+}
+
+// Appends what decides at a side, under the name of its end.
+#[tactic(auto, unfolding(crate::specs::commands::Explain::side_text))]
+fn push_side(
+    alloc: Global,
+    text: &mut String,
+    direction: Direction,
+    name: &Text,
+    mark: Option<Family>,
+    parts: &[Part],
+) -> Result<(), NoMemory>
+    ensures { OnOk result (string_bytes text.new ≡ string_bytes text.old ++ spec.side_text direction name.now mark parts.now) }
+{
+    let side = match direction {
+        Direction::Egress => "egress",
+        Direction::Ingress => "ingress",
+    };
+    let mark = mark_text(mark);
+    let head = format!(in alloc; "{side} of {name}{mark}\n")?;
+    text.push_str(head.as_str())?;
+    push_parts(alloc, text, direction, parts)
+}
+
+// Appends a line for each part.
+fn push_parts(
+    alloc: Global,
+    text: &mut String,
+    direction: Direction,
+    parts: &[Part],
+) -> Result<(), NoMemory>
+    ensures { OnOk result (string_bytes text.new
+        ≡ string_bytes text.old ++ flat_map (spec.part_line direction) parts.now) }
+{
+    for part in parts {
+        let conns = print_conns(alloc, &part.conns)?;
+        let decider = print_decider(alloc, direction, &part.decider)?;
+        let line = format!(in alloc; "{conns} : {decider}\n")?;
+        text.push_str(line.as_str())?;
+    }
+    Ok(())
+}
