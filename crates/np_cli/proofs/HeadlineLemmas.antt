@@ -100,25 +100,43 @@ says_rows out format report controller focus side texts lists (Ok asked) read la
   ingresses = says_ingresses lists asked lawful;
 }
 
-says_read : (out : Sunk) (format : Format) (report : Report) (controller focus : Option (List ℕ)) (side : FocusSide) (files texts : List (List ℕ)) (reads : Result EstateLists Fault) → lists_of texts ≡ reads → IsLawfulIn reads → fault_in (reply_in (ListJob format report controller focus side files) reads) ≡ None → TookWhole out (text_in (reply_in (ListJob format report controller focus side files) reads)) → SaysAll out format report controller focus side texts
-unfolding reply
-says_read out format report controller focus side files texts (Err fault) read lawful no_fault took = cc
-says_read out format report controller focus side files texts (Ok lists) read lawful no_fault took =
-    says_rows out format report controller focus side texts lists (listing_of controller focus side lists) read lawful refl no_fault took
-
 pub says_what_passes : (run : Run) (answer : Status) (outcome : Result ReportNotes Failure) → Cause run outcome → answer ≡ status_of outcome → SaysWhatPasses run answer
-unfolding refusal text_of
-says_what_passes run answer (Ok notes) cause answered = λ format report controller focus side files texts is told done.
-    let job = ListJob format report controller focus side files in
-    let same : cause.job ≡ job = one_job run.asked job cause.job is cause.asked in
-    let reported = cause.told texts told in
-    let none : refusal job texts ≡ None = subst (λ (j : Job). refusal j texts ≡ None) same reported.accepted.no_fault in
-    let took : TookWhole run.out (text_of job texts) =
-    subst (TookWhole run.out) (ap (λ (asked : Option Job). output asked texts) is ∙ output-fits job texts reported.accepted.fits) reported.took in
-    says_read run.out format report controller focus side files texts (lists_of texts) refl reported.lawful none took
-says_what_passes run answer (Err Usage) cause answered = λ format report controller focus side files texts is told done. cc
-says_what_passes run answer (Err TooLarge) cause answered = λ format report controller focus side files texts is told done. cc
-says_what_passes run answer (Err (Refused fault)) cause answered = λ format report controller focus side files texts is told done. cc
-says_what_passes run answer (Err (CannotRead name)) cause answered = λ format report controller focus side files texts is told done. cc
-says_what_passes run answer (Err CannotWrite) cause answered = λ format report controller focus side files texts is told done. cc
-says_what_passes run answer (Err NoMemory) cause answered = λ format report controller focus side files texts is told done. cc
+unfolding reply
+says_what_passes run answer outcome cause answered = λ format report controller focus side files texts is told done.
+    let told_by = done-told run answer outcome (ListJob format report controller focus side files) texts cause answered is told done in
+    says_rows run.out format report controller focus side texts told_by.lists (listing_of controller focus side told_by.lists) told_by.read told_by.lawful refl told_by.no_fault told_by.took
+
+-- ---- `explain`
+
+says_ends : (out : Sunk) (from to : EndWord) (texts : List (List ℕ)) (lists : EstateLists) (source destination : Result AskedEnd Fault) (ends : Result Ends Fault) → lists_of texts ≡ Ok lists → IsLawful lists
+    → asked_end lists from ≡ source → asked_end lists to ≡ destination → known_ends (folding_of lists) (end_text from) source destination ≡ ends
+    → fault_in (explain_ends from to lists ends) ≡ None → TookWhole out (text_in (explain_ends from to lists ends)) → ExplainsAll out from to texts
+says_ends out from to texts lists source destination (Err fault) read lawful from_is to_is are no_fault took = cc
+says_ends out from to texts lists (Err fault) destination (Ok ends) read lawful from_is to_is are no_fault took = absurd (cc)
+says_ends out from to texts lists (Ok source) (Err fault) (Ok ends) read lawful from_is to_is are no_fault took = absurd (cc)
+says_ends out from to texts lists (Ok source) (Ok destination) (Ok ends) read lawful from_is to_is are no_fault took = record {
+  lists = lists;
+  source = source;
+  destination = destination;
+  ends = ends;
+  read = read;
+  lawful = lawful;
+  from_is = from_is;
+  to_is = to_is;
+  ends_are = are;
+  printed = took;
+  deciders = says-deciders lists (end_text from) source destination ends lawful (asked-there lists from source from_is) (asked-there lists to destination to_is) are;
+}
+
+pub says_what_decides : (run : Run) (answer : Status) (outcome : Result ReportNotes Failure) → Cause run outcome → answer ≡ status_of outcome → SaysWhatDecides run answer
+unfolding reply explain_reply ends_named
+says_what_decides run answer outcome cause answered = λ from to files texts is told done.
+    let told_by = done-told run answer outcome (ExplainJob from to files) texts cause answered is told done in
+    says_ends run.out from to texts told_by.lists (asked_end told_by.lists from) (asked_end told_by.lists to) (ends_named told_by.lists from to) told_by.read told_by.lawful refl refl refl told_by.no_fault told_by.took
+
+-- ---- `exposure`
+
+says_sides : (out : Sunk) (workload : Option (List ℕ)) (format : Format) (texts : List (List ℕ)) (lists : EstateLists) (sides : Result (List ShownSide) Fault) (fault : Option Fault) → lists_of texts ≡ Ok lists → IsLawful lists
+    → sides_shown workload lists ≡ sides → fault_among lists sides ≡ fault
+    → fault_in (exposure_of_sides format lists sides) ≡ None → TookWhole out (text_in (exposure_of_sides format lists sides)) → ExposesAll out workload format texts
+says_sides = ?

@@ -5,16 +5,20 @@ use Rattle.np_estate.specs.declared.lists.EstateLists.{EstateLists}
 use Rattle.np_cli.specs.Inputs.{lists_of}
 use Rattle.np_cli.specs.Sources.{is_too_large}
 use Rattle.np_cli.specs.commands.Evaluate.{evaluate_reply}
+use Rattle.np_cli.specs.commands.Explain.{explain_reply}
+use Rattle.np_cli.specs.commands.Exposure.{exposure_reply}
 use Rattle.np_cli.specs.commands.List.{list_reply}
 use Rattle.np_cli.specs.declared.fault.Fault.{Fault}
 use Rattle.np_cli.specs.declared.notes.ReportNotes.{ReportNotes}
 use Rattle.np_routes.specs.RouteNotes.{notes_of_routes}
 use Rattle.np_words.specs.declared.job.Job.{Job}
-use Rattle.np_words.specs.declared.job.Job.TheVariants.{Evaluate, List as ListJob}
+use Rattle.np_words.specs.declared.job.Job.TheVariants.{Evaluate, Explain, Exposure, List as ListJob}
 
 -- what a job prints on what its inputs say, or why it refuses that
 unfoldable pub reply : Job → EstateLists → Result (List ℕ) Fault
 reply (ListJob format report controller focus side files) lists = list_reply format report controller focus side lists
+reply (Explain from to files) lists = explain_reply from to lists
+reply (Exposure workload format files) lists = exposure_reply workload format lists
 reply (Evaluate from to proto port files) lists = evaluate_reply from to (record { proto = proto; port = port }) lists
 
 -- the same on what the inputs are read as
@@ -30,10 +34,16 @@ abbrev pub text_in : Result (List ℕ) Fault → List ℕ
 text_in (Ok text) = text
 text_in (Err fault) = []
 
+-- what was left out
+abbrev pub other_notes : EstateLists → ReportNotes
+other_notes lists = record { left_out = lists.notes; routes = [] }
+
 -- what is said of a job's report on what its inputs say: what was left out of it, and of `list` the backends of ingresses that lead nowhere
 unfoldable pub report_notes : Job → EstateLists → ReportNotes
 report_notes (ListJob format report controller focus side files) lists = record { left_out = lists.notes; routes = notes_of_routes lists }
-report_notes (Evaluate from to proto port files) lists = record { left_out = lists.notes; routes = [] }
+report_notes (Explain from to files) lists = other_notes lists
+report_notes (Exposure workload format files) lists = other_notes lists
+report_notes (Evaluate from to proto port files) lists = other_notes lists
 
 abbrev pub no_notes : ReportNotes
 no_notes = record { left_out = record { host = 0; finished = 0; skipped = 0; unaddressed = 0 }; routes = [] }

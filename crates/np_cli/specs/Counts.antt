@@ -4,7 +4,7 @@ use Rattle.np_cli.specs.Inputs.{lists_of}
 use Rattle.np_cli.specs.Runs.{Run, Tells}
 use Rattle.np_cli.specs.declared.fault.Fault.{Fault}
 use Rattle.np_words.specs.declared.job.Job.{Job}
-use Rattle.np_words.specs.declared.job.Job.TheVariants.{Evaluate, List as ListJob}
+use Rattle.np_words.specs.declared.job.Job.TheVariants.{Evaluate, Explain, Exposure, List as ListJob}
 use Rattle.np_estate.specs.declared.lists.EstateLists.{EstateLists}
 use Rattle.np_fold.specs.Workloads.{folding_of}
 use Rattle.np_table.specs.ToCome.{most_rules}
@@ -17,9 +17,11 @@ table_steps count most = (4 * count * count + 6 * count) * most
 unfoldable pub list_steps : EstateLists → ℕ
 list_steps lists = table_steps (length (folding_of lists).workloads) (most_rules lists (folding_of lists))
 
--- for a job on what its inputs say; no number is stated for the verdict of one packet
+-- for a job on what its inputs say; no number is stated for the other commands
 unfoldable pub reply_steps : Job → EstateLists → Option ℕ
 reply_steps (ListJob format report controller focus side files) lists = Some (list_steps lists)
+reply_steps (Explain from to files) lists = None
+reply_steps (Exposure workload format files) lists = None
 reply_steps (Evaluate from to proto port files) lists = None
 
 -- for a job on what its inputs are read as; none where they have a fault

@@ -1,6 +1,8 @@
 pub mod Answers
 pub mod commands
 pub mod Counts
+pub mod Explains
+pub mod Exposes
 pub mod Failures
 pub mod Headline
 pub mod Inputs
@@ -12,4 +14,5 @@ pub mod Sinks
 pub mod Sources
 pub mod Statuses
 pub mod Words
+pub mod steps
 pub mod Written

@@ -5,7 +5,8 @@ use Rattle.np_estate.specs.Refusals.{refusal_text}
 use Rattle.np_cli.specs.declared.failure.Failure.{Failure}
 use Rattle.np_cli.specs.declared.failure.Failure.TheVariants.{Usage, CannotRead, TooLarge, Refused, CannotWrite, NoMemory}
 use Rattle.np_cli.specs.declared.fault.Fault.{Fault}
-use Rattle.np_cli.specs.declared.fault.Fault.TheVariants.{Inputs, SameEnd, TooManyWorkloads, UnknownEnd}
+use Rattle.np_cli.specs.declared.fault.Fault.TheVariants.{Inputs, SameEnd, TooManyPatterns, TooManyWorkloads, UnknownEnd}
+use Rattle.np_explain.specs.DeciderText.{direction_text}
 use Rattle.np_cli.specs.declared.notes.ReportNotes.{ReportNotes}
 use Rattle.np_routes.specs.RouteNotes.{route_note_text}
 use Rattle.np_routes.specs.declared.route_note.RouteNote.{RouteNote}
@@ -15,11 +16,15 @@ fault_text (Inputs refusal) = refusal_text refusal
 fault_text (TooManyWorkloads count) = codes "TooManyWorkloads " ++ decimal count
 fault_text (UnknownEnd name) = codes "UnknownEnd " ++ name
 fault_text (SameEnd name) = codes "SameEnd " ++ name
+fault_text (TooManyPatterns workload direction weight) =
+    codes "TooManyPatterns " ++ workload ++ codes " " ++ direction_text direction ++ codes ": " ++ decimal weight
 
 -- how the program is called, a line for each command
 abbrev pub usage_text : List ℕ
 usage_text =
     codes "usage: np list [--format text|csv|json] [--report 1|2] [--controller NAME] [--focus NAME] [--side either|from|to] [FILE]...\n"
+    ++ codes "       np explain --from END --to END [FILE]...\n"
+    ++ codes "       np exposure [--workload NAME] [--format text|csv|json] [FILE]...\n"
     ++ codes "       np evaluate --from END --to END --protocol P --port N [FILE]..."
 
 abbrev pub failure_text : Failure → List ℕ

@@ -3,6 +3,8 @@ use Rattle.std.specs.Prelude.{◌≡◌, ℕ, ◌+◌, ◌^◌, ◌<◌, ◌≤�
 use Rattle.np_io.specs.Counts.{Rose}
 use Rattle.np_cli.specs.Answers.{refusal, notes_of, output}
 use Rattle.np_cli.specs.Counts.{Counted}
+use Rattle.np_cli.specs.Explains.{ExplainsAll}
+use Rattle.np_cli.specs.Exposes.{ExposesAll}
 use Rattle.np_cli.specs.Headline.{SaysAll}
 use Rattle.np_cli.specs.Messages.{message}
 use Rattle.np_cli.specs.Runs.{Run, Tells, IsAccepted, Ends}
@@ -14,10 +16,11 @@ use Rattle.np_cli.specs.declared.fault.Fault.{Fault}
 use Rattle.np_cli.specs.declared.sources.TheConstants.{SIZE_LIMIT}
 use Rattle.np_cli.specs.declared.status.Status.{Status}
 use Rattle.np_cli.specs.declared.status.Status.TheVariants as status
+use Rattle.np_words.specs.declared.end_word.EndWord.{EndWord}
 use Rattle.np_words.specs.declared.focus_side.FocusSide.{FocusSide}
 use Rattle.np_words.specs.declared.format.Format.{Format}
 use Rattle.np_words.specs.declared.job.Job.{Job}
-use Rattle.np_words.specs.declared.job.Job.TheVariants.{List as ListJob}
+use Rattle.np_words.specs.declared.job.Job.TheVariants.{Explain as ExplainJob, Exposure as ExposureJob, List as ListJob}
 use Rattle.np_words.specs.declared.report.Report.{Report}
 
 -- a count did not rise, and does not stand at its end
@@ -70,11 +73,23 @@ SaysWhatPasses run answer = (format : Format) (report : Report) (controller focu
     → run.asked ≡ Some (ListJob format report controller focus side files) → Tells run texts → answer ≡ status.Done
     → SaysAll run.out format report controller focus side texts
 
+-- Where `explain` is done on inputs that the source tells, its report names what decides.
+abbrev pub SaysWhatDecides : Run → Status → Type 0
+SaysWhatDecides run answer = (from to : EndWord) (files texts : List (List ℕ))
+    → run.asked ≡ Some (ExplainJob from to files) → Tells run texts → answer ≡ status.Done → ExplainsAll run.out from to texts
+
+-- Where `exposure` is done on inputs that the source tells, its report says exactly what pods that nobody has written yet are allowed.
+abbrev pub SaysExposures : Run → Status → Type 0
+SaysExposures run answer = (workload : Option (List ℕ)) (format : Format) (files texts : List (List ℕ))
+    → run.asked ≡ Some (ExposureJob workload format files) → Tells run texts → answer ≡ status.Done → ExposesAll run.out workload format texts
+
 -- All that is promised of a run that ended with this status, where so many rules were looked at before it and after it.
 pub record Promises (run : Run) (err : Sunk) (steps_before steps_after : ℕ) (answer : Status) : Type 0 where
   pub ends : Ends run err answer
   -- what a report says of the bytes of the inputs
   pub says : SaysWhatPasses run answer
+  pub explains : SaysWhatDecides run answer
+  pub exposes : SaysExposures run answer
   -- where the source tells its bytes and no call failed, the answer is determined, but for want of memory
   pub completes : Completes run err answer
   pub refuses_too_large : RefusesTooLarge run err answer

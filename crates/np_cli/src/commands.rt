@@ -6,10 +6,15 @@ ghost use Rattle.np_cli.specs.Prints.{Wrote};
 ghost use Rattle.np_cli.specs.Sinks.{sunk};
 ghost use Rattle.np_estate.specs.Lawful.{IsLawful};
 
+mod ends;
 mod evaluate;
+mod explain;
+mod exposure;
 mod list;
 
 use self::evaluate::evaluate;
+use self::explain::explain;
+use self::exposure::exposure_of;
 use self::list::{list, listing_of};
 use crate::failure::Failure;
 use crate::notes::ReportNotes;
@@ -50,6 +55,12 @@ pub(crate) fn reply<O: Sink, L: Ledger>(
             list(alloc, folded, asked, *format, *report, out, steps)?;
             Ok(())
         }
+        Job::Explain { from, to, .. } => explain(alloc, folded, from, to, out, steps),
+        Job::Exposure {
+            workload,
+            format,
+            ..
+        } => exposure_of(alloc, folded, workload, *format, out, steps),
         Job::Evaluate {
             from,
             to,
@@ -80,7 +91,7 @@ pub(crate) fn report_notes(
     let estate = folded.estate();
     let routes = match job {
         Job::List { .. } => route_notes(alloc, estate)?,
-        Job::Evaluate { .. } => Seq::new(alloc),
+        Job::Explain { .. } | Job::Exposure { .. } | Job::Evaluate { .. } => Seq::new(alloc),
     };
     Ok(ReportNotes {
         left_out: estate.notes(),

@@ -16,6 +16,8 @@ use std::fmt;
 // How the program is called, a line for each command.
 static USAGE: &str = concat!(
     "usage: np list [--format text|csv|json] [--report 1|2] [--controller NAME] [--focus NAME] [--side either|from|to] [FILE]...\n",
+    "       np explain --from END --to END [FILE]...\n",
+    "       np exposure [--workload NAME] [--format text|csv|json] [FILE]...\n",
     "       np evaluate --from END --to END --protocol P --port N [FILE]...",
 );
 

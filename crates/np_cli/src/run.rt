@@ -93,7 +93,10 @@ fn names_of(job: &Job) -> &[Text]
     ensures { result.now ≡ spec.names_of job.now }
 {
     match job {
-        Job::List { files, .. } | Job::Evaluate { files, .. } => files.items(),
+        Job::List { files, .. }
+        | Job::Explain { files, .. }
+        | Job::Exposure { files, .. }
+        | Job::Evaluate { files, .. } => files.items(),
     }
 }
 

@@ -143,8 +143,8 @@ labels_agree lists i j a b lawful is is' same =
 
 -- the pods at two places are of one kind, and the same ports of both are routed
 pub record AreAlikeAt (lists : EstateLists) (p q : ℕ) : Type 0 where
-  kind : AreOneKind lists (pod (pod_at lists p)) (pod (pod_at lists q))
-  served : AreServedAlike lists.services (pod_at lists p) (pod_at lists q)
+  pub kind : AreOneKind lists (pod (pod_at lists p)) (pod (pod_at lists q))
+  pub served : AreServedAlike lists.services (pod_at lists p) (pod_at lists q)
 
 alike-by : (lists : EstateLists) (p q : ℕ) (a b : Pod) → IsLawful lists → slice_get lists.pods p ≡ Some a → slice_get lists.pods q ≡ Some b → IsSameKind lists a b → AreAlikeAt lists p q
 alike-by lists p q a b lawful is is' kind =

@@ -11,6 +11,10 @@ mod command_lines;
 #[cfg(test)]
 mod evaluations;
 #[cfg(test)]
+mod explanations;
+#[cfg(test)]
+mod exposures;
+#[cfg(test)]
 mod failing;
 #[cfg(test)]
 mod failures;

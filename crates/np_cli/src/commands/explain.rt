@@ -197,14 +197,7 @@ fn explanation_in<L: Ledger>(
     ensures made { IfOk result (λ made. made ≡ explanation_of estate.now ends.source ends.destination family) }
     ensures least { steps.old ≤ steps.new }
 {
-    explanation(
-        alloc,
-        estate,
-        ends.source,
-        ends.destination,
-        family,
-        steps,
-    )
+    explanation(alloc, estate, ends.source, ends.destination, family, steps)
 }
 
 // One of them where both sides have the same parts in both families, and else both, with their marks.
@@ -234,12 +227,7 @@ fn of_both(alloc: Global, four: Explanation, six: Explanation) -> Result<Seq<Sho
 
 // The text of what is shown.
 #[tactic(auto, unfolding(crate::specs::commands::Explain::explain_text))]
-fn explain_text(
-    alloc: Global,
-    from: &Text,
-    to: &Text,
-    shown: &[Shown],
-) -> Result<String, NoMemory>
+fn explain_text(alloc: Global, from: &Text, to: &Text, shown: &[Shown]) -> Result<String, NoMemory>
     ensures { IfOk result (λ text. string_bytes text ≡ spec.explain_text from.now to.now shown.now) }
 {
     let mut text = String::new(alloc);
@@ -261,8 +249,22 @@ fn push_shown(
     ensures { OnOk result (string_bytes text.new ≡ string_bytes text.old ++ spec.shown_text from.now to.now one.now) }
 {
     let Shown { mark, made } = one;
-    push_side(alloc, text, Direction::Egress, from, *mark, made.egress.items())?;
-    push_side(alloc, text, Direction::Ingress, to, *mark, made.ingress.items())?;
+    push_side(
+        alloc,
+        text,
+        Direction::Egress,
+        from,
+        *mark,
+        made.egress.items(),
+    )?;
+    push_side(
+        alloc,
+        text,
+        Direction::Ingress,
+        to,
+        *mark,
+        made.ingress.items(),
+    )?;
     let mark = mark_text(*mark);
     let conns = print_conns(alloc, &made.conns)?;
     let row = format!(in alloc; "{from} => {to}{mark} : {conns}\n")?;
