@@ -1,5 +1,5 @@
 -- The explanation of two ends: its connections, and when two are alike.
-use Rattle.std.proofs.Common.{◌≡◌, List, [], ◌∷◌, Bool, true, false, ◌&&◌, ◌||◌, MatchBool, not, filter, map, refl, subst, sym, ap, ap₂, ◌∙◌, ℕ, ◌==◌}
+use Rattle.std.proofs.Common.{◌≡◌, ◌↔◌, IsTrue, List, [], ◌∷◌, Bool, true, false, ◌&&◌, ◌||◌, MatchBool, not, filter, map, refl, subst, sym, ap, ap₂, ◌∙◌, ℕ, ◌==◌}
 use Rattle.std.specs.Bool.{Decides}
 use Rattle.std.specs.List.{list_any}
 use Rattle.std.specs.Cmp.Lexicographic.{pointwise}
@@ -38,15 +38,21 @@ or_false false = refl
 any-kept : (has : Part → Bool) (parts : List Part)
     → list_any (λ part. decider_allows part.decider && has part) parts ≡ list_any decider_allows (map (λ part. part.decider) (filter has parts))
 any-kept has [] = refl
-any-kept has (part ∷ parts) = step (decider_allows part.decider) (has part) refl refl (any-kept has parts)
+any-kept has (part ∷ parts) = by (has part) refl (any-kept has parts)
   where
-    step : (a h : Bool) → decider_allows part.decider ≡ a → has part ≡ h
+    and_true : (b : Bool) → (b && true) ≡ b
+    and_true true = refl
+    and_true false = refl
+
+    and_false : (b : Bool) → (b && false) ≡ false
+    and_false true = refl
+    and_false false = refl
+
+    by : (h : Bool) → has part ≡ h
         → list_any (λ one. decider_allows one.decider && has one) parts ≡ list_any decider_allows (map (λ one. one.decider) (filter has parts))
         → list_any (λ one. decider_allows one.decider && has one) (part ∷ parts) ≡ list_any decider_allows (map (λ one. one.decider) (filter has (part ∷ parts)))
-    step true true allows is rest = rw (allows, is) refl
-    step true false allows is rest = rw (allows, is) rest
-    step false true allows is rest = rw (allows, is) rest
-    step false false allows is rest = rw (allows, is) rest
+    by true is rest = rw is (ap₂ (λ (a b : Bool). a || b) (and_true (decider_allows part.decider)) rest)
+    by false is rest = rw is (ap (λ (a : Bool). a || list_any (λ (one : Part). decider_allows one.decider && has one) parts) (and_false (decider_allows part.decider)) ∙ rest)
 
 -- a spot is in a right part that allows where what decides it does
 pub allows-right : (decides : PortSpot → Decider) (parts : List Part) (spot : PortSpot) → AreRightParts decides parts → is_spot spot ≡ true
@@ -167,9 +173,9 @@ same_conns-Decides a b =
     )
 
 -- what a set answers of another tells the same
-pub same_conns-answer : (a b : Conns) (answer : Bool) → MatchBool answer (a ≡ b) ((spot : PortSpot) × (has_spot a spot ≡ not (has_spot b spot))) → answer ≡ same_conns a b
-same_conns-answer a b true same = sym ((same_conns-Decides a b).1 same)
-same_conns-answer a b false other = go (same_conns a b) refl
+pub same_conns_answer : (a b : Conns) (answer : Bool) → MatchBool answer (a ≡ b) ((spot : PortSpot) × (has_spot a spot ≡ not (has_spot b spot))) → answer ≡ same_conns a b
+same_conns_answer a b true same = sym ((same_conns-Decides a b).1 same)
+same_conns_answer a b false other = go (same_conns a b) refl
   where
     never : (x : Bool) → x ≡ not x → ⊥
     never true is = true≢false is
@@ -196,10 +202,11 @@ pub same_sides-Decides : (one other : Explanation) → Decides (same_sides one o
 same_sides-Decides one other =
     Decides-and (same_parts one.egress other.egress) (same_parts one.ingress other.ingress) (same_parts-Decides one.egress other.egress) (same_parts-Decides one.ingress other.ingress)
 
--- lists of parts, first by first
-pub same_parts-cons : (a b : Part) (these those : List Part) → same_parts (a ∷ these) (b ∷ those) ≡ (same_part a b && same_parts these those)
-unfolding same_parts
-same_parts-cons a b these those = refl
+-- so does an answer that is theirs
+pub same_sides_told : (one other : Explanation) (answer : Bool) → answer ≡ same_sides one other
+    → IsTrue answer ↔ ((one.egress ≡ other.egress) × (one.ingress ≡ other.ingress))
+same_sides_told one other answer is =
+    let tells = same_sides-Decides one other in (λ same. tells.0 (sym is ∙ same), λ equal. is ∙ tells.1 equal)
 
 -- ---- one explanation of both families
 

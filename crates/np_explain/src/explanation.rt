@@ -34,7 +34,7 @@ pub struct Explanation {
 ///
 /// The ends are not one pod. Where an end is an address the family is its own, and that of the source where both are. The
 /// rules that are looked at are counted. Want of memory is the one refusal.
-pub fn explanation<L: Ledger>(
+pub fn explain_sides<L: Ledger>(
     alloc: Global,
     estate: &Estate,
     source: End,
@@ -51,10 +51,17 @@ pub fn explanation<L: Ledger>(
     ensures right { IfOk result (spec.IsRightFor estate.now source destination family) }
     ensures least { steps.old ≤ steps.new }
 {
-    let sending = Direction::Egress;
-    let receiving = Direction::Ingress;
-    let egress = explain(alloc, estate, source, destination, sending, family, steps)?;
-    let ingress = explain(alloc, estate, source, destination, receiving, family, steps)?;
+    let (near, far) = (&source, &destination);
+    let egress = explain(alloc, estate, *near, *far, Direction::Egress, family, steps)?;
+    let ingress = explain(
+        alloc,
+        estate,
+        *near,
+        *far,
+        Direction::Ingress,
+        family,
+        steps,
+    )?;
     let sent = allowed(alloc, egress.items())?;
     let received = allowed(alloc, ingress.items())?;
     let conns = sent.meet(&received)?;

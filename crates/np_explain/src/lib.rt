@@ -12,7 +12,7 @@ mod same;
 mod side;
 
 pub use explaining::explain;
-pub use explanation::{Explanation, explanation};
+pub use explanation::{Explanation, explain_sides};
 pub use laws::{
     both_sides_give_the_verdict, each_spot_is_in_one_part, explanations_are_right,
     one_list_of_parts_is_right, only_addresses_have_no_side, parts_give_the_verdict,

@@ -20,6 +20,7 @@ pub fn same_sides(one: &Explanation, other: &Explanation) -> bool
 }
 
 // Whether two lists of parts are equal.
+#[tactic(auto, unfolding(crate::specs::Explanations::same_parts))]
 fn same_parts(these: &[Part], those: &[Part]) -> bool
     ensures { result ≡ spec.same_parts these.now those.now }
 {
@@ -38,12 +39,14 @@ fn same_parts(these: &[Part], those: &[Part]) -> bool
     right.is_empty()
 }
 
+#[tactic(auto, using(crate::proofs::ExplanationLemmas::same_conns_answer))]
 fn same_part(one: &Part, other: &Part) -> bool
     ensures { result ≡ spec.same_part one.now other.now }
 {
     same_decider(&one.decider, &other.decider) && one.conns.same(&other.conns)
 }
 
+#[tactic(auto, unfolding(crate::specs::RightParts::same_decider))]
 fn same_decider(one: &Decider, other: &Decider) -> bool
     ensures { result ≡ same_decider one.now other.now }
 {

@@ -17,7 +17,7 @@ use np_addr::{Address, Family};
 use np_base::{NoMemory, Seq, Text};
 use np_conns::print_conns;
 use np_estate::Estate;
-use np_explain::{Explanation, Part, explanation, print_decider, same_sides};
+use np_explain::{Explanation, Part, explain_sides, print_decider, same_sides};
 use np_fold::{Folded, Workloads};
 use np_io::{Sink, write_whole};
 use np_policies::Direction;
