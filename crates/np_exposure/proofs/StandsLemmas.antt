@@ -15,7 +15,8 @@ use Rattle.np_exposure.specs.Weight.{looks_at}
 use Rattle.np_exposure.specs.declared.exposure_row.ExposureRow.{ExposureRow}
 use Rattle.np_exposure.specs.declared.side.Side.{Side}
 use Rattle.np_exposure.specs.declared.sided_requirement.SidedRequirement.{SidedRequirement}
-use Rattle.np_exposure.specs.steps.Choices.{Choices, IsChosen, IsWitness, allows_found, as_wanted, can_be, narrowed, suits}
+use Rattle.np_exposure.specs.Choices.{Choices, allows_found, fits}
+use Rattle.np_exposure.specs.steps.States.{IsChosen, IsWitness, as_wanted, can_be, narrowed, suits}
 use Rattle.np_exposure.specs.steps.Walks.{AreJoinedAt, AreWalked}
 use Rattle.np_labels.specs.Labels.{value_of}
 use Rattle.np_labels.specs.Selectors.{allows, opposite_of}
@@ -77,10 +78,6 @@ Alike all choices one other = AllByRecursion (λ asked. looks_at choices.side ch
 -- one of the choices is like what the stranger has
 abbrev pub HasLike : List SidedRequirement → Stranger → Choices → Type 0
 HasLike all s choices = (found : Option (List ℕ)) × IsAmong found choices.found × Alike all choices found (value_of (labels_at choices.side s) choices.key)
-
--- what is assumed allows the choice
-abbrev pub fits : List SidedRequirement → Choices → Option (List ℕ) → Bool
-fits assumed choices found = list_all (λ asked. not (looks_at choices.side choices.key asked) || allows_found asked found) assumed
 
 abbrev pub is_at : List Choices → SidedRequirement → Bool
 is_at state asked = list_any (λ choices. looks_at choices.side choices.key asked) state

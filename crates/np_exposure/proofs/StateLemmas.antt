@@ -10,7 +10,8 @@ use Rattle.np_exposure.specs.Weight.{looks_at}
 use Rattle.np_exposure.specs.declared.side.Side.{Side}
 use Rattle.np_exposure.specs.declared.sided_requirement.SidedRequirement.{SidedRequirement}
 use Rattle.np_exposure.specs.declared.step.Aside.{Aside}
-use Rattle.np_exposure.specs.steps.Choices.{Choices, IsState, allows_found, are_apart, as_wanted, can_be, has_choice, is_apart, is_name_key, is_named_at, is_open, narrowed, narrowed_at, suits}
+use Rattle.np_exposure.specs.Choices.{Choices, allows_found, has_choice, is_name_key, is_open}
+use Rattle.np_exposure.specs.steps.States.{IsState, are_apart, as_wanted, can_be, is_apart, is_named_at, narrowed, narrowed_at, suits}
 use Rattle.np_exposure.specs.steps.Walks.{IsFork, IsStepTo}
 
 -- ---- what is left of a state is one

@@ -11,7 +11,8 @@ use Rattle.np_exposure.specs.Mentions.{same_side}
 use Rattle.np_exposure.specs.Strangers.{is_hypothetical, labels_at}
 use Rattle.np_exposure.specs.declared.side.Side.{Side}
 use Rattle.np_exposure.specs.declared.side.Side.TheVariants.{Namespace, Pod}
-use Rattle.np_exposure.specs.steps.Choices.{Choices, IsChosen, IsState, IsWitness, are_apart, first_found, first_label, has_choice, is_apart, is_name_key, is_named_at, is_open, label_if}
+use Rattle.np_exposure.specs.Choices.{Choices, first_found, first_label, has_choice, is_name_key, is_open, label_if}
+use Rattle.np_exposure.specs.steps.States.{IsChosen, IsState, IsWitness, are_apart, is_apart, is_named_at}
 use Rattle.np_labels.specs.Labels.{last_value_of, value_of}
 use Rattle.np_labels.specs.declared.pair.Pair.{Pair}
 use Rattle.np_rules.specs.Laws.{IsAmong}

@@ -1,9 +1,10 @@
 //! The exposure of a pod.
-ghost use Rattle.std.specs.Prelude.{◌≤◌, ◌<◌, length, IfErr, IfOk, OnOk};
+ghost use Rattle.std.specs.Prelude.{◌≡◌, ◌≤◌, ◌<◌, length, IfErr, IfOk, OnOk};
+ghost use Rattle.np_exposure.specs.Choices.{choices_at_first};
 ghost use Rattle.np_exposure.specs.Mentions.{each_once, mentions};
+ghost use Rattle.np_exposure.specs.Rows.{rows_of};
 ghost use Rattle.np_exposure.specs.Tree.{AreRowsOf};
 ghost use Rattle.np_exposure.specs.Weight.{IsWeightFault, weight};
-ghost use Rattle.np_exposure.specs.steps.Choices.{choices_at_first};
 ghost use Rattle.np_exposure.specs.steps.Walks.{AreWalked};
 ghost use Rattle.np_rules.specs.PodSides.{side_of};
 
@@ -41,6 +42,7 @@ pub fn exposure<L: Ledger>(
 ) -> Result<Seq<ExposureRow>, ExposureFault>
     requires { pod < length estate.now.pods }
     ensures rows { IfOk result (AreRowsOf (side_of estate.now pod direction)) }
+    ensures list { IfOk result (λ rows. rows ≡ rows_of (side_of estate.now pod direction)) }
     ensures few { OnOk result (weight (mentions (side_of estate.now pod direction)) ≤ 65536) }
     ensures fault { IfErr result (IsWeightFault (weight (mentions (side_of estate.now pod direction)))) }
 {

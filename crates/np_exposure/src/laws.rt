@@ -7,6 +7,7 @@ ghost use Rattle.np_exposure.specs.Mentions.{mentions};
 ghost use Rattle.np_exposure.specs.PeerText.{are_well, peer_text};
 ghost use Rattle.np_exposure.specs.Right.{FirstRowTells, IsEachFirst};
 ghost use Rattle.np_exposure.specs.Strangers.{exposes, is_hypothetical, meets};
+ghost use Rattle.np_exposure.specs.Rows.{rows_of};
 ghost use Rattle.np_exposure.specs.Tree.{AreRowsOf};
 ghost use Rattle.np_exposure.specs.Weight.{weight};
 ghost use Rattle.np_exposure.specs.declared.exposure_row.ExposureRow.{ExposureRow};
@@ -23,6 +24,11 @@ pub fn alike_strangers_have_one_exposure()
 /// A pod's side has one list of rows.
 pub fn one_list_of_rows()
     ensures { (side : PodSide) (rows others : List ExposureRow) → AreRowsOf side rows → AreRowsOf side others → rows ≡ others }
+{}
+
+/// The list of rows can be told: for every side the function gives the rows of the relation.
+pub fn rows_can_be_told()
+    ensures { (side : PodSide) → AreRowsOf side (rows_of side) }
 {}
 
 /// Every hypothetical pod meets a row, and the first that it meets has exactly its exposure.
