@@ -14,3 +14,6 @@ pub mod RightLemmas
 pub mod FewLemmas
 pub mod PeerLemmas
 pub mod WellLemmas
+pub mod RowLemmas
+pub mod FirstStrangerLemmas
+pub mod LeftLemmas

@@ -127,7 +127,7 @@ module _ (all : List SidedRequirement) (wanted : Bool) (asked : SidedRequirement
       (can-like s state does likes.1)
 
 module _ (wanted : Bool) (asked : SidedRequirement) where
-  fits-more : (assumed : List SidedRequirement) (choices : Choices) (found : Option (List ℕ)) → fits (answered wanted asked ∷ assumed) choices found ≡ (suits wanted asked choices found && fits assumed choices found)
+  pub fits-more : (assumed : List SidedRequirement) (choices : Choices) (found : Option (List ℕ)) → fits (answered wanted asked ∷ assumed) choices found ≡ (suits wanted asked choices found && fits assumed choices found)
   fits-more assumed choices found =
       ap (λ b. (not b || allows_found (answered wanted asked) found) && fits assumed choices found) (looks-answered wanted asked choices)
       ∙ ap (λ b. (not (looks_at choices.side choices.key asked) || b) && fits assumed choices found) (allows-answered wanted asked found)

@@ -18,7 +18,7 @@ use Rattle.np_labels.specs.declared.pair.Pair.{Pair}
 use Rattle.np_rules.specs.Laws.{IsAmong}
 use Rattle.np_rules.specs.declared.stranger.Stranger.{Stranger}
 
-value_of-append : (xs ys : List Pair) (key : List ℕ) → value_of (xs ++ ys) key ≡ option_or (value_of xs key) (value_of ys key)
+pub value_of-append : (xs ys : List Pair) (key : List ℕ) → value_of (xs ++ ys) key ≡ option_or (value_of xs key) (value_of ys key)
 value_of-append [] ys key = refl
 value_of-append (pair ∷ xs) ys key = by (bytes_eq pair.key key) (value_of-append xs ys key)
   where
@@ -99,7 +99,7 @@ all-first side (choices ∷ state) apart =
 
 -- ---- the witness
 
-first-among : (found : List (Option (List ℕ))) → list_any (λ one. true) found ≡ true → IsAmong (first_found found) found
+pub first-among : (found : List (Option (List ℕ))) → list_any (λ one. true) found ≡ true → IsAmong (first_found found) found
 first-among [] some = absurd (false≢true some)
 first-among (one ∷ found) some = inl refl
 
