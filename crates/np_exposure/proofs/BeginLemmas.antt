@@ -17,7 +17,7 @@ use Rattle.np_exposure.specs.declared.exposure_row.ExposureRow.{ExposureRow}
 use Rattle.np_exposure.specs.declared.side.Side.{Side}
 use Rattle.np_exposure.specs.declared.side.Side.TheVariants.{Namespace, Pod}
 use Rattle.np_exposure.specs.declared.sided_requirement.SidedRequirement.{SidedRequirement}
-use Rattle.np_exposure.specs.Choices.{Choices, choices_at_first, choices_of, is_name_key, label_at, labels_on, other_than}
+use Rattle.np_exposure.specs.Choices.{Choices, choices_at_first, choices_of, fits, is_name_key, label_at, labels_on, other_than}
 use Rattle.np_exposure.specs.steps.Walks.{AreWalked}
 use Rattle.np_labels.proofs.Distinct.{is_listed-distinct}
 use Rattle.np_labels.specs.Labels.{value_of}

@@ -1,5 +1,5 @@
 -- The choices as the walk over the requirements keeps them: what one requirement more leaves of them.
-use Rattle.std.specs.Prelude.{List, [], ◌∷◌, map, filter, Bool, true, false, not, ◌&&◌, ◌||◌, Option, is_some, IsTrue}
+use Rattle.std.specs.Prelude.{ℕ, List, [], ◌∷◌, map, filter, Bool, true, false, not, ◌&&◌, ◌||◌, Option, is_some, IsTrue}
 use Rattle.std.specs.List.{AllByRecursion, list_all, list_any}
 use Rattle.std.specs.Str.{bytes_eq}
 use Rattle.np_exposure.specs.Choices.{Choices, allows_found, is_name_key, is_open}
