@@ -17,3 +17,5 @@ pub mod WellLemmas
 pub mod RowLemmas
 pub mod FirstStrangerLemmas
 pub mod LeftLemmas
+pub mod AlikePodLemmas
+pub mod WorkloadLemmas
