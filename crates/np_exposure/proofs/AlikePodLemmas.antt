@@ -7,10 +7,10 @@ use Rattle.np_addr.specs.declared.address.Family.TheVariants.{Four}
 use Rattle.np_conns.specs.Conns.{same_proto}
 use Rattle.np_conns.specs.declared.port_spot.PortSpot.{PortSpot}
 use Rattle.np_estate.specs.declared.lists.EstateLists.{EstateLists}
-use Rattle.np_exposure.proofs.ListLemmas.{All-each, All-flat, All-parts, All-weaker, filter-same, find-same, list_any-same, none_or_any-same}
+use Rattle.np_exposure.proofs.ListLemmas.{All-each, All-parts, filter-same, find-same, list_any-same, none_or_any-same}
 use Rattle.np_exposure.specs.Mentions.{mentions}
 use Rattle.np_exposure.specs.Strangers.{exposes}
-use Rattle.np_fold.specs.Keys.{keys_of_admin_policy, keys_of_admin_rule, keys_of_base_policy, keys_of_baseline, keys_of_estate, keys_of_net_direction, keys_of_net_policy, keys_of_selector, keys_of_service, keys_of_subject}
+use Rattle.np_fold.specs.Keys.{keys_of_admin_policy, keys_of_admin_rule, keys_of_baseline, keys_of_estate, keys_of_net_direction, keys_of_net_policy, keys_of_selector, keys_of_service, keys_of_subject}
 use Rattle.np_labels.specs.Labels.{value_of}
 use Rattle.np_labels.specs.Selectors.{allows, is_listed, meets_requirement, meets_selector}
 use Rattle.np_labels.specs.declared.pair.Pair.{Pair}
@@ -34,8 +34,8 @@ use Rattle.np_rules.specs.Ends.{Contact, PodEnd, contact, destination_of, pod, s
 use Rattle.np_rules.specs.NetTier.{is_isolated, isolates, permits, placed_net_matches}
 use Rattle.np_rules.specs.Peers.{admin_peer_matches, net_peer_matches}
 use Rattle.np_rules.specs.Places.{admin_places, admin_places_of, base_places, base_rules_of, net_places, net_places_of, net_rules_of}
-use Rattle.np_rules.specs.PodSides.{near_pod, side_of}
-use Rattle.np_rules.specs.PortEntries.{admin_entry_matches, has_named, is_named, net_entry_matches}
+use Rattle.np_rules.specs.PodSides.{side_of}
+use Rattle.np_rules.specs.PortEntries.{admin_entry_matches, has_named, net_entry_matches}
 use Rattle.np_rules.specs.Rules.{admin_rule_matches, net_rule_matches, none_or_any}
 use Rattle.np_rules.specs.Selection.{net_selects, subject_selects}
 use Rattle.np_rules.specs.Sides.{admin_says, base_says, lower_allows, side_allows}

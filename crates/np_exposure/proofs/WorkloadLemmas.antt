@@ -1,5 +1,5 @@
 -- The pods of a workload have one list of rows.
-use Rattle.std.proofs.Common.{◌≡◌, ◌<◌, ℕ, List, [], ◌∷◌, AllPairs, Option, Some, length, slice_get, get_or, refl, sym, ap, subst, ◌∙◌, inl, inr, arith}
+use Rattle.std.proofs.Common.{◌≡◌, ◌<◌, ℕ, List, [], ◌∷◌, AllPairs, Option, Some, length, slice_get, get_or, sym, ap, subst, ◌∙◌, inl, inr, arith}
 use Rattle.std.proofs.lemmas.Bool.{cases_order}
 use Rattle.std.proofs.lemmas.Option.{get_or_from_slice_get, slice_get-get_or, slice_get_within}
 use Rattle.np_conns.specs.declared.port_spot.PortSpot.{PortSpot}
@@ -10,7 +10,7 @@ use Rattle.np_exposure.proofs.AlikePodLemmas.{AgreeOn, All-from_listed, AreAlike
 use Rattle.np_exposure.proofs.RowLemmas.{conns_of-agrees}
 use Rattle.np_exposure.specs.Choices.{can_be_assumed, choices_left, first_stranger}
 use Rattle.np_exposure.specs.Mentions.{each_once, mentions}
-use Rattle.np_exposure.specs.Rows.{conns_of, row_of, rows_at, rows_left, rows_of}
+use Rattle.np_exposure.specs.Rows.{row_of, rows_at, rows_left, rows_of}
 use Rattle.np_exposure.specs.Strangers.{exposes, negated}
 use Rattle.np_exposure.specs.declared.exposure_row.ExposureRow.{ExposureRow}
 use Rattle.np_exposure.specs.declared.sided_requirement.SidedRequirement.{SidedRequirement}
