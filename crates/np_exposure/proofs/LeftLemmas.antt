@@ -25,7 +25,7 @@ filter-true : {X : Type 0} (xs : List X) → filter (λ x. true) xs ≡ xs
 filter-true [] = refl
 filter-true {X} (x ∷ xs) = ap (λ (rest : List X). x ∷ rest) (filter-true xs)
 
-all-left : (state : List Choices) → map (left_at []) state ≡ state
+pub all-left : (state : List Choices) → map (left_at []) state ≡ state
 all-left [] = refl
 all-left (choices ∷ state) =
     ap (λ (c : Choices). c ∷ map (left_at []) state) (ap (λ (found : List (Option (List ℕ))). record choices { found = found }) (filter-true choices.found))

@@ -19,3 +19,4 @@ pub mod FirstStrangerLemmas
 pub mod LeftLemmas
 pub mod AlikePodLemmas
 pub mod WorkloadLemmas
+pub mod PossibleLemmas

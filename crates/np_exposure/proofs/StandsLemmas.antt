@@ -221,7 +221,7 @@ chosen-meets assumed s asked (choices ∷ state) among at sound chosen =
         meets-found asked choices s looks ∙ subst (λ b. (not b || allows_found asked found) ≡ true) looks this
     by false looks here fit one rest = rest here
 
-witness-assumed : (all left assumed : List SidedRequirement) (state : List Choices) (s : Stranger) → Stands all left assumed state → IsWitness state s → IsAssumed assumed s
+pub witness-assumed : (all left assumed : List SidedRequirement) (state : List Choices) (s : Stranger) → Stands all left assumed state → IsWitness state s → IsAssumed assumed s
 witness-assumed all left assumed state s stands witness =
     and_from (is_hypothetical s) (meets_all assumed s) witness.named
     (list_all-from (λ asked. meets asked s) assumed (λ asked among. chosen-meets assumed s asked state among (list_all-at (is_at state) asked assumed among stands.known) stands.sound witness.chosen))

@@ -45,7 +45,7 @@ module _ (wanted : Bool) (asked : SidedRequirement) where
   apart-from choices [] = refl
   apart-from choices (other ∷ state) = ap (λ b. are_apart choices other && b) (apart-from choices state)
 
-  apart-narrowed : (state : List Choices) → is_apart (narrowed wanted asked state) ≡ is_apart state
+  pub apart-narrowed : (state : List Choices) → is_apart (narrowed wanted asked state) ≡ is_apart state
   apart-narrowed [] = refl
   apart-narrowed (choices ∷ state) =
       ap (λ b. b && is_apart (narrowed wanted asked state)) (apart-from choices state) ∙ ap (λ b. list_all (are_apart choices) state && b) (apart-narrowed state)
@@ -54,7 +54,7 @@ module _ (wanted : Bool) (asked : SidedRequirement) where
   named_at-narrowed choices true named = refl
   named_at-narrowed choices false named = filter-all (λ found. is_some found) (suits wanted asked choices) choices.found named
 
-  named-narrowed : (state : List Choices) → list_all is_named_at state ≡ true → list_all is_named_at (narrowed wanted asked state) ≡ true
+  pub named-narrowed : (state : List Choices) → list_all is_named_at state ≡ true → list_all is_named_at (narrowed wanted asked state) ≡ true
   named-narrowed [] named = refl
   named-narrowed (choices ∷ state) named =
       let parts = and_parts (is_named_at choices) (list_all is_named_at state) named in

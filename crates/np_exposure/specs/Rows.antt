@@ -1,4 +1,5 @@
--- The list of rows of a pod's side, as a function: what the relation of `Tree` says of it, with a test of what is possible.
+-- The list of rows of a pod's side, as a function: the same as the relation of `Tree` says, with a test of what is possible
+-- and one pod for all that have the same exposure.
 use Rattle.std.specs.Prelude.{ℕ, List, [], ◌∷◌, ◌++◌, map, Bool, true, false, ◌&&◌, ◌==◌, if◌then◌else◌}
 use Rattle.std.specs.Cmp.Lexicographic.{pointwise}
 use Rattle.np_base.specs.declared.range.Range.{Range}
@@ -35,7 +36,7 @@ are_same_rows these those = pointwise are_same_row these those
 abbrev pub conns_of : (PortSpot → Bool) → Conns
 conns_of passes = record { tcp = spans_of passes Tcp; udp = spans_of passes Udp; sctp = spans_of passes Sctp }
 
--- the row of all pods, with the exposure of one of them
+-- a row without requirements, with the exposure of a hypothetical pod
 abbrev pub row_of : PodSide → Stranger → ExposureRow
 row_of side s = record { requirements = []; conns = conns_of (exposes side s) }
 
@@ -49,8 +50,8 @@ rows_at asked true true met unmet = joined asked met unmet
 rows_at asked true false met unmet = met
 rows_at asked false can_miss met unmet = unmet
 
--- The rows of the requirements that are left, where some are assumed: when none is left, all pods that meet what is
--- assumed have one exposure.
+-- The rows of the requirements that are left, where some are assumed: when none is left, one row, with the exposure of one
+-- of the pods that meet what is assumed. All of them have the same.
 unfoldable pub rows_left : PodSide → List SidedRequirement → List SidedRequirement → List ExposureRow
 rows_left side [] assumed = row_of side (first_stranger (choices_left (mentions side) assumed)) ∷ []
 rows_left side (asked ∷ left) assumed =

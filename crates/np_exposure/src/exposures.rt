@@ -29,10 +29,11 @@ use std::sync::ledger::Ledger;
 // More patterns of labels are not looked at.
 const MOST_PATTERNS: u64 = 65_536;
 
-/// What the side of a listed pod allows in a direction to pods that nobody has written yet, as rows: the first row whose
-/// requirements such a pod meets has exactly the protocols and ports that it is allowed. The pod is named by its place in
-/// the estate. Where the mentioned requirements may tell apart more than 65,536 patterns of labels, the answer is how many.
-/// The rules are looked at once for each row that is made on the way, and counted each time.
+/// What the side of a listed pod allows in a direction to pods that nobody has written yet, as rows: the first row
+/// whose requirements such a pod meets has exactly the protocols and ports that it is allowed. The pod is named by its
+/// place in the estate, and the list is a function of it, of the pod and of the direction. Where the mentioned
+/// requirements may tell apart more than 65,536 patterns of labels, the answer is how many. The rules are looked at
+/// once for each row that is made on the way, and counted each time.
 pub fn exposure<L: Ledger>(
     alloc: Global,
     estate: &Estate,

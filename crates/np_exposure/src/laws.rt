@@ -1,20 +1,22 @@
 //! What follows of the rows of a pod's side. Each law is the contract of a call that does nothing.
-ghost use Rattle.std.specs.Prelude.{◌≡◌, ◌<◌, ◌≤◌, ℕ, List, length, true};
+ghost use Rattle.std.specs.Prelude.{◌≡◌, ◌<◌, ◌≤◌, ◌↔◌, ◌++◌, ℕ, List, length, map, true};
 ghost use Rattle.std.specs.List.{AllByRecursion, list_all};
 ghost use Rattle.np_conns.specs.declared.port_spot.PortSpot.{PortSpot};
 ghost use Rattle.np_estate.specs.Lawful.{IsLawful, is_well};
 ghost use Rattle.np_estate.specs.declared.lists.EstateLists.{EstateLists};
+ghost use Rattle.np_exposure.specs.Choices.{can_be_assumed};
 ghost use Rattle.np_exposure.specs.Mentions.{mentions};
 ghost use Rattle.np_exposure.specs.PeerText.{are_well, peer_text};
 ghost use Rattle.np_exposure.specs.Right.{FirstRowTells, IsEachFirst};
-ghost use Rattle.np_exposure.specs.Strangers.{exposes, is_hypothetical, meets};
+ghost use Rattle.np_exposure.specs.Strangers.{exposes, is_hypothetical, meets, negated};
 ghost use Rattle.np_exposure.specs.Rows.{rows_of};
-ghost use Rattle.np_exposure.specs.Tree.{AreRowsOf};
+ghost use Rattle.np_exposure.specs.Tree.{AreRowsOf, IsPossible};
 ghost use Rattle.np_exposure.specs.Weight.{weight};
 ghost use Rattle.np_exposure.specs.declared.exposure_row.ExposureRow.{ExposureRow};
 ghost use Rattle.np_exposure.specs.declared.sided_requirement.SidedRequirement.{SidedRequirement};
 ghost use Rattle.np_fold.specs.Workloads.{number_of};
 ghost use Rattle.np_policies.specs.declared.direction.Direction.{Direction};
+ghost use Rattle.np_rules.specs.Laws.{IsAmong};
 ghost use Rattle.np_rules.specs.PodSides.{PodSide, side_of};
 ghost use Rattle.np_rules.specs.declared.stranger.Stranger.{Stranger};
 
@@ -32,6 +34,13 @@ pub fn one_list_of_rows()
 /// The list of rows can be told: for every side the function gives the rows of the relation.
 pub fn rows_can_be_told()
     ensures { (side : PodSide) → AreRowsOf side (rows_of side) }
+{}
+
+/// What is assumed, of requirements that are mentioned and of their negations, is told to be possible exactly where some
+/// hypothetical pod meets it.
+pub fn possible_assumptions_are_told()
+    ensures { (all assumed : List SidedRequirement) → AllByRecursion (λ asked. IsAmong asked (all ++ map negated all)) assumed →
+        (can_be_assumed all assumed ≡ true) ↔ IsPossible assumed }
 {}
 
 /// Every hypothetical pod meets a row, and the first that it meets has exactly its exposure.
