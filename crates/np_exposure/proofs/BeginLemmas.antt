@@ -8,7 +8,7 @@ use Rattle.std.proofs.lemmas.List.{length-append}
 use Rattle.np_exposure.proofs.FirstLemmas.{first-parts}
 use Rattle.np_exposure.proofs.ListLemmas.{All-each, All-from, IsAmong-filter, list_all-from}
 use Rattle.np_exposure.proofs.SameLemmas.{is_same-equal}
-use Rattle.np_exposure.proofs.StandsLemmas.{Alike, HasLike, Stands, fits, is_at, walked-rows}
+use Rattle.np_exposure.proofs.StandsLemmas.{Alike, HasLike, Stands, is_at, walked-rows}
 use Rattle.np_exposure.specs.Mentions.{each_once, is_same, mentions, same_side, with_more}
 use Rattle.np_exposure.specs.Strangers.{is_hypothetical, labels_at, meets_all}
 use Rattle.np_exposure.specs.Tree.{AreRowsOf}
@@ -17,7 +17,7 @@ use Rattle.np_exposure.specs.declared.exposure_row.ExposureRow.{ExposureRow}
 use Rattle.np_exposure.specs.declared.side.Side.{Side}
 use Rattle.np_exposure.specs.declared.side.Side.TheVariants.{Namespace, Pod}
 use Rattle.np_exposure.specs.declared.sided_requirement.SidedRequirement.{SidedRequirement}
-use Rattle.np_exposure.specs.steps.Choices.{Choices, choices_at_first, choices_of, is_name_key, label_at, labels_on, other_than}
+use Rattle.np_exposure.specs.Choices.{Choices, choices_at_first, choices_of, fits, is_name_key, label_at, labels_on, other_than}
 use Rattle.np_exposure.specs.steps.Walks.{AreWalked}
 use Rattle.np_labels.proofs.Distinct.{is_listed-distinct}
 use Rattle.np_labels.specs.Labels.{value_of}

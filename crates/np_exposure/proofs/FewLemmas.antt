@@ -18,7 +18,8 @@ use Rattle.np_exposure.specs.declared.exposure_row.ExposureRow.{ExposureRow}
 use Rattle.np_exposure.specs.declared.side.Side.{Side}
 use Rattle.np_exposure.specs.declared.side.Side.TheVariants.{Namespace, Pod}
 use Rattle.np_exposure.specs.declared.sided_requirement.SidedRequirement.{SidedRequirement}
-use Rattle.np_exposure.specs.steps.Choices.{Choices, choices_at_first, choices_of, is_name_key, label_at, labels_on, narrowed, other_than, suits}
+use Rattle.np_exposure.specs.Choices.{Choices, choices_at_first, choices_of, is_name_key, label_at, labels_on, other_than}
+use Rattle.np_exposure.specs.steps.States.{narrowed, suits}
 use Rattle.np_rules.specs.Laws.{IsAmong}
 use Rattle.np_rules.specs.PodSides.{PodSide}
 use Rattle.np_rules.specs.declared.stranger.Stranger.{Stranger}

@@ -12,7 +12,8 @@ use Rattle.np_exposure.specs.declared.label.Label.{Label}
 use Rattle.np_exposure.specs.declared.side.Side.{Side}
 use Rattle.np_exposure.specs.declared.side.Side.TheVariants.{Namespace, Pod}
 use Rattle.np_exposure.specs.declared.sided_requirement.SidedRequirement.{SidedRequirement}
-use Rattle.np_exposure.specs.steps.Choices.{Choices, IsState, are_apart, choices_at_first, choices_of, has_choice, is_apart, is_name_key, is_named_at, is_open, label_at, labels_of, labels_on}
+use Rattle.np_exposure.specs.Choices.{Choices, choices_at_first, choices_of, has_choice, is_name_key, is_open, label_at, labels_of, labels_on}
+use Rattle.np_exposure.specs.steps.States.{IsState, are_apart, is_apart, is_named_at}
 use Rattle.np_labels.proofs.Ascending.{bytes_eq-below}
 use Rattle.np_labels.specs.DistinctAscends.{Less-from_test, distinct-ascends}
 use Rattle.np_labels.specs.Values.{is_ascending, is_below}

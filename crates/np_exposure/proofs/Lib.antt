@@ -14,3 +14,9 @@ pub mod RightLemmas
 pub mod FewLemmas
 pub mod PeerLemmas
 pub mod WellLemmas
+pub mod RowLemmas
+pub mod FirstStrangerLemmas
+pub mod LeftLemmas
+pub mod AlikePodLemmas
+pub mod WorkloadLemmas
+pub mod PossibleLemmas

@@ -15,7 +15,8 @@ use Rattle.np_exposure.specs.Weight.{looks_at}
 use Rattle.np_exposure.specs.declared.exposure_row.ExposureRow.{ExposureRow}
 use Rattle.np_exposure.specs.declared.side.Side.{Side}
 use Rattle.np_exposure.specs.declared.sided_requirement.SidedRequirement.{SidedRequirement}
-use Rattle.np_exposure.specs.steps.Choices.{Choices, IsChosen, IsWitness, allows_found, as_wanted, can_be, narrowed, suits}
+use Rattle.np_exposure.specs.Choices.{Choices, allows_found, fits}
+use Rattle.np_exposure.specs.steps.States.{IsChosen, IsWitness, as_wanted, can_be, narrowed, suits}
 use Rattle.np_exposure.specs.steps.Walks.{AreJoinedAt, AreWalked}
 use Rattle.np_labels.specs.Labels.{value_of}
 use Rattle.np_labels.specs.Selectors.{allows, opposite_of}
@@ -78,10 +79,6 @@ Alike all choices one other = AllByRecursion (λ asked. looks_at choices.side ch
 abbrev pub HasLike : List SidedRequirement → Stranger → Choices → Type 0
 HasLike all s choices = (found : Option (List ℕ)) × IsAmong found choices.found × Alike all choices found (value_of (labels_at choices.side s) choices.key)
 
--- what is assumed allows the choice
-abbrev pub fits : List SidedRequirement → Choices → Option (List ℕ) → Bool
-fits assumed choices found = list_all (λ asked. not (looks_at choices.side choices.key asked) || allows_found asked found) assumed
-
 abbrev pub is_at : List Choices → SidedRequirement → Bool
 is_at state asked = list_any (λ choices. looks_at choices.side choices.key asked) state
 
@@ -130,7 +127,7 @@ module _ (all : List SidedRequirement) (wanted : Bool) (asked : SidedRequirement
       (can-like s state does likes.1)
 
 module _ (wanted : Bool) (asked : SidedRequirement) where
-  fits-more : (assumed : List SidedRequirement) (choices : Choices) (found : Option (List ℕ)) → fits (answered wanted asked ∷ assumed) choices found ≡ (suits wanted asked choices found && fits assumed choices found)
+  pub fits-more : (assumed : List SidedRequirement) (choices : Choices) (found : Option (List ℕ)) → fits (answered wanted asked ∷ assumed) choices found ≡ (suits wanted asked choices found && fits assumed choices found)
   fits-more assumed choices found =
       ap (λ b. (not b || allows_found (answered wanted asked) found) && fits assumed choices found) (looks-answered wanted asked choices)
       ∙ ap (λ b. (not (looks_at choices.side choices.key asked) || b) && fits assumed choices found) (allows-answered wanted asked found)
@@ -224,7 +221,7 @@ chosen-meets assumed s asked (choices ∷ state) among at sound chosen =
         meets-found asked choices s looks ∙ subst (λ b. (not b || allows_found asked found) ≡ true) looks this
     by false looks here fit one rest = rest here
 
-witness-assumed : (all left assumed : List SidedRequirement) (state : List Choices) (s : Stranger) → Stands all left assumed state → IsWitness state s → IsAssumed assumed s
+pub witness-assumed : (all left assumed : List SidedRequirement) (state : List Choices) (s : Stranger) → Stands all left assumed state → IsWitness state s → IsAssumed assumed s
 witness-assumed all left assumed state s stands witness =
     and_from (is_hypothetical s) (meets_all assumed s) witness.named
     (list_all-from (λ asked. meets asked s) assumed (λ asked among. chosen-meets assumed s asked state among (list_all-at (is_at state) asked assumed among stands.known) stands.sound witness.chosen))

@@ -10,7 +10,8 @@ use Rattle.np_exposure.specs.Weight.{looks_at}
 use Rattle.np_exposure.specs.declared.side.Side.{Side}
 use Rattle.np_exposure.specs.declared.sided_requirement.SidedRequirement.{SidedRequirement}
 use Rattle.np_exposure.specs.declared.step.Aside.{Aside}
-use Rattle.np_exposure.specs.steps.Choices.{Choices, IsState, allows_found, are_apart, as_wanted, can_be, has_choice, is_apart, is_name_key, is_named_at, is_open, narrowed, narrowed_at, suits}
+use Rattle.np_exposure.specs.Choices.{Choices, allows_found, has_choice, is_name_key, is_open}
+use Rattle.np_exposure.specs.steps.States.{IsState, are_apart, as_wanted, can_be, is_apart, is_named_at, narrowed, narrowed_at, suits}
 use Rattle.np_exposure.specs.steps.Walks.{IsFork, IsStepTo}
 
 -- ---- what is left of a state is one
@@ -44,7 +45,7 @@ module _ (wanted : Bool) (asked : SidedRequirement) where
   apart-from choices [] = refl
   apart-from choices (other ∷ state) = ap (λ b. are_apart choices other && b) (apart-from choices state)
 
-  apart-narrowed : (state : List Choices) → is_apart (narrowed wanted asked state) ≡ is_apart state
+  pub apart-narrowed : (state : List Choices) → is_apart (narrowed wanted asked state) ≡ is_apart state
   apart-narrowed [] = refl
   apart-narrowed (choices ∷ state) =
       ap (λ b. b && is_apart (narrowed wanted asked state)) (apart-from choices state) ∙ ap (λ b. list_all (are_apart choices) state && b) (apart-narrowed state)
@@ -53,7 +54,7 @@ module _ (wanted : Bool) (asked : SidedRequirement) where
   named_at-narrowed choices true named = refl
   named_at-narrowed choices false named = filter-all (λ found. is_some found) (suits wanted asked choices) choices.found named
 
-  named-narrowed : (state : List Choices) → list_all is_named_at state ≡ true → list_all is_named_at (narrowed wanted asked state) ≡ true
+  pub named-narrowed : (state : List Choices) → list_all is_named_at state ≡ true → list_all is_named_at (narrowed wanted asked state) ≡ true
   named-narrowed [] named = refl
   named-narrowed (choices ∷ state) named =
       let parts = and_parts (is_named_at choices) (list_all is_named_at state) named in

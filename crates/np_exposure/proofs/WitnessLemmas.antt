@@ -11,13 +11,14 @@ use Rattle.np_exposure.specs.Mentions.{same_side}
 use Rattle.np_exposure.specs.Strangers.{is_hypothetical, labels_at}
 use Rattle.np_exposure.specs.declared.side.Side.{Side}
 use Rattle.np_exposure.specs.declared.side.Side.TheVariants.{Namespace, Pod}
-use Rattle.np_exposure.specs.steps.Choices.{Choices, IsChosen, IsState, IsWitness, are_apart, first_found, first_label, has_choice, is_apart, is_name_key, is_named_at, is_open, label_if}
+use Rattle.np_exposure.specs.Choices.{Choices, first_found, first_label, has_choice, is_name_key, is_open, label_if}
+use Rattle.np_exposure.specs.steps.States.{IsChosen, IsState, IsWitness, are_apart, is_apart, is_named_at}
 use Rattle.np_labels.specs.Labels.{last_value_of, value_of}
 use Rattle.np_labels.specs.declared.pair.Pair.{Pair}
 use Rattle.np_rules.specs.Laws.{IsAmong}
 use Rattle.np_rules.specs.declared.stranger.Stranger.{Stranger}
 
-value_of-append : (xs ys : List Pair) (key : List ℕ) → value_of (xs ++ ys) key ≡ option_or (value_of xs key) (value_of ys key)
+pub value_of-append : (xs ys : List Pair) (key : List ℕ) → value_of (xs ++ ys) key ≡ option_or (value_of xs key) (value_of ys key)
 value_of-append [] ys key = refl
 value_of-append (pair ∷ xs) ys key = by (bytes_eq pair.key key) (value_of-append xs ys key)
   where
@@ -98,7 +99,7 @@ all-first side (choices ∷ state) apart =
 
 -- ---- the witness
 
-first-among : (found : List (Option (List ℕ))) → list_any (λ one. true) found ≡ true → IsAmong (first_found found) found
+pub first-among : (found : List (Option (List ℕ))) → list_any (λ one. true) found ≡ true → IsAmong (first_found found) found
 first-among [] some = absurd (false≢true some)
 first-among (one ∷ found) some = inl refl
 

@@ -1,6 +1,8 @@
+pub mod Choices
 pub mod Mentions
 pub mod PeerText
 pub mod Right
+pub mod Rows
 pub mod Strangers
 pub mod Tree
 pub mod Weight

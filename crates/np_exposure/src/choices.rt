@@ -2,7 +2,8 @@
 ghost use Rattle.std.specs.Prelude.{◌≡◌, map, IfOk, IfSome, IsTrue};
 ghost use Rattle.std.specs.List.{list_all, list_any};
 ghost use Rattle.std.specs.Option.{option_map};
-ghost use Rattle.np_exposure.specs.steps.Choices as spec;
+ghost use Rattle.np_exposure.specs.Choices as spec;
+ghost use Rattle.np_exposure.specs.steps.States as states;
 
 use crate::label::Label;
 use crate::side::Side;
@@ -23,7 +24,7 @@ pub(crate) struct KeyChoices<'a> {
 impl<'a> Model for KeyChoices<'a> {
     ghost use Rattle.std.specs.Prelude.{map};
     ghost use Rattle.std.specs.Option.{option_map};
-    ghost use Rattle.np_exposure.specs.steps.Choices.{Choices};
+    ghost use Rattle.np_exposure.specs.Choices.{Choices};
 
     ghost Value = { Choices };
 
@@ -72,7 +73,7 @@ impl<'a> KeyChoices<'a> {
 
     /// Whether some choice is as wanted: a requirement on it is met, or it is missed.
     fn can_be(&self, asked: &SidedRequirement, wanted: bool) -> bool
-        ensures { result ≡ list_any (spec.suits wanted asked.now self.now) self.now.found }
+        ensures { result ≡ list_any (states.suits wanted asked.now self.now) self.now.found }
     {
         let looks = asked.looks_at(self.side, self.key);
         for choice in &self.found {
@@ -90,7 +91,7 @@ impl<'a> KeyChoices<'a> {
         asked: &SidedRequirement,
         wanted: bool,
     ) -> Result<KeyChoices<'a>, NoMemory>
-        ensures { IfOk result (λ made. made ≡ spec.narrowed_at wanted asked.now self.now) }
+        ensures { IfOk result (λ made. made ≡ states.narrowed_at wanted asked.now self.now) }
     {
         let looks = asked.looks_at(self.side, self.key);
         let mut found = Vec::new(alloc);
@@ -130,7 +131,7 @@ pub(crate) fn all_choices<'a>(
 
 /// Whether some choice at each key is as wanted: a requirement is met, or it is missed.
 pub(crate) fn can_be(state: &[KeyChoices<'_>], asked: &SidedRequirement, wanted: bool) -> bool
-    ensures { result ≡ spec.can_be wanted asked.now state.now }
+    ensures { result ≡ states.can_be wanted asked.now state.now }
 {
     state.iter().all(|choices| choices.can_be(asked, wanted))
 }
@@ -142,7 +143,7 @@ pub(crate) fn narrowed<'a>(
     asked: &SidedRequirement,
     wanted: bool,
 ) -> Result<Vec<KeyChoices<'a>>, NoMemory>
-    ensures { IfOk result (λ made. made.items ≡ spec.narrowed wanted asked.now state.now) }
+    ensures { IfOk result (λ made. made.items ≡ states.narrowed wanted asked.now state.now) }
 {
     let mut made = Vec::new(alloc);
     for choices in state {

@@ -1,9 +1,10 @@
 //! The exposure of a pod.
-ghost use Rattle.std.specs.Prelude.{◌≤◌, ◌<◌, length, IfErr, IfOk, OnOk};
+ghost use Rattle.std.specs.Prelude.{◌≡◌, ◌≤◌, ◌<◌, length, IfErr, IfOk, OnOk};
+ghost use Rattle.np_exposure.specs.Choices.{choices_at_first};
 ghost use Rattle.np_exposure.specs.Mentions.{each_once, mentions};
+ghost use Rattle.np_exposure.specs.Rows.{rows_of};
 ghost use Rattle.np_exposure.specs.Tree.{AreRowsOf};
 ghost use Rattle.np_exposure.specs.Weight.{IsWeightFault, weight};
-ghost use Rattle.np_exposure.specs.steps.Choices.{choices_at_first};
 ghost use Rattle.np_exposure.specs.steps.Walks.{AreWalked};
 ghost use Rattle.np_rules.specs.PodSides.{side_of};
 
@@ -28,10 +29,11 @@ use std::sync::ledger::Ledger;
 // More patterns of labels are not looked at.
 const MOST_PATTERNS: u64 = 65_536;
 
-/// What the side of a listed pod allows in a direction to pods that nobody has written yet, as rows: the first row whose
-/// requirements such a pod meets has exactly the protocols and ports that it is allowed. The pod is named by its place in
-/// the estate. Where the mentioned requirements may tell apart more than 65,536 patterns of labels, the answer is how many.
-/// The rules are looked at once for each row that is made on the way, and counted each time.
+/// What the side of a listed pod allows in a direction to pods that nobody has written yet, as rows: the first row
+/// whose requirements such a pod meets has exactly the protocols and ports that it is allowed. The pod is named by its
+/// place in the estate, and the list is a function of it, of the pod and of the direction. Where the mentioned
+/// requirements may tell apart more than 65,536 patterns of labels, the answer is how many. The rules are looked at
+/// once for each row that is made on the way, and counted each time.
 pub fn exposure<L: Ledger>(
     alloc: Global,
     estate: &Estate,
@@ -41,6 +43,7 @@ pub fn exposure<L: Ledger>(
 ) -> Result<Seq<ExposureRow>, ExposureFault>
     requires { pod < length estate.now.pods }
     ensures rows { IfOk result (AreRowsOf (side_of estate.now pod direction)) }
+    ensures list { IfOk result (λ rows. rows ≡ rows_of (side_of estate.now pod direction)) }
     ensures few { OnOk result (weight (mentions (side_of estate.now pod direction)) ≤ 65536) }
     ensures fault { IfErr result (IsWeightFault (weight (mentions (side_of estate.now pod direction)))) }
 {

@@ -1,6 +1,6 @@
 //! A mentioned key of labels.
 ghost use Rattle.std.specs.Prelude.{◌≡◌, ◌++◌, map, IfOk, OnOk};
-ghost use Rattle.np_exposure.specs.steps.Choices as spec;
+ghost use Rattle.np_exposure.specs.Choices as spec;
 
 use crate::labels::{keys_on, values_at};
 use crate::side::Side;

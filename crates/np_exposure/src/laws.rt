@@ -1,17 +1,23 @@
 //! What follows of the rows of a pod's side. Each law is the contract of a call that does nothing.
-ghost use Rattle.std.specs.Prelude.{◌≡◌, ◌≤◌, List, length, true};
+ghost use Rattle.std.specs.Prelude.{◌≡◌, ◌<◌, ◌≤◌, ◌↔◌, ◌++◌, ℕ, List, length, map, true};
 ghost use Rattle.std.specs.List.{AllByRecursion, list_all};
 ghost use Rattle.np_conns.specs.declared.port_spot.PortSpot.{PortSpot};
-ghost use Rattle.np_estate.specs.Lawful.{is_well};
+ghost use Rattle.np_estate.specs.Lawful.{IsLawful, is_well};
+ghost use Rattle.np_estate.specs.declared.lists.EstateLists.{EstateLists};
+ghost use Rattle.np_exposure.specs.Choices.{can_be_assumed};
 ghost use Rattle.np_exposure.specs.Mentions.{mentions};
 ghost use Rattle.np_exposure.specs.PeerText.{are_well, peer_text};
 ghost use Rattle.np_exposure.specs.Right.{FirstRowTells, IsEachFirst};
-ghost use Rattle.np_exposure.specs.Strangers.{exposes, is_hypothetical, meets};
-ghost use Rattle.np_exposure.specs.Tree.{AreRowsOf};
+ghost use Rattle.np_exposure.specs.Strangers.{exposes, is_hypothetical, meets, negated};
+ghost use Rattle.np_exposure.specs.Rows.{rows_of};
+ghost use Rattle.np_exposure.specs.Tree.{AreRowsOf, IsPossible};
 ghost use Rattle.np_exposure.specs.Weight.{weight};
 ghost use Rattle.np_exposure.specs.declared.exposure_row.ExposureRow.{ExposureRow};
 ghost use Rattle.np_exposure.specs.declared.sided_requirement.SidedRequirement.{SidedRequirement};
-ghost use Rattle.np_rules.specs.PodSides.{PodSide};
+ghost use Rattle.np_fold.specs.Workloads.{number_of};
+ghost use Rattle.np_policies.specs.declared.direction.Direction.{Direction};
+ghost use Rattle.np_rules.specs.Laws.{IsAmong};
+ghost use Rattle.np_rules.specs.PodSides.{PodSide, side_of};
 ghost use Rattle.np_rules.specs.declared.stranger.Stranger.{Stranger};
 
 /// Hypothetical pods that meet the same mentioned requirements have the same exposure.
@@ -23,6 +29,18 @@ pub fn alike_strangers_have_one_exposure()
 /// A pod's side has one list of rows.
 pub fn one_list_of_rows()
     ensures { (side : PodSide) (rows others : List ExposureRow) → AreRowsOf side rows → AreRowsOf side others → rows ≡ others }
+{}
+
+/// The list of rows can be told: for every side the function gives the rows of the relation.
+pub fn rows_can_be_told()
+    ensures { (side : PodSide) → AreRowsOf side (rows_of side) }
+{}
+
+/// What is assumed, of requirements that are mentioned and of their negations, is told to be possible exactly where some
+/// hypothetical pod meets it.
+pub fn possible_assumptions_are_told()
+    ensures { (all assumed : List SidedRequirement) → AllByRecursion (λ asked. IsAmong asked (all ++ map negated all)) assumed →
+        (can_be_assumed all assumed ≡ true) ↔ IsPossible assumed }
 {}
 
 /// Every hypothetical pod meets a row, and the first that it meets has exactly its exposure.
@@ -53,4 +71,15 @@ pub fn one_text_has_one_peer()
 pub fn requirements_of_read_policies_are_well()
     ensures { (side : PodSide) (rows : List ExposureRow) → is_well side.lists ≡ true → AreRowsOf side rows →
         list_all (λ row. are_well row.requirements) rows ≡ true }
+{}
+
+/// Two pods of one workload, of lists as every estate has them, have one list of rows in each direction, and every
+/// hypothetical pod has the same exposure at both. So a workload's exposure is that of any of its pods.
+pub fn workloads_stand_for_their_pods_to_strangers()
+    ensures rows { (lists : EstateLists) (p q : ℕ) (direction : Direction) → IsLawful lists →
+        p < length lists.pods → q < length lists.pods → number_of lists p ≡ number_of lists q →
+        rows_of (side_of lists p direction) ≡ rows_of (side_of lists q direction) }
+    ensures exposures { (lists : EstateLists) (p q : ℕ) (direction : Direction) → IsLawful lists →
+        p < length lists.pods → q < length lists.pods → number_of lists p ≡ number_of lists q →
+        (s : Stranger) (spot : PortSpot) → exposes (side_of lists p direction) s spot ≡ exposes (side_of lists q direction) s spot }
 {}

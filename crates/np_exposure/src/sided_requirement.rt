@@ -23,7 +23,8 @@ impl SidedRequirement {
     ghost use Rattle.np_exposure.specs.Mentions as mentions;
     ghost use Rattle.np_exposure.specs.Strangers as strangers;
     ghost use Rattle.np_exposure.specs.Weight as weight;
-    ghost use Rattle.np_exposure.specs.steps.Choices as choices;
+    ghost use Rattle.np_exposure.specs.Choices.{allows_found};
+    ghost use Rattle.np_exposure.specs.steps.States.{as_wanted};
 
     /// Whether a stranger meets it.
     pub fn meets(&self, stranger: &Stranger) -> bool
@@ -54,7 +55,7 @@ impl SidedRequirement {
 
     /// Whether what is found at a key is as wanted, the requirement met or missed, where it looks at that key.
     pub(crate) fn suits(&self, looks: bool, found: Option<&str>, wanted: bool) -> bool
-        ensures { result ≡ (not looks || choices.as_wanted wanted (choices.allows_found self.now (option_map (λ value. value.now) found.entry))) }
+        ensures { result ≡ (not looks || as_wanted wanted (allows_found self.now (option_map (λ value. value.now) found.entry))) }
     {
         !looks || allows(&self.requirement, found) == wanted
     }

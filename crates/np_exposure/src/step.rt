@@ -1,6 +1,6 @@
 //! One requirement of the walk.
 ghost use Rattle.std.specs.Prelude.{IfOk, IfSome};
-ghost use Rattle.np_exposure.specs.steps.Choices.{IsState};
+ghost use Rattle.np_exposure.specs.steps.States.{IsState};
 ghost use Rattle.np_exposure.specs.steps.Walks.{IsFork, IsStepTo};
 
 use crate::choices::{KeyChoices, can_be, count, narrowed};

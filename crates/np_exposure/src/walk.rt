@@ -1,6 +1,6 @@
 //! The walk over the requirements.
 ghost use Rattle.std.specs.Prelude.{IfOk};
-ghost use Rattle.np_exposure.specs.steps.Choices.{IsState};
+ghost use Rattle.np_exposure.specs.steps.States.{IsState};
 ghost use Rattle.np_exposure.specs.steps.Walks.{AreWalked, IsLeaf};
 
 use crate::choices::KeyChoices;

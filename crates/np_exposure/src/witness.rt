@@ -1,6 +1,7 @@
 //! A hypothetical pod with labels among the choices.
 ghost use Rattle.std.specs.Prelude.{◌≡◌, ◌++◌, IfOk, OnOk, flat_map};
-ghost use Rattle.np_exposure.specs.steps.Choices as spec;
+ghost use Rattle.np_exposure.specs.Choices as spec;
+ghost use Rattle.np_exposure.specs.steps.States.{IsState, IsWitness};
 
 use crate::choices::KeyChoices;
 use crate::side::Side;
@@ -11,8 +12,8 @@ use std::alloc::Global;
 
 /// A hypothetical pod with labels among the choices: the first at each key.
 pub(crate) fn stranger_of(alloc: Global, state: &[KeyChoices<'_>]) -> Result<Stranger, NoMemory>
-    requires { spec.IsState state.now }
-    ensures { IfOk result (spec.IsWitness state.now) }
+    requires { IsState state.now }
+    ensures { IfOk result (IsWitness state.now) }
 {
     let mut named = Seq::new(alloc);
     named.push(Pair {

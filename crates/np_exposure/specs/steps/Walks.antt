@@ -7,7 +7,8 @@ use Rattle.np_exposure.specs.declared.exposure_row.ExposureRow.{ExposureRow}
 use Rattle.np_exposure.specs.declared.pending.Pending.{Pending}
 use Rattle.np_exposure.specs.declared.sided_requirement.SidedRequirement.{SidedRequirement}
 use Rattle.np_exposure.specs.declared.step.Aside.{Aside}
-use Rattle.np_exposure.specs.steps.Choices.{Choices, IsWitness, can_be, narrowed}
+use Rattle.np_exposure.specs.Choices.{Choices}
+use Rattle.np_exposure.specs.steps.States.{IsWitness, can_be, narrowed}
 use Rattle.np_rules.specs.PodSides.{PodSide}
 use Rattle.np_rules.specs.declared.stranger.Stranger.{Stranger}
 

@@ -1,6 +1,7 @@
 use Rattle.std.proofs.Common.{ap, ◌∙◌, map, subst, sym}
 use Rattle.np_exposure.proofs.FirstLemmas.{IsState-first}
-use Rattle.np_exposure.specs.steps.Choices.{IsState, choices_of, labels_of}
+use Rattle.np_exposure.specs.Choices.{choices_of, labels_of}
+use Rattle.np_exposure.specs.steps.States.{IsState}
 use Rattle.np_exposure.proofs.exposures.rows_of_mentions.Goals as goal
 
 pub rows_of-requires : goal.rows_of-requires

@@ -1,6 +1,6 @@
 use Rattle.std.proofs.Common.{ap, ◌∙◌, true, false}
 use Rattle.np_exposure.proofs.StateLemmas.{alone-step, fork-states-by}
-use Rattle.np_exposure.specs.steps.Choices.{can_be, narrowed}
+use Rattle.np_exposure.specs.steps.States.{can_be, narrowed}
 use Rattle.np_exposure.proofs.step.next_step.Goals as goal
 
 pub returns-then-not-can_meet-can_miss-clause-step : goal.returns-then-not-can_meet-can_miss-clause-step

@@ -1,6 +1,6 @@
 use Rattle.std.proofs.Common.{◌≤◌, length}
 use Rattle.np_exposure.proofs.WalkLemmas.{IsFilled}
-use Rattle.np_exposure.specs.steps.Choices.{IsState}
+use Rattle.np_exposure.specs.steps.States.{IsState}
 use Rattle.np_exposure.specs.steps.Walks.{AreWalked}
 use Rattle.np_exposure.proofs.walk.+rows_of.Given as goal
 

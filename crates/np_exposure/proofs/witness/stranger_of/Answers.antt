@@ -1,7 +1,7 @@
 use Rattle.std.proofs.Common.{ap, ◌∙◌, ◌++◌, List, flat_map, sym}
 use Rattle.np_exposure.proofs.WitnessLemmas.{IsWitness-of}
 use Rattle.np_exposure.specs.declared.side.Side.TheVariants.{Pod}
-use Rattle.np_exposure.specs.steps.Choices.{first_label}
+use Rattle.np_exposure.specs.Choices.{first_label}
 use Rattle.np_labels.specs.declared.pair.Pair.{Pair}
 use Rattle.np_exposure.proofs.witness.stranger_of.Goals as goal
 

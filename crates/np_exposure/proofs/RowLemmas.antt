@@ -1,0 +1,98 @@
+-- The connections of a test, and when rows are equal.
+use Rattle.std.proofs.Common.{◌≡◌, ℕ, ◌≤◌, List, Bool, true, false, ◌&&◌, ◌==◌, nat_le, refl, sym, ap, ◌∙◌, subst}
+use Rattle.std.specs.Cmp.Lexicographic.{pointwise}
+use Rattle.std.proofs.lemmas.Bool.{and_parts, and_from, eq-eqb, eqb-true, false≢true, leb-true}
+use lib.Pointwise.{pointwise_decides}
+use Rattle.np_base.specs.declared.range.Range.{Range}
+use Rattle.np_conns.proofs.ConnLemmas.{spans_of-agrees}
+use Rattle.np_conns.proofs.RunLemmas.{runs-ascend, runs-hold}
+use Rattle.np_conns.specs.Conns.{Conns, IsConns, has_spot, is_spot}
+use Rattle.np_conns.specs.Spots.{equal_by_ranges}
+use Rattle.np_conns.specs.declared.port_spot.PortSpot.{PortSpot}
+use Rattle.np_conns.specs.declared.proto.Proto.{Proto}
+use Rattle.np_conns.specs.declared.proto.Proto.TheVariants.{Tcp, Udp, Sctp}
+use Rattle.np_exposure.proofs.SameLemmas.{is_same-equal, is_same-refl}
+use Rattle.np_exposure.specs.Mentions.{is_same}
+use Rattle.np_exposure.specs.Rows.{are_same_conns, are_same_range, are_same_row, are_same_rows, conns_of, joined}
+use Rattle.np_exposure.specs.Tree.{IsJoined, apart, equal}
+use Rattle.np_exposure.specs.declared.exposure_row.ExposureRow.{ExposureRow}
+use Rattle.np_exposure.specs.declared.sided_requirement.SidedRequirement.{SidedRequirement}
+
+-- ---- equal rows
+
+-- the test tells whether two values are equal
+abbrev Tells : {X : Type 0} → (X → X → Bool) → X → X → Type 0
+Tells test a b = (test a b ≡ true → a ≡ b) × (a ≡ b → test a b ≡ true)
+
+ranges-tell : (a b : Range ℕ) → Tells are_same_range a b
+ranges-tell a b = (
+  λ same.
+      let both = and_parts (a.lo == b.lo) (a.hi == b.hi) same in
+      ap (λ (n : ℕ). record { lo = n; hi = a.hi }) (eqb-true a.lo b.lo both.0) ∙ ap (λ (n : ℕ). record { lo = b.lo; hi = n }) (eqb-true a.hi b.hi both.1),
+  λ equal. and_from (a.lo == b.lo) (a.hi == b.hi) (eq-eqb a.lo b.lo (ap (λ (range : Range ℕ). range.lo) equal)) (eq-eqb a.hi b.hi (ap (λ (range : Range ℕ). range.hi) equal)),
+)
+
+conns-tell : (a b : Conns) → Tells are_same_conns a b
+conns-tell a b =
+    let tcp = pointwise_decides ranges-tell a.tcp b.tcp in
+    let udp = pointwise_decides ranges-tell a.udp b.udp in
+    let sctp = pointwise_decides ranges-tell a.sctp b.sctp in (
+      λ same.
+          let front = and_parts (pointwise are_same_range a.tcp b.tcp && pointwise are_same_range a.udp b.udp) (pointwise are_same_range a.sctp b.sctp) same in
+          let parts = and_parts (pointwise are_same_range a.tcp b.tcp) (pointwise are_same_range a.udp b.udp) front.0 in
+          equal_by_ranges a b (elim [ Tcp ↦ tcp.0 parts.0 | Udp ↦ udp.0 parts.1 | Sctp ↦ sctp.0 front.1 ]),
+      λ equal. and_from _ _ (and_from _ _ (tcp.1 (ap (λ (conns : Conns). conns.tcp) equal)) (udp.1 (ap (λ (conns : Conns). conns.udp) equal))) (sctp.1 (ap (λ (conns : Conns). conns.sctp) equal)),
+    )
+
+requirements-tell : (a b : SidedRequirement) → Tells is_same a b
+requirements-tell a b = (is_same-equal a b, λ equal. subst (λ (x : SidedRequirement). is_same a x ≡ true) equal (is_same-refl a))
+
+row-tell : (a b : ExposureRow) → Tells are_same_row a b
+row-tell a b =
+    let requirements = pointwise_decides requirements-tell a.requirements b.requirements in
+    let conns = conns-tell a.conns b.conns in (
+      λ same.
+          let both = and_parts (pointwise is_same a.requirements b.requirements) (are_same_conns a.conns b.conns) same in
+          ap (λ (asked : List SidedRequirement). record { requirements = asked; conns = a.conns }) (requirements.0 both.0) ∙ ap (λ (c : Conns). record { requirements = b.requirements; conns = c }) (conns.0 both.1),
+      λ equal. and_from _ _ (requirements.1 (ap (λ (row : ExposureRow). row.requirements) equal)) (conns.1 (ap (λ (row : ExposureRow). row.conns) equal)),
+    )
+
+rows-tell : (these those : List ExposureRow) → Tells are_same_rows these those
+rows-tell = pointwise_decides row-tell
+
+-- the rows of both cases, put together by the test
+pub IsJoined-joined : (asked : SidedRequirement) (met unmet : List ExposureRow) → IsJoined asked met unmet (joined asked met unmet)
+IsJoined-joined asked met unmet = by (are_same_rows met unmet) refl
+  where
+    tells : Tells are_same_rows met unmet
+    tells = rows-tell met unmet
+
+    by : (b : Bool) → are_same_rows met unmet ≡ b → IsJoined asked met unmet (joined asked met unmet)
+    by true same = equal (tells.0 same) (rw same refl)
+    by false differ = apart (λ is. false≢true (sym differ ∙ tells.1 is)) (rw differ refl)
+
+-- ---- the connections of a test
+
+-- they have the spots that pass
+module _ (passes : PortSpot → Bool) (port : ℕ) (low : 1 ≤ port) (high : port ≤ 65535) where
+  has_port : (proto : Proto) → has_spot (conns_of passes) (record { proto = proto; port = port }) ≡ passes (record { proto = proto; port = port })
+  has_port Tcp = runs-hold (λ (n : ℕ). passes (record { proto = Tcp; port = n })) port low high
+  has_port Udp = runs-hold (λ (n : ℕ). passes (record { proto = Udp; port = n })) port low high
+  has_port Sctp = runs-hold (λ (n : ℕ). passes (record { proto = Sctp; port = n })) port low high
+
+pub conns_of-has : (passes : PortSpot → Bool) (spot : PortSpot) → is_spot spot ≡ true → has_spot (conns_of passes) spot ≡ passes spot
+conns_of-has passes spot inside =
+    let ends = and_parts (nat_le 1 spot.port) (nat_le spot.port 65535) inside in
+    has_port passes spot.port (leb-true 1 spot.port ends.0) (leb-true spot.port 65535 ends.1) spot.proto
+
+pub conns_of-well : (passes : PortSpot → Bool) → IsConns (conns_of passes)
+conns_of-well passes = record { tcp = runs-ascend _; udp = runs-ascend _; sctp = runs-ascend _ }
+
+-- tests that agree on every spot have the same ones
+pub conns_of-agrees : (f g : PortSpot → Bool) → ((spot : PortSpot) → is_spot spot ≡ true → f spot ≡ g spot) → conns_of f ≡ conns_of g
+conns_of-agrees f g alike =
+    equal_by_ranges (conns_of f) (conns_of g) (elim [
+      | Tcp ↦ spans_of-agrees f g Tcp alike
+      | Udp ↦ spans_of-agrees f g Udp alike
+      | Sctp ↦ spans_of-agrees f g Sctp alike
+    ])

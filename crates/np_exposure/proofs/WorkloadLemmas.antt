@@ -1,0 +1,91 @@
+-- The pods of a workload have one list of rows.
+use Rattle.std.proofs.Common.{◌≡◌, ◌<◌, ℕ, List, [], ◌∷◌, AllPairs, Option, Some, length, slice_get, get_or, sym, ap, subst, ◌∙◌, inl, inr, arith}
+use Rattle.std.proofs.lemmas.Bool.{cases_order}
+use Rattle.std.proofs.lemmas.Option.{get_or_from_slice_get, slice_get-get_or, slice_get_within}
+use Rattle.np_conns.specs.declared.port_spot.PortSpot.{PortSpot}
+use Rattle.np_estate.specs.Lawful.{AgreeOnNamespace, IsLawful}
+use Rattle.np_estate.specs.declared.lists.EstateLists.{EstateLists}
+use Rattle.np_estate.specs.declared.pod.Pod.{Pod}
+use Rattle.np_exposure.proofs.AlikePodLemmas.{AgreeOn, All-from_listed, AreAlikePods, exposes-agree, mentions-agree}
+use Rattle.np_exposure.proofs.RowLemmas.{conns_of-agrees}
+use Rattle.np_exposure.specs.Choices.{can_be_assumed, choices_left, first_stranger}
+use Rattle.np_exposure.specs.Mentions.{each_once, mentions}
+use Rattle.np_exposure.specs.Rows.{row_of, rows_at, rows_left, rows_of}
+use Rattle.np_exposure.specs.Strangers.{exposes, negated}
+use Rattle.np_exposure.specs.declared.exposure_row.ExposureRow.{ExposureRow}
+use Rattle.np_exposure.specs.declared.sided_requirement.SidedRequirement.{SidedRequirement}
+use Rattle.np_fold.proofs.WorkloadLemmas.{one_workload}
+use Rattle.np_fold.specs.Alike.{IsSameKind}
+use Rattle.np_fold.specs.Keys.{keys_of_estate}
+use Rattle.np_fold.specs.Workloads.{number_of}
+use Rattle.np_policies.specs.declared.direction.Direction.{Direction}
+use Rattle.np_rules.specs.Ends.{PodEnd, pod_end}
+use Rattle.np_rules.specs.PodSides.{PodSide, side_of}
+use Rattle.np_rules.specs.Verdict.{pod_at, pod_or_none}
+use Rattle.np_rules.specs.declared.stranger.Stranger.{Stranger}
+
+-- ---- sides that mention the same and expose alike
+
+module _ (a b : PodSide) (same : mentions a ≡ mentions b) (alike : (s : Stranger) (spot : PortSpot) → exposes a s spot ≡ exposes b s spot) where
+  row-same : (s : Stranger) → row_of a s ≡ row_of b s
+  row-same s = ap (λ conns. record { requirements = []; conns = conns }) (conns_of-agrees (exposes a s) (exposes b s) (λ spot inside. alike s spot))
+
+  left-same : (left assumed : List SidedRequirement) → rows_left a left assumed ≡ rows_left b left assumed
+  unfolding rows_left
+  left-same [] assumed =
+      ap (λ (row : ExposureRow). row ∷ []) (ap (λ (all : List SidedRequirement). row_of a (first_stranger (choices_left all assumed))) same ∙ row-same (first_stranger (choices_left (mentions b) assumed)))
+  left-same (asked ∷ left) assumed =
+      ap (λ (all : List SidedRequirement). rows_at asked (can_be_assumed all (asked ∷ assumed)) (can_be_assumed all (negated asked ∷ assumed)) (rows_left a left (asked ∷ assumed)) (rows_left a left (negated asked ∷ assumed))) same
+      ∙ ap (λ (met : List ExposureRow). rows_at asked (can_be_assumed (mentions b) (asked ∷ assumed)) (can_be_assumed (mentions b) (negated asked ∷ assumed)) met (rows_left a left (negated asked ∷ assumed))) (left-same left (asked ∷ assumed))
+      ∙ ap (λ (unmet : List ExposureRow). rows_at asked (can_be_assumed (mentions b) (asked ∷ assumed)) (can_be_assumed (mentions b) (negated asked ∷ assumed)) (rows_left b left (asked ∷ assumed)) unmet) (left-same left (negated asked ∷ assumed))
+
+  rows-same : rows_of a ≡ rows_of b
+  rows-same = left-same (each_once (mentions a)) [] ∙ ap (λ (all : List SidedRequirement). rows_left b (each_once all) []) same
+
+-- ---- pods of one workload
+
+-- there is a pod at each place
+pod_there : (pods : List Pod) (place : ℕ) → place < length pods → (a : Pod) × (slice_get pods place ≡ Some a)
+pod_there [] place within = absurd (omega arith)
+pod_there (first ∷ pods) place within = (get_or (first ∷ pods) place first, slice_get-get_or (first ∷ pods) place first within)
+
+-- pods that stand in order and are of one namespace have the same labels of it
+namespaces_agree : (pods : List Pod) (i j : ℕ) (a b : Pod) → AllPairs AgreeOnNamespace pods → slice_get pods i ≡ Some a → slice_get pods j ≡ Some b → i < j → AgreeOnNamespace a b
+namespaces_agree pods i j a b agree is is' before =
+    let later = agree i j a before (slice_get_within pods j b is') in
+    subst (λ (x : Pod). AgreeOnNamespace x b) (get_or_from_slice_get pods i a a is) (subst (λ (y : Pod). AgreeOnNamespace (get_or pods i a) y) (get_or_from_slice_get pods j b a is') later)
+
+same_some : (found : Option Pod) (a b : Pod) → found ≡ Some a → found ≡ Some b → a ≡ b
+same_some found a b is is' = cc
+
+-- and so in whatever order they stand
+labels_agree : (lists : EstateLists) (i j : ℕ) (a b : Pod) → IsLawful lists → slice_get lists.pods i ≡ Some a → slice_get lists.pods j ≡ Some b → a.namespace ≡ b.namespace → a.namespace_labels ≡ b.namespace_labels
+labels_agree lists i j a b lawful is is' same =
+    elim (cases_order i j) [
+      | inl equal ↦ ap (λ (p : Pod). p.namespace_labels) (same_some (slice_get lists.pods j) a b (subst (λ (k : ℕ). slice_get lists.pods k ≡ Some a) equal is) is')
+      | inr (inl before) ↦ namespaces_agree lists.pods i j a b lawful.namespaces_agree is is' before same
+      | inr (inr after) ↦ sym (namespaces_agree lists.pods j i b a lawful.namespaces_agree is' is after (sym same))
+    ]
+
+alike-by : (lists : EstateLists) (p q : ℕ) (a b : Pod) → IsLawful lists → slice_get lists.pods p ≡ Some a → slice_get lists.pods q ≡ Some b → IsSameKind lists a b → AreAlikePods lists (pod_at lists p) (pod_at lists q)
+alike-by lists p q a b lawful is is' kind =
+    let one_is : pod_at lists p ≡ pod_end a = ap pod_or_none is in
+    let other_is : pod_at lists q ≡ pod_end b = ap pod_or_none is' in
+    let alike : AreAlikePods lists (pod_end a) (pod_end b) =
+    record { namespace = kind.namespace; namespace_labels = labels_agree lists p q a b lawful is is' kind.namespace; ports = kind.ports; labels = All-from_listed (AgreeOn a.labels b.labels) (keys_of_estate lists) kind.labels } in
+    subst (λ (x : PodEnd). AreAlikePods lists x (pod_at lists q)) (sym one_is) (subst (λ (y : PodEnd). AreAlikePods lists (pod_end a) y) (sym other_is) alike)
+
+module _ (lists : EstateLists) (p q : ℕ) (direction : Direction) (lawful : IsLawful lists) (p_in : p < length lists.pods) (q_in : q < length lists.pods) (one : number_of lists p ≡ number_of lists q) where
+  alike : AreAlikePods lists (pod_at lists p) (pod_at lists q)
+  alike =
+      let a = pod_there lists.pods p p_in in
+      let b = pod_there lists.pods q q_in in
+      alike-by lists p q a.0 b.0 lawful a.1 b.1 ((one_workload lists p q a.0 b.0 a.1 b.1).0 one).kind
+
+  -- every hypothetical pod has one exposure at both
+  pub workload-exposes : (s : Stranger) (spot : PortSpot) → exposes (side_of lists p direction) s spot ≡ exposes (side_of lists q direction) s spot
+  workload-exposes s spot = exposes-agree lists p q direction alike s spot
+
+  -- and so both have the same rows
+  pub workload-rows : rows_of (side_of lists p direction) ≡ rows_of (side_of lists q direction)
+  workload-rows = rows-same (side_of lists p direction) (side_of lists q direction) (mentions-agree lists p q direction alike) workload-exposes
