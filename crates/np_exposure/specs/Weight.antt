@@ -4,6 +4,7 @@ use Rattle.std.specs.Str.{bytes_eq}
 use Rattle.np_exposure.specs.Mentions.{same_side}
 use Rattle.np_exposure.specs.declared.exposure_fault.ExposureFault.{ExposureFault}
 use Rattle.np_exposure.specs.declared.exposure_fault.ExposureFault.TheVariants.{TooManyPatterns, NoMemory}
+use Rattle.np_exposure.specs.declared.exposures.TheConstants.{MOST_PATTERNS}
 use Rattle.np_exposure.specs.declared.side.Side.{Side}
 use Rattle.np_exposure.specs.declared.side.Side.TheVariants.{Namespace, Pod}
 use Rattle.np_exposure.specs.declared.sided_requirement.SidedRequirement.{SidedRequirement}
@@ -36,8 +37,8 @@ patterns_on side all = product (map (patterns_at side all) (keys_on side all))
 unfoldable pub weight : List SidedRequirement → ℕ
 weight all = patterns_on Namespace all * patterns_on Pod all
 
--- The fault of a weight: that it is above 65,536, and so large, as far as a number of 64 bits says it; or memory is
+-- The fault of a weight: that it is above what is looked at, and so large, as far as a number of 64 bits says it; or memory is
 -- wanting.
 abbrev pub IsWeightFault : ℕ → ExposureFault → Type 0
-IsWeightFault all (TooManyPatterns told) = (65536 < all) × (told ≡ min all (2 ^ 64 - 1))
+IsWeightFault all (TooManyPatterns told) = (MOST_PATTERNS < all) × (told ≡ min all (2 ^ 64 - 1))
 IsWeightFault all NoMemory = Unit {0}

@@ -26,8 +26,8 @@ use np_steps::Steps;
 use std::alloc::Global;
 use std::sync::ledger::Ledger;
 
-// More patterns of labels are not looked at.
-const MOST_PATTERNS: u64 = 65_536;
+/// More patterns of labels are not looked at.
+pub const MOST_PATTERNS: u64 = 65_536;
 
 /// What the side of a listed pod allows in a direction to pods that nobody has written yet, as rows: the first row
 /// whose requirements such a pod meets has exactly the protocols and ports that it is allowed. The pod is named by its
@@ -44,8 +44,9 @@ pub fn exposure<L: Ledger>(
     requires { pod < length estate.now.pods }
     ensures rows { IfOk result (AreRowsOf (side_of estate.now pod direction)) }
     ensures list { IfOk result (λ rows. rows ≡ rows_of (side_of estate.now pod direction)) }
-    ensures few { OnOk result (weight (mentions (side_of estate.now pod direction)) ≤ 65536) }
+    ensures few { OnOk result (weight (mentions (side_of estate.now pod direction)) ≤ MOST_PATTERNS) }
     ensures fault { IfErr result (IsWeightFault (weight (mentions (side_of estate.now pod direction)))) }
+    ensures least { steps.old ≤ steps.new }
 {
     let mentions = mentions(alloc, estate, pod, direction)?;
     let weight = weight_of(alloc, &mentions)?;
@@ -63,7 +64,8 @@ fn rows_of_mentions<L: Ledger>(
     mentions: Vec<SidedRequirement>,
     steps: &mut Steps<L>,
 ) -> Result<Seq<ExposureRow>, NoMemory>
-    ensures { IfOk result (λ rows. AreWalked rules.now (each_once mentions.items) (choices_at_first mentions.items) rows) }
+    ensures rows { IfOk result (λ rows. AreWalked rules.now (each_once mentions.items) (choices_at_first mentions.items) rows) }
+    ensures least { steps.old ≤ steps.new }
 {
     let labels = labels_of(alloc, &mentions)?;
     let state = all_choices(alloc, &labels)?;

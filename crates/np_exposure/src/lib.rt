@@ -27,7 +27,7 @@ mod witness;
 
 pub use exposure_fault::ExposureFault;
 pub use exposure_row::ExposureRow;
-pub use exposures::exposure;
+pub use exposures::{MOST_PATTERNS, exposure};
 pub use laws::{
     alike_strangers_have_one_exposure, each_row_is_first_for_some, first_row_tells,
     one_list_of_rows, one_text_has_one_peer, possible_assumptions_are_told,

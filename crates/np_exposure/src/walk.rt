@@ -1,5 +1,5 @@
 //! The walk over the requirements.
-ghost use Rattle.std.specs.Prelude.{IfOk};
+ghost use Rattle.std.specs.Prelude.{◌≤◌, IfOk};
 ghost use Rattle.np_exposure.specs.steps.States.{IsState};
 ghost use Rattle.np_exposure.specs.steps.Walks.{AreWalked, IsLeaf};
 
@@ -27,7 +27,8 @@ pub(crate) fn rows_of<'a, L: Ledger>(
     steps: &mut Steps<L>,
 ) -> Result<Vec<OpenRow<'a>>, NoMemory>
     requires { IsState state.items }
-    ensures { IfOk result (λ rows. AreWalked rules.now asked.now state.entry.items rows.items) }
+    ensures rows { IfOk result (λ rows. AreWalked rules.now asked.now state.entry.items rows.items) }
+    ensures least { steps.old ≤ steps.new }
 {
     let mut left = asked;
     let mut state = state;
@@ -57,7 +58,8 @@ fn leaf<'a, L: Ledger>(
     steps: &mut Steps<L>,
 ) -> Result<Vec<OpenRow<'a>>, NoMemory>
     requires { IsState state.now }
-    ensures { IfOk result (λ rows. IsLeaf rules.now state.now rows.items) }
+    ensures rows { IfOk result (λ rows. IsLeaf rules.now state.now rows.items) }
+    ensures least { steps.old ≤ steps.new }
 {
     let stranger = stranger_of(alloc, state)?;
     let layer = rules.stranger_layer(alloc, &stranger, steps)?;

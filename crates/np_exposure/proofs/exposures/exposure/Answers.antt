@@ -5,8 +5,8 @@ use Rattle.np_exposure.proofs.exposures.exposure.Goals as goal
 
 pub returns-clause-rows : goal.returns-clause-rows
 returns-clause-rows g c =
-    walked-rows_of (side_of c.args.estate.now c.args.pod c.args.direction) _ c.in_ok-mentions.mentions.items _ c.in_ok-rules.ensures c.in_ok-mentions.ensures c.in_ok-rows_of_mentions.ensures
+    walked-rows_of (side_of c.args.estate.now c.args.pod c.args.direction) _ c.in_ok-mentions.mentions.items _ c.in_ok-rules.ensures c.in_ok-mentions.ensures c.in_ok-rows_of_mentions.ensures.rows
 
 pub returns-clause-list : goal.returns-clause-list
 returns-clause-list g c =
-    walked-list (side_of c.args.estate.now c.args.pod c.args.direction) _ c.in_ok-mentions.mentions.items _ c.in_ok-rules.ensures c.in_ok-mentions.ensures c.in_ok-rows_of_mentions.ensures
+    walked-list (side_of c.args.estate.now c.args.pod c.args.direction) _ c.in_ok-mentions.mentions.items _ c.in_ok-rules.ensures c.in_ok-mentions.ensures c.in_ok-rows_of_mentions.ensures.rows

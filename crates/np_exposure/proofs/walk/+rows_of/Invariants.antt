@@ -10,6 +10,7 @@ invariant-loop-first g l = record {
   state : IsState l.state.items;
   shorter : length l.left ≤ length l.fn.asked;
   filled : IsFilled l.rules l.pending.items l.left l.state.items (AreWalked l.rules l.fn.asked l.fn.state.items);
+  least : l.fn.steps ≤ l.steps;
 }
 
 abbrev pub decreases-loop-first : goal.decreases-loop-first
