@@ -6,6 +6,7 @@ use Rattle.std.proofs.lemmas.Cmp.{nat_cmp_total}
 use Rattle.std.specs.Cmp.{tied_itself}
 use Rattle.std.specs.Ordering.{nat_cmp}
 use Rattle.np_addr.specs.Addresses.{family_of}
+use Rattle.np_addr.specs.declared.address.Address.{Address}
 use Rattle.np_addr.specs.declared.address.Family.{Family}
 use Rattle.np_addr.specs.declared.address.Family.TheVariants.{Four, Six}
 use Rattle.np_cli.proofs.ListingLemmas.{named_workload}
@@ -41,18 +42,29 @@ use Rattle.np_words.specs.declared.end_word.EndWord.TheVariants as word
 
 -- ---- ends
 
+-- a result gives one thing
+one_ok : (found : Result AskedEnd Fault) (a b : AskedEnd) → found ≡ Ok a → found ≡ Ok b → a ≡ b
+one_ok found a b is is' = cc
+
+at-there : (lists : EstateLists) (address : Address) (asked : AskedEnd) → At address ≡ asked → IsAsked lists asked
+at-there lists address (At other) is = tt
+at-there lists address (Work number) is = absurd (cc)
+
+work-there : (lists : EstateLists) (number : ℕ) (asked : AskedEnd) → Work number ≡ asked → IsWorkload lists number → IsAsked lists asked
+work-there lists number (At address) is there = absurd (cc)
+work-there lists number (Work other) is there = let same : number ≡ other = cc in subst (IsWorkload lists) same there
+
 -- what a word names is there
 pub asked-there : (lists : EstateLists) (named : EndWord) (asked : AskedEnd) → asked_end lists named ≡ Ok asked → IsAsked lists asked
 unfolding asked_end
-asked-there lists (word.At address) asked is = subst (IsAsked lists) (ok_is is) tt
-  where
-    ok_is : {X : Type 0} {a b : X} → Result.Ok {X} {Fault} a ≡ Ok b → a ≡ b
-    ok_is is = cc
+asked-there lists (word.At address) asked is = at-there lists address asked (one_ok (asked_end lists (word.At address)) (At address) asked refl is)
 asked-there lists (word.Named name) asked is = by (number_named (folding_of lists) name) refl is
   where
     by : (found : Option ℕ) → number_named (folding_of lists) name ≡ found → or_unknown name Work found ≡ Ok asked → IsAsked lists asked
     by None found is = absurd (cc)
-    by (Some number) found is = subst (IsAsked lists) (cc) (named_workload lists name number found)
+    by (Some number) found is =
+        let told : Work number ≡ asked = one_ok (Ok (Work number)) (Work number) asked refl is in
+        work-there lists number asked told (named_workload lists name number found)
 
 pub asked-pods : (lists : EstateLists) (asked : AskedEnd) → IsAsked lists asked → HasPods (folding_of lists) asked
 asked-pods lists (At address) there = tt
@@ -115,6 +127,25 @@ ends-there lists (Work source) (Work destination) source_in destination_in apart
       (destination-member (folding_of lists) source destination (members-some lists (folding_of lists) destination refl destination_in) apart);
   apart = ne_eqb (source_pod (folding_of lists) source) (destination_pod (folding_of lists) source destination) (pods-apart lists source destination source_in destination_in apart);
 }
+
+-- so are those that stand for them where there is one for the destination
+pub ends-far : (lists : EstateLists) (folding : Folding) (source destination : AskedEnd) (near far : End) → folding ≡ folding_of lists → IsAsked lists source → IsAsked lists destination
+    → Some far ≡ (if are_one folding source destination then None else Some (destination_end folding source destination)) → near ≡ source_end folding source
+    → AreEnds lists (record { source = near; destination = far })
+ends-far lists folding source destination near far folded source_in destination_in far_is near_is =
+    by (are_one (folding_of lists) source destination) refl (subst (λ (f : Folding). Some far ≡ (if are_one f source destination then None else Some (destination_end f source destination))) folded far_is)
+  where
+    near_there : near ≡ source_end (folding_of lists) source
+    near_there = near_is ∙ ap (λ (f : Folding). source_end f source) folded
+
+    by : (one : Bool) → are_one (folding_of lists) source destination ≡ one → Some far ≡ (if one then None else Some (destination_end (folding_of lists) source destination))
+        → AreEnds lists (record { source = near; destination = far })
+    by true is far_is = absurd (cc)
+    by false is far_is =
+        let far_there : far ≡ destination_end (folding_of lists) source destination = cc in
+        let of_near : End → Ends = λ one. record { source = one; destination = far } in
+        let of_far : End → Ends = λ one. record { source = source_end (folding_of lists) source; destination = one } in
+        subst (AreEnds lists) (sym (ap of_near near_there ∙ ap of_far far_there)) (ends-there lists source destination source_in destination_in is)
 
 -- ends that are told are no one pod's
 pub ends-between : (lists : EstateLists) (from : List ℕ) (source destination : AskedEnd) (ends : Ends) → ends_between (folding_of lists) from source destination ≡ Ok ends

@@ -1,19 +1,27 @@
--- What a report of `list` says, from what was written of it.
-use Rattle.std.proofs.Common.{◌≡◌, ◌<◌, ℕ, List, [], ◌∷◌, length, Bool, true, false, not, ◌&&◌, Option, None, Result, Ok, Err, refl, ap, subst, sym, ◌∙◌}
-use Rattle.np_cli.proofs.PromisesLemmas.{one_job}
-use Rattle.np_cli.proofs.RunsLemmas.{output-fits}
-use Rattle.np_cli.specs.Answers.{IsLawfulIn, fault_in, output, refusal, reply, reply_in, text_in, text_of}
+-- What reports say, from what was written of them.
+use Rattle.std.proofs.Common.{◌≡◌, ◌<◌, ℕ, List, [], ◌∷◌, length, Bool, true, false, not, ◌&&◌, Option, None, Some, Result, Ok, Err, refl, ap, sym, ◌∙◌}
+use Rattle.np_cli.proofs.DoneLemmas.{done-told}
+use Rattle.np_cli.proofs.ExplainLemmas.{asked-there, says-deciders}
+use Rattle.np_cli.proofs.ExposureLemmas.{says-exposed}
+use Rattle.np_cli.specs.Answers.{fault_in, reply, text_in}
+use Rattle.np_cli.specs.Explains.{ExplainsAll}
+use Rattle.np_cli.specs.Exposes.{ExposesAll}
 use Rattle.np_conns.specs.declared.port_spot.PortSpot.{PortSpot}
 use Rattle.np_cli.specs.Headline.{SaysAddresses, SaysAll, SaysIngresses, SaysPods, rows_shown}
 use Rattle.np_cli.specs.Inputs.{lists_of}
-use Rattle.np_cli.specs.Promises.{SaysWhatPasses}
+use Rattle.np_cli.specs.Promises.{SaysExposures, SaysWhatDecides, SaysWhatPasses}
 use Rattle.np_cli.specs.Runs.{Cause, Run}
 use Rattle.np_cli.specs.Sinks.{Sunk, TookWhole}
 use Rattle.np_cli.specs.Statuses.{status_of}
+use Rattle.np_cli.specs.commands.Ends.{end_text}
+use Rattle.np_cli.specs.commands.Explain.{asked_end, ends_named, explain_ends, explain_reply, known_ends}
+use Rattle.np_cli.specs.commands.Exposure.{exposure_of_sides, exposure_reply, exposure_text, first_fault, sides_shown, text_unless}
 use Rattle.np_cli.specs.commands.List.{listing_of, listing_text}
+use Rattle.np_cli.specs.declared.commands.explain.AskedEnd.{AskedEnd}
+use Rattle.np_cli.specs.declared.commands.explain.Ends.{Ends}
+use Rattle.np_cli.specs.declared.commands.exposure.ShownSide.{ShownSide}
 use Rattle.np_cli.specs.declared.commands.list.Listing.{Listing}
 use Rattle.np_cli.specs.declared.failure.Failure.{Failure}
-use Rattle.np_cli.specs.declared.failure.Failure.TheVariants.{Usage, TooLarge, Refused, CannotRead, CannotWrite, NoMemory}
 use Rattle.np_cli.specs.declared.fault.Fault.{Fault}
 use Rattle.np_cli.specs.declared.notes.ReportNotes.{ReportNotes}
 use Rattle.np_cli.specs.declared.status.Status.{Status}
@@ -32,10 +40,10 @@ use Rattle.np_table.specs.Rows.{all_rows}
 use Rattle.np_table.specs.Said.{allows_in, rows_between, rows_of_address}
 use Rattle.np_table.specs.Table.{Table, source_pod, table_of}
 use Rattle.np_table.specs.declared.rows.Row.{Row}
+use Rattle.np_words.specs.declared.end_word.EndWord.{EndWord}
 use Rattle.np_words.specs.declared.focus_side.FocusSide.{FocusSide}
 use Rattle.np_words.specs.declared.format.Format.{Format}
-use Rattle.np_words.specs.declared.job.Job.{Job}
-use Rattle.np_words.specs.declared.job.Job.TheVariants.{List as ListJob}
+use Rattle.np_words.specs.declared.job.Job.TheVariants.{Explain as ExplainJob, Exposure as ExposureJob, List as ListJob}
 use Rattle.np_words.specs.declared.report.Report.{Report}
 
 -- the table of pairs and addresses is part of that of the cluster
@@ -108,12 +116,18 @@ says_what_passes run answer outcome cause answered = λ format report controller
 
 -- ---- `explain`
 
+no_fault_at : (fault : Fault) → Some fault ≡ None → ⊥
+no_fault_at fault is = cc
+
+no_ends : (fault : Fault) (ends : Ends) → Err fault ≡ Ok ends → ⊥
+no_ends fault ends is = cc
+
 says_ends : (out : Sunk) (from to : EndWord) (texts : List (List ℕ)) (lists : EstateLists) (source destination : Result AskedEnd Fault) (ends : Result Ends Fault) → lists_of texts ≡ Ok lists → IsLawful lists
     → asked_end lists from ≡ source → asked_end lists to ≡ destination → known_ends (folding_of lists) (end_text from) source destination ≡ ends
     → fault_in (explain_ends from to lists ends) ≡ None → TookWhole out (text_in (explain_ends from to lists ends)) → ExplainsAll out from to texts
-says_ends out from to texts lists source destination (Err fault) read lawful from_is to_is are no_fault took = cc
-says_ends out from to texts lists (Err fault) destination (Ok ends) read lawful from_is to_is are no_fault took = absurd (cc)
-says_ends out from to texts lists (Ok source) (Err fault) (Ok ends) read lawful from_is to_is are no_fault took = absurd (cc)
+says_ends out from to texts lists source destination (Err fault) read lawful from_is to_is are no_fault took = absurd (no_fault_at fault no_fault)
+says_ends out from to texts lists (Err fault) destination (Ok ends) read lawful from_is to_is are no_fault took = absurd (no_ends fault ends are)
+says_ends out from to texts lists (Ok source) (Err fault) (Ok ends) read lawful from_is to_is are no_fault took = absurd (no_ends fault ends are)
 says_ends out from to texts lists (Ok source) (Ok destination) (Ok ends) read lawful from_is to_is are no_fault took = record {
   lists = lists;
   source = source;
@@ -136,7 +150,27 @@ says_what_decides run answer outcome cause answered = λ from to files texts is 
 
 -- ---- `exposure`
 
-says_sides : (out : Sunk) (workload : Option (List ℕ)) (format : Format) (texts : List (List ℕ)) (lists : EstateLists) (sides : Result (List ShownSide) Fault) (fault : Option Fault) → lists_of texts ≡ Ok lists → IsLawful lists
-    → sides_shown workload lists ≡ sides → fault_among lists sides ≡ fault
-    → fault_in (exposure_of_sides format lists sides) ≡ None → TookWhole out (text_in (exposure_of_sides format lists sides)) → ExposesAll out workload format texts
-says_sides = ?
+says_sides : (out : Sunk) (workload : Option (List ℕ)) (format : Format) (texts : List (List ℕ)) (lists : EstateLists) (sides : Result (List ShownSide) Fault) → lists_of texts ≡ Ok lists → IsLawful lists
+    → sides_shown workload lists ≡ sides → fault_in (exposure_of_sides format lists sides) ≡ None → TookWhole out (text_in (exposure_of_sides format lists sides)) → ExposesAll out workload format texts
+says_sides out workload format texts lists (Err fault) read lawful are no_fault took = absurd (no_fault_at fault no_fault)
+says_sides out workload format texts lists (Ok sides) read lawful are no_fault took = by (first_fault lists sides) refl no_fault took
+  where
+    by : (fault : Option Fault) → first_fault lists sides ≡ fault → fault_in (text_unless fault (exposure_text format lists sides)) ≡ None
+        → TookWhole out (text_in (text_unless fault (exposure_text format lists sides))) → ExposesAll out workload format texts
+    by (Some fault) is no_fault took = absurd (no_fault_at fault no_fault)
+    by None is no_fault took = record {
+      lists = lists;
+      sides = sides;
+      read = read;
+      lawful = lawful;
+      sides_are = are;
+      few = is;
+      printed = took;
+      exposed = says-exposed lists sides lawful;
+    }
+
+pub says_exposures : (run : Run) (answer : Status) (outcome : Result ReportNotes Failure) → Cause run outcome → answer ≡ status_of outcome → SaysExposures run answer
+unfolding reply exposure_reply
+says_exposures run answer outcome cause answered = λ workload format files texts is told done.
+    let told_by = done-told run answer outcome (ExposureJob workload format files) texts cause answered is told done in
+    says_sides run.out workload format texts told_by.lists (sides_shown workload told_by.lists) told_by.read told_by.lawful refl told_by.no_fault told_by.took

@@ -2,6 +2,7 @@ pub mod CountsLemmas
 pub mod DoneLemmas
 pub mod EvaluateLemmas
 pub mod ExplainLemmas
+pub mod ExposureLemmas
 pub mod HeadlineLemmas
 pub mod ListingLemmas
 pub mod PromisesLemmas

@@ -1,5 +1,5 @@
 -- The bytes of several rows, and what comes behind them.
-use Rattle.std.proofs.Common.{◌≡◌, ℕ, List, [], ◌∷◌, ◌++◌, Bool, true, false, not, ◌||◌, append_assoc, refl, ap, sym, ◌∙◌}
+use Rattle.std.proofs.Common.{◌≡◌, ℕ, List, [], ◌∷◌, ◌++◌, Bool, true, false, not, ◌||◌, append_assoc, refl, ap, subst, sym, ◌∙◌}
 use Rattle.np_report.specs.Forms.{Form, lines_of, text_to_come}
 use Rattle.np_report.specs.declared.row.RowText.{RowText}
 
@@ -29,4 +29,5 @@ text_to_come-rows form came (row ∷ rows) more =
 pub lines-next : (form : Form) (came : Bool) (row : RowText) (rows : List RowText) (so_far line whole : List ℕ) → line ≡ form.row came row
     → so_far ++ lines_of form came (row ∷ rows) ≡ whole → (so_far ++ line) ++ lines_of form true rows ≡ whole
 lines-next form came row rows so_far line whole is all =
-    append_assoc so_far line (lines_of form true rows) ∙ ap (λ (bytes : List ℕ). so_far ++ bytes ++ lines_of form true rows) is ∙ all
+    let joined : (so_far ++ form.row came row) ++ lines_of form true rows ≡ whole = append_assoc so_far (form.row came row) (lines_of form true rows) ∙ all in
+    subst (λ (bytes : List ℕ). (so_far ++ bytes) ++ lines_of form true rows ≡ whole) (sym is) joined

@@ -65,7 +65,7 @@ pub(super) fn explain<O: Sink, L: Ledger>(
     ensures least { steps.old ≤ steps.new }
 {
     let ends = ends_named(alloc, folded, from, to)?;
-    let shown = explanations(alloc, folded.estate(), ends, steps)?;
+    let shown = explanations(alloc, folded.estate(), &ends, steps)?;
     let from = end_text(alloc, from)?;
     let to = end_text(alloc, to)?;
     let text = explain_text(alloc, &from, &to, shown.items())?;
@@ -80,7 +80,6 @@ pub(super) fn explain<O: Sink, L: Ledger>(
 fn ends_named(alloc: Global, folded: &Folded, from: &EndWord, to: &EndWord) -> Result<Ends, Failure>
     ensures named { Gives result (spec.ends_named folded.now from.now to.now) }
     ensures ends { IfOk result (AreEnds folded.now) }
-    ensures lawful { OnOk result (IsLawful folded.now) }
 {
     let source = asked_end(folded, from)?;
     let destination = asked_end(folded, to)?;
@@ -160,12 +159,12 @@ fn destination_end(workloads: &Workloads, source: AskedEnd, destination: AskedEn
 fn explanations<L: Ledger>(
     alloc: Global,
     estate: &Estate,
-    ends: Ends,
+    ends: &Ends,
     steps: &mut Steps<L>,
 ) -> Result<Seq<Shown>, NoMemory>
     requires lawful { IsLawful estate.now }
-    requires ends { AreEnds estate.now ends }
-    ensures shown { IfOk result (λ shown. shown ≡ spec.explanations estate.now ends) }
+    requires ends { AreEnds estate.now ends.now }
+    ensures shown { IfOk result (λ shown. shown ≡ spec.explanations estate.now ends.now) }
     ensures least { steps.old ≤ steps.new }
 {
     match family_asked(estate, ends.source, ends.destination) {
@@ -187,17 +186,17 @@ fn explanations<L: Ledger>(
 fn explanation_in<L: Ledger>(
     alloc: Global,
     estate: &Estate,
-    ends: Ends,
+    ends: &Ends,
     family: Family,
     steps: &mut Steps<L>,
 ) -> Result<Explanation, NoMemory>
     requires lawful { IsLawful estate.now }
-    requires ends { AreEnds estate.now ends }
-    requires family { IsFamilyOf ends.source ends.destination family }
-    ensures made { IfOk result (λ made. made ≡ explanation_of estate.now ends.source ends.destination family) }
+    requires ends { AreEnds estate.now ends.now }
+    requires family { IsFamilyOf ends.now.source ends.now.destination family }
+    ensures made { IfOk result (λ made. made ≡ explanation_of estate.now ends.now.source ends.now.destination family) }
     ensures least { steps.old ≤ steps.new }
 {
-    explanation(alloc, estate, ends.source, ends.destination, family, steps)
+    explain_sides(alloc, estate, ends.source, ends.destination, family, steps)
 }
 
 // One of them where both sides have the same parts in both families, and else both, with their marks.

@@ -10,7 +10,7 @@ ghost use Rattle.np_exposure.specs.declared.exposures.TheConstants.{MOST_PATTERN
 ghost use Rattle.np_report.specs.Forms.{text_to_come};
 ghost use Rattle.np_table.specs.Table.{IsWorkload};
 
-use crate::commands::ends::workload_of;
+use crate::commands::ends::{first_pod, workload_of};
 use crate::failure::Failure;
 use crate::fault::Fault;
 use crate::write_fault::WriteFault;
@@ -122,7 +122,7 @@ fn must_be_light(alloc: Global, folded: &Folded, side: ShownSide) -> Result<(), 
     ensures { Gives result (spec.nothing_unless (spec.weight_fault folded.now side)) }
 {
     let workloads = folded.workloads();
-    let pod = workloads.members(side.workload)[0];
+    let pod = first_pod(folded, side.workload);
     let weight = weight(alloc, folded.estate(), pod, side.direction)?;
     if weight <= MOST_PATTERNS {
         return Ok(());
@@ -203,7 +203,7 @@ fn rows_at<L: Ledger>(
 {
     let workloads = folded.workloads();
     let name = workloads.name(side.workload);
-    let pod = workloads.members(side.workload)[0];
+    let pod = first_pod(folded, side.workload);
     match exposure(alloc, folded.estate(), pod, side.direction, steps) {
         Ok(rows) => row_texts(alloc, name, side.direction, rows.items()),
         Err(ExposureFault::NoMemory) => Err(NoMemory),

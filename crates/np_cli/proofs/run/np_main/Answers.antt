@@ -1,4 +1,4 @@
-use Rattle.np_cli.proofs.HeadlineLemmas.{says_what_passes}
+use Rattle.np_cli.proofs.HeadlineLemmas.{says_exposures, says_what_decides, says_what_passes}
 use Rattle.np_cli.proofs.PromisesLemmas.{begins_in_order, completes, refuses_too_large, refuses_more, refuses_faults, blames_device, blames_words, usage_ended}
 use Rattle.np_cli.proofs.RunsLemmas.{Cause-said}
 use Rattle.np_cli.proofs.run.np_main.Goals as goal
@@ -10,6 +10,8 @@ returns g c =
       promises = record {
         ends = record { outcome = c.say-said.result; cause = cause; said = c.say-said.ensures.said; answered = c.status_of.ensures };
         says = says_what_passes _ _ c.say-said.result cause c.status_of.ensures;
+        explains = says_what_decides _ _ c.say-said.result cause c.status_of.ensures;
+        exposes = says_exposures _ _ c.say-said.result cause c.status_of.ensures;
         completes = completes _ _ _ c.say-said.result cause c.say-said.ensures.said c.status_of.ensures;
         refuses_too_large = refuses_too_large _ _ _ c.say-said.result cause c.say-said.ensures.said c.status_of.ensures;
         refuses_more = refuses_more _ _ _ c.say-said.result cause c.say-said.ensures.said c.status_of.ensures;
