@@ -1,0 +1,16 @@
+pub mod FindLemmas
+pub mod FlagLemmas
+pub mod KindPodLemmas
+pub mod KindStepLemmas
+pub mod KnownLemmas
+pub mod LawLemmas
+pub mod NameLemmas
+pub mod PacketLemmas
+pub mod PolicyLemmas
+pub mod PrintLemmas
+pub mod PushLemmas
+pub mod RuleListLemmas
+pub mod SearchLemmas
+pub mod StayLemmas
+pub mod WalkLemmas
+pub mod WithoutLemmas

@@ -1,0 +1,159 @@
+//! The search for the rules that are used.
+ghost use Rattle.std.specs.Prelude.{◌≡◌, ◌<◌, ◌≤◌, ℕ, true, Some, slice_get, length, IfOk, OnOk};
+ghost use Rattle.np_conns.specs.Conns.{is_spot};
+ghost use Rattle.np_estate.specs.Lawful.{IsLawful};
+ghost use Rattle.np_lint.specs.declared.kind_pods.KindPod.{KindPod as SpecPod};
+ghost use Rattle.np_lint.specs.steps.Kinds.{AreKindPods, is_asked};
+ghost use Rattle.np_lint.specs.steps.Search.{AllAreUsed, AreRulesOf, Finds, Grows, IsSound, KnowsAll, KnowsPods, KnowsSide};
+ghost use Rattle.np_rules.specs.EveryAddress.{is_place};
+ghost use Rattle.np_rules.specs.PodSides.{side_of, with_addresses, with_pod};
+
+use crate::kind_pods::{KindPod, kind_pods};
+use crate::used_rules::{UsedRules, knows_all, none_known, note_layer};
+use np_addr::Family;
+use np_base::NoMemory;
+use np_estate::Estate;
+use np_fold::Folded;
+use np_policies::Direction;
+use np_rules::{LayerRules, PodRules, layer_rules};
+use np_steps::Steps;
+use std::alloc::Global;
+use std::sync::ledger::Ledger;
+
+/// The rules of a direction that are used. The rules of each kind of pods are looked at with all addresses as far ends, and
+/// then with each kind, until all of them are known.
+pub(crate) fn used_rules<L: Ledger>(
+    alloc: Global,
+    folded: &Folded,
+    direction: Direction,
+    steps: &mut Steps<L>,
+) -> Result<UsedRules, NoMemory>
+    ensures all { IfOk result (λ used. Finds folded.now direction used) }
+    ensures least { steps.old ≤ steps.new }
+{
+    let kinds = kind_pods(alloc, folded)?;
+    let mut used = none_known(alloc);
+    for near in 0..kinds.len() {
+        search_side(
+            alloc,
+            folded.estate(),
+            &kinds,
+            near,
+            direction,
+            &mut used,
+            steps,
+        )?;
+    }
+    Ok(used)
+}
+
+// Looks for the rules of the pod that stands for a kind.
+fn search_side<L: Ledger>(
+    alloc: Global,
+    estate: &Estate,
+    kinds: &[KindPod],
+    near: usize,
+    direction: Direction,
+    used: &mut UsedRules,
+    steps: &mut Steps<L>,
+) -> Result<(), NoMemory>
+    requires lawful { IsLawful estate.now }
+    requires kinds { AreKindPods estate.now kinds.now }
+    requires near { near < length kinds.now }
+    requires sound { IsSound estate.now direction used.old }
+    ensures sound { OnOk result (IsSound estate.now direction used.new) }
+    ensures grows { OnOk result (Grows used.old used.new) }
+    ensures finds { OnOk result ((one : SpecPod) → slice_get kinds.now near ≡ Some one →
+        KnowsSide (side_of estate.now one.pod direction) kinds.now near used.new) }
+    ensures least { steps.old ≤ steps.new }
+{
+    let pod = kinds[near].pod;
+    let rules = layer_rules(alloc, estate, pod, direction)?;
+    let side = PodRules::of(alloc, estate, pod, direction)?;
+    search_addresses(alloc, &side, &rules, used, steps)?;
+    for family in estate.families() {
+        search_pods(alloc, kinds, near, &side, &rules, *family, used, steps)?;
+    }
+    Ok(())
+}
+
+// Looks for the rules of a side with all addresses as far ends, unless all are known.
+fn search_addresses<L: Ledger>(
+    alloc: Global,
+    side: &PodRules<'_>,
+    rules: &LayerRules,
+    used: &mut UsedRules,
+    steps: &mut Steps<L>,
+) -> Result<(), NoMemory>
+    requires lawful { IsLawful side.now.lists }
+    requires rules { AreRulesOf side.now rules.now }
+    requires listed { AllAreUsed is_place side.now with_addresses }
+    requires sound { IsSound side.now.lists side.now.direction used.old }
+    ensures sound { OnOk result (IsSound side.now.lists side.now.direction used.new) }
+    ensures grows { OnOk result (Grows used.old used.new) }
+    ensures finds { OnOk result (KnowsAll is_place side.now with_addresses used.new) }
+    ensures least { steps.old ≤ steps.new }
+{
+    if knows_all(used, rules) {
+        return Ok(());
+    }
+    let layer = side.address_layer(alloc, steps)?;
+    note_layer(alloc, &layer, rules, used)
+}
+
+// Looks for the rules of a side with the pods of all kinds as far ends, until all are known.
+fn search_pods<L: Ledger>(
+    alloc: Global,
+    kinds: &[KindPod],
+    near: usize,
+    side: &PodRules<'_>,
+    rules: &LayerRules,
+    family: Family,
+    used: &mut UsedRules,
+    steps: &mut Steps<L>,
+) -> Result<(), NoMemory>
+    requires lawful { IsLawful side.now.lists }
+    requires kinds { AreKindPods side.now.lists kinds.now }
+    requires rules { AreRulesOf side.now rules.now }
+    requires listed { (kind : ℕ) (far : SpecPod) → slice_get kinds.now kind ≡ Some far → is_asked near kind far ≡ true →
+        AllAreUsed is_spot side.now (with_pod far.pod family) }
+    requires sound { IsSound side.now.lists side.now.direction used.old }
+    ensures sound { OnOk result (IsSound side.now.lists side.now.direction used.new) }
+    ensures grows { OnOk result (Grows used.old used.new) }
+    ensures finds { OnOk result (KnowsPods side.now kinds.now near family used.new) }
+    ensures least { steps.old ≤ steps.new }
+{
+    for (kind, far) in kinds.iter().enumerate() {
+        if knows_all(used, rules) {
+            return Ok(());
+        }
+        if kind != near || far.is_shared {
+            search_pod(alloc, far.pod, side, rules, family, used, steps)?;
+        }
+    }
+    Ok(())
+}
+
+// Looks for the rules of a side with a pod as the far end.
+fn search_pod<L: Ledger>(
+    alloc: Global,
+    far: u32,
+    side: &PodRules<'_>,
+    rules: &LayerRules,
+    family: Family,
+    used: &mut UsedRules,
+    steps: &mut Steps<L>,
+) -> Result<(), NoMemory>
+    requires lawful { IsLawful side.now.lists }
+    requires rules { AreRulesOf side.now rules.now }
+    requires far { far < length side.now.lists.pods }
+    requires listed { AllAreUsed is_spot side.now (with_pod far family) }
+    requires sound { IsSound side.now.lists side.now.direction used.old }
+    ensures sound { OnOk result (IsSound side.now.lists side.now.direction used.new) }
+    ensures grows { OnOk result (Grows used.old used.new) }
+    ensures finds { OnOk result (KnowsAll is_spot side.now (with_pod far family) used.new) }
+    ensures least { steps.old ≤ steps.new }
+{
+    let layer = side.pod_layer(alloc, far, family, steps)?;
+    note_layer(alloc, &layer, rules, used)
+}
