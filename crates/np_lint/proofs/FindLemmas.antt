@@ -25,7 +25,7 @@ use Rattle.np_lint.specs.declared.rule_ref.Tier.{Tier}
 use Rattle.np_lint.specs.declared.used_rules.UsedRules.{UsedRules}
 use Rattle.np_lint.specs.steps.Kinds.{AreKindPods, is_asked, pod_kind}
 use Rattle.np_lint.specs.steps.Known.{is_known}
-use Rattle.np_lint.specs.steps.Search.{AllAreUsed, AreUsed, Finds, IsSound, Knows, KnowsAll, KnowsPods, KnowsSide, KnowsSides, ref_of}
+use Rattle.np_lint.specs.steps.Search.{AllAreUsed, AreUsed, Finds, IsSound, Knows, KnowsAll, KnowsPods, KnowsSide, KnowsSides, PodsAreUsed, ref_of}
 use Rattle.np_policies.specs.declared.direction.Direction.{Direction}
 use Rattle.np_rules.proofs.AddressLemmas.{place_parts}
 use Rattle.np_rules.specs.Ends.{address, pod}
@@ -57,8 +57,8 @@ module _ (lists : EstateLists) (lawful : IsLawful lists) (kinds : List KindPod) 
   apart_by p q differ = ne_eqb p q differ
 
   -- so is what decides between pods of two kinds, or of one that has two pods, in a family of the estate
-  pub pods_listed : (near : ℕ) (one : KindPod) → slice_get kinds near ≡ Some one → (family : Family) → Contains (families_of lists.pods) family → (kind : ℕ) (far : KindPod) → slice_get kinds kind ≡ Some far → is_asked near kind far ≡ true → AllAreUsed is_spot (side_of lists one.pod direction) (with_pod far.pod family)
-  unfolding AreUsed
+  pub pods_listed : (near : ℕ) (one : KindPod) → slice_get kinds near ≡ Some one → (family : Family) → Contains (families_of lists.pods) family → PodsAreUsed (side_of lists one.pod direction) kinds near family
+  unfolding AreUsed PodsAreUsed
   pods_listed near one at family of_family kind far far_at asked spot inside tier policy number valid stands =
       elim (eqb_tells kind near) [ inl same ↦ own same.0 same.1 | inr other ↦ others other.1 ]
     where

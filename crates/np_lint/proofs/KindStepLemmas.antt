@@ -3,7 +3,7 @@ use Rattle.std.proofs.Common.{◌≡◌, ◌≢◌, ℕ, ◌+◌, ◌<◌, ◌�
 use Rattle.std.proofs.lemmas.Bool.{cases_order}
 use Rattle.std.proofs.lemmas.List.{length-append}
 use Rattle.std.proofs.lemmas.List.FromFn.{get_or-map-range_with_len, length-map-range_with_len}
-use Rattle.std.proofs.lemmas.Option.{get_or_from_slice_get, none-some, same_Some, slice_get-get_or, slice_get_past, slice_get_read}
+use Rattle.std.proofs.lemmas.Option.{none-some, same_Some, slice_get_past}
 use Rattle.np_classes.proofs.Lists.{slice_get-front, slice_get-last}
 use Rattle.np_estate.specs.declared.lists.EstateLists.{EstateLists}
 use Rattle.np_estate.specs.declared.pod.Pod.{Pod}
@@ -52,22 +52,22 @@ none_before lists kind first p below is = absurd (omega arith)
 
 -- ---- one kind more
 
-pub first_workload : (lists : EstateLists) (folding : Folding) (firsts : List ℕ) (kind workload : ℕ) → folding ≡ folding_of lists → firsts ≡ folding.first_of_kinds → kind < length firsts → workload ≡ get_or firsts kind workload → workload < length folding.workloads
-first_workload lists folding firsts kind workload folded are within is =
+pub first_workload : (lists : EstateLists) (folding : Folding) (firsts : List ℕ) (kind : ℕ) → folding ≡ folding_of lists → firsts ≡ folding.first_of_kinds → kind < length firsts → get_or firsts kind 0 < length folding.workloads
+first_workload lists folding firsts kind folded are within =
     let same : firsts ≡ (folding_of lists).first_of_kinds = are ∙ ap (λ (f : Folding). f.first_of_kinds) folded in
     let inside : kind < length (folding_of lists).first_of_kinds = subst (λ (all : List ℕ). kind < length all) same within in
-    rw (folded, is, same) (firsts-workloads lists kind workload inside)
+    let low : get_or (folding_of lists).first_of_kinds kind 0 < length (folding_of lists).workloads = firsts-workloads lists kind 0 inside in
+    subst (λ (all : List ℕ). get_or all kind 0 < length folding.workloads) (sym same) (subst (λ (f : Folding). get_or (folding_of lists).first_of_kinds kind 0 < length f.workloads) (sym folded) low)
 
 pub members_there : (lists : EstateLists) (folding : Folding) (members : List ℕ) (workload : ℕ) → folding ≡ folding_of lists → members ≡ members_of folding workload → workload < length folding.workloads → 0 < length members
-members_there lists folding members workload folded are within = rw are (members-some lists folding workload folded within)
+members_there lists folding members workload folded are within = subst (λ (all : List ℕ). 0 < length all) (sym are) (members-some lists folding workload folded within)
 
-pub first_pod_is : (lists : EstateLists) (folding : Folding) (firsts members : List ℕ) (kind workload pod : ℕ) → folding ≡ folding_of lists → firsts ≡ folding.first_of_kinds → kind < length firsts → workload ≡ get_or firsts kind workload → members ≡ members_of folding workload → 0 < length members → pod ≡ get_or members 0 pod → pod ≡ first_of_kind lists kind
-first_pod_is lists folding firsts members kind workload pod folded are within is members_are some pod_is =
+pub first_pod_is : (lists : EstateLists) (folding : Folding) (firsts members : List ℕ) (kind : ℕ) → folding ≡ folding_of lists → firsts ≡ folding.first_of_kinds → members ≡ members_of folding (get_or firsts kind 0) → get_or members 0 0 ≡ first_of_kind lists kind
+first_pod_is lists folding firsts members kind folded are members_are =
     let same : firsts ≡ (folding_of lists).first_of_kinds = are ∙ ap (λ (f : Folding). f.first_of_kinds) folded in
-    let of_kind : workload ≡ slice_index (folding_of lists).first_of_kinds kind = sym (get_or_from_slice_get firsts kind workload 0 (slice_get_read firsts (length firsts) kind workload refl within is)) ∙ ap (λ (all : List ℕ). slice_index all kind) same in
-    sym (get_or_from_slice_get members 0 pod 0 (slice_get_read members (length members) 0 pod refl some pod_is))
-    ∙ ap (λ (all : List ℕ). slice_index all 0) members_are ∙ ap (λ (f : Folding). slice_index (members_of f workload) 0) folded
-    ∙ ap (λ (w : ℕ). slice_index (members_of (folding_of lists) w) 0) of_kind
+    ap (λ (all : List ℕ). get_or all 0 0) members_are
+    ∙ ap (λ (f : Folding). get_or (members_of f (get_or firsts kind 0)) 0 0) folded
+    ∙ ap (λ (all : List ℕ). get_or (members_of (folding_of lists) (get_or all kind 0)) 0 0) same
 
 pub each_more : (lists : EstateLists) (kinds made : List KindPod) (one : KindPod) (kind : ℕ) → length kinds ≡ kind → ((k : ℕ) (other : KindPod) → slice_get kinds k ≡ Some other → IsKindPod lists k other) → IsKindPod lists kind one → made ≡ kinds ++ one ∷ [] → (k : ℕ) (other : KindPod) → slice_get made k ≡ Some other → IsKindPod lists k other
 each_more lists kinds made one kind count each is pushed k other at =

@@ -12,5 +12,6 @@ pub mod PushLemmas
 pub mod RuleListLemmas
 pub mod SearchLemmas
 pub mod StayLemmas
+pub mod StepLemmas
 pub mod WalkLemmas
 pub mod WithoutLemmas

@@ -66,7 +66,10 @@ base_of : {X : Type 0} (give : X → Decider) (name : X → Option RuleName) →
 base_of give name gives None = refl
 base_of give name gives (Some x) = gives x
 
-none_of : {X : Type 0} (found : Option X) → option_and_then {A = X} {B = RuleName} (λ x. None) found ≡ None
+abbrev no_name : {X : Type 0} → X → Option RuleName
+no_name x = None
+
+none_of : {X : Type 0} (found : Option X) → option_and_then no_name found ≡ None
 none_of None = refl
 none_of (Some x) = refl
 

@@ -8,7 +8,7 @@ use Rattle.std.proofs.lemmas.List.FromFn.{get_or-map-range_with_len, get_or-rang
 use Rattle.std.proofs.lemmas.Option.{slice_get_within}
 use Rattle.np_classes.proofs.Lists.{filter_agree_on}
 use Rattle.np_estate.specs.declared.lists.EstateLists.{EstateLists}
-use Rattle.np_lint.specs.Rules.{IsRuleOf, admin_count, all_rules, net_count, policy_count, rule_count_at, rules_from, rules_of_policy, rules_of_tier}
+use Rattle.np_lint.specs.Rules.{IsRuleOf, admin_count, all_rules, base_count, net_count, policy_count, rule_count_at, rules_from, rules_of_policy, rules_of_tier}
 use Rattle.np_lint.specs.Used.{is_used, unused_of}
 use Rattle.np_lint.specs.declared.rule_ref.RuleRef.{RuleRef}
 use Rattle.np_lint.specs.declared.rule_ref.Tier.{Tier}
@@ -74,11 +74,11 @@ module _ (lists : EstateLists) where
       go : (found : Option NetPolicy) → slice_get lists.net_policies policy ≡ found → place < option_map_or (net_count direction) found 0 → policy < length lists.net_policies
       go None is none = absurd (omega arith)
       go (Some one) is some = slice_get_within lists.net_policies policy one is
-  policy_within Base policy direction place below = go (policy == 0) refl below
+  policy_within Base policy direction place below = go (option_map_or (base_count direction) lists.baseline 0) (policy == 0) refl below
     where
-      go : {n : ℕ} (first : Bool) → policy == 0 ≡ first → place < (if first then n else 0) → policy < 1
-      go true is some = omega (arith, eqb-true policy 0 is)
-      go false is none = absurd (omega arith)
+      go : (n : ℕ) (first : Bool) → policy == 0 ≡ first → place < (if first then n else 0) → policy < 1
+      go n true is some = omega (arith, eqb-true policy 0 is)
+      go n false is none = absurd (omega arith)
 
   policy_has : (tier : Tier) (policy : ℕ) (direction : Direction) (place : ℕ) → place < rule_count_at lists tier direction policy → Contains (rules_of_policy lists tier policy) (record { tier = tier; policy = policy; direction = direction; place = place })
   policy_has tier policy Ingress place below = Contains-append_left (rules_from tier policy Ingress (rule_count_at lists tier Ingress policy)) (rules_from tier policy Egress (rule_count_at lists tier Egress policy)) _ (numbered_has (λ n. record { tier = tier; policy = policy; direction = Ingress; place = n }) (rule_count_at lists tier Ingress policy) place below)

@@ -22,14 +22,14 @@ pub(crate) fn kind_pods(alloc: Global, folded: &Folded) -> Result<Vec<KindPod>, 
     let mut kinds = Vec::new(alloc);
     for (kind, workload) in workloads.first_of_kinds().iter().enumerate() {
         let pod = workloads.members(*workload)[0];
-        let is_shared = has_other(folded, kind as u32, pod);
+        let is_shared = has_other(folded, kind, pod);
         kinds.push(KindPod { pod, is_shared })?;
     }
     Ok(kinds)
 }
 
 // Whether a kind has another pod than its first one.
-fn has_other(folded: &Folded, kind: u32, first: u32) -> bool
+fn has_other(folded: &Folded, kind: usize, first: u32) -> bool
     ensures some { result ≡ true →
         (p : ℕ) × (p < length folded.now.pods) × (pod_kind folded.now p ≡ kind) × (p ≢ first) }
     ensures none { result ≡ false →
@@ -38,7 +38,7 @@ fn has_other(folded: &Folded, kind: u32, first: u32) -> bool
     let workloads = folded.workloads();
     let count = folded.estate().pods().len() as u32;
     for pod in 0..count {
-        if pod != first && workloads.kind_of(workloads.workload_of(pod)) == kind {
+        if pod != first && workloads.kind_of(workloads.workload_of(pod)) as usize == kind {
             return true;
         }
     }

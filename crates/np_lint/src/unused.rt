@@ -46,13 +46,25 @@ fn keep_unknown(
 {
     let mut kept = Seq::new(alloc);
     for rule in rules {
-        let known = match rule.direction {
-            Direction::Ingress => ingress,
-            Direction::Egress => egress,
-        };
-        if !knows(known, rule.tier, rule.policy, rule.place) {
+        if !is_known(rule, ingress, egress) {
             kept.push(*rule)?;
         }
     }
     Ok(kept)
+}
+
+// Whether a rule is known to be used, by what is known of each direction.
+fn is_known(rule: &RuleRef, ingress: &UsedRules, egress: &UsedRules) -> bool
+    ensures { result ≡ is_known_by ingress.now egress.now rule.now }
+{
+    let RuleRef {
+        tier,
+        policy,
+        direction,
+        place,
+    } = *rule;
+    match direction {
+        Direction::Ingress => knows(ingress, tier, policy, place),
+        Direction::Egress => knows(egress, tier, policy, place),
+    }
 }

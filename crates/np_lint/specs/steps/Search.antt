@@ -72,6 +72,10 @@ AllAreUsed {Spot} in_space side looks_at = (spot : Spot) → in_space spot ≡ t
 unfoldable pub KnowsPods : PodSide → List KindPod → ℕ → Family → UsedRules → Type 0
 KnowsPods side kinds near family used = (kind : ℕ) (far : KindPod) → slice_get kinds kind ≡ Some far → is_asked near kind far ≡ true → KnowsAll is_spot side (with_pod far.pod family) used
 
+-- what decides there is used
+unfoldable pub PodsAreUsed : PodSide → List KindPod → ℕ → Family → Type 0
+PodsAreUsed side kinds near family = (kind : ℕ) (far : KindPod) → slice_get kinds kind ≡ Some far → is_asked near kind far ≡ true → AllAreUsed is_spot side (with_pod far.pod family)
+
 -- with all addresses, and with all kinds in each family of the estate
 pub record KnowsSide (side : PodSide) (kinds : List KindPod) (near : ℕ) (used : UsedRules) : Type 0 where
   pub addresses : KnowsAll is_place side with_addresses used
