@@ -1,3 +1,5 @@
+pub mod AllowLemmas
+pub mod ChangeLemmas
 pub mod FindLemmas
 pub mod FlagLemmas
 pub mod KindPodLemmas

@@ -14,10 +14,10 @@ pub loop-kind-preserved : goal.loop-kind-preserved
 loop-kind-preserved c = record {
   count = count_more c.loop-kind.kinds.items c.push.new.self.items (record { pod = get_or c.members.result.now 0 0; is_shared = c.has_other-is_shared.result }) c.loop-kind.kind c.loop-kind.invariant.count c.in_ok-push.ensures.items;
   each = each_more c.args.folded.now c.loop-kind.kinds.items c.push.new.self.items (record { pod = get_or c.members.result.now 0 0; is_shared = c.has_other-is_shared.result }) c.loop-kind.kind c.loop-kind.invariant.count c.loop-kind.invariant.each
-  (record {
-    pod = first_pod_is c.args.folded.now c.workloads-workloads.result.now c.first_of_kinds-workload-items.result.now c.members.result.now c.loop-kind.kind c.workloads-workloads.ensures.value c.first_of_kinds-workload-items.ensures c.members.ensures;
-    shared = c.has_other-is_shared.ensures.some;
-    alone = c.has_other-is_shared.ensures.none;
-  })
-  c.in_ok-push.ensures.items;
+      (record {
+        pod = first_pod_is c.args.folded.now c.workloads-workloads.result.now c.first_of_kinds-workload-items.result.now c.members.result.now c.loop-kind.kind c.workloads-workloads.ensures.value c.first_of_kinds-workload-items.ensures c.members.ensures;
+        shared = c.has_other-is_shared.ensures.some;
+        alone = c.has_other-is_shared.ensures.none;
+      })
+      c.in_ok-push.ensures.items;
 }
