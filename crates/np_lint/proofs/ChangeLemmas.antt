@@ -1,5 +1,5 @@
 -- Where the rules that decide stay, a side says the same.
-use Rattle.std.proofs.Common.{◌≡◌, ℕ, ◌<◌, List, [], ◌∷◌, Bool, true, false, ◌&&◌, not, map, filter, find, is_some, slice_get, Option, Some, None, refl, sym, ap, ◌∙◌, subst, if◌then◌else◌}
+use Rattle.std.proofs.Common.{◌≡◌, ℕ, ◌<◌, List, [], Bool, true, false, not, map, filter, find, is_some, slice_get, Option, Some, None, refl, sym, ap, ◌∙◌, subst, if◌then◌else◌}
 use Rattle.std.specs.List.{enumerate_from, list_any}
 use Rattle.std.specs.Option.{option_map, option_map_or}
 use Rattle.np_estate.specs.Lawful.{IsLawful}
@@ -7,7 +7,7 @@ use Rattle.np_estate.specs.declared.lists.EstateLists.{EstateLists}
 use Rattle.np_explain.proofs.RuleLemmas.{net_decider_is_first}
 use Rattle.np_lint.proofs.StayLemmas.{any_found, any_map, find_map, first_stays, found_is, stands_all}
 use Rattle.np_lint.proofs.WithoutLemmas.{IsAdminAt, IsBaseAt, IsNetAt, admin_are, admin_from, admin_left, admin_placed, admin_stays, ascending_left, base_are, base_from, base_left, base_placed, base_stays, isolated_left, net_are, net_from, net_left, net_placed, net_stays, spaced}
-use Rattle.np_lint.specs.Rules.{admin_count, base_count, net_count, policy_name_at, rule_count_at, rule_name}
+use Rattle.np_lint.specs.Rules.{admin_count, net_count, rule_count_at, rule_name}
 use Rattle.np_lint.specs.Used.{admin_rule_in, base_rule_in, net_rule_in, rule_in}
 use Rattle.np_lint.specs.Without.{admin_without, base_without, goes, net_without, without}
 use Rattle.np_lint.specs.declared.rule_ref.RuleRef.{RuleRef}
@@ -26,7 +26,7 @@ use Rattle.np_rules.proofs.AdminTierLemmas.{decider_is_first}
 use Rattle.np_rules.proofs.PairwiseLemmas.{map-map}
 use Rattle.np_rules.specs.AdminTier.{admin_decider}
 use Rattle.np_rules.specs.BaseTier.{base_decider}
-use Rattle.np_rules.specs.Deciders.{action_decides, admin_decides, admin_rule_name, base_decides, base_rule_name, decider, isolating_names, lower_decider, net_decider, net_decides, net_policy_name, net_rule_name}
+use Rattle.np_rules.specs.Deciders.{action_decides, admin_decides, admin_rule_name, base_decides, decider, isolating_names, lower_decider, net_decider, net_decides, net_policy_name, net_rule_name}
 use Rattle.np_rules.specs.Ends.{Contact, PodEnd, pod}
 use Rattle.np_rules.specs.NetTier.{is_isolated, permits, placed_net_matches}
 use Rattle.np_rules.specs.Places.{PlacedAdminRule, PlacedBaseRule, PlacedNetRule, admin_places, base_places, net_places}

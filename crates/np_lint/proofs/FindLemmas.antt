@@ -1,8 +1,8 @@
 -- What is found by the sides of all kinds is what is used.
-use Rattle.std.proofs.Common.{◌≡◌, ◌≢◌, ℕ, zero, suc, get_or, ◌+◌, ◌-◌, ◌^◌, ◌<◌, List, [], ◌∷◌, Bool, true, false, ◌||◌, ◌&&◌, ◌==◌, not, length, slice_get, Option, Some, eq-eqb, refl, sym, ap, ◌∙◌, subst, inl, inr, arith}
+use Rattle.std.proofs.Common.{◌≡◌, ◌≢◌, ℕ, zero, suc, get_or, ◌+◌, ◌-◌, ◌^◌, ◌<◌, List, [], ◌∷◌, Bool, true, false, ◌||◌, ◌==◌, not, length, slice_get, Some, refl, sym, ap, ◌∙◌, subst, inl, inr, arith}
 use Rattle.std.specs.Cmp.{both_ways}
 use Rattle.std.specs.List.{Contains}
-use Rattle.std.proofs.lemmas.Bool.{and_from, eqb-false, eqb-true, false≢true, ne_eqb}
+use Rattle.std.proofs.lemmas.Bool.{and_from, eqb-false, false≢true, ne_eqb}
 use Rattle.std.proofs.lemmas.Bool.Decides.{eqb_tells, nat_tests}
 use Rattle.std.proofs.lemmas.Option.{same_Some}
 use Rattle.np_addr.specs.Addresses.{IsAddress, family_of}
@@ -25,12 +25,12 @@ use Rattle.np_lint.specs.declared.rule_ref.Tier.{Tier}
 use Rattle.np_lint.specs.declared.used_rules.UsedRules.{UsedRules}
 use Rattle.np_lint.specs.steps.Kinds.{AreKindPods, is_asked, pod_kind}
 use Rattle.np_lint.specs.steps.Known.{is_known}
-use Rattle.np_lint.specs.steps.Search.{AllAreUsed, AreUsed, Finds, IsSound, Knows, KnowsAll, KnowsPods, KnowsSide, KnowsSides, PodsAreUsed, ref_of}
+use Rattle.np_lint.specs.steps.Search.{AllAreUsed, AreUsed, Finds, IsSound, Knows, KnowsPods, KnowsSide, KnowsSides, PodsAreUsed, ref_of}
 use Rattle.np_policies.specs.declared.direction.Direction.{Direction}
 use Rattle.np_rules.proofs.AddressLemmas.{place_parts}
 use Rattle.np_rules.specs.Ends.{address, pod}
 use Rattle.np_rules.specs.EveryAddress.{Place, address_of, is_place, spot_of}
-use Rattle.np_rules.specs.PodSides.{side_of, with_addresses, with_pod}
+use Rattle.np_rules.specs.PodSides.{side_of, with_addresses}
 use Rattle.np_rules.specs.Verdict.{pod_at}
 use Rattle.np_rules.specs.declared.packet.End.{End}
 use Rattle.np_rules.specs.declared.packet.End.TheVariants.{Pod, At}

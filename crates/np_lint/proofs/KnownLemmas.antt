@@ -1,5 +1,5 @@
 -- What is known after marks were noted.
-use Rattle.std.proofs.Common.{◌≡◌, ◌⊎◌, ◌↔◌, ℕ, ◌+◌, ◌<◌, List, [], ◌∷◌, Bool, true, false, ◌||◌, IsTrue, length, get_or, take, Option, All, refl, sym, ap, ◌∙◌, subst, inl, inr, map, filter, if◌then◌else◌, cond}
+use Rattle.std.proofs.Common.{◌≡◌, ◌⊎◌, ◌↔◌, ℕ, ◌+◌, ◌<◌, List, [], ◌∷◌, Bool, true, false, ◌||◌, IsTrue, length, get_or, take, Option, All, refl, sym, ap, ◌∙◌, inl, inr, map, filter, if◌then◌else◌}
 use Rattle.std.specs.List.{Any, list_any}
 use Rattle.std.proofs.lemmas.Bool.{false≢true}
 use Rattle.std.proofs.lemmas.List.Folds.{Any-from_list_any, list_any_more}
@@ -7,7 +7,7 @@ use Rattle.np_lint.specs.declared.flags.Flags.{Flags}
 use Rattle.np_lint.specs.declared.rule_ref.Tier.{Tier}
 use Rattle.np_lint.specs.declared.rule_ref.Tier.TheVariants.{Admin, Net, Base}
 use Rattle.np_lint.specs.declared.used_rules.UsedRules.{UsedRules}
-use Rattle.np_lint.specs.steps.Known.{base_place, flag_at, is_known, is_met, marks, net_place, some_marks}
+use Rattle.np_lint.specs.steps.Known.{base_place, flag_at, is_known, is_met, marks, net_place}
 use Rattle.np_rules.specs.declared.rule_ids.LayerRules.{LayerRules}
 use Rattle.np_rules.specs.declared.rule_ids.RuleId.{RuleId}
 use Rattle.np_tiers.specs.Entries.{admin_place}

@@ -1,5 +1,5 @@
 -- Unused rules decide nothing.
-use Rattle.std.proofs.Common.{◌≡◌, ◌↔◌, ℕ, zero, suc, ◌<◌, List, [], ◌∷◌, ◌++◌, Bool, true, false, ◌==◌, not, filter, length, get_or, Option, Some, None, All, refl, sym, ap, ◌∙◌, subst, arith, if◌then◌else◌}
+use Rattle.std.proofs.Common.{◌≡◌, ◌↔◌, ℕ, zero, suc, ◌<◌, List, [], ◌∷◌, Bool, true, false, ◌==◌, not, filter, length, get_or, Option, Some, None, All, refl, sym, ap, ◌∙◌, arith, if◌then◌else◌}
 use Rattle.std.specs.List.{Contains}
 use Rattle.std.specs.Option.{option_map_or}
 use Rattle.std.specs.Str.{bytes_eq}
@@ -16,7 +16,7 @@ use Rattle.np_explain.specs.Sides.{decider_between}
 use Rattle.np_lint.proofs.PacketLemmas.{is_used_by, used_by}
 use Rattle.np_lint.proofs.RuleListLemmas.{rule_is_listed, rules_are_rules}
 use Rattle.np_lint.specs.Rules.{IsRuleOf, all_rules, rule_name}
-use Rattle.np_lint.specs.Used.{IsListedPacket, StandsIn, is_used, rule_in, stands_in, unused_of}
+use Rattle.np_lint.specs.Used.{IsListedPacket, StandsIn, is_used, rule_in, unused_of}
 use Rattle.np_lint.specs.declared.rule_ref.RuleRef.{RuleRef}
 use Rattle.np_rules.specs.declared.decider.RuleName.{RuleName}
 use Rattle.np_rules.specs.declared.packet.End.{End}

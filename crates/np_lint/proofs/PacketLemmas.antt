@@ -1,7 +1,6 @@
 -- Used rules stand in what decides a packet between listed ends.
-use Rattle.std.proofs.Common.{◌≡◌, ◌≢◌, ℕ, ◌+◌, ◌<◌, ◌^◌, List, ◌++◌, Bool, true, false, ◌&&◌, ◌==◌, not, map, length, Option, Some, None, All, eq-eqb, refl, sym, ap, ◌∙◌, arith, inl, inr}
+use Rattle.std.proofs.Common.{◌≡◌, ℕ, ◌<◌, ◌^◌, List, ◌++◌, Bool, true, false, ◌==◌, not, map, length, All, refl, sym, ap, ◌∙◌, arith}
 use Rattle.std.specs.List.{Contains, list_any, range_with_len}
-use Rattle.std.specs.Option.{option_map_or}
 use Rattle.std.proofs.lemmas.Bool.{and_from, and_parts, false≢true, not-true}
 use Rattle.std.proofs.lemmas.Bool.Decides.{nat_tests}
 use Rattle.std.proofs.lemmas.List.Elements.{All-append, All-contains, Contains-append_left, Contains-append_right}
@@ -15,7 +14,7 @@ use Rattle.np_estate.specs.declared.lists.EstateLists.{EstateLists}
 use Rattle.np_explain.proofs.SpotLemmas.{all_spots-are_spots, all_spots-has}
 use Rattle.np_explain.specs.RightParts.{all_spots}
 use Rattle.np_explain.specs.Sides.{are_one_pod, decider_between, decider_near}
-use Rattle.np_lint.specs.Used.{IsListed, IsListedPacket, families_between, four_ends, is_used, is_used_between, is_used_in, listed_ends, pod_ends, rule_in, six_ends, stands_in}
+use Rattle.np_lint.specs.Used.{IsListed, IsListedPacket, families_between, four_ends, is_used, is_used_between, is_used_in, listed_ends, pod_ends, six_ends, stands_in}
 use Rattle.np_lint.specs.declared.rule_ref.RuleRef.{RuleRef}
 use Rattle.np_lint.specs.declared.rule_ref.Tier.{Tier}
 use Rattle.np_lint.specs.declared.rule_ref.Tier.TheVariants as tier

@@ -1,16 +1,15 @@
 -- All rules of an estate, and those that are not used.
-use Rattle.std.proofs.Common.{◌≡◌, ℕ, zero, suc, ◌+◌, ◌<◌, List, [], ◌∷◌, ◌++◌, Bool, true, false, ◌&&◌, ◌==◌, not, map, filter, length, get_or, slice_get, Option, Some, None, All, refl, sym, ap, ◌∙◌, subst, inl, inr, arith, if◌then◌else◌}
+use Rattle.std.proofs.Common.{◌≡◌, ℕ, zero, suc, ◌<◌, List, [], ◌∷◌, ◌++◌, Bool, true, false, ◌==◌, not, map, filter, length, get_or, slice_get, Option, Some, None, All, refl, sym, ap, ◌∙◌, subst, arith, if◌then◌else◌}
 use Rattle.std.specs.List.{Contains, flat_map, range_with_len}
 use Rattle.std.specs.Option.{option_map_or}
-use Rattle.std.proofs.lemmas.Bool.{eqb-true, false≢true}
-use Rattle.std.proofs.lemmas.List.Elements.{All-append, All-contains, All-head, All-nil, All-tail, Contains-append_left, Contains-append_right}
+use Rattle.std.proofs.lemmas.Bool.{eqb-true}
+use Rattle.std.proofs.lemmas.List.Elements.{All-append, All-nil, Contains-append_left, Contains-append_right}
 use Rattle.std.proofs.lemmas.List.FromFn.{get_or-map-range_with_len, get_or-range_with_len, length-map-range_with_len, length-range_with_len}
 use Rattle.std.proofs.lemmas.Option.{slice_get_within}
 use Rattle.np_classes.proofs.Lists.{filter_agree_on}
 use Rattle.np_estate.specs.declared.lists.EstateLists.{EstateLists}
 use Rattle.np_lint.specs.Rules.{IsRuleOf, admin_count, all_rules, base_count, net_count, policy_count, rule_count_at, rules_from, rules_of_policy, rules_of_tier}
 use Rattle.np_lint.specs.Used.{is_used, unused_of}
-use Rattle.np_lint.specs.declared.rule_ref.RuleRef.{RuleRef}
 use Rattle.np_lint.specs.declared.rule_ref.Tier.{Tier}
 use Rattle.np_lint.specs.declared.rule_ref.Tier.TheVariants.{Admin, Net, Base}
 use Rattle.np_lint.specs.declared.used_rules.UsedRules.{UsedRules}

@@ -1,26 +1,25 @@
 -- What a layer of a side tells of the rules that are used.
-use Rattle.std.proofs.Common.{◌≡◌, ◌⊎◌, ℕ, ◌<◌, List, [], ◌∷◌, Bool, true, false, map, Option, refl, sym, ap, ◌∙◌, inl, inr}
+use Rattle.std.proofs.Common.{◌≡◌, ◌⊎◌, ℕ, ◌<◌, List, [], ◌∷◌, Bool, true, false, map, refl, sym, ap, ◌∙◌, inl, inr}
 use Rattle.std.specs.Option.{option_map_or}
 use Rattle.std.proofs.lemmas.Bool.{and_parts}
 use Rattle.np_estate.specs.Lawful.{IsLawful}
 use Rattle.np_explain.specs.Marks.{IsMarkOf, admin_rules, base_rules, mark_decider, net_rules}
 use Rattle.np_explain.specs.RightParts.{same_rule}
-use Rattle.np_lint.proofs.NameLemmas.{mark_rule, met_flagged, met_named, name_met}
+use Rattle.np_lint.proofs.NameLemmas.{mark_rule, met_flagged, met_named}
 use Rattle.np_lint.proofs.WalkLemmas.{mark_named}
-use Rattle.np_lint.specs.Rules.{policy_name_at, rule_count_at, rule_name}
-use Rattle.np_lint.specs.Used.{rule_in, stands_in}
+use Rattle.np_lint.specs.Rules.{rule_count_at, rule_name}
+use Rattle.np_lint.specs.Used.{stands_in}
 use Rattle.np_lint.specs.declared.rule_ref.Tier.{Tier}
 use Rattle.np_lint.specs.declared.rule_ref.Tier.TheVariants as tier
 use Rattle.np_lint.specs.declared.used_rules.UsedRules.{UsedRules}
-use Rattle.np_lint.specs.steps.Known.{all_known, are_known, flag_at, flags_of, ids_of, is_known, is_met, marks, place_in}
+use Rattle.np_lint.specs.steps.Known.{all_known, flag_at, flags_of, ids_of, is_known, is_met, marks, place_in}
 use Rattle.np_lint.specs.steps.Search.{AllAreUsed, AreRulesOf, AreUsed, IsSound, Knows, KnowsAll, ref_of, side_decider}
-use Rattle.np_rules.specs.Ends.{Contact, pod}
+use Rattle.np_rules.specs.Ends.{Contact}
 use Rattle.np_rules.specs.Layers.{IsAdminPart, IsBasePart, IsLayer, IsSetOf, Pairwise, matches_of, tier_action}
 use Rattle.np_rules.specs.NetTier.{is_isolated}
 use Rattle.np_rules.specs.PodSides.{PodSide, near_pod}
 use Rattle.np_rules.specs.Rules.{admin_rule_matches}
 use Rattle.np_rules.specs.Sides.{is_allow}
-use Rattle.np_rules.specs.declared.decider.Decider.{Decider}
 use Rattle.np_rules.specs.declared.rule_ids.LayerRules.{LayerRules}
 use Rattle.np_tiers.specs.Marks.{mark_of}
 use Rattle.np_tiers.specs.declared.layer.Layer.{Layer}

@@ -1,5 +1,5 @@
 -- Steps of the search: what was known stays known.
-use Rattle.std.proofs.Common.{◌≡◌, ℕ, ◌+◌, ◌<◌, ◌≤◌, List, [], ◌∷◌, ◌++◌, Bool, true, false, not, filter, length, get_or, slice_get, take, Option, Some, None, Result, Ok, Err, OnOk, append-nil, refl, sym, ap, ◌∙◌, subst, inl, inr, arith, if◌then◌else◌}
+use Rattle.std.proofs.Common.{◌≡◌, ℕ, ◌+◌, ◌<◌, ◌≤◌, List, [], ◌∷◌, ◌++◌, Bool, true, false, filter, length, get_or, slice_get, take, Some, Result, Ok, Err, OnOk, append-nil, sym, ap, ◌∙◌, subst, inl, inr, arith, if◌then◌else◌}
 use Rattle.std.specs.List.{Contains}
 use Rattle.std.proofs.lemmas.Bool.{cases_order}
 use Rattle.std.proofs.lemmas.List.Elements.{filter_more}
@@ -13,13 +13,12 @@ use Rattle.np_lint.proofs.SearchLemmas.{knows_side}
 use Rattle.np_lint.specs.declared.kind_pods.KindPod.{KindPod}
 use Rattle.np_lint.specs.declared.rule_ref.Tier.{Tier}
 use Rattle.np_lint.specs.declared.used_rules.UsedRules.{UsedRules}
-use Rattle.np_lint.specs.steps.Kinds.{AreKindPods, is_asked}
+use Rattle.np_lint.specs.steps.Kinds.{is_asked}
 use Rattle.np_lint.specs.steps.Known.{all_known, is_known}
 use Rattle.np_lint.specs.steps.Search.{AllAreUsed, AreRulesOf, Grows, IsSound, Knows, KnowsAll, KnowsPods, KnowsSide, KnowsSides, PodsAreUsed}
 use Rattle.np_policies.specs.declared.direction.Direction.{Direction}
 use Rattle.np_rules.specs.Ends.{Contact}
 use Rattle.np_rules.specs.EveryAddress.{is_place}
-use Rattle.np_rules.specs.LayerRules.{NamesAdmin, NamesBase, NamesNet}
 use Rattle.np_rules.specs.PodSides.{PodSide, side_of, with_addresses, with_pod}
 use Rattle.np_rules.specs.declared.rule_ids.LayerRules.{LayerRules}
 

@@ -1,6 +1,6 @@
 -- The rules of a side, where some are taken out of the estate.
-use Rattle.std.proofs.Common.{◌≡◌, ℕ, zero, suc, ◌+◌, ◌<◌, List, [], ◌∷◌, ◌++◌, Bool, true, false, ◌&&◌, ◌||◌, not, map, filter, find, is_some, length, nat_lt, Option, Some, None, All, refl, sym, subst, ap, ◌∙◌, arith, unwrap_or, if◌then◌else◌}
-use Rattle.std.specs.List.{enumerate_from, flat_map, list_any, slice_get}
+use Rattle.std.proofs.Common.{◌≡◌, ℕ, ◌+◌, ◌<◌, List, [], ◌∷◌, ◌++◌, Bool, true, false, ◌&&◌, ◌||◌, not, map, filter, is_some, length, Option, Some, None, All, refl, sym, ap, ◌∙◌, arith, unwrap_or, if◌then◌else◌}
+use Rattle.std.specs.List.{enumerate_from, flat_map, slice_get}
 use Rattle.std.specs.Option.{option_map, option_map_or}
 use Rattle.std.proofs.lemmas.List.{map-append}
 use Rattle.std.proofs.lemmas.List.Elements.{All-append, All-cons, All-nil, filter-append}

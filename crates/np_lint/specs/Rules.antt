@@ -1,5 +1,5 @@
 -- The rules of an estate, by their places, and their texts.
-use Rattle.std.specs.Prelude.{ℕ, ◌<◌, List, [], ◌∷◌, ◌++◌, codes, map, length, ◌==◌, Option, Some, None, unwrap_or, if◌then◌else◌}
+use Rattle.std.specs.Prelude.{ℕ, ◌<◌, List, [], ◌++◌, codes, map, length, ◌==◌, unwrap_or, if◌then◌else◌}
 use Rattle.std.specs.List.{flat_map, range_with_len, slice_get}
 use Rattle.std.specs.Option.{option_map_or}
 use Rattle.np_estate.specs.declared.lists.EstateLists.{EstateLists}

@@ -3,7 +3,6 @@ use Rattle.std.specs.Prelude.{◌≡◌, ℕ, ◌<◌, ◌^◌, List, [], ◌∷
 use Rattle.std.specs.List.{Contains, list_any, range_with_len}
 use Rattle.std.specs.Option.{option_map_or}
 use Rattle.np_addr.specs.Addresses.{IsAddress, family_of}
-use Rattle.np_addr.specs.declared.address.Address.{Address}
 use Rattle.np_addr.specs.declared.address.Address.TheVariants.{Four, Six}
 use Rattle.np_addr.specs.declared.address.Family.{Family}
 use Rattle.np_conns.specs.Conns.{is_spot}

@@ -1,5 +1,5 @@
 -- Estates without some of their rules. Policies stay, also with no rule left, and so do the types of NetworkPolicies.
-use Rattle.std.specs.Prelude.{ℕ, List, map, filter, Bool, true, false, ◌&&◌, ◌==◌, not, Option}
+use Rattle.std.specs.Prelude.{ℕ, List, map, filter, Bool, true, false, ◌&&◌, ◌==◌, not}
 use Rattle.std.specs.List.{enumerate_from, list_any}
 use Rattle.std.specs.Option.{option_map}
 use Rattle.np_estate.specs.declared.lists.EstateLists.{EstateLists}

@@ -1,4 +1,4 @@
-use Rattle.std.proofs.Common.{◌≡◌, false, get_or, slice_get, subst, List, Some, arith}
+use Rattle.std.proofs.Common.{◌≡◌, false, get_or, slice_get, subst, List, Some}
 use Rattle.std.specs.List.{Contains}
 use Rattle.std.proofs.lemmas.Option.{slice_get-get_or}
 use Rattle.np_addr.specs.declared.address.Family.{Family}

@@ -1,6 +1,5 @@
-use Rattle.std.proofs.Common.{◌≡◌, ℕ, ◌∙◌, ap, ◌||◌, ◌&&◌, ◌==◌, Bool}
+use Rattle.std.proofs.Common.{◌∙◌, ap, ◌||◌, ◌&&◌, ◌==◌, Bool}
 use Rattle.std.proofs.lemmas.Result.{IfOk-weaker}
-use Rattle.np_lint.specs.steps.Known.{flag_at, flag_in, flag_of}
 use Rattle.np_lint.proofs.FlagLemmas.{flag_in-set}
 use Rattle.np_lint.proofs.flags.Flags.set.Goals as goal
 
