@@ -11,7 +11,7 @@ ghost use Rattle.np_rules.specs.EveryAddress.{is_place};
 ghost use Rattle.np_rules.specs.PodSides.{side_of, with_addresses, with_pod};
 
 use crate::kind_pods::{KindPod, kind_pods};
-use crate::used_rules::{UsedRules, knows_all, none_known, note_layer};
+use crate::used_rules::UsedRules;
 use np_addr::Family;
 use np_base::NoMemory;
 use np_estate::Estate;
@@ -35,7 +35,7 @@ pub(crate) fn used_rules<L: Ledger>(
 {
     let estate = folded.estate();
     let kinds = kind_pods(alloc, folded)?;
-    let mut used = none_known(alloc);
+    let mut used = UsedRules::none(alloc);
     for near in 0..kinds.len() {
         search_side(alloc, estate, &kinds, near, direction, &mut used, steps)?;
     }
@@ -95,11 +95,11 @@ fn search_addresses<L: Ledger>(
     ensures finds { OnOk result (KnowsAll is_place side.now with_addresses used.new) }
     ensures least { steps.old ≤ steps.new }
 {
-    if knows_all(used, rules) {
+    if used.has_all(rules) {
         return Ok(());
     }
     let layer = side.address_layer(alloc, steps)?;
-    note_layer(alloc, &layer, rules, used)
+    used.note_layer(alloc, &layer, rules)
 }
 
 // Looks for the rules of a side with the pods of all kinds as far ends, in packets of some families.
@@ -152,7 +152,7 @@ fn search_pods<L: Ledger>(
     ensures least { steps.old ≤ steps.new }
 {
     for (kind, far) in kinds.iter().enumerate() {
-        if knows_all(used, rules) {
+        if used.has_all(rules) {
             return Ok(());
         }
         let asked = is_asked(near, kind, far);
@@ -193,5 +193,5 @@ fn search_pod<L: Ledger>(
         return Ok(());
     }
     let layer = side.pod_layer(alloc, far, family, steps)?;
-    note_layer(alloc, &layer, rules, used)
+    used.note_layer(alloc, &layer, rules)
 }

@@ -6,7 +6,7 @@ ghost use Rattle.np_lint.specs.steps.Search.{is_known_by};
 use crate::all_rules::all_rules;
 use crate::rule_ref::RuleRef;
 use crate::search::used_rules;
-use crate::used_rules::{UsedRules, knows};
+use crate::used_rules::UsedRules;
 use np_base::{NoMemory, Seq};
 use np_fold::Folded;
 use np_policies::Direction;
@@ -64,7 +64,7 @@ fn is_known(rule: &RuleRef, ingress: &UsedRules, egress: &UsedRules) -> bool
         place,
     } = *rule;
     match direction {
-        Direction::Ingress => knows(ingress, tier, policy, place),
-        Direction::Egress => knows(egress, tier, policy, place),
+        Direction::Ingress => ingress.has(tier, policy, place),
+        Direction::Egress => egress.has(tier, policy, place),
     }
 }

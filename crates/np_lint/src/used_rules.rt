@@ -20,101 +20,98 @@ pub struct UsedRules {
     pub base: Flags,
 }
 
-/// No rule is known to be used. It takes no memory.
-#[tactic(auto, unfolding(crate::specs::steps::Known::is_known))]
-pub(crate) fn none_known(alloc: Global) -> UsedRules
-    ensures { (tier : SpecTier) (policy place : ℕ) → is_known result tier policy place ≡ false }
-{
-    UsedRules {
-        admin: Flags::none(alloc),
-        net: Flags::none(alloc),
-        base: Flags::none(alloc),
+impl UsedRules {
+    /// No rule is known to be used. It takes no memory.
+    #[tactic(auto, unfolding(crate::specs::steps::Known::is_known))]
+    pub(crate) fn none(alloc: Global) -> UsedRules
+        ensures { (tier : SpecTier) (policy place : ℕ) → is_known result tier policy place ≡ false }
+    {
+        UsedRules {
+            admin: Flags::none(alloc),
+            net: Flags::none(alloc),
+            base: Flags::none(alloc),
+        }
+    }
+
+    /// Whether a rule is known to be used.
+    #[tactic(auto, unfolding(crate::specs::steps::Known::is_known))]
+    pub(crate) fn has(&self, tier: Tier, policy: u32, place: u64) -> bool
+        ensures { result ≡ is_known self.now tier policy place }
+    {
+        match tier {
+            Tier::Admin => self.admin.has(policy, place),
+            Tier::Net => self.net.has(policy, place),
+            Tier::Base => self.base.has(policy, place),
+        }
+    }
+
+    /// Whether all rules of a side are known to be used.
+    #[tactic(auto, unfolding(crate::specs::steps::Known::all_known))]
+    pub(crate) fn has_all(&self, rules: &LayerRules) -> bool
+        ensures { result ≡ all_known self.now rules.now }
+    {
+        has_each(&self.admin, rules.admin.items())
+            && has_each(&self.net, rules.net.items())
+            && has_each(&self.base, rules.base.items())
+    }
+
+    /// Notes all rules that decide some spot of a layer, or pass it on. The rules are those of the layer, place by place.
+    pub(crate) fn note_layer<S: Cells>(
+        &mut self,
+        alloc: Global,
+        layer: &Layer<S>,
+        rules: &LayerRules,
+    ) -> Result<(), NoMemory>
+        ensures grows { OnOk result ((tier : SpecTier) (policy place : ℕ) →
+            is_known self.old tier policy place ≡ true → is_known self.new tier policy place ≡ true) }
+        ensures finds { OnOk result ((tier : SpecTier) (policy place : ℕ) (spot : S.Spot) → S.in_space spot ≡ true →
+            marks rules.now tier policy place (mark_of (λ set. S.has set spot) layer.now) ≡ true →
+            is_known self.new tier policy place ≡ true) }
+        ensures only { OnOk result ((tier : SpecTier) (policy place : ℕ) → is_known self.new tier policy place ≡ true →
+            (is_known self.old tier policy place ≡ true) ⊎ ((spot : S.Spot) × (S.in_space spot ≡ true)
+            × (marks rules.now tier policy place (mark_of (λ set. S.has set spot) layer.now) ≡ true))) }
+    {
+        let entries = carve(alloc, layer)?;
+        self.note_entries(alloc, entries.items(), rules)
+    }
+
+    // Notes the rules that the marks of entries name.
+    fn note_entries<S>(
+        &mut self,
+        alloc: Global,
+        entries: &[Marked<S>],
+        rules: &LayerRules,
+    ) -> Result<(), NoMemory>
+        ensures { OnOk result ((tier : SpecTier) (policy place : ℕ) → is_known self.new tier policy place
+            ≡ (is_known self.old tier policy place || some_marks rules.now tier policy place entries.now)) }
+    {
+        for entry in entries {
+            self.note_mark(alloc, entry.mark, rules)?;
+        }
+        Ok(())
+    }
+
+    // Notes the rules that a mark names.
+    fn note_mark(&mut self, alloc: Global, mark: Mark, rules: &LayerRules) -> Result<(), NoMemory>
+        ensures { OnOk result ((tier : SpecTier) (policy place : ℕ) → is_known self.new tier policy place
+            ≡ (is_known self.old tier policy place || marks rules.now tier policy place mark)) }
+    {
+        note(
+            alloc,
+            &mut self.admin,
+            rules.admin.items(),
+            admin_place(mark),
+        )?;
+        note(alloc, &mut self.net, rules.net.items(), net_place(mark))?;
+        note(alloc, &mut self.base, rules.base.items(), base_place(mark))
     }
 }
 
-/// Whether a rule is known to be used.
-#[tactic(auto, unfolding(crate::specs::steps::Known::is_known))]
-pub(crate) fn knows(used: &UsedRules, tier: Tier, policy: u32, place: u64) -> bool
-    ensures { result ≡ is_known used.now tier policy place }
-{
-    match tier {
-        Tier::Admin => used.admin.has(policy, place),
-        Tier::Net => used.net.has(policy, place),
-        Tier::Base => used.base.has(policy, place),
-    }
-}
-
-/// Whether all rules of a side are known to be used.
-#[tactic(auto, unfolding(crate::specs::steps::Known::all_known))]
-pub(crate) fn knows_all(used: &UsedRules, rules: &LayerRules) -> bool
-    ensures { result ≡ all_known used.now rules.now }
-{
-    knows_each(&used.admin, rules.admin.items())
-        && knows_each(&used.net, rules.net.items())
-        && knows_each(&used.base, rules.base.items())
-}
-
-// Whether all rules of a tier are.
-fn knows_each(flags: &Flags, ids: &[RuleId]) -> bool
+// Whether all rules of a tier are known to be used.
+fn has_each(flags: &Flags, ids: &[RuleId]) -> bool
     ensures { result ≡ are_known flags.now ids.now }
 {
     ids.iter().all(|id| flags.has(id.policy, id.place))
-}
-
-/// Notes all rules that decide some spot of a layer, or pass it on, as known. The rules are those of the layer, place by place.
-pub(crate) fn note_layer<S: Cells>(
-    alloc: Global,
-    layer: &Layer<S>,
-    rules: &LayerRules,
-    used: &mut UsedRules,
-) -> Result<(), NoMemory>
-    ensures grows { OnOk result ((tier : SpecTier) (policy place : ℕ) →
-        is_known used.old tier policy place ≡ true → is_known used.new tier policy place ≡ true) }
-    ensures finds { OnOk result ((tier : SpecTier) (policy place : ℕ) (spot : S.Spot) → S.in_space spot ≡ true →
-        marks rules.now tier policy place (mark_of (λ set. S.has set spot) layer.now) ≡ true →
-        is_known used.new tier policy place ≡ true) }
-    ensures only { OnOk result ((tier : SpecTier) (policy place : ℕ) → is_known used.new tier policy place ≡ true →
-        (is_known used.old tier policy place ≡ true) ⊎ ((spot : S.Spot) × (S.in_space spot ≡ true)
-        × (marks rules.now tier policy place (mark_of (λ set. S.has set spot) layer.now) ≡ true))) }
-{
-    let entries = carve(alloc, layer)?;
-    note_entries(alloc, entries.items(), rules, used)
-}
-
-// Notes the rules that the marks of entries name.
-fn note_entries<S>(
-    alloc: Global,
-    entries: &[Marked<S>],
-    rules: &LayerRules,
-    used: &mut UsedRules,
-) -> Result<(), NoMemory>
-    ensures { OnOk result ((tier : SpecTier) (policy place : ℕ) → is_known used.new tier policy place
-        ≡ (is_known used.old tier policy place || some_marks rules.now tier policy place entries.now)) }
-{
-    for entry in entries {
-        note_mark(alloc, entry.mark, rules, used)?;
-    }
-    Ok(())
-}
-
-// Notes the rules that a mark names.
-fn note_mark(
-    alloc: Global,
-    mark: Mark,
-    rules: &LayerRules,
-    used: &mut UsedRules,
-) -> Result<(), NoMemory>
-    ensures { OnOk result ((tier : SpecTier) (policy place : ℕ) → is_known used.new tier policy place
-        ≡ (is_known used.old tier policy place || marks rules.now tier policy place mark)) }
-{
-    note(
-        alloc,
-        &mut used.admin,
-        rules.admin.items(),
-        admin_place(mark),
-    )?;
-    note(alloc, &mut used.net, rules.net.items(), net_place(mark))?;
-    note(alloc, &mut used.base, rules.base.items(), base_place(mark))
 }
 
 // Notes the rule at a place of a tier, if there is one.

@@ -30,8 +30,8 @@ loop-kind-preserved g c =
       least = omega (arith, c.in_ok-search_pod.ensures.least, c.loop-kind.invariant.least);
     }
 
-pub returns-then-knows_all-clause-finds : goal.returns-then-knows_all-clause-finds
-returns-then-knows_all-clause-finds g c = all_pods_known c.args.side.now c.requires.lawful c.args.rules.now c.requires.rules c.args.kinds.now c.args.near c.args.family c.loop-kind.used c.knows_all.result c.knows_all.ensures c.if-knows_all.true
+pub returns-then-has_all-clause-finds : goal.returns-then-has_all-clause-finds
+returns-then-has_all-clause-finds g c = all_pods_known c.args.side.now c.requires.lawful c.args.rules.now c.requires.rules c.args.kinds.now c.args.near c.args.family c.loop-kind.used c.has_all.result c.has_all.ensures c.if-has_all.true
 
 pub returns-clause-finds : goal.returns-clause-finds
 returns-clause-finds g c = first_all c.args.side.now c.args.kinds.now c.args.near c.args.family c.loop-kind.used c.loop-kind.kind (omega arith) c.loop-kind.invariant.finds

@@ -5,7 +5,7 @@ use Rattle.np_lint.proofs.search.used_rules.Goals as goal
 
 pub loop-near-init : goal.loop-near-init
 loop-near-init g c = record {
-  sound = nothing_sound c.args.folded.now c.args.direction c.none_known-used.result c.none_known-used.ensures;
+  sound = nothing_sound c.args.folded.now c.args.direction c.none-used.result c.none-used.ensures;
   finds = λ near one low at. absurd (omega arith);
   least = omega arith;
 }
