@@ -1,0 +1,73 @@
+-- What is found in a list of which items are taken out.
+use Rattle.std.proofs.Common.{◌≡◌, ℕ, suc, ◌+◌, List, [], ◌∷◌, Bool, true, false, ◌||◌, map, filter, find, is_some, Option, Some, All, refl, sym, subst, ap, ◌∙◌, arith, if◌then◌else◌}
+use Rattle.std.specs.List.{list_any, slice_get}
+use Rattle.std.specs.Option.{option_map}
+use Rattle.std.proofs.lemmas.Bool.{false≢true}
+use Rattle.std.proofs.lemmas.List.Elements.{All-head, All-tail}
+
+-- the first item that passes is still found where it stays
+pub first_stays : {X : Type 0} (test keep : X → Bool) (xs : List X) → ((x : X) → find test xs ≡ Some x → keep x ≡ true) → find test (filter keep xs) ≡ find test xs
+first_stays test keep [] stays = refl
+first_stays {X} test keep (x ∷ xs) stays = go (test x) refl (keep x) refl (first_stays test keep xs)
+  where
+    choice : Bool → Option X
+    choice b = if b then Some x else find test xs
+
+    go : (b : Bool) → test x ≡ b → (c : Bool) → keep x ≡ c → (((y : X) → find test xs ≡ Some y → keep y ≡ true) → find test (filter keep xs) ≡ find test xs) → find test (if c then x ∷ filter keep xs else filter keep xs) ≡ choice b
+    go true is true kept later = ap (λ (b : Bool). if b then Some x else find test (filter keep xs)) is
+    go true is false gone later = absurd (false≢true (sym gone ∙ stays x (ap choice is)))
+    go false is true kept later = ap (λ (b : Bool). if b then Some x else find test (filter keep xs)) is ∙ later (λ y found. stays y (ap choice is ∙ found))
+    go false is false gone later = later (λ y found. stays y (ap choice is ∙ found))
+
+pub find_map : {X Y : Type 0} (f : X → Y) (test : Y → Bool) (xs : List X) → find test (map f xs) ≡ option_map f (find (λ x. test (f x)) xs)
+find_map f test [] = refl
+find_map {X} {Y} f test (x ∷ xs) = go (test (f x)) (find_map f test xs)
+  where
+    go : (b : Bool) → find test (map f xs) ≡ option_map f (find (λ y. test (f y)) xs) → (if b then Some (f x) else find test (map f xs)) ≡ option_map f (if b then Some x else find (λ y. test (f y)) xs)
+    go true rest = refl
+    go false rest = rest
+
+pub filter_map : {X Y : Type 0} (f : X → Y) (test : Y → Bool) (xs : List X) → filter test (map f xs) ≡ map f (filter (λ x. test (f x)) xs)
+filter_map f test [] = refl
+filter_map {X} {Y} f test (x ∷ xs) = go (test (f x)) (filter_map f test xs)
+  where
+    go : (b : Bool) → filter test (map f xs) ≡ map f (filter (λ y. test (f y)) xs) → (if b then f x ∷ filter test (map f xs) else filter test (map f xs)) ≡ map f (if b then x ∷ filter (λ y. test (f y)) xs else filter (λ y. test (f y)) xs)
+    go true rest = ap (λ (ys : List Y). f x ∷ ys) rest
+    go false rest = rest
+
+pub any_map : {X Y : Type 0} (f : X → Y) (test : Y → Bool) (xs : List X) → list_any test (map f xs) ≡ list_any (λ x. test (f x)) xs
+any_map f test [] = refl
+any_map f test (x ∷ xs) = ap (λ (b : Bool). test (f x) || b) (any_map f test xs)
+
+-- some item passes where one is found
+pub any_found : {X : Type 0} (test : X → Bool) (xs : List X) → list_any test xs ≡ is_some (find test xs)
+any_found test [] = refl
+any_found {X} test (x ∷ xs) = go (test x) (any_found test xs)
+  where
+    go : (b : Bool) → list_any test xs ≡ is_some (find test xs) → (b || list_any test xs) ≡ is_some (if b then Some x else find test xs)
+    go true rest = refl
+    go false rest = rest
+
+-- what holds of each item holds of the one that is found
+pub found_is : {X : Type 0} (P : X → Type 0) (test : X → Bool) (xs : List X) → All P xs → (x : X) → find test xs ≡ Some x → P x
+found_is P test [] all x found = cc
+found_is {X} P test (y ∷ xs) all x found = go (test y) found (found_is P test xs (All-tail P y xs all) x)
+  where
+    go : (b : Bool) → (if b then Some y else find test xs) ≡ Some x → (find test xs ≡ Some x → P x) → P x
+    go true is later = let same : y ≡ x = cc in subst P same (All-head P y xs all)
+    go false is later = later is
+
+-- ---- numbered items
+
+-- what stands at the places from n on
+abbrev pub StandsFrom : {X : Type 0} → List X → ℕ → List X → Type 0
+StandsFrom all n items = (k : ℕ) → slice_get all (n + k) ≡ slice_get items k
+
+pub stands_all : {X : Type 0} (all : List X) → StandsFrom all 0 all
+stands_all all k = let same : 0 + k ≡ k = omega arith in ap (slice_get all) same
+
+pub stands_first : {X : Type 0} (all : List X) (n : ℕ) (x : X) (items : List X) → StandsFrom all n (x ∷ items) → slice_get all n ≡ Some x
+stands_first all n x items stands = let same : n ≡ n + 0 = omega arith in ap (slice_get all) same ∙ stands 0
+
+pub stands_rest : {X : Type 0} (all : List X) (n : ℕ) (x : X) (items : List X) → StandsFrom all n (x ∷ items) → StandsFrom all (n + 1) items
+stands_rest all n x items stands k = let same : n + 1 + k ≡ n + suc k = omega arith in ap (slice_get all) same ∙ stands (suc k)

@@ -1,0 +1,49 @@
+use Rattle.std.proofs.Common.{◌≡◌, false, get_or, slice_get, subst, List, Some}
+use Rattle.std.specs.List.{Contains}
+use Rattle.std.proofs.lemmas.Option.{slice_get-get_or}
+use Rattle.np_addr.specs.declared.address.Family.{Family}
+use Rattle.np_lint.proofs.FindLemmas.{addresses_listed, pods_listed}
+use Rattle.np_lint.proofs.KindPodLemmas.{own_kind}
+use Rattle.np_lint.proofs.StepLemmas.{both_ok, by_side, side_known}
+use Rattle.np_lint.proofs.search.search_side.Goals as goal
+use Rattle.np_lint.specs.declared.kind_pods.KindPod.{KindPod}
+use Rattle.np_lint.specs.steps.Search.{AllAreUsed, PodsAreUsed}
+use Rattle.np_rules.specs.EveryAddress.{is_place}
+use Rattle.np_rules.specs.PodSides.{with_addresses}
+
+pub layer_rules-requires-clause-pod : goal.layer_rules-requires-clause-pod
+layer_rules-requires-clause-pod g c =
+    let none : KindPod = record { pod = 0; is_shared = false } in
+    let first = get_or c.args.kinds.now c.args.near none in
+    let at : slice_get c.args.kinds.now c.args.near ≡ Some first = slice_get-get_or c.args.kinds.now c.args.near none c.requires.near in
+    (own_kind c.args.estate.now c.requires.lawful c.args.kinds.now c.requires.kinds c.args.near first at).0
+
+pub of-requires : goal.of-requires
+of-requires g c =
+    let none : KindPod = record { pod = 0; is_shared = false } in
+    let first = get_or c.args.kinds.now c.args.near none in
+    let at : slice_get c.args.kinds.now c.args.near ≡ Some first = slice_get-get_or c.args.kinds.now c.args.near none c.requires.near in
+    (own_kind c.args.estate.now c.requires.lawful c.args.kinds.now c.requires.kinds c.args.near first at).0
+
+pub search_addresses-requires-clause-listed : goal.search_addresses-requires-clause-listed
+search_addresses-requires-clause-listed g c =
+    let none : KindPod = record { pod = 0; is_shared = false } in
+    let first = get_or c.args.kinds.now c.args.near none in
+    let at : slice_get c.args.kinds.now c.args.near ≡ Some first = slice_get-get_or c.args.kinds.now c.args.near none c.requires.near in
+    by_side (λ s. AllAreUsed is_place s with_addresses) c.in_ok-side.side c.args.estate.now first.pod c.args.direction c.in_ok-side.ensures (addresses_listed c.args.estate.now c.requires.lawful c.args.kinds.now c.requires.kinds c.args.direction c.args.near first at)
+
+pub search_families-requires-clause-listed : goal.search_families-requires-clause-listed
+search_families-requires-clause-listed g c = λ family has.
+    let none : KindPod = record { pod = 0; is_shared = false } in
+    let first = get_or c.args.kinds.now c.args.near none in
+    let at : slice_get c.args.kinds.now c.args.near ≡ Some first = slice_get-get_or c.args.kinds.now c.args.near none c.requires.near in
+    by_side (λ s. PodsAreUsed s c.args.kinds.now c.args.near family) c.in_ok-side.side c.args.estate.now first.pod c.args.direction c.in_ok-side.ensures (pods_listed c.args.estate.now c.requires.lawful c.args.kinds.now c.requires.kinds c.args.direction c.args.near first at family (subst (λ (all : List Family). Contains all family) c.families.ensures has))
+
+pub returns-clause-finds : goal.returns-clause-finds
+returns-clause-finds g c =
+    let none : KindPod = record { pod = 0; is_shared = false } in
+    let first = get_or c.args.kinds.now c.args.near none in
+    let at : slice_get c.args.kinds.now c.args.near ≡ Some first = slice_get-get_or c.args.kinds.now c.args.near none c.requires.near in
+    both_ok c.search_families.result _ _ _
+    (λ grows pods one at_one. side_known c.in_ok-side.side c.args.estate.now c.args.kinds.now c.args.near first one c.args.direction c.families.result.now c.search_addresses.new.used c.search_families.new.used c.in_ok-side.ensures c.families.ensures at grows c.in_ok-search_addresses.ensures.finds pods at_one)
+    c.search_families.ensures.grows c.search_families.ensures.finds

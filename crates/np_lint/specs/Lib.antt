@@ -1,0 +1,4 @@
+pub mod Rules
+pub mod Used
+pub mod Without
+pub mod steps

@@ -1,0 +1,98 @@
+-- What a search for used rules has found.
+use Rattle.std.specs.Prelude.{◌≡◌, ℕ, ◌<◌, List, Bool, true, Some, slice_get}
+use Rattle.std.specs.List.{Contains}
+use Rattle.np_addr.specs.declared.address.Family.{Family}
+use Rattle.np_conns.specs.Conns.{is_spot}
+use Rattle.np_estate.specs.Families.{families_of}
+use Rattle.np_estate.specs.declared.lists.EstateLists.{EstateLists}
+use Rattle.np_explain.specs.Marks.{admin_rules, base_rules, net_rules}
+use Rattle.np_lint.specs.Rules.{rule_count_at}
+use Rattle.np_lint.specs.Used.{is_used, stands_in}
+use Rattle.np_lint.specs.declared.kind_pods.KindPod.{KindPod}
+use Rattle.np_lint.specs.declared.rule_ref.RuleRef.{RuleRef}
+use Rattle.np_lint.specs.declared.rule_ref.Tier.{Tier}
+use Rattle.np_lint.specs.declared.used_rules.UsedRules.{UsedRules}
+use Rattle.np_lint.specs.steps.Kinds.{is_asked}
+use Rattle.np_lint.specs.steps.Known.{is_known}
+use Rattle.np_policies.specs.declared.direction.Direction.{Direction}
+use Rattle.np_policies.specs.declared.direction.Direction.TheVariants.{Ingress, Egress}
+use Rattle.np_rules.specs.Deciders.{decider}
+use Rattle.np_rules.specs.Ends.{Contact, pod}
+use Rattle.np_rules.specs.EveryAddress.{is_place}
+use Rattle.np_rules.specs.LayerRules.{NamesAdmin, NamesBase, NamesNet}
+use Rattle.np_rules.specs.Layers.{Pairwise}
+use Rattle.np_rules.specs.PodSides.{PodSide, near_pod, side_of, with_addresses, with_pod}
+use Rattle.np_rules.specs.declared.decider.Decider.{Decider}
+use Rattle.np_rules.specs.declared.rule_ids.LayerRules.{LayerRules}
+
+-- ---- rules of one direction
+
+abbrev pub ref_of : Direction → Tier → ℕ → ℕ → RuleRef
+ref_of direction tier policy place = record { tier = tier; policy = policy; direction = direction; place = place }
+
+-- what was known stays known
+abbrev pub Grows : UsedRules → UsedRules → Type 0
+Grows old new = (tier : Tier) (policy place : ℕ) → is_known old tier policy place ≡ true → is_known new tier policy place ≡ true
+
+-- the rules of the estate that are known are used
+unfoldable pub IsSound : EstateLists → Direction → UsedRules → Type 0
+IsSound lists direction used = (tier : Tier) (policy place : ℕ) → place < rule_count_at lists tier direction policy → is_known used tier policy place ≡ true → is_used lists (ref_of direction tier policy place) ≡ true
+
+-- the rules of the estate that stand in a decider are known
+unfoldable pub Knows : EstateLists → Direction → UsedRules → Decider → Type 0
+Knows lists direction used decides = (tier : Tier) (policy place : ℕ) → place < rule_count_at lists tier direction policy → stands_in lists (ref_of direction tier policy place) decides ≡ true → is_known used tier policy place ≡ true
+
+-- they are used
+unfoldable pub AreUsed : EstateLists → Direction → Decider → Type 0
+AreUsed lists direction decides = (tier : Tier) (policy place : ℕ) → place < rule_count_at lists tier direction policy → stands_in lists (ref_of direction tier policy place) decides ≡ true → is_used lists (ref_of direction tier policy place) ≡ true
+
+-- ---- one side
+
+-- the rules are those of the side, place by place
+pub record AreRulesOf (side : PodSide) (rules : LayerRules) : Type 0 where
+  pub admin : Pairwise (NamesAdmin side.lists.admin_policies) rules.admin (admin_rules side)
+  pub net : Pairwise (NamesNet side.lists.net_policies) rules.net (net_rules side)
+  pub base : Pairwise NamesBase rules.base (base_rules side)
+
+-- what decides something that the side looks at
+abbrev pub side_decider : PodSide → Contact → Decider
+side_decider side looks_at = decider side.lists side.direction (pod (near_pod side)) looks_at
+
+-- whatever stands in what decides there is known
+abbrev pub KnowsAll : {Spot : Type 0} → (Spot → Bool) → PodSide → (PodSide → Spot → Contact) → UsedRules → Type 0
+KnowsAll {Spot} in_space side looks_at used = (spot : Spot) → in_space spot ≡ true → Knows side.lists side.direction used (side_decider side (looks_at side spot))
+
+-- it is used
+abbrev pub AllAreUsed : {Spot : Type 0} → (Spot → Bool) → PodSide → (PodSide → Spot → Contact) → Type 0
+AllAreUsed {Spot} in_space side looks_at = (spot : Spot) → in_space spot ≡ true → AreUsed side.lists side.direction (side_decider side (looks_at side spot))
+
+-- ---- the side of a kind
+
+-- so it is with all kinds as far ends, in packets of a family
+unfoldable pub KnowsPods : PodSide → List KindPod → ℕ → Family → UsedRules → Type 0
+KnowsPods side kinds near family used = (kind : ℕ) (far : KindPod) → slice_get kinds kind ≡ Some far → is_asked near kind far ≡ true → KnowsAll is_spot side (with_pod far.pod family) used
+
+-- what decides there is used
+unfoldable pub PodsAreUsed : PodSide → List KindPod → ℕ → Family → Type 0
+PodsAreUsed side kinds near family = (kind : ℕ) (far : KindPod) → slice_get kinds kind ≡ Some far → is_asked near kind far ≡ true → AllAreUsed is_spot side (with_pod far.pod family)
+
+-- with all addresses, and with all kinds in each family of the estate
+pub record KnowsSide (side : PodSide) (kinds : List KindPod) (near : ℕ) (used : UsedRules) : Type 0 where
+  pub addresses : KnowsAll is_place side with_addresses used
+  pub pods : (family : Family) → Contains (families_of side.lists.pods) family → KnowsPods side kinds near family used
+
+-- so it is for all kinds
+unfoldable pub KnowsSides : EstateLists → Direction → List KindPod → UsedRules → Type 0
+KnowsSides lists direction kinds used = (near : ℕ) (one : KindPod) → slice_get kinds near ≡ Some one → KnowsSide (side_of lists one.pod direction) kinds near used
+
+-- the rules of the direction that are known are those that are used
+unfoldable pub Finds : EstateLists → Direction → UsedRules → Type 0
+Finds lists direction used = (tier : Tier) (policy place : ℕ) → place < rule_count_at lists tier direction policy → is_known used tier policy place ≡ is_used lists (ref_of direction tier policy place)
+
+-- whether a rule is known, by what is known of its direction
+abbrev pub known_in : UsedRules → UsedRules → Direction → UsedRules
+known_in ingress egress Ingress = ingress
+known_in ingress egress Egress = egress
+
+abbrev pub is_known_by : UsedRules → UsedRules → RuleRef → Bool
+is_known_by ingress egress rule = is_known (known_in ingress egress rule.direction) rule.tier rule.policy rule.place

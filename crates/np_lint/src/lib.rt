@@ -1,0 +1,17 @@
+//! The rules that decide nothing.
+#![tactic(auto)]
+
+mod all_rules;
+mod flags;
+mod kind_pods;
+mod laws;
+mod print;
+mod rule_ref;
+mod search;
+mod unused;
+mod used_rules;
+
+pub use laws::{unused_rules_change_nothing, unused_rules_decide_nothing};
+pub use print::print_rule;
+pub use rule_ref::{RuleRef, Tier};
+pub use unused::unused_rules;
