@@ -1,0 +1,2 @@
+pub mod StatementGrammar
+pub mod steps
