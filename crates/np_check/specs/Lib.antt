@@ -1,2 +1,6 @@
+pub mod Counters
+pub mod Firsts
+pub mod Numbers
+pub mod Order
 pub mod StatementGrammar
 pub mod steps

@@ -1,10 +1,22 @@
 //! Statements about a cluster: what must be allowed or denied between some ends, and the first packet that breaks one.
 #![tactic(auto)]
 
+mod addresses;
+mod asked;
+mod checking;
+mod counter;
 mod laws;
+mod order;
+mod pairs;
+mod question;
 mod read;
+mod statement;
 mod statement_text;
 
+pub use checking::check;
+pub use counter::{Counter, PlaceEnd};
 pub use laws::one_statement_of_a_line;
+pub use question::{Ends, Question};
 pub use read::read_statement;
+pub use statement::{IsDestination, IsSource, Statement};
 pub use statement_text::{EndForm, StatementFault, StatementText, Wanted};
