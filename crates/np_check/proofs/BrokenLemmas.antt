@@ -38,6 +38,10 @@ range_same gives gives' low (suc count) same =
     ap (λ first. option_or first (first_of gives (range_with_len (low + 1) count))) (same low (omega arith) (omega arith))
     ∙ ap (λ rest. option_or (gives' low) rest) (range_same gives gives' (low + 1) count (λ n above below. same n (omega arith) (omega arith)))
 
+pub upto-none : {Y : Type 0} (gives : ℕ → Option Y) (count : ℕ) → ((n : ℕ) → gives n ≡ None) → upto gives count ≡ None
+unfolding upto
+upto-none gives count none = first_of-none gives (range_with_len 0 count) none
+
 -- the addresses of a family in a set
 pub addresses_upto : {Y : Type 0} (set : AddressRanges) (address : ℕ → Address) (gives : Address → Option Y) (count : ℕ) → first_of gives (addresses_in set address count) ≡ upto (λ n. if set_has set (address n) then gives (address n) else None) count
 unfolding upto addresses_in
@@ -50,9 +54,12 @@ addresses_upto set address gives count =
 abbrev broken_with : (ℕ → Address) → List (Range ℕ) → Option PortSpot → ℕ → Option Broken
 broken_with address ranges spot n = if holds (λ a. a) ranges n then option_map (λ s. record { address = address n; spot = s }) spot else None
 
-none_with : (address : ℕ → Address) (ranges : List (Range ℕ)) (n : ℕ) (here : Bool) → (if here then option_map (λ s. record { address = address n; spot = s }) None else None) ≡ None
-none_with address ranges n true = refl
-none_with address ranges n false = refl
+abbrev broken_by : Address → PortSpot → Broken
+broken_by address spot = record { address = address; spot = spot }
+
+none_with : (address : ℕ → Address) (n : ℕ) (here : Bool) → (if here then option_map (λ (s : PortSpot). broken_by (address n) s) None else None) ≡ None
+none_with address n true = refl
+none_with address n false = refl
 
 with_none : (address : Option Address) → with_spot address None ≡ None
 with_none None = refl
@@ -61,7 +68,7 @@ with_none (Some address) = refl
 -- where the same is broken at each number of a range, the first number of the ranges in it is the first address
 in_range : (address : ℕ → Address) (ranges : List (Range ℕ)) (spot : Option PortSpot) (low count : ℕ) → first_of (broken_with address ranges spot) (range_with_len low count) ≡ with_spot (option_map address (find (holds (λ a. a) ranges) (range_with_len low count))) spot
 in_range address ranges None low count =
-    first_of-none (broken_with address ranges None) (range_with_len low count) (λ n. none_with address ranges n (holds (λ a. a) ranges n))
+    first_of-none (broken_with address ranges None) (range_with_len low count) (λ n. none_with address n (holds (λ a. a) ranges n))
     ∙ sym (with_none (option_map address (find (holds (λ a. a) ranges) (range_with_len low count))))
 in_range address ranges (Some spot) low zero = refl
 in_range address ranges (Some spot) low (suc count) =

@@ -11,7 +11,7 @@ or_or : {Y : Type 0} (a b c : Option Y) → option_or a (option_or b c) ≡ opti
 or_or None b c = refl
 or_or (Some y) b c = refl
 
-or_none : {Y : Type 0} (a : Option Y) → option_or a None ≡ a
+pub or_none : {Y : Type 0} (a : Option Y) → option_or a None ≡ a
 or_none None = refl
 or_none (Some y) = refl
 
@@ -75,7 +75,7 @@ first_of-from P gives (x ∷ xs) y all found =
       | inr later ↦ first_of-from P gives xs y (All-tail P x xs all) later
     ]
 
-none_both : {Y : Type 0} (first rest : Option Y) → option_or first rest ≡ None → (first ≡ None) × (rest ≡ None)
+pub none_both : {Y : Type 0} (first rest : Option Y) → option_or first rest ≡ None → (first ≡ None) × (rest ≡ None)
 none_both None rest none = (refl, none)
 none_both (Some y) rest none = absurd (none_some y (sym none))
 

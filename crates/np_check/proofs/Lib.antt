@@ -1,6 +1,12 @@
+pub mod AddressLemmas
+pub mod BrokenLemmas
 pub mod CutLemmas
 pub mod EndLemmas
 pub mod FirstLemmas
+pub mod MergeLemmas
 pub mod NumberLemmas
 pub mod OneStatement
+pub mod PairLemmas
+pub mod RangeLemmas
 pub mod SpotLemmas
+pub mod WholeLemmas

@@ -67,10 +67,13 @@ breaks wanted conns allowed spot = has_spot conns spot && not (complies wanted (
 
 -- ---- the first that breaks it
 
+abbrev pub counter_at : PlaceEnd → PlaceEnd → Family → PortSpot → Counter
+counter_at source destination family spot = record { source = source; destination = destination; family = family; spot = spot }
+
 -- between two ends in a family, by protocol and port
 abbrev pub counter_in : EstateLists → Wanted → Conns → PlaceEnd → PlaceEnd → Family → Option Counter
 counter_in lists wanted conns source destination family =
-    option_map (λ spot. record { source = source; destination = destination; family = family; spot = spot })
+    option_map (counter_at source destination family)
     (first_spot (breaks wanted conns (allows_between lists source destination family)))
 
 -- between two ends, by family: IPv4 before IPv6

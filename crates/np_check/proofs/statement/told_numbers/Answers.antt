@@ -1,4 +1,4 @@
-use Rattle.std.proofs.Common.{◌≡◌, true, false, sym, ap, ◌∙◌, arith}
+use Rattle.std.proofs.Common.{◌≡◌, ℕ, List, [], ◌∷◌, ◌++◌, true, false, sym, ap, ◌∙◌, arith}
 use Rattle.std.specs.Prelude.{filter}
 use Rattle.std.specs.List.{range_with_len}
 use Rattle.np_check.proofs.NumberLemmas.{among-is, told_no, told_yes}
@@ -14,7 +14,7 @@ loop-number-preserved g c = λ works tells.
       | then-tell+in_ok-push w ↦
           let among : is_among works c.loop-number.number ≡ true = sym answer ∙ w.if-tell.true in
           let more = told_yes works c.loop-number.number among in
-          cc
+          ap (λ (told : _). told.items) w.told-is ∙ w.in_ok-push.ensures.items ∙ ap (λ (told : List ℕ). told ++ c.loop-number.number ∷ []) before ∙ sym more
       | else-tell w ↦
           let among : is_among works c.loop-number.number ≡ false = sym answer ∙ w.if-tell.false in
           let more = told_no works c.loop-number.number among in
