@@ -18,7 +18,7 @@ pub returns-then-is_some-clause-counter : goal.returns-then-is_some-clause-count
 returns-then-is_some-clause-counter g c =
     let apart : is_alone (folding_of c.args.folded.now) c.args.sender.now.work c.args.receiver.now.work ≡ false = ap (λ (folding : Folding). is_alone folding c.args.sender.now.work c.args.receiver.now.work) (sym c.workloads.ensures.value) ∙ sym c.is_alone.ensures ∙ c.if-is_alone.false in
     let families = c.families-family-items.ensures ∙ ap (λ (lists : EstateLists). families_of lists.pods) c.estate.ensures.value in
-    found_at (counter_in c.args.folded.now c.args.asked.now.wanted c.args.asked.now.conns.now (Work c.args.sender.now.work) (Work c.args.receiver.now.work)) c.families-family-items.result.now c.loop-family.family-index Four c.in_ok-found.found c.loop-family-test.true c.loop-family.invariant.0 ? (sym c.is_some.ensures ∙ c.if-is_some.true)
+    found_at (counter_in c.args.folded.now c.args.asked.now.wanted c.args.asked.now.conns.now (Work c.args.sender.now.work) (Work c.args.receiver.now.work)) c.families-family-items.result.now c.loop-family.family-index Four c.in_ok-found.found c.loop-family-test.true c.loop-family.invariant.0 c.in_ok-found.ensures.counter (sym c.is_some.ensures ∙ c.if-is_some.true)
     ∙ between-apart c.args.folded.now c.args.asked.now.wanted c.args.asked.now.conns.now c.args.sender.now.work c.args.receiver.now.work c.families-family-items.result.now apart families
 
 pub returns-clause-counter : goal.returns-clause-counter

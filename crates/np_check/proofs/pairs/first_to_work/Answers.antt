@@ -1,4 +1,4 @@
-use Rattle.std.proofs.Common.{◌≡◌, ◌<◌, ℕ, true, false, None, refl, sym, ap, subst, ◌∙◌, slice_index}
+use Rattle.std.proofs.Common.{◌≡◌, ◌<◌, ◌==◌, ◌&&◌, if◌then◌else◌, ℕ, true, false, None, refl, sym, ap, subst, ◌∙◌, slice_index}
 use Rattle.np_check.proofs.PairLemmas.{none_of_is, settled-more}
 use Rattle.np_check.specs.Counters.{counter_between}
 use Rattle.np_check.specs.steps.Pairs.{AreSettled, has_pair, kind_of}
@@ -28,7 +28,11 @@ returns-clause-settled g c =
     let receives : c.kind_of-2.result ≡ kind_of c.args.folded.now c.args.receiver.now.work = c.kind_of-2.ensures ∙ ap (λ (f : Folding). slice_index f.kinds c.args.receiver.now.work) c.workloads-workloads.ensures.value in
     elim c.if-is_none.branch [
       | then-is_none+then-sender-receiver+in_ok-insert w ↦
-          let a = w.in_ok-insert.ensures.updates in let b = w.if-is_none.true in let d = w.if-sender-receiver.true in let e = w.settled-is in
-          ?
-      | else-is_none w ↦ let e = w.settled-is in ?
+          let none = none_of_is c.in_ok-found.found (counter_between c.args.folded.now c.args.asked.now.wanted c.args.asked.now.conns.now (Work c.args.sender.now.work) (Work c.args.receiver.now.work)) c.is_none.result c.is_none.ensures w.if-is_none.true c.in_ok-found.ensures.counter in
+          let has : (i j : ℕ) → has_pair w.insert.new.self.keys i j ≡ (if (kind_of c.args.folded.now c.args.sender.now.work == i) && (kind_of c.args.folded.now c.args.receiver.now.work == j) then true else has_pair c.args.settled.now.keys i j) = λ i j.
+          w.in_ok-insert.ensures.updates.0 (i, j)
+          ∙ ap (λ (k : ℕ). if (k == i) && (c.kind_of-2.result == j) then true else has_pair c.args.settled.now.keys i j) sends
+          ∙ ap (λ (k : ℕ). if (kind_of c.args.folded.now c.args.sender.now.work == i) && (k == j) then true else has_pair c.args.settled.now.keys i j) receives in
+          rw w.settled-is (settled-more c.args.folded.now c.args.asked.now.wanted c.args.asked.now.conns.now c.args.settled.now.keys w.insert.new.self.keys c.args.sender.now.work c.args.receiver.now.work c.workloads-workloads.ensures.lawful c.requires.sender.work c.requires.receiver.work w.if-sender-receiver.true none has c.requires.settled)
+      | else-is_none w ↦ rw w.settled-is c.requires.settled
     ]
