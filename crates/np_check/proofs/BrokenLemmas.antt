@@ -3,7 +3,7 @@ use Rattle.std.proofs.Common.{◌≡◌, ℕ, zero, suc, ◌+◌, ◌-◌, ◌^�
 use Rattle.std.specs.Prelude.{filter}
 use Rattle.std.specs.List.{find, range_with_len}
 use Rattle.std.specs.Option.{option_or}
-use Rattle.std.proofs.lemmas.Bool.{cases_Bool}
+use Rattle.std.proofs.lemmas.Bool.{cases_Bool, cases_eq}
 use Rattle.np_addr.specs.Blocks.{AddressRanges, IsAddressSet, set_has}
 use Rattle.np_addr.specs.declared.address.Address.{Address}
 use Rattle.np_addr.specs.declared.address.Address.TheVariants.{Four, Six}
@@ -11,7 +11,7 @@ use Rattle.np_addr.specs.declared.address.Family.{Family}
 use Rattle.np_addr.specs.declared.address.Family.TheVariants as family
 use Rattle.np_base.specs.Ranges.{IsAscending, holds}
 use Rattle.np_base.specs.declared.range.Range.{Range}
-use Rattle.np_check.proofs.FirstLemmas.{first_of-append, first_of-filter, first_of-map, first_of-none, first_of-same, range-append}
+use Rattle.np_check.proofs.FirstLemmas.{first_of-append, first_of-filter, first_of-map, first_of-none, none_both, range-append}
 use Rattle.np_check.proofs.RangeLemmas.{first_number-is}
 use Rattle.np_check.proofs.SpotLemmas.{breaks-same}
 use Rattle.np_check.specs.Counters.{addresses_in, addresses_of, breaks}
@@ -41,6 +41,29 @@ range_same gives gives' low (suc count) same =
 pub upto-none : {Y : Type 0} (gives : ℕ → Option Y) (count : ℕ) → ((n : ℕ) → gives n ≡ None) → upto gives count ≡ None
 unfolding upto
 upto-none gives count none = first_of-none gives (range_with_len 0 count) none
+
+range_below : {Y : Type 0} (gives : ℕ → Option Y) (low count : ℕ) → ((n : ℕ) → low ≤ n → n < low + count → gives n ≡ None) → first_of gives (range_with_len low count) ≡ None
+range_below gives low zero none = refl
+range_below gives low (suc count) none =
+    ap (λ first. option_or first (first_of gives (range_with_len (low + 1) count))) (none low (omega arith) (omega arith))
+    ∙ range_below gives (low + 1) count (λ n above below. none n (omega arith) (omega arith))
+
+range_each : {Y : Type 0} (gives : ℕ → Option Y) (low count n : ℕ) → first_of gives (range_with_len low count) ≡ None → low ≤ n → n < low + count → gives n ≡ None
+range_each gives low zero n none above below = absurd (omega arith)
+range_each gives low (suc count) n none above below =
+    let both = none_both (gives low) (first_of gives (range_with_len (low + 1) count)) none in
+    elim (cases_eq low n) [
+      | inl here ↦ ap gives (sym here) ∙ both.0
+      | inr other ↦ range_each gives (low + 1) count n both.1 (omega arith) (omega arith)
+    ]
+
+pub upto-below : {Y : Type 0} (gives : ℕ → Option Y) (count : ℕ) → ((n : ℕ) → n < count → gives n ≡ None) → upto gives count ≡ None
+unfolding upto
+upto-below gives count none = range_below gives 0 count (λ n above below. none n (omega arith))
+
+pub upto-each : {Y : Type 0} (gives : ℕ → Option Y) (count n : ℕ) → upto gives count ≡ None → n < count → gives n ≡ None
+unfolding upto
+upto-each gives count n none below = range_each gives 0 count n none (omega arith) (omega arith)
 
 -- the addresses of a family in a set
 pub addresses_upto : {Y : Type 0} (set : AddressRanges) (address : ℕ → Address) (gives : Address → Option Y) (count : ℕ) → first_of gives (addresses_in set address count) ≡ upto (λ n. if set_has set (address n) then gives (address n) else None) count

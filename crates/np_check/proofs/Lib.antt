@@ -3,7 +3,9 @@ pub mod BrokenLemmas
 pub mod CutLemmas
 pub mod EndLemmas
 pub mod FirstLemmas
+pub mod HoldLemmas
 pub mod MergeLemmas
+pub mod NoneLemmas
 pub mod NumberLemmas
 pub mod OneStatement
 pub mod PairLemmas

@@ -1,5 +1,6 @@
 pub mod Counters
 pub mod Firsts
+pub mod Holding
 pub mod Numbers
 pub mod Order
 pub mod StatementGrammar

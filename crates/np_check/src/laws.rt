@@ -1,10 +1,24 @@
 //! What follows from the definitions. Each law is the contract of a call that does nothing.
-ghost use Rattle.std.specs.Prelude.{◌≡◌, ℕ, List};
+ghost use Rattle.std.specs.Prelude.{◌≡◌, ◌↔◌, ℕ, List, None, All};
+ghost use Rattle.np_check.specs.Counters.{counter_of};
+ghost use Rattle.np_check.specs.Holding.{Holds};
 ghost use Rattle.np_check.specs.StatementGrammar.{IsStatementText};
+ghost use Rattle.np_check.specs.declared.question.Question.{Question};
 ghost use Rattle.np_check.specs.declared.statement_text.StatementText.{StatementText};
+ghost use Rattle.np_estate.specs.Lawful.{IsLawful};
+ghost use Rattle.np_estate.specs.declared.lists.EstateLists.{EstateLists};
+ghost use Rattle.np_table.specs.Table.{IsWorkload};
 
 /// A line is the text of one statement at most.
 pub fn one_statement_of_a_line()
     ensures { (line : List ℕ) (statement other : StatementText) →
         IsStatementText line statement → IsStatementText line other → statement ≡ other }
+{}
+
+/// `check` finds nothing exactly where the statement holds: where every packet that it speaks of complies, between every
+/// two different pods of its workloads, and between every pod of them and every address of its blocks.
+pub fn nothing_is_found_where_a_statement_holds()
+    ensures { (lists : EstateLists) (question : Question) → IsLawful lists →
+        All (IsWorkload lists) question.source.works → All (IsWorkload lists) question.destination.works →
+        (counter_of lists question ≡ None) ↔ Holds lists question }
 {}
