@@ -19,13 +19,17 @@ use Rattle.np_check.specs.declared.counter.PlaceEnd.TheVariants.{At, Work}
 
 -- ---- addresses in their order
 
-abbrev IsBefore : Address → Address → Type 0
+abbrev pub IsBefore : Address → Address → Type 0
 IsBefore one other = address_before one other ≡ true
 
 -- each address stands before those behind it
 pub Ascends : List Address → Type 0
 Ascends [] = Unit {0}
 Ascends (x ∷ xs) = AllByRecursion (IsBefore x) xs × Ascends xs
+
+pub Ascends-parts : (x : Address) (xs : List Address) → Ascends (x ∷ xs) → AllByRecursion (IsBefore x) xs × Ascends xs
+unfolding Ascends
+Ascends-parts x xs ascends = ascends
 
 abbrev each_in : AddressRanges → (ℕ → Address) → ℕ → ℕ → List Address
 each_in set address low count = filter (set_has set) (map address (range_with_len low count))

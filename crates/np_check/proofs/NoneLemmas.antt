@@ -43,7 +43,7 @@ none_among gives (one ∷ numbers) n none among =
       | inr other ↦ none_among gives numbers n both.1 (rw other at among)
     ]
 
-or_second : (x y : Bool) → y ≡ true → (x || y) ≡ true
+pub or_second : (x y : Bool) → y ≡ true → (x || y) ≡ true
 or_second true y second = refl
 or_second false y second = second
 
@@ -68,7 +68,7 @@ pub none_map : {X Y : Type 0} (to : X → Y) (found : Option X) → option_map t
 none_map to None none = refl
 none_map to (Some x) none = cc
 
-no_port : (passes : PortSpot → Bool) (proto : Proto) (first count port : ℕ) → first_of_ports passes proto first count ≡ None → first ≤ port → port < first + count → passes (record { proto = proto; port = port }) ≡ false
+pub no_port : (passes : PortSpot → Bool) (proto : Proto) (first count port : ℕ) → first_of_ports passes proto first count ≡ None → first ≤ port → port < first + count → passes (record { proto = proto; port = port }) ≡ false
 unfolding first_of_ports
 no_port passes proto first count port none above below =
     none-found (λ n. passes (record { proto = proto; port = n })) first count (none_map (λ n. record { proto = proto; port = n }) _ none) port above below

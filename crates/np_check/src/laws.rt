@@ -1,8 +1,11 @@
 //! What follows from the definitions. Each law is the contract of a call that does nothing.
-ghost use Rattle.std.specs.Prelude.{◌≡◌, ◌↔◌, ℕ, List, None, All};
+ghost use Rattle.std.specs.Prelude.{◌≡◌, ◌↔◌, ℕ, List, None, Some, All, true};
 ghost use Rattle.np_check.specs.Counters.{counter_of};
+ghost use Rattle.np_check.specs.FirstPacket.{IsBroken, IsFirstBroken};
 ghost use Rattle.np_check.specs.Holding.{Holds};
+ghost use Rattle.np_check.specs.Numbers.{is_ascending};
 ghost use Rattle.np_check.specs.StatementGrammar.{IsStatementText};
+ghost use Rattle.np_check.specs.declared.counter.Counter.{Counter};
 ghost use Rattle.np_check.specs.declared.question.Question.{Question};
 ghost use Rattle.np_check.specs.declared.statement_text.StatementText.{StatementText};
 ghost use Rattle.np_estate.specs.Lawful.{IsLawful};
@@ -21,4 +24,13 @@ pub fn nothing_is_found_where_a_statement_holds()
     ensures { (lists : EstateLists) (question : Question) → IsLawful lists →
         All (IsWorkload lists) question.source.works → All (IsWorkload lists) question.destination.works →
         (counter_of lists question ≡ None) ↔ Holds lists question }
+{}
+
+/// What `check` finds breaks the statement, and no packet that does comes before it; and where it finds nothing, none does.
+pub fn the_first_packet_is_found()
+    ensures first { (lists : EstateLists) (question : Question) (packet : Counter) →
+        is_ascending question.source.works ≡ true → is_ascending question.destination.works ≡ true →
+        counter_of lists question ≡ Some packet → IsFirstBroken lists question packet }
+    ensures none { (lists : EstateLists) (question : Question) (packet : Counter) →
+        counter_of lists question ≡ None → IsBroken lists question packet → ⊥ }
 {}

@@ -15,7 +15,9 @@ mod statement_text;
 
 pub use checking::check;
 pub use counter::{Counter, PlaceEnd};
-pub use laws::{nothing_is_found_where_a_statement_holds, one_statement_of_a_line};
+pub use laws::{
+    nothing_is_found_where_a_statement_holds, one_statement_of_a_line, the_first_packet_is_found,
+};
 pub use question::{Ends, Question};
 pub use read::read_statement;
 pub use statement::{IsDestination, IsSource, Statement};
