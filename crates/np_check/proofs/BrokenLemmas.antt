@@ -1,6 +1,5 @@
 -- The first address with which a workload breaks a statement, by ranges and by single addresses.
-use Rattle.std.proofs.Common.{◌≡◌, ℕ, zero, suc, ◌+◌, ◌-◌, ◌^◌, ◌<◌, ◌≤◌, List, [], ◌∷◌, ◌++◌, Bool, true, false, Option, Some, None, map, option_map, refl, sym, ap, ◌∙◌, inl, inr, arith, if◌then◌else◌}
-use Rattle.std.specs.Prelude.{filter}
+use Rattle.std.proofs.Common.{◌≡◌, ℕ, zero, suc, ◌+◌, ◌-◌, ◌^◌, ◌<◌, ◌≤◌, List, [], ◌∷◌, Bool, true, false, Option, Some, None, map, option_map, refl, sym, ap, ◌∙◌, inl, inr, arith, if◌then◌else◌}
 use Rattle.std.specs.List.{find, range_with_len}
 use Rattle.std.specs.Option.{option_or}
 use Rattle.std.proofs.lemmas.Bool.{cases_Bool, cases_eq}
@@ -14,7 +13,7 @@ use Rattle.np_base.specs.declared.range.Range.{Range}
 use Rattle.np_check.proofs.FirstLemmas.{first_of-append, first_of-filter, first_of-map, first_of-none, none_both, range-append}
 use Rattle.np_check.proofs.RangeLemmas.{first_number-is}
 use Rattle.np_check.proofs.SpotLemmas.{breaks-same}
-use Rattle.np_check.specs.Counters.{addresses_in, addresses_of, breaks}
+use Rattle.np_check.specs.Counters.{addresses_in, breaks}
 use Rattle.np_check.specs.Firsts.{first_of, first_spot}
 use Rattle.np_check.specs.steps.Broken.{broken_at, broken_in, first_broken_of, first_number, with_spot}
 use Rattle.np_check.specs.declared.addresses.Broken.{Broken}
@@ -23,7 +22,7 @@ use Rattle.np_conns.specs.Conns.{Conns, has_spot}
 use Rattle.np_conns.specs.declared.port_spot.PortSpot.{PortSpot}
 use Rattle.np_table.proofs.RangeWalks.{walk-right}
 use Rattle.np_table.proofs.SetLemmas.{has_spot-conns_of}
-use Rattle.np_table.specs.Right.{AreRight, Stretch, conns_of, walk}
+use Rattle.np_table.specs.Right.{AreRight, Stretch, walk}
 use Rattle.np_table.specs.Rows.{address_row, four_of, rows_of_addresses, six_of}
 
 -- ---- numbers from 0 on

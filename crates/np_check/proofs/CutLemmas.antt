@@ -1,15 +1,14 @@
 -- Where a side of a line ends.
-use Rattle.std.proofs.Common.{◌≡◌, ◌≢◌, ℕ, suc, ◌+◌, ◌<◌, ◌≤◌, ◌==◌, List, [], ◌∷◌, ◌++◌, ◌⊎◌, Bool, true, false, Option, Some, None, MatchOption, length, take, drop, codes, refl, sym, ap, subst, ◌∙◌, inl, inr, append_assoc, arith, if◌then◌else◌}
+use Rattle.std.proofs.Common.{◌≡◌, ◌≢◌, ℕ, ◌+◌, ◌≤◌, List, [], ◌∷◌, ◌++◌, ◌⊎◌, Option, Some, None, MatchOption, length, take, drop, codes, sym, ap, ◌∙◌, inl, inr, append_assoc, arith}
 use Rattle.std.specs.Borrow.{Bor}
 use Rattle.std.specs.List.{AllByRecursion}
-use Rattle.std.specs.Option.{IsSomeAnd}
 use Rattle.std.specs.Str.Pattern.{FindsText}
 use Rattle.std.proofs.Math.Seq.{drop-append_seam}
 use Rattle.std.proofs.lemmas.Bool.{cases_lt}
 use Rattle.std.proofs.lemmas.List.{append_cancel_left, length-append}
 use Rattle.std.proofs.lemmas.Str.Pattern.{split_text_parts}
 use Rattle.np_check.specs.StatementGrammar.{Lacks}
-use Rattle.np_check.specs.steps.Cuts.{IsBefore, IsBehindFirst, IsMark, IsSide, IsWithout}
+use Rattle.np_check.specs.steps.Cuts.{IsBefore, IsBehindFirst, IsMark, IsWithout}
 
 -- ---- the first place of a mark
 

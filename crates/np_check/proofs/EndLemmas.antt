@@ -1,7 +1,7 @@
 -- What the texts of ends and of connections begin with, and what they lack.
-use Rattle.std.proofs.Common.{◌≡◌, ◌≢◌, ℕ, suc, ◌↔◌, MatchBool, get_or, ◌+◌, ◌<◌, ◌≤◌, ◌==◌, ◌&&◌, ◌||◌, not, nat_le, List, [], ◌∷◌, ◌++◌, ◌⊎◌, Bool, true, false, Some, All, length, codes, refl, sym, ap, subst, ◌∙◌, inl, inr, append_assoc, arith, if◌then◌else◌, lit≤}
+use Rattle.std.proofs.Common.{◌≡◌, ◌≢◌, ℕ, suc, ◌↔◌, MatchBool, get_or, ◌+◌, ◌<◌, ◌≤◌, ◌==◌, ◌&&◌, not, List, [], ◌∷◌, ◌++◌, Bool, true, false, Some, All, length, codes, refl, sym, ap, subst, ◌∙◌, inl, inr, append_assoc, arith, if◌then◌else◌, lit≤}
 use Rattle.std.specs.Char.{digit_value}
-use Rattle.std.specs.List.{AllByRecursion, flat_map, join_by, list_any}
+use Rattle.std.specs.List.{flat_map, join_by}
 use Rattle.std.specs.Str.Iter.{HasSubslice}
 use Rattle.std.proofs.lemmas.Bool.{and_parts, cases_Bool, eqb-true, true≢false}
 use Rattle.std.proofs.lemmas.List.{append_cancel_left}
@@ -10,7 +10,7 @@ use Rattle.np_addr.proofs.DottedLemmas.{dotted_others}
 use Rattle.np_addr.proofs.GrammarLemmas.{cidr_text_iff}
 use Rattle.np_addr.proofs.PieceLemmas.{IsOther, IsOther-from_digits}
 use Rattle.np_addr.specs.AddressGrammar.{cidr_of}
-use Rattle.np_addr.specs.TextForms.{AreGroups, IsAddressText, IsCidrText, IsColonHex, IsDotted, IsSide as IsGroupSide}
+use Rattle.np_addr.specs.TextForms.{AreGroups, IsAddressText, IsCidrText, IsDotted, IsSide as IsGroupSide}
 use Rattle.np_addr.specs.declared.address.Address.{Address}
 use Rattle.np_addr.specs.declared.address.Address.TheVariants.{Four, Six}
 use Rattle.np_addr.specs.declared.cidr.Cidr.{Cidr}

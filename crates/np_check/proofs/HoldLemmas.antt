@@ -1,23 +1,21 @@
 -- Nothing is found exactly where the statement holds.
-use Rattle.std.proofs.Common.{◌≡◌, ◌≢◌, ℕ, zero, suc, ◌+◌, ◌<◌, ◌≤◌, ◌==◌, ◌&&◌, ◌↔◌, nat_le, List, [], ◌∷◌, Bool, true, false, Option, Some, None, All, Contains, get_or, length, map, slice_index, refl, sym, ap, subst, ◌∙◌, inl, inr, arith, if◌then◌else◌}
+use Rattle.std.proofs.Common.{◌≡◌, ◌≢◌, ℕ, zero, suc, ◌+◌, ◌<◌, ◌≤◌, ◌==◌, ◌&&◌, nat_le, List, [], ◌∷◌, Bool, true, false, Option, Some, None, All, length, map, slice_index, refl, sym, ap, ◌∙◌, inl, inr, arith, if◌then◌else◌}
 use Rattle.std.specs.Prelude.{filter}
 use Rattle.std.specs.List.{range_with_len, slice_get}
 use Rattle.std.specs.Option.{option_map, option_map_or, option_or}
-use Rattle.std.proofs.lemmas.Bool.{and_from, and_parts, cases_Bool, cases_eq, eqb-true, le-leb, leb-true, ne_eqb, eq-eqb}
-use Rattle.std.proofs.lemmas.List.Elements.{All-contains}
+use Rattle.std.proofs.lemmas.Bool.{and_from, and_parts, cases_Bool, cases_eq, le-leb, leb-true, eq-eqb}
 use Rattle.std.proofs.lemmas.Option.{slice_get-map}
-use Rattle.np_addr.specs.Addresses.{IsAddress, family_of}
-use Rattle.np_addr.specs.Blocks.{set_has}
+use Rattle.np_addr.specs.Addresses.{family_of}
 use Rattle.np_addr.specs.declared.address.Address.{Address}
 use Rattle.np_addr.specs.declared.address.Family.{Family}
-use Rattle.np_classes.specs.Classes.{members, places}
+use Rattle.np_classes.specs.Classes.{members}
 use Rattle.np_check.proofs.FirstLemmas.{first_of-append, first_of-map, first_of-one, none_both}
 use Rattle.np_check.proofs.NoneLemmas.{among_all, both_none, is_whole, no_address, no_addresses, no_spot, no_spots, none_all, none_all_among, none_among, none_at, none_map, not_broken}
 use Rattle.np_check.proofs.PairLemmas.{between-alone, between-apart}
 use Rattle.np_check.proofs.WholeLemmas.{of-question}
 use Rattle.np_check.specs.Counters.{addresses_of, breaks, complies, counter_at, counter_between, counter_from, counter_in, counter_of, number_of_address}
 use Rattle.np_check.specs.Firsts.{first_of, first_spot}
-use Rattle.np_check.specs.Holding.{HasAddress, Holds, IsOf, SpeaksOf}
+use Rattle.np_check.specs.Holding.{HasAddress, Holds}
 use Rattle.np_check.specs.Numbers.{ascends_from, is_among}
 use Rattle.np_check.specs.declared.counter.Counter.{Counter}
 use Rattle.np_check.specs.declared.counter.PlaceEnd.{PlaceEnd}
@@ -33,11 +31,9 @@ use Rattle.np_estate.specs.declared.lists.EstateLists.{EstateLists}
 use Rattle.np_fold.specs.Workloads.{Workload, folding_of, first_of as first_named, members_of, named_first_pods, number_of, pods_alike, workload, workloads_of}
 use Rattle.np_names.specs.declared.named.Named.{Named}
 use Rattle.np_policies.specs.declared.direction.Direction.TheVariants.{Egress, Ingress}
-use Rattle.np_rules.specs.Ends.{pod}
-use Rattle.np_rules.specs.Verdict.{pod_at}
 use Rattle.np_table.proofs.MemberLemmas.{destination-member, member-number, members-some, members-within, not-alone, own-member, source-member}
 use Rattle.np_table.proofs.PairLemmas.{between_pods-pair_allows, pair_allows-between, with_address-address_allows}
-use Rattle.np_table.specs.Table.{IsWorkload, address_allows, between_pods, destination_pod, is_alone, pair_allows, source_pod, with_address}
+use Rattle.np_table.specs.Table.{IsWorkload, address_allows, destination_pod, is_alone, pair_allows, source_pod}
 
 -- ---- from a workload
 

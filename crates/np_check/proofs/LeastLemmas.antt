@@ -1,21 +1,19 @@
 -- What is found is the first packet that breaks the statement.
-use Rattle.std.proofs.Common.{◌≡◌, ◌≢◌, ℕ, ◌+◌, ◌<◌, ◌≤◌, ◌&&◌, nat_le, List, [], ◌∷◌, Bool, true, false, Option, Some, None, Contains, option_map, refl, sym, ap, subst, ◌∙◌, inl, inr, arith}
+use Rattle.std.proofs.Common.{◌≡◌, ℕ, ◌≤◌, nat_le, [], ◌∷◌, Bool, true, false, Option, Some, None, option_map, refl, sym, ap, subst, ◌∙◌, inl, inr, arith}
 use Rattle.std.proofs.lemmas.Bool.{and_from, and_parts, cases_Bool, cases_lt, le-leb, leb-true, true≢false}
 use Rattle.np_addr.specs.declared.address.Family.{Family}
 use Rattle.np_check.proofs.FirstLemmas.{IsFound, found-is}
 use Rattle.np_check.proofs.NoneLemmas.{no_port, no_spot, none_at, none_map}
-use Rattle.np_check.proofs.OrderLemmas.{IsFoundOf, IsIn, between_sorted, contains_in, found_of, in_contains, in_places, none_of_in, places_are, places_sorted, proto_in, protos_sorted, strict_ends, strict_families, strict_protos}
+use Rattle.np_check.proofs.OrderLemmas.{IsIn, between_sorted, contains_in, found_of, in_contains, in_places, none_of_in, places_are, places_sorted, proto_in, protos_sorted, strict_ends, strict_families, strict_protos}
 use Rattle.np_check.specs.Counters.{allows_between, breaks, counter_at, counter_between, counter_from, counter_in, counter_of, families_between, places_of}
-use Rattle.np_check.specs.FirstPacket.{IsBroken, IsEndOf, IsFirstBroken}
-use Rattle.np_check.specs.Firsts.{first_of, first_of_ports, first_of_proto, first_spot}
+use Rattle.np_check.specs.FirstPacket.{IsBroken, IsFirstBroken}
+use Rattle.np_check.specs.Firsts.{first_of_ports, first_of_proto, first_spot}
 use Rattle.np_check.specs.Numbers.{is_ascending}
 use Rattle.np_check.specs.Order.{comes_before, family_before, proto_before}
 use Rattle.np_check.specs.declared.counter.Counter.{Counter}
 use Rattle.np_check.specs.declared.counter.PlaceEnd.{PlaceEnd}
-use Rattle.np_check.specs.declared.question.Ends.{Ends}
 use Rattle.np_check.specs.declared.question.Question.{Question}
-use Rattle.np_check.specs.declared.statement_text.Wanted.{Wanted}
-use Rattle.np_conns.specs.Conns.{Conns, is_spot}
+use Rattle.np_conns.specs.Conns.{is_spot}
 use Rattle.np_conns.specs.declared.port_spot.PortSpot.{PortSpot}
 use Rattle.np_conns.specs.declared.proto.Proto.{Proto}
 use Rattle.np_conns.specs.declared.proto.Proto.TheVariants.{Tcp, Udp, Sctp}

@@ -1,5 +1,5 @@
 -- The first packet from addresses to several workloads, workload by workload.
-use Rattle.std.proofs.Common.{◌≡◌, ℕ, zero, suc, ◌+◌, ◌^◌, ◌<◌, ◌≤◌, List, [], ◌∷◌, ◌++◌, Bool, true, false, Option, Some, None, map, option_map, refl, sym, ap, ◌∙◌, inl, inr, arith, if◌then◌else◌}
+use Rattle.std.proofs.Common.{◌≡◌, ℕ, zero, suc, ◌+◌, ◌^◌, ◌<◌, ◌≤◌, List, [], ◌∷◌, ◌++◌, true, false, Option, Some, None, map, refl, sym, ap, ◌∙◌, inl, inr, arith}
 use Rattle.std.specs.Prelude.{filter}
 use Rattle.std.specs.List.{AllByRecursion, range_with_len}
 use Rattle.std.specs.Option.{option_or}
@@ -15,7 +15,7 @@ use Rattle.np_check.specs.Order.{address_before, comes_before}
 use Rattle.np_check.specs.steps.Broken.{earlier}
 use Rattle.np_check.specs.declared.counter.Counter.{Counter}
 use Rattle.np_check.specs.declared.counter.PlaceEnd.{PlaceEnd}
-use Rattle.np_check.specs.declared.counter.PlaceEnd.TheVariants.{At, Work}
+use Rattle.np_check.specs.declared.counter.PlaceEnd.TheVariants.{At}
 
 -- ---- addresses in their order
 

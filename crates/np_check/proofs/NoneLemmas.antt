@@ -1,6 +1,5 @@
 -- Where nothing is found, nothing is to be found.
-use Rattle.std.proofs.Common.{◌≡◌, ◌≢◌, ℕ, zero, suc, ◌+◌, ◌^◌, ◌<◌, ◌≤◌, ◌==◌, ◌||◌, ◌&&◌, not, nat_le, List, [], ◌∷◌, ◌++◌, Bool, true, false, Option, Some, None, All, Contains, length, option_map, refl, sym, ap, subst, ◌∙◌, inl, inr, arith, if◌then◌else◌}
-use Rattle.std.specs.List.{find, range_with_len}
+use Rattle.std.proofs.Common.{◌≡◌, ℕ, suc, ◌+◌, ◌^◌, ◌<◌, ◌≤◌, ◌==◌, ◌||◌, ◌&&◌, not, nat_le, List, [], ◌∷◌, Bool, true, false, Option, Some, None, All, Contains, option_map, refl, sym, ap, subst, ◌∙◌, inl, inr, arith, if◌then◌else◌}
 use Rattle.std.specs.Option.{option_or}
 use Rattle.std.proofs.lemmas.Bool.{and_from, and_parts, cases_Bool, eq-eqb, eqb-true, le-leb, leb-true, or_left, true≢false}
 use Rattle.std.proofs.lemmas.List.Elements.{All-contains, All-head, All-tail}
@@ -8,7 +7,7 @@ use Rattle.np_addr.specs.Addresses.{IsAddress}
 use Rattle.np_addr.specs.Blocks.{AddressRanges, set_has}
 use Rattle.np_addr.specs.declared.address.Address.{Address}
 use Rattle.np_addr.specs.declared.address.Address.TheVariants.{Four, Six}
-use Rattle.np_check.proofs.BrokenLemmas.{addresses_upto, upto, upto-below, upto-each}
+use Rattle.np_check.proofs.BrokenLemmas.{addresses_upto, upto-below, upto-each}
 use Rattle.np_check.proofs.FirstLemmas.{find-none, first_of-append, none-found, none_both, none_each}
 use Rattle.np_check.specs.Counters.{addresses_in, addresses_of, breaks, complies}
 use Rattle.np_check.specs.Firsts.{first_of, first_of_ports, first_of_proto, first_spot}

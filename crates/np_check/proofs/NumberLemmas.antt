@@ -1,8 +1,8 @@
 -- Numbers that are told.
-use Rattle.std.proofs.Common.{◌≡◌, ℕ, zero, suc, ◌+◌, ◌<◌, ◌≤◌, ◌==◌, List, [], ◌∷◌, ◌++◌, Bool, true, false, All, ◌||◌, ◌&&◌, nat_le, refl, sym, ap, ◌∙◌, inl, inr, arith, append-nil, zero-add, if◌then◌else◌}
+use Rattle.std.proofs.Common.{◌≡◌, ℕ, zero, suc, ◌+◌, ◌<◌, ◌≤◌, ◌==◌, List, [], ◌∷◌, ◌++◌, Bool, true, false, All, ◌||◌, nat_le, refl, sym, ap, ◌∙◌, inl, inr, arith, append-nil, zero-add}
 use Rattle.std.specs.Prelude.{filter}
 use Rattle.std.specs.List.{range_with_len}
-use Rattle.std.proofs.lemmas.Bool.{and_parts, cases_Bool, cases_eq, le-leb, leb-true, ne_eqb, eq-eqb, or_from, or_left, and_from}
+use Rattle.std.proofs.lemmas.Bool.{and_parts, cases_eq, le-leb, leb-true, ne_eqb, eq-eqb, or_from, or_left, and_from}
 use Rattle.std.proofs.lemmas.List.Elements.{All-head, All-tail, All-weaker, filter-append}
 use Rattle.np_check.proofs.FirstLemmas.{range-append}
 use Rattle.np_check.specs.Numbers.{ascends_from, is_among, is_ascending}

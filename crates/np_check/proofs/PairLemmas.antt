@@ -1,5 +1,5 @@
 -- The first packet between two ends.
-use Rattle.std.proofs.Common.{◌≡◌, ℕ, suc, ◌+◌, ◌<◌, ◌≤◌, ◌==◌, ◌&&◌, List, [], ◌∷◌, ◌++◌, Bool, true, false, Option, Some, None, All, drop, get_or, length, map, option_map, is_some, not, slice_index, refl, sym, ap, ◌∙◌, arith, inl, inr, if◌then◌else◌}
+use Rattle.std.proofs.Common.{◌≡◌, ℕ, suc, ◌<◌, ◌≤◌, ◌==◌, ◌&&◌, List, [], ◌∷◌, Bool, true, false, Option, Some, None, All, drop, get_or, length, map, option_map, is_some, not, refl, sym, ap, ◌∙◌, inl, inr, if◌then◌else◌}
 use Rattle.std.specs.Option.{option_or}
 use Rattle.std.proofs.Math.Seq.{drop-cons}
 use Rattle.std.proofs.lemmas.List.{drop_all}
@@ -11,13 +11,11 @@ use Rattle.np_check.proofs.SpotLemmas.{breaks-same}
 use Rattle.np_check.specs.Counters.{addresses_of, breaks, counter_at, counter_between, counter_from, counter_in}
 use Rattle.np_check.specs.Firsts.{first_of, first_spot}
 use Rattle.np_check.specs.steps.Pairs.{AreSettled, IsSide, has_pair, kind_of, side_with}
-use Rattle.np_check.specs.declared.counter.Counter.{Counter}
-use Rattle.np_check.specs.declared.counter.PlaceEnd.{PlaceEnd}
 use Rattle.np_check.specs.declared.counter.PlaceEnd.TheVariants.{At, Work}
 use Rattle.np_check.specs.declared.pairs.Side.{Side}
 use Rattle.np_check.specs.declared.question.Ends.{Ends}
 use Rattle.np_check.specs.declared.statement_text.Wanted.{Wanted}
-use Rattle.np_conns.specs.Conns.{Conns, has_spot, is_spot}
+use Rattle.np_conns.specs.Conns.{Conns, has_spot}
 use Rattle.np_conns.specs.declared.port_spot.PortSpot.{PortSpot}
 use Rattle.np_estate.specs.Families.{families_of}
 use Rattle.np_estate.specs.Lawful.{IsLawful}

@@ -1,9 +1,9 @@
 -- The first number of some ranges among those from one to another.
-use Rattle.std.proofs.Common.{◌≡◌, ℕ, zero, suc, ◌+◌, ◌<◌, ◌≤◌, List, [], ◌∷◌, Bool, true, false, Option, Some, None, max, nat_le, ◌||◌, refl, sym, ap, ◌∙◌, inl, inr, arith, if◌then◌else◌}
+use Rattle.std.proofs.Common.{◌≡◌, ℕ, ◌+◌, ◌<◌, ◌≤◌, List, [], ◌∷◌, Bool, true, false, max, nat_le, ◌||◌, refl, ap, ◌∙◌, inl, inr, arith}
 use Rattle.std.specs.List.{find, range_with_len}
 use Rattle.std.proofs.lemmas.Bool.{cases_lt, le-leb, lt-leb, or_left}
 use Rattle.np_base.proofs.Ranges.{holds-before, is_within-inside, is_within-past}
-use Rattle.np_base.specs.Ranges.{IsAscending, holds, is_within}
+use Rattle.np_base.specs.Ranges.{IsAscending, holds}
 use Rattle.np_base.specs.declared.range.Range.{Range}
 use Rattle.np_check.proofs.FirstLemmas.{find-at, find-none, find-same}
 use Rattle.np_check.specs.steps.Broken.{first_common, first_number}

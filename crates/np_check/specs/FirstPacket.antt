@@ -1,5 +1,5 @@
 -- The first packet that breaks a statement, by what it is.
-use Rattle.std.specs.Prelude.{◌≡◌, ◌≤◌, ℕ, true, false, Contains}
+use Rattle.std.specs.Prelude.{◌≡◌, ◌≤◌, true, false, Contains}
 use Rattle.np_check.specs.Counters.{allows_between, breaks, families_between}
 use Rattle.np_check.specs.Holding.{HasAddress}
 use Rattle.np_check.specs.Numbers.{is_among}

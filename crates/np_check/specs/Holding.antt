@@ -1,5 +1,5 @@
 -- When a statement holds, pod by pod and address by address.
-use Rattle.std.specs.Prelude.{◌≡◌, ◌≢◌, ◌<◌, ℕ, Bool, true, Contains, length}
+use Rattle.std.specs.Prelude.{◌≡◌, ◌≢◌, ◌<◌, ℕ, true, Contains, length}
 use Rattle.np_addr.specs.Addresses.{IsAddress, family_of}
 use Rattle.np_addr.specs.Blocks.{set_has}
 use Rattle.np_addr.specs.declared.address.Address.{Address}

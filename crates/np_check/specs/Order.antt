@@ -1,5 +1,5 @@
 -- The order of packets by their ends, families, protocols and ports.
-use Rattle.std.specs.Prelude.{ℕ, Bool, true, false, nat_lt}
+use Rattle.std.specs.Prelude.{Bool, true, false, nat_lt}
 use Rattle.np_addr.specs.declared.address.Address.{Address}
 use Rattle.np_addr.specs.declared.address.Address.TheVariants as address
 use Rattle.np_addr.specs.declared.address.Family.{Family}

@@ -1,5 +1,5 @@
 -- The lines of statements, by how they are put together.
-use Rattle.std.specs.Prelude.{◌≡◌, ◌≢◌, ℕ, List, ◌++◌, Bool, true, false, ◌&&◌, IsTrue, Some, codes}
+use Rattle.std.specs.Prelude.{◌≡◌, ◌≢◌, ℕ, List, ◌++◌, Bool, true, false, ◌&&◌, Some, codes}
 use Rattle.np_addr.specs.AddressGrammar.{cidr_of}
 use Rattle.np_check.specs.declared.statement_text.EndForm.{EndForm}
 use Rattle.np_check.specs.declared.statement_text.EndForm.TheVariants.{Pods, Addresses, Namespace, Work, Block}

@@ -1,5 +1,5 @@
 -- Workloads with the rules of their first pods, and kinds of workloads between which nothing breaks a statement.
-use Rattle.std.specs.Prelude.{◌≡◌, ◌<◌, ◌&&◌, ◌==◌, ℕ, List, Bool, true, false, None, slice_index}
+use Rattle.std.specs.Prelude.{◌≡◌, ◌&&◌, ◌==◌, ℕ, List, Bool, true, None, slice_index}
 use Rattle.std.specs.List.{list_any}
 use Rattle.np_check.specs.Counters.{counter_between}
 use Rattle.np_check.specs.declared.counter.PlaceEnd.TheVariants.{Work}
@@ -10,7 +10,7 @@ use Rattle.np_estate.specs.declared.lists.EstateLists.{EstateLists}
 use Rattle.np_fold.specs.Workloads.{folding_of}
 use Rattle.np_policies.specs.declared.direction.Direction.{Direction}
 use Rattle.np_table.specs.PairRules.{first_side}
-use Rattle.np_table.specs.Table.{IsWorkload, is_alone}
+use Rattle.np_table.specs.Table.{IsWorkload}
 
 -- a workload with its rules
 abbrev pub side_with : EstateLists → Direction → ℕ → Side

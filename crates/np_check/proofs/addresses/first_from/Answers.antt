@@ -1,4 +1,4 @@
-use Rattle.std.proofs.Common.{◌≡◌, Some, None, sym, ap, ◌∙◌, option_map}
+use Rattle.std.proofs.Common.{Some, sym, ap, ◌∙◌, option_map}
 use Rattle.np_addr.specs.declared.address.Family.{Family}
 use Rattle.np_check.proofs.AddressLemmas.{all_to, counter_to, table_rows}
 use Rattle.np_check.specs.Counters.{counter_at}

@@ -1,7 +1,7 @@
-use Rattle.std.proofs.Common.{◌≡◌, ◌<◌, ◌==◌, ◌&&◌, if◌then◌else◌, ℕ, true, false, None, refl, sym, ap, subst, ◌∙◌, slice_index}
+use Rattle.std.proofs.Common.{◌≡◌, ◌==◌, ◌&&◌, if◌then◌else◌, ℕ, true, refl, sym, ap, ◌∙◌, slice_index}
 use Rattle.np_check.proofs.PairLemmas.{none_of_is, settled-more}
 use Rattle.np_check.specs.Counters.{counter_between}
-use Rattle.np_check.specs.steps.Pairs.{AreSettled, has_pair, kind_of}
+use Rattle.np_check.specs.steps.Pairs.{has_pair, kind_of}
 use Rattle.np_check.specs.declared.counter.PlaceEnd.TheVariants.{Work}
 use Rattle.np_fold.specs.Workloads.{Folding, folding_of}
 use Rattle.np_table.proofs.KindLemmas.{kind-there}

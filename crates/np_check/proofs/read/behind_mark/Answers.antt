@@ -1,4 +1,4 @@
-use Rattle.np_check.proofs.CutLemmas.{behind_is, mark_is_there}
+use Rattle.np_check.proofs.CutLemmas.{behind_is}
 use Rattle.np_check.proofs.read.behind_mark.Goals as goal
 
 pub returns : goal.returns

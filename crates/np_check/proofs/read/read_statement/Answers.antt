@@ -1,4 +1,4 @@
-use Rattle.std.proofs.Common.{◌≡◌, Err, ap, refl}
+use Rattle.std.proofs.Common.{◌≡◌, Err, ap}
 use Rattle.std.proofs.lemmas.Result.{err_from_is_err_and}
 use Rattle.np_check.proofs.OneStatement.{arrow_of, colon_of, one_form, parts_are, two_blocks}
 use Rattle.np_check.specs.declared.statement_text.StatementFault.TheVariants.{BadStatement}
