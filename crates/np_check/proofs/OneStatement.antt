@@ -4,6 +4,7 @@ use Rattle.std.proofs.lemmas.Bool.{and_from, cases_lt, true≢false}
 use Rattle.std.proofs.lemmas.List.{append_cancel_right}
 use Rattle.std.proofs.lemmas.List.Elements.{All-head, All-tail}
 use Rattle.std.proofs.lemmas.Option.{same_Some}
+use Rattle.np_addr.proofs.CanonicalLemmas.{cidr_of-cidr_text}
 use Rattle.np_addr.proofs.GrammarLemmas.{cidr_text_iff}
 use Rattle.np_addr.proofs.PieceLemmas.{IsOther}
 use Rattle.np_addr.specs.AddressGrammar.{cidr_of}
@@ -11,6 +12,7 @@ use Rattle.np_addr.specs.declared.cidr.Cidr.{Cidr}
 use Rattle.np_check.proofs.CutLemmas.{after_first, first_letter, named_side}
 use Rattle.np_check.proofs.EndLemmas.{IsForeign, arrow_mark, before_arrow, before_colon, cidr_foreign, cidr_some, colon_mark, one_wanted, w_foreign}
 use Rattle.np_check.specs.StatementGrammar.{IsEndText, IsStatementText, is_address_form}
+use Rattle.np_check.specs.StatementTexts.{IsWellEnd, IsWellStatement, end_text, statement_text}
 use Rattle.np_check.specs.steps.Cuts.{IsBefore, IsMark, IsWithout}
 use Rattle.np_check.specs.declared.statement_text.EndForm.{EndForm}
 use Rattle.np_check.specs.declared.statement_text.EndForm.TheVariants.{Pods, Addresses, Namespace, Work, Block}
@@ -138,3 +140,26 @@ two_blocks line statement source destination is same same' first_block second_bl
     let first : is_address_form statement.source ≡ true = ap is_address_form (sym same) ∙ first_block in
     let second : is_address_form statement.destination ≡ true = ap is_address_form (sym same') ∙ second_block in
     true≢false (sym (and_from (is_address_form statement.source) (is_address_form statement.destination) first second) ∙ is.one_side)
+
+-- ---- the text of a statement
+
+end_reads : (form : EndForm) → IsWellEnd form → IsEndText (end_text form) form
+end_reads Pods well = refl
+end_reads Addresses well = refl
+end_reads (Namespace name) well = (refl, well)
+end_reads (Work name) well = (refl, well)
+end_reads (Block cidr) well = cidr_of-cidr_text cidr well.0 well.1
+
+-- it is that of the statement
+pub text_reads : (statement : StatementText) → IsWellStatement statement → IsStatementText (statement_text statement) statement
+text_reads statement well = record {
+  source = end_text statement.source;
+  destination = end_text statement.destination;
+  conns = conns_text (has_spot statement.conns);
+  spelled = refl;
+  source_text = end_reads statement.source well.source_well;
+  destination_text = end_reads statement.destination well.destination_well;
+  one_side = well.one_side;
+  conns_text = refl;
+  well = well.conns_well;
+}

@@ -5,4 +5,5 @@ pub mod Holding
 pub mod Numbers
 pub mod Order
 pub mod StatementGrammar
+pub mod StatementTexts
 pub mod steps

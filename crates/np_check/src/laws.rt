@@ -5,6 +5,7 @@ ghost use Rattle.np_check.specs.FirstPacket.{IsBroken, IsFirstBroken};
 ghost use Rattle.np_check.specs.Holding.{Holds};
 ghost use Rattle.np_check.specs.Numbers.{is_ascending};
 ghost use Rattle.np_check.specs.StatementGrammar.{IsStatementText};
+ghost use Rattle.np_check.specs.StatementTexts.{IsWellStatement, statement_text};
 ghost use Rattle.np_check.specs.declared.counter.Counter.{Counter};
 ghost use Rattle.np_check.specs.declared.question.Question.{Question};
 ghost use Rattle.np_check.specs.declared.statement_text.StatementText.{StatementText};
@@ -16,6 +17,11 @@ ghost use Rattle.np_table.specs.Table.{IsWorkload};
 pub fn one_statement_of_a_line()
     ensures { (line : List ℕ) (statement other : StatementText) →
         IsStatementText line statement → IsStatementText line other → statement ≡ other }
+{}
+
+/// The text of a statement is read as that statement.
+pub fn text_of_a_statement_reads_again()
+    ensures { (statement : StatementText) → IsWellStatement statement → IsStatementText (statement_text statement) statement }
 {}
 
 /// `check` finds nothing exactly where the statement holds: where every packet that it speaks of complies, between every

@@ -16,7 +16,8 @@ mod statement_text;
 pub use checking::check;
 pub use counter::{Counter, PlaceEnd};
 pub use laws::{
-    nothing_is_found_where_a_statement_holds, one_statement_of_a_line, the_first_packet_is_found,
+    nothing_is_found_where_a_statement_holds, one_statement_of_a_line,
+    text_of_a_statement_reads_again, the_first_packet_is_found,
 };
 pub use question::{Ends, Question};
 pub use read::read_statement;
