@@ -1,0 +1,215 @@
+-- Nothing is found exactly where the statement holds.
+use Rattle.std.proofs.Common.{◌≡◌, ◌≢◌, ℕ, zero, suc, ◌+◌, ◌<◌, ◌≤◌, ◌==◌, ◌&&◌, nat_le, List, [], ◌∷◌, Bool, true, false, Option, Some, None, All, length, map, slice_index, refl, sym, ap, ◌∙◌, inl, inr, arith, if◌then◌else◌}
+use Rattle.std.specs.Prelude.{filter}
+use Rattle.std.specs.List.{range_with_len, slice_get}
+use Rattle.std.specs.Option.{option_map, option_map_or, option_or}
+use Rattle.std.proofs.lemmas.Bool.{and_from, and_parts, cases_Bool, cases_eq, le-leb, leb-true, eq-eqb}
+use Rattle.std.proofs.lemmas.Option.{slice_get-map}
+use Rattle.np_addr.specs.Addresses.{family_of}
+use Rattle.np_addr.specs.declared.address.Address.{Address}
+use Rattle.np_addr.specs.declared.address.Family.{Family}
+use Rattle.np_classes.specs.Classes.{members}
+use Rattle.np_check.proofs.FirstLemmas.{first_of-append, first_of-map, first_of-one, none_both}
+use Rattle.np_check.proofs.NoneLemmas.{among_all, both_none, is_whole, no_address, no_addresses, no_spot, no_spots, none_all, none_all_among, none_among, none_at, none_map, not_broken}
+use Rattle.np_check.proofs.PairLemmas.{between-alone, between-apart}
+use Rattle.np_check.proofs.WholeLemmas.{of-question}
+use Rattle.np_check.specs.Counters.{addresses_of, breaks, complies, counter_at, counter_between, counter_from, counter_in, counter_of, number_of_address}
+use Rattle.np_check.specs.Firsts.{first_of, first_spot}
+use Rattle.np_check.specs.Holding.{HasAddress, Holds}
+use Rattle.np_check.specs.Numbers.{ascends_from, is_among}
+use Rattle.np_check.specs.declared.counter.Counter.{Counter}
+use Rattle.np_check.specs.declared.counter.PlaceEnd.{PlaceEnd}
+use Rattle.np_check.specs.declared.counter.PlaceEnd.TheVariants.{At, Work}
+use Rattle.np_check.specs.declared.question.Ends.{Ends}
+use Rattle.np_check.specs.declared.question.Question.{Question}
+use Rattle.np_check.specs.declared.statement_text.Wanted.{Wanted}
+use Rattle.np_conns.specs.Conns.{Conns, has_spot, is_spot}
+use Rattle.np_conns.specs.declared.port_spot.PortSpot.{PortSpot}
+use Rattle.np_estate.specs.Families.{families_of}
+use Rattle.np_estate.specs.Lawful.{IsLawful}
+use Rattle.np_estate.specs.declared.lists.EstateLists.{EstateLists}
+use Rattle.np_fold.specs.Workloads.{Workload, folding_of, first_of as first_named, members_of, named_first_pods, number_of, pods_alike, workload, workloads_of}
+use Rattle.np_names.specs.declared.named.Named.{Named}
+use Rattle.np_policies.specs.declared.direction.Direction.TheVariants.{Egress, Ingress}
+use Rattle.np_table.proofs.MemberLemmas.{destination-member, member-number, members-some, members-within, not-alone, own-member, source-member}
+use Rattle.np_table.proofs.PairLemmas.{between_pods-pair_allows, pair_allows-between, with_address-address_allows}
+use Rattle.np_table.specs.Table.{IsWorkload, address_allows, destination_pod, is_alone, pair_allows, source_pod}
+
+-- ---- from a workload
+
+from_parts : (lists : EstateLists) (wanted : Wanted) (conns : Conns) (ends : Ends) (source : ℕ) → counter_from lists wanted conns ends (Work source) ≡ option_or (first_of (λ (work : ℕ). counter_between lists wanted conns (Work source) (Work work)) ends.works) (first_of (λ (address : Address). counter_between lists wanted conns (Work source) (At address)) (addresses_of ends.block))
+unfolding counter_from
+from_parts lists wanted conns ends source =
+    let gives = counter_between lists wanted conns (Work source) in
+    first_of-append gives (map Work ends.works) (map At (addresses_of ends.block))
+    ∙ ap (λ (first : Option Counter). option_or first (first_of gives (map At (addresses_of ends.block)))) (first_of-map gives Work ends.works)
+    ∙ ap (λ (rest : Option Counter). option_or (first_of (λ (work : ℕ). gives (Work work)) ends.works) rest) (first_of-map gives At (addresses_of ends.block))
+
+-- ---- between two ends
+
+none_in : (lists : EstateLists) (wanted : Wanted) (conns : Conns) (source destination : PlaceEnd) (family : Family) (passes : PortSpot → Bool) (spot : PortSpot) → option_map (counter_at source destination family) (first_spot (breaks wanted conns passes)) ≡ None → is_spot spot ≡ true → has_spot conns spot ≡ true → complies wanted (passes spot) ≡ true
+none_in lists wanted conns source destination family passes spot none is has =
+    not_broken wanted conns passes spot (no_spot (breaks wanted conns passes) spot (none_map (counter_at source destination family) (first_spot (breaks wanted conns passes)) none) is) has
+
+all_in : (wanted : Wanted) (conns : Conns) (source destination : PlaceEnd) (family : Family) (passes : PortSpot → Bool) → ((spot : PortSpot) → is_spot spot ≡ true → has_spot conns spot ≡ true → complies wanted (passes spot) ≡ true) → option_map (counter_at source destination family) (first_spot (breaks wanted conns passes)) ≡ None
+all_in wanted conns source destination family passes does =
+    ap (option_map (counter_at source destination family)) (no_spots (breaks wanted conns passes) (λ spot is. is_whole wanted conns passes spot (does spot is)))
+
+-- of an address
+to_address : (lists : EstateLists) (wanted : Wanted) (conns : Conns) (a : ℕ) (address : Address) → counter_between lists wanted conns (Work a) (At address) ≡ option_map (counter_at (Work a) (At address) (family_of address)) (first_spot (breaks wanted conns (address_allows lists (folding_of lists) a Egress (family_of address) (number_of_address address))))
+unfolding counter_between
+to_address lists wanted conns a address = first_of-one (counter_in lists wanted conns (Work a) (At address)) (family_of address)
+
+from_address : (lists : EstateLists) (wanted : Wanted) (conns : Conns) (b : ℕ) (address : Address) → counter_between lists wanted conns (At address) (Work b) ≡ option_map (counter_at (At address) (Work b) (family_of address)) (first_spot (breaks wanted conns (address_allows lists (folding_of lists) b Ingress (family_of address) (number_of_address address))))
+unfolding counter_between
+from_address lists wanted conns b address = first_of-one (counter_in lists wanted conns (At address) (Work b)) (family_of address)
+
+-- ---- where nothing is found the statement holds
+
+record AreNone (lists : EstateLists) (question : Question) : Type 0 where
+  works : (a b : ℕ) → is_among question.source.works a ≡ true → is_among question.destination.works b ≡ true → counter_between lists question.wanted question.conns (Work a) (Work b) ≡ None
+  egress : (a : ℕ) (address : Address) → is_among question.source.works a ≡ true → HasAddress question.destination address → counter_between lists question.wanted question.conns (Work a) (At address) ≡ None
+  ingress : (address : Address) (b : ℕ) → HasAddress question.source address → is_among question.destination.works b ≡ true → counter_between lists question.wanted question.conns (At address) (Work b) ≡ None
+
+are_none : (lists : EstateLists) (question : Question) → counter_of lists question ≡ None → AreNone lists question
+are_none lists question none =
+    let gives = counter_between lists question.wanted question.conns in
+    let all = none_both _ _ (sym (of-question lists question) ∙ none) in
+    let from = λ (a : ℕ) (among : is_among question.source.works a ≡ true).
+    none_both (first_of (λ (work : ℕ). gives (Work a) (Work work)) question.destination.works) (first_of (λ (address : Address). gives (Work a) (At address)) (addresses_of question.destination.block))
+    (sym (from_parts lists question.wanted question.conns question.destination a) ∙ none_among (λ (source : ℕ). counter_from lists question.wanted question.conns question.destination (Work source)) question.source.works a all.0 among) in
+    record {
+      works = λ a b in_source in_destination. none_among (λ (work : ℕ). gives (Work a) (Work work)) question.destination.works b (from a in_source).0 in_destination;
+      egress = λ a address in_source has. no_address question.destination.block (λ (other : Address). gives (Work a) (At other)) address (from a in_source).1 has.0 has.1;
+      ingress = λ address b has in_destination.
+          none_among (λ (work : ℕ). gives (At address) (Work work)) question.destination.works b
+          (no_address question.source.block (λ (other : Address). first_of (λ (work : ℕ). gives (At other) (Work work)) question.destination.works) address all.1 has.0 has.1) in_destination;
+    }
+
+pub holds : (lists : EstateLists) (question : Question) → IsLawful lists → counter_of lists question ≡ None → Holds lists question
+holds lists question lawful none =
+    let are = are_none lists question none in
+    let folding = folding_of lists in
+    record {
+      pods = λ p q family spot in_source in_destination differ listed speaks.
+          let a = number_of lists p in
+          let b = number_of lists q in
+          let apart = not-alone folding a b p q (own-member lists p in_source.0) (own-member lists q in_destination.0) differ in
+          let families = between-apart lists question.wanted question.conns a b (families_of lists.pods) apart refl ∙ are.works a b in_source.1 in_destination.1 in
+          ap (complies question.wanted) (between_pods-pair_allows lists p q family spot lawful in_source.0 in_destination.0 differ)
+          ∙ none_in lists question.wanted question.conns (Work a) (Work b) family (pair_allows lists folding a b family) spot
+          (none_at (counter_in lists question.wanted question.conns (Work a) (Work b)) (families_of lists.pods) family families listed) speaks.0 speaks.1;
+      to_addresses = λ p address spot in_source has speaks.
+          let a = number_of lists p in
+          ap (complies question.wanted) (with_address-address_allows lists p Egress (family_of address) (number_of_address address) spot lawful in_source.0)
+          ∙ none_in lists question.wanted question.conns (Work a) (At address) (family_of address) (address_allows lists folding a Egress (family_of address) (number_of_address address)) spot
+          (sym (to_address lists question.wanted question.conns a address) ∙ are.egress a address in_source.1 has) speaks.0 speaks.1;
+      from_addresses = λ address q spot has in_destination speaks.
+          let b = number_of lists q in
+          ap (complies question.wanted) (with_address-address_allows lists q Ingress (family_of address) (number_of_address address) spot lawful in_destination.0)
+          ∙ none_in lists question.wanted question.conns (At address) (Work b) (family_of address) (address_allows lists folding b Ingress (family_of address) (number_of_address address)) spot
+          (sym (from_address lists question.wanted question.conns b address) ∙ are.ingress address b has in_destination.1) speaks.0 speaks.1;
+    }
+
+-- ---- two pods that stand for two workloads
+
+lower : (least low : ℕ) (numbers : List ℕ) → low ≤ least → ascends_from least numbers ≡ true → ascends_from low numbers ≡ true
+lower least low [] below ascends = refl
+lower least low (n ∷ numbers) below ascends =
+    let parts = and_parts (nat_le least n) (ascends_from (n + 1) numbers) ascends in
+    let above = leb-true least n parts.0 in
+    and_from (nat_le low n) (ascends_from (n + 1) numbers) (le-leb low n (omega arith)) parts.1
+
+more_than_one : (n : ℕ) → 0 < n → (n == 1) ≡ false → 1 < n
+more_than_one n some other = grind arith
+
+-- numbers that are filtered ascend
+filtered : (test : ℕ → Bool) (low count : ℕ) → ascends_from low (filter test (range_with_len low count)) ≡ true
+filtered test low zero = refl
+filtered test low (suc count) =
+    elim (cases_Bool (test low)) [
+      | inl passes ↦ rw passes (and_from (nat_le low low) (ascends_from (low + 1) (filter test (range_with_len (low + 1) count))) (le-leb low low (omega arith)) (filtered test (low + 1) count))
+      | inr fails ↦ rw fails (lower (low + 1) low (filter test (range_with_len (low + 1) count)) (omega arith) (filtered test (low + 1) count))
+    ]
+
+first_second : (numbers : List ℕ) (low : ℕ) → ascends_from low numbers ≡ true → 1 < length numbers → slice_index numbers 0 ≢ slice_index numbers 1
+first_second [] low ascends two = absurd (omega arith)
+first_second (n ∷ []) low ascends two = absurd (omega arith)
+first_second (m ∷ n ∷ numbers) low ascends two =
+    let rest = (and_parts (nat_le low m) (ascends_from (m + 1) (n ∷ numbers)) ascends).1 in
+    let above = leb-true (m + 1) n (and_parts (nat_le (m + 1) n) (ascends_from (n + 1) numbers) rest).0 in
+    λ same. omega arith
+
+members_filtered : (lists : EstateLists) (found : Option Named) (low : ℕ) → ascends_from 0 (option_map_or (λ (one : Workload). one.members) (option_map (workload lists) found) []) ≡ true
+unfolding members
+members_filtered lists None low = refl
+members_filtered lists (Some one) low = filtered (pods_alike lists (first_named lists one)) 0 (length lists.pods)
+
+members_ascend : (lists : EstateLists) (number : ℕ) → ascends_from 0 (members_of (folding_of lists) number) ≡ true
+unfolding folding_of workloads_of
+members_ascend lists number =
+    ap (λ (found : Option Workload). ascends_from 0 (option_map_or (λ (one : Workload). one.members) found [])) (slice_get-map (workload lists) (named_first_pods lists) number)
+    ∙ members_filtered lists (slice_get (named_first_pods lists) number) 0
+
+-- the pods that stand for two workloads differ, unless a workload of one pod meets itself
+stand_apart : (lists : EstateLists) (a b : ℕ) → IsWorkload lists a → IsWorkload lists b → is_alone (folding_of lists) a b ≡ false → source_pod (folding_of lists) a ≢ destination_pod (folding_of lists) a b
+stand_apart lists a b a_in b_in apart same =
+    let folding = folding_of lists in
+    let some = members-some lists folding a refl a_in in
+    let near_has = source-member folding a some in
+    let far_has = destination-member folding a b (members-some lists folding b refl b_in) apart in
+    let near_in = members-within lists folding a (source_pod folding a) refl a_in near_has in
+    let far_in = members-within lists folding b (destination_pod folding a b) refl b_in far_has in
+    elim (cases_eq a b) [
+      | inr differ ↦ differ (sym (member-number lists a (source_pod folding a) near_in near_has) ∙ ap (number_of lists) same ∙ member-number lists b (destination_pod folding a b) far_in far_has)
+      | inl one ↦
+          let eq : (a == b) ≡ true = eq-eqb a b one in
+          let single : (length (members_of folding a) == 1) ≡ false = sym (ap (λ (first : Bool). first && length (members_of folding a) == 1) eq) ∙ apart in
+          let many : 1 < length (members_of folding a) = more_than_one (length (members_of folding a)) some single in
+          let second : destination_pod folding a b ≡ slice_index (members_of folding a) 1 = ap (λ (first : Bool). slice_index (members_of folding b) (if first then 1 else 0)) eq ∙ ap (λ (n : ℕ). slice_index (members_of folding n) 1) (sym one) in
+          first_second (members_of folding a) 0 (members_ascend lists a) many (same ∙ second)
+    ]
+
+-- ---- where the statement holds nothing is found
+
+pub found_none : (lists : EstateLists) (question : Question) → IsLawful lists → All (IsWorkload lists) question.source.works → All (IsWorkload lists) question.destination.works → Holds lists question → counter_of lists question ≡ None
+found_none lists question lawful sources destinations is =
+    let folding = folding_of lists in
+    let gives = counter_between lists question.wanted question.conns in
+    let near = λ (a : ℕ) (a_in : IsWorkload lists a). source-member folding a (members-some lists folding a refl a_in) in
+    let near_in = λ (a : ℕ) (a_in : IsWorkload lists a). members-within lists folding a (source_pod folding a) refl a_in (near a a_in) in
+    let near_of = λ (a : ℕ) (a_in : IsWorkload lists a). member-number lists a (source_pod folding a) (near_in a a_in) (near a a_in) in
+    let works : (a b : ℕ) → IsWorkload lists a → IsWorkload lists b → is_among question.source.works a ≡ true → is_among question.destination.works b ≡ true → gives (Work a) (Work b) ≡ None = λ a b a_in b_in in_source in_destination.
+    elim (cases_Bool (is_alone folding a b)) [
+      | inl alone ↦ sym (between-alone lists question.wanted question.conns a b alone)
+      | inr apart ↦
+          let far = destination-member folding a b (members-some lists folding b refl b_in) apart in
+          let far_in = members-within lists folding b (destination_pod folding a b) refl b_in far in
+          let far_of = member-number lists b (destination_pod folding a b) far_in far in
+          sym (between-apart lists question.wanted question.conns a b (families_of lists.pods) apart refl)
+          ∙ none_all (counter_in lists question.wanted question.conns (Work a) (Work b)) (families_of lists.pods) (λ family listed.
+          all_in question.wanted question.conns (Work a) (Work b) family (pair_allows lists folding a b family) (λ spot is_one has.
+          ap (complies question.wanted) (pair_allows-between lists folding a b family spot apart)
+          ∙ is.pods (source_pod folding a) (destination_pod folding a b) family spot (near_in a a_in, ap (is_among question.source.works) (near_of a a_in) ∙ in_source) (far_in, ap (is_among question.destination.works) far_of ∙ in_destination) (stand_apart lists a b a_in b_in apart) listed (is_one, has)))
+    ] in
+    let egress : (a : ℕ) (address : Address) → IsWorkload lists a → is_among question.source.works a ≡ true → HasAddress question.destination address → gives (Work a) (At address) ≡ None = λ a address a_in in_source has.
+    to_address lists question.wanted question.conns a address
+    ∙ all_in question.wanted question.conns (Work a) (At address) (family_of address) (address_allows lists folding a Egress (family_of address) (number_of_address address)) (λ spot is_one has_it.
+    ap (λ (n : ℕ). complies question.wanted (address_allows lists folding n Egress (family_of address) (number_of_address address) spot)) (sym (near_of a a_in))
+    ∙ ap (complies question.wanted) (sym (with_address-address_allows lists (source_pod folding a) Egress (family_of address) (number_of_address address) spot lawful (near_in a a_in)))
+    ∙ is.to_addresses (source_pod folding a) address spot (near_in a a_in, ap (is_among question.source.works) (near_of a a_in) ∙ in_source) has (is_one, has_it)) in
+    let ingress : (address : Address) (b : ℕ) → IsWorkload lists b → HasAddress question.source address → is_among question.destination.works b ≡ true → gives (At address) (Work b) ≡ None = λ address b b_in has in_destination.
+    from_address lists question.wanted question.conns b address
+    ∙ all_in question.wanted question.conns (At address) (Work b) (family_of address) (address_allows lists folding b Ingress (family_of address) (number_of_address address)) (λ spot is_one has_it.
+    ap (λ (n : ℕ). complies question.wanted (address_allows lists folding n Ingress (family_of address) (number_of_address address) spot)) (sym (near_of b b_in))
+    ∙ ap (complies question.wanted) (sym (with_address-address_allows lists (source_pod folding b) Ingress (family_of address) (number_of_address address) spot lawful (near_in b b_in)))
+    ∙ is.from_addresses address (source_pod folding b) spot has (near_in b b_in, ap (is_among question.destination.works) (near_of b b_in) ∙ in_destination) (is_one, has_it)) in
+    of-question lists question
+    ∙ both_none _ _
+    (none_all_among (λ (source : ℕ). counter_from lists question.wanted question.conns question.destination (Work source)) question.source.works (λ a in_source.
+    from_parts lists question.wanted question.conns question.destination a
+    ∙ both_none _ _
+    (none_all_among (λ (work : ℕ). gives (Work a) (Work work)) question.destination.works (λ b in_destination. works a b (among_all (IsWorkload lists) question.source.works a sources in_source) (among_all (IsWorkload lists) question.destination.works b destinations in_destination) in_source in_destination))
+    (no_addresses question.destination.block (λ (address : Address). gives (Work a) (At address)) (λ address is_one has. egress a address (among_all (IsWorkload lists) question.source.works a sources in_source) in_source (is_one, has)))))
+    (no_addresses question.source.block (λ (address : Address). first_of (λ (work : ℕ). gives (At address) (Work work)) question.destination.works) (λ address is_one has.
+    none_all_among (λ (work : ℕ). gives (At address) (Work work)) question.destination.works (λ b in_destination. ingress address b (among_all (IsWorkload lists) question.destination.works b destinations in_destination) (is_one, has) in_destination)))

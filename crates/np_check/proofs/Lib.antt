@@ -1,0 +1,16 @@
+pub mod AddressLemmas
+pub mod BrokenLemmas
+pub mod CutLemmas
+pub mod EndLemmas
+pub mod FirstLemmas
+pub mod HoldLemmas
+pub mod LeastLemmas
+pub mod MergeLemmas
+pub mod NoneLemmas
+pub mod NumberLemmas
+pub mod OneStatement
+pub mod OrderLemmas
+pub mod PairLemmas
+pub mod RangeLemmas
+pub mod SpotLemmas
+pub mod WholeLemmas

@@ -1,0 +1,152 @@
+-- The first packet between two ends.
+use Rattle.std.proofs.Common.{◌≡◌, ℕ, suc, ◌<◌, ◌≤◌, ◌==◌, ◌&&◌, List, [], ◌∷◌, Bool, true, false, Option, Some, None, All, drop, get_or, length, map, option_map, is_some, not, refl, sym, ap, ◌∙◌, inl, inr, if◌then◌else◌}
+use Rattle.std.specs.Option.{option_or}
+use Rattle.std.proofs.Math.Seq.{drop-cons}
+use Rattle.std.proofs.lemmas.List.{drop_all}
+use Rattle.std.proofs.lemmas.Bool.{and_parts, cases_Bool, eqb-true, ne_eqb}
+use Rattle.std.proofs.lemmas.List.Elements.{All-cons, All-head, All-nil, All-tail}
+use Rattle.np_addr.specs.declared.address.Family.{Family}
+use Rattle.np_check.proofs.FirstLemmas.{first_of-append, first_of-map, none_both}
+use Rattle.np_check.proofs.SpotLemmas.{breaks-same}
+use Rattle.np_check.specs.Counters.{addresses_of, breaks, counter_at, counter_between, counter_from, counter_in}
+use Rattle.np_check.specs.Firsts.{first_of, first_spot}
+use Rattle.np_check.specs.steps.Pairs.{AreSettled, IsSide, has_pair, kind_of, side_with}
+use Rattle.np_check.specs.declared.counter.PlaceEnd.TheVariants.{At, Work}
+use Rattle.np_check.specs.declared.pairs.Side.{Side}
+use Rattle.np_check.specs.declared.question.Ends.{Ends}
+use Rattle.np_check.specs.declared.statement_text.Wanted.{Wanted}
+use Rattle.np_conns.specs.Conns.{Conns, has_spot}
+use Rattle.np_conns.specs.declared.port_spot.PortSpot.{PortSpot}
+use Rattle.np_estate.specs.Families.{families_of}
+use Rattle.np_estate.specs.Lawful.{IsLawful}
+use Rattle.np_estate.specs.declared.lists.EstateLists.{EstateLists}
+use Rattle.np_fold.specs.Workloads.{folding_of, members_of}
+use Rattle.np_policies.specs.declared.direction.Direction.{Direction}
+use Rattle.np_policies.specs.declared.direction.Direction.TheVariants.{Egress, Ingress}
+use Rattle.np_rules.specs.PodSides.{PodSide}
+use Rattle.np_table.proofs.KindLemmas.{kinds-by}
+use Rattle.np_table.proofs.PairLemmas.{pair_allows-between, pair_allows-kinds}
+use Rattle.np_table.proofs.RangeSets.{conns_of-agrees}
+use Rattle.np_table.proofs.SetLemmas.{has_spot-conns_of}
+use Rattle.np_table.specs.PairRules.{first_side}
+use Rattle.np_table.specs.Right.{conns_of}
+use Rattle.np_table.specs.Table.{IsWorkload, between_pods, destination_pod, is_alone, pair_allows, source_pod}
+
+-- ---- the first of a list in a loop
+
+pub some_or : {Y : Type 0} (found rest : Option Y) → is_some found ≡ true → found ≡ option_or found rest
+some_or None rest some = cc
+some_or (Some y) rest some = refl
+
+pub none_or : {Y : Type 0} (found rest : Option Y) → is_some found ≡ false → rest ≡ option_or found rest
+none_or None rest none = refl
+none_or (Some y) rest none = cc
+
+-- what is found at an index is the first, where nothing before it gives anything
+pub found_at : {X Y : Type 0} (gives : X → Option Y) (xs : List X) (i : ℕ) (d : X) (found : Option Y) → i < length xs → first_of gives (drop i xs) ≡ first_of gives xs → found ≡ gives (get_or xs i d) → is_some found ≡ true → found ≡ first_of gives xs
+found_at gives xs i d found within left is some =
+    is ∙ some_or (gives (get_or xs i d)) (first_of gives (drop (suc i) xs)) (ap is_some (sym is) ∙ some) ∙ ap (first_of gives) (sym (drop-cons xs i d within)) ∙ left
+
+-- where nothing is left, nothing is found
+pub none_left : {X Y : Type 0} (gives : X → Option Y) (xs : List X) (i : ℕ) → length xs ≤ i → first_of gives (drop i xs) ≡ first_of gives xs → None ≡ first_of gives xs
+none_left gives xs i past left = sym (ap (first_of gives) (drop_all i xs past)) ∙ left
+
+-- what is no counterexample is none
+pub none_of_is : {Y : Type 0} (found wanted : Option Y) (none : Bool) → is_some found ≡ not none → none ≡ true → found ≡ wanted → wanted ≡ None
+none_of_is None wanted none is yes_none same = sym same
+none_of_is (Some y) wanted none is yes_none same = cc
+
+-- ---- what passes between workloads
+
+pub passing-is : (lists : EstateLists) (source destination : ℕ) (family : Family) (sender receiver : PodSide) → sender ≡ first_side lists Egress source → receiver ≡ first_side lists Ingress destination → (source ≡ destination → ⊥) → is_alone (folding_of lists) source destination ≡ false → conns_of (between_pods sender.lists sender.pod receiver.pod family) ≡ conns_of (pair_allows lists (folding_of lists) source destination family)
+passing-is lists source destination family sender receiver sends receives differ apart =
+    let other : (source == destination) ≡ false = ne_eqb source destination differ in
+    let far : destination_pod (folding_of lists) source destination ≡ source_pod (folding_of lists) destination = rw other refl in
+    conns_of-agrees (between_pods sender.lists sender.pod receiver.pod family) (pair_allows lists (folding_of lists) source destination family) (λ spot is.
+    ap (λ (side : PodSide). between_pods side.lists side.pod receiver.pod family spot) sends
+    ∙ ap (λ (side : PodSide). between_pods lists (source_pod (folding_of lists) source) side.pod family spot) receives
+    ∙ ap (λ (pod : ℕ). between_pods lists (source_pod (folding_of lists) source) pod family spot) (sym far)
+    ∙ sym (pair_allows-between lists (folding_of lists) source destination family spot apart))
+
+-- the first by the set of what passes
+by_set : (lists : EstateLists) (wanted : Wanted) (conns passes : Conns) (a b : ℕ) (family : Family) → passes ≡ conns_of (pair_allows lists (folding_of lists) a b family) → first_spot (breaks wanted conns (has_spot passes)) ≡ first_spot (breaks wanted conns (pair_allows lists (folding_of lists) a b family))
+by_set lists wanted conns passes a b family is =
+    breaks-same wanted conns (has_spot passes) (pair_allows lists (folding_of lists) a b family) (λ spot of.
+    ap (λ (set : Conns). has_spot set spot) is ∙ has_spot-conns_of (pair_allows lists (folding_of lists) a b family) spot of)
+
+pub in_family : (lists : EstateLists) (wanted : Wanted) (conns passes : Conns) (a b : ℕ) (family : Family) (found : Option PortSpot) → passes ≡ conns_of (pair_allows lists (folding_of lists) a b family) → found ≡ first_spot (breaks wanted conns (has_spot passes)) → option_map (counter_at (Work a) (Work b) family) found ≡ counter_in lists wanted conns (Work a) (Work b) family
+in_family lists wanted conns passes a b family found is found_is =
+    ap (option_map (counter_at (Work a) (Work b) family)) (found_is ∙ by_set lists wanted conns passes a b family is)
+
+-- ---- between two workloads
+
+pub between-alone : (lists : EstateLists) (wanted : Wanted) (conns : Conns) (a b : ℕ) → is_alone (folding_of lists) a b ≡ true → None ≡ counter_between lists wanted conns (Work a) (Work b)
+unfolding counter_between
+between-alone lists wanted conns a b alone = rw alone refl
+
+pub between-apart : (lists : EstateLists) (wanted : Wanted) (conns : Conns) (a b : ℕ) (families : List Family) → is_alone (folding_of lists) a b ≡ false → families ≡ families_of lists.pods → first_of (counter_in lists wanted conns (Work a) (Work b)) families ≡ counter_between lists wanted conns (Work a) (Work b)
+unfolding counter_between
+between-apart lists wanted conns a b families apart are = rw (apart, are) refl
+
+-- ---- kinds
+
+none_map : {X Y Z : Type 0} (to : X → Y) (to' : X → Z) (found : Option X) → option_map to found ≡ None → option_map to' found ≡ None
+none_map to to' None none = refl
+none_map to to' (Some x) none = cc
+
+none_in-kinds : (lists : EstateLists) (wanted : Wanted) (conns : Conns) (a b a' b' : ℕ) (family : Family) → ((spot : PortSpot) → pair_allows lists (folding_of lists) a b family spot ≡ pair_allows lists (folding_of lists) a' b' family spot) → counter_in lists wanted conns (Work a) (Work b) family ≡ None → counter_in lists wanted conns (Work a') (Work b') family ≡ None
+none_in-kinds lists wanted conns a b a' b' family same none =
+    let spots = breaks-same wanted conns (pair_allows lists (folding_of lists) a b family) (pair_allows lists (folding_of lists) a' b' family) (λ spot is. same spot) in
+    none_map (counter_at (Work a) (Work b) family) (counter_at (Work a') (Work b') family) (first_spot (breaks wanted conns (pair_allows lists (folding_of lists) a' b' family)))
+    (ap (option_map (counter_at (Work a) (Work b) family)) (sym spots) ∙ none)
+
+none_all-kinds : (lists : EstateLists) (wanted : Wanted) (conns : Conns) (a b a' b' : ℕ) (families : List Family) → ((family : Family) (spot : PortSpot) → pair_allows lists (folding_of lists) a b family spot ≡ pair_allows lists (folding_of lists) a' b' family spot) → first_of (counter_in lists wanted conns (Work a) (Work b)) families ≡ None → first_of (counter_in lists wanted conns (Work a') (Work b')) families ≡ None
+none_all-kinds lists wanted conns a b a' b' [] same none = refl
+none_all-kinds lists wanted conns a b a' b' (family ∷ families) same none =
+    let both = none_both (counter_in lists wanted conns (Work a) (Work b) family) (first_of (counter_in lists wanted conns (Work a) (Work b)) families) none in
+    ap (λ first. option_or first (first_of (counter_in lists wanted conns (Work a') (Work b')) families)) (none_in-kinds lists wanted conns a b a' b' family (same family) both.0)
+    ∙ none_all-kinds lists wanted conns a b a' b' families same both.1
+
+-- where nothing breaks the statement between two workloads, nothing does between two of their kinds
+between-kinds : (lists : EstateLists) (wanted : Wanted) (conns : Conns) (a b a' b' : ℕ) → IsLawful lists → IsWorkload lists a → IsWorkload lists b → IsWorkload lists a' → IsWorkload lists b' → kind_of lists a ≡ kind_of lists a' → kind_of lists b ≡ kind_of lists b' → is_alone (folding_of lists) a b ≡ false → counter_between lists wanted conns (Work a) (Work b) ≡ None → counter_between lists wanted conns (Work a') (Work b') ≡ None
+between-kinds lists wanted conns a b a' b' lawful a_in b_in a'_in b'_in sources destinations apart none =
+    let kind = λ (work : ℕ) (within : IsWorkload lists work). kinds-by lists work within in
+    elim (cases_Bool (is_alone (folding_of lists) a' b')) [
+      | inl alone ↦ sym (between-alone lists wanted conns a' b' alone)
+      | inr apart' ↦
+          sym (between-apart lists wanted conns a' b' (families_of lists.pods) apart' refl)
+          ∙ none_all-kinds lists wanted conns a b a' b' (families_of lists.pods)
+          (λ family spot. pair_allows-kinds lists a a' b b' family spot lawful (kind a a_in).0 (kind a' a'_in).0 (kind b b_in).0 (kind b' b'_in).0
+          (sym (kind a a_in).2 ∙ sources ∙ (kind a' a'_in).2) (sym (kind b b_in).2 ∙ destinations ∙ (kind b' b'_in).2) apart apart')
+          (between-apart lists wanted conns a b (families_of lists.pods) apart refl ∙ none)
+    ]
+
+-- so the pair of their kinds is settled
+pub settled-more : (lists : EstateLists) (wanted : Wanted) (conns : Conns) (pairs more : List (ℕ × ℕ)) (a b : ℕ) → IsLawful lists → IsWorkload lists a → IsWorkload lists b → (a ≡ b → ⊥) → counter_between lists wanted conns (Work a) (Work b) ≡ None → ((i j : ℕ) → has_pair more i j ≡ (if (kind_of lists a == i) && (kind_of lists b == j) then true else has_pair pairs i j)) → AreSettled lists wanted conns pairs → AreSettled lists wanted conns more
+settled-more lists wanted conns pairs more a b lawful a_in b_in differ none has settled a' b' a'_in b'_in yes_there =
+    let apart : is_alone (folding_of lists) a b ≡ false = ap (λ same. same && length (members_of (folding_of lists) a) == 1) (ne_eqb a b differ) in
+    elim (cases_Bool ((kind_of lists a == kind_of lists a') && (kind_of lists b == kind_of lists b'))) [
+      | inl same ↦
+          let parts = and_parts (kind_of lists a == kind_of lists a') (kind_of lists b == kind_of lists b') same in
+          between-kinds lists wanted conns a b a' b' lawful a_in b_in a'_in b'_in (eqb-true (kind_of lists a) (kind_of lists a') parts.0) (eqb-true (kind_of lists b) (kind_of lists b') parts.1) apart none
+      | inr other ↦ settled a' b' a'_in b'_in (sym (rw other at (has (kind_of lists a') (kind_of lists b'))) ∙ yes_there)
+    ]
+
+-- ---- from a workload
+
+pub from-work : (lists : EstateLists) (wanted : Wanted) (conns : Conns) (ends : Ends) (source : ℕ) (receivers : List Side) → receivers ≡ map (side_with lists Ingress) ends.works → counter_from lists wanted conns ends (Work source) ≡ option_or (first_of (λ receiver. counter_between lists wanted conns (Work source) (Work receiver.work)) receivers) (first_of (λ address. counter_between lists wanted conns (Work source) (At address)) (addresses_of ends.block))
+unfolding counter_from
+from-work lists wanted conns ends source receivers are =
+    first_of-append (counter_between lists wanted conns (Work source)) (map Work ends.works) (map At (addresses_of ends.block))
+    ∙ ap (λ first. option_or first (first_of (counter_between lists wanted conns (Work source)) (map At (addresses_of ends.block))))
+    (first_of-map (counter_between lists wanted conns (Work source)) Work ends.works
+    ∙ sym (first_of-map (λ receiver. counter_between lists wanted conns (Work source) (Work receiver.work)) (side_with lists Ingress) ends.works)
+    ∙ ap (first_of (λ receiver. counter_between lists wanted conns (Work source) (Work receiver.work))) (sym are))
+    ∙ ap (λ rest. option_or (first_of (λ receiver. counter_between lists wanted conns (Work source) (Work receiver.work)) receivers) rest)
+    (first_of-map (counter_between lists wanted conns (Work source)) At (addresses_of ends.block))
+
+pub sides-are : (lists : EstateLists) (direction : Direction) (works : List ℕ) → All (IsWorkload lists) works → All (IsSide lists direction) (map (side_with lists direction) works)
+sides-are lists direction [] are = All-nil (IsSide lists direction)
+sides-are lists direction (work ∷ works) are =
+    All-cons (IsSide lists direction) (side_with lists direction work) (map (side_with lists direction) works) (record { work = All-head (IsWorkload lists) work works are; rules = refl })
+    (sides-are lists direction works (All-tail (IsWorkload lists) work works are))

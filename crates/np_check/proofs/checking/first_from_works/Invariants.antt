@@ -1,0 +1,14 @@
+use Rattle.std.proofs.Common.{◌≡◌, ◌≤◌, drop}
+use Rattle.np_check.specs.Counters.{counter_from}
+use Rattle.np_check.specs.Firsts.{first_of}
+use Rattle.np_check.specs.steps.Pairs.{AreSettled}
+use Rattle.np_check.specs.declared.counter.PlaceEnd.TheVariants.{Work}
+use Rattle.np_check.proofs.checking.first_from_works.Given as goal
+
+-- the first from those that are left is the first from all
+abbrev pub invariant-loop-source : goal.invariant-loop-source
+invariant-loop-source g l =
+    (first_of (λ source. counter_from l.folded l.asked.wanted l.asked.conns.now l.ends (Work source)) (drop l.source-index l.sources)
+    ≡ first_of (λ source. counter_from l.folded l.asked.wanted l.asked.conns.now l.ends (Work source)) l.sources)
+    × AreSettled l.folded l.asked.wanted l.asked.conns.now l.settled.keys
+    × (l.initial.steps ≤ l.steps)

@@ -1,0 +1,29 @@
+use Rattle.std.proofs.Common.{◌≡◌, false, sym, ap, ◌∙◌}
+use Rattle.np_addr.specs.declared.address.Family.TheVariants.{Four}
+use Rattle.np_check.proofs.PairLemmas.{between-alone, between-apart, found_at, none_left}
+use Rattle.np_check.specs.Counters.{counter_in}
+use Rattle.np_check.specs.declared.counter.PlaceEnd.TheVariants.{Work}
+use Rattle.np_estate.specs.Families.{families_of}
+use Rattle.np_estate.specs.declared.lists.EstateLists.{EstateLists}
+use Rattle.np_fold.specs.Workloads.{Folding, folding_of}
+use Rattle.np_table.specs.Table.{is_alone}
+use Rattle.np_check.proofs.pairs.first_between.Goals as goal
+
+pub returns-then-is_alone-clause-counter : goal.returns-then-is_alone-clause-counter
+returns-then-is_alone-clause-counter g c =
+    between-alone c.args.folded.now c.args.asked.now.wanted c.args.asked.now.conns.now c.args.sender.now.work c.args.receiver.now.work
+    (ap (λ (folding : Folding). is_alone folding c.args.sender.now.work c.args.receiver.now.work) (sym c.workloads.ensures.value) ∙ sym c.is_alone.ensures ∙ c.if-is_alone.true)
+
+pub returns-then-is_some-clause-counter : goal.returns-then-is_some-clause-counter
+returns-then-is_some-clause-counter g c =
+    let apart : is_alone (folding_of c.args.folded.now) c.args.sender.now.work c.args.receiver.now.work ≡ false = ap (λ (folding : Folding). is_alone folding c.args.sender.now.work c.args.receiver.now.work) (sym c.workloads.ensures.value) ∙ sym c.is_alone.ensures ∙ c.if-is_alone.false in
+    let families = c.families-family-items.ensures ∙ ap (λ (lists : EstateLists). families_of lists.pods) c.estate.ensures.value in
+    found_at (counter_in c.args.folded.now c.args.asked.now.wanted c.args.asked.now.conns.now (Work c.args.sender.now.work) (Work c.args.receiver.now.work)) c.families-family-items.result.now c.loop-family.family-index Four c.in_ok-found.found c.loop-family-test.true c.loop-family.invariant.0 c.in_ok-found.ensures.counter (sym c.is_some.ensures ∙ c.if-is_some.true)
+    ∙ between-apart c.args.folded.now c.args.asked.now.wanted c.args.asked.now.conns.now c.args.sender.now.work c.args.receiver.now.work c.families-family-items.result.now apart families
+
+pub returns-clause-counter : goal.returns-clause-counter
+returns-clause-counter g c =
+    let apart : is_alone (folding_of c.args.folded.now) c.args.sender.now.work c.args.receiver.now.work ≡ false = ap (λ (folding : Folding). is_alone folding c.args.sender.now.work c.args.receiver.now.work) (sym c.workloads.ensures.value) ∙ sym c.is_alone.ensures ∙ c.if-is_alone.false in
+    let families = c.families-family-items.ensures ∙ ap (λ (lists : EstateLists). families_of lists.pods) c.estate.ensures.value in
+    none_left (counter_in c.args.folded.now c.args.asked.now.wanted c.args.asked.now.conns.now (Work c.args.sender.now.work) (Work c.args.receiver.now.work)) c.families-family-items.result.now c.loop-family.family-index c.loop-family-test.false c.loop-family.invariant.0
+    ∙ between-apart c.args.folded.now c.args.asked.now.wanted c.args.asked.now.conns.now c.args.sender.now.work c.args.receiver.now.work c.families-family-items.result.now apart families

@@ -1,0 +1,15 @@
+use Rattle.std.proofs.Common.{sym, ap, ◌∙◌, option_map}
+use Rattle.np_check.proofs.PairLemmas.{in_family}
+use Rattle.np_check.specs.Counters.{counter_at}
+use Rattle.np_check.specs.declared.counter.PlaceEnd.TheVariants.{Work}
+use Rattle.np_check.proofs.pairs.first_in.Goals as goal
+
+pub returns-in_default-clause-counter : goal.returns-in_default-clause-counter
+returns-in_default-clause-counter g c =
+    ap (option_map (counter_at (Work c.args.sender.now.work) (Work c.args.receiver.now.work) c.args.family)) (sym c.in_default.is)
+    ∙ in_family c.args.folded.now c.args.asked.now.wanted c.args.asked.now.conns.now c.in_ok-passes.passes c.args.sender.now.work c.args.receiver.now.work c.args.family c.in_ok-spot.field-0 c.in_ok-passes.ensures.set c.in_ok-spot.ensures
+
+pub returns-clause-counter : goal.returns-clause-counter
+returns-clause-counter g c =
+    ap (option_map (counter_at (Work c.args.sender.now.work) (Work c.args.receiver.now.work) c.args.family)) (sym c.in-Some.is)
+    ∙ in_family c.args.folded.now c.args.asked.now.wanted c.args.asked.now.conns.now c.in_ok-passes.passes c.args.sender.now.work c.args.receiver.now.work c.args.family c.in_ok-spot.field-0 c.in_ok-passes.ensures.set c.in_ok-spot.ensures

@@ -1,0 +1,91 @@
+-- The first packet that breaks a statement.
+use Rattle.std.specs.Prelude.{ℕ, ◌^◌, List, [], ◌∷◌, ◌++◌, Bool, true, not, ◌&&◌, map, filter, Option, option_map, if◌then◌else◌}
+use Rattle.std.specs.List.{range_with_len}
+use Rattle.np_addr.specs.Addresses.{family_of}
+use Rattle.np_addr.specs.Blocks.{AddressRanges, set_has}
+use Rattle.np_addr.specs.declared.address.Address.{Address}
+use Rattle.np_addr.specs.declared.address.Address.TheVariants.{Four, Six}
+use Rattle.np_addr.specs.declared.address.Family.{Family}
+use Rattle.np_check.specs.Firsts.{first_of, first_spot}
+use Rattle.np_check.specs.declared.counter.Counter.{Counter}
+use Rattle.np_check.specs.declared.counter.PlaceEnd.{PlaceEnd}
+use Rattle.np_check.specs.declared.counter.PlaceEnd.TheVariants.{At, Work}
+use Rattle.np_check.specs.declared.question.Ends.{Ends}
+use Rattle.np_check.specs.declared.question.Question.{Question}
+use Rattle.np_check.specs.declared.statement_text.Wanted.{Wanted}
+use Rattle.np_check.specs.declared.statement_text.Wanted.TheVariants.{Allow, Deny}
+use Rattle.np_conns.specs.Conns.{Conns, has_spot}
+use Rattle.np_conns.specs.declared.port_spot.PortSpot.{PortSpot}
+use Rattle.np_estate.specs.Families.{families_of}
+use Rattle.np_estate.specs.declared.lists.EstateLists.{EstateLists}
+use Rattle.np_fold.specs.Workloads.{folding_of}
+use Rattle.np_policies.specs.declared.direction.Direction.TheVariants.{Egress, Ingress}
+use Rattle.np_table.specs.Table.{address_allows, is_alone, pair_allows}
+
+-- ---- ends
+
+-- the addresses of a family in a set, by their numbers, of which there are so many
+unfoldable pub addresses_in : AddressRanges → (ℕ → Address) → ℕ → List Address
+addresses_in set address count = filter (set_has set) (map address (range_with_len 0 count))
+
+-- the addresses of a set: IPv4 before IPv6
+abbrev pub addresses_of : AddressRanges → List Address
+addresses_of set = addresses_in set Four (2 ^ 32) ++ addresses_in set Six (2 ^ 128)
+
+-- the ends of a side in their order: workloads before addresses
+abbrev pub places_of : Ends → List PlaceEnd
+places_of ends = map Work ends.works ++ map At (addresses_of ends.block)
+
+abbrev pub number_of_address : Address → ℕ
+number_of_address (Four n) = n
+number_of_address (Six n) = n
+
+-- ---- packets between two ends
+
+-- The families of the packets that a statement speaks of: between workloads those of the list, and with an address its own. It speaks of no packet of a workload of one pod with itself, nor of any between two addresses.
+abbrev pub families_between : EstateLists → PlaceEnd → PlaceEnd → List Family
+families_between lists (Work a) (Work b) = if is_alone (folding_of lists) a b then [] else families_of lists.pods
+families_between lists (Work a) (At address) = family_of address ∷ []
+families_between lists (At address) (Work b) = family_of address ∷ []
+families_between lists (At address) (At other) = []
+
+-- whether a packet is allowed
+abbrev pub allows_between : EstateLists → PlaceEnd → PlaceEnd → Family → PortSpot → Bool
+allows_between lists (Work a) (Work b) family spot = pair_allows lists (folding_of lists) a b family spot
+allows_between lists (Work a) (At address) family spot = address_allows lists (folding_of lists) a Egress family (number_of_address address) spot
+allows_between lists (At address) (Work b) family spot = address_allows lists (folding_of lists) b Ingress family (number_of_address address) spot
+allows_between lists (At address) (At other) family spot = true
+
+-- whether a verdict is the wanted one
+abbrev pub complies : Wanted → Bool → Bool
+complies Allow allowed = allowed
+complies Deny allowed = not allowed
+
+-- whether a packet at a spot, with a test of what is allowed there, is one that the statement speaks of and that breaks it
+abbrev pub breaks : Wanted → Conns → (PortSpot → Bool) → PortSpot → Bool
+breaks wanted conns allowed spot = has_spot conns spot && not (complies wanted (allowed spot))
+
+-- ---- the first that breaks it
+
+abbrev pub counter_at : PlaceEnd → PlaceEnd → Family → PortSpot → Counter
+counter_at source destination family spot = record { source = source; destination = destination; family = family; spot = spot }
+
+-- between two ends in a family, by protocol and port
+abbrev pub counter_in : EstateLists → Wanted → Conns → PlaceEnd → PlaceEnd → Family → Option Counter
+counter_in lists wanted conns source destination family =
+    option_map (counter_at source destination family)
+    (first_spot (breaks wanted conns (allows_between lists source destination family)))
+
+-- between two ends, by family: IPv4 before IPv6
+unfoldable pub counter_between : EstateLists → Wanted → Conns → PlaceEnd → PlaceEnd → Option Counter
+counter_between lists wanted conns source destination =
+    first_of (counter_in lists wanted conns source destination) (families_between lists source destination)
+
+-- from an end, by destination
+unfoldable pub counter_from : EstateLists → Wanted → Conns → Ends → PlaceEnd → Option Counter
+counter_from lists wanted conns destinations source = first_of (counter_between lists wanted conns source) (places_of destinations)
+
+-- of all, by source
+unfoldable pub counter_of : EstateLists → Question → Option Counter
+counter_of lists question =
+    first_of (counter_from lists question.wanted question.conns question.destination) (places_of question.source)

@@ -1,0 +1,9 @@
+pub mod Counters
+pub mod FirstPacket
+pub mod Firsts
+pub mod Holding
+pub mod Numbers
+pub mod Order
+pub mod StatementGrammar
+pub mod StatementTexts
+pub mod steps

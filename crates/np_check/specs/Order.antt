@@ -1,0 +1,36 @@
+-- The order of packets by their ends, families, protocols and ports.
+use Rattle.std.specs.Prelude.{Bool, true, false, nat_lt}
+use Rattle.np_addr.specs.declared.address.Address.{Address}
+use Rattle.np_addr.specs.declared.address.Address.TheVariants as address
+use Rattle.np_addr.specs.declared.address.Family.{Family}
+use Rattle.np_addr.specs.declared.address.Family.TheVariants as family
+use Rattle.np_check.specs.declared.counter.PlaceEnd.{PlaceEnd}
+use Rattle.np_check.specs.declared.counter.PlaceEnd.TheVariants.{At, Work}
+use Rattle.np_conns.specs.declared.proto.Proto.{Proto}
+use Rattle.np_conns.specs.declared.proto.Proto.TheVariants.{Tcp, Udp, Sctp}
+
+-- IPv4 before IPv6, and each family's by their numbers
+abbrev pub address_before : Address → Address → Bool
+address_before (address.Four m) (address.Four n) = nat_lt m n
+address_before (address.Four m) (address.Six n) = true
+address_before (address.Six m) (address.Four n) = false
+address_before (address.Six m) (address.Six n) = nat_lt m n
+
+-- workloads by number before addresses
+abbrev pub comes_before : PlaceEnd → PlaceEnd → Bool
+comes_before (Work a) (Work b) = nat_lt a b
+comes_before (Work a) (At other) = true
+comes_before (At one) (Work b) = false
+comes_before (At one) (At other) = address_before one other
+
+-- IPv4 is the lesser family
+abbrev pub family_before : Family → Family → Bool
+family_before family.Four family.Six = true
+family_before one other = false
+
+-- TCP, UDP, SCTP
+abbrev pub proto_before : Proto → Proto → Bool
+proto_before Tcp Udp = true
+proto_before Tcp Sctp = true
+proto_before Udp Sctp = true
+proto_before one other = false

@@ -1,0 +1,67 @@
+-- Addresses with which a workload breaks a statement.
+use Rattle.std.specs.Prelude.{ℕ, List, [], ◌∷◌, Bool, Option, None, Some, option_map, max, nat_le, if◌then◌else◌}
+use Rattle.np_addr.specs.Addresses.{family_of}
+use Rattle.np_addr.specs.Blocks.{AddressRanges}
+use Rattle.np_addr.specs.declared.address.Address.{Address}
+use Rattle.np_addr.specs.declared.address.Address.TheVariants.{Four, Six}
+use Rattle.np_addr.specs.declared.address.Family.{Family}
+use Rattle.np_base.specs.declared.range.Range.{Range}
+use Rattle.np_check.specs.Counters.{addresses_of, breaks, number_of_address}
+use Rattle.np_check.specs.Firsts.{first_of, first_spot}
+use Rattle.np_check.specs.Order.{comes_before}
+use Rattle.np_check.specs.declared.addresses.Broken.{Broken}
+use Rattle.np_check.specs.declared.counter.Counter.{Counter}
+use Rattle.np_check.specs.declared.statement_text.Wanted.{Wanted}
+use Rattle.np_conns.specs.Conns.{Conns, has_spot}
+use Rattle.np_conns.specs.declared.port_spot.PortSpot.{PortSpot}
+use Rattle.np_table.specs.declared.rows.AddressRow.{AddressRow}
+use Rattle.np_table.specs.declared.rows.AddressSpan.{AddressSpan}
+use Rattle.np_table.specs.declared.rows.AddressSpan.TheVariants as span
+
+-- the first packet with an address that breaks the statement, by a test of what passes
+abbrev pub broken_at : Wanted → Conns → (Family → ℕ → PortSpot → Bool) → Address → Option Broken
+broken_at wanted conns passes address =
+    option_map (λ spot. record { address = address; spot = spot })
+    (first_spot (breaks wanted conns (passes (family_of address) (number_of_address address))))
+
+-- the first of those with the addresses of a set
+unfoldable pub first_broken_of : Wanted → Conns → AddressRanges → (Family → ℕ → PortSpot → Bool) → Option Broken
+first_broken_of wanted conns block passes = first_of (broken_at wanted conns passes) (addresses_of block)
+
+-- ---- range by range
+
+-- the greater of two numbers, where it is at most a third
+abbrev pub first_common : ℕ → ℕ → ℕ → Option ℕ
+first_common lo low high = if nat_le (max lo low) high then Some (max lo low) else None
+
+-- the first number from one to another that some ranges have, if they have one
+abbrev pub first_number : {P : Type 0} → (P → ℕ) → List (Range P) → ℕ → ℕ → Option ℕ
+first_number number_of [] low high = None
+first_number number_of (range ∷ ranges) low high =
+    if nat_le low (number_of range.hi)
+    then first_common (number_of range.lo) low high
+    else first_number number_of ranges low high
+
+-- the first address of a set in a range
+abbrev pub first_within : AddressRanges → AddressSpan → Option Address
+first_within block (span.Four range) = option_map Four (first_number (λ a. a) block.first range.lo range.hi)
+first_within block (span.Six range) = option_map Six (first_number (λ a. a) block.second range.lo range.hi)
+
+abbrev pub with_spot : Option Address → Option PortSpot → Option Broken
+with_spot None spot = None
+with_spot (Some address) spot = option_map (λ s. record { address = address; spot = s }) spot
+
+-- the first packet with an address of a set in a range that breaks the statement
+abbrev pub broken_in : Wanted → Conns → AddressRanges → AddressRow → Option Broken
+broken_in wanted conns block row = with_spot (first_within block row.span) (first_spot (breaks wanted conns (has_spot row.conns)))
+
+-- ---- packets from addresses
+
+-- of two packets the one whose source comes first, and the first of the two where they have one source
+abbrev pub earlier_of : Counter → Counter → Counter
+earlier_of kept counter = if comes_before counter.source kept.source then counter else kept
+
+abbrev pub earlier : Option Counter → Option Counter → Option Counter
+earlier first None = first
+earlier None (Some counter) = Some counter
+earlier (Some kept) (Some counter) = Some (earlier_of kept counter)

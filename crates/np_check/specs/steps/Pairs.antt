@@ -1,0 +1,35 @@
+-- Workloads with the rules of their first pods, and kinds of workloads between which nothing breaks a statement.
+use Rattle.std.specs.Prelude.{◌≡◌, ◌&&◌, ◌==◌, ℕ, List, Bool, true, None, slice_index}
+use Rattle.std.specs.List.{list_any}
+use Rattle.np_check.specs.Counters.{counter_between}
+use Rattle.np_check.specs.declared.counter.PlaceEnd.TheVariants.{Work}
+use Rattle.np_check.specs.declared.pairs.Side.{Side}
+use Rattle.np_check.specs.declared.statement_text.Wanted.{Wanted}
+use Rattle.np_conns.specs.Conns.{Conns}
+use Rattle.np_estate.specs.declared.lists.EstateLists.{EstateLists}
+use Rattle.np_fold.specs.Workloads.{folding_of}
+use Rattle.np_policies.specs.declared.direction.Direction.{Direction}
+use Rattle.np_table.specs.PairRules.{first_side}
+use Rattle.np_table.specs.Table.{IsWorkload}
+
+-- a workload with its rules
+abbrev pub side_with : EstateLists → Direction → ℕ → Side
+side_with lists direction work = record { work = work; rules = first_side lists direction work }
+
+-- the rules are those of the workload
+pub record IsSide (lists : EstateLists) (direction : Direction) (side : Side) : Type 0 where
+  pub work : IsWorkload lists side.work
+  pub rules : side.rules ≡ first_side lists direction side.work
+
+-- the kind of a workload
+abbrev pub kind_of : EstateLists → ℕ → ℕ
+kind_of lists work = slice_index (folding_of lists).kinds work
+
+abbrev pub has_pair : List (ℕ × ℕ) → ℕ → ℕ → Bool
+has_pair pairs a b = list_any (λ pair. (a == pair.0) && (b == pair.1)) pairs
+
+-- between workloads of these pairs of kinds no packet breaks the statement
+abbrev pub AreSettled : EstateLists → Wanted → Conns → List (ℕ × ℕ) → Type 0
+AreSettled lists wanted conns pairs =
+    (a b : ℕ) → IsWorkload lists a → IsWorkload lists b → has_pair pairs (kind_of lists a) (kind_of lists b) ≡ true →
+    counter_between lists wanted conns (Work a) (Work b) ≡ None

@@ -1,0 +1,215 @@
+//! Packets between a workload and addresses.
+ghost use Rattle.std.specs.Prelude.{◌≡◌, ◌≤◌, ◌<◌, ℕ, Bool, None, Some, All, IfOk, MatchOption, map, option_map, false, true};
+ghost use Rattle.np_addr.specs.Addresses.{family_of};
+ghost use Rattle.np_addr.specs.Blocks.{IsAddressSet};
+ghost use Rattle.np_addr.specs.declared.address.Family.{Family};
+ghost use Rattle.np_base.specs.Ranges.{holds, IsAscending};
+ghost use Rattle.np_check.specs.Counters.{addresses_of, counter_between};
+ghost use Rattle.np_check.specs.Firsts.{first_of};
+ghost use Rattle.np_check.specs.steps.Broken as spec;
+ghost use Rattle.np_check.specs.declared.counter.PlaceEnd.TheVariants.{At, Work};
+ghost use Rattle.np_conns.specs.declared.port_spot.PortSpot.{PortSpot};
+ghost use Rattle.np_table.specs.Rows.{rows_of_addresses};
+ghost use Rattle.np_table.specs.Table.{IsWorkload};
+
+use crate::asked::Asked;
+use crate::counter::{Counter, PlaceEnd};
+use crate::order::comes_before;
+use np_addr::{AddrSet, Address, family_of};
+use np_base::{Cells, NoMemory, Point, Range, later};
+use np_conns::PortSpot;
+use np_fold::Folded;
+use np_policies::Direction;
+use np_steps::Steps;
+use np_table::{AddressRow, AddressSpan, address_rows};
+use std::alloc::Global;
+use std::sync::ledger::Ledger;
+
+/// The first packet from a workload to the addresses of a set that breaks a statement.
+pub(crate) fn first_to_addresses<L: Ledger>(
+    alloc: Global,
+    folded: &Folded,
+    asked: &Asked<'_>,
+    source: u32,
+    block: &AddrSet,
+    steps: &mut Steps<L>,
+) -> Result<Option<Counter>, NoMemory>
+    requires { IsWorkload folded.now source }
+    ensures counter { IfOk result (λ made. made ≡ first_of
+        (λ address. counter_between folded.now asked.now.wanted asked.now.conns.now (Work source) (At address))
+        (addresses_of block.now)) }
+    ensures least { steps.old ≤ steps.new }
+{
+    if block.is_empty() {
+        return Ok(None);
+    }
+    let rows = address_rows(alloc, folded, source, Direction::Egress, steps)?;
+    let Some(broken) = first_broken(asked, rows.items(), block)? else {
+        return Ok(None);
+    };
+    Ok(Some(Counter {
+        source: PlaceEnd::Work(source),
+        destination: PlaceEnd::At(broken.address),
+        family: family_of(broken.address),
+        spot: broken.spot,
+    }))
+}
+
+/// The first packet from the addresses of a set to some workloads that breaks a statement: by the address, and then by the
+/// workload. For each workload the first address is found, and of these the first is taken.
+pub(crate) fn first_from_addresses<L: Ledger>(
+    alloc: Global,
+    folded: &Folded,
+    asked: &Asked<'_>,
+    block: &AddrSet,
+    destinations: &[u32],
+    steps: &mut Steps<L>,
+) -> Result<Option<Counter>, NoMemory>
+    requires { All (IsWorkload folded.now) destinations.now }
+    ensures counter { IfOk result (λ made. made ≡ first_of
+        (λ address. first_of
+        (λ destination. counter_between folded.now asked.now.wanted asked.now.conns.now (At address) (Work destination))
+        destinations.now) (addresses_of block.now)) }
+    ensures least { steps.old ≤ steps.new }
+{
+    let mut first = None;
+    if block.is_empty() {
+        return Ok(first);
+    }
+    for destination in destinations {
+        let found = first_from(alloc, folded, asked, block, *destination, steps)?;
+        first = earlier(first, found);
+    }
+    Ok(first)
+}
+
+// The first packet from the addresses of a set to a workload that breaks a statement.
+fn first_from<L: Ledger>(
+    alloc: Global,
+    folded: &Folded,
+    asked: &Asked<'_>,
+    block: &AddrSet,
+    destination: u32,
+    steps: &mut Steps<L>,
+) -> Result<Option<Counter>, NoMemory>
+    requires destination { IsWorkload folded.now destination }
+    requires block { IsAddressSet block.now }
+    ensures counter { IfOk result (λ made. made ≡ first_of
+        (λ address. counter_between folded.now asked.now.wanted asked.now.conns.now (At address) (Work destination))
+        (addresses_of block.now)) }
+    ensures least { steps.old ≤ steps.new }
+{
+    let rows = address_rows(alloc, folded, destination, Direction::Ingress, steps)?;
+    let Some(broken) = first_broken(asked, rows.items(), block)? else {
+        return Ok(None);
+    };
+    Ok(Some(Counter {
+        source: PlaceEnd::At(broken.address),
+        destination: PlaceEnd::Work(destination),
+        family: family_of(broken.address),
+        spot: broken.spot,
+    }))
+}
+
+// Of two packets the one whose source comes first; where both have one source, the first of the two.
+fn earlier(first: Option<Counter>, found: Option<Counter>) -> Option<Counter>
+    ensures { result ≡ spec.earlier first found }
+{
+    match found {
+        None => first,
+        Some(counter) => match first {
+            None => Some(counter),
+            Some(kept) => Some(earlier_of(kept, counter)),
+        },
+    }
+}
+
+// The same of two that are there.
+fn earlier_of(kept: Counter, counter: Counter) -> Counter
+    ensures { result ≡ spec.earlier_of kept counter }
+{
+    if comes_before(&counter.source, &kept.source) {
+        counter
+    } else {
+        kept
+    }
+}
+
+/// An address, and a protocol and port at which a packet with it breaks a statement.
+#[derive(Clone, Copy)]
+pub(crate) struct Broken {
+    pub address: Address,
+    pub spot: PortSpot,
+}
+
+// The first address of a set with which a packet breaks a statement, by what passes with each range of addresses.
+fn first_broken(
+    asked: &Asked<'_>,
+    rows: &[AddressRow],
+    block: &AddrSet,
+) -> Result<Option<Broken>, NoMemory>
+    requires { IsAddressSet block.now }
+    ensures { (passes : Family → ℕ → PortSpot → Bool) → rows.now ≡ rows_of_addresses passes →
+        IfOk result (λ made. made ≡ spec.first_broken_of asked.now.wanted asked.now.conns.now block.now passes) }
+{
+    for row in rows {
+        let found = first_broken_in(asked, row, block)?;
+        if found.is_some() {
+            return Ok(found);
+        }
+    }
+    Ok(None)
+}
+
+// The same in one range.
+fn first_broken_in(
+    asked: &Asked<'_>,
+    row: &AddressRow,
+    block: &AddrSet,
+) -> Result<Option<Broken>, NoMemory>
+    ensures { IfOk result (λ made. made ≡ spec.broken_in asked.now.wanted asked.now.conns.now block.now row.now) }
+{
+    let Some(address) = first_within(block, row.span) else {
+        return Ok(None);
+    };
+    let Some(spot) = asked.first_broken(&row.conns)? else {
+        return Ok(None);
+    };
+    Ok(Some(Broken { address, spot }))
+}
+
+// The first address of a set in a range.
+fn first_within(block: &AddrSet, span: AddressSpan) -> Option<Address>
+    ensures { result ≡ spec.first_within block.now span }
+{
+    match span {
+        AddressSpan::Four(range) => first_point(block.first.ranges(), range).map(Address::Four),
+        AddressSpan::Six(range) => first_point(block.second.ranges(), range).map(Address::Six),
+    }
+}
+
+// The first point of two ranges of which the one ends no earlier than the other begins.
+fn first_of_both<P: Point>(range: Range<P>, within: Range<P>) -> Option<P>
+    ensures { option_map P.number_of result
+        ≡ spec.first_common (P.number_of range.lo) (P.number_of within.lo) (P.number_of within.hi) }
+{
+    let first = later(range.lo, within.lo);
+    if first.number() <= within.hi.number() {
+        Some(first)
+    } else {
+        None
+    }
+}
+
+// The first point of some ranges in a range.
+fn first_point<P: Point>(ranges: &[Range<P>], within: Range<P>) -> Option<P>
+    ensures { option_map P.number_of result
+        ≡ spec.first_number P.number_of ranges.now (P.number_of within.lo) (P.number_of within.hi) }
+{
+    for range in ranges {
+        if within.lo.number() <= range.hi.number() {
+            return first_of_both(*range, within);
+        }
+    }
+    None
+}

@@ -1,0 +1,42 @@
+//! What follows from the definitions. Each law is the contract of a call that does nothing.
+ghost use Rattle.std.specs.Prelude.{◌≡◌, ◌↔◌, ℕ, List, None, Some, All, true};
+ghost use Rattle.np_check.specs.Counters.{counter_of};
+ghost use Rattle.np_check.specs.FirstPacket.{IsBroken, IsFirstBroken};
+ghost use Rattle.np_check.specs.Holding.{Holds};
+ghost use Rattle.np_check.specs.Numbers.{is_ascending};
+ghost use Rattle.np_check.specs.StatementGrammar.{IsStatementText};
+ghost use Rattle.np_check.specs.StatementTexts.{IsWellStatement, statement_text};
+ghost use Rattle.np_check.specs.declared.counter.Counter.{Counter};
+ghost use Rattle.np_check.specs.declared.question.Question.{Question};
+ghost use Rattle.np_check.specs.declared.statement_text.StatementText.{StatementText};
+ghost use Rattle.np_estate.specs.Lawful.{IsLawful};
+ghost use Rattle.np_estate.specs.declared.lists.EstateLists.{EstateLists};
+ghost use Rattle.np_table.specs.Table.{IsWorkload};
+
+/// A line is the text of one statement at most.
+pub fn one_statement_of_a_line()
+    ensures { (line : List ℕ) (statement other : StatementText) →
+        IsStatementText line statement → IsStatementText line other → statement ≡ other }
+{}
+
+/// The text of a statement is read as that statement.
+pub fn text_of_a_statement_reads_again()
+    ensures { (statement : StatementText) → IsWellStatement statement → IsStatementText (statement_text statement) statement }
+{}
+
+/// `check` finds nothing exactly where the statement holds: where every packet that it speaks of complies, between every
+/// two different pods of its workloads, and between every pod of them and every address of its blocks.
+pub fn nothing_is_found_where_a_statement_holds()
+    ensures { (lists : EstateLists) (question : Question) → IsLawful lists →
+        All (IsWorkload lists) question.source.works → All (IsWorkload lists) question.destination.works →
+        (counter_of lists question ≡ None) ↔ Holds lists question }
+{}
+
+/// What `check` finds breaks the statement, and no packet that does comes before it; and where it finds nothing, none does.
+pub fn the_first_packet_is_found()
+    ensures first { (lists : EstateLists) (question : Question) (packet : Counter) →
+        is_ascending question.source.works ≡ true → is_ascending question.destination.works ≡ true →
+        counter_of lists question ≡ Some packet → IsFirstBroken lists question packet }
+    ensures none { (lists : EstateLists) (question : Question) (packet : Counter) →
+        counter_of lists question ≡ None → IsBroken lists question packet → ⊥ }
+{}

@@ -1,0 +1,23 @@
+//! What a statement asks.
+
+use crate::statement_text::Wanted;
+use np_addr::AddrSet;
+use np_base::Seq;
+use np_conns::ConnSet;
+
+/// The ends on one side of a statement: workloads, by their numbers, and addresses.
+#[derive(Debug, Drop)]
+pub struct Ends {
+    pub works: Seq<u32>,
+    pub block: AddrSet,
+}
+
+/// What a statement asks: that all packets from its source to its destination at some protocols and ports are allowed, or
+/// that all are denied.
+#[derive(Debug, Drop)]
+pub struct Question {
+    pub wanted: Wanted,
+    pub source: Ends,
+    pub destination: Ends,
+    pub conns: ConnSet,
+}
