@@ -1,0 +1,5 @@
+pub mod Faults
+pub mod Flat
+pub mod Groups
+pub mod Pairs
+pub mod steps

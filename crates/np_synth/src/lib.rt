@@ -1,0 +1,18 @@
+//! One tier of NetworkPolicies that gives the verdicts of a whole estate: a policy for each group of workloads that selectors
+//! cannot tell apart.
+#![tactic(auto)]
+
+mod address_rules;
+mod differ;
+mod fault;
+mod flat;
+mod flatten;
+mod groups;
+mod policy_parts;
+mod sides;
+mod split;
+mod unlike;
+
+pub use fault::FlatFault;
+pub use flat::Flat;
+pub use flatten::flatten;
