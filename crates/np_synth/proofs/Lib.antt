@@ -1,2 +1,9 @@
 pub mod AgreeLemmas
+pub mod ClassFirsts
+pub mod DifferLemmas
 pub mod FirstPairs
+pub mod GroupLemmas
+pub mod GroupSets
+pub mod KindGroups
+pub mod SelectLemmas
+pub mod SplitLemmas

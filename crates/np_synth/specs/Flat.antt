@@ -1,51 +1,28 @@
 -- The flat policies: one NetworkPolicy for each group.
-use Rattle.std.specs.Prelude.{ℕ, List, [], ◌∷◌, ◌++◌, Bool, ◌&&◌, ◌==◌, map, find, flat_map, option_map, codes, decimal, Option, Some, None, if◌then◌else◌}
+use Rattle.std.specs.Prelude.{ℕ, List, [], ◌∷◌, ◌++◌, ◌&&◌, ◌==◌, map, find, flat_map, codes, decimal, Option, Some, None, option_map, if◌then◌else◌}
 use Rattle.np_addr.specs.Blocks.{AddressRanges}
 use Rattle.np_addr.specs.Prefixes.{prefixes_of}
-use Rattle.np_base.specs.declared.range.Range.{Range}
 use Rattle.np_classes.specs.Classes.{places}
 use Rattle.np_conns.specs.Conns.{Conns}
-use Rattle.np_conns.specs.ConnsText.{is_whole}
-use Rattle.np_conns.specs.declared.proto.Proto.{Proto}
-use Rattle.np_conns.specs.declared.proto.Proto.TheVariants.{Tcp, Udp, Sctp}
 use Rattle.np_estate.specs.declared.lists.EstateLists.{EstateLists}
-use Rattle.np_labels.specs.Labels.{value_of}
-use Rattle.np_labels.specs.Selectors.{label_requirement, requirement_of}
-use Rattle.np_labels.specs.declared.op.Op.TheVariants.{Absent}
-use Rattle.np_labels.specs.declared.pair.Pair.{Pair}
-use Rattle.np_labels.specs.declared.requirement.Requirement.{Requirement}
 use Rattle.np_labels.specs.declared.selector.Selector.{Selector}
 use Rattle.np_policies.specs.declared.direction.Direction.{Direction}
 use Rattle.np_policies.specs.declared.direction.Direction.TheVariants.{Ingress, Egress}
 use Rattle.np_policies.specs.declared.network_policy.NetPeer.{NetPeer}
 use Rattle.np_policies.specs.declared.network_policy.NetPeer.TheVariants.{Pods, Block}
 use Rattle.np_policies.specs.declared.network_policy.NetPolicy.{NetPolicy}
-use Rattle.np_policies.specs.declared.network_policy.NetPort.{NetPort}
-use Rattle.np_policies.specs.declared.network_policy.NetPort.TheVariants as port
 use Rattle.np_policies.specs.declared.network_policy.NetRule.{NetRule}
-use Rattle.np_rules.specs.Ends.{PodEnd}
 use Rattle.np_synth.specs.Faults.{is_defined, set_of}
 use Rattle.np_synth.specs.Groups.{first_end, first_of_group, group_count, group_of, relevant}
+use Rattle.np_synth.specs.Ports.{ports_of}
+use Rattle.np_synth.specs.Selecting.{namespace_named, selector_of}
 use Rattle.np_table.specs.Rows.{address_rows, is_nothing}
 use Rattle.np_table.specs.Table.{estate_table, number_of_workloads}
 use Rattle.np_table.specs.declared.rows.AddressRow.{AddressRow}
 use Rattle.np_table.specs.declared.rows.AddressSpan.{AddressSpan}
 use Rattle.np_table.specs.declared.rows.AddressSpan.TheVariants as span
 
--- ---- selectors
-
--- a key has the value, or is absent where there is none
-abbrev pub requirement_at : List ℕ → Option (List ℕ) → Requirement
-requirement_at key (Some value) = label_requirement (key, value)
-requirement_at key None = requirement_of key Absent []
-
--- a key is as labels have it
-abbrev pub requirement_of_key : List Pair → List ℕ → Requirement
-requirement_of_key labels key = requirement_at key (value_of labels key)
-
--- the selector of what has the same values of these keys as some labels
-abbrev pub selector_of : List (List ℕ) → List Pair → Selector
-selector_of keys labels = record { requirements = map (requirement_of_key labels) keys }
+-- ---- groups as selectors see them
 
 -- the selector of a group
 abbrev pub group_selector : EstateLists → ℕ → Selector
@@ -54,22 +31,6 @@ group_selector lists group = selector_of (relevant lists) (first_end lists (firs
 -- the namespace of a group
 abbrev pub group_namespace : EstateLists → ℕ → List ℕ
 group_namespace lists group = (first_end lists (first_of_group lists group)).namespace
-
--- the selector of the namespace of a name
-abbrev pub namespace_named : List ℕ → Selector
-namespace_named name = record { requirements = label_requirement (codes "kubernetes.io/metadata.name", name) ∷ [] }
-
--- ---- ports
-
-abbrev pub span_of : Proto → Range ℕ → NetPort
-span_of proto run = port.Span proto run.lo run.hi
-
-abbrev pub spans_of_all : Conns → List NetPort
-spans_of_all conns = map (span_of Tcp) conns.tcp ++ map (span_of Udp) conns.udp ++ map (span_of Sctp) conns.sctp
-
--- the runs of a set, of TCP, of UDP and then of SCTP; none of the whole space, which needs no ports
-abbrev pub ports_of : Conns → List NetPort
-ports_of conns = if is_whole conns.tcp && is_whole conns.udp && is_whole conns.sctp then [] else spans_of_all conns
 
 -- ---- rules
 
@@ -151,3 +112,7 @@ flat_policy lists group =
 -- the policies of all groups
 abbrev pub flat_policies : EstateLists → List NetPolicy
 flat_policies lists = map (flat_policy lists) (places (group_count lists))
+
+-- the estate with these policies alone
+abbrev pub flattened : EstateLists → EstateLists
+flattened lists = record lists { net_policies = flat_policies lists; admin_policies = []; baseline = None }

@@ -2,4 +2,6 @@ pub mod Faults
 pub mod Flat
 pub mod Groups
 pub mod Pairs
+pub mod Ports
+pub mod Selecting
 pub mod steps

@@ -3,7 +3,9 @@ ghost use Rattle.std.specs.Prelude.{◌≡◌, ◌++◌, IfOk, OnOk, Some, map};
 ghost use Rattle.std.specs.Option.{option_map};
 ghost use Rattle.np_conns.specs.ConnsText.{is_whole};
 ghost use Rattle.np_policies.specs.declared.network_policy.NetPeer.TheVariants.{Pods};
-ghost use Rattle.np_synth.specs.Flat as spec;
+ghost use Rattle.np_synth.specs.Flat.{flat_name, rule_to_everyone};
+ghost use Rattle.np_synth.specs.Ports.{ports_of, span_of};
+ghost use Rattle.np_synth.specs.Selecting as select;
 ghost use Rattle.np_table.specs.Rows.{is_nothing};
 
 use np_base::{NoMemory, PortNum, Range, Seq, Text};
@@ -15,7 +17,7 @@ use std::alloc::Global;
 
 /// The name of the policy of a group: `flat-` and its number.
 pub(crate) fn flat_name(alloc: Global, group: u32) -> Result<Text, NoMemory>
-    ensures { IfOk result (λ name. name ≡ spec.flat_name group) }
+    ensures { IfOk result (λ name. name ≡ flat_name group) }
 {
     Ok(Text::from_string(format!(in alloc; "flat-{group}")?))
 }
@@ -28,7 +30,7 @@ pub(crate) fn selector_of(
     keys: &[Text],
     labels: &Labels,
 ) -> Result<Selector, NoMemory>
-    ensures { IfOk result (λ made. made ≡ spec.selector_of keys.now labels.now) }
+    ensures { IfOk result (λ made. made ≡ select.selector_of keys.now labels.now) }
 {
     let mut requirements = Seq::new(alloc);
     for key in keys {
@@ -39,7 +41,7 @@ pub(crate) fn selector_of(
 
 // What is asked of one key.
 fn requirement_of(alloc: Global, key: &Text, labels: &Labels) -> Result<Requirement, NoMemory>
-    ensures { IfOk result (λ made. made ≡ spec.requirement_of_key labels.now key.now) }
+    ensures { IfOk result (λ made. made ≡ select.requirement_of_key labels.now key.now) }
 {
     match labels.get(key.as_str()) {
         Some(value) => Requirement::of_label(alloc, key.copy()?, Text::of(alloc, value)?),
@@ -50,7 +52,7 @@ fn requirement_of(alloc: Global, key: &Text, labels: &Labels) -> Result<Requirem
 // The selector of the namespace of a name, by the label that each namespace has (Kubernetes documentation, "Well-Known
 // Labels, Annotations and Taints").
 fn namespace_named(alloc: Global, name: &Text) -> Result<Selector, NoMemory>
-    ensures { IfOk result (λ made. made ≡ spec.namespace_named name.now) }
+    ensures { IfOk result (λ made. made ≡ select.namespace_named name.now) }
 {
     let key = Text::of(alloc, "kubernetes.io/metadata.name")?;
     let mut requirements = Seq::new(alloc);
@@ -62,7 +64,7 @@ fn namespace_named(alloc: Global, name: &Text) -> Result<Selector, NoMemory>
 
 /// The pods of a pod's namespace that have the same values of these keys.
 pub(crate) fn peer_like(alloc: Global, keys: &[Text], pod: &Pod) -> Result<NetPeer, NoMemory>
-    ensures { IfOk result (λ made. made ≡ Pods (Some (spec.namespace_named pod.now.namespace)) (Some (spec.selector_of keys.now pod.now.labels))) }
+    ensures { IfOk result (λ made. made ≡ Pods (Some (select.namespace_named pod.now.namespace)) (Some (select.selector_of keys.now pod.now.labels))) }
 {
     let namespaces = namespace_named(alloc, &pod.namespace)?;
     let pods = selector_of(alloc, keys, &pod.labels)?;
@@ -74,7 +76,7 @@ pub(crate) fn peer_like(alloc: Global, keys: &[Text], pod: &Pod) -> Result<NetPe
 
 /// The rule of every pod of every namespace at every port.
 pub(crate) fn rule_to_everyone(alloc: Global) -> Result<NetRule, NoMemory>
-    ensures { IfOk result (λ made. made ≡ spec.rule_to_everyone) }
+    ensures { IfOk result (λ made. made ≡ rule_to_everyone) }
 {
     let everywhere = Selector {
         requirements: Seq::new(alloc),
@@ -95,7 +97,7 @@ pub(crate) fn rule_to_everyone(alloc: Global) -> Result<NetRule, NoMemory>
 /// The ports of a rule that lets a set pass: its runs, of TCP, of UDP and then of SCTP. There is none where the set has
 /// everything, since a rule without ports restricts none (Kubernetes API reference, NetworkPolicyIngressRule).
 pub(crate) fn ports_of(alloc: Global, conns: &ConnSet) -> Result<Seq<NetPort>, NoMemory>
-    ensures { IfOk result (λ made. made ≡ spec.ports_of conns.now) }
+    ensures { IfOk result (λ made. made ≡ ports_of conns.now) }
 {
     let mut ports = Seq::new(alloc);
     let tcp = conns.spans(Proto::Tcp);
@@ -126,7 +128,7 @@ fn add_spans(
     proto: Proto,
     runs: &[Range<PortNum>],
 ) -> Result<(), NoMemory>
-    ensures { OnOk result (ports.new ≡ ports.old ++ map (spec.span_of proto) runs.now) }
+    ensures { OnOk result (ports.new ≡ ports.old ++ map (span_of proto) runs.now) }
 {
     for run in runs {
         let lo = run.lo;
