@@ -72,7 +72,7 @@ flat_map-unmarked f (k ∷ ks) none =
 
 -- ---- the rows of a pair
 
-nothing_is : (conns : Conns) → is_nothing conns ≡ true → conns ≡ record { tcp = []; udp = []; sctp = [] }
+pub nothing_is : (conns : Conns) → is_nothing conns ≡ true → conns ≡ record { tcp = []; udp = []; sctp = [] }
 nothing_is conns is =
     let outer = and_parts (is_none conns.tcp && is_none conns.udp) (is_none conns.sctp) is in
     let inner = and_parts (is_none conns.tcp) (is_none conns.udp) outer.0 in
