@@ -92,7 +92,7 @@ walk-any passes high n spot below is = right-any passes n 0 (high + 1) None (wal
 abbrev pub row_tells : Family → ℕ → PortSpot → AddressRow → Bool
 row_tells family number spot row = span_has row.span family number && has_spot row.conns spot
 
-any-never : {X : Type 0} (xs : List X) → list_any (λ (x : X). false) xs ≡ false
+pub any-never : {X : Type 0} (xs : List X) → list_any (λ (x : X). false) xs ≡ false
 any-never [] = refl
 any-never (x ∷ xs) = any-never xs
 
@@ -188,7 +188,7 @@ span-some s well =
 
 -- ---- rules
 
-nothing-has : (conns : Conns) (spot : PortSpot) → is_nothing conns ≡ true → has_spot conns spot ≡ false
+pub nothing-has : (conns : Conns) (spot : PortSpot) → is_nothing conns ≡ true → has_spot conns spot ≡ false
 nothing-has conns spot is = ap (λ (c : Conns). has_spot c spot) (nothing_is conns is) ∙ by spot.proto
   where
     by : (proto : Proto) → has_spot (record { tcp = []; udp = []; sctp = [] }) (record { proto = proto; port = spot.port }) ≡ false
@@ -196,7 +196,7 @@ nothing-has conns spot is = ap (λ (c : Conns). has_spot c spot) (nothing_is con
     by Udp = refl
     by Sctp = refl
 
-abbrev at_address : Family → ℕ → End → PortSpot → Contact
+abbrev pub at_address : Family → ℕ → End → PortSpot → Contact
 at_address family number destination spot = record { far = address (address_of family number); destination = destination; family = family; spot = spot }
 
 row-permits : (namespace : List ℕ) (row : AddressRow) (family : Family) (number : ℕ) (destination : End) (spot : PortSpot) → IsWellSpan row.span → is_spot spot ≡ true → list_any (λ rule. net_rule_matches namespace rule (at_address family number destination spot)) (rule_if (blocks_of_span row.span) row.conns) ≡ row_tells family number spot row

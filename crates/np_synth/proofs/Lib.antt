@@ -1,9 +1,14 @@
+pub mod AddressVerdicts
 pub mod AgreeLemmas
 pub mod ClassFirsts
 pub mod DifferLemmas
 pub mod FirstPairs
+pub mod FlatFacts
+pub mod FlatVerdicts
 pub mod GroupLemmas
 pub mod GroupSets
 pub mod KindGroups
+pub mod OnePolicy
+pub mod PortLemmas
 pub mod SelectLemmas
 pub mod SplitLemmas
