@@ -45,8 +45,8 @@ module _ {C R : Type 0} (count : ℕ) (defined : ℕ → ℕ → Bool) (set : �
   -- ---- kinds
 
   module _ (kind : ℕ → ℕ) (apart_defined : (x y : ℕ) → x ≢ y → defined x y ≡ true)
-    (by_kinds : (x x' y y' : ℕ) → x < count → x' < count → y < count → y' < count → kind x ≡ kind x' → kind y ≡ kind y' → defined x y ≡ true → defined x' y' ≡ true → set x y ≡ set x' y')
-    (own_by_kinds : (x x' : ℕ) → x < count → x' < count → kind x ≡ kind x' → own x ≡ own x') where
+      (by_kinds : (x x' y y' : ℕ) → x < count → x' < count → y < count → y' < count → kind x ≡ kind x' → kind y ≡ kind y' → defined x y ≡ true → defined x' y' ≡ true → set x y ≡ set x' y')
+      (own_by_kinds : (x x' : ℕ) → x < count → x' < count → kind x ≡ kind x' → own x ≡ own x') where
     -- numbers of one kind agree
     pub Agree-kinds : (a b : ℕ) → a < count → b < count → a ≢ b → kind a ≡ kind b → agree a b
     Agree-kinds a b a_in b_in apart same = record {
@@ -61,9 +61,9 @@ module _ {C R : Type 0} (count : ℕ) (defined : ℕ → ℕ → Bool) (set : �
     -- ---- firsts of groups and of kinds
 
     module _ (differ : ℕ → ℕ → Bool) (to_agree : (a b : ℕ) → a < count → b < count → a ≢ b → differ a b ≡ false → agree a b)
-      (first : ℕ → ℕ) (first_in : (w : ℕ) → w < count → first w < count) (first_low : (w : ℕ) → w < count → first w ≤ w) (first_twice : (w : ℕ) → w < count → first (first w) ≡ first w)
-      (kind_first : ℕ → ℕ) (kind_in : (w : ℕ) → w < count → kind_first w < count) (kind_low : (w : ℕ) → w < count → kind_first w ≤ w)
-      (kind_same : (w : ℕ) → w < count → kind (kind_first w) ≡ kind w) (kind_group : (w : ℕ) → w < count → first (kind_first w) ≡ first w) where
+        (first : ℕ → ℕ) (first_in : (w : ℕ) → w < count → first w < count) (first_low : (w : ℕ) → w < count → first w ≤ w) (first_twice : (w : ℕ) → w < count → first (first w) ≡ first w)
+        (kind_first : ℕ → ℕ) (kind_in : (w : ℕ) → w < count → kind_first w < count) (kind_low : (w : ℕ) → w < count → kind_first w ≤ w)
+        (kind_same : (w : ℕ) → w < count → kind (kind_first w) ≡ kind w) (kind_group : (w : ℕ) → w < count → first (kind_first w) ≡ first w) where
       -- a number is the first of its group, or agrees with it
       abbrev IsWithFirst : ℕ → Type 0
       IsWithFirst w = (first w ≡ w) ⊎ agree (first w) w
@@ -77,9 +77,9 @@ module _ {C R : Type 0} (count : ℕ) (defined : ℕ → ℕ → Bool) (set : �
           elim (cases_eq (first w) w) [
             | inl here ↦ inl here
             | inr apart ↦ elim (cases_eq (kind_first w) (first w)) [
-                | inl one ↦ inr (Agree-kinds (first w) w (first_in w within) within apart (ap kind (sym one) ∙ kind_same w within))
-                | inr other ↦ inr (apart_from w within apart other (of_like is_like))
-              ]
+              | inl one ↦ inr (Agree-kinds (first w) w (first_in w within) within apart (ap kind (sym one) ∙ kind_same w within))
+              | inr other ↦ inr (apart_from w within apart other (of_like is_like))
+            ]
           ]
         where
           of_like : like (kind_first w) → (kind_first w ≢ first w) → agree (first w) (kind_first w)
@@ -115,17 +115,17 @@ module _ {C R : Type 0} (count : ℕ) (defined : ℕ → ℕ → Bool) (set : �
               elim (cases_eq (first a) a) [
                 | inl a_first ↦ subst (λ (n : ℕ). agree n b) (sym same ∙ a_first) with_b
                 | inr not_a ↦ elim (cases_eq (first b) b) [
-                    | inl b_first ↦ Agree-sym b a (subst (λ (n : ℕ). agree n a) (same ∙ b_first) with_a)
-                    | inr not_b ↦ both not_a not_b with_a with_b
-                  ]
+                  | inl b_first ↦ Agree-sym b a (subst (λ (n : ℕ). agree n a) (same ∙ b_first) with_a)
+                  | inr not_b ↦ both not_a not_b with_a with_b
+                ]
               ]
 
       -- ---- the least pair
 
       module _ (together : ℕ → ℕ → Bool) (from_agree : (a b : ℕ) → a < count → b < count → a ≢ b → agree a b → differ a b ≡ false)
-        (to_first : (a b : ℕ) → a < count → b < count → together a b ≡ true → first a ≡ first b)
-        (from_first : (a b : ℕ) → a < count → b < count → first a ≡ first b → together a b ≡ true)
-        (kinds : List ℕ) (kind_listed : (P : ℕ → Type 0) → All P kinds → (w : ℕ) → w < count → P (kind_first w)) where
+          (to_first : (a b : ℕ) → a < count → b < count → together a b ≡ true → first a ≡ first b)
+          (from_first : (a b : ℕ) → a < count → b < count → first a ≡ first b → together a b ≡ true)
+          (kinds : List ℕ) (kind_listed : (P : ℕ → Type 0) → All P kinds → (w : ℕ) → w < count → P (kind_first w)) where
         -- two numbers, the lesser first, are of one group and differ
         abbrev unlike : ℕ → ℕ → Bool
         unlike a b = nat_lt a b && together a b && differ a b
@@ -175,8 +175,8 @@ module _ {C R : Type 0} (count : ℕ) (defined : ℕ → ℕ → Bool) (set : �
             let less : pair.0 < pair.1 = grind (arith, there.apart) in
             let pair_in : pair.0 < count = omega (arith, less, there.within) in
             let holds : unlike pair.0 pair.1 ≡ true = and_from (nat_lt pair.0 pair.1 && together pair.0 pair.1) (differ pair.0 pair.1)
-                (and_from (nat_lt pair.0 pair.1) (together pair.0 pair.1) (lt-ltb pair.0 pair.1 less) (from_first pair.0 pair.1 pair_in there.within (own_first ∙ sym there.of_group)))
-                there.differ_so in
+            (and_from (nat_lt pair.0 pair.1) (together pair.0 pair.1) (lt-ltb pair.0 pair.1 less) (from_first pair.0 pair.1 pair_in there.within (own_first ∙ sym there.of_group)))
+            there.differ_so in
             sym (first_pair-some unlike count pair.0 pair.1 pair_in there.within holds
             (λ x y low y_in.
             let x_in : x < count = omega (arith, low, pair_in) in

@@ -1,16 +1,18 @@
 -- Two workloads do not differ exactly where they agree.
-use Rattle.std.proofs.Common.{◌≡◌, ◌≢◌, ◌⊎◌, ℕ, ◌<◌, List, [], ◌∷◌, Bool, true, false, not, ◌&&◌, ◌||◌, ◌==◌, if◌then◌else◌, map, eq-eqb, refl, sym, ap, subst, ◌∙◌, inl, inr}
+use Rattle.std.proofs.Common.{◌≡◌, ◌≢◌, ◌⊎◌, ℕ, ◌+◌, ◌<◌, List, [], ◌∷◌, Bool, true, false, not, ◌&&◌, ◌||◌, ◌==◌, if◌then◌else◌, map, eq-eqb, refl, sym, ap, subst, ◌∙◌, inl, inr}
 use Rattle.std.specs.Prelude.{filter}
-use Rattle.std.specs.Bool.{Decides}
+use Rattle.std.specs.Bool.{Decides, MatchBool}
 use Rattle.std.specs.Cmp.Lexicographic.{pointwise}
 use Rattle.std.specs.List.{list_any}
 use Rattle.std.proofs.lemmas.Bool.{and_parts, and_from, cases_Bool, eqb-true, false_from_ne_true, ne_eqb, or_left, or_parts, or_right, true≢false}
 use Rattle.std.proofs.lemmas.Bool.Decides.{Decides-and, Decides-eqb, Decides-like}
+use Rattle.std.proofs.lemmas.List.Folds.{list_any-append}
 use Rattle.std.proofs.lemmas.Slice.Eq.{slice_eq-Decides}
 use Rattle.np_base.specs.declared.range.Range.{Range}
-use Rattle.np_classes.proofs.Lists.{any_place, place_that_passes}
+use Rattle.np_classes.proofs.Lists.{any_place, place_that_passes, places_more}
 use Rattle.np_classes.specs.Classes.{places}
-use Rattle.np_conns.specs.Conns.{Conns}
+use Rattle.np_conns.specs.Conns.{Conns, has_spot}
+use Rattle.np_conns.specs.declared.port_spot.PortSpot.{PortSpot}
 use Rattle.np_estate.specs.declared.lists.EstateLists.{EstateLists}
 use Rattle.np_fold.specs.Workloads.{folding_of}
 use Rattle.np_policies.specs.declared.direction.Direction.{Direction}
@@ -57,7 +59,7 @@ among-map {X} {Y} f p (first ∷ xs) x (inl here) is = by (p first) (ap p (sym h
   where
     by : (b : Bool) → b ≡ true → IsAmong (f x) (map f (if b then first ∷ filter p xs else filter p xs))
     by true _ = inl (ap f here)
-    by false no = let never : false ≡ true = no in absurd (cc)
+    by false fails = let never : false ≡ true = fails in absurd (cc)
 among-map {X} {Y} f p (first ∷ xs) x (inr there) is = by (p first) (among-map f p xs x there is)
   where
     by : (b : Bool) → IsAmong (f x) (map f (filter p xs)) → IsAmong (f x) (map f (if b then first ∷ filter p xs else filter p xs))
@@ -210,3 +212,20 @@ from_agree lists a b a_in b_in apart agree =
 
     addresses : differ_at_addresses lists a b ≡ false
     addresses = rw (ingress, egress) refl
+
+-- ---- steps of the code
+
+-- at one more place none differs
+pub none_more : (p : ℕ → Bool) (n : ℕ) → list_any p (places n) ≡ false → p n ≡ false → list_any p (places (n + 1)) ≡ false
+none_more p n none here = ap (list_any p) (places_more n) ∙ list_any-append p (places n) (n ∷ []) ∙ rw (none, here) refl
+
+not_not : (b : Bool) → b ≡ not b → ⊥
+not_not true same = true≢false same
+not_not false same = true≢false (sym same)
+
+-- what tells whether sets have the same members is the test
+pub same-told : (one other : Conns) (answer : Bool) → MatchBool answer (one ≡ other) ((spot : PortSpot) × (has_spot one spot ≡ not (has_spot other spot))) → answer ≡ are_same_conns one other
+same-told one other true same = sym ((are_same_conns-Decides one other).1 same)
+same-told one other false apart =
+    sym (false_from_ne_true (are_same_conns one other) (λ yes.
+    not_not (has_spot other apart.0) (ap (λ (conns : Conns). has_spot conns apart.0) (sym ((are_same_conns-Decides one other).0 yes)) ∙ apart.1)))

@@ -58,7 +58,7 @@ module _ (test : ℕ → ℕ → Bool) where
         | inl here ↦
             find-append passes (row from (range_with_len 0 count)) (rows count (range_with_len (from + 1) n))
             ∙ ap (λ (o : Option (ℕ × ℕ)). option_or o (find passes (rows count (range_with_len (from + 1) n))))
-              (ap (λ (k : ℕ). find passes (row k (range_with_len 0 count))) (sym here) ∙ row-some a b 0 count (omega arith) (omega arith) is (λ y _ under. before y under))
+            (ap (λ (k : ℕ). find passes (row k (range_with_len 0 count))) (sym here) ∙ row-some a b 0 count (omega arith) (omega arith) is (λ y _ under. before y under))
         | inr apart ↦
             find-append passes (row from (range_with_len 0 count)) (rows count (range_with_len (from + 1) n))
             ∙ ap (λ (o : Option (ℕ × ℕ)). option_or o (find passes (rows count (range_with_len (from + 1) n)))) (row-none from 0 count (λ y _ under. earlier from y (omega arith) (omega arith)))

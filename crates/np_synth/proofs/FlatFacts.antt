@@ -73,7 +73,7 @@ same_sets sets families (inl one) none = subst (λ (fs : List Family). AllByRecu
 same_sets sets families (inr both) none =
     let two : two_differ (sets Four ∷ sets Six ∷ []) ≡ false = subst (λ (fs : List Family). two_differ (map sets fs) ≡ false) both none in
     let same : are_same_conns (sets Four) (sets Six) ≡ true = by (are_same_conns (sets Four) (sets Six)) (sym (two_differ-two (sets Four) (sets Six)) ∙ two) in
-    subst (λ (fs : List Family). AllByRecursion (λ family. sets family ≡ sets (first_family fs)) fs) (sym both) (refl, sym ((are_same_conns-Decides (sets Four) (sets Six)).0 same), tt)
+    subst (λ (fs : List Family). AllByRecursion (λ family. sets family ≡ sets (first_family fs)) fs) (sym both) (refl, (sym ((are_same_conns-Decides (sets Four) (sets Six)).0 same), tt))
   where
     by : (b : Bool) → not b ≡ false → b ≡ true
     by true is = refl
@@ -113,7 +113,7 @@ found-in lists source group w within same is =
     and_both false y is = let never : false ≡ true = is in absurd (cc)
 
 -- the first workload of a group is of it
-first-of : (lists : EstateLists) (x : ℕ) → x < number_of_workloads lists → (first_of_group lists (group_of lists x) < number_of_workloads lists) × (group_of lists (first_of_group lists (group_of lists x)) ≡ group_of lists x)
+pub first-of : (lists : EstateLists) (x : ℕ) → x < number_of_workloads lists → (first_of_group lists (group_of lists x) < number_of_workloads lists) × (group_of lists (first_of_group lists (group_of lists x)) ≡ group_of lists x)
 first-of lists x within = (
   first-in (are_together lists) (number_of_workloads lists) (together-is lists (number_of_workloads lists)) x within,
   first-class (are_together lists) (number_of_workloads lists) (together-is lists (number_of_workloads lists)) x within,

@@ -109,7 +109,7 @@ other-pod lists p group within below apart =
     let at = slice_get-get_or (firsts (are_together lists) n) group 0 below in
     let first_in = All-get_or (λ (k : ℕ). k < n) (firsts (are_together lists) n) group 0 below (firsts_within (are_together lists) n) in
     let tied = (look_decides (relevant lists) (first_end lists first) (first_end lists x)).1
-        ((look_decides (relevant lists) (first_end lists first) (pod_at lists p)).0 yes ∙ seen-pod lists p within) in
+    ((look_decides (relevant lists) (first_end lists first) (pod_at lists p)).0 yes ∙ seen-pod lists p within) in
     apart (sym (class_of_first (are_together lists) n lawful group first at) ∙ same_class (are_together lists) n lawful first x first_in (number-within lists p within) tied))
 
 -- the policy of a group selects the pods that are so
@@ -130,8 +130,10 @@ says_namespace lists p lawful within =
 -- and so does its peer
 peer-is : (lists : EstateLists) (namespace : List ℕ) (group p : ℕ) → IsLawful lists → p < length lists.pods → net_peer_matches namespace (group_peer lists group) (pod (pod_at lists p)) ≡ has_pod lists group p
 peer-is lists namespace group p lawful within =
-    rw (meets-namespace_named (group_namespace lists group) (pod_at lists p).namespace (pod_at lists p).namespace_labels (says_namespace lists p lawful within),
-    meets-selector_of (relevant lists) (first_end lists (first_of_group lists group)).labels (pod_at lists p).labels) refl
+    rw (
+      meets-namespace_named (group_namespace lists group) (pod_at lists p).namespace (pod_at lists p).namespace_labels (says_namespace lists p lawful within),
+      meets-selector_of (relevant lists) (first_end lists (first_of_group lists group)).labels (pod_at lists p).labels,
+    ) refl
 
 -- ---- rules of groups
 
@@ -169,7 +171,7 @@ groups-any : (lists : EstateLists) (namespace : List ℕ) (group p : ℕ) (desti
 groups-any lists namespace group p destination family spot lawful within is =
     let contact = from_pod lists p destination family spot in
     let each : (h : ℕ) → list_any (λ rule. net_rule_matches namespace rule contact) (rules_from_group lists group h) ≡ (has_pod lists h p && told (set_from lists h group) spot) = λ h.
-        set-any namespace (group_peer lists h) (set_from lists h group) contact is ∙ ap (λ (b : Bool). b && told (set_from lists h group) spot) (peer-is lists namespace h p lawful within) in
+    set-any namespace (group_peer lists h) (set_from lists h group) contact is ∙ ap (λ (b : Bool). b && told (set_from lists h group) spot) (peer-is lists namespace h p lawful within) in
     any-flat_map (λ (rule : NetRule). net_rule_matches namespace rule contact) (rules_from_group lists group) (places (group_count lists))
     ∙ only-one (λ (h : ℕ). list_any (λ rule. net_rule_matches namespace rule contact) (rules_from_group lists group h)) (group_count lists) (group_at lists p) (group-within lists p within)
     (λ h below apart. each h ∙ ap (λ (b : Bool). b && told (set_from lists h group) spot) (other-pod lists p h within below apart))
@@ -268,6 +270,7 @@ address-side lists fine p Egress family number destination spot within in_family
 
 -- between a pod and an address the flat policies allow what the whole estate does
 pub addresses-same : (lists : EstateLists) (p : ℕ) (direction : Direction) (family : Family) (number : ℕ) (spot : PortSpot) → IsLawful lists → flat_fault lists ≡ None → p < length lists.pods → IsInFamily family number → is_spot spot ≡ true → with_address (flattened lists) direction (pod (pod_at lists p)) family number spot ≡ with_address lists direction (pod (pod_at lists p)) family number spot
+unfolding allows
 addresses-same lists p direction family number spot lawful fine within in_family is =
     flat direction ∙ sym (with_address-address_allows lists p direction family number spot lawful within)
   where
@@ -276,7 +279,6 @@ addresses-same lists p direction family number spot lawful fine within in_family
     and_true false = refl
 
     flat : (d : Direction) → with_address (flattened lists) d (pod (pod_at lists p)) family number spot ≡ address_allows lists (folding_of lists) (number_of lists p) d family number spot
-    unfolding allows
     flat Ingress = address-side lists fine p Ingress family number (pod (pod_at lists p)) spot within in_family is
     flat Egress =
         and_true (side_allows (flattened lists) Egress (pod_at lists p) (at_address family number (address (address_of family number)) spot))
@@ -296,7 +298,7 @@ pods-same lists p q family spot lawful fine p_in q_in apart listed is =
     let y_in = number-within lists q q_in in
     let defined : is_defined lists x y ≡ true = ap not (not-alone (folding_of lists) x y p q (own-member lists p p_in) (own-member lists q q_in) apart) in
     let sides : (side_allows (flattened lists) Egress (pod_at lists p) (from_pod lists q (pod (pod_at lists q)) family spot) && side_allows (flattened lists) Ingress (pod_at lists q) (from_pod lists p (pod (pod_at lists q)) family spot)) ≡ told (set_from lists (group_at lists p) (group_at lists q)) spot
-        = rw (egress-pod lists p q (pod (pod_at lists q)) family spot p_in) (ingress-pod lists q p (pod (pod_at lists q)) family spot lawful q_in p_in is) in
+    = rw (egress-pod lists p q (pod (pod_at lists q)) family spot p_in) (ingress-pod lists q p (pod (pod_at lists q)) family spot lawful q_in p_in is) in
     sides
     ∙ ap (λ (o : Option Conns). told o spot) (set_from-is lists fine x y x_in y_in defined)
     ∙ ap (λ (set : Conns). has_spot set spot) (family-set lists fine x y family x_in y_in defined listed)

@@ -1,5 +1,5 @@
 -- Groups, by what selectors see of pods.
-use Rattle.std.proofs.Common.{◌≡◌, ℕ, ◌<◌, ◌^◌, List, [], ◌∷◌, Bool, true, false, ◌&&◌, ◌||◌, ◌==◌, Option, Some, None, All, map, length, slice_get, slice_index, get_or, refl, sym, ap, subst, ◌∙◌, arith, zero-add}
+use Rattle.std.proofs.Common.{◌≡◌, ℕ, ◌+◌, ◌<◌, ◌^◌, List, [], ◌∷◌, ◌++◌, Bool, true, false, ◌&&◌, ◌||◌, ◌==◌, Option, Some, None, All, map, length, slice_get, slice_index, get_or, refl, sym, ap, subst, ◌∙◌, arith, zero-add}
 use Rattle.std.specs.Bool.{Decides}
 use Rattle.std.specs.Cmp.{Equal-is}
 use Rattle.std.specs.Cmp.Lexicographic.{bytes_decides, pointwise, pointwise_decides}
@@ -9,25 +9,27 @@ use Rattle.std.specs.Ordering.{is_eq}
 use Rattle.std.specs.Str.{bytes_eq}
 use Rattle.std.proofs.lemmas.Bool.{and_from, and_parts, true≢false}
 use Rattle.std.proofs.lemmas.Bool.Decides.{Decides-and, Decides-like, same_from_decides}
-use Rattle.std.proofs.lemmas.List.{length-map}
+use Rattle.std.proofs.lemmas.List.{length-map, map-append}
 use Rattle.std.proofs.lemmas.List.FromFn.{get_or-range_with_len, length-range_with_len}
 use Rattle.std.proofs.lemmas.Option.{same_Some, slice_get-get_or, slice_get-map}
-use Rattle.np_classes.proofs.Lists.{All-places, map_agree_on}
+use Rattle.np_classes.proofs.Lists.{All-places, map_agree_on, places_more}
 use Rattle.np_classes.proofs.Relations.{class_of_agree, firsts_agree}
 use Rattle.np_classes.specs.Classes.{IsAlike, class_of, firsts, keys_tie, of_both, places}
 use Rattle.np_estate.specs.declared.lists.EstateLists.{EstateLists}
+use Rattle.np_estate.specs.declared.pod.Pod.{Pod}
 use Rattle.np_fold.proofs.OrderLemmas.{ties-equal}
 use Rattle.np_fold.specs.Order.{compare_traits}
 use Rattle.np_fold.specs.declared.traits.Traits.{Traits}
 use Rattle.np_labels.specs.Labels.{value_of}
-use Rattle.np_rules.specs.Ends.{PodEnd}
+use Rattle.np_rules.specs.Ends.{PodEnd, pod_end}
+use Rattle.np_rules.specs.Verdict.{pod_or_none}
 use Rattle.np_synth.specs.Groups.{are_together, first_end, group_firsts, group_of, have_same_value, look_alike, relevant}
 use Rattle.np_synth.specs.steps.Seen.{seen, seen_at}
 use Rattle.np_table.specs.Table.{number_of_workloads}
 
 -- ---- what a selector sees
 
-values_decide : (a b : Option (List ℕ)) → Decides (option_eq bytes_eq a b) (a ≡ b)
+pub values_decide : (a b : Option (List ℕ)) → Decides (option_eq bytes_eq a b) (a ≡ b)
 values_decide None None = (λ _. refl, λ _. refl)
 values_decide None (Some y) = (λ is. let never : false ≡ true = is in cc, λ same. cc)
 values_decide (Some x) None = (λ is. let never : false ≡ true = is in cc, λ same. cc)
@@ -67,8 +69,19 @@ get-places n k below =
     slice_get-get_or (places n) k 0 (rw (length-range_with_len 0 n) below)
     ∙ ap (λ (m : ℕ). Some m) (get_or-range_with_len 0 n k 0 below ∙ zero-add k)
 
-get-map : {X : Type 0} (f : ℕ → X) (n k : ℕ) → k < n → slice_get (map f (places n)) k ≡ Some (f k)
+pub get-map : {X : Type 0} (f : ℕ → X) (n k : ℕ) → k < n → slice_get (map f (places n)) k ≡ Some (f k)
 get-map f n k below = slice_get-map f (places n) k ∙ ap (option_map f) (get-places n k below)
+
+-- one more value of a function of places
+pub one_more : {X : Type 0} (f : ℕ → X) (n : ℕ) (made : List X) (x : X) → made ≡ map f (places n) → x ≡ f n → made ++ x ∷ [] ≡ map f (places (n + 1))
+one_more f n made x so_far here = rw (so_far, here) (sym (ap (map f) (places_more n) ∙ map-append f (places n) (n ∷ [])))
+
+-- the pod at the first of some places, as rules see it
+pub pod-first : (pods all : List Pod) (members others : List ℕ) (a : Pod) → pods ≡ all → members ≡ others → slice_index members 0 < length pods → a ≡ get_or pods (slice_index members 0) a → pod_end a ≡ pod_or_none (slice_get all (slice_index others 0))
+pod-first pods all members others a same same' within is =
+    sym (ap pod_or_none (slice_get-get_or pods (slice_index members 0) a within ∙ ap (λ (x : Pod). Some x) (sym is)))
+    ∙ ap (λ (xs : List Pod). pod_or_none (slice_get xs (slice_index members 0))) same
+    ∙ ap (λ (ms : List ℕ). pod_or_none (slice_get all (slice_index ms 0))) same'
 
 -- being of one group is a relation of classes
 pub together-is : (lists : EstateLists) (count : ℕ) → IsAlike (are_together lists) count
@@ -86,7 +99,7 @@ seen_ties lists a b a_in b_in =
     rw (get-map (seen_at lists) (number_of_workloads lists) a a_in, get-map (seen_at lists) (number_of_workloads lists) b b_in)
     (tie-look (relevant lists) (first_end lists a) (first_end lists b))
 
-seen-count : (lists : EstateLists) → length (map (seen_at lists) (places (number_of_workloads lists))) ≡ number_of_workloads lists
+pub seen-count : (lists : EstateLists) → length (map (seen_at lists) (places (number_of_workloads lists))) ≡ number_of_workloads lists
 seen-count lists = length-map (places (number_of_workloads lists)) (seen_at lists) ∙ length-range_with_len 0 (number_of_workloads lists)
 
 -- so their classes are the groups

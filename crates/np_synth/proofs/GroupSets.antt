@@ -4,8 +4,8 @@ use Rattle.std.proofs.lemmas.Bool.{cases_Bool, cases_eq, true≢false}
 use Rattle.np_synth.specs.steps.Agree.{Agree}
 
 module _ {C R : Type 0} (count : ℕ) (defined : ℕ → ℕ → Bool) (set : ℕ → ℕ → C) (own : ℕ → R) (group : ℕ → ℕ)
-  (apart_defined : (x y : ℕ) → x ≢ y → defined x y ≡ true)
-  (all_agree : (a b : ℕ) → a < count → b < count → a ≢ b → group a ≡ group b → Agree count defined set own a b) where
+    (apart_defined : (x y : ℕ) → x ≢ y → defined x y ≡ true)
+    (all_agree : (a b : ℕ) → a < count → b < count → a ≢ b → group a ≡ group b → Agree count defined set own a b) where
   -- where it is not defined the numbers are one
   undefined : (x y : ℕ) → defined x y ≡ false → x ≡ y
   undefined x y not =
@@ -24,9 +24,9 @@ module _ {C R : Type 0} (count : ℕ) (defined : ℕ → ℕ → Bool) (set : �
             elim (cases_eq b a) [
               | inl here ↦ ap (set a) here ∙ agree.first (subst (λ (n : ℕ). defined a n ≡ true) here is) ∙ agree.both_ways ∙ ap (set a') (sym here)
               | inr other ↦ elim (cases_eq b a') [
-                  | inl there ↦ ap (set a) there ∙ sym (agree.second (subst (λ (n : ℕ). defined a' n ≡ true) there is')) ∙ ap (set a') (sym there)
-                  | inr third ↦ agree.sends b b_in other third
-                ]
+                | inl there ↦ ap (set a) there ∙ sym (agree.second (subst (λ (n : ℕ). defined a' n ≡ true) there is')) ∙ ap (set a') (sym there)
+                | inr third ↦ agree.sends b b_in other third
+              ]
             ]
       ]
 
@@ -40,9 +40,9 @@ module _ {C R : Type 0} (count : ℕ) (defined : ℕ → ℕ → Bool) (set : �
             elim (cases_eq a b) [
               | inl here ↦ ap (λ (n : ℕ). set n b) here ∙ agree.first (subst (λ (n : ℕ). defined n b ≡ true) here is) ∙ ap (λ (n : ℕ). set n b') (sym here)
               | inr other ↦ elim (cases_eq a b') [
-                  | inl there ↦ ap (λ (n : ℕ). set n b) there ∙ sym agree.both_ways ∙ sym (agree.second (subst (λ (n : ℕ). defined n b' ≡ true) there is')) ∙ ap (λ (n : ℕ). set n b') (sym there)
-                  | inr third ↦ agree.receives a a_in other third
-                ]
+                | inl there ↦ ap (λ (n : ℕ). set n b) there ∙ sym agree.both_ways ∙ sym (agree.second (subst (λ (n : ℕ). defined n b' ≡ true) there is')) ∙ ap (λ (n : ℕ). set n b') (sym there)
+                | inr third ↦ agree.receives a a_in other third
+              ]
             ]
       ]
 
@@ -59,7 +59,7 @@ module _ {C R : Type 0} (count : ℕ) (defined : ℕ → ℕ → Bool) (set : �
       elim (cases_Bool (defined a' b)) [
         | inl on ↦ by_first a a' b a_in a'_in b_in same is on ∙ by_second a' b b' a'_in b_in b'_in same' on is'
         | inr off ↦ elim (cases_Bool (defined a b')) [
-            | inl on ↦ by_second a b b' a_in b_in b'_in same' is on ∙ by_first a a' b' a_in a'_in b'_in same on is'
-            | inr off' ↦ crossed a a' b b' a_in a'_in same is is' off off'
-          ]
+          | inl on ↦ by_second a b b' a_in b_in b'_in same' is on ∙ by_first a a' b' a_in a'_in b'_in same on is'
+          | inr off' ↦ crossed a a' b b' a_in a'_in same is is' off off'
+        ]
       ]

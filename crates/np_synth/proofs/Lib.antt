@@ -8,7 +8,10 @@ pub mod FlatVerdicts
 pub mod GroupLemmas
 pub mod GroupSets
 pub mod KindGroups
+pub mod LeastSteps
 pub mod OnePolicy
 pub mod PortLemmas
 pub mod SelectLemmas
+pub mod SideFacts
 pub mod SplitLemmas
+pub mod UnlikeFacts

@@ -1,6 +1,6 @@
 -- The first row with a mark tells the first pair that is split.
 use Rattle.std.proofs.Common.{◌≡◌, ℕ, List, [], ◌∷◌, ◌++◌, Bool, true, false, not, ◌&&◌, ◌||◌, ◌⊎◌, Option, Some, None, map, flat_map, length, if◌then◌else◌, refl, sym, ap, subst, ◌∙◌, inl, inr}
-use Rattle.std.specs.Prelude.{filter}
+use Rattle.std.specs.Prelude.{MatchOption, filter, is_some}
 use Rattle.std.specs.List.{find}
 use Rattle.std.specs.Option.{option_or}
 use Rattle.std.proofs.lemmas.Bool.{and_left, and_parts, cases_Bool, true≢false}
@@ -23,7 +23,7 @@ use Rattle.np_synth.specs.steps.SplitRows.{first_split_of, split_of}
 use Rattle.np_table.proofs.PairLemmas.{pair_allows-alone}
 use Rattle.np_table.proofs.RangeSets.{are_same_conns-Decides, conns_of-agrees}
 use Rattle.np_table.specs.Right.{are_same_conns}
-use Rattle.np_table.specs.Rows.{all_address_rows, all_pair_rows, all_rows, is_none, is_nothing, pair_key, pair_rows, row_if, row_of, rows_in, rows_of_both, rows_towards, workloads}
+use Rattle.np_table.specs.Rows.{all_address_rows, all_pair_rows, address_rows, all_rows, is_none, is_nothing, pair_key, pair_rows, row_if, row_of, rows_in, rows_of_both, rows_towards, workloads}
 use Rattle.np_table.specs.Table.{Table, estate_table, is_alone, number_of_workloads, table_of}
 use Rattle.np_table.specs.declared.rows.AddressRow.{AddressRow}
 use Rattle.np_table.specs.declared.rows.Row.{Row}
@@ -116,11 +116,11 @@ same_back a b =
     ]
   where
     false_by : (b : Bool) → (b ≡ true → ⊥) → b ≡ false
-    false_by true no = absurd (no refl)
-    false_by false no = refl
+    false_by true never = absurd (never refl)
+    false_by false never = refl
 
 -- two sets differ where the test says so
-two_differ-two : (four six : Conns) → two_differ (four ∷ six ∷ []) ≡ not (are_same_conns four six)
+pub two_differ-two : (four six : Conns) → two_differ (four ∷ six ∷ []) ≡ not (are_same_conns four six)
 two_differ-two four six = rw (same_itself four, same_itself six, same_back six four) (by (are_same_conns four six))
   where
     by : (b : Bool) → ((false || (not b || false)) || ((not b || (false || false)) || false)) ≡ not b
@@ -136,7 +136,7 @@ and_false false = refl
 
 -- ---- by the families of the list
 
-families_cases : (pods : List Pod) → ((family : Family) × (families_of pods ≡ family ∷ [])) ⊎ (families_of pods ≡ Four ∷ Six ∷ [])
+pub families_cases : (pods : List Pod) → ((family : Family) × (families_of pods ≡ family ∷ [])) ⊎ (families_of pods ≡ Four ∷ Six ∷ [])
 families_cases pods = by (has_family pods Four) (has_family pods Six) refl refl
   where
     by : (has_four has_six : Bool) → has_family pods Four ≡ has_four → has_family pods Six ≡ has_six → ((family : Family) × (families_of pods ≡ family ∷ [])) ⊎ (families_of pods ≡ Four ∷ Six ∷ [])
@@ -201,8 +201,8 @@ unfolding all_address_rows
 addresses-unmarked table =
     flat_map-unmarked (λ workload. rows_towards table workload Ingress ++ rows_towards table workload Egress) (workloads table) (λ workload.
     first_split-append (rows_towards table workload Ingress) (rows_towards table workload Egress)
-    ∙ ap (λ (o : Option (ℕ × ℕ)). option_or o (first_split_of (rows_towards table workload Egress))) (towards-unmarked workload Ingress _)
-    ∙ towards-unmarked workload Egress _)
+    ∙ ap (λ (o : Option (ℕ × ℕ)). option_or o (first_split_of (rows_towards table workload Egress))) (towards-unmarked workload Ingress (address_rows table workload Ingress))
+    ∙ towards-unmarked workload Egress (address_rows table workload Egress))
 
 or_none : (o : Option (ℕ × ℕ)) → option_or o None ≡ o
 or_none None = refl
@@ -226,3 +226,14 @@ rows-first lists =
     ∙ or_none (first_split_of (all_pair_rows (estate_table lists)))
     ∙ pairs-first lists
     ∙ ap (first_pair (is_split lists)) (names-count lists)
+
+-- the first row with a mark is found where rows before it have none
+pub found-first : (rows rest : List Row) (row : Row) (found : Option (ℕ × ℕ)) → rows ≡ row ∷ rest → found ≡ split_of row → is_some found ≡ true → found ≡ first_split_of rows
+found-first rows rest row None same is some = let never : false ≡ true = some in absurd (cc)
+found-first rows rest row (Some pair) same is some =
+    sym (ap first_split_of same ∙ ap (λ (o : Option (ℕ × ℕ)). option_or o (first_split_of rest)) (sym is))
+
+-- where no row is given none is left
+pub none-left : (given : Option Row) (old new : List Row) → MatchOption given (old ≡ []) (λ row. old ≡ row ∷ new) → ((row : Row) → given ≡ Some row → ⊥) → old ≡ []
+none-left None old new is none = is
+none-left (Some row) old new is none = absurd (none row refl)

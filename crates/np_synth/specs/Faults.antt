@@ -65,7 +65,7 @@ differ_at lists a b third =
 
 -- what passes between two workloads and within each of them, where it is defined
 abbrev pub own_sets : EstateLists → ℕ → ℕ → List Conns
-own_sets lists a b = map (λ pair. set_of lists pair.0 pair.1) (filter (λ pair. is_defined lists pair.0 pair.1) ((a, a) ∷ (a, b) ∷ (b, a) ∷ (b, b) ∷ []))
+own_sets lists a b = map (λ (pair : ℕ × ℕ). set_of lists pair.0 pair.1) (filter (λ (pair : ℕ × ℕ). is_defined lists pair.0 pair.1) ((a, a) ∷ (a, b) ∷ (b, a) ∷ (b, b) ∷ []))
 
 abbrev pub are_same_span : AddressSpan → AddressSpan → Bool
 are_same_span (span.Four one) (span.Four other) = are_same_range one other

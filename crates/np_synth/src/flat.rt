@@ -51,7 +51,7 @@ impl<'a> Flat<'a> {
     pub(crate) fn of(sides: Sides<'a>, groups: Classes) -> Flat<'a>
         requires firsts { groups.firsts ≡ group_firsts sides }
         requires numbers { groups.numbers ≡ map (group_of sides) (places (number_of_workloads sides)) }
-        ensures { result ≡ sides }
+        ensures { result ≡ sides.entry }
     {
         Flat { sides, groups }
     }

@@ -1,5 +1,5 @@
 //! The groups of the workloads.
-ghost use Rattle.std.specs.Prelude.{◌≡◌, IfOk, map};
+ghost use Rattle.std.specs.Prelude.{◌≡◌, ◌<◌, ◌^◌, IfOk, map};
 ghost use Rattle.np_classes.specs.Classes.{places};
 ghost use Rattle.np_rules.specs.Ends.{pod_end};
 ghost use Rattle.np_synth.specs.Groups as spec;
@@ -26,7 +26,8 @@ pub(crate) fn groups_of(alloc: Global, folded: &Folded) -> Result<Classes, NoMem
 
 // What a selector sees of the first pod of each workload.
 fn seen_of_workloads(alloc: Global, folded: &Folded) -> Result<Vec<Traits>, NoMemory>
-    ensures { IfOk result (λ made. made.items ≡ map (seen_at folded.now) (places (number_of_workloads folded.now))) }
+    ensures seen { IfOk result (λ made. made.items ≡ map (seen_at folded.now) (places (number_of_workloads folded.now))) }
+    ensures few { number_of_workloads folded.now < 2 ^ 32 }
 {
     let keys = folded.workloads().relevant();
     let mut made = Vec::new(alloc);

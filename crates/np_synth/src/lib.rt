@@ -6,7 +6,7 @@ mod address_rules;
 mod differ;
 mod fault;
 mod flat;
-mod flatten;
+mod flattening;
 mod groups;
 mod laws;
 mod policy_parts;
@@ -16,5 +16,5 @@ mod unlike;
 
 pub use fault::FlatFault;
 pub use flat::Flat;
-pub use flatten::flatten;
+pub use flattening::flatten;
 pub use laws::{flat_policies_give_the_verdicts, groups_give_the_sets};

@@ -1,5 +1,5 @@
 -- The least pair of a number and of the first of its group that differ, among some numbers.
-use Rattle.std.specs.Prelude.{◌≡◌, ◌≢◌, ◌⊎◌, ℕ, ◌<◌, List, Bool, true, false, ◌&&◌, ◌||◌, ◌==◌, not, nat_lt, All, Option, Some, None}
+use Rattle.std.specs.Prelude.{◌≡◌, ◌≢◌, ◌⊎◌, ℕ, ◌<◌, List, Bool, true, false, ◌&&◌, ◌||◌, ◌==◌, not, nat_lt, All, Option, Some, None, if◌then◌else◌}
 
 -- whether two numbers stand before a pair: the first is less, or the same and the second is
 abbrev pub stands_before : ℕ → ℕ → ℕ × ℕ → Bool
@@ -9,6 +9,10 @@ stands_before first number pair = nat_lt first pair.0 || (first == pair.0 && nat
 abbrev pub comes_before : ℕ → ℕ → Option (ℕ × ℕ) → Bool
 comes_before first number None = not (first == number)
 comes_before first number (Some pair) = not (first == number) && stands_before first number pair
+
+-- the least pair, where these two numbers are looked at as well
+abbrev pub with_number : (ℕ → ℕ → Bool) → ℕ → ℕ → Option (ℕ × ℕ) → Option (ℕ × ℕ)
+with_number differ first number found = if comes_before first number found && differ first number then Some (first, number) else found
 
 -- a number is the first of its group, or does not differ from it
 abbrev pub IsLike : (ℕ → ℕ) → (ℕ → ℕ → Bool) → ℕ → Type 0
