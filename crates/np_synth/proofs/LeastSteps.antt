@@ -58,11 +58,13 @@ module _ (count : ℕ) (first : ℕ → ℕ) (differ : ℕ → ℕ → Bool) (xs
   -- one that does not come before
   pub least-skip : (found : Option (ℕ × ℕ)) → IsLeast count first differ xs found → comes_before (first w) w found ≡ false → IsLeast count first differ (xs ++ w ∷ []) found
   least-skip None least not_so = more (IsLike first differ) least (inl (eqb-true (first w) w (not_true (first w == w) not_so)))
-  least-skip (Some pair) least not_so =
-      (least.0, more (IsNotBefore first differ pair) least.1 (elim (and_cases (not (first w == w)) (stands_before (first w) w pair) not_so) [
-        | inl own ↦ inl (inl (eqb-true (first w) w (not_true (first w == w) own)))
-        | inr behind ↦ inr behind
-      ]))
+  least-skip (Some pair) least not_so = (
+    least.0,
+    more (IsNotBefore first differ pair) least.1 (elim (and_cases (not (first w == w)) (stands_before (first w) w pair) not_so) [
+      | inl own ↦ inl (inl (eqb-true (first w) w (not_true (first w == w) own)))
+      | inr behind ↦ inr behind
+    ]),
+  )
 
   -- one that does not differ
   pub least-like : (found : Option (ℕ × ℕ)) → IsLeast count first differ xs found → differ (first w) w ≡ false → IsLeast count first differ (xs ++ w ∷ []) found
@@ -78,9 +80,10 @@ module _ (count : ℕ) (first : ℕ → ℕ) (differ : ℕ → ℕ → Bool) (xs
 
   -- one that comes before and differs
   pub least-found : (found : Option (ℕ × ℕ)) → w < count → IsLeast count first differ xs found → comes_before (first w) w found ≡ true → differ (first w) w ≡ true → IsLeast count first differ (xs ++ w ∷ []) (Some (first w, w))
-  least-found found within least is differs =
-      (record { within = within; of_group = refl; apart = comes-apart found is; differ_so = differs },
-      more (IsNotBefore first differ (first w, w)) (others found least is) (inr (own-not (first w) w)))
+  least-found found within least is differs = (
+    record { within = within; of_group = refl; apart = comes-apart found is; differ_so = differs },
+    more (IsNotBefore first differ (first w, w)) (others found least is) (inr (own-not (first w) w)),
+  )
     where
       others : (o : Option (ℕ × ℕ)) → IsLeast count first differ xs o → comes_before (first w) w o ≡ true → All (IsNotBefore first differ (first w, w)) xs
       others None all _ = All-weaker (IsLike first differ) (IsNotBefore first differ (first w, w)) (λ v like. inl like) xs all

@@ -2,6 +2,7 @@ pub mod AddressVerdicts
 pub mod AgreeLemmas
 pub mod ClassFirsts
 pub mod DifferLemmas
+pub mod FindFacts
 pub mod FirstPairs
 pub mod FlatFacts
 pub mod FlatVerdicts
@@ -10,7 +11,9 @@ pub mod GroupSets
 pub mod KindGroups
 pub mod LeastSteps
 pub mod OnePolicy
+pub mod PolicyFacts
 pub mod PortLemmas
+pub mod ReceiverFacts
 pub mod SelectLemmas
 pub mod SideFacts
 pub mod SplitLemmas

@@ -1,5 +1,5 @@
 //! The flat policies of an estate.
-ghost use Rattle.std.specs.Prelude.{◌≡◌, ◌<◌, ◌++◌, IfOk, OnOk, map};
+ghost use Rattle.std.specs.Prelude.{◌≡◌, ◌<◌, ◌^◌, ◌++◌, IfOk, OnOk, map};
 ghost use Rattle.np_classes.specs.Classes.{places};
 ghost use Rattle.np_synth.specs.Flat as spec;
 ghost use Rattle.np_synth.specs.Groups.{first_of_group, group_count, group_firsts, group_of, relevant};
@@ -32,7 +32,7 @@ pub struct Flat<'a> {
 }
 
 impl<'a> Model for Flat<'a> {
-    ghost use Rattle.std.specs.Prelude.{◌≡◌, map};
+    ghost use Rattle.std.specs.Prelude.{◌≡◌, ◌<◌, ◌^◌, map};
     ghost use Rattle.np_classes.specs.Classes.{places};
     ghost use Rattle.np_estate.specs.declared.lists.EstateLists.{EstateLists};
     ghost use Rattle.np_synth.specs.Groups.{group_firsts, group_of};
@@ -43,7 +43,8 @@ impl<'a> Model for Flat<'a> {
     ghost view = { λ f. f.sides };
 
     ghost invariant = { λ f. (f.groups.firsts ≡ group_firsts f.sides)
-        × (f.groups.numbers ≡ map (group_of f.sides) (places (number_of_workloads f.sides))) };
+        × (f.groups.numbers ≡ map (group_of f.sides) (places (number_of_workloads f.sides)))
+        × (number_of_workloads f.sides < 2 ^ 32) };
 }
 
 impl<'a> Flat<'a> {
@@ -51,6 +52,7 @@ impl<'a> Flat<'a> {
     pub(crate) fn of(sides: Sides<'a>, groups: Classes) -> Flat<'a>
         requires firsts { groups.firsts ≡ group_firsts sides }
         requires numbers { groups.numbers ≡ map (group_of sides) (places (number_of_workloads sides)) }
+        requires few { number_of_workloads sides < 2 ^ 32 }
         ensures { result ≡ sides.entry }
     {
         Flat { sides, groups }
@@ -155,17 +157,31 @@ impl<'a> Flat<'a> {
         requires group { group < group_count self.now }
         ensures { IfOk result (λ made. made ≡ spec.set_from self.now sender group) }
     {
-        let source = self.first(sender);
-        if sender != group {
-            let set = self.sides.between(source, self.first(group), steps)?;
-            return Ok(Some(set));
+        if sender == group {
+            return self.set_within(group, steps);
         }
-        let within = self.sides.within(source, steps)?;
+        let set = self
+            .sides
+            .between(self.first(sender), self.first(group), steps)?;
+        Ok(Some(set))
+    }
+
+    // What passes from a group to itself: within its first workload, or where that has one pod to the next one.
+    fn set_within<L: Ledger>(
+        &self,
+        group: u32,
+        steps: &mut Steps<L>,
+    ) -> Result<Option<ConnSet>, NoMemory>
+        requires { group < group_count self.now }
+        ensures { IfOk result (λ made. made ≡ spec.set_from self.now group group) }
+    {
+        let first = self.first(group);
+        let within = self.sides.within(first, steps)?;
         if within.is_some() {
             return Ok(within);
         }
-        match self.next_like(source, group) {
-            Some(next) => Ok(Some(self.sides.between(source, next, steps)?)),
+        match self.next_like(first, group) {
+            Some(next) => Ok(Some(self.sides.between(first, next, steps)?)),
             None => Ok(None),
         }
     }

@@ -1,5 +1,5 @@
 //! The groups of the workloads.
-ghost use Rattle.std.specs.Prelude.{◌≡◌, ◌<◌, ◌^◌, IfOk, map};
+ghost use Rattle.std.specs.Prelude.{◌≡◌, ◌<◌, ◌^◌, IfOk, OnOk, map};
 ghost use Rattle.np_classes.specs.Classes.{places};
 ghost use Rattle.np_rules.specs.Ends.{pod_end};
 ghost use Rattle.np_synth.specs.Groups as spec;
@@ -19,6 +19,7 @@ pub(crate) fn groups_of(alloc: Global, folded: &Folded) -> Result<Classes, NoMem
     ensures firsts { IfOk result (λ made. made.firsts ≡ spec.group_firsts folded.now) }
     ensures numbers { IfOk result (λ made. made.numbers
         ≡ map (spec.group_of folded.now) (places (number_of_workloads folded.now))) }
+    ensures few { OnOk result (number_of_workloads folded.now < 2 ^ 32) }
 {
     let seen = seen_of_workloads(alloc, folded)?;
     Classes::of(alloc, seen)
@@ -27,7 +28,7 @@ pub(crate) fn groups_of(alloc: Global, folded: &Folded) -> Result<Classes, NoMem
 // What a selector sees of the first pod of each workload.
 fn seen_of_workloads(alloc: Global, folded: &Folded) -> Result<Vec<Traits>, NoMemory>
     ensures seen { IfOk result (λ made. made.items ≡ map (seen_at folded.now) (places (number_of_workloads folded.now))) }
-    ensures few { number_of_workloads folded.now < 2 ^ 32 }
+    ensures few { OnOk result (number_of_workloads folded.now < 2 ^ 32) }
 {
     let keys = folded.workloads().relevant();
     let mut made = Vec::new(alloc);

@@ -1,4 +1,4 @@
-use Rattle.std.proofs.Common.{◌≡◌, ◌<◌, ◌++◌, [], ◌∷◌, ℕ, List, Option, length, take, slice_index, sym, ap, subst, ◌∙◌, arith}
+use Rattle.std.proofs.Common.{◌≡◌, ◌<◌, ◌+◌, ◌++◌, [], ◌∷◌, ℕ, List, Option, length, take, slice_index, sym, ap, subst, ◌∙◌, arith}
 use Rattle.std.proofs.lemmas.List.{take_more, take_all}
 use Rattle.np_estate.specs.Lawful.{IsLawful}
 use Rattle.np_estate.specs.declared.lists.EstateLists.{EstateLists}
@@ -43,7 +43,7 @@ loop-workload-preserved g c =
     let within = item-in lists items i is c.loop-workload-test.true in
     let first = c.first_of_group-first.ensures ∙ first_by-is lists c.args.groups.now.numbers c.args.groups.now.firsts c.requires.numbers c.requires.firsts w within in
     let least = least-more (number_of_workloads lists) (first_with lists) (differ lists) (take i items) w c.loop-workload.found within c.loop-workload.invariant in
-    subst (λ (found : Option (ℕ × ℕ)). IsLeastUnlike lists (take (i + 1) items) found) (sym (c.in_ok-least_with.ensures ∙ ap (λ (f : ℕ). with_number (differ lists) f w c.loop-workload.found) first))
+    subst (λ (found : Option (ℕ × ℕ)). IsLeastUnlike lists (take (i + 1) items) found) (sym (c.in_ok-found.ensures ∙ ap (λ (f : ℕ). with_number (differ lists) f w c.loop-workload.found) first))
     (subst (λ (all : List ℕ). IsLeastUnlike lists all (with_number (differ lists) (first_with lists w) w c.loop-workload.found)) (sym (take_more items i 0 c.loop-workload-test.true)) least)
 
 pub returns : goal.returns

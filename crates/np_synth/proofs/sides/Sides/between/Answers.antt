@@ -32,7 +32,7 @@ returns g c =
     let source : c.args.source < number_of_workloads lists = subst (λ (l : EstateLists). c.args.source < number_of_workloads l) (sym c.self.view_is) c.requires.source in
     let destination : c.args.destination < number_of_workloads lists = subst (λ (l : EstateLists). c.args.destination < number_of_workloads l) (sym c.self.view_is) c.requires.destination in
     let set = sides-set lists c.index-sender.result.now c.index-receiver.result.now c.args.source c.args.destination c.first_family.result
-        (side-at lists Egress c.self.inside.senders.items c.args.source c.index-sender.result.now c.self.invariant.0 source c.index-sender.ensures)
-        (side-at lists Ingress c.self.inside.receivers.items c.args.destination c.index-receiver.result.now c.self.invariant.1 destination c.index-receiver.ensures)
-        c.first_family.ensures c.requires.apart in
+    (side-at lists Egress c.self.inside.senders.items c.args.source c.index-sender.result.now c.self.invariant.0 source c.index-sender.ensures)
+    (side-at lists Ingress c.self.inside.receivers.items c.args.destination c.index-receiver.result.now c.self.invariant.1 destination c.index-receiver.ensures)
+    c.first_family.ensures c.requires.apart in
     IfOk-weaker c.set_between.result _ _ (λ made is. is ∙ set ∙ ap (λ (l : EstateLists). set_of l c.args.source c.args.destination) c.self.view_is) c.set_between.ensures.set
