@@ -1,19 +1,17 @@
 -- What the rules of ranges of addresses allow.
-use Rattle.std.proofs.Common.{◌≡◌, ℕ, ◌+◌, ◌-◌, ◌^◌, ◌<◌, ◌≤◌, List, [], ◌∷◌, ◌++◌, Bool, true, false, ◌&&◌, ◌||◌, not, nat_le, Option, Some, None, map, flat_map, if◌then◌else◌, lit≤, refl, sym, ap, subst, ◌∙◌, arith, inl, inr}
+use Rattle.std.proofs.Common.{◌≡◌, ℕ, ◌+◌, ◌-◌, ◌^◌, ◌<◌, ◌≤◌, List, [], ◌∷◌, ◌++◌, Bool, true, false, ◌&&◌, ◌||◌, nat_le, Option, Some, None, map, if◌then◌else◌, lit≤, refl, sym, ap, ◌∙◌, arith, inl, inr}
 use Rattle.std.specs.List.{AllByRecursion, list_any}
 use Rattle.std.proofs.lemmas.Bool.{and_from, cases_lt, le-leb, lt-leb, true≢false}
 use Rattle.std.proofs.lemmas.List.Folds.{list_any-append}
 use Rattle.np_addr.proofs.RightPrefixes.{prefixes_of-right}
 use Rattle.np_addr.specs.Addresses.{cidr_has}
-use Rattle.np_addr.specs.Blocks.{AddressRanges, IsAddressSet, block_has, set_has}
+use Rattle.np_addr.specs.Blocks.{IsAddressSet, block_has, set_has}
 use Rattle.np_addr.specs.Prefixes.{prefixes_of, some_has}
 use Rattle.np_addr.specs.declared.address.Address.{Address}
 use Rattle.np_addr.specs.declared.address.Address.TheVariants as address
 use Rattle.np_addr.specs.declared.address.Family.{Family}
 use Rattle.np_addr.specs.declared.address.Family.TheVariants as family
 use Rattle.np_addr.specs.declared.cidr.Cidr.{Cidr}
-use Rattle.np_base.specs.Ranges.{holds}
-use Rattle.np_base.specs.declared.range.Range.{Range}
 use Rattle.np_conns.specs.Conns.{Conns, has_spot, is_spot}
 use Rattle.np_conns.specs.declared.port_spot.PortSpot.{PortSpot}
 use Rattle.np_conns.specs.declared.proto.Proto.{Proto}
@@ -25,14 +23,14 @@ use Rattle.np_rules.specs.Ends.{Contact, End, PodEnd, address, pod}
 use Rattle.np_rules.specs.Peers.{net_peer_matches}
 use Rattle.np_rules.specs.PortEntries.{net_entry_matches}
 use Rattle.np_rules.specs.Rules.{net_rule_matches, none_or_any}
-use Rattle.np_synth.proofs.OnePolicy.{any-agree, any-flat_map, any-map}
+use Rattle.np_synth.proofs.OnePolicy.{any-agree, any-map}
 use Rattle.np_synth.proofs.PortLemmas.{is_none-map, none_or_any-some, ports-match}
 use Rattle.np_synth.proofs.SplitLemmas.{nothing_is}
 use Rattle.np_synth.specs.Flat.{blocks_of_span, ranges_of_span, rule_if, rules_of_addresses}
 use Rattle.np_synth.specs.Ports.{ports_of}
 use Rattle.np_table.proofs.RangeWalks.{walk-right}
 use Rattle.np_table.proofs.SetLemmas.{has_spot-conns_of}
-use Rattle.np_table.specs.Right.{AreRight, Stretch, conns_of, is_within, walk}
+use Rattle.np_table.specs.Right.{AreRight, Stretch, is_within, walk}
 use Rattle.np_table.specs.Rows.{address_row, four_of, is_none, is_nothing, rows_of_addresses, six_of}
 use Rattle.np_table.specs.Said.{IsInFamily, span_has}
 use Rattle.np_table.specs.Table.{address_of}

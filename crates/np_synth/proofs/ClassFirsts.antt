@@ -1,11 +1,10 @@
 -- The first place of the class of a place.
-use Rattle.std.proofs.Common.{◌≡◌, ℕ, ◌<◌, ◌≤◌, Bool, true, false, not, Some, All, length, slice_index, slice_get, refl, sym, ap, subst, ◌∙◌, arith, inl, inr}
-use Rattle.std.specs.List.{list_any}
+use Rattle.std.proofs.Common.{◌≡◌, ℕ, ◌<◌, ◌≤◌, Bool, true, not, Some, All, slice_index, slice_get, sym, ap, subst, ◌∙◌, inl, inr}
 use Rattle.std.proofs.lemmas.Bool.{cases_lt, false≢true}
 use Rattle.std.proofs.lemmas.List.Elements.{All-get_or, filter_passes}
 use Rattle.std.proofs.lemmas.Option.{get_or_from_slice_get}
 use Rattle.np_classes.proofs.Lists.{any_place}
-use Rattle.np_classes.proofs.Relations.{alike_in_class, class_of_first, class_within, first_of, same_class}
+use Rattle.np_classes.proofs.Relations.{class_of_first, class_within, first_of, same_class}
 use Rattle.np_classes.specs.Classes.{IsAlike, class_of, firsts, is_first, places}
 
 module _ (alike : ℕ → ℕ → Bool) (count : ℕ) (lawful : IsAlike alike count) where

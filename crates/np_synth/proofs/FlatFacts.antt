@@ -1,7 +1,7 @@
 -- What holds of an estate without a fault.
-use Rattle.std.proofs.Common.{◌≡◌, ◌≢◌, ◌⊎◌, ℕ, ◌<◌, List, [], ◌∷◌, Bool, true, false, not, ◌&&◌, ◌||◌, ◌==◌, nat_lt, All, Contains, Option, Some, None, map, refl, sym, ap, subst, ◌∙◌, inl, inr, arith}
+use Rattle.std.proofs.Common.{◌≡◌, ◌≢◌, ◌⊎◌, ℕ, ◌<◌, List, [], ◌∷◌, Bool, true, false, not, ◌&&◌, ◌||◌, ◌==◌, Contains, Option, Some, None, map, refl, sym, ap, subst, ◌∙◌, inl, inr, arith}
 use Rattle.std.specs.List.{AllByRecursion, find, list_any}
-use Rattle.std.proofs.lemmas.Bool.{and_from, and_cases, cases_Bool, cases_eq, cases_order, eqb-true, eq-eqb, lt-ltb, true≢false}
+use Rattle.std.proofs.lemmas.Bool.{and_from, cases_Bool, cases_eq, cases_order, eqb-true, eq-eqb, lt-ltb, true≢false}
 use Rattle.std.proofs.lemmas.List.Elements.{All-contains, All-from_recursion, recursion_from_All}
 use Rattle.np_addr.specs.declared.address.Family.{Family}
 use Rattle.np_addr.specs.declared.address.Family.TheVariants.{Four, Six}
@@ -18,11 +18,10 @@ use Rattle.np_synth.proofs.FirstPairs.{first_pair-from_none}
 use Rattle.np_synth.proofs.GroupLemmas.{together-is}
 use Rattle.np_synth.proofs.GroupSets.{one-set}
 use Rattle.np_synth.proofs.SplitLemmas.{families_cases, two_differ-two}
-use Rattle.np_synth.specs.Faults.{differ, family_of_list, fault_by, first_family, flat_fault, is_defined, is_split, is_unlike, set_in, set_of, two_differ}
+use Rattle.np_synth.specs.Faults.{differ, fault_by, first_family, flat_fault, is_defined, is_split, is_unlike, set_in, set_of, two_differ}
 use Rattle.np_synth.specs.Flat.{receiver_in, set_from}
 use Rattle.np_synth.specs.Groups.{are_together, first_of_group, group_of}
 use Rattle.np_synth.specs.Pairs.{first_pair}
-use Rattle.np_synth.specs.declared.fault.FlatFault.{FlatFault}
 use Rattle.np_table.proofs.RangeSets.{are_same_conns-Decides}
 use Rattle.np_table.specs.Right.{are_same_conns}
 use Rattle.np_table.specs.Table.{number_of_workloads}

@@ -1,8 +1,8 @@
 -- The flat policies alone allow what the whole estate does.
-use Rattle.std.proofs.Common.{◌≡◌, ◌≢◌, ℕ, ◌<◌, List, [], ◌∷◌, ◌++◌, Bool, true, false, ◌&&◌, ◌||◌, Option, Some, None, Contains, length, map, not, slice_get, get_or, codes, if◌then◌else◌, refl, sym, ap, subst, ◌∙◌, inl, inr}
+use Rattle.std.proofs.Common.{◌≡◌, ◌≢◌, ℕ, ◌<◌, List, [], ◌∷◌, Bool, true, false, ◌&&◌, ◌||◌, Option, Some, None, Contains, length, not, get_or, codes, if◌then◌else◌, refl, sym, ap, subst, ◌∙◌}
 use Rattle.std.specs.List.{AllByRecursion, list_any}
 use Rattle.std.specs.Str.{bytes_eq}
-use Rattle.std.proofs.lemmas.Bool.{cases_Bool, false_from_ne_true, true≢false}
+use Rattle.std.proofs.lemmas.Bool.{false_from_ne_true}
 use Rattle.std.proofs.lemmas.List.Elements.{All-get_or}
 use Rattle.std.proofs.lemmas.List.Folds.{list_any-append}
 use Rattle.std.proofs.lemmas.Option.{get_or_from_slice_get, slice_get-get_or}
@@ -18,7 +18,6 @@ use Rattle.np_estate.specs.declared.pod.Pod.{Pod}
 use Rattle.np_fold.proofs.WorkloadLemmas.{number-in_workloads, one_workload}
 use Rattle.np_fold.specs.Workloads.{folding_of, number_of}
 use Rattle.np_labels.specs.Labels.{value_of}
-use Rattle.np_labels.specs.Selectors.{meets_selector}
 use Rattle.np_policies.specs.declared.direction.Direction.{Direction}
 use Rattle.np_policies.specs.declared.direction.Direction.TheVariants.{Egress, Ingress}
 use Rattle.np_policies.specs.declared.network_policy.NetPeer.{NetPeer}
@@ -32,7 +31,7 @@ use Rattle.np_rules.specs.Selection.{net_selects}
 use Rattle.np_rules.specs.Sides.{side_allows}
 use Rattle.np_rules.specs.Verdict.{allows, pod_at, pod_or_none}
 use Rattle.np_synth.proofs.AddressVerdicts.{IsWellSpan, addresses-no_pod, addresses-permit, any-never, at_address, nothing-has, row_tells, rows-any, rows-well}
-use Rattle.np_synth.proofs.ClassFirsts.{first-alike, first-get}
+use Rattle.np_synth.proofs.ClassFirsts.{first-alike}
 use Rattle.np_synth.proofs.DifferLemmas.{own_rows}
 use Rattle.np_synth.proofs.FlatFacts.{family-set, first-of, group-rows, set_from-is}
 use Rattle.np_synth.proofs.GroupLemmas.{look_decides, together-is}
@@ -40,18 +39,17 @@ use Rattle.np_synth.proofs.KindGroups.{kind-looks}
 use Rattle.np_synth.proofs.OnePolicy.{any-agree, any-flat_map, only-one, side-by_one}
 use Rattle.np_synth.proofs.PortLemmas.{ports-match}
 use Rattle.np_synth.proofs.SelectLemmas.{meets-namespace_named, meets-selector_of}
-use Rattle.np_synth.specs.Faults.{flat_fault, is_defined, set_in, set_of}
-use Rattle.np_synth.specs.Flat.{egress_rules, flat_policy, flattened, group_namespace, group_peer, group_rows, group_selector, ingress_rules, rule_if, rule_to_everyone, rules_from_group, rules_from_groups, rules_of_addresses, rules_of_set, set_from}
-use Rattle.np_synth.specs.Groups.{are_together, first_end, first_of_group, group_count, group_of, have_same_value, look_alike, relevant}
+use Rattle.np_synth.specs.Faults.{flat_fault, is_defined, set_in}
+use Rattle.np_synth.specs.Flat.{egress_rules, flat_policy, flattened, group_namespace, group_peer, group_rows, ingress_rules, rule_if, rules_from_group, rules_from_groups, rules_of_addresses, rules_of_set, set_from}
+use Rattle.np_synth.specs.Groups.{are_together, first_end, first_of_group, group_count, group_of, look_alike, relevant}
 use Rattle.np_synth.specs.Ports.{ports_of}
 use Rattle.np_synth.specs.steps.Seen.{seen}
 use Rattle.np_table.proofs.MemberLemmas.{member-number, members-some, members-within, not-alone, own-member, source-member}
 use Rattle.np_table.proofs.PairLemmas.{between_pods-pair_allows, pod_there, with_address-address_allows}
 use Rattle.np_table.proofs.SetLemmas.{has_spot-conns_of}
-use Rattle.np_table.specs.Right.{conns_of}
 use Rattle.np_table.specs.Rows.{address_rows, is_nothing}
 use Rattle.np_table.specs.Said.{IsInFamily}
-use Rattle.np_table.specs.Table.{address_allows, address_of, between_pods, estate_table, is_alone, number_of_workloads, pair_allows, source_pod, table_of, with_address}
+use Rattle.np_table.specs.Table.{address_allows, address_of, between_pods, estate_table, number_of_workloads, pair_allows, source_pod, table_of, with_address}
 use Rattle.np_table.specs.declared.rows.AddressRow.{AddressRow}
 
 -- ---- pods and groups

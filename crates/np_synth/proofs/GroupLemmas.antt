@@ -1,5 +1,5 @@
 -- Groups, by what selectors see of pods.
-use Rattle.std.proofs.Common.{◌≡◌, ℕ, ◌+◌, ◌<◌, ◌^◌, List, [], ◌∷◌, ◌++◌, Bool, true, false, ◌&&◌, ◌||◌, ◌==◌, Option, Some, None, All, map, length, slice_get, slice_index, get_or, refl, sym, ap, subst, ◌∙◌, arith, zero-add}
+use Rattle.std.proofs.Common.{◌≡◌, ℕ, ◌+◌, ◌<◌, List, [], ◌∷◌, ◌++◌, Bool, true, false, ◌&&◌, Option, Some, None, map, length, slice_get, slice_index, get_or, refl, sym, ap, subst, ◌∙◌, zero-add}
 use Rattle.std.specs.Bool.{Decides}
 use Rattle.std.specs.Cmp.{Equal-is}
 use Rattle.std.specs.Cmp.Lexicographic.{bytes_decides, pointwise, pointwise_decides}
@@ -7,14 +7,13 @@ use Rattle.std.specs.List.{list_all}
 use Rattle.std.specs.Option.{option_eq, option_map}
 use Rattle.std.specs.Ordering.{is_eq}
 use Rattle.std.specs.Str.{bytes_eq}
-use Rattle.std.proofs.lemmas.Bool.{and_from, and_parts, true≢false}
 use Rattle.std.proofs.lemmas.Bool.Decides.{Decides-and, Decides-like, same_from_decides}
 use Rattle.std.proofs.lemmas.List.{length-map, map-append}
 use Rattle.std.proofs.lemmas.List.FromFn.{get_or-range_with_len, length-range_with_len}
 use Rattle.std.proofs.lemmas.Option.{same_Some, slice_get-get_or, slice_get-map}
 use Rattle.np_classes.proofs.Lists.{All-places, map_agree_on, places_more}
 use Rattle.np_classes.proofs.Relations.{class_of_agree, firsts_agree}
-use Rattle.np_classes.specs.Classes.{IsAlike, class_of, firsts, keys_tie, of_both, places}
+use Rattle.np_classes.specs.Classes.{IsAlike, class_of, firsts, keys_tie, places}
 use Rattle.np_estate.specs.declared.lists.EstateLists.{EstateLists}
 use Rattle.np_estate.specs.declared.pod.Pod.{Pod}
 use Rattle.np_fold.proofs.OrderLemmas.{ties-equal}

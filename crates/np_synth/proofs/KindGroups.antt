@@ -1,15 +1,12 @@
 -- Workloads of one kind are of one group and agree, so the least pair that differs is one of firsts.
-use Rattle.std.proofs.Common.{◌≡◌, ◌≢◌, ℕ, ◌<◌, ◌≤◌, ◌^◌, ◌-◌, ◌++◌, List, [], ◌∷◌, Bool, true, false, not, ◌&&◌, ◌||◌, Option, Some, None, All, length, map, slice_get, slice_index, lit≤, refl, sym, ap, subst, ◌∙◌}
+use Rattle.std.proofs.Common.{◌≡◌, ℕ, ◌<◌, ◌^◌, ◌-◌, ◌++◌, List, [], ◌∷◌, Bool, true, false, not, ◌||◌, Option, Some, All, map, lit≤, refl, sym, ap, subst, ◌∙◌}
 use Rattle.std.specs.List.{list_all}
-use Rattle.std.specs.Option.{option_eq}
 use Rattle.std.specs.Str.{bytes_eq}
 use Rattle.std.specs.Cmp.Lexicographic.{bytes_decides}
 use Rattle.std.proofs.lemmas.Bool.{and_from}
 use Rattle.np_addr.specs.declared.address.Family.{Family}
 use Rattle.np_addr.specs.declared.address.Family.TheVariants.{Four, Six}
-use Rattle.np_classes.proofs.Relations.{alike_in_class, class_within}
-use Rattle.np_classes.specs.Classes.{IsAlike, class_of, firsts}
-use Rattle.np_conns.specs.Conns.{Conns}
+use Rattle.np_classes.specs.Classes.{IsAlike, class_of}
 use Rattle.np_conns.specs.declared.port_spot.PortSpot.{PortSpot}
 use Rattle.np_estate.specs.Lawful.{IsLawful}
 use Rattle.np_estate.specs.declared.lists.EstateLists.{EstateLists}
@@ -27,8 +24,8 @@ use Rattle.np_policies.specs.declared.direction.Direction.TheVariants.{Egress, I
 use Rattle.np_rules.specs.Ends.{pod, pod_end}
 use Rattle.np_rules.specs.Verdict.{pod_at, pod_or_none}
 use Rattle.np_synth.proofs.AgreeLemmas.{least-first_pair}
-use Rattle.np_synth.proofs.ClassFirsts.{class_first, first-alike, first-in, first-listed, first-low, first-same, first-twice, first-class, same-first}
-use Rattle.np_synth.proofs.DifferLemmas.{Agrees, apart-defined, from_agree, own_rows, to_agree}
+use Rattle.np_synth.proofs.ClassFirsts.{class_first, first-in, first-listed, first-low, first-same, first-twice, first-class, same-first}
+use Rattle.np_synth.proofs.DifferLemmas.{apart-defined, from_agree, own_rows, to_agree}
 use Rattle.np_synth.proofs.GroupLemmas.{together-is, values_decide}
 use Rattle.np_synth.specs.Faults.{differ, family_of_list, is_defined, is_unlike, set_in, set_of}
 use Rattle.np_synth.specs.Groups.{are_together, first_end, have_same_value, look_alike, relevant}

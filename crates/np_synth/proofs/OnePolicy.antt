@@ -1,5 +1,5 @@
 -- What the side of a pod allows that one policy of a list selects, without other policies.
-use Rattle.std.proofs.Common.{◌≡◌, ◌≢◌, ℕ, ◌+◌, ◌<◌, List, [], ◌∷◌, ◌++◌, Bool, true, false, ◌&&◌, ◌||◌, Option, Some, None, map, flat_map, if◌then◌else◌, refl, sym, ap, subst, ◌∙◌, inl, inr}
+use Rattle.std.proofs.Common.{◌≡◌, ◌≢◌, ℕ, ◌+◌, ◌<◌, List, [], ◌∷◌, Bool, true, false, ◌||◌, Option, Some, None, map, flat_map, if◌then◌else◌, refl, sym, ap, ◌∙◌, inl, inr}
 use Rattle.std.specs.Prelude.{is_some, unwrap_or}
 use Rattle.std.specs.List.{enumerate_from, list_any}
 use Rattle.std.proofs.lemmas.Bool.{and_from, cases_Bool, cases_eq, false_from_ne_true, true≢false}
@@ -12,7 +12,7 @@ use Rattle.np_policies.specs.declared.network_policy.NetPolicy.{NetPolicy}
 use Rattle.np_policies.specs.declared.network_policy.NetRule.{NetRule}
 use Rattle.np_rules.specs.Ends.{Contact, PodEnd}
 use Rattle.np_rules.specs.NetTier.{is_isolated, isolates, permits, placed_net_matches}
-use Rattle.np_rules.specs.Places.{PlacedNetRule, net_places, net_places_of, net_rules_of}
+use Rattle.np_rules.specs.Places.{net_places_of, net_rules_of}
 use Rattle.np_rules.specs.Rules.{net_rule_matches}
 use Rattle.np_rules.specs.Selection.{net_selects}
 use Rattle.np_rules.specs.Sides.{side_allows}

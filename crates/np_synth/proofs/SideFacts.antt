@@ -1,5 +1,5 @@
 -- The sides of the first pods of workloads, and what passes between them.
-use Rattle.std.proofs.Common.{◌≡◌, ◌≢◌, ◌&&◌, ◌==◌, ℕ, ◌<◌, List, Bool, false, Some, map, length, get_or, slice_get, slice_index, if◌then◌else◌, refl, sym, ap, subst, ◌∙◌}
+use Rattle.std.proofs.Common.{◌≡◌, ◌≢◌, ◌==◌, ℕ, ◌<◌, List, Bool, false, map, length, get_or, slice_get, slice_index, if◌then◌else◌, refl, sym, ap, subst, ◌∙◌}
 use Rattle.std.proofs.lemmas.Bool.{and_left, ne_eqb}
 use Rattle.std.proofs.lemmas.List.{length-map}
 use Rattle.std.proofs.lemmas.List.FromFn.{length-range_with_len}
@@ -17,7 +17,7 @@ use Rattle.np_table.proofs.PairLemmas.{pair_allows-between}
 use Rattle.np_table.proofs.RangeSets.{conns_of-agrees}
 use Rattle.np_table.specs.PairRules.{AreEnds, first_side}
 use Rattle.np_table.specs.Right.{conns_of}
-use Rattle.np_table.specs.Table.{between_pods, destination_pod, is_alone, number_of_workloads, pair_allows, source_pod}
+use Rattle.np_table.specs.Table.{between_pods, destination_pod, is_alone, number_of_workloads, source_pod}
 
 -- there is a side for each workload
 pub sides-count : (lists : EstateLists) (direction : Direction) (sides : List PodSide) → sides ≡ map (first_side lists direction) (places (number_of_workloads lists)) → length sides ≡ number_of_workloads lists

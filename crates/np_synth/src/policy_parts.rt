@@ -1,6 +1,5 @@
 //! The parts of flat policies: names, selectors, peers and ports.
 ghost use Rattle.std.specs.Prelude.{◌≡◌, ◌++◌, IfOk, OnOk, Some, map};
-ghost use Rattle.std.specs.Option.{option_map};
 ghost use Rattle.np_conns.specs.ConnsText.{is_whole};
 ghost use Rattle.np_policies.specs.declared.network_policy.NetPeer.TheVariants.{Pods};
 ghost use Rattle.np_synth.specs.Flat.{flat_name, rule_to_everyone};

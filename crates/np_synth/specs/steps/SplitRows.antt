@@ -4,7 +4,7 @@ use Rattle.std.specs.Option.{option_or}
 use Rattle.np_addr.specs.declared.address.Family.{Family}
 use Rattle.np_table.specs.declared.rows.Row.{Row}
 use Rattle.np_table.specs.declared.rows.RowEnd.{RowEnd}
-use Rattle.np_table.specs.declared.rows.RowEnd.TheVariants.{Controller, Span, Work}
+use Rattle.np_table.specs.declared.rows.RowEnd.TheVariants.{Work}
 
 -- the workloads of a mark and of two ends
 abbrev pub split_by : Option Family → RowEnd → RowEnd → Option (ℕ × ℕ)

@@ -1,5 +1,5 @@
 -- The least pair of a number and of the first of its group that differ, among some numbers.
-use Rattle.std.specs.Prelude.{◌≡◌, ◌≢◌, ◌⊎◌, ℕ, ◌<◌, List, Bool, true, false, ◌&&◌, ◌||◌, ◌==◌, not, nat_lt, All, Option, Some, None, slice_index}
+use Rattle.std.specs.Prelude.{ℕ, List, Option, slice_index}
 use Rattle.np_estate.specs.declared.lists.EstateLists.{EstateLists}
 use Rattle.np_synth.specs.Faults.{differ}
 use Rattle.np_synth.specs.Groups.{first_of_group, group_of}

@@ -4,7 +4,6 @@ use Rattle.np_base.specs.declared.range.Range.{Range}
 use Rattle.np_synth.proofs.ReceiverFacts.{no-ranges}
 use Rattle.np_synth.proofs.address_rules.set_of_span.Goals as goal
 use Rattle.np_synth.specs.Flat.{ranges_of_span}
-use Rattle.np_table.specs.declared.rows.AddressSpan.{AddressSpan}
 
 pub returns-in_ok-nothing-in-Four : goal.returns-in_ok-nothing-in-Four
 returns-in_ok-nothing-in-Four c =

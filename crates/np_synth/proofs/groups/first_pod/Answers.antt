@@ -1,4 +1,4 @@
-use Rattle.std.proofs.Common.{◌<◌, List, ℕ, length, slice_index, refl, ap, ◌∙◌}
+use Rattle.std.proofs.Common.{◌<◌, length, slice_index, refl, ap, ◌∙◌}
 use Rattle.np_estate.specs.declared.lists.EstateLists.{EstateLists}
 use Rattle.np_fold.specs.Workloads.{Folding, folding_of, members_of}
 use Rattle.np_synth.proofs.GroupLemmas.{pod-first}

@@ -1,4 +1,4 @@
-use Rattle.std.proofs.Common.{List, ℕ, [], None, Option, sym, ap, ◌∙◌}
+use Rattle.std.proofs.Common.{List, ℕ, [], ap, ◌∙◌}
 use Rattle.std.proofs.lemmas.Result.{IfOk-weaker}
 use Rattle.np_labels.specs.Labels.{value_of}
 use Rattle.np_labels.specs.Selectors.{requirement_of}

@@ -1,6 +1,4 @@
-use Rattle.std.proofs.Common.{List, subst, sym, ap, ◌∙◌}
-use Rattle.std.specs.Prelude.{All}
-use Rattle.np_estate.specs.declared.lists.EstateLists.{EstateLists}
+use Rattle.std.proofs.Common.{◌∙◌}
 use Rattle.np_synth.proofs.ReceiverFacts.{rows-filled}
 use Rattle.np_synth.proofs.flat.Flat.add_rules_of_addresses.Goals as goal
 

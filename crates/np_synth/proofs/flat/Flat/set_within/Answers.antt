@@ -1,4 +1,4 @@
-use Rattle.std.proofs.Common.{◌≡◌, ◌<◌, ℕ, None, Option, Some, true, if◌then◌else◌, arith, sym, ap, subst, ◌∙◌}
+use Rattle.std.proofs.Common.{◌<◌, None, Some, if◌then◌else◌, arith, sym, ap, subst, ◌∙◌}
 use Rattle.np_conns.specs.Conns.{Conns}
 use Rattle.np_estate.specs.declared.lists.EstateLists.{EstateLists}
 use Rattle.np_fold.specs.Workloads.{folding_of}

@@ -1,10 +1,10 @@
-use Rattle.std.proofs.Common.{◌≡◌, ◌<◌, arith, sym, ap, subst, ◌∙◌}
+use Rattle.std.proofs.Common.{◌<◌, arith, sym, ap, subst, ◌∙◌}
 use Rattle.std.proofs.lemmas.Result.{IfOk-weaker}
 use Rattle.np_estate.specs.declared.lists.EstateLists.{EstateLists}
 use Rattle.np_policies.specs.declared.direction.Direction.TheVariants.{Egress, Ingress}
 use Rattle.np_synth.proofs.SideFacts.{side-at, sides-count, sides-ends, sides-set}
 use Rattle.np_synth.proofs.sides.Sides.between.Goals as goal
-use Rattle.np_synth.specs.Faults.{family_of_list, set_of}
+use Rattle.np_synth.specs.Faults.{set_of}
 use Rattle.np_table.specs.Table.{number_of_workloads}
 
 pub index-sender-requires : goal.index-sender-requires
