@@ -1,0 +1,96 @@
+-- The first pair of numbers that passes a test.
+use Rattle.std.proofs.Common.{◌≡◌, ℕ, zero, suc, ◌+◌, ◌<◌, ◌≤◌, List, Bool, true, false, Option, Some, None, map, flat_map, arith, refl, sym, ap, ◌∙◌, inl, inr}
+use Rattle.std.specs.List.{find, range_with_len}
+use Rattle.std.specs.Option.{option_or}
+use Rattle.std.proofs.lemmas.Bool.{cases_eq}
+use Rattle.std.proofs.lemmas.List.Folds.{find-append}
+use Rattle.np_synth.specs.Pairs.{first_pair}
+
+module _ (test : ℕ → ℕ → Bool) where
+  abbrev passes : ℕ × ℕ → Bool
+  passes pair = test pair.0 pair.1
+
+  abbrev row : ℕ → List ℕ → List (ℕ × ℕ)
+  row a bs = map (λ b. (a, b)) bs
+
+  -- ---- pairs of one first number
+
+  row-none : (a from n : ℕ) → ((b : ℕ) → from ≤ b → b < from + n → test a b ≡ false) → find passes (row a (range_with_len from n)) ≡ None
+  row-none a from zero none = refl
+  row-none a from (suc n) none = rw (none from (omega arith) (omega arith)) (row-none a (from + 1) n (λ b low high. none b (omega arith) (omega arith)))
+
+  row-some : (a b from n : ℕ) → from ≤ b → b < from + n → test a b ≡ true → ((y : ℕ) → from ≤ y → y < b → test a y ≡ false) → find passes (row a (range_with_len from n)) ≡ Some (a, b)
+  row-some a b from zero low high is before = absurd (omega arith)
+  row-some a b from (suc n) low high is before =
+      elim (cases_eq from b) [
+        | inl here ↦ let at : test a from ≡ true = ap (test a) here ∙ is in rw at (ap (λ (k : ℕ). Some (a, k)) here)
+        | inr apart ↦ rw (before from (omega arith) (omega arith)) (row-some a b (from + 1) n (omega arith) (omega arith) is (λ y above below. before y (omega arith) below))
+      ]
+
+  row-from_none : (a from n : ℕ) → find passes (row a (range_with_len from n)) ≡ None → (b : ℕ) → from ≤ b → b < from + n → test a b ≡ false
+  row-from_none a from zero none b low high = absurd (omega arith)
+  row-from_none a from (suc n) none b low high = by (test a from) refl none (row-from_none a (from + 1) n)
+    where
+      by : (answer : Bool) → test a from ≡ answer → find passes (row a (range_with_len from (suc n))) ≡ None → (find passes (row a (range_with_len (from + 1) n)) ≡ None → (c : ℕ) → from + 1 ≤ c → c < from + 1 + n → test a c ≡ false) → test a b ≡ false
+      by true is found rest = let never : Some (a, from) ≡ None = rw is at found in cc
+      by false is found rest =
+          elim (cases_eq from b) [
+            | inl here ↦ sym (ap (test a) here) ∙ is
+            | inr apart ↦ rest (rw is at found) b (omega arith) (omega arith)
+          ]
+
+  -- ---- all pairs
+
+  abbrev rows : ℕ → List ℕ → List (ℕ × ℕ)
+  rows count firsts = flat_map (λ a. row a (range_with_len 0 count)) firsts
+
+  rows-none : (count from n : ℕ) → ((a b : ℕ) → from ≤ a → a < from + n → b < count → test a b ≡ false) → find passes (rows count (range_with_len from n)) ≡ None
+  rows-none count from zero none = refl
+  rows-none count from (suc n) none =
+      find-append passes (row from (range_with_len 0 count)) (rows count (range_with_len (from + 1) n))
+      ∙ ap (λ (o : Option (ℕ × ℕ)). option_or o (find passes (rows count (range_with_len (from + 1) n)))) (row-none from 0 count (λ b _ high. none from b (omega arith) (omega arith) (omega arith)))
+      ∙ rows-none count (from + 1) n (λ a b low high below. none a b (omega arith) (omega arith) below)
+
+  rows-some : (count a b from n : ℕ) → from ≤ a → a < from + n → b < count → test a b ≡ true → ((x y : ℕ) → x < a → y < count → test x y ≡ false) → ((y : ℕ) → y < b → test a y ≡ false) → find passes (rows count (range_with_len from n)) ≡ Some (a, b)
+  rows-some count a b from zero low high below is earlier before = absurd (omega arith)
+  rows-some count a b from (suc n) low high below is earlier before =
+      elim (cases_eq a from) [
+        | inl here ↦
+            find-append passes (row from (range_with_len 0 count)) (rows count (range_with_len (from + 1) n))
+            ∙ ap (λ (o : Option (ℕ × ℕ)). option_or o (find passes (rows count (range_with_len (from + 1) n))))
+            (ap (λ (k : ℕ). find passes (row k (range_with_len 0 count))) (sym here) ∙ row-some a b 0 count (omega arith) (omega arith) is (λ y _ under. before y under))
+        | inr apart ↦
+            find-append passes (row from (range_with_len 0 count)) (rows count (range_with_len (from + 1) n))
+            ∙ ap (λ (o : Option (ℕ × ℕ)). option_or o (find passes (rows count (range_with_len (from + 1) n)))) (row-none from 0 count (λ y _ under. earlier from y (omega arith) (omega arith)))
+            ∙ rows-some count a b (from + 1) n (omega arith) (omega arith) below is earlier before
+      ]
+
+  none_of : (o p : Option (ℕ × ℕ)) → option_or o p ≡ None → (o ≡ None) × (p ≡ None)
+  none_of None p is = (refl, is)
+  none_of (Some x) p is = absurd (cc)
+
+  rows-from_none : (count from n : ℕ) → find passes (rows count (range_with_len from n)) ≡ None → (a b : ℕ) → from ≤ a → a < from + n → b < count → test a b ≡ false
+  rows-from_none count from zero none a b low high below = absurd (omega arith)
+  rows-from_none count from (suc n) none a b low high below =
+      let both = none_of (find passes (row from (range_with_len 0 count))) (find passes (rows count (range_with_len (from + 1) n))) (sym (find-append passes (row from (range_with_len 0 count)) (rows count (range_with_len (from + 1) n))) ∙ none) in
+      elim (cases_eq a from) [
+        | inl here ↦ ap (λ (k : ℕ). test k b) here ∙ row-from_none from 0 count both.0 b (omega arith) (omega arith)
+        | inr apart ↦ rows-from_none count (from + 1) n both.1 a b (omega arith) (omega arith) below
+      ]
+
+  -- ---- the first of all
+
+  -- none passes
+  pub first_pair-none : (count : ℕ) → ((a b : ℕ) → a < count → b < count → test a b ≡ false) → first_pair test count ≡ None
+  unfolding first_pair
+  first_pair-none count none = rows-none count 0 count (λ a b _ high below. none a b (omega arith) below)
+
+  -- one passes, and none before it
+  pub first_pair-some : (count a b : ℕ) → a < count → b < count → test a b ≡ true → ((x y : ℕ) → x < a → y < count → test x y ≡ false) → ((y : ℕ) → y < b → test a y ≡ false) → first_pair test count ≡ Some (a, b)
+  unfolding first_pair
+  first_pair-some count a b high below is earlier before = rows-some count a b 0 count (omega arith) (omega arith) below is earlier before
+
+  -- where there is no first pair none passes
+  pub first_pair-from_none : (count : ℕ) → first_pair test count ≡ None → (a b : ℕ) → a < count → b < count → test a b ≡ false
+  unfolding first_pair
+  first_pair-from_none count none a b high below = rows-from_none count 0 count none a b (omega arith) (omega arith) below

@@ -1,0 +1,7 @@
+pub mod Faults
+pub mod Flat
+pub mod Groups
+pub mod Pairs
+pub mod Ports
+pub mod Selecting
+pub mod steps

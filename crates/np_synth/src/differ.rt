@@ -1,0 +1,203 @@
+//! Whether two workloads differ in what passes.
+ghost use Rattle.std.specs.Prelude.{◌≡◌, ◌≢◌, ◌++◌, IfOk, OnOk, not};
+ghost use Rattle.std.specs.Cmp.Lexicographic.{pointwise};
+ghost use Rattle.std.specs.List.{list_any};
+ghost use Rattle.np_classes.specs.Classes.{places};
+ghost use Rattle.np_synth.specs.Faults as spec;
+ghost use Rattle.np_synth.specs.steps.OwnSets.{own_set};
+ghost use Rattle.np_table.specs.Right.{are_same_conns, are_same_range};
+ghost use Rattle.np_table.specs.Table.{IsWorkload, number_of_workloads};
+
+use crate::sides::Sides;
+use np_base::{Cells, NoMemory, Point, Range};
+use np_conns::ConnSet;
+use np_policies::Direction;
+use np_steps::Steps;
+use np_table::{AddressRow, AddressSpan, address_rows};
+use std::sync::ledger::Ledger;
+
+/// Whether two workloads differ in what passes between them and a third, within and between them, or at some address in a
+/// direction. At most four sets are held at a time.
+#[tactic(auto, unfolding(crate::specs::Faults::differ))]
+pub(crate) fn differ<L: Ledger>(
+    sides: &Sides<'_>,
+    a: u32,
+    b: u32,
+    steps: &mut Steps<L>,
+) -> Result<bool, NoMemory>
+    requires a { IsWorkload sides.now a }
+    requires b { IsWorkload sides.now b }
+    requires apart { a ≢ b }
+    ensures { IfOk result (λ answer. answer ≡ spec.differ sides.now a b) }
+{
+    if differ_at_some(sides, a, b, steps)? {
+        return Ok(true);
+    }
+    if differ_within(sides, a, b, steps)? {
+        return Ok(true);
+    }
+    if differ_towards(sides, a, b, Direction::Ingress, steps)? {
+        return Ok(true);
+    }
+    differ_towards(sides, a, b, Direction::Egress, steps)
+}
+
+// Whether they differ in what passes between them and some third workload.
+fn differ_at_some<L: Ledger>(
+    sides: &Sides<'_>,
+    a: u32,
+    b: u32,
+    steps: &mut Steps<L>,
+) -> Result<bool, NoMemory>
+    requires a { IsWorkload sides.now a }
+    requires b { IsWorkload sides.now b }
+    ensures { IfOk result (λ answer. answer ≡ list_any (spec.differ_at sides.now a b) (places (number_of_workloads sides.now))) }
+{
+    for third in 0..sides.folded().workloads().count() {
+        if differ_at(sides, a, b, third, steps)? {
+            return Ok(true);
+        }
+    }
+    Ok(false)
+}
+
+// Whether they differ in what they send to a third workload, or in what they receive of it.
+fn differ_at<L: Ledger>(
+    sides: &Sides<'_>,
+    a: u32,
+    b: u32,
+    third: u32,
+    steps: &mut Steps<L>,
+) -> Result<bool, NoMemory>
+    requires a { IsWorkload sides.now a }
+    requires b { IsWorkload sides.now b }
+    requires third { IsWorkload sides.now third }
+    ensures { IfOk result (λ answer. answer ≡ spec.differ_at sides.now a b third) }
+{
+    if third == a || third == b {
+        return Ok(false);
+    }
+    let sent_by_a = sides.between(a, third, steps)?;
+    let sent_by_b = sides.between(b, third, steps)?;
+    if !are_same(&sent_by_a, &sent_by_b) {
+        return Ok(true);
+    }
+    let sent_to_a = sides.between(third, a, steps)?;
+    let sent_to_b = sides.between(third, b, steps)?;
+    Ok(!are_same(&sent_to_a, &sent_to_b))
+}
+
+// Whether what passes within and between them differs.
+fn differ_within<L: Ledger>(
+    sides: &Sides<'_>,
+    a: u32,
+    b: u32,
+    steps: &mut Steps<L>,
+) -> Result<bool, NoMemory>
+    requires a { IsWorkload sides.now a }
+    requires b { IsWorkload sides.now b }
+    requires apart { a ≢ b }
+    ensures { IfOk result (λ answer. answer ≡ spec.two_differ (spec.own_sets sides.now a b)) }
+{
+    let mut sets = Vec::new(sides.alloc());
+    add_within(&mut sets, sides, a, steps)?;
+    sets.push(sides.between(a, b, steps)?)?;
+    sets.push(sides.between(b, a, steps)?)?;
+    add_within(&mut sets, sides, b, steps)?;
+    Ok(two_differ(&sets))
+}
+
+// Adds what passes within a workload, where it is defined.
+fn add_within<L: Ledger>(
+    sets: &mut Vec<ConnSet>,
+    sides: &Sides<'_>,
+    workload: u32,
+    steps: &mut Steps<L>,
+) -> Result<(), NoMemory>
+    requires { IsWorkload sides.now workload }
+    ensures { OnOk result (sets.new.items ≡ sets.old.items ++ own_set sides.now workload workload) }
+{
+    if let Some(set) = sides.within(workload, steps)? {
+        sets.push(set)?;
+    }
+    Ok(())
+}
+
+// Whether some two of the sets differ.
+fn two_differ(sets: &[ConnSet]) -> bool
+    ensures { result ≡ spec.two_differ sets.now }
+{
+    sets.iter().any(|one| differs_from_some(one, sets))
+}
+
+// Whether a set differs from some other.
+fn differs_from_some(one: &ConnSet, sets: &[ConnSet]) -> bool
+    ensures { result ≡ list_any (λ other. not (are_same_conns one.now other)) sets.now }
+{
+    sets.iter().any(|other| !are_same(one, other))
+}
+
+// Whether two sets are the same.
+fn are_same(one: &ConnSet, other: &ConnSet) -> bool
+    ensures { result ≡ are_same_conns one.now other.now }
+{
+    one.same(other)
+}
+
+// Whether they differ in what passes at some address in a direction.
+fn differ_towards<L: Ledger>(
+    sides: &Sides<'_>,
+    a: u32,
+    b: u32,
+    direction: Direction,
+    steps: &mut Steps<L>,
+) -> Result<bool, NoMemory>
+    requires a { IsWorkload sides.now a }
+    requires b { IsWorkload sides.now b }
+    ensures { IfOk result (λ answer. answer ≡ spec.differ_towards sides.now a b direction) }
+{
+    let rows_of_a = address_rows(sides.alloc(), sides.folded(), a, direction, steps)?;
+    let rows_of_b = address_rows(sides.alloc(), sides.folded(), b, direction, steps)?;
+    Ok(!are_same_rows(rows_of_a.items(), rows_of_b.items()))
+}
+
+// Whether two lists of rows are the same.
+fn are_same_rows(rows: &[AddressRow], others: &[AddressRow]) -> bool
+    ensures { result ≡ pointwise spec.are_same_row rows.now others.now }
+{
+    for (place, row) in rows.iter().enumerate() {
+        let Some(other) = others.get(place) else {
+            return false;
+        };
+        if !is_same_row(row, other) {
+            return false;
+        }
+    }
+    rows.len() == others.len()
+}
+
+// Whether two rows are the same.
+fn is_same_row(row: &AddressRow, other: &AddressRow) -> bool
+    ensures { result ≡ spec.are_same_row row.now other.now }
+{
+    is_same_span(row.span, other.span) && are_same(&row.conns, &other.conns)
+}
+
+// Whether two spans have the same addresses.
+fn is_same_span(span: AddressSpan, other: AddressSpan) -> bool
+    ensures { result ≡ spec.are_same_span span other }
+{
+    match (span, other) {
+        (AddressSpan::Four(range), AddressSpan::Four(other)) => is_same_range(range, other),
+        (AddressSpan::Six(range), AddressSpan::Six(other)) => is_same_range(range, other),
+        _ => false,
+    }
+}
+
+// Whether two ranges are the same.
+fn is_same_range<P: Point>(range: Range<P>, other: Range<P>) -> bool
+    ensures { result ≡ are_same_range (record { lo = P.number_of range.lo; hi = P.number_of range.hi })
+        (record { lo = P.number_of other.lo; hi = P.number_of other.hi }) }
+{
+    range.lo.number() == other.lo.number() && range.hi.number() == other.hi.number()
+}

@@ -1,0 +1,46 @@
+//! Whether an estate has flat policies.
+ghost use Rattle.std.specs.Prelude.{◌≡◌, ◌⊎◌, IfErr, IfOk, None, OnOk, Some};
+ghost use Rattle.np_synth.specs.Faults.{flat_fault};
+ghost use Rattle.np_synth.specs.declared.fault.FlatFault.TheVariants.{NoMemory};
+
+use crate::fault::FlatFault;
+use crate::flat::Flat;
+use crate::groups::groups_of;
+use crate::sides::Sides;
+use crate::split::first_split;
+use crate::unlike::first_unlike;
+use np_fold::Folded;
+use np_steps::Steps;
+use std::alloc::Global;
+use std::sync::ledger::Ledger;
+
+/// The flat policies of an estate: without any other policy they allow and deny what the whole estate does, between its pods
+/// and between its pods and all addresses.
+///
+/// `Split` comes exactly where what may pass between two workloads differs between the families of the list, with the first
+/// such two by the source and then by the destination. `Alike` comes exactly where nothing is split and two workloads of one
+/// group differ, with the first such two by the lesser number and then by the greater. What may pass is asked of the rules
+/// anew for each two workloads, and no table of it is held.
+#[tactic(auto, unfolding(crate::specs::Faults::flat_fault))]
+pub fn flatten<'a, L: Ledger>(
+    alloc: Global,
+    folded: &'a Folded,
+    steps: &mut Steps<L>,
+) -> Result<Flat<'a>, FlatFault>
+    ensures flat { IfOk result (λ flat. flat ≡ folded.now) }
+    ensures none { OnOk result (flat_fault folded.now ≡ None) }
+    ensures fault { IfErr result (λ fault. (fault ≡ NoMemory) ⊎ (flat_fault folded.now ≡ Some fault)) }
+{
+    if let Some((source, destination)) = first_split(alloc, folded, steps)? {
+        return Err(FlatFault::Split {
+            source,
+            destination,
+        });
+    }
+    let groups = groups_of(alloc, folded)?;
+    let sides = Sides::of(alloc, folded)?;
+    if let Some((a, b)) = first_unlike(&sides, &groups, steps)? {
+        return Err(FlatFault::Alike { a, b });
+    }
+    Ok(Flat::of(sides, groups))
+}

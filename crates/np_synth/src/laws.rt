@@ -1,0 +1,40 @@
+//! What follows from the definitions. Each law is the contract of a call that does nothing.
+ghost use Rattle.std.specs.Prelude.{◌≡◌, ◌≢◌, ◌<◌, ℕ, None, Some, Contains, length, true};
+ghost use Rattle.np_addr.specs.declared.address.Family.{Family};
+ghost use Rattle.np_conns.specs.Conns.{is_spot};
+ghost use Rattle.np_conns.specs.declared.port_spot.PortSpot.{PortSpot};
+ghost use Rattle.np_estate.specs.Families.{families_of};
+ghost use Rattle.np_estate.specs.Lawful.{IsLawful};
+ghost use Rattle.np_estate.specs.declared.lists.EstateLists.{EstateLists};
+ghost use Rattle.np_policies.specs.declared.direction.Direction.{Direction};
+ghost use Rattle.np_rules.specs.Ends.{pod};
+ghost use Rattle.np_rules.specs.Verdict.{pod_at};
+ghost use Rattle.np_synth.specs.Faults.{flat_fault, is_defined, set_of};
+ghost use Rattle.np_synth.specs.Flat.{flattened, set_from};
+ghost use Rattle.np_synth.specs.Groups.{group_of};
+ghost use Rattle.np_table.specs.Said.{IsInFamily};
+ghost use Rattle.np_table.specs.Table.{between_pods, number_of_workloads, with_address};
+
+/// Where an estate has no fault, its flat policies without any other policy give the verdicts of the whole estate: between
+/// every two different pods, in each family of the list, and between each pod and every address, either way.
+pub fn flat_policies_give_the_verdicts()
+    ensures pods { (lists : EstateLists) (p q : ℕ) (family : Family) (spot : PortSpot) → IsLawful lists → flat_fault lists ≡ None →
+        p < length lists.pods → q < length lists.pods → p ≢ q → Contains (families_of lists.pods) family → is_spot spot ≡ true →
+        between_pods (flattened lists) p q family spot ≡ between_pods lists p q family spot }
+    ensures addresses { (lists : EstateLists) (p : ℕ) (direction : Direction) (family : Family) (number : ℕ) (spot : PortSpot) →
+        IsLawful lists → flat_fault lists ≡ None → p < length lists.pods → IsInFamily family number → is_spot spot ≡ true →
+        with_address (flattened lists) direction (pod (pod_at lists p)) family number spot
+        ≡ with_address lists direction (pod (pod_at lists p)) family number spot }
+{}
+
+/// Where an estate has no fault, what passes between two workloads, where it is defined, depends on their groups alone, and it
+/// is the set of the rule from the one group to the other.
+pub fn groups_give_the_sets()
+    ensures groups { (lists : EstateLists) → flat_fault lists ≡ None → (a a' b b' : ℕ) →
+        a < number_of_workloads lists → a' < number_of_workloads lists → b < number_of_workloads lists → b' < number_of_workloads lists →
+        group_of lists a ≡ group_of lists a' → group_of lists b ≡ group_of lists b' →
+        is_defined lists a b ≡ true → is_defined lists a' b' ≡ true → set_of lists a b ≡ set_of lists a' b' }
+    ensures rule { (lists : EstateLists) → flat_fault lists ≡ None → (a b : ℕ) →
+        a < number_of_workloads lists → b < number_of_workloads lists → is_defined lists a b ≡ true →
+        set_from lists (group_of lists a) (group_of lists b) ≡ Some (set_of lists a b) }
+{}
