@@ -1,3 +1,9 @@
 pub mod FloatLemmas
+pub mod ItemLemmas
 pub mod ListLemmas
 pub mod ObjectLemmas
+pub mod PlainLemmas
+pub mod PolicyLemmas
+pub mod ShapeLemmas
+pub mod TextLemmas
+pub mod WordLemmas
