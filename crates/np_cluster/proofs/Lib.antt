@@ -4,6 +4,7 @@ pub mod ListLemmas
 pub mod ObjectLemmas
 pub mod PlainLemmas
 pub mod PolicyLemmas
+pub mod ReadingLemmas
 pub mod ShapeLemmas
 pub mod TextLemmas
 pub mod WordLemmas
