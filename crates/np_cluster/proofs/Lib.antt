@@ -1,3 +1,5 @@
+pub mod ApartLemmas
+pub mod EstateLemmas
 pub mod FloatLemmas
 pub mod ItemLemmas
 pub mod ListLemmas
