@@ -31,16 +31,16 @@ use Rattle.np_cluster.proofs.ReadingLemmas.{all-items, items_of-sample, sample_i
 
 -- ---- what a function gives of the items
 
-gives_none : {Y : Type 0} (h : Item → Option Y) (f : ℕ → Item) → ((i : ℕ) → h (f i) ≡ None) → (a n : ℕ) → filter_map h (map f (range_with_len a n)) ≡ []
+pub gives_none : {Y : Type 0} (h : Item → Option Y) (f : ℕ → Item) → ((i : ℕ) → h (f i) ≡ None) → (a n : ℕ) → filter_map h (map f (range_with_len a n)) ≡ []
 gives_none h f none a zero = refl
 gives_none h f none a (suc n) = rw (none a) (gives_none h f none (a + 1) n)
 
-gives_each : {Y : Type 0} (h : Item → Option Y) (f : ℕ → Item) (g : ℕ → Y) → ((i : ℕ) → h (f i) ≡ Some (g i)) → (a n : ℕ) → filter_map h (map f (range_with_len a n)) ≡ map g (range_with_len a n)
+pub gives_each : {Y : Type 0} (h : Item → Option Y) (f : ℕ → Item) (g : ℕ → Y) → ((i : ℕ) → h (f i) ≡ Some (g i)) → (a n : ℕ) → filter_map h (map f (range_with_len a n)) ≡ map g (range_with_len a n)
 gives_each h f g some a zero = refl
 gives_each h f g some a (suc n) = rw (some a, gives_each h f g some (a + 1) n) refl
 
 -- by the four kinds of items
-gives_parts : {Y : Type 0} (h : Item → Option Y) (n : ℕ) → filter_map h (sample_items n)
+pub gives_parts : {Y : Type 0} (h : Item → Option Y) (n : ℕ) → filter_map h (sample_items n)
     ≡ filter_map h (map namespace_item (range_with_len 0 namespace_count)) ++ filter_map h (map pod_item (range_with_len 0 n)) ++ filter_map h (map net_policy_item (range_with_len 0 namespace_count)) ++ filter_map h (admin_policy_item ∷ [])
 gives_parts h n =
     let namespaces = map namespace_item (range_with_len 0 namespace_count) in
@@ -69,7 +69,7 @@ no_owners items [] all = tt
 no_owners items (one ∷ rest) all =
     (ap (λ owner. option_and_then (place_in_namespace items owner) (name_of one)) all.0 ∙ nothing_then (name_of one), no_owners items rest all.1)
 
-first_in_cycle-none : (items : List Item) → AllByRecursion (λ one. owner_of one ≡ None) items → first_in_cycle items ≡ None
+pub first_in_cycle-none : (items : List Item) → AllByRecursion (λ one. owner_of one ≡ None) items → first_in_cycle items ≡ None
 first_in_cycle-none items all = rw (not_found (ups items) (none_in (ups items) (no_owners items items all)) (places (ups items))) refl
 
 -- ---- what is left out
@@ -83,14 +83,14 @@ count_none : (test : ℕ → Bool) → ((k : ℕ) → test k ≡ false) → (tot
 count_none test none total [] = refl
 count_none test none total (k ∷ ks) = rw (none k, add-zero total) (count_none test none total ks)
 
-abbrev IsKept : Item → Type 0
+abbrev pub IsKept : Item → Type 0
 IsKept one = (makes : Bool) → left_out makes one ≡ None
 
 kept_by : (makes : Bool) (items : List Item) → AllByRecursion IsKept items → AllByRecursion (λ one. left_out makes one ≡ None) items
 kept_by makes [] all = tt
 kept_by makes (one ∷ items) all = (all.0 makes, kept_by makes items all.1)
 
-count_left_out-none : (items : List Item) (why : _) → AllByRecursion IsKept items → count_left_out items why ≡ 0
+pub count_left_out-none : (items : List Item) (why : _) → AllByRecursion IsKept items → count_left_out items why ≡ 0
 count_left_out-none items why all =
     count_none (is_left_out items why) (λ k. passes_none (is_for why) (left_out (makes_pod items k)) items (kept_by (makes_pod items k) items all) k) 0 (range_with_len 0 (length items))
 
@@ -109,14 +109,14 @@ no_labels items all name = by (place_of items (namespace_name name))
     by (Some place) = labels_at items all place
 
 -- the pod that an item gives, where no controller owns it and no namespace has labels
-abbrev gives_pod : Item → Option Pod
+abbrev pub gives_pod : Item → Option Pod
 gives_pod (item.Object (object.Pod pod)) = Some (listed_pod pod (setting (name_label pod.namespace ∷ []) (named_or_itself pod)))
 gives_pod other = None
 
-abbrev IsLone : List Item → Item → Type 0
+abbrev pub IsLone : List Item → Item → Type 0
 IsLone items one = (place : ℕ) → slice_get items place ≡ Some one → pod_at_item items place one ≡ gives_pod one
 
-pod_is_lone : (items : List Item) → AllByRecursion (λ one. labels_in (Some one) ≡ []) items → (i : ℕ) → IsLone items (pod_item i)
+pub pod_is_lone : (items : List Item) → AllByRecursion (λ one. labels_in (Some one) ≡ []) items → (i : ℕ) → IsLone items (pod_item i)
 pod_is_lone items all i place at = rw (top_owner-pod items place (pod_read i) at refl, no_labels items all (pod_read i).namespace) refl
 
 at_seam : (front : List Item) (one : Item) (rest : List Item) → slice_get (front ++ one ∷ rest) (length front) ≡ Some one
@@ -127,7 +127,7 @@ listed_first : (o : Option Pod) (pods : List Pod) → option_to_list o ++ pods �
 listed_first None pods = refl
 listed_first (Some pod) pods = refl
 
-pods_from-lone : (items front rest : List Item) (place : ℕ) → items ≡ front ++ rest → length front ≡ place → AllByRecursion (IsLone items) rest → pods_from items place rest ≡ filter_map gives_pod rest
+pub pods_from-lone : (items front rest : List Item) (place : ℕ) → items ≡ front ++ rest → length front ≡ place → AllByRecursion (IsLone items) rest → pods_from items place rest ≡ filter_map gives_pod rest
 pods_from-lone items front [] place whole here all = refl
 pods_from-lone items front (one ∷ rest) place whole here all =
     let at : slice_get items place ≡ Some one = rw (whole, ← here) (at_seam front one rest) in

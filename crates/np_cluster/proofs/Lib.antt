@@ -7,6 +7,7 @@ pub mod ObjectLemmas
 pub mod PlainLemmas
 pub mod PolicyLemmas
 pub mod ReadingLemmas
+pub mod SampleLemmas
 pub mod ShapeLemmas
 pub mod TextLemmas
 pub mod WordLemmas
