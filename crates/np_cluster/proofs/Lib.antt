@@ -11,3 +11,4 @@ pub mod SampleLemmas
 pub mod ShapeLemmas
 pub mod TextLemmas
 pub mod WordLemmas
+pub mod WorkloadLemmas

@@ -49,9 +49,9 @@ net_policy_read j = record {
   name = codes "next";
   subject = everything;
   ingress = Some (
-    record { peers = net_peer.Pods (Some (selector_of (codes "kubernetes.io/metadata.name") (namespace_name (next_of j)))) None ∷ []; ports = net_port.Named Tcp (codes "http") ∷ [] }
-    ∷ record { peers = net_peer.Block (block_of j) [] ∷ []; ports = net_port.Span Tcp 443 443 ∷ [] }
-    ∷ []);
+      record { peers = net_peer.Pods (Some (selector_of (codes "kubernetes.io/metadata.name") (namespace_name (next_of j)))) None ∷ []; ports = net_port.Named Tcp (codes "http") ∷ [] }
+      ∷ record { peers = net_peer.Block (block_of j) [] ∷ []; ports = net_port.Span Tcp 443 443 ∷ [] }
+      ∷ []);
   egress = None;
 }
 
