@@ -1,17 +1,13 @@
 -- The estate of the items of the sample.
-use Rattle.std.proofs.Common.{◌≡◌, ℕ, zero, suc, ◌+◌, ◌<◌, ◌≤◌, List, [], ◌∷◌, ◌++◌, length, map, find, fold, codes, Bool, true, false, cond, Option, Some, None, Ok, refl, sym, ap, ap₂, ◌∙◌, arith, append_assoc, append-nil, add-zero, length-append}
-use Rattle.std.specs.Fmt.{digits}
-use Rattle.std.specs.List.{AllByRecursion, cons_option, count_by, filter_map, list_any, range_with_len, slice_get, sum_by}
-use Rattle.std.specs.Option.{option_and_then, option_flatten, option_map, option_map_or, option_to_list}
+use Rattle.std.proofs.Common.{◌≡◌, ℕ, zero, suc, ◌+◌, List, [], ◌∷◌, ◌++◌, length, map, find, fold, Bool, false, cond, Option, Some, None, refl, sym, ap, ◌∙◌, arith, append_assoc, add-zero, length-append}
+use Rattle.std.specs.List.{AllByRecursion, cons_option, filter_map, range_with_len, slice_get}
+use Rattle.std.specs.Option.{option_and_then, option_map_or, option_to_list}
 use Rattle.std.proofs.lemmas.List.Elements.{filter_map-append}
-use Rattle.std.proofs.lemmas.Option.{slice_get-map}
 use Rattle.np_chains.proofs.Walks.{chain_none}
-use Rattle.np_chains.specs.Chains.{first_cycle, owns_itself, places, up}
-use Rattle.np_estate.specs.Ends.{listed_pod, pod_at_item, pods_from, pods_of, setting}
+use Rattle.np_chains.specs.Chains.{owns_itself, places, up}
+use Rattle.np_estate.specs.Ends.{listed_pod, pod_at_item, pods_from, setting}
 use Rattle.np_estate.specs.LeftOut.{count_left_out, is_for, is_left_out, left_out}
-use Rattle.np_estate.specs.Listed.{admin_policies_of, admin_policy, base_policy, baseline_of, ingress, ingresses_from, ingresses_of, net_policies_of, net_policy, service, services_of, have_priorities_apart}
 use Rattle.np_estate.specs.Namespaces.{labels_in, listed_labels, name_label, namespace_name}
-use Rattle.np_estate.specs.Reading.{estate_of, have_names_apart, have_no_cycle, lists_of}
 use Rattle.np_estate.specs.TopOwners.{named_or_itself}
 use Rattle.np_estate.specs.declared.pod.Pod.{Pod}
 use Rattle.np_estate.proofs.TopLemmas.{top_owner-pod}
@@ -22,12 +18,9 @@ use Rattle.np_owners.specs.MadePods.{makes_pod}
 use Rattle.np_owners.specs.Names.{name_of, place_of}
 use Rattle.np_owners.specs.Owners.{first_in_cycle, owner_of, owner_place, place_in_namespace, ups}
 use Rattle.np_owners.specs.declared.object_name.ObjectName.{ObjectName}
-use Rattle.np_cluster.specs.Estate.{estate_pod, sample_estate}
 use Rattle.np_cluster.specs.Objects.{namespace_count}
-use Rattle.np_cluster.specs.Read.{admin_policy_item, admin_policy_read, namespace_item, net_policy_item, net_policy_read, pod_item, pod_read}
-use Rattle.np_cluster.specs.Sample.{sample_text}
-use Rattle.np_cluster.proofs.ApartLemmas.{first_repeat-sample}
-use Rattle.np_cluster.proofs.ReadingLemmas.{all-items, items_of-sample, sample_items}
+use Rattle.np_cluster.specs.Read.{admin_policy_item, namespace_item, net_policy_item, pod_item, pod_read}
+use Rattle.np_cluster.proofs.ReadingLemmas.{sample_items}
 
 -- ---- what a function gives of the items
 

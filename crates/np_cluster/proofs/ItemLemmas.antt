@@ -1,11 +1,9 @@
 -- What each object of the sample is read as.
-use Rattle.std.proofs.Common.{◌≡◌, ℕ, ◌+◌, ◌%◌, ◌^◌, ◌<◌, ◌≤◌, List, [], ◌∷◌, ◌++◌, codes, true, false, None, Ok, decimal, refl, arith, le-leb, lt-ltb}
-use Rattle.std.specs.Fmt.{digits}
-use Rattle.np_addr.specs.AddressGrammar.{address_of, cidr_of, length_of}
+use Rattle.std.proofs.Common.{◌≡◌, ℕ, ◌%◌, ◌^◌, ◌<◌, codes, false, None, Ok, decimal, refl, arith}
 use Rattle.np_items.specs.Items.{item_of, must_be_no_list}
 use Rattle.np_json.specs.Meta.{namespaced_name, type_meta}
 use Rattle.np_json.specs.Scalars.{word}
-use Rattle.np_json.specs.Shapes.{listed, must_be_object, optional, refuse_if, refuse_member_if, required, under}
+use Rattle.np_json.specs.Shapes.{listed, must_be_object, optional, refuse_if, required, under}
 use Rattle.np_objects.specs.Labels.{label_map}
 use Rattle.np_objects.specs.Namespaces as namespaces
 use Rattle.np_objects.specs.Objects.{object_by, object_of}

@@ -1,5 +1,5 @@
 -- What holds of each object of the sample.
-use Rattle.std.proofs.Common.{ℕ, ◌+◌, ◌<◌, ◌≤◌, List, [], ◌∷◌, ◌++◌, map, arith}
+use Rattle.std.proofs.Common.{ℕ, ◌<◌, [], ◌∷◌, ◌++◌, map, arith}
 use Rattle.std.specs.List.{AllByRecursion, range_with_len}
 use Rattle.serde_json.specs.Data.{Data}
 use Rattle.np_cluster.specs.Objects.{admin_policy, namespace, namespace_count, net_policy, pod}

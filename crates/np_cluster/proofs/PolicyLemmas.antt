@@ -6,7 +6,7 @@ use Rattle.np_addr.specs.Ipv4Grammar.{ipv4_of, part_of, parts_of}
 use Rattle.np_addr.specs.Numeral.{numeral_of}
 use Rattle.np_items.specs.Items.{item_of, must_be_no_list}
 use Rattle.np_json.specs.Meta.{namespace, namespaced_name, type_meta}
-use Rattle.np_json.specs.Scalars.{labels, name, port, word}
+use Rattle.np_json.specs.Scalars.{labels, name, port}
 use Rattle.np_json.specs.Shapes.{listed, must_be_object, optional, refuse_if, refuse_member_if, required, under}
 use Rattle.np_policies.specs.AdminPolicies as admins
 use Rattle.np_policies.specs.Blocks.{cidr, ip_block}

@@ -1,5 +1,5 @@
 -- The items of the sample.
-use Rattle.std.proofs.Common.{◌≡◌, ℕ, zero, suc, ◌+◌, ◌^◌, ◌<◌, ◌≤◌, List, [], ◌∷◌, ◌++◌, length, map, codes, Some, Ok, refl, ap, ◌∙◌, arith, append-nil, le-leb, length-append}
+use Rattle.std.proofs.Common.{◌≡◌, ℕ, zero, suc, ◌+◌, ◌<◌, ◌≤◌, List, [], ◌∷◌, ◌++◌, length, map, codes, Some, Ok, refl, arith, append-nil, le-leb, length-append}
 use Rattle.std.proofs.lemmas.List.FromFn.{length-map-range_with_len}
 use Rattle.std.specs.List.{AllByRecursion, AllZip, range_with_len}
 use Rattle.serde_json.specs.Data.{Data, string}

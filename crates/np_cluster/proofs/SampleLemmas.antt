@@ -1,13 +1,12 @@
 -- The estate of the sample.
-use Rattle.std.proofs.Common.{◌≡◌, ℕ, zero, suc, ◌+◌, ◌<◌, ◌≤◌, List, [], ◌∷◌, ◌++◌, length, map, fold, false, Option, Some, None, Ok, refl, sym, ap, ◌∙◌, append-nil}
+use Rattle.std.proofs.Common.{◌≡◌, ℕ, ◌+◌, ◌≤◌, List, [], ◌∷◌, ◌++◌, map, fold, false, Option, Some, None, Ok, refl, ap, ◌∙◌, append-nil}
 use Rattle.std.specs.Fmt.{digits}
 use Rattle.std.specs.List.{AllByRecursion, filter_map, range_with_len}
-use Rattle.np_estate.specs.LeftOut.{count_left_out, list_networks, unaddressed}
+use Rattle.np_estate.specs.LeftOut.{list_networks}
 use Rattle.np_estate.specs.Listed.{admin_policies_of, admin_policy, base_policy, baseline_of, first_equal, first_of, ingress, ingresses_from, ingresses_of, net_policies_of, net_policy, ranks_of, service, services_of, with_admin, with_net, with_rank}
 use Rattle.np_estate.specs.Ends.{pods_of}
 use Rattle.np_estate.specs.Namespaces.{labels_in}
-use Rattle.np_estate.specs.Reading.{estate_of, have_names_apart, have_no_cycle, lists_of, notes_of}
-use Rattle.np_estate.specs.declared.lists.EstateLists.{EstateLists}
+use Rattle.np_estate.specs.Reading.{estate_of, lists_of, notes_of}
 use Rattle.np_estate.specs.declared.notes.Notes.{Notes}
 use Rattle.np_estate.specs.declared.placed_ingress.PlacedIngress.{PlacedIngress}
 use Rattle.np_estate.specs.declared.pod.Pod.{Pod}
@@ -42,8 +41,9 @@ pods_of-sample n =
     let items = sample_items n in
     let labels = all-items (λ one. labels_in (Some one) ≡ []) n (λ j. refl) (λ i. refl) (λ j. refl) refl in
     let lone = all-items (IsLone items) n (λ j place at. refl) (λ i. pod_is_lone items labels i) (λ j place at. refl) (λ place at. refl) in
+    let pods = map estate_pod (range_with_len 0 n) in
     pods_from-lone items [] items 0 refl refl lone
-    ∙ gives_parts gives_pod n ∙ rw (gives_each gives_pod pod_item estate_pod (λ i. refl) 0 n, append-nil, append-nil) refl
+    ∙ gives_parts gives_pod n ∙ rw (gives_each gives_pod pod_item estate_pod (λ i. refl) 0 n) (append-nil (pods ++ []) ∙ append-nil pods)
 
 admins_given : (n : ℕ) → filter_map admin_policy (sample_items n) ≡ admin_policy_read ∷ []
 admins_given n = gives_parts admin_policy n ∙ rw (gives_none admin_policy pod_item (λ i. refl) 0 n) refl

@@ -1,5 +1,5 @@
 -- What shapes read of texts and numbers that are as they ask.
-use Rattle.std.proofs.Common.{◌≡◌, ◌≢◌, ℕ, suc, ◌^◌, ◌<◌, ◌≤◌, List, [], ◌∷◌, length, ◌==◌, not, true, false, ◌&&◌, Ok, refl, arith, le-leb, lt-ltb, ne_eqb}
+use Rattle.std.proofs.Common.{◌≡◌, ◌≢◌, ℕ, suc, ◌^◌, ◌≤◌, List, [], ◌∷◌, length, true, Ok, refl, arith, le-leb, lt-ltb, ne_eqb}
 use Rattle.serde_json.specs.Data.{number, object, string, unsigned, member, no_members}
 use Rattle.np_json.specs.Meta.{namespace}
 use Rattle.np_json.specs.Scalars.{is_label, labels, name, port}

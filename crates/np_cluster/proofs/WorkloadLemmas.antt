@@ -1,5 +1,5 @@
 -- How many workloads the sample has.
-use Rattle.std.proofs.Common.{ℕ, ◌≤◌, length, map, arith}
+use Rattle.std.proofs.Common.{ℕ, ◌≤◌, length, arith}
 use Rattle.std.proofs.lemmas.List.FromFn.{length-map-range_with_len}
 use Rattle.np_classes.proofs.Relations.{firsts-le-count}
 use Rattle.np_estate.specs.declared.lists.EstateLists.{EstateLists}

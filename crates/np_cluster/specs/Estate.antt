@@ -1,5 +1,5 @@
 -- The estate of the sample cluster.
-use Rattle.std.specs.Prelude.{ℕ, List, [], ◌∷◌, codes, map, None, true}
+use Rattle.std.specs.Prelude.{ℕ, [], ◌∷◌, codes, map, None, true}
 use Rattle.std.specs.List.{range_with_len}
 use Rattle.np_estate.specs.declared.lists.EstateLists.{EstateLists}
 use Rattle.np_estate.specs.declared.pod.Pod.{Pod}

@@ -9,7 +9,6 @@ use Rattle.np_labels.specs.Selectors.{label_requirement}
 use Rattle.np_labels.specs.declared.pair.Pair.{Pair}
 use Rattle.np_labels.specs.declared.selector.Selector.{Selector}
 use Rattle.np_objects.specs.declared.named_port.NamedPort.{NamedPort}
-use Rattle.np_objects.specs.declared.namespace.NamespaceItem.{NamespaceItem}
 use Rattle.np_objects.specs.declared.object.Object.TheVariants as object
 use Rattle.np_objects.specs.declared.pod_item.PodItem.{PodItem}
 use Rattle.np_policies.specs.Selectors.{everything}

@@ -73,3 +73,50 @@ fn add_net_policies(alloc: Global, values: &mut Vec<Value>) -> Result<(), AllocE
     }
     Ok(())
 }
+
+#[cfg(test)]
+mod tests {
+    use super::sample;
+    use std::test::Fail;
+
+    // Written out by hand, and by no code.
+    const ONE_POD: &str = "{\"apiVersion\":\"v1\",\"items\":[\
+        {\"apiVersion\":\"v1\",\"kind\":\"Namespace\",\"metadata\":{\"name\":\"s0\"}},\
+        {\"apiVersion\":\"v1\",\"kind\":\"Namespace\",\"metadata\":{\"name\":\"s1\"}},\
+        {\"apiVersion\":\"v1\",\"kind\":\"Namespace\",\"metadata\":{\"name\":\"s2\"}},\
+        {\"apiVersion\":\"v1\",\"kind\":\"Namespace\",\"metadata\":{\"name\":\"s3\"}},\
+        {\"apiVersion\":\"v1\",\"kind\":\"Namespace\",\"metadata\":{\"name\":\"s4\"}},\
+        {\"apiVersion\":\"v1\",\"kind\":\"Pod\",\"metadata\":{\"labels\":{\"app\":\"a0\"},\"name\":\"p0\",\"namespace\":\"s0\"},\
+        \"spec\":{\"containers\":[{\"ports\":[{\"containerPort\":8000,\"name\":\"http\",\"protocol\":\"TCP\"}]}]}},\
+        {\"apiVersion\":\"networking.k8s.io/v1\",\"kind\":\"NetworkPolicy\",\"metadata\":{\"name\":\"next\",\"namespace\":\"s0\"},\
+        \"spec\":{\"ingress\":[{\"from\":[{\"namespaceSelector\":{\"matchLabels\":{\"kubernetes.io/metadata.name\":\"s1\"}}}],\
+        \"ports\":[{\"port\":\"http\",\"protocol\":\"TCP\"}]},{\"from\":[{\"ipBlock\":{\"cidr\":\"10.0.0.0/16\"}}],\
+        \"ports\":[{\"port\":443,\"protocol\":\"TCP\"}]}],\"podSelector\":{},\"policyTypes\":[\"Ingress\"]}},\
+        {\"apiVersion\":\"networking.k8s.io/v1\",\"kind\":\"NetworkPolicy\",\"metadata\":{\"name\":\"next\",\"namespace\":\"s1\"},\
+        \"spec\":{\"ingress\":[{\"from\":[{\"namespaceSelector\":{\"matchLabels\":{\"kubernetes.io/metadata.name\":\"s2\"}}}],\
+        \"ports\":[{\"port\":\"http\",\"protocol\":\"TCP\"}]},{\"from\":[{\"ipBlock\":{\"cidr\":\"10.1.0.0/16\"}}],\
+        \"ports\":[{\"port\":443,\"protocol\":\"TCP\"}]}],\"podSelector\":{},\"policyTypes\":[\"Ingress\"]}},\
+        {\"apiVersion\":\"networking.k8s.io/v1\",\"kind\":\"NetworkPolicy\",\"metadata\":{\"name\":\"next\",\"namespace\":\"s2\"},\
+        \"spec\":{\"ingress\":[{\"from\":[{\"namespaceSelector\":{\"matchLabels\":{\"kubernetes.io/metadata.name\":\"s3\"}}}],\
+        \"ports\":[{\"port\":\"http\",\"protocol\":\"TCP\"}]},{\"from\":[{\"ipBlock\":{\"cidr\":\"10.2.0.0/16\"}}],\
+        \"ports\":[{\"port\":443,\"protocol\":\"TCP\"}]}],\"podSelector\":{},\"policyTypes\":[\"Ingress\"]}},\
+        {\"apiVersion\":\"networking.k8s.io/v1\",\"kind\":\"NetworkPolicy\",\"metadata\":{\"name\":\"next\",\"namespace\":\"s3\"},\
+        \"spec\":{\"ingress\":[{\"from\":[{\"namespaceSelector\":{\"matchLabels\":{\"kubernetes.io/metadata.name\":\"s4\"}}}],\
+        \"ports\":[{\"port\":\"http\",\"protocol\":\"TCP\"}]},{\"from\":[{\"ipBlock\":{\"cidr\":\"10.3.0.0/16\"}}],\
+        \"ports\":[{\"port\":443,\"protocol\":\"TCP\"}]}],\"podSelector\":{},\"policyTypes\":[\"Ingress\"]}},\
+        {\"apiVersion\":\"networking.k8s.io/v1\",\"kind\":\"NetworkPolicy\",\"metadata\":{\"name\":\"next\",\"namespace\":\"s4\"},\
+        \"spec\":{\"ingress\":[{\"from\":[{\"namespaceSelector\":{\"matchLabels\":{\"kubernetes.io/metadata.name\":\"s0\"}}}],\
+        \"ports\":[{\"port\":\"http\",\"protocol\":\"TCP\"}]},{\"from\":[{\"ipBlock\":{\"cidr\":\"10.4.0.0/16\"}}],\
+        \"ports\":[{\"port\":443,\"protocol\":\"TCP\"}]}],\"podSelector\":{},\"policyTypes\":[\"Ingress\"]}},\
+        {\"apiVersion\":\"policy.networking.k8s.io/v1alpha1\",\"kind\":\"AdminNetworkPolicy\",\"metadata\":{\"name\":\"stop\"},\
+        \"spec\":{\"ingress\":[{\"action\":\"Deny\",\"from\":[{\"pods\":{\"namespaceSelector\":{},\
+        \"podSelector\":{\"matchLabels\":{\"app\":\"a6\"}}}}]}],\"priority\":10,\"subject\":{\"namespaces\":{}}}}\
+        ],\"kind\":\"List\"}";
+
+    #[test]
+    fn a_sample_of_one_pod(rt: HostRuntime) -> Result<(), Fail> {
+        let text = sample(rt.alloc(), 1)?;
+        assert!(rt; text.as_slice() == ONE_POD.as_bytes());
+        Ok(())
+    }
+}

@@ -3,8 +3,8 @@ ghost use Rattle.std.specs.Prelude.{◌≡◌, ◌++◌, IfOk, decimal, string_b
 
 use std::alloc::{AllocError, Global};
 
-/// How many namespaces a sample has, and how many NetworkPolicies: one in each.
-pub const NAMESPACES: u32 = 5;
+// How many namespaces a sample has, and how many NetworkPolicies: one in each.
+pub(crate) const NAMESPACES: u32 = 5;
 
 // A word with a number behind it, as `p0`.
 pub(crate) fn numbered(alloc: Global, word: &str, number: u32) -> Result<String, AllocError>
