@@ -1,9 +1,9 @@
 -- No two objects of the sample have one name.
-use Rattle.std.proofs.Common.{◌≡◌, ℕ, ◌+◌, ◌^◌, ◌<◌, ◌≤◌, List, [], ◌∷◌, ◌++◌, map, Bool, true, false, ◌&&◌, not, cond, Option, Some, None, decimal, refl, ◌∙◌, arith}
+use Rattle.std.proofs.Common.{◌≡◌, ℕ, ◌+◌, ◌^◌, ◌<◌, ◌≤◌, List, [], ◌∷◌, ◌++◌, Bool, true, false, ◌&&◌, not, cond, Option, Some, None, decimal, refl, ◌∙◌, arith}
 use Rattle.std.proofs.lemmas.Fmt.{decimal_injective}
 use Rattle.std.proofs.lemmas.Iterator.Adapters.{position_from-zero}
 use Rattle.std.proofs.lemmas.Slice.Eq.{bytes_eq-Decides}
-use Rattle.std.specs.List.{AllByRecursion, position_from, range_with_len}
+use Rattle.std.specs.List.{AllByRecursion, position_from}
 use Rattle.std.specs.Option.{option_map_or}
 use Rattle.std.specs.Str.{bytes_eq}
 use Rattle.np_items.specs.declared.item.Item.{Item}
@@ -11,7 +11,7 @@ use Rattle.np_owners.specs.Names.{first_repeat, is_named, name_of, place_of, rep
 use Rattle.np_owners.specs.declared.object_name.ObjectName.{ObjectName}
 use Rattle.np_cluster.specs.Objects.{namespace_count}
 use Rattle.np_cluster.specs.Read.{admin_policy_item, namespace_item, net_policy_item, pod_item}
-use Rattle.np_cluster.proofs.ListLemmas.{all-append, all-map, AllLater, later-append, later-map}
+use Rattle.np_cluster.proofs.ListLemmas.{all-append, AllLater, later-four}
 use Rattle.np_cluster.proofs.ReadingLemmas.{sample_items}
 
 -- ---- lists without repeats
@@ -82,35 +82,9 @@ policies_apart a b below within = rw (other_digits a b below (omega arith)) refl
 
 -- ---- the whole
 
-abbrev five : (ℕ → Item) → List Item
-five f = map f (range_with_len 0 namespace_count)
-
--- each of five is apart from all of a list
-five_apart : (f : ℕ → Item) (later : List Item) → ((j : ℕ) → AllByRecursion (IsApart (f j)) later) → AllByRecursion (λ before. AllByRecursion (IsApart before) later) (five f)
-five_apart f later each = all-map (λ before. AllByRecursion (IsApart before) later) f 0 namespace_count namespace_count (omega arith) (λ j within. each j)
-
-pods_before : (n : ℕ) (later : List Item) → ((i : ℕ) → AllByRecursion (IsApart (pod_item i)) later) → AllByRecursion (λ before. AllByRecursion (IsApart before) later) (map pod_item (range_with_len 0 n))
-pods_before n later each = all-map (λ before. AllByRecursion (IsApart before) later) pod_item 0 n n (omega arith) (λ i within. each i)
-
 all_apart : (n : ℕ) → n ≤ 1000 → AllLater IsApart (sample_items n)
 all_apart n few =
-    let namespaces = five namespace_item in
-    let pods = map pod_item (range_with_len 0 n) in
-    let policies = five net_policy_item in
-    let admin = admin_policy_item ∷ [] in
-    let apart_from_pods = λ (j : ℕ). all-map (IsApart (namespace_item j)) pod_item 0 n n (omega arith) (λ i within. refl) in
-    let first = later-append IsApart namespaces pods
-    (later-map IsApart namespace_item 0 namespace_count namespace_count (omega arith) namespaces_apart)
-    (later-map IsApart pod_item 0 n n (omega arith) (λ a b below within. pods_apart a b below (omega arith)))
-    (five_apart namespace_item pods apart_from_pods) in
-    let second = later-append IsApart (namespaces ++ pods) policies first (later-map IsApart net_policy_item 0 namespace_count namespace_count (omega arith) policies_apart)
-    (all-append (λ before. AllByRecursion (IsApart before) policies) namespaces pods
-    (five_apart namespace_item policies (λ j. all-map (IsApart (namespace_item j)) net_policy_item 0 namespace_count namespace_count (omega arith) (λ k within. refl)))
-    (pods_before n policies (λ i. all-map (IsApart (pod_item i)) net_policy_item 0 namespace_count namespace_count (omega arith) (λ k within. refl)))) in
-    later-append IsApart (namespaces ++ pods ++ policies) admin second (tt, tt)
-    (all-append (λ before. AllByRecursion (IsApart before) admin) (namespaces ++ pods) policies
-    (all-append (λ before. AllByRecursion (IsApart before) admin) namespaces pods (five_apart namespace_item admin (λ j. (refl, tt))) (pods_before n admin (λ i. (refl, tt))))
-    (five_apart net_policy_item admin (λ j. (refl, tt))))
+    later-four IsApart namespace_item pod_item net_policy_item admin_policy_item n namespaces_apart (λ a b below within. pods_apart a b below (omega arith)) policies_apart (λ i j. (refl, refl, refl)) (λ i. (refl, refl, refl))
 
 pub first_repeat-sample : (n : ℕ) → n ≤ 1000 → first_repeat (sample_items n) ≡ None
 first_repeat-sample n few = none_repeated [] (sample_items n) (no_earlier (sample_items n)) (all_apart n few)

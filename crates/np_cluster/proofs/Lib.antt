@@ -6,6 +6,7 @@ pub mod ListLemmas
 pub mod ObjectLemmas
 pub mod PlainLemmas
 pub mod PolicyLemmas
+pub mod PushLemmas
 pub mod ReadingLemmas
 pub mod SampleLemmas
 pub mod ShapeLemmas

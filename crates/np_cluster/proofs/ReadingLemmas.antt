@@ -1,17 +1,17 @@
 -- The items of the sample.
-use Rattle.std.proofs.Common.{◌≡◌, ℕ, zero, suc, ◌+◌, ◌<◌, ◌≤◌, List, [], ◌∷◌, ◌++◌, length, map, codes, Some, Ok, refl, arith, append-nil, le-leb, length-append}
+use Rattle.std.proofs.Common.{◌≡◌, ℕ, ◌+◌, ◌≤◌, List, [], ◌∷◌, ◌++◌, length, map, Some, Ok, refl, arith, append-nil, le-leb, length-append}
 use Rattle.std.proofs.lemmas.List.FromFn.{length-map-range_with_len}
 use Rattle.std.specs.List.{AllByRecursion, AllZip, range_with_len}
-use Rattle.serde_json.specs.Data.{Data, string}
+use Rattle.serde_json.specs.Data.{Data}
 use Rattle.np_items.specs.Inputs.{input_values, json_of, items_by, items_in, values}
 use Rattle.np_items.specs.Items.{each_item, item_of, items_of, must_be_few}
 use Rattle.np_items.specs.declared.item.Item.{Item}
 use Rattle.np_items.proofs.InputLemmas.{values-items_of}
-use Rattle.np_cluster.specs.Objects.{admin_policy, list_with, namespace, namespace_count, net_policy, object_with, pod}
+use Rattle.np_cluster.specs.Objects.{admin_policy, namespace, namespace_count, net_policy, pod}
 use Rattle.np_cluster.specs.Read.{admin_policy_item, namespace_item, net_policy_item, pod_item}
-use Rattle.np_cluster.specs.Sample.{sample_objects, sample_text, sample_value}
+use Rattle.np_cluster.specs.Sample.{list_of, sample_objects, sample_text, sample_value}
 use Rattle.np_cluster.proofs.ItemLemmas.{item_of-namespace, item_of-pod}
-use Rattle.np_cluster.proofs.ListLemmas.{all-append, all-map}
+use Rattle.np_cluster.proofs.ListLemmas.{all-four, zip-four}
 use Rattle.np_cluster.proofs.PolicyLemmas.{item_of-admin_policy, net_policies_read}
 use Rattle.np_cluster.proofs.TextLemmas.{json_of-sample_text}
 
@@ -22,27 +22,12 @@ sample_items n =
 
 -- what holds of each of them
 pub all-items : (P : Item → Type 0) (n : ℕ) → ((j : ℕ) → P (namespace_item j)) → ((i : ℕ) → P (pod_item i)) → ((j : ℕ) → P (net_policy_item j)) → P admin_policy_item → AllByRecursion P (sample_items n)
-all-items P n namespaces pods policies admin =
-    all-append P (map namespace_item (range_with_len 0 namespace_count) ++ map pod_item (range_with_len 0 n) ++ map net_policy_item (range_with_len 0 namespace_count)) (admin_policy_item ∷ [])
-    (all-append P (map namespace_item (range_with_len 0 namespace_count) ++ map pod_item (range_with_len 0 n)) (map net_policy_item (range_with_len 0 namespace_count))
-    (all-append P (map namespace_item (range_with_len 0 namespace_count)) (map pod_item (range_with_len 0 n)) (all-map P namespace_item 0 namespace_count namespace_count (omega arith) (λ j within. namespaces j)) (all-map P pod_item 0 n n (omega arith) (λ i within. pods i)))
-    (all-map P net_policy_item 0 namespace_count namespace_count (omega arith) (λ j within. policies j)))
-    (admin, tt)
+all-items P n namespaces pods policies admin = all-four P namespace_item pod_item net_policy_item admin_policy_item n (λ j within. namespaces j) (λ i within. pods i) (λ j within. policies j) admin
 
 -- ---- read one after another
 
 abbrev IsReadAs : Data → Item → Type 0
 IsReadAs value one = (number : ℕ) → item_of number value ≡ Ok one
-
-zip-append : {X Y : Type 0} (R : X → Y → Type 0) (xs xs' : List X) (ys ys' : List Y) → AllZip R xs ys → AllZip R xs' ys' → AllZip R (xs ++ xs') (ys ++ ys')
-zip-append R [] xs' [] ys' front rest = rest
-zip-append R [] xs' (y ∷ ys) ys' front rest = absurd front
-zip-append R (x ∷ xs) xs' [] ys' front rest = absurd front
-zip-append R (x ∷ xs) xs' (y ∷ ys) ys' front rest = (front.0, zip-append R xs xs' ys ys' front.1 rest)
-
-zip-map : {X Y : Type 0} (R : X → Y → Type 0) (f : ℕ → X) (g : ℕ → Y) (a n end : ℕ) → a + n ≤ end → ((i : ℕ) → i < end → R (f i) (g i)) → AllZip R (map f (range_with_len a n)) (map g (range_with_len a n))
-zip-map R f g a zero end within each = tt
-zip-map R f g a (suc n) end within each = (each a (omega arith), zip-map R f g (a + 1) n end (omega arith) each)
 
 each_item-read : (values : List Data) (items : List Item) → AllZip IsReadAs values items → (number : ℕ) → each_item number values ≡ Ok items
 each_item-read [] [] all number = refl
@@ -53,25 +38,14 @@ each_item-read (value ∷ values) (one ∷ items) all number = rw (all.0 number,
 objects_read : (n : ℕ) → n ≤ 1000 → AllZip IsReadAs (sample_objects n) (sample_items n)
 objects_read n few =
     let policies = net_policies_read in
-    zip-append IsReadAs (map namespace (range_with_len 0 namespace_count) ++ map pod (range_with_len 0 n) ++ map net_policy (range_with_len 0 namespace_count)) (admin_policy ∷ [])
-    (map namespace_item (range_with_len 0 namespace_count) ++ map pod_item (range_with_len 0 n) ++ map net_policy_item (range_with_len 0 namespace_count)) (admin_policy_item ∷ [])
-    (zip-append IsReadAs (map namespace (range_with_len 0 namespace_count) ++ map pod (range_with_len 0 n)) (map net_policy (range_with_len 0 namespace_count))
-    (map namespace_item (range_with_len 0 namespace_count) ++ map pod_item (range_with_len 0 n)) (map net_policy_item (range_with_len 0 namespace_count))
-    (zip-append IsReadAs (map namespace (range_with_len 0 namespace_count)) (map pod (range_with_len 0 n)) (map namespace_item (range_with_len 0 namespace_count)) (map pod_item (range_with_len 0 n))
-    (zip-map IsReadAs namespace namespace_item 0 namespace_count namespace_count (omega arith) (λ j within number. item_of-namespace number j within))
-    (zip-map IsReadAs pod pod_item 0 n n (omega arith) (λ i within number. item_of-pod number i (omega arith))))
-    (policies.0, (policies.1, (policies.2, (policies.3, (policies.4, tt))))))
-    (item_of-admin_policy, tt)
+    zip-four IsReadAs namespace pod net_policy admin_policy namespace_item pod_item net_policy_item admin_policy_item n (λ j within number. item_of-namespace number j within) (λ i within number. item_of-pod number i (omega arith))
+    (policies.0, (policies.1, (policies.2, (policies.3, (policies.4, tt))))) item_of-admin_policy
 
 -- ---- the whole
 
 length-objects : (n : ℕ) → length (sample_objects n) ≡ n + 11
 length-objects n =
     simp length-append (omega (arith, length-map-range_with_len pod 0 n))
-
--- a list of these values
-abbrev list_of : List Data → Data
-list_of objects = object_with ((codes "apiVersion", string (codes "v1")) ∷ (codes "items", list_with objects) ∷ (codes "kind", string (codes "List")) ∷ [])
 
 list_gives : (objects : List Data) → items_in 1 (list_of objects) ≡ Ok objects
 unfolding items_in items_by

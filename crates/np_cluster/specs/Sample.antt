@@ -11,9 +11,13 @@ sample_objects n =
     map namespace (range_with_len 0 namespace_count) ++ map pod (range_with_len 0 n)
     ++ map net_policy (range_with_len 0 namespace_count) ++ admin_policy ∷ []
 
+-- a `v1` List of these objects
+abbrev pub list_of : List Data → Data
+list_of objects = object_with (
+    (codes "apiVersion", string (codes "v1")) ∷ (codes "items", list_with objects) ∷ (codes "kind", string (codes "List")) ∷ [])
+
 abbrev pub sample_value : ℕ → Data
-sample_value n = object_with (
-    (codes "apiVersion", string (codes "v1")) ∷ (codes "items", list_with (sample_objects n)) ∷ (codes "kind", string (codes "List")) ∷ [])
+sample_value n = list_of (sample_objects n)
 
 -- the text of `serde_json`, without spaces
 unfoldable pub sample_text : ℕ → List ℕ

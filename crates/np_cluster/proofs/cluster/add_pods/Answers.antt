@@ -1,7 +1,7 @@
 use Rattle.std.proofs.Common.{ap, map, ◌∙◌}
 use Rattle.serde_json.specs.View.{view}
 use Rattle.np_cluster.specs.Objects as spec
-use Rattle.np_cluster.proofs.ListLemmas.{pushed}
+use Rattle.np_cluster.proofs.PushLemmas.{pushed}
 use Rattle.np_cluster.proofs.cluster.add_pods.Goals as goal
 
 pub loop-number-preserved : goal.loop-number-preserved
