@@ -10,9 +10,8 @@ use Rattle.np_items.specs.declared.item.Item.{Item}
 use Rattle.np_owners.specs.Names.{first_repeat, is_named, name_of, place_of, repeat_after, repeated}
 use Rattle.np_owners.specs.declared.object_name.ObjectName.{ObjectName}
 use Rattle.np_cluster.specs.Objects.{namespace_count}
-use Rattle.np_cluster.specs.Read.{admin_policy_item, namespace_item, net_policy_item, pod_item}
 use Rattle.np_cluster.proofs.ListLemmas.{all-append, AllLater, later-four}
-use Rattle.np_cluster.proofs.ReadingLemmas.{sample_items}
+use Rattle.np_cluster.proofs.Items.{admin_policy_item, namespace_item, net_policy_item, pod_item, sample_items}
 
 -- ---- lists without repeats
 

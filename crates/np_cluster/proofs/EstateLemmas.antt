@@ -19,8 +19,7 @@ use Rattle.np_owners.specs.Names.{name_of, place_of}
 use Rattle.np_owners.specs.Owners.{first_in_cycle, owner_of, owner_place, place_in_namespace, ups}
 use Rattle.np_owners.specs.declared.object_name.ObjectName.{ObjectName}
 use Rattle.np_cluster.specs.Objects.{namespace_count}
-use Rattle.np_cluster.specs.Read.{admin_policy_item, namespace_item, net_policy_item, pod_item, pod_read}
-use Rattle.np_cluster.proofs.ReadingLemmas.{sample_items}
+use Rattle.np_cluster.proofs.Items.{admin_policy_item, namespace_item, net_policy_item, pod_item, pod_read, sample_items}
 
 -- ---- what a function gives of the items
 

@@ -13,9 +13,10 @@ use Rattle.np_objects.specs.Pods as pods
 use Rattle.np_objects.specs.Ports.{container_port, port_name, protocol}
 use Rattle.np_policies.specs.Policies.{policy_by, policy_of}
 use Rattle.np_cluster.specs.Objects as spec
-use Rattle.np_cluster.specs.Read.{namespace_item, one_label, pod_item, ports_of}
 use Rattle.np_cluster.proofs.ShapeLemmas.{labels-of, name-of, namespace-of, port-of}
 use Rattle.np_cluster.proofs.WordLemmas.{is_name-numbered, is_word-numbered}
+use Rattle.np_cluster.specs.Estate.{one_label, ports_of}
+use Rattle.np_cluster.proofs.Items.{namespace_item, pod_item}
 
 pub item_of-namespace : (number j : ℕ) → j < spec.namespace_count → item_of number (spec.namespace j) ≡ Ok (namespace_item j)
 unfolding item_of must_be_no_list type_meta required optional under must_be_object refuse_if policy_of policy_by object_of object_by namespaces.namespace namespaces.namespace_metadata

@@ -2,6 +2,7 @@ pub mod ApartLemmas
 pub mod EstateLemmas
 pub mod FloatLemmas
 pub mod ItemLemmas
+pub mod Items
 pub mod ListLemmas
 pub mod ObjectLemmas
 pub mod PlainLemmas

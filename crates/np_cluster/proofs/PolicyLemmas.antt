@@ -15,7 +15,8 @@ use Rattle.np_policies.specs.Policies.{policy_by, policy_of}
 use Rattle.np_policies.specs.Ports.{end_port, net_port, port_name, port_value, proto, protocol}
 use Rattle.np_policies.specs.Selectors.{selector}
 use Rattle.np_cluster.specs.Objects as spec
-use Rattle.np_cluster.specs.Read.{admin_policy_item, block_of, net_policy_item}
+use Rattle.np_cluster.specs.Estate.{block_of}
+use Rattle.np_cluster.proofs.Items.{admin_policy_item, net_policy_item}
 
 pub item_of-admin_policy : (number : ℕ) → item_of number spec.admin_policy ≡ Ok admin_policy_item
 unfolding item_of must_be_no_list type_meta required optional listed under must_be_object refuse_if refuse_member_if name labels policy_of policy_by selector admins.all_pods admins.namespace_selector admins.some_pods admins.subject admins.ingress_peer admins.admin_peers admins.action admins.admin_rule admins.admin_rules admins.priority admins.object_name admins.admin_spec admins.admin_policy

@@ -1,24 +1,19 @@
 -- The items of the sample.
-use Rattle.std.proofs.Common.{◌≡◌, ℕ, ◌+◌, ◌≤◌, List, [], ◌∷◌, ◌++◌, length, map, Some, Ok, refl, arith, append-nil, le-leb, length-append}
+use Rattle.std.proofs.Common.{◌≡◌, ℕ, ◌+◌, ◌≤◌, List, [], ◌∷◌, length, Some, Ok, refl, arith, append-nil, le-leb, length-append}
 use Rattle.std.proofs.lemmas.List.FromFn.{length-map-range_with_len}
-use Rattle.std.specs.List.{AllByRecursion, AllZip, range_with_len}
+use Rattle.std.specs.List.{AllByRecursion, AllZip}
 use Rattle.serde_json.specs.Data.{Data}
 use Rattle.np_items.specs.Inputs.{input_values, json_of, items_by, items_in, values}
 use Rattle.np_items.specs.Items.{each_item, item_of, items_of, must_be_few}
 use Rattle.np_items.specs.declared.item.Item.{Item}
 use Rattle.np_items.proofs.InputLemmas.{values-items_of}
-use Rattle.np_cluster.specs.Objects.{admin_policy, namespace, namespace_count, net_policy, pod}
-use Rattle.np_cluster.specs.Read.{admin_policy_item, namespace_item, net_policy_item, pod_item}
+use Rattle.np_cluster.specs.Objects.{admin_policy, namespace, net_policy, pod}
 use Rattle.np_cluster.specs.Sample.{list_of, sample_objects, sample_text, sample_value}
 use Rattle.np_cluster.proofs.ItemLemmas.{item_of-namespace, item_of-pod}
 use Rattle.np_cluster.proofs.ListLemmas.{all-four, zip-four}
 use Rattle.np_cluster.proofs.PolicyLemmas.{item_of-admin_policy, net_policies_read}
 use Rattle.np_cluster.proofs.TextLemmas.{json_of-sample_text}
-
-abbrev pub sample_items : ℕ → List Item
-sample_items n =
-    map namespace_item (range_with_len 0 namespace_count) ++ map pod_item (range_with_len 0 n)
-    ++ map net_policy_item (range_with_len 0 namespace_count) ++ admin_policy_item ∷ []
+use Rattle.np_cluster.proofs.Items.{admin_policy_item, namespace_item, net_policy_item, pod_item, sample_items}
 
 -- what holds of each of them
 pub all-items : (P : Item → Type 0) (n : ℕ) → ((j : ℕ) → P (namespace_item j)) → ((i : ℕ) → P (pod_item i)) → ((j : ℕ) → P (net_policy_item j)) → P admin_policy_item → AllByRecursion P (sample_items n)

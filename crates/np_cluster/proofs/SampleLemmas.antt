@@ -18,13 +18,13 @@ use Rattle.np_owners.specs.Owners.{first_in_cycle, owner_of}
 use Rattle.np_policies.specs.declared.admin_policy.AdminPolicy.{AdminPolicy}
 use Rattle.np_policies.specs.declared.admin_policy.BasePolicy.{BasePolicy}
 use Rattle.np_policies.specs.declared.network_policy.NetPolicy.{NetPolicy}
-use Rattle.np_cluster.specs.Estate.{estate_pod, sample_estate}
 use Rattle.np_cluster.specs.Objects.{namespace_count}
-use Rattle.np_cluster.specs.Read.{admin_policy_read, net_policy_read, pod_item}
 use Rattle.np_cluster.specs.Sample.{sample_text}
 use Rattle.np_cluster.proofs.ApartLemmas.{first_repeat-sample}
 use Rattle.np_cluster.proofs.EstateLemmas.{count_left_out-none, first_in_cycle-none, gives_each, gives_none, gives_parts, gives_pod, IsKept, IsLone, pod_is_lone, pods_from-lone}
-use Rattle.np_cluster.proofs.ReadingLemmas.{all-items, items_of-sample, sample_items}
+use Rattle.np_cluster.proofs.ReadingLemmas.{all-items, items_of-sample}
+use Rattle.np_cluster.specs.Estate.{estate_admin_policy, estate_net_policy, estate_pod, sample_estate}
+use Rattle.np_cluster.proofs.Items.{pod_item, sample_items}
 
 -- ---- what the items give
 
@@ -45,21 +45,21 @@ pods_of-sample n =
     pods_from-lone items [] items 0 refl refl lone
     ∙ gives_parts gives_pod n ∙ rw (gives_each gives_pod pod_item estate_pod (λ i. refl) 0 n) (append-nil (pods ++ []) ∙ append-nil pods)
 
-admins_given : (n : ℕ) → filter_map admin_policy (sample_items n) ≡ admin_policy_read ∷ []
+admins_given : (n : ℕ) → filter_map admin_policy (sample_items n) ≡ estate_admin_policy ∷ []
 admins_given n = gives_parts admin_policy n ∙ rw (gives_none admin_policy pod_item (λ i. refl) 0 n) refl
 
-nets_given : (n : ℕ) → filter_map net_policy (sample_items n) ≡ map net_policy_read (range_with_len 0 namespace_count)
+nets_given : (n : ℕ) → filter_map net_policy (sample_items n) ≡ map estate_net_policy (range_with_len 0 namespace_count)
 nets_given n = gives_parts net_policy n ∙ rw (gives_none net_policy pod_item (λ i. refl) 0 n) refl
 
 -- they stand in the order of their namespaces
-nets_in_order : map (λ entry. entry.1) (fold with_net [] (map net_policy_read (range_with_len 0 namespace_count))) ≡ map net_policy_read (range_with_len 0 namespace_count)
+nets_in_order : map (λ entry. entry.1) (fold with_net [] (map estate_net_policy (range_with_len 0 namespace_count))) ≡ map estate_net_policy (range_with_len 0 namespace_count)
 unfolding digits
 nets_in_order = refl
 
-net_policies_of-sample : (n : ℕ) → net_policies_of (sample_items n) ≡ map net_policy_read (range_with_len 0 namespace_count)
+net_policies_of-sample : (n : ℕ) → net_policies_of (sample_items n) ≡ map estate_net_policy (range_with_len 0 namespace_count)
 net_policies_of-sample n = ap (λ found. map (λ entry. entry.1) (fold with_net [] found)) (nets_given n) ∙ nets_in_order
 
-admin_policies_of-sample : (n : ℕ) → admin_policies_of (sample_items n) ≡ admin_policy_read ∷ []
+admin_policies_of-sample : (n : ℕ) → admin_policies_of (sample_items n) ≡ estate_admin_policy ∷ []
 admin_policies_of-sample n = ap (λ found. map (λ entry. entry.1) (fold with_admin [] found)) (admins_given n)
 
 first_equal-sample : (n : ℕ) → first_equal (ranks_of (sample_items n)) ≡ None

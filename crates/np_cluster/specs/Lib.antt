@@ -1,4 +1,3 @@
 pub mod Estate
 pub mod Objects
-pub mod Read
 pub mod Sample
