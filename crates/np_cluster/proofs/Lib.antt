@@ -1,0 +1,16 @@
+pub mod ApartLemmas
+pub mod EstateLemmas
+pub mod FloatLemmas
+pub mod ItemLemmas
+pub mod Items
+pub mod ListLemmas
+pub mod ObjectLemmas
+pub mod PlainLemmas
+pub mod PolicyLemmas
+pub mod PushLemmas
+pub mod ReadingLemmas
+pub mod SampleLemmas
+pub mod ShapeLemmas
+pub mod TextLemmas
+pub mod WordLemmas
+pub mod WorkloadLemmas

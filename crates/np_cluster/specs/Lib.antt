@@ -1,0 +1,3 @@
+pub mod Estate
+pub mod Objects
+pub mod Sample

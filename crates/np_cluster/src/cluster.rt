@@ -1,0 +1,124 @@
+//! The sample cluster.
+ghost use Rattle.std.specs.Prelude.{◌≡◌, ◌≤◌, ◌++◌, IfOk, OnOk, map};
+ghost use Rattle.std.specs.List.{range_with_len};
+ghost use Rattle.serde_json.specs.View.{view};
+ghost use Rattle.np_cluster.specs.Objects as spec;
+ghost use Rattle.np_cluster.specs.Sample.{sample_objects, sample_text, sample_value};
+
+use crate::admin_policy::admin_policy;
+use crate::names::NAMESPACES;
+use crate::namespace::namespace;
+use crate::net_policy::net_policy;
+use crate::pod::pod;
+use np_base::NoMemory;
+use serde_json::{Value, json};
+use std::alloc::{AllocError, Global};
+
+/// The sample cluster of `n` pods, as the compact JSON text of a `v1` List: five Namespaces, the Pods, a NetworkPolicy in
+/// each namespace, which lets in the pods of the next namespace and a block of addresses, and an AdminNetworkPolicy, which
+/// keeps out the pods of one label (Kubernetes API reference; network-policy-api reference). Nothing that reads it refuses
+/// it. `NoMemory` comes for want of memory alone.
+pub fn sample(alloc: Global, n: u32) -> Result<Vec<u8>, NoMemory>
+    requires least { 1 ≤ n }
+    requires most { n ≤ 1000 }
+    ensures { IfOk result (λ bytes. bytes.items ≡ sample_text n) }
+{
+    Ok(list(alloc, n)?.to_vec(alloc)?)
+}
+
+// The `v1` List of its objects.
+fn list(alloc: Global, n: u32) -> Result<Value, AllocError>
+    ensures { IfOk result (λ value. view value ≡ sample_value n) }
+{
+    let items = objects(alloc, n)?;
+    json!(in alloc; {"apiVersion": "v1", "items": items, "kind": "List"})
+}
+
+// Its objects.
+fn objects(alloc: Global, n: u32) -> Result<Vec<Value>, AllocError>
+    ensures { IfOk result (λ values. map view values.items ≡ sample_objects n) }
+{
+    let mut values = Vec::new(alloc);
+    add_namespaces(alloc, &mut values)?;
+    add_pods(alloc, n, &mut values)?;
+    add_net_policies(alloc, &mut values)?;
+    values.push(admin_policy(alloc)?)?;
+    Ok(values)
+}
+
+fn add_namespaces(alloc: Global, values: &mut Vec<Value>) -> Result<(), AllocError>
+    ensures { OnOk result (map view values.new.items
+        ≡ map view values.old.items ++ map spec.namespace (range_with_len 0 NAMESPACES)) }
+{
+    for number in 0..NAMESPACES {
+        values.push(namespace(alloc, number)?)?;
+    }
+    Ok(())
+}
+
+fn add_pods(alloc: Global, n: u32, values: &mut Vec<Value>) -> Result<(), AllocError>
+    ensures { OnOk result (map view values.new.items
+        ≡ map view values.old.items ++ map spec.pod (range_with_len 0 n)) }
+{
+    for number in 0..n {
+        values.push(pod(alloc, number)?)?;
+    }
+    Ok(())
+}
+
+fn add_net_policies(alloc: Global, values: &mut Vec<Value>) -> Result<(), AllocError>
+    ensures { OnOk result (map view values.new.items
+        ≡ map view values.old.items ++ map spec.net_policy (range_with_len 0 NAMESPACES)) }
+{
+    for number in 0..NAMESPACES {
+        values.push(net_policy(alloc, number)?)?;
+    }
+    Ok(())
+}
+
+#[cfg(test)]
+mod tests {
+    use super::sample;
+    use std::test::Fail;
+
+    // Written out by hand, and by no code.
+    const ONE_POD: &str = "{\"apiVersion\":\"v1\",\"items\":[\
+        {\"apiVersion\":\"v1\",\"kind\":\"Namespace\",\"metadata\":{\"name\":\"s0\"}},\
+        {\"apiVersion\":\"v1\",\"kind\":\"Namespace\",\"metadata\":{\"name\":\"s1\"}},\
+        {\"apiVersion\":\"v1\",\"kind\":\"Namespace\",\"metadata\":{\"name\":\"s2\"}},\
+        {\"apiVersion\":\"v1\",\"kind\":\"Namespace\",\"metadata\":{\"name\":\"s3\"}},\
+        {\"apiVersion\":\"v1\",\"kind\":\"Namespace\",\"metadata\":{\"name\":\"s4\"}},\
+        {\"apiVersion\":\"v1\",\"kind\":\"Pod\",\"metadata\":{\"labels\":{\"app\":\"a0\"},\"name\":\"p0\",\"namespace\":\"s0\"},\
+        \"spec\":{\"containers\":[{\"ports\":[{\"containerPort\":8000,\"name\":\"http\",\"protocol\":\"TCP\"}]}]}},\
+        {\"apiVersion\":\"networking.k8s.io/v1\",\"kind\":\"NetworkPolicy\",\"metadata\":{\"name\":\"next\",\"namespace\":\"s0\"},\
+        \"spec\":{\"ingress\":[{\"from\":[{\"namespaceSelector\":{\"matchLabels\":{\"kubernetes.io/metadata.name\":\"s1\"}}}],\
+        \"ports\":[{\"port\":\"http\",\"protocol\":\"TCP\"}]},{\"from\":[{\"ipBlock\":{\"cidr\":\"10.0.0.0/16\"}}],\
+        \"ports\":[{\"port\":443,\"protocol\":\"TCP\"}]}],\"podSelector\":{},\"policyTypes\":[\"Ingress\"]}},\
+        {\"apiVersion\":\"networking.k8s.io/v1\",\"kind\":\"NetworkPolicy\",\"metadata\":{\"name\":\"next\",\"namespace\":\"s1\"},\
+        \"spec\":{\"ingress\":[{\"from\":[{\"namespaceSelector\":{\"matchLabels\":{\"kubernetes.io/metadata.name\":\"s2\"}}}],\
+        \"ports\":[{\"port\":\"http\",\"protocol\":\"TCP\"}]},{\"from\":[{\"ipBlock\":{\"cidr\":\"10.1.0.0/16\"}}],\
+        \"ports\":[{\"port\":443,\"protocol\":\"TCP\"}]}],\"podSelector\":{},\"policyTypes\":[\"Ingress\"]}},\
+        {\"apiVersion\":\"networking.k8s.io/v1\",\"kind\":\"NetworkPolicy\",\"metadata\":{\"name\":\"next\",\"namespace\":\"s2\"},\
+        \"spec\":{\"ingress\":[{\"from\":[{\"namespaceSelector\":{\"matchLabels\":{\"kubernetes.io/metadata.name\":\"s3\"}}}],\
+        \"ports\":[{\"port\":\"http\",\"protocol\":\"TCP\"}]},{\"from\":[{\"ipBlock\":{\"cidr\":\"10.2.0.0/16\"}}],\
+        \"ports\":[{\"port\":443,\"protocol\":\"TCP\"}]}],\"podSelector\":{},\"policyTypes\":[\"Ingress\"]}},\
+        {\"apiVersion\":\"networking.k8s.io/v1\",\"kind\":\"NetworkPolicy\",\"metadata\":{\"name\":\"next\",\"namespace\":\"s3\"},\
+        \"spec\":{\"ingress\":[{\"from\":[{\"namespaceSelector\":{\"matchLabels\":{\"kubernetes.io/metadata.name\":\"s4\"}}}],\
+        \"ports\":[{\"port\":\"http\",\"protocol\":\"TCP\"}]},{\"from\":[{\"ipBlock\":{\"cidr\":\"10.3.0.0/16\"}}],\
+        \"ports\":[{\"port\":443,\"protocol\":\"TCP\"}]}],\"podSelector\":{},\"policyTypes\":[\"Ingress\"]}},\
+        {\"apiVersion\":\"networking.k8s.io/v1\",\"kind\":\"NetworkPolicy\",\"metadata\":{\"name\":\"next\",\"namespace\":\"s4\"},\
+        \"spec\":{\"ingress\":[{\"from\":[{\"namespaceSelector\":{\"matchLabels\":{\"kubernetes.io/metadata.name\":\"s0\"}}}],\
+        \"ports\":[{\"port\":\"http\",\"protocol\":\"TCP\"}]},{\"from\":[{\"ipBlock\":{\"cidr\":\"10.4.0.0/16\"}}],\
+        \"ports\":[{\"port\":443,\"protocol\":\"TCP\"}]}],\"podSelector\":{},\"policyTypes\":[\"Ingress\"]}},\
+        {\"apiVersion\":\"policy.networking.k8s.io/v1alpha1\",\"kind\":\"AdminNetworkPolicy\",\"metadata\":{\"name\":\"stop\"},\
+        \"spec\":{\"ingress\":[{\"action\":\"Deny\",\"from\":[{\"pods\":{\"namespaceSelector\":{},\
+        \"podSelector\":{\"matchLabels\":{\"app\":\"a6\"}}}}]}],\"priority\":10,\"subject\":{\"namespaces\":{}}}}\
+        ],\"kind\":\"List\"}";
+
+    #[test]
+    fn a_sample_of_one_pod(rt: HostRuntime) -> Result<(), Fail> {
+        let text = sample(rt.alloc(), 1)?;
+        assert!(rt; text.as_slice() == ONE_POD.as_bytes());
+        Ok(())
+    }
+}

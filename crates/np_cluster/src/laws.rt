@@ -1,0 +1,19 @@
+//! What follows from the definitions. Each law is the contract of a call that does nothing.
+ghost use Rattle.std.specs.Prelude.{◌≡◌, ◌≤◌, ℕ, [], ◌∷◌, Ok};
+ghost use Rattle.np_estate.specs.Reading.{estate_of};
+ghost use Rattle.np_fold.specs.Workloads.{workload_count};
+ghost use Rattle.np_cluster.specs.Estate.{sample_estate};
+ghost use Rattle.np_cluster.specs.Sample.{sample_text};
+
+use np_fold::MOST_WORKLOADS;
+
+/// What reads the text of a sample gives its estate, and refuses nothing.
+pub fn samples_are_read_as_their_estates()
+    ensures { (n : ℕ) → n ≤ 1000 → estate_of (sample_text n ∷ []) ≡ Ok (sample_estate n) }
+{}
+
+/// A sample has at most as many workloads as pods, and so no more than may be folded.
+pub fn samples_have_few_workloads()
+    ensures pods { (n : ℕ) → workload_count (sample_estate n) ≤ n }
+    ensures few { (n : ℕ) → n ≤ 1000 → workload_count (sample_estate n) ≤ MOST_WORKLOADS }
+{}
