@@ -3,8 +3,8 @@ use Rattle.std.proofs.Common.{◌≡◌, ℕ, ◌+◌, ◌*◌, ◌≤◌, Bool,
 use Rattle.std.proofs.lemmas.List.FromFn.{length-range_with_len}
 use Rattle.std.proofs.lemmas.List.Sums.{count_by-le-length, length-filter}
 use Rattle.std.proofs.Math.Nat.{mul-le-mul_left, mul-le-mul_right}
+use Rattle.np_cli.specs.Answers.{objects_of}
 use Rattle.np_cli.specs.Counts.{Counted, RoseAtMost, list_steps, most_steps, steps_in}
-use Rattle.np_cli.specs.Inputs.{lists_of}
 use Rattle.np_cli.specs.Runs.{ran}
 use Rattle.np_cli.specs.Sinks.{Sunk}
 use Rattle.np_cli.specs.Sources.{AreTold, Sourced}
@@ -25,7 +25,7 @@ pub Counted-none : (asked : Option Job) (source : Sourced) (out : Sunk) (steps :
 Counted-none asked source out steps = record { least = omega arith; most = λ job texts is tells. RoseAtMost-still (most_steps job texts) steps }
 
 -- the bytes that were read are those that the source told
-pub Counted-read : (job : Job) (source : Sourced) (out : Sunk) (texts : List (List ℕ)) (before after : ℕ) → ((told : List (List ℕ)) → AreTold source.holds source.left (names_of job) told → texts ≡ told) → before ≤ after → RoseAtMost (steps_in job (lists_of texts)) before after → Counted (ran (Some job) source out) before after
+pub Counted-read : (job : Job) (source : Sourced) (out : Sunk) (texts : List (List ℕ)) (before after : ℕ) → ((told : List (List ℕ)) → AreTold source.holds source.left (names_of job) told → texts ≡ told) → before ≤ after → RoseAtMost (steps_in job (objects_of job texts)) before after → Counted (ran (Some job) source out) before after
 unfolding most_steps
 Counted-read job source out texts before after read least most = record {
   least = least;

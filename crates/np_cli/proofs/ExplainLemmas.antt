@@ -1,11 +1,10 @@
 -- What a report of `explain` says.
-use Rattle.std.proofs.Common.{◌≡◌, ◌≢◌, ◌<◌, ℕ, zero, suc, List, [], ◌∷◌, length, get_or, Bool, true, false, ◌==◌, ◌&&◌, Less, Equal, inr, Contains, Option, None, Some, Result, Ok, Err, if◌then◌else◌, arith, refl, sym, ap, subst, ◌∙◌}
+use Rattle.std.proofs.Common.{◌≡◌, ◌≢◌, ◌<◌, ℕ, zero, suc, List, [], ◌∷◌, length, get_or, Bool, true, false, ◌==◌, Less, Equal, inr, Contains, Option, None, Some, Result, Ok, Err, if◌then◌else◌, arith, refl, sym, ap, subst, ◌∙◌}
 use Rattle.std.proofs.lemmas.Bool.{eq-eqb, false≢true, ne_eqb}
 use Rattle.std.proofs.lemmas.Map.Keys.{Less-from_sorted}
 use Rattle.std.proofs.lemmas.Cmp.{nat_cmp_total}
 use Rattle.std.specs.Cmp.{tied_itself}
 use Rattle.std.specs.Ordering.{nat_cmp}
-use Rattle.np_addr.specs.Addresses.{family_of}
 use Rattle.np_addr.specs.declared.address.Address.{Address}
 use Rattle.np_addr.specs.declared.address.Family.{Family}
 use Rattle.np_addr.specs.declared.address.Family.TheVariants.{Four, Six}
@@ -16,17 +15,14 @@ use Rattle.np_cli.specs.commands.Explain.{are_one, asked_end, destination_end, e
 use Rattle.np_cli.specs.declared.commands.explain.AskedEnd.{AskedEnd}
 use Rattle.np_cli.specs.declared.commands.explain.AskedEnd.TheVariants.{At, Work}
 use Rattle.np_cli.specs.declared.commands.explain.Ends.{Ends}
-use Rattle.np_cli.specs.declared.commands.explain.Shown.{Shown}
 use Rattle.np_cli.specs.declared.fault.Fault.{Fault}
 use Rattle.np_cli.specs.declared.fault.Fault.TheVariants.{SameEnd}
 use Rattle.np_cli.specs.steps.Explaining.{AreEnds, HasPods, IsAsked}
-use Rattle.np_conns.specs.declared.port_spot.PortSpot.{PortSpot}
 use Rattle.np_estate.specs.Families.{families_of}
 use Rattle.np_estate.specs.Lawful.{IsLawful}
 use Rattle.np_estate.specs.declared.lists.EstateLists.{EstateLists}
 use Rattle.np_explain.proofs.ExplanationLemmas.{explanation-right, right-alike, same_sides-right}
 use Rattle.np_explain.specs.Explanations.{IsRightFor, explanation_of, same_sides}
-use Rattle.np_explain.specs.Sides.{are_one_pod}
 use Rattle.np_explain.specs.declared.explanation.Explanation.{Explanation}
 use Rattle.np_fold.proofs.WorkloadLemmas.{pods-ascend}
 use Rattle.np_fold.specs.Workloads.{Folding, folding_of, members_of, number_named, number_of}

@@ -1,15 +1,14 @@
 -- What a report of `exposure` says, and its rows side by side.
-use Rattle.std.proofs.Common.{◌≡◌, ◌<◌, ◌≤◌, ◌+◌, ℕ, zero, suc, List, [], ◌∷◌, ◌++◌, length, drop, get_or, flat_map, nat_lt, not, ◌==◌, Bool, true, false, ◌||◌, All, Contains, Option, None, Some, Result, Ok, Err, if◌then◌else◌, arith, refl, sym, ap, subst, ◌∙◌}
+use Rattle.std.proofs.Common.{◌≡◌, ◌<◌, ◌≤◌, ◌+◌, ℕ, zero, suc, List, [], ◌∷◌, ◌++◌, length, drop, get_or, flat_map, nat_lt, not, ◌==◌, Bool, true, false, ◌||◌, All, Option, None, Some, Ok, arith, refl, sym, ap, subst, ◌∙◌}
 use Rattle.std.proofs.Math.Seq.{drop-cons}
 use Rattle.std.proofs.lemmas.Bool.{ne_eqb}
 use Rattle.std.proofs.lemmas.Bool.Decides.{nat_tests}
 use Rattle.std.proofs.lemmas.Grind.{flat_map-append}
-use Rattle.std.proofs.lemmas.List.{append-nil}
 use Rattle.std.proofs.lemmas.List.Elements.{All-from_recursion}
 use Rattle.std.specs.List.{AllByRecursion, range_with_len}
 use Rattle.np_cli.specs.Exposes.{SaysWhatIsExposed}
 use Rattle.np_cli.specs.Inputs.{Refuses}
-use Rattle.np_cli.specs.commands.Exposure.{both_sides, first_fault, nothing_unless, or_later, pod_side, side_rows, weight_at, weight_fault}
+use Rattle.np_cli.specs.commands.Exposure.{both_sides, first_fault, nothing_unless, or_later, side_rows, weight_at, weight_fault}
 use Rattle.np_cli.specs.declared.commands.exposure.ShownSide.{ShownSide}
 use Rattle.np_cli.specs.declared.failure.Failure.{Failure}
 use Rattle.np_cli.specs.declared.failure.Failure.TheVariants.{Usage, TooLarge, Refused, CannotRead, CannotWrite, NoMemory}

@@ -23,7 +23,7 @@ use Rattle.np_cli.specs.declared.commands.exposure.ShownSide.{ShownSide}
 use Rattle.np_cli.specs.declared.commands.list.Listing.{Listing}
 use Rattle.np_cli.specs.declared.failure.Failure.{Failure}
 use Rattle.np_cli.specs.declared.fault.Fault.{Fault}
-use Rattle.np_cli.specs.declared.notes.ReportNotes.{ReportNotes}
+use Rattle.np_cli.specs.declared.outcome.Ending.{Ending}
 use Rattle.np_cli.specs.declared.status.Status.{Status}
 use Rattle.np_estate.specs.Lawful.{IsLawful}
 use Rattle.np_estate.specs.declared.lists.EstateLists.{EstateLists}
@@ -108,10 +108,10 @@ says_rows out format report controller focus side texts lists (Ok asked) read la
   ingresses = says_ingresses lists asked lawful;
 }
 
-pub says_what_passes : (run : Run) (answer : Status) (outcome : Result ReportNotes Failure) → Cause run outcome → answer ≡ status_of outcome → SaysWhatPasses run answer
+pub says_what_passes : (run : Run) (answer : Status) (outcome : Result Ending Failure) → Cause run outcome → answer ≡ status_of outcome → SaysWhatPasses run answer
 unfolding reply
 says_what_passes run answer outcome cause answered = λ format report controller focus side files texts is told done.
-    let told_by = done-told run answer outcome (ListJob format report controller focus side files) texts cause answered is told done in
+    let told_by = (done-told run answer outcome (ListJob format report controller focus side files) texts cause answered is told done).1 in
     says_rows run.out format report controller focus side texts told_by.lists (listing_of controller focus side told_by.lists) told_by.read told_by.lawful refl told_by.no_fault told_by.took
 
 -- ---- `explain`
@@ -142,10 +142,10 @@ says_ends out from to texts lists (Ok source) (Ok destination) (Ok ends) read la
   deciders = says-deciders lists (end_text from) source destination ends lawful (asked-there lists from source from_is) (asked-there lists to destination to_is) are;
 }
 
-pub says_what_decides : (run : Run) (answer : Status) (outcome : Result ReportNotes Failure) → Cause run outcome → answer ≡ status_of outcome → SaysWhatDecides run answer
+pub says_what_decides : (run : Run) (answer : Status) (outcome : Result Ending Failure) → Cause run outcome → answer ≡ status_of outcome → SaysWhatDecides run answer
 unfolding reply explain_reply ends_named
 says_what_decides run answer outcome cause answered = λ from to files texts is told done.
-    let told_by = done-told run answer outcome (ExplainJob from to files) texts cause answered is told done in
+    let told_by = (done-told run answer outcome (ExplainJob from to files) texts cause answered is told done).1 in
     says_ends run.out from to texts told_by.lists (asked_end told_by.lists from) (asked_end told_by.lists to) (ends_named told_by.lists from to) told_by.read told_by.lawful refl refl refl told_by.no_fault told_by.took
 
 -- ---- `exposure`
@@ -169,8 +169,8 @@ says_sides out workload format texts lists (Ok sides) read lawful are no_fault t
       exposed = says-exposed lists sides lawful;
     }
 
-pub says_exposures : (run : Run) (answer : Status) (outcome : Result ReportNotes Failure) → Cause run outcome → answer ≡ status_of outcome → SaysExposures run answer
+pub says_exposures : (run : Run) (answer : Status) (outcome : Result Ending Failure) → Cause run outcome → answer ≡ status_of outcome → SaysExposures run answer
 unfolding reply exposure_reply
 says_exposures run answer outcome cause answered = λ workload format files texts is told done.
-    let told_by = done-told run answer outcome (ExposureJob workload format files) texts cause answered is told done in
+    let told_by = (done-told run answer outcome (ExposureJob workload format files) texts cause answered is told done).1 in
     says_sides run.out workload format texts told_by.lists (sides_shown workload told_by.lists) told_by.read told_by.lawful refl told_by.no_fault told_by.took

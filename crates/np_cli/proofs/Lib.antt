@@ -1,12 +1,16 @@
+pub mod CheckLemmas
 pub mod CountsLemmas
 pub mod DoneLemmas
 pub mod EvaluateLemmas
 pub mod ExplainLemmas
 pub mod ExposureLemmas
+pub mod FlattenLemmas
 pub mod HeadlineLemmas
 pub mod ListingLemmas
 pub mod PromisesLemmas
 pub mod RowsLemmas
 pub mod RunsLemmas
+pub mod SampleLemmas
 pub mod SourcesLemmas
+pub mod UnusedLemmas
 pub mod WroteLemmas

@@ -1,15 +1,15 @@
 -- What follows from why a run ends as it does.
-use Rattle.std.proofs.Common.{◌≡◌, ℕ, List, ◌∷◌, ◌++◌, Option, Some, None, is_some, true, Result, Ok, Err, sym, subst, inl, inr, arith}
+use Rattle.std.proofs.Common.{◌≡◌, ℕ, List, Option, Some, None, is_some, true, Result, Ok, Err, sym, subst, inl, inr, arith}
 use Rattle.std.specs.Prelude.{◌⊎◌, Contains}
 use Rattle.std.proofs.lemmas.Bool.{both_ways}
 use Rattle.np_io.specs.Counts.{Rose}
-use Rattle.np_cli.specs.Answers.{refusal, notes_of}
-use Rattle.np_cli.specs.Messages.{message, notes_text}
+use Rattle.np_cli.specs.Answers.{ending_of, refusal}
+use Rattle.np_cli.specs.Messages.{message}
 use Rattle.np_cli.specs.Promises.{IsStill, Completes, RefusesTooLarge, RefusesMore, RefusesFaults, BlamesDevice, BlamesWords}
 use Rattle.np_cli.specs.Runs.{Run, Cause}
 use Rattle.np_cli.specs.Sinks.{Sunk, Said}
 use Rattle.np_cli.specs.Sources.{BeganFront, FailedAt, Sourced}
-use Rattle.np_cli.specs.Statuses.{status_of}
+use Rattle.np_cli.specs.Statuses.{ending_status, status_of}
 use Rattle.np_cli.specs.Words.{names_asked}
 use Rattle.np_cli.proofs.RunsLemmas.{Cause-no_memory}
 use Rattle.np_cli.proofs.SourcesLemmas.{Contains-middle}
@@ -17,7 +17,8 @@ use Rattle.np_cli.specs.declared.fault.Fault.{Fault}
 use Rattle.np_words.specs.declared.job.Job.{Job}
 use Rattle.np_cli.specs.declared.failure.Failure.{Failure}
 use Rattle.np_cli.specs.declared.failure.Failure.TheVariants.{Usage, TooLarge, Refused, CannotRead, CannotWrite, NoMemory}
-use Rattle.np_cli.specs.declared.notes.ReportNotes.{ReportNotes}
+use Rattle.np_cli.specs.declared.outcome.Ending.{Ending}
+use Rattle.np_cli.specs.declared.outcome.Ending.TheVariants.{Done, Violated}
 use Rattle.np_cli.specs.declared.status.Status.{Status}
 use Rattle.np_cli.specs.declared.status.Status.TheVariants as status
 
@@ -39,7 +40,7 @@ names_something (Some job) name among nothing = cc
 pub one_job : (asked : Option Job) (job other : Job) → asked ≡ Some job → asked ≡ Some other → other ≡ job
 one_job asked job other is is_other = cc
 
-no_fault : {P : Type 0} (found : Option Fault) (fault : Fault) → found ≡ None → found ≡ Some fault → P
+pub no_fault : {P : Type 0} (found : Option Fault) (fault : Fault) → found ≡ None → found ≡ Some fault → P
 no_fault found fault none some = cc
 
 one_fault : (found : Option Fault) (fault other : Fault) → found ≡ Some fault → found ≡ Some other → other ≡ fault
@@ -49,11 +50,11 @@ one_fault found fault other is is_other = cc
 among : (source : Sourced) (names : List (List ℕ)) (name : List ℕ) → FailedAt source names name → Contains names name
 among source names name at = subst (λ (ns : List (List ℕ)). Contains ns name) (sym at.order) (Contains-middle at.earlier name at.later)
 
-pub completes : (run : Run) (err : Sunk) (answer : Status) (outcome : Result ReportNotes Failure) → Cause run outcome → Said err (message outcome) → answer ≡ status_of outcome → Completes run err answer
-completes run err answer (Ok notes) cause said answered = λ job texts is told accepted inputs sink.
+pub completes : (run : Run) (err : Sunk) (answer : Status) (outcome : Result Ending Failure) → Cause run outcome → Said err (message outcome) → answer ≡ status_of outcome → Completes run err answer
+completes run err answer (Ok ends) cause said answered = λ job texts is told accepted inputs sink.
     let reported = cause.told texts told in
-    let same : notes ≡ notes_of job texts = subst (λ (j : Job). notes ≡ notes_of j texts) (one_job run.asked job cause.job is cause.asked) reported.left_out in
-    inl (answered, reported.took, subst (λ (n : ReportNotes). Said err (notes_text n)) same said)
+    let same : ends ≡ ending_of job texts = subst (λ (j : Job). ends ≡ ending_of j texts) (one_job run.asked job cause.job is cause.asked) reported.ended in
+    inl (subst (λ (e : Ending). answer ≡ ending_status e) same answered, reported.took, subst (λ (e : Ending). Said err (message (Ok e))) same said)
 completes run err answer (Err Usage) cause said answered = λ job texts is told accepted inputs sink. asks run.asked job is cause.asked
 completes run err answer (Err TooLarge) cause said answered = λ job texts is told accepted inputs sink. absurd (both_ways _ accepted.fits (cause.over.large texts told))
 completes run err answer (Err (Refused fault)) cause said answered = λ job texts is told accepted inputs sink.
@@ -64,8 +65,8 @@ completes run err answer (Err CannotWrite) cause said answered = λ job texts is
     absurd (still_or_rose _ _ sink cause.rose)
 completes run err answer (Err NoMemory) cause said answered = λ job texts is told accepted inputs sink. inr answered
 
-pub refuses_too_large : (run : Run) (err : Sunk) (answer : Status) (outcome : Result ReportNotes Failure) → Cause run outcome → Said err (message outcome) → answer ≡ status_of outcome → RefusesTooLarge run err answer
-refuses_too_large run err answer (Ok notes) cause said answered = λ job texts is told large inputs.
+pub refuses_too_large : (run : Run) (err : Sunk) (answer : Status) (outcome : Result Ending Failure) → Cause run outcome → Said err (message outcome) → answer ≡ status_of outcome → RefusesTooLarge run err answer
+refuses_too_large run err answer (Ok ends) cause said answered = λ job texts is told large inputs.
     absurd (both_ways _ (cause.told texts told).accepted.fits large)
 refuses_too_large run err answer (Err Usage) cause said answered = λ job texts is told large inputs. asks run.asked job is cause.asked
 refuses_too_large run err answer (Err TooLarge) cause said answered = λ job texts is told large inputs. inl (answered, cause.kept, said)
@@ -78,8 +79,8 @@ refuses_too_large run err answer (Err CannotWrite) cause said answered = λ job 
 refuses_too_large run err answer (Err NoMemory) cause said answered = λ job texts is told large inputs. inr answered
 
 -- where more bytes were handed out than inputs may have, no other outcome has its cause
-pub refuses_more : (run : Run) (err : Sunk) (answer : Status) (outcome : Result ReportNotes Failure) → Cause run outcome → Said err (message outcome) → answer ≡ status_of outcome → RefusesMore run err answer
-refuses_more run err answer (Ok notes) cause said answered = λ more. absurd (omega (arith, more, cause.read.in_room))
+pub refuses_more : (run : Run) (err : Sunk) (answer : Status) (outcome : Result Ending Failure) → Cause run outcome → Said err (message outcome) → answer ≡ status_of outcome → RefusesMore run err answer
+refuses_more run err answer (Ok ends) cause said answered = λ more. absurd (omega (arith, more, cause.read.in_room))
 refuses_more run err answer (Err Usage) cause said answered = λ more. absurd (omega (arith, more, cause.source.handed))
 refuses_more run err answer (Err TooLarge) cause said answered = λ more. inl (answered, cause.kept, said)
 refuses_more run err answer (Err (Refused fault)) cause said answered = λ more. absurd (omega (arith, more, cause.read.in_room))
@@ -87,8 +88,8 @@ refuses_more run err answer (Err (CannotRead name)) cause said answered = λ mor
 refuses_more run err answer (Err CannotWrite) cause said answered = λ more. absurd (omega (arith, more, cause.read.in_room))
 refuses_more run err answer (Err NoMemory) cause said answered = λ more. inr answered
 
-pub refuses_faults : (run : Run) (err : Sunk) (answer : Status) (outcome : Result ReportNotes Failure) → Cause run outcome → Said err (message outcome) → answer ≡ status_of outcome → RefusesFaults run err answer
-refuses_faults run err answer (Ok notes) cause said answered = λ job texts fault is told fits found inputs.
+pub refuses_faults : (run : Run) (err : Sunk) (answer : Status) (outcome : Result Ending Failure) → Cause run outcome → Said err (message outcome) → answer ≡ status_of outcome → RefusesFaults run err answer
+refuses_faults run err answer (Ok ends) cause said answered = λ job texts fault is told fits found inputs.
     no_fault (refusal job texts) fault (subst (λ (j : Job). refusal j texts ≡ None) (one_job run.asked job cause.job is cause.asked) (cause.told texts told).accepted.no_fault) found
 refuses_faults run err answer (Err Usage) cause said answered = λ job texts fault is told fits found inputs. asks run.asked job is cause.asked
 refuses_faults run err answer (Err TooLarge) cause said answered = λ job texts fault is told fits found inputs.
@@ -103,8 +104,9 @@ refuses_faults run err answer (Err CannotWrite) cause said answered = λ job tex
 refuses_faults run err answer (Err NoMemory) cause said answered = λ job texts fault is told fits found inputs. inr answered
 
 -- a status is one alone
-pub blames_device : (run : Run) (answer : Status) (outcome : Result ReportNotes Failure) → Cause run outcome → answer ≡ status_of outcome → BlamesDevice run answer
-blames_device run answer (Ok notes) cause answered = λ device. cc
+pub blames_device : (run : Run) (answer : Status) (outcome : Result Ending Failure) → Cause run outcome → answer ≡ status_of outcome → BlamesDevice run answer
+blames_device run answer (Ok (Done notes)) cause answered = λ device. cc
+blames_device run answer (Ok Violated) cause answered = λ device. cc
 blames_device run answer (Err Usage) cause answered = λ device. cc
 blames_device run answer (Err TooLarge) cause answered = λ device. cc
 blames_device run answer (Err (Refused fault)) cause answered = λ device. cc
@@ -112,8 +114,9 @@ blames_device run answer (Err (CannotRead name)) cause answered = λ device. inl
 blames_device run answer (Err CannotWrite) cause answered = λ device. inr cause.rose
 blames_device run answer (Err NoMemory) cause answered = λ device. cc
 
-pub blames_words : (run : Run) (answer : Status) (outcome : Result ReportNotes Failure) → Cause run outcome → answer ≡ status_of outcome → BlamesWords run.asked answer
-blames_words run answer (Ok notes) cause answered = (λ usage. cc, λ nothing. asks run.asked cause.job cause.asked nothing)
+pub blames_words : (run : Run) (answer : Status) (outcome : Result Ending Failure) → Cause run outcome → answer ≡ status_of outcome → BlamesWords run.asked answer
+blames_words run answer (Ok (Done notes)) cause answered = (λ usage. cc, λ nothing. asks run.asked cause.job cause.asked nothing)
+blames_words run answer (Ok Violated) cause answered = (λ usage. cc, λ nothing. asks run.asked cause.job cause.asked nothing)
 blames_words run answer (Err Usage) cause answered = (λ usage. cause.asked, λ nothing. inl answered)
 blames_words run answer (Err TooLarge) cause answered = (λ usage. cc, λ nothing. asks_nothing run.asked cause.asked nothing)
 blames_words run answer (Err (Refused fault)) cause answered = (λ usage. cc, λ nothing. asks run.asked cause.job cause.asked nothing)
@@ -122,13 +125,14 @@ blames_words run answer (Err CannotWrite) cause answered = (λ usage. cc, λ not
 blames_words run answer (Err NoMemory) cause answered = (λ usage. cc, λ nothing. inr answered)
 
 -- whatever the outcome, names of the job were begun in their order
-pub begins_in_order : (run : Run) (outcome : Result ReportNotes Failure) → Cause run outcome → BeganFront run.source (names_asked run.asked)
+pub begins_in_order : (run : Run) (outcome : Result Ending Failure) → Cause run outcome → BeganFront run.source (names_asked run.asked)
 begins_in_order run outcome cause = (Cause-no_memory run outcome cause).began
 
 -- a run that says that the words ask for nothing ended so
-pub usage_ended : (ended said : Result ReportNotes Failure) (answer : Status) → answer ≡ status_of said → answer ≡ status.Usage → (said ≡ ended) ⊎ (said ≡ Err NoMemory) → ended ≡ Err Usage
+pub usage_ended : (ended said : Result Ending Failure) (answer : Status) → answer ≡ status_of said → answer ≡ status.Usage → (said ≡ ended) ⊎ (said ≡ Err NoMemory) → ended ≡ Err Usage
 usage_ended ended (Err Usage) answer answered usage which = elim which [ inl same ↦ sym same | inr memory ↦ cc ]
-usage_ended ended (Ok notes) answer answered usage which = cc
+usage_ended ended (Ok (Done notes)) answer answered usage which = cc
+usage_ended ended (Ok Violated) answer answered usage which = cc
 usage_ended ended (Err TooLarge) answer answered usage which = cc
 usage_ended ended (Err (Refused fault)) answer answered usage which = cc
 usage_ended ended (Err (CannotRead name)) answer answered usage which = cc

@@ -5,9 +5,8 @@ use Rattle.std.proofs.lemmas.Bool.{le-ltb}
 use Rattle.np_io.specs.Taken.{TookFront}
 use Rattle.np_io.proofs.TakenLemmas.{TookFront-none, TookFront-all}
 use Rattle.np_cli.proofs.SourcesLemmas.{BeganNext-none}
-use Rattle.np_cli.specs.Answers.{fault_in, text_in, reply_in, refusal, text_of, notes_of, output}
+use Rattle.np_cli.specs.Answers.{ending_of, fault_in, objects_of, output, refusal, reply_in, text_in, text_of}
 use Rattle.np_cli.specs.Failures.{source_failure, words_failure}
-use Rattle.np_cli.specs.Inputs.{lists_of}
 use Rattle.np_cli.specs.Prints.{Answers}
 use Rattle.np_cli.specs.Runs.{AskedNothing, Cause, IsAccepted, IsReported, Run, ran}
 use Rattle.np_cli.specs.Sinks.{Sunk, IsKept, TookWhole}
@@ -20,7 +19,7 @@ use Rattle.np_cli.specs.declared.failure.Failure.TheVariants.{Usage, TooLarge, R
 use Rattle.np_cli.specs.declared.fault.Fault.{Fault}
 use Rattle.np_cli.specs.declared.sources.SourceFault.{SourceFault}
 use Rattle.np_cli.specs.declared.sources.SourceFault.TheVariants as unread
-use Rattle.np_cli.specs.declared.notes.ReportNotes.{ReportNotes}
+use Rattle.np_cli.specs.declared.outcome.Ending.{Ending}
 use Rattle.np_words.specs.declared.words_fault.WordsFault.{WordsFault}
 use Rattle.np_words.specs.declared.words_fault.WordsFault.TheVariants as words
 
@@ -53,25 +52,25 @@ output-fits job texts fits = rw fits refl
 fits_limit : (texts : List (List ℕ)) → total_size texts ≤ SIZE_LIMIT → is_too_large texts ≡ false
 fits_limit texts fits = le-ltb SIZE_LIMIT (total_size texts) fits
 
-fault-is : (job : Job) (texts : List (List ℕ)) (reply : Result (List ℕ) Fault) → reply_in job (lists_of texts) ≡ reply → refusal job texts ≡ fault_in reply
+fault-is : (job : Job) (texts : List (List ℕ)) (reply : Result (List ℕ) Fault) → reply_in job texts (objects_of job texts) ≡ reply → refusal job texts ≡ fault_in reply
 unfolding refusal
 fault-is job texts reply is = ap fault_in is
 
-text-is : (job : Job) (texts : List (List ℕ)) (reply : Result (List ℕ) Fault) → is_too_large texts ≡ false → reply_in job (lists_of texts) ≡ reply → output (Some job) texts ≡ text_in reply
+text-is : (job : Job) (texts : List (List ℕ)) (reply : Result (List ℕ) Fault) → is_too_large texts ≡ false → reply_in job texts (objects_of job texts) ≡ reply → output (Some job) texts ≡ text_in reply
 unfolding text_of
 text-is job texts reply fits is = output-fits job texts fits ∙ ap text_in is
 
-pub Cause-from_answers : (job : Job) (source : Sourced) (out : Sunk) (texts : List (List ℕ)) (outcome : Result ReportNotes Failure) → ((told : List (List ℕ)) → AreTold source.holds source.left (names_of job) told → texts ≡ told) → total_size texts ≤ SIZE_LIMIT → ReadOnce source (names_of job) → Answers job (lists_of texts) out outcome → Cause (ran (Some job) source out) outcome
-unfolding notes_of
-Cause-from_answers job source out texts (Ok notes) read size once answers =
+pub Cause-from_answers : (job : Job) (source : Sourced) (out : Sunk) (texts : List (List ℕ)) (outcome : Result Ending Failure) → ((told : List (List ℕ)) → AreTold source.holds source.left (names_of job) told → texts ≡ told) → total_size texts ≤ SIZE_LIMIT → ReadOnce source (names_of job) → Answers job texts out outcome → Cause (ran (Some job) source out) outcome
+unfolding ending_of
+Cause-from_answers job source out texts (Ok ends) read size once answers =
     let fits = fits_limit texts size in
-    let reported : IsReported (ran (Some job) source out) job notes texts = record {
+    let reported : IsReported (ran (Some job) source out) job ends texts = record {
       accepted = record { fits = fits; no_fault = fault-is job texts (Ok answers.0.text) answers.0.is };
       took = subst (TookWhole out) (sym (text-is job texts (Ok answers.0.text) fits answers.0.is)) answers.0.took;
-      left_out = answers.1;
+      ended = answers.1;
       lawful = answers.2;
     } in
-    record { job = job; asked = refl; read = once; unfailed = answers.0.took.faults; told = λ told tells. subst (IsReported (ran (Some job) source out) job notes) (read told tells) reported }
+    record { job = job; asked = refl; read = once; unfailed = answers.0.took.faults; told = λ told tells. subst (IsReported (ran (Some job) source out) job ends) (read told tells) reported }
 Cause-from_answers job source out texts (Err (Refused fault)) read size once answers = record {
   job = job;
   asked = refl;
@@ -93,7 +92,7 @@ Cause-from_answers job source out texts (Err CannotWrite) read size once answers
       front = λ told tells. subst (λ (ts : List (List ℕ)). TookFront out.before out.after (output (Some job) ts)) (read told tells) front;
     }
 Cause-from_answers job source out texts (Err NoMemory) read size once answers =
-    let front : TookFront out.before out.after (output (Some job) texts) = subst (TookFront out.before out.after) (sym (text-is job texts (reply_in job (lists_of texts)) (fits_limit texts size) refl)) answers in
+    let front : TookFront out.before out.after (output (Some job) texts) = subst (TookFront out.before out.after) (sym (text-is job texts (reply_in job texts (objects_of job texts)) (fits_limit texts size) refl)) answers in
     record {
       began = BeganFront-all source (names_of job) once;
       front = λ told tells. subst (λ (ts : List (List ℕ)). TookFront out.before out.after (output (Some job) ts)) (read told tells) front;
@@ -116,6 +115,10 @@ Cause-words asked source out words.NoMemory nothing untouched kept = record {
   front = λ texts told. TookFront-kept out (output asked texts) kept;
 }
 
+-- memory is refused before anything is read
+pub Cause-unbegun : (job : Job) (source : Sourced) (out : Sunk) → IsUntouched source → IsKept out → Cause (ran (Some job) source out) (Err NoMemory)
+Cause-unbegun job source out untouched kept = record { began = BeganFront-none source (names_of job) untouched; front = λ texts told. TookFront-kept out (output (Some job) texts) kept }
+
 -- the inputs are not read
 pub Cause-unread : (job : Job) (source : Sourced) (out : Sunk) (fault : SourceFault) → IsKept out → Unread source (names_of job) fault → Cause (ran (Some job) source out) (Err (source_failure fault))
 Cause-unread job source out (unread.CannotRead name) kept why = record { at = why; kept = kept }
@@ -123,7 +126,7 @@ Cause-unread job source out unread.TooLarge kept why = record { asked = refl; ov
 Cause-unread job source out unread.NoMemory kept why = record { began = why; front = λ texts told. TookFront-kept out (output (Some job) texts) kept }
 
 -- words that ask for a job do not ask for nothing
-pub Cause-asked : (job : Job) (source : Sourced) (out : Sunk) (outcome : Result ReportNotes Failure) → Cause (ran (Some job) source out) outcome → outcome ≡ Err Usage → ⊥
+pub Cause-asked : (job : Job) (source : Sourced) (out : Sunk) (outcome : Result Ending Failure) → Cause (ran (Some job) source out) outcome → outcome ≡ Err Usage → ⊥
 Cause-asked job source out outcome cause usage =
     let why : AskedNothing (ran (Some job) source out) = subst (Cause (ran (Some job) source out)) usage cause in
     let nothing : Some job ≡ None = why.asked in cc
@@ -131,8 +134,8 @@ Cause-asked job source out outcome cause usage =
 -- ---- what is said
 
 -- where the message wants memory that is refused, the run ended for want of memory
-pub Cause-no_memory : (run : Run) (outcome : Result ReportNotes Failure) → Cause run outcome → Cause run (Err NoMemory)
-Cause-no_memory run (Ok notes) cause = record {
+pub Cause-no_memory : (run : Run) (outcome : Result Ending Failure) → Cause run outcome → Cause run (Err NoMemory)
+Cause-no_memory run (Ok ends) cause = record {
   began = subst (BeganFront run.source) (sym (ap names_asked cause.asked)) (BeganFront-all run.source (names_of cause.job) cause.read);
   front = λ texts told. TookFront-all run.out.before run.out.after (output run.asked texts) (cause.told texts told).took.taken;
 }
@@ -159,7 +162,7 @@ Cause-no_memory run (Err CannotWrite) cause = record {
 Cause-no_memory run (Err NoMemory) cause = cause
 
 -- so whatever was said, it has its cause
-pub Cause-said : (run : Run) (ended said : Result ReportNotes Failure) → Cause run ended → (said ≡ ended) ⊎ (said ≡ Err NoMemory) → Cause run said
+pub Cause-said : (run : Run) (ended said : Result Ending Failure) → Cause run ended → (said ≡ ended) ⊎ (said ≡ Err NoMemory) → Cause run said
 Cause-said run ended said cause which = elim which [
   | inl same ↦ subst (Cause run) (sym same) cause
   | inr memory ↦ subst (Cause run) (sym memory) (Cause-no_memory run ended cause)

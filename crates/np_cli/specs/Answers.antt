@@ -1,30 +1,47 @@
 -- What a job prints for its inputs, or why it refuses them.
-use Rattle.std.specs.Prelude.{ℕ, List, [], Option, Some, None, Result, Ok, Err, if◌then◌else◌}
+use Rattle.std.specs.Prelude.{ℕ, List, [], Bool, true, false, Option, Some, None, Result, Ok, Err, if◌then◌else◌}
 use Rattle.np_estate.specs.Lawful.{IsLawful}
 use Rattle.np_estate.specs.declared.lists.EstateLists.{EstateLists}
 use Rattle.np_cli.specs.Inputs.{lists_of}
 use Rattle.np_cli.specs.Sources.{is_too_large}
+use Rattle.np_cli.specs.Words.{object_texts, statement_bytes}
+use Rattle.np_cli.specs.commands.Check.{all_hold, check_reply}
 use Rattle.np_cli.specs.commands.Evaluate.{evaluate_reply}
 use Rattle.np_cli.specs.commands.Explain.{explain_reply}
 use Rattle.np_cli.specs.commands.Exposure.{exposure_reply}
+use Rattle.np_cli.specs.commands.Flatten.{flatten_reply}
 use Rattle.np_cli.specs.commands.List.{list_reply}
+use Rattle.np_cli.specs.commands.Sample.{HasFewRows, sample_summary}
+use Rattle.np_cli.specs.commands.Unused.{unused_text}
 use Rattle.np_cli.specs.declared.fault.Fault.{Fault}
 use Rattle.np_cli.specs.declared.notes.ReportNotes.{ReportNotes}
+use Rattle.np_cli.specs.declared.outcome.Ending.{Ending}
+use Rattle.np_cli.specs.declared.outcome.Ending.TheVariants.{Done, Violated}
 use Rattle.np_routes.specs.RouteNotes.{notes_of_routes}
 use Rattle.np_words.specs.declared.job.Job.{Job}
-use Rattle.np_words.specs.declared.job.Job.TheVariants.{Evaluate, Explain, Exposure, List as ListJob}
+use Rattle.np_words.specs.declared.job.Job.TheVariants.{Check, Evaluate, Explain, Exposure, Flatten, List as ListJob, Sample, Unused}
 
--- what a job prints on what its inputs say, or why it refuses that
-unfoldable pub reply : Job → EstateLists → Result (List ℕ) Fault
-reply (ListJob format report controller focus side files) lists = list_reply format report controller focus side lists
-reply (Explain from to files) lists = explain_reply from to lists
-reply (Exposure workload format files) lists = exposure_reply workload format lists
-reply (Evaluate from to proto port files) lists = evaluate_reply from to (record { proto = proto; port = port }) lists
+-- what the bytes of a job say, or why they are refused
+abbrev pub objects_of : Job → List (List ℕ) → Result EstateLists Fault
+objects_of job texts = lists_of (object_texts job texts)
 
--- the same on what the inputs are read as
-abbrev pub reply_in : Job → Result EstateLists Fault → Result (List ℕ) Fault
-reply_in job (Ok lists) = reply job lists
-reply_in job (Err fault) = Err fault
+-- ---- what is printed
+
+-- what a job prints by the bytes that it read and what they say, or why it refuses that
+unfoldable pub reply : Job → List (List ℕ) → EstateLists → Result (List ℕ) Fault
+reply (ListJob format report controller focus side files) texts lists = list_reply format report controller focus side lists
+reply (Explain from to files) texts lists = explain_reply from to lists
+reply (Exposure workload format files) texts lists = exposure_reply workload format lists
+reply (Evaluate from to proto port files) texts lists = evaluate_reply from to (record { proto = proto; port = port }) lists
+reply (Unused files) texts lists = Ok (unused_text lists)
+reply (Check statement files) texts lists = check_reply (statement_bytes texts) lists
+reply (Flatten files) texts lists = flatten_reply lists
+reply (Sample n) texts lists = Ok (sample_summary lists)
+
+-- the same on what the bytes are read as
+abbrev pub reply_in : Job → List (List ℕ) → Result EstateLists Fault → Result (List ℕ) Fault
+reply_in job texts (Ok lists) = reply job texts lists
+reply_in job texts (Err fault) = Err fault
 
 abbrev pub fault_in : Result (List ℕ) Fault → Option Fault
 fault_in (Ok text) = None
@@ -34,42 +51,73 @@ abbrev pub text_in : Result (List ℕ) Fault → List ℕ
 text_in (Ok text) = text
 text_in (Err fault) = []
 
+-- ---- how the report ends
+
+abbrev pub no_notes : ReportNotes
+no_notes = record { left_out = record { host = 0; finished = 0; skipped = 0; unaddressed = 0 }; routes = [] }
+
 -- what was left out
 abbrev pub other_notes : EstateLists → ReportNotes
 other_notes lists = record { left_out = lists.notes; routes = [] }
 
--- what is said of a job's report on what its inputs say: what was left out of it, and of `list` the backends of ingresses that lead nowhere
+-- what is said of a job's report: what was left out of it, and of `list` the backends of ingresses that lead nowhere; of `sample` nothing
 unfoldable pub report_notes : Job → EstateLists → ReportNotes
 report_notes (ListJob format report controller focus side files) lists = record { left_out = lists.notes; routes = notes_of_routes lists }
 report_notes (Explain from to files) lists = other_notes lists
 report_notes (Exposure workload format files) lists = other_notes lists
 report_notes (Evaluate from to proto port files) lists = other_notes lists
+report_notes (Unused files) lists = other_notes lists
+report_notes (Check statement files) lists = other_notes lists
+report_notes (Flatten files) lists = other_notes lists
+report_notes (Sample n) lists = no_notes
 
-abbrev pub no_notes : ReportNotes
-no_notes = record { left_out = record { host = 0; finished = 0; skipped = 0; unaddressed = 0 }; routes = [] }
+-- whether all that a job was to check holds: of every other job than `check` there is nothing to check
+unfoldable pub holds : Job → List (List ℕ) → EstateLists → Bool
+holds (ListJob format report controller focus side files) texts lists = true
+holds (Explain from to files) texts lists = true
+holds (Exposure workload format files) texts lists = true
+holds (Evaluate from to proto port files) texts lists = true
+holds (Unused files) texts lists = true
+holds (Check statement files) texts lists = all_hold (statement_bytes texts) lists
+holds (Flatten files) texts lists = true
+holds (Sample n) texts lists = true
 
-abbrev pub notes_in : Job → Result EstateLists Fault → ReportNotes
-notes_in job (Ok lists) = report_notes job lists
-notes_in job (Err fault) = no_notes
+abbrev pub ends_so : Bool → ReportNotes → Ending
+ends_so true notes = Done notes
+ends_so false notes = Violated
+
+abbrev pub ending : Job → List (List ℕ) → EstateLists → Ending
+ending job texts lists = ends_so (holds job texts lists) (report_notes job lists)
+
+abbrev pub ending_in : Job → List (List ℕ) → Result EstateLists Fault → Ending
+ending_in job texts (Ok lists) = ending job texts lists
+ending_in job texts (Err fault) = Done no_notes
 
 -- what is read is lawful
 abbrev pub IsLawfulIn : Result EstateLists Fault → Type 0
 IsLawfulIn (Ok lists) = IsLawful lists
 IsLawfulIn (Err fault) = Unit {0}
 
--- the fault of the inputs that stands first, if they have one
+-- ---- by the bytes alone
+
+-- the fault that stands first, if there is one
 unfoldable pub refusal : Job → List (List ℕ) → Option Fault
-refusal job texts = fault_in (reply_in job (lists_of texts))
+refusal job texts = fault_in (reply_in job texts (objects_of job texts))
 
--- what is printed for inputs without a fault
+-- what is printed where there is none
 unfoldable pub text_of : Job → List (List ℕ) → List ℕ
-text_of job texts = text_in (reply_in job (lists_of texts))
+text_of job texts = text_in (reply_in job texts (objects_of job texts))
 
--- what is said of the report on inputs without a fault
-unfoldable pub notes_of : Job → List (List ℕ) → ReportNotes
-notes_of job texts = notes_in job (lists_of texts)
+-- how the report ends where there is none
+unfoldable pub ending_of : Job → List (List ℕ) → Ending
+ending_of job texts = ending_in job texts (objects_of job texts)
 
--- what may be written for inputs: the whole text where they are accepted, else nothing
+-- what may be written: the whole text where the bytes are accepted, else nothing
 unfoldable pub output : Option Job → List (List ℕ) → List ℕ
 output None texts = []
 output (Some job) texts = if is_too_large texts then [] else text_of job texts
+
+-- the table of a sample can be counted; of other jobs nothing is
+abbrev pub IsCountable : Job → EstateLists → Type 0
+IsCountable (Sample n) lists = HasFewRows lists
+IsCountable job lists = Unit {0}

@@ -1,10 +1,10 @@
 -- How many rules a job looks at.
 use Rattle.std.specs.Prelude.{◌≡◌, ℕ, ◌+◌, ◌*◌, ◌≤◌, List, length, Option, Some, None, Result, Ok, Err}
-use Rattle.np_cli.specs.Inputs.{lists_of}
+use Rattle.np_cli.specs.Answers.{objects_of}
 use Rattle.np_cli.specs.Runs.{Run, Tells}
 use Rattle.np_cli.specs.declared.fault.Fault.{Fault}
 use Rattle.np_words.specs.declared.job.Job.{Job}
-use Rattle.np_words.specs.declared.job.Job.TheVariants.{Evaluate, Explain, Exposure, List as ListJob}
+use Rattle.np_words.specs.declared.job.Job.TheVariants.{Check, Evaluate, Explain, Exposure, Flatten, List as ListJob, Sample, Unused}
 use Rattle.np_estate.specs.declared.lists.EstateLists.{EstateLists}
 use Rattle.np_fold.specs.Workloads.{folding_of}
 use Rattle.np_table.specs.ToCome.{most_rules}
@@ -17,12 +17,16 @@ table_steps count most = (4 * count * count + 6 * count) * most
 unfoldable pub list_steps : EstateLists → ℕ
 list_steps lists = table_steps (length (folding_of lists).workloads) (most_rules lists (folding_of lists))
 
--- for a job on what its inputs say; no number is stated for the other commands
+-- for a job on what its inputs say: for the two that make all rows of a table; no number is stated for the others
 unfoldable pub reply_steps : Job → EstateLists → Option ℕ
 reply_steps (ListJob format report controller focus side files) lists = Some (list_steps lists)
 reply_steps (Explain from to files) lists = None
 reply_steps (Exposure workload format files) lists = None
 reply_steps (Evaluate from to proto port files) lists = None
+reply_steps (Unused files) lists = None
+reply_steps (Check statement files) lists = None
+reply_steps (Flatten files) lists = None
+reply_steps (Sample n) lists = Some (list_steps lists)
 
 -- for a job on what its inputs are read as; none where they have a fault
 abbrev pub steps_in : Job → Result EstateLists Fault → Option ℕ
@@ -31,7 +35,7 @@ steps_in job (Err fault) = Some 0
 
 -- for a job on inputs of these bytes
 unfoldable pub most_steps : Job → List (List ℕ) → Option ℕ
-most_steps job texts = steps_in job (lists_of texts)
+most_steps job texts = steps_in job (objects_of job texts)
 
 -- the count rose by that many at most, where a number is stated
 abbrev pub RoseAtMost : Option ℕ → ℕ → ℕ → Type 0

@@ -1,14 +1,13 @@
 -- What a job leaves of its report, once its inputs are read.
 use Rattle.std.specs.Prelude.{◌≡◌, ℕ, List, Result, Ok, Err, ⊤}
-use Rattle.np_estate.specs.declared.lists.EstateLists.{EstateLists}
 use Rattle.np_io.specs.Counts.{Rose}
 use Rattle.np_io.specs.Taken.{TookFront}
-use Rattle.np_cli.specs.Answers.{IsLawfulIn, notes_in, reply_in, text_in}
+use Rattle.np_cli.specs.Answers.{IsLawfulIn, ending_in, objects_of, reply_in, text_in}
 use Rattle.np_cli.specs.Sinks.{Sunk, IsKept, TookWhole}
 use Rattle.np_cli.specs.declared.failure.Failure.{Failure}
 use Rattle.np_cli.specs.declared.failure.Failure.TheVariants.{Usage, CannotRead, TooLarge, Refused, CannotWrite, NoMemory}
 use Rattle.np_cli.specs.declared.fault.Fault.{Fault}
-use Rattle.np_cli.specs.declared.notes.ReportNotes.{ReportNotes}
+use Rattle.np_cli.specs.declared.outcome.Ending.{Ending}
 use Rattle.np_words.specs.declared.job.Job.{Job}
 
 -- there is a text, and the sink took all of it
@@ -34,7 +33,12 @@ Wrote out reply (Err Usage) = ⊥
 Wrote out reply (Err TooLarge) = ⊥
 Wrote out reply (Err (CannotRead name)) = ⊥
 
--- the reply of a job on what its inputs are read as, and what was left out of it
-abbrev pub Answers : Job → Result EstateLists Fault → Sunk → Result ReportNotes Failure → Type 0
-Answers job reads out (Ok notes) = WroteAll out (reply_in job reads) × (notes ≡ notes_in job reads) × IsLawfulIn reads
-Answers job reads out (Err failure) = Wrote out (reply_in job reads) (Err failure)
+-- whether a call failed, whatever else it gives
+abbrev pub without_value : {X : Type 0} → Result X Failure → Result ⊤ Failure
+without_value (Ok x) = Ok tt
+without_value (Err failure) = Err failure
+
+-- the reply of a job by the bytes that it read, and how its report ends
+abbrev pub Answers : Job → List (List ℕ) → Sunk → Result Ending Failure → Type 0
+Answers job texts out (Ok ends) = WroteAll out (reply_in job texts (objects_of job texts)) × (ends ≡ ending_in job texts (objects_of job texts)) × IsLawfulIn (objects_of job texts)
+Answers job texts out (Err failure) = Wrote out (reply_in job texts (objects_of job texts)) (Err failure)

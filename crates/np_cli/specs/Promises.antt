@@ -1,15 +1,20 @@
 -- What a run promises, which follows from why it ends as it does.
-use Rattle.std.specs.Prelude.{◌≡◌, ℕ, ◌+◌, ◌^◌, ◌<◌, ◌≤◌, ◌⊎◌, List, true, false, None, Option, Some, Contains, Ok, Err}
+use Rattle.std.specs.Prelude.{◌≡◌, ◌≢◌, ℕ, ◌+◌, ◌^◌, ◌<◌, ◌≤◌, ◌⊎◌, List, true, false, None, Option, Some, Contains, Ok, Err}
 use Rattle.np_io.specs.Counts.{Rose}
-use Rattle.np_cli.specs.Answers.{refusal, notes_of, output}
+use Rattle.np_cli.specs.Answers.{ending_of, output, refusal}
+use Rattle.np_cli.specs.Checks.{ChecksAll, FindsBroken}
 use Rattle.np_cli.specs.Counts.{Counted}
 use Rattle.np_cli.specs.Explains.{ExplainsAll}
 use Rattle.np_cli.specs.Exposes.{ExposesAll}
+use Rattle.np_cli.specs.Flattens.{FlattensAll}
 use Rattle.np_cli.specs.Headline.{SaysAll}
 use Rattle.np_cli.specs.Messages.{message}
 use Rattle.np_cli.specs.Runs.{Run, Tells, IsAccepted, Ends}
+use Rattle.np_cli.specs.Samples.{CountsAll}
 use Rattle.np_cli.specs.Sinks.{Sunk, IsKept, TookWhole, Said}
 use Rattle.np_cli.specs.Sources.{BeganFront, is_too_large}
+use Rattle.np_cli.specs.Statuses.{ending_status}
+use Rattle.np_cli.specs.Useless.{ListsUnused}
 use Rattle.np_cli.specs.Words.{names_asked}
 use Rattle.np_cli.specs.declared.failure.Failure.TheVariants as failure
 use Rattle.np_cli.specs.declared.fault.Fault.{Fault}
@@ -20,7 +25,7 @@ use Rattle.np_words.specs.declared.end_word.EndWord.{EndWord}
 use Rattle.np_words.specs.declared.focus_side.FocusSide.{FocusSide}
 use Rattle.np_words.specs.declared.format.Format.{Format}
 use Rattle.np_words.specs.declared.job.Job.{Job}
-use Rattle.np_words.specs.declared.job.Job.TheVariants.{Explain as ExplainJob, Exposure as ExposureJob, List as ListJob}
+use Rattle.np_words.specs.declared.job.Job.TheVariants.{Check as CheckJob, Explain as ExplainJob, Exposure as ExposureJob, Flatten as FlattenJob, List as ListJob, Sample as SampleJob, Unused as UnusedJob}
 use Rattle.np_words.specs.declared.report.Report.{Report}
 
 -- a count did not rise, and does not stand at its end
@@ -32,12 +37,12 @@ pub record IsStill (old new : ℕ) : Type 0 where
 abbrev pub NoInputFailed : Run → Type 0
 NoInputFailed run = (name : List ℕ) → Contains (names_asked run.asked) name → IsStill (run.source.faults_before name) (run.source.faults_after name)
 
--- Accepted inputs that the source tells, with no failing call, are answered with the whole text, and what was left
--- out is said, or for want of memory.
+-- Accepted inputs that the source tells, with no failing call, are answered with the whole text, with the status of how it
+-- ends and with what is then said, or for want of memory.
 abbrev pub Completes : Run → Sunk → Status → Type 0
 Completes run err answer = (job : Job) (texts : List (List ℕ)) → run.asked ≡ Some job → Tells run texts → IsAccepted job texts
     → NoInputFailed run → IsStill run.out.faults_before run.out.faults_after
-    → ((answer ≡ status.Done) × TookWhole run.out (output run.asked texts) × Said err (message (Ok (notes_of job texts)))) ⊎ (answer ≡ status.NoMemory)
+    → ((answer ≡ ending_status (ending_of job texts)) × TookWhole run.out (output run.asked texts) × Said err (message (Ok (ending_of job texts)))) ⊎ (answer ≡ status.NoMemory)
 
 -- Inputs with too many bytes are refused for that, and nothing is written to the sink of the report.
 abbrev pub RefusesTooLarge : Run → Sunk → Status → Type 0
@@ -83,6 +88,28 @@ abbrev pub SaysExposures : Run → Status → Type 0
 SaysExposures run answer = (workload : Option (List ℕ)) (format : Format) (files texts : List (List ℕ))
     → run.asked ≡ Some (ExposureJob workload format files) → Tells run texts → answer ≡ status.Done → ExposesAll run.out workload format texts
 
+-- Where `unused` is done on inputs that the source tells, its report lists exactly the rules without which no verdict changes.
+abbrev pub SaysWhatIsUnused : Run → Status → Type 0
+SaysWhatIsUnused run answer = (files texts : List (List ℕ))
+    → run.asked ≡ Some (UnusedJob files) → Tells run texts → answer ≡ status.Done → ListsUnused run.out texts
+
+-- Where `check` is done on inputs that the source tells, all its statements hold, and where it ends with a violated statement, its
+-- report has the first one that does not hold, and the first packet that breaks it.
+abbrev pub SaysWhatHolds : Run → Status → Type 0
+SaysWhatHolds run answer = (statement : List ℕ) (files texts : List (List ℕ))
+    → run.asked ≡ Some (CheckJob statement files) → Tells run texts
+    → (answer ≡ status.Done → ChecksAll run.out texts) × (answer ≡ status.Violated → FindsBroken run.out texts)
+
+-- Where `flatten` is done on inputs that the source tells, its report has the policies of one tier that give all verdicts.
+abbrev pub SaysFlatPolicies : Run → Status → Type 0
+SaysFlatPolicies run answer = (files texts : List (List ℕ))
+    → run.asked ≡ Some (FlattenJob files) → Tells run texts → answer ≡ status.Done → FlattensAll run.out texts
+
+-- Where `sample` is done, its report counts the rows of the table of the sample. It is refused for nothing but words.
+abbrev pub SaysCounts : Run → Status → Type 0
+SaysCounts run answer = (n : ℕ) → n ≤ 1000 → run.asked ≡ Some (SampleJob n)
+    → (answer ≡ status.Done → CountsAll run.out n) × (answer ≢ status.Refused)
+
 -- All that is promised of a run that ended with this status, where so many rules were looked at before it and after it.
 pub record Promises (run : Run) (err : Sunk) (steps_before steps_after : ℕ) (answer : Status) : Type 0 where
   pub ends : Ends run err answer
@@ -90,6 +117,10 @@ pub record Promises (run : Run) (err : Sunk) (steps_before steps_after : ℕ) (a
   pub says : SaysWhatPasses run answer
   pub explains : SaysWhatDecides run answer
   pub exposes : SaysExposures run answer
+  pub unused : SaysWhatIsUnused run answer
+  pub checks : SaysWhatHolds run answer
+  pub flattens : SaysFlatPolicies run answer
+  pub counts : SaysCounts run answer
   -- where the source tells its bytes and no call failed, the answer is determined, but for want of memory
   pub completes : Completes run err answer
   pub refuses_too_large : RefusesTooLarge run err answer

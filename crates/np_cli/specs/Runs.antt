@@ -2,8 +2,7 @@
 use Rattle.std.specs.Prelude.{◌≡◌, ℕ, List, false, Option, Some, None, is_some, true, Result, Ok, Err}
 use Rattle.np_io.specs.Counts.{Rose}
 use Rattle.np_io.specs.Taken.{TookFront}
-use Rattle.np_cli.specs.Answers.{IsLawfulIn, refusal, notes_of, output}
-use Rattle.np_cli.specs.Inputs.{lists_of}
+use Rattle.np_cli.specs.Answers.{IsLawfulIn, ending_of, objects_of, output, refusal}
 use Rattle.np_cli.specs.Messages.{message}
 use Rattle.np_cli.specs.Sinks.{Sunk, IsKept, TookWhole, Said}
 use Rattle.np_cli.specs.Sources.{Sourced, AreTold, BeganFront, FailedAt, IsUntouched, OverLimit, ReadOnce, is_too_large}
@@ -12,7 +11,7 @@ use Rattle.np_cli.specs.Words.{names_asked, names_of}
 use Rattle.np_cli.specs.declared.failure.Failure.{Failure}
 use Rattle.np_cli.specs.declared.failure.Failure.TheVariants.{Usage, CannotRead, TooLarge, Refused, CannotWrite, NoMemory}
 use Rattle.np_cli.specs.declared.fault.Fault.{Fault}
-use Rattle.np_cli.specs.declared.notes.ReportNotes.{ReportNotes}
+use Rattle.np_cli.specs.declared.outcome.Ending.{Ending}
 use Rattle.np_cli.specs.declared.status.Status.{Status}
 use Rattle.np_words.specs.declared.job.Job.{Job}
 
@@ -36,20 +35,20 @@ pub record IsAccepted (job : Job) (texts : List (List ℕ)) : Type 0 where
 
 -- ---- how a run ends, and why
 
--- On these bytes, the sink of the report took the whole text, and this was left out.
-pub record IsReported (run : Run) (job : Job) (notes : ReportNotes) (texts : List (List ℕ)) : Type 0 where
+-- On these bytes, the sink of the report took the whole text, and the report ends so.
+pub record IsReported (run : Run) (job : Job) (ends : Ending) (texts : List (List ℕ)) : Type 0 where
   pub accepted : IsAccepted job texts
   pub took : TookWhole run.out (output run.asked texts)
-  pub left_out : notes ≡ notes_of job texts
-  pub lawful : IsLawfulIn (lists_of texts)
+  pub ended : ends ≡ ending_of job texts
+  pub lawful : IsLawfulIn (objects_of job texts)
 
 -- All inputs were read, and the report was written.
-pub record Reported (run : Run) (notes : ReportNotes) : Type 0 where
+pub record Reported (run : Run) (ends : Ending) : Type 0 where
   pub job : Job
   pub asked : run.asked ≡ Some job
   pub read : ReadOnce run.source (names_of job)
   pub unfailed : run.out.faults_after ≡ run.out.faults_before
-  pub told : (texts : List (List ℕ)) → Tells run texts → IsReported run job notes texts
+  pub told : (texts : List (List ℕ)) → Tells run texts → IsReported run job ends texts
 
 -- The words ask for nothing, and nothing was touched.
 pub record AskedNothing (run : Run) : Type 0 where
@@ -92,8 +91,8 @@ pub record LackedMemory (run : Run) : Type 0 where
   pub front : (texts : List (List ℕ)) → Tells run texts → TookFront run.out.before run.out.after (output run.asked texts)
 
 -- Why a run may end so.
-abbrev pub Cause : Run → Result ReportNotes Failure → Type 0
-Cause run (Ok notes) = Reported run notes
+abbrev pub Cause : Run → Result Ending Failure → Type 0
+Cause run (Ok ends) = Reported run ends
 Cause run (Err Usage) = AskedNothing run
 Cause run (Err TooLarge) = ReadTooMuch run
 Cause run (Err (Refused fault)) = RefusedFor run fault
@@ -103,7 +102,7 @@ Cause run (Err NoMemory) = LackedMemory run
 
 -- Some outcome has its cause, was said on the error sink, and gives the status.
 pub record Ends (run : Run) (err : Sunk) (status : Status) : Type 0 where
-  pub outcome : Result ReportNotes Failure
+  pub outcome : Result Ending Failure
   pub cause : Cause run outcome
   pub said : Said err (message outcome)
   pub answered : status ≡ status_of outcome

@@ -1,16 +1,39 @@
--- The names of the inputs that a command line asks for.
-use Rattle.std.specs.Prelude.{ℕ, List, [], Option, Some, None}
+-- The names that a command line asks for, and which of their bytes are read for objects.
+use Rattle.std.specs.Prelude.{ℕ, List, [], ◌∷◌, Option, Some, None, drop}
+use Rattle.np_cluster.specs.Sample.{sample_text}
 use Rattle.np_words.specs.declared.job.Job.{Job}
-use Rattle.np_words.specs.declared.job.Job.TheVariants.{Evaluate, Explain, Exposure, List as ListJob}
+use Rattle.np_words.specs.declared.job.Job.TheVariants.{Check, Evaluate, Explain, Exposure, Flatten, List as ListJob, Sample, Unused}
 
--- the names of the inputs that a job reads, in order
+-- the names that a job reads, in order: of `check` the statement file stands first
 abbrev pub names_of : Job → List (List ℕ)
 names_of (ListJob format report controller focus side files) = files
 names_of (Explain from to files) = files
 names_of (Exposure workload format files) = files
 names_of (Evaluate from to proto port files) = files
+names_of (Unused files) = files
+names_of (Check statement files) = statement ∷ files
+names_of (Flatten files) = files
+names_of (Sample n) = []
 
 -- the names that the words ask for
 abbrev pub names_asked : Option Job → List (List ℕ)
 names_asked None = []
 names_asked (Some job) = names_of job
+
+-- ---- by the bytes of all of them
+
+-- the bytes of a statement file, which stand first
+abbrev pub statement_bytes : List (List ℕ) → List ℕ
+statement_bytes [] = []
+statement_bytes (text ∷ texts) = text
+
+-- the bytes that hold the objects: of `check` those behind the statement file, and of `sample`, which reads none, those of the sample itself
+abbrev pub object_texts : Job → List (List ℕ) → List (List ℕ)
+object_texts (ListJob format report controller focus side files) texts = texts
+object_texts (Explain from to files) texts = texts
+object_texts (Exposure workload format files) texts = texts
+object_texts (Evaluate from to proto port files) texts = texts
+object_texts (Unused files) texts = texts
+object_texts (Check statement files) texts = drop 1 texts
+object_texts (Flatten files) texts = texts
+object_texts (Sample n) texts = sample_text n ∷ []

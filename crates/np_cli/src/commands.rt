@@ -1,25 +1,35 @@
-//! What a job asks of what its inputs say, command by command.
-ghost use Rattle.std.specs.Prelude.{◌≡◌, ◌≤◌, IfOk};
+//! What a job asks of what its bytes say, command by command.
+ghost use Rattle.std.specs.Prelude.{◌≡◌, ◌≤◌, IfOk, map};
 ghost use Rattle.np_cli.specs.Answers as spec;
 ghost use Rattle.np_cli.specs.Counts.{RoseAtMost, reply_steps};
-ghost use Rattle.np_cli.specs.Prints.{Wrote};
+ghost use Rattle.np_cli.specs.Prints.{Wrote, without_value};
 ghost use Rattle.np_cli.specs.Sinks.{sunk};
+ghost use Rattle.np_cli.specs.Words.{statement_bytes};
 ghost use Rattle.np_estate.specs.Lawful.{IsLawful};
 
+mod check;
 mod ends;
 mod evaluate;
 mod explain;
 mod exposure;
+mod flatten;
 mod list;
+mod sample;
+mod unused;
 
+use self::check::check_file;
 use self::evaluate::evaluate;
 use self::explain::explain;
 use self::exposure::exposure_of;
+use self::flatten::flatten_in;
 use self::list::{list, listing_of};
+use self::sample::count_rows;
+use self::unused::unused;
 use crate::failure::Failure;
 use crate::notes::ReportNotes;
 use np_base::{NoMemory, Seq};
 use np_conns::PortSpot;
+use np_estate::Notes;
 use np_fold::Folded;
 use np_io::Sink;
 use np_routes::route_notes;
@@ -28,17 +38,30 @@ use np_words::Job;
 use std::alloc::Global;
 use std::sync::ledger::Ledger;
 
-/// Writes what a job prints on what its inputs say, or refuses it. What it refuses, it refuses before the first byte is
-/// written.
-#[tactic(auto, unfolding(crate::specs::Answers::reply, crate::specs::Counts::reply_steps))]
+// Nothing was left out.
+const NOTHING: Notes = Notes {
+    host: 0,
+    finished: 0,
+    skipped: 0,
+    unaddressed: 0,
+};
+
+/// Writes what a job prints by the bytes that it read and what they say, or refuses that. What it refuses, it refuses before
+/// the first byte is written. Answers whether all that the job was to check holds, of which only `check` has anything.
+#[tactic(auto, unfolding(crate::specs::Answers::reply, crate::specs::Answers::holds, crate::specs::Counts::reply_steps))]
 pub(crate) fn reply<O: Sink, L: Ledger>(
     alloc: Global,
     job: &Job,
+    texts: &[Vec<u8>],
     folded: &Folded,
     out: &mut O,
     steps: &mut Steps<L>,
-) -> Result<(), Failure>
-    ensures wrote { Wrote (sunk O.taken O.faults out.old out.new) (spec.reply job.now folded.now) result }
+) -> Result<bool, Failure>
+    requires { spec.IsCountable job.now folded.now }
+    ensures wrote { Wrote (sunk O.taken O.faults out.old out.new)
+        (spec.reply job.now (map (λ text. text.items) texts.now) folded.now)
+        (without_value result) }
+    ensures holds { IfOk result (λ holds. holds ≡ spec.holds job.now (map (λ text. text.items) texts.now) folded.now) }
     ensures least { steps.old ≤ steps.new }
     ensures most { RoseAtMost (reply_steps job.now folded.now) steps.old steps.new }
 {
@@ -53,14 +76,13 @@ pub(crate) fn reply<O: Sink, L: Ledger>(
         } => {
             let asked = listing_of(folded, controller, focus, *side)?;
             list(alloc, folded, asked, *format, *report, out, steps)?;
-            Ok(())
         }
-        Job::Explain { from, to, .. } => explain(alloc, folded, from, to, out, steps),
+        Job::Explain { from, to, .. } => explain(alloc, folded, from, to, out, steps)?,
         Job::Exposure {
             workload,
             format,
             ..
-        } => exposure_of(alloc, folded, workload, *format, out, steps),
+        } => exposure_of(alloc, folded, workload, *format, out, steps)?,
         Job::Evaluate {
             from,
             to,
@@ -72,13 +94,28 @@ pub(crate) fn reply<O: Sink, L: Ledger>(
                 proto: *proto,
                 port: *port,
             };
-            evaluate(alloc, folded, from, to, spot, out, steps)
+            evaluate(alloc, folded, from, to, spot, out, steps)?;
         }
+        Job::Unused { .. } => unused(alloc, folded, out, steps)?,
+        Job::Check { .. } => return check_file(alloc, statement_of(texts), folded, out, steps),
+        Job::Flatten { .. } => flatten_in(alloc, folded, out, steps)?,
+        Job::Sample { .. } => count_rows(alloc, folded, out, steps)?,
+    }
+    Ok(true)
+}
+
+// The bytes of a statement file, which stand first.
+fn statement_of(texts: &[Vec<u8>]) -> &[u8]
+    ensures { result.now ≡ statement_bytes (map (λ text. text.items) texts.now) }
+{
+    match texts.first() {
+        Some(text) => text,
+        None => &[],
     }
 }
 
-/// What is said of a job's report on what its inputs say: what was left out of it, and of `list` the backends of Ingresses
-/// that lead nowhere. The inputs are those of a lawful estate.
+/// What is said of a job's report on what its bytes say: what was left out of it, and of `list` the backends of Ingresses
+/// that lead nowhere; of `sample` nothing. The estate is lawful.
 #[tactic(auto, unfolding(crate::specs::Answers::report_notes))]
 pub(crate) fn report_notes(
     alloc: Global,
@@ -91,10 +128,11 @@ pub(crate) fn report_notes(
     let estate = folded.estate();
     let routes = match job {
         Job::List { .. } => route_notes(alloc, estate)?,
-        Job::Explain { .. } | Job::Exposure { .. } | Job::Evaluate { .. } => Seq::new(alloc),
+        _ => Seq::new(alloc),
     };
-    Ok(ReportNotes {
-        left_out: estate.notes(),
-        routes,
-    })
+    let left_out = match job {
+        Job::Sample { .. } => NOTHING,
+        _ => estate.notes(),
+    };
+    Ok(ReportNotes { left_out, routes })
 }

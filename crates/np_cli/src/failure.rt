@@ -8,6 +8,7 @@ use np_base::{NoMemory, Text};
 use np_estate::Refusal;
 use np_fold::FoldFault;
 use np_io::SinkFailed;
+use np_statements::{EndFault, FileFault};
 use np_words::WordsFault;
 use std::alloc::AllocError;
 use std::error::Error;
@@ -18,7 +19,11 @@ static USAGE: &str = concat!(
     "usage: np list [--format text|csv|json] [--report 1|2] [--controller NAME] [--focus NAME] [--side either|from|to] [FILE]...\n",
     "       np explain --from END --to END [FILE]...\n",
     "       np exposure [--workload NAME] [--format text|csv|json] [FILE]...\n",
-    "       np evaluate --from END --to END --protocol P --port N [FILE]...",
+    "       np evaluate --from END --to END --protocol P --port N [FILE]...\n",
+    "       np unused [FILE]...\n",
+    "       np check --statement FILE [FILE]...\n",
+    "       np flatten [FILE]...\n",
+    "       np sample N",
 );
 
 /// How a run fails. It is written as the line that tells of it, as `error: cannot write`.
@@ -30,7 +35,7 @@ pub enum Failure {
     CannotRead(Text),
     /// The inputs have more bytes than are read.
     TooLarge,
-    /// The inputs, or the words on what they say, have this fault first.
+    /// The inputs, or the words or statements on what they say, have this fault first.
     Refused(Fault),
     /// The report could not be written.
     CannotWrite,
@@ -130,6 +135,34 @@ impl From<FoldFault> for Failure {
                 Failure::Refused(Fault::TooManyWorkloads { count })
             }
             FoldFault::NoMemory => Failure::NoMemory,
+        }
+    }
+}
+
+impl From<FileFault> for Failure {
+    ghost use Rattle.std.specs.Prelude.{◌≡◌};
+    ghost use Rattle.np_cli.specs.Failures.{file_failure};
+
+    ghost from_gives = { λ fault failure. failure ≡ file_failure fault };
+
+    fn from(fault: FileFault) -> Failure {
+        match fault {
+            FileFault::BadStatement { line } => Failure::Refused(Fault::BadStatement { line }),
+            FileFault::NoMemory => Failure::NoMemory,
+        }
+    }
+}
+
+impl From<EndFault> for Failure {
+    ghost use Rattle.std.specs.Prelude.{◌≡◌};
+    ghost use Rattle.np_cli.specs.Failures.{end_failure};
+
+    ghost from_gives = { λ fault failure. failure ≡ end_failure fault };
+
+    fn from(fault: EndFault) -> Failure {
+        match fault {
+            EndFault::UnknownEnd { name } => Failure::Refused(Fault::UnknownEnd { name }),
+            EndFault::NoMemory => Failure::NoMemory,
         }
     }
 }

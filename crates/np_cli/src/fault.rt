@@ -1,11 +1,11 @@
-//! The faults of inputs, and of words on what the inputs say.
+//! The faults of inputs, and of words and statements on what the inputs say.
 
 use np_base::Text;
 use np_estate::Refusal;
 use np_policies::Direction;
 use std::fmt;
 
-/// The first fault of the inputs, or of words on what the inputs say.
+/// The first fault of the inputs, or of words and statements on what the inputs say.
 #[derive(Debug, Drop)]
 pub enum Fault {
     /// They are read to no estate.
@@ -14,7 +14,22 @@ pub enum Fault {
     TooManyWorkloads {
         count: u64,
     },
-    /// The words name an end that is not there: no workload has the name, or for `evaluate` no listed pod.
+    /// The line of the statement file of `check` that has this number, from 1, holds no statement.
+    BadStatement {
+        line: u64,
+    },
+    /// What may pass between these two workloads differs between the families of the list, so that `flatten` has no policies.
+    Split {
+        source: Text,
+        destination: Text,
+    },
+    /// These two workloads are alike to selectors, and what may pass differs, so that `flatten` has no policies.
+    Alike {
+        a: Text,
+        b: Text,
+    },
+    /// The words, or a statement of `check`, name an end that is not there: no workload has the name, or for `evaluate` no
+    /// listed pod.
     UnknownEnd {
         name: Text,
     },
@@ -41,6 +56,12 @@ impl fmt::Display for Fault {
         match self {
             Fault::Inputs(refusal) => write!(f, "{refusal}"),
             Fault::TooManyWorkloads { count } => write!(f, "TooManyWorkloads {count}"),
+            Fault::BadStatement { line } => write!(f, "BadStatement line {line}"),
+            Fault::Split {
+                source,
+                destination,
+            } => write!(f, "Split {source}, {destination}"),
+            Fault::Alike { a, b } => write!(f, "Alike {a}, {b}"),
             Fault::UnknownEnd { name } => write!(f, "UnknownEnd {name}"),
             Fault::SameEnd { name } => write!(f, "SameEnd {name}"),
             Fault::TooManyPatterns {

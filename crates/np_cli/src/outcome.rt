@@ -9,25 +9,37 @@ use crate::status::Status;
 use np_base::NoMemory;
 use std::alloc::Global;
 
-/// How a run ends: the report was written whole, and this is said of it; or the run failed.
-pub type Outcome = Result<ReportNotes, Failure>;
+/// How a report that was written whole ends.
+#[derive(Debug, Drop)]
+pub enum Ending {
+    /// This is said of the report. Where it is of `check`, all statements hold.
+    Done(ReportNotes),
+    /// The report is of `check`, and a statement does not hold. Nothing is said of it.
+    Violated,
+}
+
+/// How a run ends: the report was written whole, or the run failed.
+pub type Outcome = Result<Ending, Failure>;
 
 /// The status of the program that ended so.
 pub fn status_of(outcome: &Outcome) -> Status
     ensures { result ≡ statuses.status_of outcome.now }
 {
     match outcome {
-        Ok(_) => Status::Done,
+        Ok(Ending::Done(_)) => Status::Done,
+        Ok(Ending::Violated) => Status::Violated,
         Err(failure) => failure.status(),
     }
 }
 
-/// What is said of it on the error sink: the notes on the report, or the line of the failure.
+/// What is said of it on the error sink: the notes on a report that is done, nothing where a statement does not hold, or the
+/// line of the failure.
 pub fn message(alloc: Global, outcome: &Outcome) -> Result<String, NoMemory>
     ensures { IfOk result (λ text. string_bytes text ≡ messages.message outcome.now) }
 {
     match outcome {
-        Ok(notes) => notes.text(alloc),
+        Ok(Ending::Done(notes)) => notes.text(alloc),
+        Ok(Ending::Violated) => Ok(String::new(alloc)),
         Err(failure) => Ok(format!(in alloc; "{failure}\n")?),
     }
 }

@@ -1,24 +1,23 @@
 //! The top call: from the words of a command line and the bytes of its inputs to a report and a status.
 ghost use Rattle.std.specs.Prelude.{◌≡◌, ◌≤◌, ◌⊎◌, Err, Some, map};
+ghost use Rattle.np_cli.specs.Answers.{objects_of};
 ghost use Rattle.np_cli.specs.Counts.{Counted, RoseAtMost, steps_in};
-ghost use Rattle.np_cli.specs.Inputs.{lists_of};
 ghost use Rattle.np_cli.specs.Messages as messages;
 ghost use Rattle.np_cli.specs.Prints.{Answers};
 ghost use Rattle.np_cli.specs.Promises.{Promises};
 ghost use Rattle.np_cli.specs.Runs.{Cause, ran};
 ghost use Rattle.np_cli.specs.Sinks.{Said, sunk};
 ghost use Rattle.np_cli.specs.Sources.{sourced};
-ghost use Rattle.np_cli.specs.Words as spec;
 ghost use Rattle.np_words.specs.CommandLines.{asked_by};
+ghost use Rattle.np_words.specs.Jobs.{IsWell};
 
 use crate::commands::{reply, report_notes};
 use crate::failure::Failure;
-use crate::folded::read_folded;
-use crate::notes::ReportNotes;
-use crate::outcome::{Outcome, message, status_of};
+use crate::job_texts::{names_of, read_objects};
+use crate::outcome::{Ending, Outcome, message, status_of};
 use crate::sources::read_all;
 use crate::status::Status;
-use np_base::{NoMemory, Text};
+use np_base::NoMemory;
 use np_io::{Inputs, Sink, write_whole};
 use np_steps::Steps;
 use np_words::{Job, read_words};
@@ -53,14 +52,14 @@ pub fn np_main<I: Inputs, O: Sink, E: Sink, L: Ledger>(
     status_of(&said)
 }
 
-// Reads, and writes the report.
+// Reads what the words ask for, and writes the report.
 fn run<I: Inputs, O: Sink, L: Ledger>(
     alloc: Global,
     words: &[String],
     inputs: &mut I,
     out: &mut O,
     steps: &mut Steps<L>,
-) -> Result<ReportNotes, Failure>
+) -> Result<Ending, Failure>
     ensures ran { let run = ran (asked_by words.now)
         (sourced I.holds I.left I.faults I.handed I.began inputs.old inputs.new)
         (sunk O.taken O.faults out.old out.new) in
@@ -78,46 +77,39 @@ fn run_job<I: Inputs, O: Sink, L: Ledger>(
     inputs: &mut I,
     out: &mut O,
     steps: &mut Steps<L>,
-) -> Result<ReportNotes, Failure>
+) -> Result<Ending, Failure>
+    requires { IsWell job.now }
     ensures { let run = ran (Some job.now)
         (sourced I.holds I.left I.faults I.handed I.began inputs.old inputs.new)
         (sunk O.taken O.faults out.old out.new) in
         Cause run result × Counted run steps.old steps.new }
 {
-    let texts = read_all(alloc, inputs, names_of(job))?;
+    let names = names_of(alloc, job)?;
+    let texts = read_all(alloc, inputs, names.items())?;
     answer(alloc, job, &texts, out, steps)
 }
 
-// The names of the inputs of a job.
-fn names_of(job: &Job) -> &[Text]
-    ensures { result.now ≡ spec.names_of job.now }
-{
-    match job {
-        Job::List { files, .. }
-        | Job::Explain { files, .. }
-        | Job::Exposure { files, .. }
-        | Job::Evaluate { files, .. } => files.items(),
-    }
-}
-
-// Writes the report of a job on these inputs.
+// Writes the report of a job that read these bytes.
 fn answer<O: Sink, L: Ledger>(
     alloc: Global,
     job: &Job,
     texts: &[Vec<u8>],
     out: &mut O,
     steps: &mut Steps<L>,
-) -> Result<ReportNotes, Failure>
-    ensures answers { Answers job.now (lists_of (map (λ text. text.items) texts.now))
-        (sunk O.taken O.faults out.old out.new)
-        result }
+) -> Result<Ending, Failure>
+    requires { IsWell job.now }
+    ensures answers { Answers job.now (map (λ text. text.items) texts.now) (sunk O.taken O.faults out.old out.new) result }
     ensures least { steps.old ≤ steps.new }
-    ensures most { RoseAtMost (steps_in job.now (lists_of (map (λ text. text.items) texts.now))) steps.old steps.new }
+    ensures most { RoseAtMost (steps_in job.now (objects_of job.now (map (λ text. text.items) texts.now))) steps.old steps.new }
 {
-    let folded = read_folded(alloc, texts)?;
+    let folded = read_objects(alloc, job, texts)?;
     let notes = report_notes(alloc, job, &folded)?;
-    reply(alloc, job, &folded, out, steps)?;
-    Ok(notes)
+    let holds = reply(alloc, job, texts, &folded, out, steps)?;
+    if holds {
+        Ok(Ending::Done(notes))
+    } else {
+        Ok(Ending::Violated)
+    }
 }
 
 // Says on the error sink how the run ended. Where the message wants memory that is refused, the run ended so.

@@ -15,6 +15,8 @@ pub enum Status {
     Device,
     /// 4: the system refused memory.
     NoMemory,
+    /// 5: the report was written whole, and says that a statement of `check` does not hold.
+    Violated,
 }
 
 impl Status {
@@ -28,6 +30,7 @@ impl Status {
             Status::Usage => 2,
             Status::Device => 3,
             Status::NoMemory => 4,
+            Status::Violated => 5,
         }
     }
 }

@@ -1,3 +1,4 @@
+pub mod AddressLemmas
 pub mod ApartLemmas
 pub mod EstateLemmas
 pub mod FloatLemmas
@@ -9,6 +10,7 @@ pub mod PlainLemmas
 pub mod PolicyLemmas
 pub mod PushLemmas
 pub mod ReadingLemmas
+pub mod RowCountLemmas
 pub mod SampleLemmas
 pub mod ShapeLemmas
 pub mod TextLemmas

@@ -1,7 +1,8 @@
 //! What follows from the definitions. Each law is the contract of a call that does nothing.
-ghost use Rattle.std.specs.Prelude.{◌≡◌, ◌≤◌, ℕ, [], ◌∷◌, Ok};
+ghost use Rattle.std.specs.Prelude.{◌≡◌, ◌<◌, ◌≤◌, ◌^◌, ℕ, [], ◌∷◌, Ok, Option, length};
 ghost use Rattle.np_estate.specs.Reading.{estate_of};
 ghost use Rattle.np_fold.specs.Workloads.{workload_count};
+ghost use Rattle.np_routes.specs.ClusterTable.{cluster_rows, cluster_table};
 ghost use Rattle.np_cluster.specs.Estate.{sample_estate};
 ghost use Rattle.np_cluster.specs.Sample.{sample_text};
 
@@ -16,4 +17,10 @@ pub fn samples_are_read_as_their_estates()
 pub fn samples_have_few_workloads()
     ensures pods { (n : ℕ) → workload_count (sample_estate n) ≤ n }
     ensures few { (n : ℕ) → n ≤ 1000 → workload_count (sample_estate n) ≤ MOST_WORKLOADS }
+{}
+
+/// The rows of a sample can be counted: there are fewer than 2^64, whatever the controller of ingresses is.
+pub fn samples_have_few_rows()
+    ensures { (n : ℕ) (controller : Option ℕ) → n ≤ 1000 →
+        length (cluster_rows (cluster_table (sample_estate n) controller)) < 2 ^ 64 }
 {}

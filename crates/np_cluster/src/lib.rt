@@ -10,4 +10,6 @@ mod net_policy;
 mod pod;
 
 pub use cluster::sample;
-pub use laws::{samples_are_read_as_their_estates, samples_have_few_workloads};
+pub use laws::{
+    samples_are_read_as_their_estates, samples_have_few_rows, samples_have_few_workloads,
+};

@@ -1,5 +1,5 @@
 //! Whether two workloads differ in what passes.
-ghost use Rattle.std.specs.Prelude.{◌≡◌, ◌≢◌, ◌++◌, IfOk, OnOk, not};
+ghost use Rattle.std.specs.Prelude.{◌≡◌, ◌≢◌, ◌≤◌, ◌++◌, IfOk, OnOk, not};
 ghost use Rattle.std.specs.Cmp.Lexicographic.{pointwise};
 ghost use Rattle.std.specs.List.{list_any};
 ghost use Rattle.np_classes.specs.Classes.{places};
@@ -28,7 +28,8 @@ pub(crate) fn differ<L: Ledger>(
     requires a { IsWorkload sides.now a }
     requires b { IsWorkload sides.now b }
     requires apart { a ≢ b }
-    ensures { IfOk result (λ answer. answer ≡ spec.differ sides.now a b) }
+    ensures answer { IfOk result (λ answer. answer ≡ spec.differ sides.now a b) }
+    ensures least { steps.old ≤ steps.new }
 {
     if differ_at_some(sides, a, b, steps)? {
         return Ok(true);
@@ -51,7 +52,8 @@ fn differ_at_some<L: Ledger>(
 ) -> Result<bool, NoMemory>
     requires a { IsWorkload sides.now a }
     requires b { IsWorkload sides.now b }
-    ensures { IfOk result (λ answer. answer ≡ list_any (spec.differ_at sides.now a b) (places (number_of_workloads sides.now))) }
+    ensures answer { IfOk result (λ answer. answer ≡ list_any (spec.differ_at sides.now a b) (places (number_of_workloads sides.now))) }
+    ensures least { steps.old ≤ steps.new }
 {
     for third in 0..sides.folded().workloads().count() {
         if differ_at(sides, a, b, third, steps)? {
@@ -72,7 +74,8 @@ fn differ_at<L: Ledger>(
     requires a { IsWorkload sides.now a }
     requires b { IsWorkload sides.now b }
     requires third { IsWorkload sides.now third }
-    ensures { IfOk result (λ answer. answer ≡ spec.differ_at sides.now a b third) }
+    ensures answer { IfOk result (λ answer. answer ≡ spec.differ_at sides.now a b third) }
+    ensures least { steps.old ≤ steps.new }
 {
     if third == a || third == b {
         return Ok(false);
@@ -97,7 +100,8 @@ fn differ_within<L: Ledger>(
     requires a { IsWorkload sides.now a }
     requires b { IsWorkload sides.now b }
     requires apart { a ≢ b }
-    ensures { IfOk result (λ answer. answer ≡ spec.two_differ (spec.own_sets sides.now a b)) }
+    ensures answer { IfOk result (λ answer. answer ≡ spec.two_differ (spec.own_sets sides.now a b)) }
+    ensures least { steps.old ≤ steps.new }
 {
     let mut sets = Vec::new(sides.alloc());
     add_within(&mut sets, sides, a, steps)?;
@@ -115,7 +119,8 @@ fn add_within<L: Ledger>(
     steps: &mut Steps<L>,
 ) -> Result<(), NoMemory>
     requires { IsWorkload sides.now workload }
-    ensures { OnOk result (sets.new.items ≡ sets.old.items ++ own_set sides.now workload workload) }
+    ensures sets { OnOk result (sets.new.items ≡ sets.old.items ++ own_set sides.now workload workload) }
+    ensures least { steps.old ≤ steps.new }
 {
     if let Some(set) = sides.within(workload, steps)? {
         sets.push(set)?;
@@ -154,7 +159,8 @@ fn differ_towards<L: Ledger>(
 ) -> Result<bool, NoMemory>
     requires a { IsWorkload sides.now a }
     requires b { IsWorkload sides.now b }
-    ensures { IfOk result (λ answer. answer ≡ spec.differ_towards sides.now a b direction) }
+    ensures answer { IfOk result (λ answer. answer ≡ spec.differ_towards sides.now a b direction) }
+    ensures least { steps.old ≤ steps.new }
 {
     let rows_of_a = address_rows(sides.alloc(), sides.folded(), a, direction, steps)?;
     let rows_of_b = address_rows(sides.alloc(), sides.folded(), b, direction, steps)?;

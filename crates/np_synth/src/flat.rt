@@ -1,5 +1,5 @@
 //! The flat policies of an estate.
-ghost use Rattle.std.specs.Prelude.{◌≡◌, ◌<◌, ◌^◌, ◌++◌, IfOk, OnOk, map};
+ghost use Rattle.std.specs.Prelude.{◌≡◌, ◌<◌, ◌≤◌, ◌^◌, ◌++◌, IfOk, OnOk, map};
 ghost use Rattle.np_classes.specs.Classes.{places};
 ghost use Rattle.np_synth.specs.Flat as spec;
 ghost use Rattle.np_synth.specs.Groups.{first_of_group, group_count, group_firsts, group_of, relevant};
@@ -72,7 +72,8 @@ impl<'a> Flat<'a> {
     /// may not send to others the others' ingress refuses, and then one for each range of addresses that it may send to.
     pub fn policy<L: Ledger>(&self, group: u32, steps: &mut Steps<L>) -> Result<NetPolicy, NoMemory>
         requires { group < group_count self.now }
-        ensures { IfOk result (λ policy. policy ≡ spec.flat_policy self.now group) }
+        ensures policy { IfOk result (λ policy. policy ≡ spec.flat_policy self.now group) }
+        ensures least { steps.old ≤ steps.new }
     {
         let ingress = self.ingress_rules(group, steps)?;
         let egress = self.egress_rules(group, steps)?;
@@ -94,7 +95,8 @@ impl<'a> Flat<'a> {
         steps: &mut Steps<L>,
     ) -> Result<Seq<NetRule>, NoMemory>
         requires { group < group_count self.now }
-        ensures { IfOk result (λ made. made ≡ spec.ingress_rules self.now group) }
+        ensures rules { IfOk result (λ made. made ≡ spec.ingress_rules self.now group) }
+        ensures least { steps.old ≤ steps.new }
     {
         let mut rules = Seq::new(self.sides.alloc());
         for sender in 0..self.count() {
@@ -111,7 +113,8 @@ impl<'a> Flat<'a> {
         steps: &mut Steps<L>,
     ) -> Result<Seq<NetRule>, NoMemory>
         requires { group < group_count self.now }
-        ensures { IfOk result (λ made. made ≡ spec.egress_rules self.now group) }
+        ensures rules { IfOk result (λ made. made ≡ spec.egress_rules self.now group) }
+        ensures least { steps.old ≤ steps.new }
     {
         let alloc = self.sides.alloc();
         let mut rules = Seq::new(alloc);
@@ -130,7 +133,8 @@ impl<'a> Flat<'a> {
     ) -> Result<(), NoMemory>
         requires sender { sender < group_count self.now }
         requires group { group < group_count self.now }
-        ensures { OnOk result (rules.new ≡ rules.old ++ spec.rules_from_group self.now group sender) }
+        ensures rules { OnOk result (rules.new ≡ rules.old ++ spec.rules_from_group self.now group sender) }
+        ensures least { steps.old ≤ steps.new }
     {
         let Some(set) = self.set_from(sender, group, steps)? else {
             return Ok(());
@@ -155,7 +159,8 @@ impl<'a> Flat<'a> {
     ) -> Result<Option<ConnSet>, NoMemory>
         requires sender { sender < group_count self.now }
         requires group { group < group_count self.now }
-        ensures { IfOk result (λ made. made ≡ spec.set_from self.now sender group) }
+        ensures set { IfOk result (λ made. made ≡ spec.set_from self.now sender group) }
+        ensures least { steps.old ≤ steps.new }
     {
         if sender == group {
             return self.set_within(group, steps);
@@ -173,7 +178,8 @@ impl<'a> Flat<'a> {
         steps: &mut Steps<L>,
     ) -> Result<Option<ConnSet>, NoMemory>
         requires { group < group_count self.now }
-        ensures { IfOk result (λ made. made ≡ spec.set_from self.now group group) }
+        ensures set { IfOk result (λ made. made ≡ spec.set_from self.now group group) }
+        ensures least { steps.old ≤ steps.new }
     {
         let first = self.first(group);
         let within = self.sides.within(first, steps)?;
@@ -209,7 +215,8 @@ impl<'a> Flat<'a> {
         steps: &mut Steps<L>,
     ) -> Result<(), NoMemory>
         requires { group < group_count self.now }
-        ensures { OnOk result (rules.new ≡ rules.old ++ spec.rules_of_addresses (spec.group_rows self.now group direction)) }
+        ensures rules { OnOk result (rules.new ≡ rules.old ++ spec.rules_of_addresses (spec.group_rows self.now group direction)) }
+        ensures least { steps.old ≤ steps.new }
     {
         let alloc = self.sides.alloc();
         let rows = address_rows(alloc, self.folded(), self.first(group), direction, steps)?;

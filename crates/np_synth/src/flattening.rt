@@ -1,5 +1,5 @@
 //! Whether an estate has flat policies.
-ghost use Rattle.std.specs.Prelude.{◌≡◌, ◌⊎◌, IfErr, IfOk, None, OnOk, Some};
+ghost use Rattle.std.specs.Prelude.{◌≡◌, ◌≤◌, ◌⊎◌, IfErr, IfOk, None, OnOk, Some};
 ghost use Rattle.np_synth.specs.Faults.{flat_fault};
 ghost use Rattle.np_synth.specs.declared.fault.FlatFault.TheVariants.{NoMemory};
 
@@ -30,6 +30,7 @@ pub fn flatten<'a, L: Ledger>(
     ensures flat { IfOk result (λ flat. flat ≡ folded.now) }
     ensures none { OnOk result (flat_fault folded.now ≡ None) }
     ensures fault { IfErr result (λ fault. (fault ≡ NoMemory) ⊎ (flat_fault folded.now ≡ Some fault)) }
+    ensures least { steps.old ≤ steps.new }
 {
     if let Some((source, destination)) = first_split(alloc, folded, steps)? {
         return Err(FlatFault::Split {

@@ -1,5 +1,5 @@
 //! What passes between two workloads, by rules that are found once.
-ghost use Rattle.std.specs.Prelude.{◌≡◌, ◌≢◌, IfOk, None, Some, map, if◌then◌else◌};
+ghost use Rattle.std.specs.Prelude.{◌≡◌, ◌≢◌, ◌≤◌, IfOk, None, Some, map, if◌then◌else◌};
 ghost use Rattle.np_classes.specs.Classes.{places};
 ghost use Rattle.np_fold.specs.Workloads.{folding_of};
 ghost use Rattle.np_policies.specs.declared.direction.Direction.TheVariants.{Egress, Ingress};
@@ -82,7 +82,8 @@ impl<'a> Sides<'a> {
         requires source { IsWorkload self.now source }
         requires destination { IsWorkload self.now destination }
         requires apart { source ≢ destination }
-        ensures { IfOk result (λ made. made ≡ spec.set_of self.now source destination) }
+        ensures set { IfOk result (λ made. made ≡ spec.set_of self.now source destination) }
+        ensures least { steps.old ≤ steps.new }
     {
         let sender = &self.senders[source as usize];
         let receiver = &self.receivers[destination as usize];
@@ -102,8 +103,9 @@ impl<'a> Sides<'a> {
         steps: &mut Steps<L>,
     ) -> Result<Option<ConnSet>, NoMemory>
         requires { IsWorkload self.now workload }
-        ensures { IfOk result (λ made. made ≡ (if is_alone (folding_of self.now) workload workload then None
+        ensures set { IfOk result (λ made. made ≡ (if is_alone (folding_of self.now) workload workload then None
             else Some (spec.set_of self.now workload workload))) }
+        ensures least { steps.old ≤ steps.new }
     {
         let family = first_family(self.folded);
         pair_set(self.alloc, self.folded, workload, workload, family, steps)

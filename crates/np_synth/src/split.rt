@@ -1,5 +1,5 @@
 //! The first pair of workloads for which the families of the list differ.
-ghost use Rattle.std.specs.Prelude.{◌≡◌, IfOk};
+ghost use Rattle.std.specs.Prelude.{◌≡◌, ◌≤◌, IfOk};
 ghost use Rattle.np_synth.specs.Faults.{is_split};
 ghost use Rattle.np_synth.specs.Pairs.{first_pair};
 ghost use Rattle.np_synth.specs.steps.SplitRows as spec;
@@ -19,7 +19,8 @@ pub(crate) fn first_split<L: Ledger>(
     folded: &Folded,
     steps: &mut Steps<L>,
 ) -> Result<Option<(u32, u32)>, NoMemory>
-    ensures { IfOk result (λ found. found ≡ first_pair (is_split folded.now) (number_of_workloads folded.now)) }
+    ensures found { IfOk result (λ found. found ≡ first_pair (is_split folded.now) (number_of_workloads folded.now)) }
+    ensures least { steps.old ≤ steps.new }
 {
     let mut rows = Rows::new(alloc, folded);
     while let Some(row) = rows.next(steps)? {

@@ -1,5 +1,5 @@
 //! The first pair of workloads of one group that differ.
-ghost use Rattle.std.specs.Prelude.{◌≡◌, ◌<◌, IfOk, length, map, slice_index};
+ghost use Rattle.std.specs.Prelude.{◌≡◌, ◌<◌, ◌≤◌, IfOk, length, map, slice_index};
 ghost use Rattle.np_classes.specs.Classes.{places};
 ghost use Rattle.np_synth.specs.Faults as faults;
 ghost use Rattle.np_synth.specs.Groups.{group_firsts, group_of};
@@ -25,7 +25,8 @@ pub(crate) fn first_unlike<L: Ledger>(
 ) -> Result<Option<(u32, u32)>, NoMemory>
     requires firsts { groups.now.firsts ≡ group_firsts sides.now }
     requires numbers { groups.now.numbers ≡ map (group_of sides.now) (places (number_of_workloads sides.now)) }
-    ensures { IfOk result (λ found. found ≡ first_pair (faults.is_unlike sides.now) (number_of_workloads sides.now)) }
+    ensures found { IfOk result (λ found. found ≡ first_pair (faults.is_unlike sides.now) (number_of_workloads sides.now)) }
+    ensures least { steps.old ≤ steps.new }
 {
     let mut found = None;
     for workload in sides.folded().workloads().first_of_kinds() {
@@ -45,7 +46,8 @@ fn least_with<L: Ledger>(
 ) -> Result<Option<(u32, u32)>, NoMemory>
     requires first { IsWorkload sides.now first }
     requires workload { IsWorkload sides.now workload }
-    ensures { IfOk result (λ least. least ≡ with_number (faults.differ sides.now) first workload found) }
+    ensures found { IfOk result (λ least. least ≡ with_number (faults.differ sides.now) first workload found) }
+    ensures least { steps.old ≤ steps.new }
 {
     if !comes_before(first, workload, found) {
         return Ok(found);

@@ -46,7 +46,7 @@ pub fn expect_failures(
 
 // The run whose call of this number at the place fails.
 fn run_failing(alloc: Global, wanted: Wanted, place: Place, call: u64) -> Result<Ran, NoMemory> {
-    let mut inputs = source(alloc, wanted.input.as_bytes(), READ_PIECE)?;
+    let mut inputs = source(alloc, wanted, READ_PIECE)?;
     let mut out = sink(alloc, WRITE_PIECE)?;
     let mut err = sink(alloc, WRITE_PIECE)?;
     fail(&mut inputs, &mut out, &mut err, place, call)?;

@@ -48,13 +48,39 @@ static TABLES: &str = r#"# two pods
 0 evaluate --from default/a --to default/b --protocol TCP --port 81
 > default/a => default/b : TCP 81 : Deny
 
+0 flatten
+> {"apiVersion":"v1","items":[{"apiVersion":"networking.k8s.io/v1","kind":"NetworkPolicy","metadata":{"name":"flat-0","namespace":"default"},"spec":{"egress":[{"to":[{"namespaceSelector":{}}]},{"to":[{"ipBlock":{"cidr":"0.0.0.0/0"}}]},{"to":[{"ipBlock":{"cidr":"::/0"}}]}],"ingress":[{"from":[{"namespaceSelector":{"matchExpressions":[{"key":"kubernetes.io/metadata.name","operator":"In","values":["default"]}]},"podSelector":{"matchExpressions":[{"key":"app","operator":"In","values":["b"]}]}}]},{"from":[{"ipBlock":{"cidr":"0.0.0.0/0"}}]},{"from":[{"ipBlock":{"cidr":"::/0"}}]}],"podSelector":{"matchExpressions":[{"key":"app","operator":"In","values":["a"]}]},"policyTypes":["Ingress","Egress"]}},{"apiVersion":"networking.k8s.io/v1","kind":"NetworkPolicy","metadata":{"name":"flat-1","namespace":"default"},"spec":{"egress":[{"to":[{"namespaceSelector":{}}]},{"to":[{"ipBlock":{"cidr":"0.0.0.0/0"}}]},{"to":[{"ipBlock":{"cidr":"::/0"}}]}],"ingress":[{"from":[{"namespaceSelector":{"matchExpressions":[{"key":"kubernetes.io/metadata.name","operator":"In","values":["default"]}]},"podSelector":{"matchExpressions":[{"key":"app","operator":"In","values":["a"]}]}}],"ports":[{"port":80,"protocol":"TCP"}]}],"podSelector":{"matchExpressions":[{"key":"app","operator":"In","values":["b"]}]},"policyTypes":["Ingress","Egress"]}}],"kind":"List"}
+
 # no rows
 < {"apiVersion":"v1","items":[],"kind":"List"}
 0 list --format csv
 > source,destination,connections
 
 0 list --format json
-> []"#;
+> []
+
+# a rule that decides nothing
+< {"apiVersion":"networking.k8s.io/v1","kind":"NetworkPolicy","metadata":{"name":"p"},"spec":{"podSelector":{},"ingress":[{}]}}
+0 unused
+> NetworkPolicy default/p ingress[0]"#;
+
+static OTHERS: &str = r#"# statements, of a file beside standard input, that hold
+< {"apiVersion":"v1","kind":"Pod","metadata":{"name":"a","namespace":"default"},"spec":{}}
+= allow any pod => any address : TCP 1
+0 check --statement statements
+> holds: 1
+
+# one that does not
+= deny any pod => any address : TCP 1
+5 check --statement statements
+> line 1: default/a[Pod] => 0.0.0.0 : TCP 1 : Allow
+
+# no input
+0 sample 1
+> workloads 1
+> pair rows 0
+> address rows 6
+> ingress rows 0"#;
 
 static MESSAGES: &str = r#"# notes
 < {"apiVersion":"v1","items":[
@@ -78,6 +104,17 @@ static MESSAGES: &str = r#"# notes
 ! note: finished pods left out: 1
 ! note: objects of other kinds skipped: 1
 
+= allow any pod => any address : TCP 1
+0 check --statement statements
+> holds: 1
+! note: host network pods left out: 1
+! note: finished pods left out: 1
+! note: objects of other kinds skipped: 1
+
+= allow
+1 check --statement statements
+! error: BadStatement line 1
+
 # a fault
 < {"apiVersion":"v1","items":[
 < {"apiVersion":"policy.networking.k8s.io/v1alpha1","kind":"AdminNetworkPolicy","metadata":{"name":"deny-b"},"spec":{"priority":7,"subject":{"namespaces":{}}}},
@@ -93,7 +130,11 @@ static USAGE: &str = r#"# other words
 ! usage: np list [--format text|csv|json] [--report 1|2] [--controller NAME] [--focus NAME] [--side either|from|to] [FILE]...
 !        np explain --from END --to END [FILE]...
 !        np exposure [--workload NAME] [--format text|csv|json] [FILE]...
-!        np evaluate --from END --to END --protocol P --port N [FILE]..."#;
+!        np evaluate --from END --to END --protocol P --port N [FILE]...
+!        np unused [FILE]...
+!        np check --statement FILE [FILE]...
+!        np flatten [FILE]...
+!        np sample N"#;
 
 #[test]
 fn failures(rt: HostRuntime) -> Result<(), Fail> {
@@ -102,6 +143,7 @@ fn failures(rt: HostRuntime) -> Result<(), Fail> {
     expect_script(&rt, alloc, TABLES, Some(Place::Begin))?;
     expect_script(&rt, alloc, TABLES, Some(Place::Read))?;
     expect_script(&rt, alloc, TABLES, Some(Place::Out))?;
+    expect_script(&rt, alloc, OTHERS, Some(Place::Out))?;
     expect_script(&rt, alloc, MESSAGES, Some(Place::Err))?;
     expect_script(&rt, alloc, USAGE, Some(Place::Err))?;
     Ok(())

@@ -28,6 +28,12 @@ static BAD_POLICY: &str = concat!(
     r#""spec":{"podSelector":{"labels":{}}}}"#,
 );
 
+// Two statements of the policy.
+static CLAIMS: &str = concat!(
+    "allow workload default/a[Pod] => workload default/b[Pod] : TCP 80\n",
+    "deny any address => workload default/b[Pod] : All Connections\n",
+);
+
 // A source of these.
 fn source_of_files(alloc: Global) -> Result<MemInputs, NoMemory> {
     let mut inputs = MemInputs::new(alloc, LARGE_PIECE);
@@ -39,6 +45,7 @@ fn source_of_files(alloc: Global) -> Result<MemInputs, NoMemory> {
         ("bad", BAD_POLICY),
         ("empty", r#"{"apiVersion":"v1","items":[],"kind":"List"}"#),
         ("values", "[]"),
+        ("claims", CLAIMS),
     ] {
         inputs.add(name, text.as_bytes())?;
     }
@@ -60,6 +67,7 @@ fn expect_files(
         };
         let wanted = Wanted {
             input: "",
+            statements: "",
             words,
             status,
             out,
@@ -119,6 +127,10 @@ static ONE_LIST: &[[&str; 2]] = &[
         "evaluate - pods --from default/a --to default/b --protocol TCP --port 81",
         "default/a => default/b : TCP 81 : Deny\n",
     ],
+    ["check --statement claims pods -", "holds: 2\n"],
+    ["check policy --statement claims pods", "holds: 2\n"],
+    ["unused policy pods", ""],
+    ["unused policy", "NetworkPolicy default/p ingress[0]\n"],
 ];
 
 // Items are numbered over all inputs, and inputs by the words.
@@ -135,6 +147,16 @@ static REFUSED: &[[&str; 2]] = &[
     ["list empty values", "error: input 2: NotAList\n"],
     ["list pods pods", "error: items 1 and 3: Duplicate\n"],
     ["list policy - pods", "error: items 1 and 2: Duplicate\n"],
+    ["unused pods -- pods", "error: items 1 and 3: Duplicate\n"],
+    ["flatten empty values", "error: input 2: NotAList\n"],
+    [
+        "check --statement claims values",
+        "error: input 1: NotAList\n",
+    ],
+    [
+        "check --statement pods pods",
+        "error: BadStatement line 1\n",
+    ],
 ];
 
 // The first name that is not there, and none behind it. Behind two hyphens an option is a name.
@@ -159,18 +181,63 @@ fn files(rt: HostRuntime) -> Result<(), Fail> {
     Ok(())
 }
 
-// A call for the second of two names fails.
+// Words, the numbers of the call that begins an input and of the one that reads one which fail, where 0 is none, and the name
+// that is told. The statements are read before the inputs, and each second read finds the end of an input.
+static FAILING: &[(&str, u64, u64, &str)] = &[
+    ("list policy pods", 2, 0, "error: cannot read pods\n"),
+    (
+        "check pods --statement claims",
+        1,
+        0,
+        "error: cannot read claims\n",
+    ),
+    (
+        "check pods --statement claims",
+        2,
+        0,
+        "error: cannot read pods\n",
+    ),
+    (
+        "check pods --statement claims",
+        0,
+        1,
+        "error: cannot read claims\n",
+    ),
+    (
+        "check pods --statement claims",
+        0,
+        2,
+        "error: cannot read claims\n",
+    ),
+    (
+        "check pods --statement claims",
+        0,
+        3,
+        "error: cannot read pods\n",
+    ),
+    (
+        "check pods --statement claims",
+        0,
+        4,
+        "error: cannot read pods\n",
+    ),
+];
+
 #[test]
-fn the_second_file_fails(rt: HostRuntime) -> Result<(), Fail> {
-    let mut inputs = source_of_files(rt.alloc())?;
-    inputs.fail_begin(2)?;
-    let wanted = Wanted {
-        input: "",
-        words: "list policy pods",
-        status: Status::Device,
-        out: "",
-        err: "error: cannot read pods\n",
-    };
-    expect_over(&rt, rt.alloc(), inputs, wanted)?;
+fn files_that_fail(rt: HostRuntime) -> Result<(), Fail> {
+    for (words, begin, read, err) in FAILING {
+        let mut inputs = source_of_files(rt.alloc())?;
+        inputs.fail_begin(*begin)?;
+        inputs.fail_read(*read)?;
+        let wanted = Wanted {
+            input: "",
+            statements: "",
+            words,
+            status: Status::Device,
+            out: "",
+            err,
+        };
+        expect_over(&rt, rt.alloc(), inputs, wanted)?;
+    }
     Ok(())
 }

@@ -5,9 +5,13 @@
 #[cfg(test)]
 mod addresses;
 #[cfg(test)]
+mod bad_statements;
+#[cfg(test)]
 mod cluster_lists;
 #[cfg(test)]
 mod command_lines;
+#[cfg(test)]
+mod counts;
 #[cfg(test)]
 mod evaluations;
 #[cfg(test)]
@@ -22,6 +26,8 @@ mod failures;
 mod families;
 #[cfg(test)]
 mod files;
+#[cfg(test)]
+mod flat;
 #[cfg(test)]
 mod focus;
 #[cfg(test)]
@@ -49,6 +55,10 @@ mod sample;
 #[cfg(test)]
 mod script;
 #[cfg(test)]
+mod statements;
+#[cfg(test)]
 mod tables;
+#[cfg(test)]
+mod unused;
 #[cfg(test)]
 mod words;

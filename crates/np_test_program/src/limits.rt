@@ -37,6 +37,10 @@ static SCRIPT: &str = r#"# the most items
 1 list
 1 list --format json --focus x
 1 evaluate --from default/p1000 --to default/last --protocol TCP --port 80
+1 unused
+1 flatten
+= allow
+1 check --statement statements
 ! error: TooManyWorkloads 2001
 
 # the most workloads, of which two are asked
@@ -108,6 +112,19 @@ static SPACES: &[Spaces] = &[
         second: SIZE_LIMIT,
         err: "error: TooLarge\n",
     },
+    // The statements are no input with a number, but are counted.
+    Spaces {
+        words: "check --statement first second",
+        first: 1,
+        second: SIZE_LIMIT - 1,
+        err: "error: input 1: NotJson\n",
+    },
+    Spaces {
+        words: "check --statement first second",
+        first: SIZE_LIMIT,
+        second: 1,
+        err: "error: TooLarge\n",
+    },
 ];
 
 #[test]
@@ -120,6 +137,7 @@ fn many_bytes(rt: HostRuntime) -> Result<(), Fail> {
         inputs.add("second", &second)?;
         let wanted = Wanted {
             input: "",
+            statements: "",
             words: spaces.words,
             status: Status::Refused,
             out: "",

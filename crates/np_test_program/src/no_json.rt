@@ -41,6 +41,7 @@ fn expect_no_json(rt: &impl Abort, alloc: Global, bytes: &[u8]) -> Result<(), No
     inputs.add("-", bytes)?;
     let wanted = Wanted {
         input: "",
+        statements: "",
         words: "list",
         status: Status::Refused,
         out: "",

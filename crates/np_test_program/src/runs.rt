@@ -30,6 +30,8 @@ pub struct Ran {
 pub struct Wanted<'a> {
     /// Standard input. Where it is empty, no input is there.
     pub input: &'a str,
+    /// The file `statements`.
+    pub statements: &'a str,
     /// The words of the command line, apart by spaces.
     pub words: &'a str,
     pub status: Status,
@@ -37,12 +39,13 @@ pub struct Wanted<'a> {
     pub err: &'a str,
 }
 
-/// A source whose standard input has these bytes, of which a call hands out at most `piece`.
-pub fn source(alloc: Global, bytes: &[u8], piece: usize) -> Result<MemInputs, NoMemory> {
+/// A source of standard input and the file `statements` of a run, of which a call hands out at most `piece` bytes.
+pub fn source(alloc: Global, wanted: Wanted, piece: usize) -> Result<MemInputs, NoMemory> {
     let mut inputs = MemInputs::new(alloc, piece);
-    if !bytes.is_empty() {
-        inputs.add("-", bytes)?;
+    if !wanted.input.is_empty() {
+        inputs.add("-", wanted.input.as_bytes())?;
     }
+    inputs.add("statements", wanted.statements.as_bytes())?;
     Ok(inputs)
 }
 
@@ -104,9 +107,9 @@ pub fn expect_over(
     Ok(())
 }
 
-/// The same over standard input alone.
+/// The same over standard input and the file `statements` alone.
 pub fn expect_run(rt: &impl Abort, alloc: Global, wanted: Wanted) -> Result<(), NoMemory> {
-    let inputs = source(alloc, wanted.input.as_bytes(), LARGE_PIECE)?;
+    let inputs = source(alloc, wanted, LARGE_PIECE)?;
     expect_over(rt, alloc, inputs, wanted)
 }
 

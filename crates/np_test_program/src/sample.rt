@@ -176,6 +176,7 @@ fn a_thousand_pods(rt: HostRuntime) -> Result<(), Fail> {
         assert_eq!(rt; lines, 171_600 + 6_000);
         let wanted = Wanted {
             input: list.as_str(),
+            statements: "",
             words: ranges.words,
             status: Status::Done,
             out: table.as_str(),

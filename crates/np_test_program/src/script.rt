@@ -5,6 +5,8 @@
 //! - `# ..` says what they show.
 //! - `< ..` is a line of standard input. It stays that of the blocks behind, until one of them has another. Where no block
 //!   has had one, no input is there, so that one that is begun is told.
+//! - `= ..` is a line of the file `statements`, which is empty at first and stays in the same way. `=- ..` is one without an
+//!   end, so that `=-` alone makes the file empty.
 //! - `0 list ..` is a run on these words that ends with this exit code.
 //! - `* list ..` is two runs that end with 0, in report 1 and in report 2, of which the second writes `0.0.0.0/0` and `::/0`
 //!   where the first writes all of a family.
@@ -19,6 +21,7 @@ use crate::runs::{Wanted, expect_run};
 use np_base::NoMemory;
 use np_cli::Status;
 use std::alloc::Global;
+use std::fmt::Write;
 use std::process::Abort;
 
 /// Stops the test where a run of the script gives anything else, or, where a place is given, where it does so when one call
@@ -30,15 +33,22 @@ pub fn expect_script(
     place: Option<Place>,
 ) -> Result<(), NoMemory> {
     let mut input = String::new(alloc);
+    let mut statements = String::new(alloc);
     for block in script.split("\n\n") {
-        let lines = lines_of(alloc, block, "<")?;
-        if !lines.is_empty() {
-            input.clear();
-            input.push_str(lines.as_str())?;
-        }
-        expect_block(rt, alloc, input.as_str(), block, place)?;
+        input = kept(alloc, input, block, "<")?;
+        statements = kept(alloc, statements, block, "=")?;
+        expect_block(rt, alloc, input.as_str(), statements.as_str(), block, place)?;
     }
     Ok(())
+}
+
+// The text of the lines of the block with this mark, or, where it has none, that of the blocks before it.
+fn kept(alloc: Global, text: String, block: &str, mark: &str) -> Result<String, NoMemory> {
+    if block.lines().any(|line| line.starts_with(mark)) {
+        lines_of(alloc, block, mark)
+    } else {
+        Ok(text)
+    }
 }
 
 // The same of the runs of a block.
@@ -46,6 +56,7 @@ fn expect_block(
     rt: &impl Abort,
     alloc: Global,
     input: &str,
+    statements: &str,
     block: &str,
     place: Option<Place>,
 ) -> Result<(), NoMemory> {
@@ -58,6 +69,7 @@ fn expect_block(
             is_run = true;
             let wanted = Wanted {
                 input,
+                statements,
                 words,
                 status,
                 out: out.as_str(),
@@ -82,6 +94,7 @@ fn status_of(mark: &str) -> Option<Status> {
         "1" => Some(Status::Refused),
         "2" => Some(Status::Usage),
         "3" => Some(Status::Device),
+        "5" => Some(Status::Violated),
         _ => None,
     }
 }
@@ -133,11 +146,10 @@ pub fn lines_of(alloc: Global, block: &str, mark: &str) -> Result<String, NoMemo
     for line in block.lines() {
         if let Some(marked) = line.strip_prefix(mark) {
             let (count, rest) = marked.split_once(" ").unwrap_or((marked, ""));
-            if count.is_empty() {
-                text.push_str(rest)?;
-                text.push('\n')?;
-            } else {
-                push_places(alloc, &mut text, count.parse::<u32>().unwrap_or(0), rest)?;
+            match count {
+                "" => writeln!(text, "{rest}")?,
+                "-" => text.push_str(rest)?,
+                _ => push_places(alloc, &mut text, count.parse::<u32>().unwrap_or(0), rest)?,
             }
         }
     }

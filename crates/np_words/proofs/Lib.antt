@@ -1,10 +1,15 @@
 pub mod AskedLemmas
+pub mod BehindLemmas
+pub mod CheckLemmas
 pub mod EvaluateLemmas
 pub mod ExplainLemmas
 pub mod ExposureLemmas
+pub mod FileCommandLemmas
 pub mod FileLemmas
 pub mod ListLemmas
+pub mod NumberLemmas
 pub mod OptionLemmas
 pub mod PacketLemmas
+pub mod SampleLemmas
 pub mod TableLemmas
 pub mod ValueLemmas

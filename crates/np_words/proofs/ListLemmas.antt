@@ -2,8 +2,11 @@
 use Rattle.std.proofs.Common.{◌≡◌, ◌∙◌, ap, List, Option, Some, codes, refl, true}
 use Rattle.clap.proofs.OnLiterals.{clap_on_literals}
 use Rattle.clap.specs.Faults.{is_simple_and_free}
-use Rattle.clap.specs.Walk.{Row, first_of}
+use Rattle.clap.specs.Simple.{Shape, built}
+use Rattle.clap.specs.Walk.{Row, Rule, first_of}
 use Rattle.np_addr.specs.Steps.{◌>>=◌}
+use Rattle.np_words.proofs.BehindLemmas.{IsWalked}
+use Rattle.np_words.proofs.FileLemmas.{TakesFiles}
 use Rattle.np_words.specs.Arguments.{asked_of, files_in, value_in}
 use Rattle.np_words.specs.ListWords.{list_command, list_job, list_of}
 use Rattle.np_words.specs.Values.{Text, format_of, report_of, side_of}
@@ -17,6 +20,19 @@ use Rattle.np_words.specs.declared.report.Report.{Report}
 pub is_exact : is_simple_and_free list_command ≡ true
 unfolding clap_on_literals
 is_exact = refl
+
+-- the command as clap builds it, and its arguments
+abbrev pub shape : Shape
+shape = (built list_command).top
+
+abbrev pub rules : List Rule
+rules = shape.rules
+
+pub takes : TakesFiles shape
+takes = record { by_place = refl; by_name = refl }
+
+pub list_walked : IsWalked list_command (codes "list")
+list_walked = record { fails = λ words. refl; finds = λ words. refl }
 
 pub list_asked : (words : List Text) → list_job words ≡ asked_of list_command list_of words
 unfolding list_job

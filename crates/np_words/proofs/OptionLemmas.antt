@@ -10,12 +10,13 @@ use Rattle.clap.proofs.OnLiterals.{clap_on_literals}
 use Rattle.clap.specs.Faults.{bundle_fault, bundle_step_fault, fault_of, flags_fault, turn_fault, walk_fault}
 use Rattle.clap.specs.Kinds.{Kinds, or_else}
 use Rattle.clap.specs.Lexer.{long_of, short_of}
-use Rattle.clap.specs.Simple.{matches_of}
+use Rattle.clap.specs.Simple.{built, matches_of}
 use Rattle.clap.specs.Walk.{Held, Walk, arg_by_long, nothing_held, walk, walked}
 use Rattle.clap.specs.declared.error.kind.ErrorKind.{ErrorKind}
 use Rattle.clap.specs.declared.error.kind.ErrorKind.TheVariants.{ArgumentConflict, UnknownArgument}
-use Rattle.np_words.proofs.FileLemmas.{after, end, faults_from, first_all_pass, front, rules, shape, start}
-use Rattle.np_words.proofs.TableLemmas.{nothing_met}
+use Rattle.np_words.proofs.BehindLemmas.{faults_from, nothing_met}
+use Rattle.np_words.proofs.FileLemmas.{after, end, first_all_pass, front, start}
+use Rattle.np_words.proofs.ListLemmas.{rules, shape, takes}
 use Rattle.np_words.specs.Arguments.{is_none}
 use Rattle.np_words.specs.CommandLines.{job_of}
 use Rattle.np_words.specs.Laws.{is_list_option, is_plain}
@@ -27,7 +28,7 @@ faulty : (words : List Text) (fault : ErrorKind) → walk_fault shape [] (start 
 unfolding list_job
 faulty words fault is =
     let all : fault_of list_command (codes "list" ∷ words) ≡ fault ∷ [] =
-    ap (λ (kinds : Kinds). faults_from kinds (walk rules [] nothing_held words)) is in
+    ap (λ (kinds : Kinds). faults_from (built list_command) kinds (walk rules [] nothing_held words)) is in
     ap (λ (kinds : Kinds). if is_none kinds then list_of (matches_of list_command (codes "list" ∷ words)) else None) all
 
 -- ---- options that `list` does not have
@@ -35,7 +36,7 @@ faulty words fault is =
 -- where a word is met: before the first file, or after some
 abbrev at : Option (List Text × Text) → Walk
 at None = start false nothing_held
-at (Some files) = after [] refl false files.0 files.1
+at (Some files) = after [] false files.0 files.1
 
 -- the walk comes to such a word, and is refused
 refused : (names : List Text) (word : Text) (others : List Text) → list_all is_plain names ≡ true
@@ -46,7 +47,7 @@ refused [] word others plain unknown =
     ap (λ (kinds : Kinds). or_else kinds (walk_fault shape [] (walked shape.rules [] (start false nothing_held) word) others)) (unknown None)
 refused (name ∷ names) word others plain unknown =
     let met : List Text × Text = (front [] name names, end name names) in
-    first_all_pass [] refl (word ∷ others) nothing_held nothing_met false name names plain
+    first_all_pass shape takes [] refl (word ∷ others) nothing_held (nothing_met shape) false name names plain
     ∙ ap (λ (kinds : Kinds). or_else kinds (walk_fault shape [] (walked shape.rules [] (at (Some met)) word) others)) (unknown (Some met))
 
 unknown_job : (names : List Text) (word : Text) (others : List Text) → list_all is_plain names ≡ true

@@ -2,10 +2,13 @@
 use Rattle.std.specs.Prelude.{◌∷◌, [], List, None, Option, String, codes, if◌then◌else◌, map, string_bytes}
 use Rattle.std.specs.Str.{bytes_eq}
 use Rattle.std.specs.declared.alloc.Global.{Global}
+use Rattle.np_words.specs.CheckWords.{check_job}
 use Rattle.np_words.specs.EvaluateWords.{evaluate_job}
 use Rattle.np_words.specs.ExplainWords.{explain_job}
 use Rattle.np_words.specs.ExposureWords.{exposure_job}
+use Rattle.np_words.specs.FileWords.{flatten_job, unused_job}
 use Rattle.np_words.specs.ListWords.{list_job}
+use Rattle.np_words.specs.SampleWords.{sample_job}
 use Rattle.np_words.specs.Values.{Text}
 use Rattle.np_words.specs.declared.job.Job.{Job}
 
@@ -17,6 +20,10 @@ job_of (command ∷ rest) =
     else if bytes_eq command (codes "explain") then explain_job (command ∷ rest)
     else if bytes_eq command (codes "exposure") then exposure_job (command ∷ rest)
     else if bytes_eq command (codes "evaluate") then evaluate_job (command ∷ rest)
+    else if bytes_eq command (codes "unused") then unused_job (command ∷ rest)
+    else if bytes_eq command (codes "check") then check_job (command ∷ rest)
+    else if bytes_eq command (codes "flatten") then flatten_job (command ∷ rest)
+    else if bytes_eq command (codes "sample") then sample_job (command ∷ rest)
     else None
 
 -- what a command line asks for

@@ -1,9 +1,13 @@
 pub mod Arguments
+pub mod CheckWords
 pub mod CommandLines
 pub mod EvaluateWords
 pub mod ExplainWords
 pub mod ExposureWords
 pub mod Faults
+pub mod FileWords
+pub mod Jobs
 pub mod Laws
 pub mod ListWords
+pub mod SampleWords
 pub mod Values

@@ -45,10 +45,18 @@ abbrev pub end_of : Text → Option EndWord
 end_of word =
     if list_any (λ c. c == 47) word then Some (Named word) else option_map At (address_of word)
 
--- `--port`: a number from 1 to 65535 in decimal, without a sign or a leading zero (48 is `0`).
-abbrev pub port_of : Text → Option ℕ
-port_of word =
+-- a number from 1 to `most` in decimal, without a sign or a leading zero (48 is `0`)
+abbrev pub number_to : ℕ → Text → Option ℕ
+number_to most word =
     let number = digits_value 10 word in
     if list_all (λ c. is_digit c 10) word && not (slice_index word 0 == 48)
-    && nat_le 1 number && nat_le number 65535
+    && nat_le 1 number && nat_le number most
     then Some number else None
+
+-- `--port`
+abbrev pub port_of : Text → Option ℕ
+port_of word = number_to 65535 word
+
+-- N of `sample`
+abbrev pub count_of : Text → Option ℕ
+count_of word = number_to 1000 word

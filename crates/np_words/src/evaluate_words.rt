@@ -4,12 +4,13 @@ ghost use Rattle.clap.specs.Matches.{found_of};
 ghost use Rattle.clap.specs.Simple.{app_of};
 ghost use Rattle.clap.specs.Walk.{rows_of};
 ghost use Rattle.np_words.specs.EvaluateWords as spec;
+ghost use Rattle.np_words.specs.Jobs.{IsWell};
 
 use crate::arguments::{file, required_option};
 use crate::files::read_files;
 use crate::found::end_in;
 use crate::job::Job;
-use crate::port::read_port;
+use crate::number::read_port;
 use crate::words_fault::WordsFault;
 use clap::{ArgMatches, Command};
 use np_conns::Proto;
@@ -18,6 +19,7 @@ use std::alloc::{AllocError, Global};
 /// The job of words of which the first is `evaluate`. `Usage` comes exactly where they ask for none.
 pub(crate) fn read_evaluate(alloc: Global, words: &[String]) -> Result<Job, WordsFault>
     ensures job { IfOk result (λ job. spec.evaluate_job (map string_bytes words.now) ≡ Some job) }
+    ensures well { IfOk result IsWell }
     ensures usage { IsErrOf result WordsFault.Usage →
         spec.evaluate_job (map string_bytes words.now) ≡ None }
 {
@@ -42,6 +44,7 @@ fn evaluate_command<'a>(alloc: Global) -> Result<Command<'a>, AllocError>
 // named more than once.
 fn evaluate_of(alloc: Global, matches: &ArgMatches) -> Result<Job, WordsFault>
     ensures job { IfOk result (λ job. spec.evaluate_of (rows_of (found_of matches.now)) ≡ Some job) }
+    ensures well { IfOk result IsWell }
     ensures usage { IsErrOf result WordsFault.Usage →
         spec.evaluate_of (rows_of (found_of matches.now)) ≡ None }
 {

@@ -4,6 +4,7 @@ ghost use Rattle.clap.specs.Matches.{found_of};
 ghost use Rattle.clap.specs.Simple.{app_of};
 ghost use Rattle.clap.specs.Walk.{rows_of};
 ghost use Rattle.np_words.specs.ExplainWords as spec;
+ghost use Rattle.np_words.specs.Jobs.{IsWell};
 
 use crate::arguments::{file, required_option};
 use crate::files::read_files;
@@ -16,6 +17,7 @@ use std::alloc::{AllocError, Global};
 /// The job of words of which the first is `explain`. `Usage` comes exactly where they ask for none.
 pub(crate) fn read_explain(alloc: Global, words: &[String]) -> Result<Job, WordsFault>
     ensures job { IfOk result (λ job. spec.explain_job (map string_bytes words.now) ≡ Some job) }
+    ensures well { IfOk result IsWell }
     ensures usage { IsErrOf result WordsFault.Usage → spec.explain_job (map string_bytes words.now) ≡ None }
 {
     let matches = explain_command(alloc)?.try_get_matches_from(words)?;
@@ -37,6 +39,7 @@ fn explain_command<'a>(alloc: Global) -> Result<Command<'a>, AllocError>
 // named more than once.
 fn explain_of(alloc: Global, matches: &ArgMatches) -> Result<Job, WordsFault>
     ensures job { IfOk result (λ job. spec.explain_of (rows_of (found_of matches.now)) ≡ Some job) }
+    ensures well { IfOk result IsWell }
     ensures usage { IsErrOf result WordsFault.Usage → spec.explain_of (rows_of (found_of matches.now)) ≡ None }
 {
     let files = read_files(alloc, matches)?;

@@ -4,6 +4,7 @@ ghost use Rattle.clap.specs.Matches.{found_of};
 ghost use Rattle.clap.specs.Simple.{app_of};
 ghost use Rattle.clap.specs.Walk.{rows_of};
 ghost use Rattle.np_words.specs.ExposureWords as spec;
+ghost use Rattle.np_words.specs.Jobs.{IsWell};
 
 use crate::arguments::{file, option_of, option_or};
 use crate::files::read_files;
@@ -17,6 +18,7 @@ use std::alloc::{AllocError, Global};
 /// The job of words of which the first is `exposure`. `Usage` comes exactly where they ask for none.
 pub(crate) fn read_exposure(alloc: Global, words: &[String]) -> Result<Job, WordsFault>
     ensures job { IfOk result (λ job. spec.exposure_job (map string_bytes words.now) ≡ Some job) }
+    ensures well { IfOk result IsWell }
     ensures usage { IsErrOf result WordsFault.Usage → spec.exposure_job (map string_bytes words.now) ≡ None }
 {
     let matches = exposure_command(alloc)?.try_get_matches_from(words)?;
@@ -38,6 +40,7 @@ fn exposure_command<'a>(alloc: Global) -> Result<Command<'a>, AllocError>
 // named more than once.
 fn exposure_of(alloc: Global, matches: &ArgMatches) -> Result<Job, WordsFault>
     ensures job { IfOk result (λ job. spec.exposure_of (rows_of (found_of matches.now)) ≡ Some job) }
+    ensures well { IfOk result IsWell }
     ensures usage { IsErrOf result WordsFault.Usage → spec.exposure_of (rows_of (found_of matches.now)) ≡ None }
 {
     let format = matches

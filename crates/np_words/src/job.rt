@@ -41,4 +41,22 @@ pub enum Job {
         port: PortNum,
         files: Seq<Text>,
     },
+    /// The rules that decide nothing between the pods and addresses of the inputs.
+    Unused {
+        files: Seq<Text>,
+    },
+    /// Whether the policies meet what the lines of the statement file say. Standard input is at most one of that file and the
+    /// files.
+    Check {
+        statement: Text,
+        files: Seq<Text>,
+    },
+    /// NetworkPolicies alone that permit the same connections.
+    Flatten {
+        files: Seq<Text>,
+    },
+    /// How many rows the tables of a made cluster have. It has this many pods, from 1 to 1000, and no input is read.
+    Sample {
+        n: u32,
+    },
 }

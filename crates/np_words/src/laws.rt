@@ -11,15 +11,20 @@ ghost use Rattle.np_words.specs.Values.{Text, end_of, format_of, port_of, report
 ghost use Rattle.np_words.specs.declared.end_word.EndWord.{EndWord};
 ghost use Rattle.np_words.specs.declared.format.Format.{Format};
 ghost use Rattle.np_words.specs.declared.format.Format.TheVariants.{Plain};
-ghost use Rattle.np_words.specs.declared.job.Job.TheVariants.{Evaluate as EvaluateJob, Explain as ExplainJob, Exposure as ExposureJob};
+ghost use Rattle.np_words.specs.declared.job.Job.TheVariants.{Check as CheckJob, Evaluate as EvaluateJob, Explain as ExplainJob, Exposure as ExposureJob, Flatten as FlattenJob, Sample as SampleJob, Unused as UnusedJob};
 ghost use Rattle.np_words.specs.declared.report.Report.{Report};
 ghost use Rattle.np_words.specs.declared.report.Report.TheVariants.{Two};
 
 /// Words after `list` that are no options are the names of its files, in their order, and each option is at its default:
-/// a table as text, in report 2, of all rows. Where there is none, `list` reads standard input.
+/// a table as text, in report 2, of all rows. So are those after `unused` and after `flatten`. Where there is none, each
+/// reads standard input.
 pub fn words_without_options_are_files()
-    ensures { (names : List Text) → list_all is_plain names ≡ true → are_files names ≡ true →
+    ensures list { (names : List Text) → list_all is_plain names ≡ true → are_files names ≡ true →
         job_of (codes "list" ∷ names) ≡ Some (text_table Two None None (or_standard_input names)) }
+    ensures unused { (names : List Text) → list_all is_plain names ≡ true → are_files names ≡ true →
+        job_of (codes "unused" ∷ names) ≡ Some (UnusedJob (or_standard_input names)) }
+    ensures flatten { (names : List Text) → list_all is_plain names ≡ true → are_files names ≡ true →
+        job_of (codes "flatten" ∷ names) ≡ Some (FlattenJob (or_standard_input names)) }
 {}
 
 /// Words after `--` are names of files, whatever they begin with.
@@ -113,6 +118,36 @@ pub fn exposure_is_of_all_or_of_one()
         ≡ Some (ExposureJob (Some name) Plain (codes "-" ∷ [])) }
     ensures format { (value : Text) (format : Format) → format_of value ≡ Some format →
         job_of (codes "exposure" ∷ (codes "--format=" ++ value) ∷ []) ≡ Some (ExposureJob None format (codes "-" ∷ [])) }
+{}
+
+/// Before the files, any text behind `--statement=` is the statement file of `check`, and so is one in a word of its own that
+/// begins with no hyphen, or is the hyphen alone. Words ask for nothing that name standard input twice among that file and
+/// the files, also where it stands for files that are not named, and none that name no statement file.
+pub fn statement_is_read_after_its_option()
+    ensures apart { (statement : Text) (names : List Text) → is_plain statement ≡ true →
+        list_all is_plain names ≡ true → are_files (statement ∷ or_standard_input names) ≡ true →
+        job_of (codes "check" ∷ codes "--statement" ∷ statement ∷ names)
+        ≡ Some (CheckJob statement (or_standard_input names)) }
+    ensures joined { (statement : Text) (names : List Text) →
+        list_all is_plain names ≡ true → are_files (statement ∷ or_standard_input names) ≡ true →
+        job_of (codes "check" ∷ (codes "--statement=" ++ statement) ∷ names)
+        ≡ Some (CheckJob statement (or_standard_input names)) }
+    ensures twice { (statement : Text) (names : List Text) →
+        list_all is_plain names ≡ true → are_files (statement ∷ or_standard_input names) ≡ false →
+        job_of (codes "check" ∷ (codes "--statement=" ++ statement) ∷ names) ≡ None }
+    ensures standard_input { job_of (codes "check" ∷ codes "--statement" ∷ codes "-" ∷ []) ≡ None }
+    ensures missing { job_of (codes "check" ∷ []) ≡ None }
+{}
+
+/// `sample` takes one word, the decimal of a number from 1 to 1000. Any other word that is no option asks for nothing, and so
+/// do no word, and two words or more that begin with two that are no options.
+pub fn sample_takes_one_number()
+    ensures number { (n : ℕ) → 1 ≤ n → n ≤ 1000 → job_of (codes "sample" ∷ decimal n ∷ []) ≡ Some (SampleJob n) }
+    ensures other { (word : Text) → is_plain word ≡ true → ((n : ℕ) → 1 ≤ n → n ≤ 1000 → word ≢ decimal n) →
+        job_of (codes "sample" ∷ word ∷ []) ≡ None }
+    ensures none { job_of (codes "sample" ∷ []) ≡ None }
+    ensures two { (first second : Text) (others : List Text) → is_plain first ≡ true → is_plain second ≡ true →
+        job_of (codes "sample" ∷ first ∷ second ∷ others) ≡ None }
 {}
 
 /// The words that are ports are the decimals of the numbers from 1 to 65535.

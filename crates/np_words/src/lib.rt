@@ -2,10 +2,12 @@
 #![tactic(auto)]
 
 mod arguments;
+mod check_words;
 mod end_word;
 mod evaluate_words;
 mod explain_words;
 mod exposure_words;
+mod file_words;
 mod files;
 mod focus_side;
 mod format;
@@ -13,8 +15,9 @@ mod found;
 mod job;
 mod laws;
 mod list_words;
-mod port;
+mod number;
 mod report;
+mod sample_words;
 mod words;
 mod words_fault;
 
@@ -26,7 +29,8 @@ pub use laws::{
     controller_is_any_name, ends_are_read_of_their_options, exposure_is_of_all_or_of_one,
     focus_is_any_name, options_given_twice_ask_for_nothing, other_options_ask_for_nothing,
     packet_is_read_of_its_options, ports_are_decimals, report_is_read_after_its_option,
-    words_after_two_hyphens_are_files, words_without_options_are_files,
+    sample_takes_one_number, statement_is_read_after_its_option, words_after_two_hyphens_are_files,
+    words_without_options_are_files,
 };
 pub use report::Report;
 pub use words::read_words;

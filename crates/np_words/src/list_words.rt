@@ -3,6 +3,7 @@ ghost use Rattle.std.specs.Prelude.{◌≡◌, Some, None, IfOk, IsErrOf, map, s
 ghost use Rattle.clap.specs.Matches.{found_of};
 ghost use Rattle.clap.specs.Simple.{app_of};
 ghost use Rattle.clap.specs.Walk.{rows_of};
+ghost use Rattle.np_words.specs.Jobs.{IsWell};
 ghost use Rattle.np_words.specs.ListWords as spec;
 
 use crate::arguments::{file, option_of, option_or};
@@ -19,6 +20,7 @@ use std::alloc::{AllocError, Global};
 /// The job of words of which the first is `list`. `Usage` comes exactly where they ask for none.
 pub(crate) fn read_list(alloc: Global, words: &[String]) -> Result<Job, WordsFault>
     ensures job { IfOk result (λ job. spec.list_job (map string_bytes words.now) ≡ Some job) }
+    ensures well { IfOk result IsWell }
     ensures usage { IsErrOf result WordsFault.Usage → spec.list_job (map string_bytes words.now) ≡ None }
 {
     let matches = list_command(alloc)?.try_get_matches_from(words)?;
@@ -43,6 +45,7 @@ fn list_command<'a>(alloc: Global) -> Result<Command<'a>, AllocError>
 // named more than once.
 fn list_of(alloc: Global, matches: &ArgMatches) -> Result<Job, WordsFault>
     ensures job { IfOk result (λ job. spec.list_of (rows_of (found_of matches.now)) ≡ Some job) }
+    ensures well { IfOk result IsWell }
     ensures usage { IsErrOf result WordsFault.Usage → spec.list_of (rows_of (found_of matches.now)) ≡ None }
 {
     let format = matches

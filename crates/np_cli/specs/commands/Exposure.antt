@@ -1,5 +1,5 @@
 -- `exposure`: what pods that nobody has written yet could send to workloads, and be sent by them.
-use Rattle.std.specs.Prelude.{ℕ, ◌-◌, ◌^◌, List, [], ◌∷◌, codes, flat_map, map, min, nat_lt, Option, Some, None, Result, Ok, Err, ⊤, if◌then◌else◌}
+use Rattle.std.specs.Prelude.{ℕ, ◌-◌, ◌^◌, List, [], ◌∷◌, flat_map, map, min, nat_lt, Option, Some, None, Result, Ok, Err, ⊤, if◌then◌else◌}
 use Rattle.std.specs.List.{range_with_len}
 use Rattle.np_cli.specs.commands.Ends.{or_unknown}
 use Rattle.np_cli.specs.declared.commands.exposure.ShownSide.{ShownSide}

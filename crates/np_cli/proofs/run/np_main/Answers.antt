@@ -1,6 +1,10 @@
+use Rattle.np_cli.proofs.CheckLemmas.{says_what_holds}
+use Rattle.np_cli.proofs.FlattenLemmas.{says_flat_policies}
 use Rattle.np_cli.proofs.HeadlineLemmas.{says_exposures, says_what_decides, says_what_passes}
 use Rattle.np_cli.proofs.PromisesLemmas.{begins_in_order, completes, refuses_too_large, refuses_more, refuses_faults, blames_device, blames_words, usage_ended}
 use Rattle.np_cli.proofs.RunsLemmas.{Cause-said}
+use Rattle.np_cli.proofs.SampleLemmas.{says_counts}
+use Rattle.np_cli.proofs.UnusedLemmas.{says_what_is_unused}
 use Rattle.np_cli.proofs.run.np_main.Goals as goal
 
 pub returns : goal.returns
@@ -12,6 +16,10 @@ returns g c =
         says = says_what_passes _ _ c.say-said.result cause c.status_of.ensures;
         explains = says_what_decides _ _ c.say-said.result cause c.status_of.ensures;
         exposes = says_exposures _ _ c.say-said.result cause c.status_of.ensures;
+        unused = says_what_is_unused _ _ c.say-said.result cause c.status_of.ensures;
+        checks = says_what_holds _ _ c.say-said.result cause c.status_of.ensures;
+        flattens = says_flat_policies _ _ c.say-said.result cause c.status_of.ensures;
+        counts = says_counts _ _ c.say-said.result cause c.status_of.ensures;
         completes = completes _ _ _ c.say-said.result cause c.say-said.ensures.said c.status_of.ensures;
         refuses_too_large = refuses_too_large _ _ _ c.say-said.result cause c.say-said.ensures.said c.status_of.ensures;
         refuses_more = refuses_more _ _ _ c.say-said.result cause c.say-said.ensures.said c.status_of.ensures;

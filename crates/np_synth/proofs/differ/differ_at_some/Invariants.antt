@@ -1,4 +1,4 @@
-use Rattle.std.proofs.Common.{◌≡◌, false}
+use Rattle.std.proofs.Common.{◌≡◌, ◌≤◌, false}
 use Rattle.std.specs.List.{list_any}
 use Rattle.np_classes.specs.Classes.{places}
 use Rattle.np_synth.proofs.differ.differ_at_some.Given as goal
@@ -6,4 +6,7 @@ use Rattle.np_synth.specs.Faults.{differ_at}
 
 -- at none of the workloads so far do they differ
 abbrev pub invariant-loop-third : goal.invariant-loop-third
-invariant-loop-third g l = list_any (differ_at l.sides l.a l.b) (places l.third) ≡ false
+invariant-loop-third g l = record {
+  none : list_any (differ_at l.sides l.a l.b) (places l.third) ≡ false;
+  least : l.fn.steps ≤ l.steps;
+}

@@ -42,14 +42,16 @@ loop-workload-preserved g c =
     let is = c.first_of_kinds-workload-items.ensures ∙ ap (λ (f : Folding). f.first_of_kinds) c.workloads.ensures.value ∙ ap (λ (l : EstateLists). (folding_of l).first_of_kinds) c.folded.ensures in
     let within = item-in lists items i is c.loop-workload-test.true in
     let first = c.first_of_group-first.ensures ∙ first_by-is lists c.args.groups.now.numbers c.args.groups.now.firsts c.requires.numbers c.requires.firsts w within in
-    let least = least-more (number_of_workloads lists) (first_with lists) (differ lists) (take i items) w c.loop-workload.found within c.loop-workload.invariant in
-    subst (λ (found : Option (ℕ × ℕ)). IsLeastUnlike lists (take (i + 1) items) found) (sym (c.in_ok-found.ensures ∙ ap (λ (f : ℕ). with_number (differ lists) f w c.loop-workload.found) first))
-    (subst (λ (all : List ℕ). IsLeastUnlike lists all (with_number (differ lists) (first_with lists w) w c.loop-workload.found)) (sym (take_more items i 0 c.loop-workload-test.true)) least)
+    let least = least-more (number_of_workloads lists) (first_with lists) (differ lists) (take i items) w c.loop-workload.found within c.loop-workload.invariant.found in record {
+      found = subst (λ (found : Option (ℕ × ℕ)). IsLeastUnlike lists (take (i + 1) items) found) (sym (c.in_ok-found.ensures.found ∙ ap (λ (f : ℕ). with_number (differ lists) f w c.loop-workload.found) first))
+          (subst (λ (all : List ℕ). IsLeastUnlike lists all (with_number (differ lists) (first_with lists w) w c.loop-workload.found)) (sym (take_more items i 0 c.loop-workload-test.true)) least);
+      least = omega (arith, c.in_ok-found.ensures.least, c.loop-workload.invariant.least);
+    }
 
-pub returns : goal.returns
-returns g c =
+pub returns-clause-found : goal.returns-clause-found
+returns-clause-found g c =
     let lists = c.args.sides.now in
     let items = c.first_of_kinds-workload-items.result.now in
     let is = c.first_of_kinds-workload-items.ensures ∙ ap (λ (f : Folding). f.first_of_kinds) c.workloads.ensures.value ∙ ap (λ (l : EstateLists). (folding_of l).first_of_kinds) c.folded.ensures in
     unlike-first lists c.loop-workload.found (subst IsLawful c.folded.ensures c.workloads.ensures.lawful)
-    (subst (λ (all : List ℕ). IsLeastUnlike lists all c.loop-workload.found) (take_all c.loop-workload.workload-index items (omega arith) ∙ is) c.loop-workload.invariant)
+    (subst (λ (all : List ℕ). IsLeastUnlike lists all c.loop-workload.found) (take_all c.loop-workload.workload-index items (omega arith) ∙ is) c.loop-workload.invariant.found)

@@ -1,7 +1,10 @@
-use Rattle.std.proofs.Common.{take}
+use Rattle.std.proofs.Common.{◌≤◌, take}
 use Rattle.np_synth.proofs.unlike.first_unlike.Given as goal
 use Rattle.np_synth.specs.steps.Unlike.{IsLeastUnlike}
 
 -- what was found is the least among the workloads so far
 abbrev pub invariant-loop-workload : goal.invariant-loop-workload
-invariant-loop-workload g l = IsLeastUnlike l.sides (take l.workload-index l.workload-items) l.found
+invariant-loop-workload g l = record {
+  found : IsLeastUnlike l.sides (take l.workload-index l.workload-items) l.found;
+  least : l.fn.steps ≤ l.steps;
+}

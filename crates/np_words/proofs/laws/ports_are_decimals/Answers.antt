@@ -1,5 +1,6 @@
-use Rattle.np_words.proofs.PacketLemmas.{port_of-decimal}
+use Rattle.std.proofs.Common.{arith}
+use Rattle.np_words.proofs.NumberLemmas.{number_to-decimal}
 use Rattle.np_words.proofs.laws.ports_are_decimals.Goals as goal
 
 pub returns : goal.returns
-returns c = port_of-decimal
+returns c = number_to-decimal 65535 (omega arith)

@@ -1,7 +1,7 @@
-use Rattle.std.proofs.Common.{◌≡◌, ◌∙◌, arith, refl, rules, subst}
+use Rattle.std.proofs.Common.{arith, refl, rules, subst}
 use Rattle.std.proofs.lemmas.Result.{err_from_is_err_and}
 use Rattle.np_cli.proofs.ExposureLemmas.{left-next, left-none}
-use Rattle.np_cli.proofs.RowsLemmas.{HasLeft, HasLeft-all, HasLeft-fault, HasLeft-finish, HasLeft-finish_fault, HasLeft-last, HasLeft-next}
+use Rattle.np_cli.proofs.RowsLemmas.{HasLeft, HasLeft-fault, HasLeft-finish_fault, HasLeft-last, HasLeft-next}
 use Rattle.np_cli.proofs.commands.exposure.write_sides.Goals as goal
 
 pub returns-in_err-put-clause-written : goal.returns-in_err-put-clause-written

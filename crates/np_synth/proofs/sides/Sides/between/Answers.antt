@@ -26,8 +26,8 @@ set_between-requires g c =
     (side-at lists Egress c.self.inside.senders.items c.args.source c.index-sender.result.now c.self.invariant.0 source c.index-sender.ensures)
     (side-at lists Ingress c.self.inside.receivers.items c.args.destination c.index-receiver.result.now c.self.invariant.1 destination c.index-receiver.ensures)
 
-pub returns : goal.returns
-returns g c =
+pub returns-clause-set : goal.returns-clause-set
+returns-clause-set g c =
     let lists = c.self.inside.folded.now in
     let source : c.args.source < number_of_workloads lists = subst (λ (l : EstateLists). c.args.source < number_of_workloads l) (sym c.self.view_is) c.requires.source in
     let destination : c.args.destination < number_of_workloads lists = subst (λ (l : EstateLists). c.args.destination < number_of_workloads l) (sym c.self.view_is) c.requires.destination in
@@ -36,3 +36,6 @@ returns g c =
     (side-at lists Ingress c.self.inside.receivers.items c.args.destination c.index-receiver.result.now c.self.invariant.1 destination c.index-receiver.ensures)
     c.first_family.ensures c.requires.apart in
     IfOk-weaker c.set_between.result _ _ (λ made is. is ∙ set ∙ ap (λ (l : EstateLists). set_of l c.args.source c.args.destination) c.self.view_is) c.set_between.ensures.set
+
+pub returns-clause-least : goal.returns-clause-least
+returns-clause-least g c = c.set_between.ensures.least

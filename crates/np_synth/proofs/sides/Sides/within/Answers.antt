@@ -7,9 +7,9 @@ use Rattle.np_synth.proofs.sides.Sides.within.Goals as goal
 use Rattle.np_synth.specs.Faults.{set_in, set_of}
 use Rattle.np_table.specs.Table.{is_alone}
 
-pub returns : goal.returns
+pub returns-clause-set : goal.returns-clause-set
 unfolding set_in
-returns g c =
+returns-clause-set g c =
     let lists = c.self.inside.folded.now in
     IfOk-weaker c.pair_set.result _ _ (λ made is.
     is

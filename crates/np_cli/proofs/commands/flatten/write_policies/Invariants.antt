@@ -1,0 +1,13 @@
+use Rattle.std.proofs.Common.{◌≤◌}
+use Rattle.np_cli.proofs.FlattenLemmas.{to_come}
+use Rattle.np_cli.proofs.RowsLemmas.{HasLeft}
+use Rattle.np_cli.proofs.commands.flatten.write_policies.Given as goal
+use Rattle.np_cli.specs.commands.Flatten.{flatten_text}
+
+-- what is held and the policies that are still to come are what is left of the text
+abbrev pub invariant-loop-group : goal.invariant-loop-group
+invariant-loop-group g l = record {
+  left : HasLeft (g.O.Sink.taken l.fn.out) (g.O.Sink.taken l.out) (g.O.Sink.faults l.fn.out) (g.O.Sink.faults l.out)
+      (flatten_text l.fn.flat) l.gathered (to_come l.flat l.group);
+  least : l.fn.steps ≤ l.steps;
+}

@@ -1,0 +1,93 @@
+-- No number of a policy is a float.
+use Rattle.std.proofs.Common.{◌≡◌, ℕ, List, [], ◌∷◌, ◌++◌, ◌==◌, Bool, true, false, map, Option, Some, None, codes, if◌then◌else◌, is_some, option_map, refl}
+use Rattle.std.proofs.lemmas.Bool.{or_parts}
+use Rattle.serde_json.specs.Data.{Data, number, string, unsigned}
+use Rattle.serde_json.specs.View.{items_of}
+use Rattle.serde_json.specs.Written.{has_float, items_have_float, members_have_float}
+use Rattle.np_labels.specs.declared.requirement.Requirement.{Requirement}
+use Rattle.np_labels.specs.declared.selector.Selector.{Selector}
+use Rattle.np_policies.specs.declared.direction.Direction.{Direction}
+use Rattle.np_policies.specs.declared.direction.Direction.TheVariants.{Ingress, Egress}
+use Rattle.np_policies.specs.declared.network_policy.NetPeer.{NetPeer}
+use Rattle.np_policies.specs.declared.network_policy.NetPeer.TheVariants.{Pods, Block}
+use Rattle.np_policies.specs.declared.network_policy.NetPolicy.{NetPolicy}
+use Rattle.np_policies.specs.declared.network_policy.NetPort.{NetPort}
+use Rattle.np_policies.specs.declared.network_policy.NetPort.TheVariants.{Span, Named}
+use Rattle.np_policies.specs.declared.network_policy.NetRule.{NetRule}
+use Rattle.np_manifests.specs.Manifests as manifests
+use Rattle.np_manifests.specs.Members.{if_given, if_some, list_with, members_with}
+
+-- ---- lists and members
+
+abbrev HasNone : Data → Type 0
+HasNone value = has_float value ≡ false
+
+abbrev HaveNone : List (List ℕ × Data) → Type 0
+HaveNone entries = members_have_float (members_with entries) ≡ false
+
+none-map : {X : Type 0} (f : X → Data) → ((x : X) → HasNone (f x)) → (xs : List X) → items_have_float (items_of (map f xs)) ≡ false
+none-map f none [] = refl
+none-map f none (x ∷ xs) = rw (none x) (none-map f none xs)
+
+none-some : {X : Type 0} (name : List ℕ) (f : X → Data) → ((x : X) → HasNone (f x)) → (xs : List X) → HaveNone (if_some name (map f xs))
+none-some name f none [] = refl
+none-some name f none (x ∷ xs) = rw (none x, none-map f none xs) refl
+
+none-given : {X : Type 0} (name : List ℕ) (f : X → Data) → ((x : X) → HasNone (f x)) → (o : Option X) → HaveNone (if_given name (option_map f o))
+none-given name f none None = refl
+none-given name f none (Some x) = rw (none x) refl
+
+none-append : (entries others : List (List ℕ × Data)) → HaveNone entries → HaveNone others → HaveNone (entries ++ others)
+none-append [] others first second = second
+none-append (entry ∷ entries) others first second =
+    let parts = or_parts (has_float entry.1) (members_have_float (members_with entries)) first in
+    rw parts.0 (none-append entries others parts.1 second)
+
+-- ---- the parts of a policy
+
+expression-none : (one : Requirement) → HasNone (manifests.expression one)
+expression-none one = none-some (codes "values") string (λ s. refl) one.values
+
+selector-none : (one : Selector) → HasNone (manifests.selector one)
+selector-none one = none-some (codes "matchExpressions") manifests.expression expression-none one.requirements
+
+end-none : (lo hi : ℕ) → HaveNone (manifests.end_member lo hi)
+end-none lo hi = elim (lo == hi) as (λ b. HaveNone (if b then [] else (codes "endPort", number (unsigned hi)) ∷ [])) [ true ↦ refl | false ↦ refl ]
+
+port-none : (one : NetPort) → HasNone (manifests.port one)
+port-none (Span proto lo hi) = none-append (manifests.end_member lo hi) _ (end-none lo hi) refl
+port-none (Named proto name) = refl
+
+peer-none : (one : NetPeer) → HasNone (manifests.peer one)
+peer-none (Pods namespaces pods) =
+    none-append (if_given (codes "namespaceSelector") (option_map manifests.selector namespaces)) (if_given (codes "podSelector") (option_map manifests.selector pods))
+    (none-given (codes "namespaceSelector") manifests.selector selector-none namespaces) (none-given (codes "podSelector") manifests.selector selector-none pods)
+peer-none (Block cidr excepts) = rw (none-some (codes "except") manifests.block (λ c. refl) excepts) refl
+
+rule-none : (direction : Direction) (one : NetRule) → HasNone (manifests.rule direction one)
+rule-none Ingress one =
+    none-append (if_some (codes "from") (map manifests.peer one.peers)) (if_some (codes "ports") (map manifests.port one.ports))
+    (none-some (codes "from") manifests.peer peer-none one.peers) (none-some (codes "ports") manifests.port port-none one.ports)
+rule-none Egress one =
+    none-append (if_some (codes "ports") (map manifests.port one.ports)) (if_some (codes "to") (map manifests.peer one.peers))
+    (none-some (codes "ports") manifests.port port-none one.ports) (none-some (codes "to") manifests.peer peer-none one.peers)
+
+rules-none : (direction : Direction) (all : List NetRule) → HasNone (manifests.rules direction all)
+rules-none direction all = none-map (manifests.rule direction) (rule-none direction) all
+
+types-none : (ingress egress : Bool) → HasNone (list_with (manifests.type_if ingress (codes "Ingress") ++ manifests.type_if egress (codes "Egress")))
+types-none true true = refl
+types-none true false = refl
+types-none false true = refl
+types-none false false = refl
+
+spec-none : (one : NetPolicy) → HasNone (manifests.spec one)
+spec-none one =
+    let egress = if_given (codes "egress") (option_map (manifests.rules Egress) one.egress) in
+    let ingress = if_given (codes "ingress") (option_map (manifests.rules Ingress) one.ingress) in
+    none-append (egress ++ ingress) ((codes "podSelector", manifests.selector one.subject) ∷ (codes "policyTypes", manifests.types one) ∷ [])
+    (none-append egress ingress (none-given (codes "egress") (manifests.rules Egress) (rules-none Egress) one.egress) (none-given (codes "ingress") (manifests.rules Ingress) (rules-none Ingress) one.ingress))
+    (rw (selector-none one.subject, types-none (is_some one.ingress) (is_some one.egress)) refl)
+
+pub has_float-policy : (one : NetPolicy) → has_float (manifests.policy one) ≡ false
+has_float-policy one = rw (spec-none one) refl

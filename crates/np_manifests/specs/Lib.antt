@@ -1,0 +1,5 @@
+pub mod Estates
+pub mod Lists
+pub mod Manifests
+pub mod Members
+pub mod Printable

@@ -1,0 +1,24 @@
+-- The texts of policies, and of a `v1` List of them.
+use Rattle.std.specs.Prelude.{ℕ, List, [], ◌∷◌, ◌++◌, codes, map}
+use Rattle.serde_json.specs.Data.{Data, string}
+use Rattle.serde_json.specs.Written.{compact_text}
+use Rattle.np_policies.specs.declared.network_policy.NetPolicy.{NetPolicy}
+use Rattle.np_manifests.specs.Manifests.{policy}
+use Rattle.np_manifests.specs.Members.{list_with, object_with}
+
+-- the text of `serde_json`, without spaces
+unfoldable pub policy_text : NetPolicy → List ℕ
+policy_text one = compact_text (policy one)
+
+-- the List of these policies
+abbrev pub list_data : List NetPolicy → Data
+list_data policies = object_with (
+    (codes "apiVersion", string (codes "v1")) ∷ (codes "items", list_with (map policy policies)) ∷ (codes "kind", string (codes "List")) ∷ [])
+
+-- its text
+unfoldable pub list_text : List NetPolicy → List ℕ
+list_text policies = compact_text (list_data policies)
+
+-- its text, and a line feed
+abbrev pub list_line : List NetPolicy → List ℕ
+list_line policies = list_text policies ++ codes "\n"

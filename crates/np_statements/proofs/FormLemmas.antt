@@ -1,0 +1,231 @@
+-- The pods and the addresses that a form names are those of its ends.
+use Rattle.std.proofs.Common.{◌≡◌, ◌≢◌, ℕ, zero, suc, ◌+◌, ◌^◌, ◌<◌, ◌≤◌, ◌==◌, ◌||◌, ◌↔◌, List, [], ◌∷◌, Bool, true, false, Option, Some, None, Ok, Err, length, map, get_or, slice_get, refl, sym, ap, subst, ◌∙◌, inl, inr, arith}
+use Rattle.std.specs.Prelude.{IsSomeAnd, filter}
+use Rattle.std.specs.Cmp.Lexicographic.{slice_cmp}
+use Rattle.std.specs.List.{range_with_len}
+use Rattle.std.specs.List.Sorted.{IsStrictlySortedBy}
+use Rattle.std.specs.Option.{option_map_or}
+use Rattle.std.specs.Ordering.{is_eq, nat_cmp}
+use Rattle.std.specs.Str.{bytes_eq}
+use Rattle.std.proofs.lemmas.Bool.{cases_Bool, cases_eq, cases_order, eq-eqb, eqb-true, ne_eqb, or_left, true≢false}
+use Rattle.std.proofs.lemmas.List.{get_or-map, length-map}
+use Rattle.std.proofs.lemmas.List.Folds.{list_any_at}
+use Rattle.std.proofs.lemmas.List.Quantifiers.{position-Some}
+use Rattle.std.proofs.lemmas.Map.Keys.{Less-from_sorted}
+use Rattle.std.proofs.lemmas.Map.Text.{is_eq-slice_cmp}
+use Rattle.std.proofs.lemmas.Option.{slice_get-get_or}
+use Rattle.std.proofs.lemmas.Slice.Eq.{bytes_eq-Decides}
+use Rattle.np_addr.specs.Addresses.{IsAddress, cidr_has}
+use Rattle.np_addr.specs.Blocks.{set_has}
+use Rattle.np_addr.specs.declared.address.Address.{Address}
+use Rattle.np_addr.specs.declared.address.Address.TheVariants as address
+use Rattle.np_check.proofs.NoneLemmas.{or_second}
+use Rattle.np_check.specs.Numbers.{is_among}
+use Rattle.np_check.specs.declared.question.Ends.{Ends}
+use Rattle.np_check.specs.declared.statement_text.EndForm.{EndForm}
+use Rattle.np_check.specs.declared.statement_text.EndForm.TheVariants.{Pods, Addresses, Namespace, Work, Block}
+use Rattle.np_classes.proofs.Lists.{no_position}
+use Rattle.np_classes.proofs.Relations.{firsts-le-count}
+use Rattle.np_estate.specs.Lawful.{IsLawful}
+use Rattle.np_estate.specs.declared.lists.EstateLists.{EstateLists}
+use Rattle.np_estate.specs.declared.pod.Pod.{Pod}
+use Rattle.np_fold.proofs.AlikeLemmas.{slice_get-some}
+use Rattle.np_fold.proofs.WorkloadLemmas.{number-in_workloads, one_workload, workloads-by_name}
+use Rattle.np_fold.specs.Workloads.{Workload, folding_of, name_of, number_named, number_of, pods_alike, workload_count, workloads_of}
+use Rattle.np_statements.proofs.AddressSetLemmas.{has-addresses_in, has-every_address}
+use Rattle.np_statements.proofs.EndLemmas.{named-within}
+use Rattle.np_statements.proofs.StepLemmas.{same_ok}
+use Rattle.np_statements.specs.Ends.{addresses_alone, addresses_in, all_works, ends_of, every_address, is_in_namespace, named_alone, no_address, works_alone}
+use Rattle.np_statements.specs.NamedEnds.{NamesAddress, NamesPod}
+use Rattle.np_table.proofs.MemberLemmas.{member-number, members-some, members-within, source-member}
+use Rattle.np_table.specs.Table.{IsWorkload, number_of_workloads, source_pod}
+
+-- ---- numbers
+
+-- no number below the first is among those that pass
+none_below : (test : ℕ → Bool) (low count n : ℕ) → n < low → is_among (filter test (range_with_len low count)) n ≡ false
+none_below test low zero n below = refl
+none_below test low (suc count) n below =
+    let rest = none_below test (low + 1) count n (omega arith) in
+    elim (cases_Bool (test low)) [
+      | inl passes ↦ rw passes (rw (ne_eqb low n (λ same. omega arith)) rest)
+      | inr fails ↦ rw fails rest
+    ]
+
+-- a number is among those that pass exactly where it passes
+among-filter : (test : ℕ → Bool) (low count n : ℕ) → low ≤ n → n < low + count → is_among (filter test (range_with_len low count)) n ≡ test n
+among-filter test low zero n above below = absurd (omega arith)
+among-filter test low (suc count) n above below =
+    elim (cases_eq low n) [
+      | inl here ↦ elim (cases_Bool (test low)) [
+        | inl passes ↦ rw passes (or_left (low == n) _ (eq-eqb low n here) ∙ sym (sym (ap test here) ∙ passes))
+        | inr fails ↦ rw fails (none_below test (low + 1) count n (omega arith) ∙ sym (sym (ap test here) ∙ fails))
+      ]
+      | inr apart ↦ elim (cases_Bool (test low)) [
+        | inl passes ↦ rw passes (rw (ne_eqb low n apart) (among-filter test (low + 1) count n (omega arith) (omega arith)))
+        | inr fails ↦ rw fails (among-filter test (low + 1) count n (omega arith) (omega arith))
+      ]
+    ]
+
+among-range : (low count n : ℕ) → low ≤ n → n < low + count → is_among (range_with_len low count) n ≡ true
+among-range low zero n above below = absurd (omega arith)
+among-range low (suc count) n above below =
+    elim (cases_eq low n) [
+      | inl here ↦ or_left (low == n) _ (eq-eqb low n here)
+      | inr apart ↦ or_second (low == n) _ (among-range (low + 1) count n (omega arith) (omega arith))
+    ]
+
+-- ---- workloads
+
+workloads-are : (lists : EstateLists) → (folding_of lists).workloads ≡ workloads_of lists
+unfolding folding_of
+workloads-are lists = refl
+
+number-within : (lists : EstateLists) (place : ℕ) → place < length lists.pods → IsWorkload lists (number_of lists place)
+number-within lists place within = omega (arith, number-in_workloads lists place within, ap length (workloads-are lists))
+
+-- a workload is of the namespace of each of its pods
+namespace-told : (lists : EstateLists) (name : List ℕ) (place : ℕ) (pod : Pod) → place < length lists.pods → slice_get lists.pods place ≡ Some pod → is_in_namespace lists name (number_of lists place) ≡ bytes_eq pod.namespace name
+namespace-told lists name place pod within at =
+    let number = number_of lists place in
+    let is = number-within lists place within in
+    let member = source-member (folding_of lists) number (members-some lists (folding_of lists) number refl is) in
+    let first_within = members-within lists (folding_of lists) number (source_pod (folding_of lists) number) refl is member in
+    let (first, there) = slice_get-some lists.pods (source_pod (folding_of lists) number) first_within in
+    let alike = (one_workload lists (source_pod (folding_of lists) number) place first pod there at).0 (member-number lists number (source_pod (folding_of lists) number) first_within member) in
+    ap (λ (found : Option Pod). option_map_or (λ (one : Pod). bytes_eq one.namespace name) found false) there
+    ∙ ap (λ (namespace : List ℕ). bytes_eq namespace name) alike.kind.namespace
+
+-- ---- names
+
+name-at : (lists : EstateLists) (work : ℕ) (d : Workload) → IsWorkload lists work → name_of (folding_of lists) work ≡ (get_or (folding_of lists).workloads work d).name
+name-at lists work d is = ap (λ (found : Option Workload). option_map_or (λ (one : Workload). one.name) found []) (slice_get-get_or (folding_of lists).workloads work d is)
+
+few-workloads : (lists : EstateLists) → IsLawful lists → workload_count lists < 10 ^ 64
+few-workloads lists lawful = omega (arith, firsts-le-count (pods_alike lists) (length lists.pods), lawful.few.pods)
+
+names-ascend : (lists : EstateLists) → IsLawful lists → IsStrictlySortedBy (slice_cmp nat_cmp) (map (λ (one : Workload). one.name) (folding_of lists).workloads)
+names-ascend lists lawful =
+    subst (λ (workloads : List Workload). IsStrictlySortedBy (slice_cmp nat_cmp) (map (λ (one : Workload). one.name) workloads)) (sym (workloads-are lists)) (workloads-by_name lists (few-workloads lists lawful))
+
+no_workload : Workload
+no_workload = record { name = []; members = [] }
+
+-- an earlier workload has another name
+names-differ : (lists : EstateLists) (a b : ℕ) → IsLawful lists → a < b → IsWorkload lists b → name_of (folding_of lists) a ≢ name_of (folding_of lists) b
+names-differ lists a b lawful before within same =
+    let ws = (folding_of lists).workloads in
+    let in_a : IsWorkload lists a = omega arith in
+    let names = map (λ (one : Workload). one.name) ws in
+    let less = Less-from_sorted (slice_cmp nat_cmp) names a b [] (names-ascend lists lawful) before (omega (arith, length-map ws (λ (one : Workload). one.name))) in
+    let name_a : get_or names a [] ≡ name_of (folding_of lists) a = get_or-map (λ (one : Workload). one.name) ws a no_workload [] in_a ∙ sym (name-at lists a no_workload in_a) in
+    let name_b : get_or names b [] ≡ name_of (folding_of lists) b = get_or-map (λ (one : Workload). one.name) ws b no_workload [] within ∙ sym (name-at lists b no_workload within) in
+    let equal = (bytes_eq-Decides (get_or names a []) (get_or names b [])).1 (name_a ∙ same ∙ sym name_b) in
+    true≢false (sym equal ∙ sym (is_eq-slice_cmp (get_or names a []) (get_or names b [])) ∙ ap is_eq less)
+
+-- the workload of a name has the name
+named-has : (lists : EstateLists) (name : List ℕ) (work : ℕ) → number_named (folding_of lists) name ≡ Some work → name_of (folding_of lists) work ≡ name
+named-has lists name work is =
+    let found = position-Some (λ (one : Workload). bytes_eq one.name name) (folding_of lists).workloads work no_workload is in
+    name-at lists work no_workload found.0 ∙ (bytes_eq-Decides (get_or (folding_of lists).workloads work no_workload).name name).0 found.1
+
+-- and no other has it
+one-named : (lists : EstateLists) (name : List ℕ) (work other : ℕ) → IsLawful lists → number_named (folding_of lists) name ≡ Some work → IsWorkload lists other → name_of (folding_of lists) other ≡ name → work ≡ other
+one-named lists name work other lawful is within has =
+    let own = named-has lists name work is in
+    elim (cases_order work other) [
+      | inl same ↦ same
+      | inr apart ↦ elim apart [
+        | inl before ↦ absurd (names-differ lists work other lawful before within (own ∙ sym has))
+        | inr behind ↦ absurd (names-differ lists other work lawful behind (named-within lists name work is) (has ∙ sym own))
+      ]
+    ]
+
+-- ---- pods
+
+only-among : (work n : ℕ) → is_among (work ∷ []) n ≡ (work == n)
+only-among work n = of (work == n)
+  where
+    of : (same : Bool) → (same || false) ≡ same
+    of true = refl
+    of false = refl
+
+works-of : (ends other : Ends) (n : ℕ) → other ≡ ends → is_among ends.works n ≡ is_among other.works n
+works-of ends other n same = ap (λ (one : Ends). is_among one.works n) (sym same)
+
+iff-by : (a b : Bool) (P : Type 0) → a ≡ b → ((b ≡ true) ↔ P) → (a ≡ true) ↔ P
+iff-by a b P same (to, from) = (λ yes. to (sym same ∙ yes), λ p. same ∙ from p)
+
+pub names-pods : (lists : EstateLists) (form : EndForm) (ends : Ends) (place : ℕ) → IsLawful lists → ends_of lists form ≡ Ok ends → place < length lists.pods → (is_among ends.works (number_of lists place) ≡ true) ↔ NamesPod lists form place
+unfolding ends_of
+names-pods lists Pods ends place lawful is within =
+    iff-by _ true (Unit {0}) (works-of ends (works_alone (all_works lists)) (number_of lists place) (same_ok (works_alone (all_works lists)) ends is) ∙ among-range 0 (number_of_workloads lists) (number_of lists place) (omega arith) (omega (arith, number-within lists place within)))
+    (λ yes. tt, λ named. refl)
+names-pods lists Addresses ends place lawful is within =
+    iff-by _ false ⊥ (works-of ends (addresses_alone every_address) (number_of lists place) (same_ok (addresses_alone every_address) ends is)) (λ yes. true≢false (sym yes), λ named. absurd named)
+names-pods lists (Namespace name) ends place lawful is within =
+    let (pod, at) = slice_get-some lists.pods place within in
+    let told = namespace-told lists name place pod within at in
+    iff-by _ (bytes_eq pod.namespace name) (IsSomeAnd (slice_get lists.pods place) (λ one. one.namespace ≡ name))
+    (works-of ends (works_alone (filter (is_in_namespace lists name) (all_works lists))) (number_of lists place) (same_ok (works_alone (filter (is_in_namespace lists name) (all_works lists))) ends is)
+    ∙ among-filter (is_in_namespace lists name) 0 (number_of_workloads lists) (number_of lists place) (omega arith) (omega (arith, number-within lists place within)) ∙ told)
+    (rw at ((bytes_eq-Decides pod.namespace name).0, (bytes_eq-Decides pod.namespace name).1))
+names-pods lists (Work name) ends place lawful is within = of (number_named (folding_of lists) name) refl is
+  where
+    of : (found : Option ℕ) → number_named (folding_of lists) name ≡ found → named_alone name found ≡ Ok ends → (is_among ends.works (number_of lists place) ≡ true) ↔ (name_of (folding_of lists) (number_of lists place) ≡ name)
+    of None none is = cc
+    of (Some work) found is =
+        iff-by _ (work == number_of lists place) (name_of (folding_of lists) (number_of lists place) ≡ name)
+        (works-of ends (works_alone (work ∷ [])) (number_of lists place) (same_ok (works_alone (work ∷ [])) ends is) ∙ only-among work (number_of lists place)) (
+          λ same. ap (name_of (folding_of lists)) (sym (eqb-true work (number_of lists place) same)) ∙ named-has lists name work found,
+          λ has. eq-eqb work (number_of lists place) (one-named lists name work (number_of lists place) lawful found (number-within lists place within) has),
+        )
+names-pods lists (Block cidr) ends place lawful is within =
+    iff-by _ false ⊥ (works-of ends (addresses_alone (addresses_in cidr)) (number_of lists place) (same_ok (addresses_alone (addresses_in cidr)) ends is)) (λ yes. true≢false (sym yes), λ named. absurd named)
+
+-- ---- addresses
+
+block-of : (ends other : Ends) (a : Address) → other ≡ ends → set_has ends.block a ≡ set_has other.block a
+block-of ends other a same = ap (λ (one : Ends). set_has one.block a) (sym same)
+
+none-has : (a : Address) → set_has no_address a ≡ false
+none-has (address.Four n) = refl
+none-has (address.Six n) = refl
+
+none-named : (ends : Ends) (works : List ℕ) (a : Address) → works_alone works ≡ ends → (set_has ends.block a ≡ true) ↔ ⊥
+none-named ends works a same =
+    iff-by _ false ⊥ (block-of ends (works_alone works) a same ∙ none-has a) (λ yes. true≢false (sym yes), λ named. absurd named)
+
+pub names-addresses : (lists : EstateLists) (form : EndForm) (ends : Ends) (a : Address) → ends_of lists form ≡ Ok ends → IsAddress a → (set_has ends.block a ≡ true) ↔ NamesAddress form a
+unfolding ends_of
+names-addresses lists Pods ends a is fits = none-named ends (all_works lists) a (same_ok (works_alone (all_works lists)) ends is)
+names-addresses lists Addresses ends a is fits =
+    iff-by _ true (Unit {0}) (block-of ends (addresses_alone every_address) a (same_ok (addresses_alone every_address) ends is) ∙ has-every_address a fits) (λ yes. tt, λ named. refl)
+names-addresses lists (Namespace name) ends a is fits = none-named ends (filter (is_in_namespace lists name) (all_works lists)) a (same_ok (works_alone (filter (is_in_namespace lists name) (all_works lists))) ends is)
+names-addresses lists (Work name) ends a is fits = of (number_named (folding_of lists) name) is
+  where
+    of : (found : Option ℕ) → named_alone name found ≡ Ok ends → (set_has ends.block a ≡ true) ↔ ⊥
+    of None is = cc
+    of (Some work) is = none-named ends (work ∷ []) a (same_ok (works_alone (work ∷ [])) ends is)
+names-addresses lists (Block cidr) ends a is fits =
+    iff-by _ (cidr_has cidr a) (cidr_has cidr a ≡ true) (block-of ends (addresses_alone (addresses_in cidr)) a (same_ok (addresses_alone (addresses_in cidr)) ends is) ∙ has-addresses_in cidr a) (λ yes. yes, λ named. named)
+
+-- ---- names that are not known
+
+pub unknown-named : (lists : EstateLists) (name : List ℕ) → ends_of lists (Work name) ≡ Err name → (work : ℕ) → IsWorkload lists work → name_of (folding_of lists) work ≢ name
+unfolding ends_of
+unknown-named lists name is work within has = of (number_named (folding_of lists) name) refl is
+  where
+    of : (found : Option ℕ) → number_named (folding_of lists) name ≡ found → named_alone name found ≡ Err name → ⊥
+    of None none is =
+        let is_named = (bytes_eq-Decides (get_or (folding_of lists).workloads work no_workload).name name).1 (sym (name-at lists work no_workload within) ∙ has) in
+        true≢false (sym (list_any_at (λ (one : Workload). bytes_eq one.name name) (folding_of lists).workloads work no_workload within is_named) ∙ no_position (λ (one : Workload). bytes_eq one.name name) (folding_of lists).workloads none)
+    of (Some other) found is = cc
+
+pub named-unknown : (lists : EstateLists) (name : List ℕ) → ((work : ℕ) → IsWorkload lists work → name_of (folding_of lists) work ≢ name) → ends_of lists (Work name) ≡ Err name
+unfolding ends_of
+named-unknown lists name never = of (number_named (folding_of lists) name) refl
+  where
+    of : (found : Option ℕ) → number_named (folding_of lists) name ≡ found → named_alone name found ≡ Err name
+    of None none = refl
+    of (Some work) found = absurd (never work (named-within lists name work found) (named-has lists name work found))

@@ -1,0 +1,10 @@
+pub mod AddressSetLemmas
+pub mod BrokenLemmas
+pub mod ConnsLemmas
+pub mod CutLemmas
+pub mod EndLemmas
+pub mod FormLemmas
+pub mod FoundLemmas
+pub mod GrammarLemmas
+pub mod LineLemmas
+pub mod StepLemmas

@@ -1,0 +1,36 @@
+-- The first line whose statement does not hold.
+use Rattle.std.specs.Prelude.{ℕ, List, Bool, Option, option_map}
+use Rattle.np_check.specs.Counters.{allows_between, counter_of}
+use Rattle.np_check.specs.Firsts.{first_of}
+use Rattle.np_check.specs.declared.counter.Counter.{Counter}
+use Rattle.np_check.specs.declared.counter.PlaceEnd.{PlaceEnd}
+use Rattle.np_check.specs.declared.counter.PlaceEnd.TheVariants.{At, Work}
+use Rattle.np_estate.specs.declared.lists.EstateLists.{EstateLists}
+use Rattle.np_statements.specs.declared.asked_line.AskedLine.{AskedLine}
+use Rattle.np_statements.specs.declared.broken.Broken.{Broken}
+use Rattle.np_table.specs.Table.{IsWorkload}
+
+-- whether a packet is allowed
+abbrev pub is_allowed : EstateLists → Counter → Bool
+is_allowed lists packet = allows_between lists packet.source packet.destination packet.family packet.spot
+
+-- a packet that breaks the line of a number, with its verdict
+abbrev pub broken_by : EstateLists → ℕ → Counter → Broken
+broken_by lists line packet = record { line = line; packet = packet; allowed = is_allowed lists packet }
+
+-- how a line is broken, if it is: by the first packet that does not comply
+unfoldable pub broken_of : EstateLists → AskedLine → Option Broken
+broken_of lists asked = option_map (broken_by lists asked.line) (counter_of lists asked.question)
+
+-- how the first broken line is
+unfoldable pub first_broken : EstateLists → List AskedLine → Option Broken
+first_broken lists asked = first_of (broken_of lists) asked
+
+-- an end of a packet is a workload, or an address
+abbrev pub IsPlace : EstateLists → PlaceEnd → Type 0
+IsPlace lists (Work work) = IsWorkload lists work
+IsPlace lists (At address) = Unit {0}
+
+-- so are both ends of the packet that breaks a line
+abbrev pub HasPlaces : EstateLists → Broken → Type 0
+HasPlaces lists broken = IsPlace lists broken.packet.source × IsPlace lists broken.packet.destination

@@ -1,0 +1,60 @@
+-- The ends that the forms of a statement name.
+use Rattle.std.specs.Prelude.{ℕ, ◌+◌, ◌-◌, ◌^◌, List, [], ◌∷◌, Bool, false, filter, Option, Some, None, Result, Ok, Err, slice_get}
+use Rattle.std.specs.List.{range_with_len}
+use Rattle.std.specs.Option.{option_map_or}
+use Rattle.std.specs.Str.{bytes_eq}
+use Rattle.np_addr.specs.Blocks.{AddressRanges}
+use Rattle.np_addr.specs.declared.cidr.Cidr.{Cidr}
+use Rattle.np_addr.specs.declared.cidr.Cidr.TheVariants.{Four, Six}
+use Rattle.np_check.specs.declared.question.Ends.{Ends}
+use Rattle.np_check.specs.declared.statement_text.EndForm.{EndForm}
+use Rattle.np_check.specs.declared.statement_text.EndForm.TheVariants.{Pods, Addresses, Namespace, Work, Block}
+use Rattle.np_estate.specs.declared.lists.EstateLists.{EstateLists}
+use Rattle.np_fold.specs.Workloads.{folding_of, number_named}
+use Rattle.np_table.specs.Table.{number_of_workloads, source_pod}
+
+-- ---- workloads
+
+-- the numbers of all workloads
+abbrev pub all_works : EstateLists → List ℕ
+all_works lists = range_with_len 0 (number_of_workloads lists)
+
+-- whether a workload is of the namespace of a name: its pods are, which the first of them tells
+abbrev pub is_in_namespace : EstateLists → List ℕ → ℕ → Bool
+is_in_namespace lists name work =
+    option_map_or (λ pod. bytes_eq pod.namespace name) (slice_get lists.pods (source_pod (folding_of lists) work)) false
+
+-- ---- addresses
+
+abbrev pub no_address : AddressRanges
+no_address = record { first = []; second = [] }
+
+-- those of both families
+abbrev pub every_address : AddressRanges
+every_address = record { first = record { lo = 0; hi = 2 ^ 32 - 1 } ∷ []; second = record { lo = 0; hi = 2 ^ 128 - 1 } ∷ [] }
+
+-- those of a block: from its first one on, as many as there are bits free behind its length
+abbrev pub addresses_in : Cidr → AddressRanges
+addresses_in (Four base len) = record { first = record { lo = base; hi = base + 2 ^ (32 - len) - 1 } ∷ []; second = [] }
+addresses_in (Six base len) = record { first = []; second = record { lo = base; hi = base + 2 ^ (128 - len) - 1 } ∷ [] }
+
+-- ---- forms
+
+abbrev pub works_alone : List ℕ → Ends
+works_alone works = record { works = works; block = no_address }
+
+abbrev pub addresses_alone : AddressRanges → Ends
+addresses_alone block = record { works = []; block = block }
+
+-- the workload of a name alone, or the name where no workload has it
+abbrev pub named_alone : List ℕ → Option ℕ → Result Ends (List ℕ)
+named_alone name (Some work) = Ok (works_alone (work ∷ []))
+named_alone name None = Err name
+
+-- the ends of a form, or the name that no workload has
+unfoldable pub ends_of : EstateLists → EndForm → Result Ends (List ℕ)
+ends_of lists Pods = Ok (works_alone (all_works lists))
+ends_of lists Addresses = Ok (addresses_alone every_address)
+ends_of lists (Namespace name) = Ok (works_alone (filter (is_in_namespace lists name) (all_works lists)))
+ends_of lists (Work name) = named_alone name (number_named (folding_of lists) name)
+ends_of lists (Block cidr) = Ok (addresses_alone (addresses_in cidr))

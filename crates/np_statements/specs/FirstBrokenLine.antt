@@ -1,0 +1,26 @@
+-- The first broken line of a file, by what it is.
+use Rattle.std.specs.Prelude.{◌≡◌, List, ◌∷◌, ◌++◌, false, All, Ok}
+use Rattle.np_check.specs.Counters.{complies}
+use Rattle.np_check.specs.FirstPacket.{IsFirstBroken}
+use Rattle.np_estate.specs.declared.lists.EstateLists.{EstateLists}
+use Rattle.np_statements.specs.BrokenLines.{is_allowed}
+use Rattle.np_statements.specs.FoundEnds.{asked_of}
+use Rattle.np_statements.specs.Holding.{LineHolds}
+use Rattle.np_statements.specs.declared.asked_line.AskedLine.{AskedLine}
+use Rattle.np_statements.specs.declared.broken.Broken.{Broken}
+use Rattle.np_statements.specs.declared.statement_line.StatementLine.{StatementLine}
+
+-- The lines before it hold, and it does not: its packet is the first that breaks it, and the verdict of that is not the wanted one.
+pub record IsFirstBrokenLine (lists : EstateLists) (lines : List StatementLine) (broken : Broken) : Type 0 where
+  pub before : List StatementLine
+  pub line : StatementLine
+  pub behind : List StatementLine
+  pub place : lines ≡ before ++ line ∷ behind
+  pub number : broken.line ≡ line.line
+  pub earlier_hold : All (LineHolds lists) before
+  pub fails : LineHolds lists line → ⊥
+  pub asked : AskedLine
+  pub is_asked : asked_of lists line ≡ Ok asked
+  pub first : IsFirstBroken lists asked.question broken.packet
+  pub verdict : broken.allowed ≡ is_allowed lists broken.packet
+  pub unwanted : complies line.statement.wanted broken.allowed ≡ false

@@ -1,0 +1,40 @@
+-- When a statement holds, for the pods and the addresses that its line names.
+use Rattle.std.specs.Prelude.{◌≡◌, ◌≢◌, ◌<◌, ℕ, true, Contains, length}
+use Rattle.np_addr.specs.Addresses.{IsAddress, family_of}
+use Rattle.np_addr.specs.declared.address.Address.{Address}
+use Rattle.np_addr.specs.declared.address.Family.{Family}
+use Rattle.np_check.specs.Counters.{complies, number_of_address}
+use Rattle.np_check.specs.declared.statement_text.EndForm.{EndForm}
+use Rattle.np_check.specs.declared.statement_text.StatementText.{StatementText}
+use Rattle.np_conns.specs.Conns.{has_spot, is_spot}
+use Rattle.np_conns.specs.declared.port_spot.PortSpot.{PortSpot}
+use Rattle.np_estate.specs.Families.{families_of}
+use Rattle.np_estate.specs.declared.lists.EstateLists.{EstateLists}
+use Rattle.np_policies.specs.declared.direction.Direction.TheVariants.{Egress, Ingress}
+use Rattle.np_rules.specs.Ends.{pod}
+use Rattle.np_rules.specs.Verdict.{pod_at}
+use Rattle.np_statements.specs.NamedEnds.{NamesAddress, NamesPod}
+use Rattle.np_statements.specs.declared.statement_line.StatementLine.{StatementLine}
+use Rattle.np_table.specs.Table.{between_pods, with_address}
+
+-- a place of a pod that the form names
+abbrev pub IsNamedPod : EstateLists → EndForm → ℕ → Type 0
+IsNamedPod lists form place = (place < length lists.pods) × NamesPod lists form place
+
+-- an address that it names
+abbrev pub IsNamedAddress : EndForm → Address → Type 0
+IsNamedAddress form address = IsAddress address × NamesAddress form address
+
+-- a protocol and port of the statement
+abbrev pub IsAtPort : StatementText → PortSpot → Type 0
+IsAtPort statement spot = (is_spot spot ≡ true) × (has_spot statement.conns spot ≡ true)
+
+-- Every packet from what its source names to what its destination names complies: between every two different pods in each family of the list, and with every address in its own family.
+pub record StatementHolds (lists : EstateLists) (statement : StatementText) : Type 0 where
+  pub pods : (p q : ℕ) (family : Family) (spot : PortSpot) → IsNamedPod lists statement.source p → IsNamedPod lists statement.destination q → p ≢ q → Contains (families_of lists.pods) family → IsAtPort statement spot → complies statement.wanted (between_pods lists p q family spot) ≡ true
+  pub to_addresses : (p : ℕ) (address : Address) (spot : PortSpot) → IsNamedPod lists statement.source p → IsNamedAddress statement.destination address → IsAtPort statement spot → complies statement.wanted (with_address lists Egress (pod (pod_at lists p)) (family_of address) (number_of_address address) spot) ≡ true
+  pub from_addresses : (address : Address) (q : ℕ) (spot : PortSpot) → IsNamedAddress statement.source address → IsNamedPod lists statement.destination q → IsAtPort statement spot → complies statement.wanted (with_address lists Ingress (pod (pod_at lists q)) (family_of address) (number_of_address address) spot) ≡ true
+
+-- the statement of a line holds
+abbrev pub LineHolds : EstateLists → StatementLine → Type 0
+LineHolds lists line = StatementHolds lists line.statement

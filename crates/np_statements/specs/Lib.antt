@@ -1,0 +1,14 @@
+pub mod Answers
+pub mod AskedLines
+pub mod BrokenLines
+pub mod BrokenText
+pub mod Cuts
+pub mod Ends
+pub mod FirstBrokenLine
+pub mod FoundEnds
+pub mod Holding
+pub mod Lines
+pub mod NamedEnds
+pub mod ReadConns
+pub mod ReadStatement
+pub mod Steps

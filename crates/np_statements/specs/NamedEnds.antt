@@ -1,0 +1,24 @@
+-- The pods and the addresses that a form names.
+use Rattle.std.specs.Prelude.{◌≡◌, ℕ, true, IsSomeAnd, slice_get}
+use Rattle.np_addr.specs.Addresses.{cidr_has}
+use Rattle.np_addr.specs.declared.address.Address.{Address}
+use Rattle.np_check.specs.declared.statement_text.EndForm.{EndForm}
+use Rattle.np_check.specs.declared.statement_text.EndForm.TheVariants.{Pods, Addresses, Namespace, Work, Block}
+use Rattle.np_estate.specs.declared.lists.EstateLists.{EstateLists}
+use Rattle.np_fold.specs.Workloads.{folding_of, name_of, number_of}
+
+-- the form names the pod at a place
+abbrev pub NamesPod : EstateLists → EndForm → ℕ → Type 0
+NamesPod lists Pods place = Unit {0}
+NamesPod lists Addresses place = ⊥
+NamesPod lists (Namespace name) place = IsSomeAnd (slice_get lists.pods place) (λ pod. pod.namespace ≡ name)
+NamesPod lists (Work name) place = name_of (folding_of lists) (number_of lists place) ≡ name
+NamesPod lists (Block cidr) place = ⊥
+
+-- it names the address
+abbrev pub NamesAddress : EndForm → Address → Type 0
+NamesAddress Pods address = ⊥
+NamesAddress Addresses address = Unit {0}
+NamesAddress (Namespace name) address = ⊥
+NamesAddress (Work name) address = ⊥
+NamesAddress (Block cidr) address = cidr_has cidr address ≡ true

@@ -1,0 +1,101 @@
+//! The first line that does not hold.
+ghost use Rattle.std.specs.Prelude.{◌≡◌, ◌≤◌, All, IfOk, IfSome, false};
+ghost use Rattle.np_check.specs.Counters.{complies, counter_of};
+ghost use Rattle.np_check.specs.Numbers.{is_among};
+ghost use Rattle.np_statements.specs.AskedLines.{IsAsked, IsQuestion};
+ghost use Rattle.np_statements.specs.BrokenLines as spec;
+ghost use Rattle.np_statements.specs.BrokenLines.{HasPlaces};
+
+use crate::asked_line::AskedLine;
+use crate::broken::Broken;
+use np_base::{NoMemory, Seq};
+use np_check::{Counter, IsDestination, IsSource, Question, Statement, Wanted, check};
+use np_fold::Folded;
+use np_steps::Steps;
+use std::alloc::Global;
+use std::sync::ledger::Ledger;
+
+/// The first line whose statement does not hold, with the first packet that does not comply, in the order of `check`. `None`
+/// exactly where all hold.
+pub fn first_broken<L: Ledger>(
+    alloc: Global,
+    folded: &Folded,
+    asked: Seq<AskedLine>,
+    steps: &mut Steps<L>,
+) -> Result<Option<Broken>, NoMemory>
+    requires { All (IsAsked folded.now) asked }
+    ensures first { IfOk result (λ made. made ≡ spec.first_broken folded.now asked) }
+    ensures places { IfOk result (λ made. IfSome made (HasPlaces folded.now)) }
+    ensures least { steps.old ≤ steps.new }
+{
+    for line in asked.into_vec() {
+        let found = broken_of(alloc, folded, line, steps)?;
+        if found.is_some() {
+            return Ok(found);
+        }
+    }
+    Ok(None)
+}
+
+// How a line is broken, if it is.
+fn broken_of<L: Ledger>(
+    alloc: Global,
+    folded: &Folded,
+    asked: AskedLine,
+    steps: &mut Steps<L>,
+) -> Result<Option<Broken>, NoMemory>
+    requires { IsAsked folded.now asked }
+    ensures broken { IfOk result (λ made. made ≡ spec.broken_of folded.now asked) }
+    ensures places { IfOk result (λ made. IfSome made (HasPlaces folded.now)) }
+    ensures least { steps.old ≤ steps.new }
+{
+    let AskedLine { line, question } = asked;
+    let allowed = broken_verdict(question.wanted);
+    let Some(packet) = counter_of(alloc, folded, question, steps)? else {
+        return Ok(None);
+    };
+    Ok(Some(Broken {
+        line,
+        packet,
+        allowed,
+    }))
+}
+
+// The verdict of a packet that does not comply.
+fn broken_verdict(wanted: Wanted) -> bool
+    ensures { complies wanted result ≡ false }
+{
+    matches!(wanted, Wanted::Deny)
+}
+
+// The first packet that does not comply. The closures that `check` asks which workloads a statement speaks of are made here.
+fn counter_of<L: Ledger>(
+    alloc: Global,
+    folded: &Folded,
+    question: Question,
+    steps: &mut Steps<L>,
+) -> Result<Option<Counter>, NoMemory>
+    requires { IsQuestion folded.now question }
+    ensures counter { IfOk result (λ made. made ≡ counter_of folded.now question) }
+    ensures least { steps.old ≤ steps.new }
+{
+    let Question {
+        wanted,
+        source,
+        destination,
+        conns,
+    } = question;
+    let sources = Vec::from_slice(alloc, source.works.items())?;
+    let destinations = Vec::from_slice(alloc, destination.works.items())?;
+    let from: IsSource = Box::new(alloc, move |work: u32| is_among(&sources, work))?;
+    let to: IsDestination = Box::new(alloc, move |work: u32| is_among(&destinations, work))?;
+    let statement = Statement::new(wanted, source, destination, conns, from, to);
+    check(alloc, folded, &statement, steps)
+}
+
+// Whether a number is one of some.
+fn is_among(numbers: &[u32], number: u32) -> bool
+    ensures { result ≡ is_among numbers.now number }
+{
+    numbers.iter().any(|one| *one == number)
+}

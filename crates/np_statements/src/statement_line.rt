@@ -1,0 +1,10 @@
+//! A line of a file that holds a statement.
+
+use np_check::StatementText;
+
+/// A statement at its line of a file, by the line's number from 1.
+#[derive(Debug, Drop)]
+pub struct StatementLine {
+    pub line: u64,
+    pub statement: StatementText,
+}
