@@ -213,4 +213,5 @@ def main():
                 measure(given.program, folder, name, given.quick)
 
 
-main()
+if __name__ == "__main__":
+    main()
