@@ -9,9 +9,9 @@ block() {
         inside && count == wanted' "$top/docs/RECIPES.md"
 }
 
-# Runs the recipe under the heading $1 in this folder, in which what it names lies as it does at the top of the repository.
+# Runs the recipe under the heading $1 in this folder, in which what it names lies as it does at the top of the repository (examples/ is there for every case).
 run_recipe() {
     ln -s "$NP" np
-    ln -s "$top/examples" "$top/tools" "$top/kubectl-np" .
+    ln -s "$top/tools" "$top/kubectl-np" .
     KUBECTL_NP_PROGRAM=$NP bash -c "$(block "$1" 1)"
 }
