@@ -67,7 +67,7 @@ says_addresses lists asked lawful = λ p direction family number within in_famil
     let among : rows_of_address (number_of lists p) direction family number (cluster_rows cluster) ≡ one.0 ∷ [] =
     rows_of_address-cluster cluster (number_of lists p) direction family number
     ∙ ap (λ (table : Table). rows_of_address (number_of lists p) direction family number (all_rows table)) (table_is lists asked.controller) ∙ one.1 in
-    (one.0, rows_of_address-kept (number_of lists p) direction family number (keeps asked.query) (cluster_rows cluster) one.0 among, one.2)
+    (one.0, among, rows_of_address-kept (number_of lists p) direction family number (keeps asked.query) (cluster_rows cluster) one.0 among, one.2)
 
 -- what is reached of a workload is what is reached of each of its pods, and nothing of the controller
 ingress_allows-pods : (lists : EstateLists) (controller : Option ℕ) (p : ℕ) (spot : PortSpot) → IsLawful lists → p < length lists.pods

@@ -114,7 +114,7 @@ says-counts : (run : Run) (answer : Status) (outcome : Result Ending Failure) (n
 unfolding reply
 says-counts run answer outcome n cause answered few is done =
     let told_by = (done-told run answer outcome (SampleJob n) [] cause answered is (tells_nothing run n is) done).1 in
-    record { printed = subst (λ (lists : EstateLists). TookWhole run.out (sample_summary lists)) (one_estate told_by.lists (sample_estate n) (lists_of (sample_text n ∷ [])) told_by.read (lists_of-sample n few)) told_by.took }
+    record { read = lists_of-sample n few; printed = subst (λ (lists : EstateLists). TookWhole run.out (sample_summary lists)) (one_estate told_by.lists (sample_estate n) (lists_of (sample_text n ∷ [])) told_by.read (lists_of-sample n few)) told_by.took }
 
 no_refusal : (n : ℕ) → n ≤ 1000 → refusal (SampleJob n) [] ≡ None
 unfolding refusal reply
@@ -135,4 +135,4 @@ never-refused run answer (Err NoMemory) n cause answered few is refused = cc
 
 pub says_counts : (run : Run) (answer : Status) (outcome : Result Ending Failure) → Cause run outcome → answer ≡ status_of outcome → SaysCounts run answer
 says_counts run answer outcome cause answered = λ n few is.
-    (λ done. says-counts run answer outcome n cause answered few is done, λ refused. never-refused run answer outcome n cause answered few is refused)
+    (record { fits = refl; no_fault = no_refusal n few }, λ done. says-counts run answer outcome n cause answered few is done, λ refused. never-refused run answer outcome n cause answered few is refused)

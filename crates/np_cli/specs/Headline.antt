@@ -14,7 +14,7 @@ use Rattle.np_fold.specs.Workloads.{folding_of, number_of}
 use Rattle.np_policies.specs.declared.direction.Direction.{Direction}
 use Rattle.np_report.specs.Keeps.{keeps}
 use Rattle.np_report.specs.TableText.{list_text, shown_rows}
-use Rattle.np_routes.specs.ClusterTable.{cluster_table, ingress_key, rows_from_controller}
+use Rattle.np_routes.specs.ClusterTable.{cluster_rows, cluster_table, ingress_key, rows_from_controller}
 use Rattle.np_routes.specs.Controllers.{ingress_reaches, is_controller, sender_of}
 use Rattle.np_rules.specs.Ends.{pod}
 use Rattle.np_rules.specs.Verdict.{pod_at}
@@ -38,11 +38,12 @@ SaysPods lists asked = (p q : ℕ) (family : Family) (spot : PortSpot) → p < l
     → keeps asked.query (pair_key (number_of lists p) (number_of lists q)) ≡ true
     → allows_in (rows_between (number_of lists p) (number_of lists q) (rows_shown lists asked)) family spot ≡ between_pods lists p q family spot
 
--- For every pod, direction and address there is one row whose range has the address and that says exactly which ports the
--- model allows between the two; it is the only one of them that is shown, where it is asked for, and else none is.
+-- For every pod, direction and address there is one row of the table whose range has the address, and it says exactly which
+-- ports the model allows between the two; it is shown where it is asked for, and else no row that has the address is.
 abbrev pub SaysAddresses : EstateLists → Listing → Type 0
 SaysAddresses lists asked = (p : ℕ) (direction : Direction) (family : Family) (number : ℕ) → p < length lists.pods → IsInFamily family number
-    → (row : Row) × (rows_of_address (number_of lists p) direction family number (rows_shown lists asked) ≡ (if keeps asked.query row.key then row ∷ [] else []))
+    → (row : Row) × (rows_of_address (number_of lists p) direction family number (cluster_rows (cluster_table lists asked.controller)) ≡ row ∷ [])
+    × (rows_of_address (number_of lists p) direction family number (rows_shown lists asked) ≡ (if keeps asked.query row.key then row ∷ [] else []))
     × ((spot : PortSpot) → is_spot spot ≡ true → has_spot row.conns spot ≡ with_address lists direction (pod (pod_at lists p)) family number spot)
 
 -- For every pod, where rows from the controller of Ingresses to its workload are asked for, those that are shown say exactly

@@ -1,5 +1,5 @@
 -- What a run promises, which follows from why it ends as it does.
-use Rattle.std.specs.Prelude.{◌≡◌, ◌≢◌, ℕ, ◌+◌, ◌^◌, ◌<◌, ◌≤◌, ◌⊎◌, List, true, false, None, Option, Some, Contains, Ok, Err}
+use Rattle.std.specs.Prelude.{◌≡◌, ◌≢◌, ℕ, ◌+◌, ◌^◌, ◌<◌, ◌≤◌, ◌⊎◌, List, [], true, false, None, Option, Some, Contains, Ok, Err}
 use Rattle.np_io.specs.Counts.{Rose}
 use Rattle.np_cli.specs.Answers.{ending_of, output, refusal}
 use Rattle.np_cli.specs.Checks.{ChecksAll, FindsBroken}
@@ -105,10 +105,11 @@ abbrev pub SaysFlatPolicies : Run → Status → Type 0
 SaysFlatPolicies run answer = (files texts : List (List ℕ))
     → run.asked ≡ Some (FlattenJob files) → Tells run texts → answer ≡ status.Done → FlattensAll run.out texts
 
--- Where `sample` is done, its report counts the rows of the table of the sample. It is refused for nothing but words.
+-- A sample is accepted by its words alone; where `sample` is done, its report counts the rows of the table of the sample; and it is
+-- refused for nothing but words.
 abbrev pub SaysCounts : Run → Status → Type 0
 SaysCounts run answer = (n : ℕ) → n ≤ 1000 → run.asked ≡ Some (SampleJob n)
-    → (answer ≡ status.Done → CountsAll run.out n) × (answer ≢ status.Refused)
+    → IsAccepted (SampleJob n) [] × (answer ≡ status.Done → CountsAll run.out n) × (answer ≢ status.Refused)
 
 -- All that is promised of a run that ended with this status, where so many rules were looked at before it and after it.
 pub record Promises (run : Run) (err : Sunk) (steps_before steps_after : ℕ) (answer : Status) : Type 0 where

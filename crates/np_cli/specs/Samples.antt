@@ -1,9 +1,13 @@
 -- What a report of `sample` says.
-use Rattle.std.specs.Prelude.{ℕ}
+use Rattle.std.specs.Prelude.{◌≡◌, ℕ, [], ◌∷◌, Ok}
+use Rattle.np_cli.specs.Inputs.{lists_of}
 use Rattle.np_cli.specs.Sinks.{Sunk, TookWhole}
 use Rattle.np_cli.specs.commands.Sample.{sample_summary}
 use Rattle.np_cluster.specs.Estate.{sample_estate}
+use Rattle.np_cluster.specs.Sample.{sample_text}
 
--- The sink took how many workloads the sample of so many pods has, and how many rows its table.
+-- What is read of the text of the sample of so many pods is its estate, and the sink took how many workloads that has, and how
+-- many rows its table.
 pub record CountsAll (out : Sunk) (n : ℕ) : Type 0 where
+  pub read : lists_of (sample_text n ∷ []) ≡ Ok (sample_estate n)
   pub printed : TookWhole out (sample_summary (sample_estate n))

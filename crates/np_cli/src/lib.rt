@@ -13,9 +13,6 @@ mod sources;
 mod status;
 mod write_fault;
 
-pub use failure::Failure;
-pub use fault::Fault;
 pub use np_words::{EndWord, Format, Job, WordsFault, read_words};
-pub use outcome::{Ending, Outcome};
 pub use run::np_main;
 pub use status::Status;

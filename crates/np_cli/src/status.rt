@@ -7,13 +7,13 @@ ghost use Rattle.np_cli.specs.Statuses.{code_of};
 pub enum Status {
     /// 0: the report was written whole.
     Done,
-    /// 1: the inputs are refused.
+    /// 1: the inputs are refused, or a statement, or an end that the words name.
     Refused,
     /// 2: the words of the command line ask for nothing.
     Usage,
     /// 3: an input could not be read, or the report not written.
     Device,
-    /// 4: the system refused memory.
+    /// 4: out of memory.
     NoMemory,
     /// 5: the report was written whole, and says that a statement of `check` does not hold.
     Violated,

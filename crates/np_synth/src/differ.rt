@@ -4,7 +4,7 @@ ghost use Rattle.std.specs.Cmp.Lexicographic.{pointwise};
 ghost use Rattle.std.specs.List.{list_any};
 ghost use Rattle.np_classes.specs.Classes.{places};
 ghost use Rattle.np_synth.specs.Faults as spec;
-ghost use Rattle.np_synth.specs.steps.OwnSets.{own_set};
+ghost use Rattle.np_synth.specs.steps.OwnSets.{AreTwo, own_set};
 ghost use Rattle.np_table.specs.Right.{are_same_conns, are_same_range};
 ghost use Rattle.np_table.specs.Table.{IsWorkload, number_of_workloads};
 
@@ -80,14 +80,27 @@ fn differ_at<L: Ledger>(
     if third == a || third == b {
         return Ok(false);
     }
-    let sent_by_a = sides.between(a, third, steps)?;
-    let sent_by_b = sides.between(b, third, steps)?;
-    if !are_same(&sent_by_a, &sent_by_b) {
+    if pass_otherwise(sides, (a, third), (b, third), steps)? {
         return Ok(true);
     }
-    let sent_to_a = sides.between(third, a, steps)?;
-    let sent_to_b = sides.between(third, b, steps)?;
-    Ok(!are_same(&sent_to_a, &sent_to_b))
+    pass_otherwise(sides, (third, a), (third, b), steps)
+}
+
+// Whether what passes from one workload to another differs from what passes from one of the other pair to its other.
+fn pass_otherwise<L: Ledger>(
+    sides: &Sides<'_>,
+    pair: (u32, u32),
+    other: (u32, u32),
+    steps: &mut Steps<L>,
+) -> Result<bool, NoMemory>
+    requires pair { AreTwo sides.now pair.0 pair.1 }
+    requires other { AreTwo sides.now other.0 other.1 }
+    ensures answer { IfOk result (λ answer. answer ≡ not (are_same_conns (spec.set_of sides.now pair.0 pair.1) (spec.set_of sides.now other.0 other.1))) }
+    ensures least { steps.old ≤ steps.new }
+{
+    let set = sides.between(pair.0, pair.1, steps)?;
+    let others = sides.between(other.0, other.1, steps)?;
+    Ok(!are_same(&set, &others))
 }
 
 // Whether what passes within and between them differs.

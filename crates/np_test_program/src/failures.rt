@@ -48,6 +48,20 @@ static TABLES: &str = r#"# two pods
 0 evaluate --from default/a --to default/b --protocol TCP --port 81
 > default/a => default/b : TCP 81 : Deny
 
+0 explain --from default/a[Pod] --to default/b[Pod]
+> egress of default/a[Pod]
+> All Connections : Allow by default
+> ingress of default/b[Pod]
+> TCP 1-79,81-65535; UDP 1-65535; SCTP 1-65535 : Deny since isolated by NetworkPolicy default/p
+> TCP 80 : Allow by NetworkPolicy default/p ingress[0]
+> default/a[Pod] => default/b[Pod] : TCP 80
+
+0 exposure --workload default/b[Pod]
+> {namespace kubernetes.io/metadata.name In (default) and pod app In (a)} => default/b[Pod] : TCP 80
+> {namespace kubernetes.io/metadata.name In (default)} => default/b[Pod] : No Connections
+> {any pod} => default/b[Pod] : No Connections
+> default/b[Pod] => {any pod} : All Connections
+
 0 flatten
 > {"apiVersion":"v1","items":[{"apiVersion":"networking.k8s.io/v1","kind":"NetworkPolicy","metadata":{"name":"flat-0","namespace":"default"},"spec":{"egress":[{"to":[{"namespaceSelector":{}}]},{"to":[{"ipBlock":{"cidr":"0.0.0.0/0"}}]},{"to":[{"ipBlock":{"cidr":"::/0"}}]}],"ingress":[{"from":[{"namespaceSelector":{"matchExpressions":[{"key":"kubernetes.io/metadata.name","operator":"In","values":["default"]}]},"podSelector":{"matchExpressions":[{"key":"app","operator":"In","values":["b"]}]}}]},{"from":[{"ipBlock":{"cidr":"0.0.0.0/0"}}]},{"from":[{"ipBlock":{"cidr":"::/0"}}]}],"podSelector":{"matchExpressions":[{"key":"app","operator":"In","values":["a"]}]},"policyTypes":["Ingress","Egress"]}},{"apiVersion":"networking.k8s.io/v1","kind":"NetworkPolicy","metadata":{"name":"flat-1","namespace":"default"},"spec":{"egress":[{"to":[{"namespaceSelector":{}}]},{"to":[{"ipBlock":{"cidr":"0.0.0.0/0"}}]},{"to":[{"ipBlock":{"cidr":"::/0"}}]}],"ingress":[{"from":[{"namespaceSelector":{"matchExpressions":[{"key":"kubernetes.io/metadata.name","operator":"In","values":["default"]}]},"podSelector":{"matchExpressions":[{"key":"app","operator":"In","values":["a"]}]}}],"ports":[{"port":80,"protocol":"TCP"}]}],"podSelector":{"matchExpressions":[{"key":"app","operator":"In","values":["b"]}]},"policyTypes":["Ingress","Egress"]}}],"kind":"List"}
 
@@ -104,6 +118,34 @@ static MESSAGES: &str = r#"# notes
 ! note: finished pods left out: 1
 ! note: objects of other kinds skipped: 1
 
+0 explain --from ::1 --to default/a[Pod]
+> egress of ::1
+> All Connections : Allow since no pod is at this side
+> ingress of default/a[Pod]
+> All Connections : Allow by default
+> ::1 => default/a[Pod] : All Connections
+! note: host network pods left out: 1
+! note: finished pods left out: 1
+! note: objects of other kinds skipped: 1
+
+0 exposure
+> {any pod} => default/a[Pod] : All Connections
+> default/a[Pod] => {any pod} : All Connections
+! note: host network pods left out: 1
+! note: finished pods left out: 1
+! note: objects of other kinds skipped: 1
+
+0 unused
+! note: host network pods left out: 1
+! note: finished pods left out: 1
+! note: objects of other kinds skipped: 1
+
+0 flatten
+> {"apiVersion":"v1","items":[{"apiVersion":"networking.k8s.io/v1","kind":"NetworkPolicy","metadata":{"name":"flat-0","namespace":"default"},"spec":{"egress":[{"to":[{"namespaceSelector":{}}]},{"to":[{"ipBlock":{"cidr":"0.0.0.0/0"}}]},{"to":[{"ipBlock":{"cidr":"::/0"}}]}],"ingress":[{"from":[{"ipBlock":{"cidr":"0.0.0.0/0"}}]},{"from":[{"ipBlock":{"cidr":"::/0"}}]}],"podSelector":{},"policyTypes":["Ingress","Egress"]}}],"kind":"List"}
+! note: host network pods left out: 1
+! note: finished pods left out: 1
+! note: objects of other kinds skipped: 1
+
 = allow any pod => any address : TCP 1
 0 check --statement statements
 > holds: 1
@@ -123,6 +165,11 @@ static MESSAGES: &str = r#"# notes
 1 list
 1 list --format json
 1 evaluate --from default/a --to ::1 --protocol TCP --port 81
+1 explain --from default/a[Pod] --to ::1
+1 exposure
+1 unused
+1 check --statement statements
+1 flatten
 ! error: EqualPriority 7: deny-a, deny-b"#;
 
 static USAGE: &str = r#"# other words

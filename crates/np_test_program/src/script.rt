@@ -81,10 +81,17 @@ fn expect_block(
             } else {
                 expect_one(rt, alloc, wanted, place)?;
             }
+        } else {
+            assert!(rt; is_told(line), "no mark: {line}");
         }
     }
     assert!(rt; is_run, "no run in {block}");
     Ok(())
+}
+
+// Whether a line tells something of the runs of its block.
+fn is_told(line: &str) -> bool {
+    matches!(line.chars().next(), Some('#' | '<' | '=' | '>' | '!'))
 }
 
 // The status of the runs of a line with this mark, if it is one.
@@ -145,13 +152,20 @@ pub fn lines_of(alloc: Global, block: &str, mark: &str) -> Result<String, NoMemo
     let mut text = String::new(alloc);
     for line in block.lines() {
         if let Some(marked) = line.strip_prefix(mark) {
-            let (count, rest) = marked.split_once(" ").unwrap_or((marked, ""));
-            match count {
-                "" => writeln!(text, "{rest}")?,
-                "-" => text.push_str(rest)?,
-                _ => push_places(alloc, &mut text, count.parse::<u32>().unwrap_or(0), rest)?,
-            }
+            push_marked(alloc, &mut text, marked)?;
         }
     }
     Ok(text)
+}
+
+// Adds what stands behind the mark of a line. What should be a count and is none is added as it stands, so that the run differs.
+fn push_marked(alloc: Global, text: &mut String, marked: &str) -> Result<(), NoMemory> {
+    let (count, rest) = marked.split_once(" ").unwrap_or((marked, ""));
+    match (count, count.parse::<u32>()) {
+        ("", _) => writeln!(text, "{rest}")?,
+        ("-", _) => text.push_str(rest)?,
+        (_, Ok(count)) => push_places(alloc, text, count, rest)?,
+        (_, Err(_)) => writeln!(text, "{marked}")?,
+    }
+    Ok(())
 }

@@ -2,7 +2,7 @@
 
 use crate::runs::words_of;
 use np_base::NoMemory;
-use np_words::{Job, read_words};
+use np_words::{Job, WordsFault, read_words};
 use std::alloc::Global;
 use std::test::Fail;
 
@@ -17,14 +17,21 @@ static LINES: &[(&str, &str)] = &[
     ("", "usage"),
 ];
 
-// The names of the inputs that the words of a line ask for, each behind a space but the first.
+// The names of the inputs that the words of a line ask for, or why they ask for none.
 fn files(alloc: Global, line: &str) -> Result<String, NoMemory> {
     let words = words_of(alloc, line)?;
-    let Ok(Job::List { files, .. }) = read_words(alloc, &words) else {
-        return Ok(String::from_str(alloc, "usage")?);
-    };
+    match read_words(alloc, &words) {
+        Ok(Job::List { files, .. }) => joined(alloc, files.items()),
+        Ok(_) => Ok(String::from_str(alloc, "another job")?),
+        Err(WordsFault::Usage) => Ok(String::from_str(alloc, "usage")?),
+        Err(WordsFault::NoMemory) => Err(NoMemory),
+    }
+}
+
+// The names, each behind a space but the first.
+fn joined(alloc: Global, files: &[String]) -> Result<String, NoMemory> {
     let mut text = String::new(alloc);
-    for file in files.items() {
+    for file in files {
         if !text.is_empty() {
             text.push(' ')?;
         }
