@@ -66,7 +66,7 @@ pub fn check<L: Ledger>(
     )
 }
 
-// The first packet from some workloads that breaks a statement, by source.
+// The first packet from some workloads that breaks a statement, by source. Where there is none, no rules are looked for.
 fn first_from_works<L: Ledger>(
     alloc: Global,
     folded: &Folded,
@@ -83,6 +83,9 @@ fn first_from_works<L: Ledger>(
         (λ source. counter_from folded.now asked.now.wanted asked.now.conns.now ends.now (Work source)) sources.now) }
     ensures least { steps.old ≤ steps.new }
 {
+    if sources.is_empty() {
+        return Ok(None);
+    }
     let receivers = sides_of(alloc, folded, destinations, Direction::Ingress)?;
     let mut settled = HashSet::new(alloc);
     for source in sources {

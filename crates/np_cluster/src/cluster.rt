@@ -16,8 +16,8 @@ use std::alloc::{AllocError, Global};
 
 /// The sample cluster of `n` pods, as the compact JSON text of a `v1` List: five Namespaces, the Pods, a NetworkPolicy in
 /// each namespace, which lets in the pods of the next namespace and a block of addresses, and an AdminNetworkPolicy, which
-/// keeps out the pods of one label (Kubernetes API reference; network-policy-api reference). Nothing that reads it refuses
-/// it. `NoMemory` comes for want of memory alone.
+/// keeps out the pods of one label (Kubernetes API reference; network-policy-api reference). It is read
+/// without a fault, and folded. `NoMemory` comes for want of memory alone.
 pub fn sample(alloc: Global, n: u32) -> Result<Vec<u8>, NoMemory>
     requires least { 1 ≤ n }
     requires most { n ≤ 1000 }

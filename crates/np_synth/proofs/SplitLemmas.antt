@@ -1,5 +1,5 @@
 -- The first row with a mark tells the first pair that is split.
-use Rattle.std.proofs.Common.{◌≡◌, ℕ, List, [], ◌∷◌, ◌++◌, Bool, true, false, not, ◌&&◌, ◌||◌, ◌⊎◌, Option, Some, None, map, flat_map, length, if◌then◌else◌, refl, sym, ap, subst, ◌∙◌, inl, inr}
+use Rattle.std.proofs.Common.{◌≡◌, ℕ, ◌<◌, List, [], ◌∷◌, ◌++◌, Bool, true, false, not, ◌&&◌, ◌||◌, ◌⊎◌, Option, Some, None, map, flat_map, length, if◌then◌else◌, arith, refl, sym, ap, subst, ◌∙◌, inl, inr}
 use Rattle.std.specs.Prelude.{MatchOption, is_some}
 use Rattle.std.specs.List.{find}
 use Rattle.std.specs.Option.{option_or}
@@ -17,6 +17,7 @@ use Rattle.np_estate.specs.declared.pod.Pod.{Pod}
 use Rattle.np_fold.specs.Workloads.{Workload, folding_of}
 use Rattle.np_policies.specs.declared.direction.Direction.{Direction}
 use Rattle.np_policies.specs.declared.direction.Direction.TheVariants.{Egress, Ingress}
+use Rattle.np_synth.proofs.FirstPairs.{first_pair-none}
 use Rattle.np_synth.specs.Faults.{is_defined, is_split, set_in, two_differ}
 use Rattle.np_synth.specs.Pairs.{first_pair}
 use Rattle.np_synth.specs.steps.SplitRows.{first_split_of, split_of}
@@ -182,6 +183,17 @@ pair-by lists x y families (inl one) =
 pair-by lists x y families (inr both) =
     subst (λ (fs : List Family). first_split_of (rows_in fs (pair_key x y) (λ family. set_in lists family x y)) ≡ (if is_defined lists x y && two_differ (map (λ family. set_in lists family x y) fs) then told x y else None))
     (sym both) (two_families x y (λ family. set_in lists family x y) (is_defined lists x y) (alone-same lists x y))
+
+-- of one family no pair is split
+pub none_split : (lists : EstateLists) → length (families_of lists.pods) < 2 → first_pair (is_split lists) (number_of_workloads lists) ≡ None
+none_split lists few = by (families_cases lists.pods)
+  where
+    by : ((family : Family) × (families_of lists.pods ≡ family ∷ [])) ⊎ (families_of lists.pods ≡ Four ∷ Six ∷ []) → first_pair (is_split lists) (number_of_workloads lists) ≡ None
+    by (inr both) = absurd (omega (arith, few, ap length both))
+    by (inl one) = first_pair-none (is_split lists) (number_of_workloads lists) (λ x y _ _.
+        ap (λ (families : List Family). is_defined lists x y && two_differ (map (λ family. set_in lists family x y) families)) one.1
+        ∙ ap (λ (differ : Bool). is_defined lists x y && differ) (two_differ-one (set_in lists one.0 x y))
+        ∙ and_false (is_defined lists x y))
 
 -- the rows of two workloads have a mark where they are split
 pair-first : (lists : EstateLists) (x y : ℕ) → first_split_of (pair_rows (estate_table lists) x y) ≡ (if is_split lists x y then told x y else None)

@@ -13,7 +13,8 @@ use std::alloc::Global;
 use std::sync::ledger::Ledger;
 
 /// The first two workloads, by the source and then by the destination, for which what passes is defined and differs between
-/// the families of the list. It is read off the rows of the table: of these two stands a row for each family.
+/// the families of the list. It is read off the rows of the table: of these two stands a row for each family. A list of one family
+/// has none, and its table is not asked.
 pub(crate) fn first_split<L: Ledger>(
     alloc: Global,
     folded: &Folded,
@@ -22,6 +23,9 @@ pub(crate) fn first_split<L: Ledger>(
     ensures found { IfOk result (λ found. found ≡ first_pair (is_split folded.now) (number_of_workloads folded.now)) }
     ensures least { steps.old ≤ steps.new }
 {
+    if folded.estate().families().len() < 2 {
+        return Ok(None);
+    }
     let mut rows = Rows::new(alloc, folded);
     while let Some(row) = rows.next(steps)? {
         let found = split_of(&row);

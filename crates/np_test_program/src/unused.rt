@@ -181,6 +181,15 @@ static SCRIPT: &str = r#"# an admin rule behind one that takes all that it match
 > BaselineAdminNetworkPolicy default ingress[0]
 > BaselineAdminNetworkPolicy default egress[0]
 
+# a rule that decides in one family alone, between pods: at an address its named port is that of none
+< {"apiVersion":"v1","items":[
+< {"apiVersion":"v1","kind":"Pod","metadata":{"name":"a"},"spec":{"containers":[{"ports":[{"name":"http","containerPort":80}]}]},"status":{"podIP":"10.0.0.1","podIPs":[{"ip":"10.0.0.1"},{"ip":"fd00::1"}]}},
+< {"apiVersion":"v1","kind":"Pod","metadata":{"name":"b"},"spec":{"containers":[{"ports":[{"name":"http","containerPort":80}]}]},"status":{"podIP":"10.0.0.2","podIPs":[{"ip":"10.0.0.2"},{"ip":"fd00::2"}]}},
+< {"apiVersion":"policy.networking.k8s.io/v1alpha1","kind":"AdminNetworkPolicy","metadata":{"name":"six"},"spec":{"priority":6,"subject":{"namespaces":{}},"egress":[{"action":"Deny","to":[{"networks":["fd00::/8"]}],"ports":[{"namedPort":"http"}]},{"action":"Deny","to":[{"networks":["fd01::/16"]}],"ports":[{"namedPort":"http"}]}]}}
+< ],"kind":"List"}
+0 unused
+> AdminNetworkPolicy six egress[1]
+
 # nothing is listed
 < {"apiVersion":"v1","items":[],"kind":"List"}
 0 unused

@@ -1,7 +1,14 @@
-use Rattle.std.proofs.Common.{sym, ap, ◌∙◌}
-use Rattle.np_synth.proofs.SplitLemmas.{found-first, none-left, rows-first}
+use Rattle.std.proofs.Common.{◌≡◌, length, arith, sym, ap, ◌∙◌}
+use Rattle.np_estate.specs.Families.{families_of}
+use Rattle.np_estate.specs.declared.lists.EstateLists.{EstateLists}
+use Rattle.np_synth.proofs.SplitLemmas.{found-first, none-left, none_split, rows-first}
 use Rattle.np_synth.proofs.split.first_split.Goals as goal
 use Rattle.np_synth.specs.steps.SplitRows.{first_split_of}
+
+pub returns-then-families-lt2-clause-found : goal.returns-then-families-lt2-clause-found
+returns-then-families-lt2-clause-found g c =
+    let own : length c.families.result.now ≡ length (families_of c.args.folded.now.pods) = ap length c.families.ensures ∙ ap (λ (lists : EstateLists). length (families_of lists.pods)) c.estate.ensures.value in
+    sym (none_split c.args.folded.now (omega (arith, own, c.if-families-lt2.true)))
 
 pub returns-then-is_some-clause-found : goal.returns-then-is_some-clause-found
 returns-then-is_some-clause-found g c =
