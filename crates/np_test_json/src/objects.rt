@@ -178,7 +178,7 @@ null -> item 1: metadata: BadField
 
 metadata has fewer members elsewhere
 object {"apiVersion": %}
-"v1", "kind": "Service", "spec": {}, "metadata": {"name": "a", "labels": 1, "ownerReferences": 1} -> Service default/a false false own
+"v1", "kind": "Service", "spec": {}, "metadata": {"name": "a", "labels": 1, "ownerReferences": 1} -> Service default/a false false -
 "networking.k8s.io/v1", "kind": "Ingress", "metadata": {"name": "a", "labels": 1, "ownerReferences": 1} -> Ingress default/a
 "v1", "kind": "Namespace", "metadata": {"name": "a", "namespace": 1, "ownerReferences": 1} -> Namespace a
 "v1", "kind": "Namespace", "metadata": {"name": "a", "labels": {"b": 1}} -> item 1: metadata.labels: BadField
@@ -318,8 +318,8 @@ object {"apiVersion": "v1", "kind": "Service", "metadata": %}
         "selector": {"tier": "front", "app": "web"}, "sessionAffinity": "None", "type": "ClusterIP"},
     "status": {"loadBalancer": {}}
  -> Service shop/web false false {[app In web][tier In front]} 80/TCP->web http 53/UDP->53 81/TCP->81 82/TCP->8082 83/TCP->83
-{"name": "db"}, "spec": {"clusterIP": "None", "selector": {}, "type": "ClusterIP"} -> Service default/db true false own
-{"name": "away"}, "spec": {"externalName": "example.com", "type": "ExternalName"} -> Service default/away false true own
+{"name": "db"}, "spec": {"clusterIP": "None", "selector": {}, "type": "ClusterIP"} -> Service default/db true false -
+{"name": "away"}, "spec": {"externalName": "example.com", "type": "ExternalName"} -> Service default/away false true -
 
 Ingresses have backends
 object {"apiVersion": "networking.k8s.io/v1", "kind": "Ingress", "metadata": {"name": "a"}, "spec": %}

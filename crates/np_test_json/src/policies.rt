@@ -76,7 +76,7 @@ fn put_net_rules(
     Ok(())
 }
 
-// A peer, as `own/{}` or `10.0.0.0/8-10.1.0.0/16`.
+// A peer, as `-/{}` or `10.0.0.0/8-10.1.0.0/16`.
 fn put_net_peer(alloc: Global, text: &mut String, peer: &NetPeer) -> Result<(), NoMemory> {
     match peer {
         NetPeer::Pods { namespaces, pods } => {
@@ -273,7 +273,7 @@ policy {"apiVersion":"networking.k8s.io/v1","kind":"NetworkPolicy","metadata":%}
         "ports":[{"protocol":"TCP","port":6379}]}],
     "egress":[{"to":[{"ipBlock":{"cidr":"10.0.0.0/24"}}],
         "ports":[{"protocol":"TCP","port":5978}]}]}
- -> Net default/test-network-policy {[role In db]} ingress (172.17.0.0/16-172.17.1.0/24 {[project In myproject]}/own own/{[role In frontend]} : TCP 6379-6379) egress (10.0.0.0/24 : TCP 5978-5978)
+ -> Net default/test-network-policy {[role In db]} ingress (172.17.0.0/16-172.17.1.0/24 {[project In myproject]}/- -/{[role In frontend]} : TCP 6379-6379) egress (10.0.0.0/24 : TCP 5978-5978)
 {"name":"default-deny-ingress"},
     "spec":{"podSelector":{},"policyTypes":["Ingress"]} -> Net default/default-deny-ingress {} ingress egress none
 {"name":"allow-all-egress"},
@@ -287,7 +287,7 @@ policy {"apiVersion":"networking.k8s.io/v1","kind":"NetworkPolicy","metadata":%}
     "spec":{"podSelector":{"matchLabels":{"app":"myapp"}},"policyTypes":["Egress"],
     "egress":[{"to":[{"namespaceSelector":{"matchExpressions":[
         {"key":"namespace","operator":"In","values":["frontend","backend"]}]}}]}]}
- -> Net default/egress-namespaces {[app In myapp]} ingress none egress ({[namespace In backend frontend]}/own :)
+ -> Net default/egress-namespaces {[app In myapp]} ingress none egress ({[namespace In backend frontend]}/- :)
 
 admin policies have a priority and a subject
 policy {"apiVersion":"policy.networking.k8s.io/v1alpha1","kind":"AdminNetworkPolicy","metadata":{"name":"a","namespace":1}%}

@@ -60,15 +60,23 @@ fn put_wrong_cases(
 // What is told of a text that is read as a word says.
 fn told_of(alloc: Global, word: &str, text: &str) -> Result<String, NoMemory> {
     let mut told = String::new(alloc);
-    match word {
-        "path" => put_path(alloc, &mut told, text)?,
-        "word" => write!(told, "{} {}", is_word(text), is_name(text))?,
+    let put = match word {
+        "path" => put_path(alloc, &mut told, text),
+        "word" => put_kinds(&mut told, text),
         _ => match Value::from_str(alloc, text) {
-            Ok(value) => put_value(alloc, &mut told, word, &value)?,
-            Err(_) => told.push_str("no JSON")?,
+            Ok(value) => put_value(alloc, &mut told, word, &value),
+            Err(_) => Ok(()),
         },
-    }
+    };
+    put?;
     Ok(told)
+}
+
+// Writes whether a text is a word, and whether it is a name.
+fn put_kinds(told: &mut String, text: &str) -> Result<(), NoMemory> {
+    let is_word = is_word(text);
+    let is_name = is_name(text);
+    Ok(write!(told, "{is_word} {is_name}")?)
 }
 
 // Writes what is told of a value that is read as a word says. An object or a policy is item 1 of a list.

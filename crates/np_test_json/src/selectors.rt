@@ -4,10 +4,10 @@ use np_base::NoMemory;
 use np_labels::{Op, Selector};
 use std::fmt::Write;
 
-/// Writes a selector, as `{[app In a b][tier Exists]}`, or `own` where there is none.
+/// Writes a selector, as `{[app In a b][tier Exists]}`, or `-` where there is none.
 pub fn put_selector(text: &mut String, selector: Option<&Selector>) -> Result<(), NoMemory> {
     let Some(selector) = selector else {
-        text.push_str("own")?;
+        text.push_str("-")?;
         return Ok(());
     };
     text.push_str("{")?;
