@@ -25,8 +25,12 @@ pub fn blocks<S: Sampled>(alloc: Global, bits: u16) -> Result<S, NoMemory> {
 
 // Whether the set has the blocks of these bits alone, in as few parts as they need.
 fn is_of<S: Sampled>(set: &S, bits: u16) -> bool {
+    for block in 0u8..16 {
+        if set.holds(block, false) != (bits & (1 << block) != 0) {
+            return false;
+        }
+    }
     set.is_least(bits)
-        && (0u8..16).all(|block| set.holds(block, false) == (bits & (1 << block) != 0))
 }
 
 // Whether the join of two sets, without the second, is the first without the second.
