@@ -7,6 +7,10 @@ mod json;
 #[cfg(test)]
 mod objects;
 #[cfg(test)]
+mod parcels;
+#[cfg(test)]
 mod policies;
 #[cfg(test)]
-mod printed_objects;
+mod script;
+#[cfg(test)]
+mod selectors;

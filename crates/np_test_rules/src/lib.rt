@@ -1,34 +1,26 @@
-//! Verdicts by example: estates written out as values, and `allows` and the layers of np_rules on them, against answers
-//! that were written by hand. It holds tests alone.
+//! Verdicts by example: what `allows` and the layers of np_rules say of lists, against answers that were written by hand.
+//! It holds tests alone.
 #![tactic(auto)]
 
 #[cfg(test)]
-mod address_layers;
+mod admin_policies;
 #[cfg(test)]
-mod admin_cases;
+mod ends;
 #[cfg(test)]
-mod built;
+mod layers;
 #[cfg(test)]
-mod clusters;
-#[cfg(test)]
-mod layer_places;
-#[cfg(test)]
-mod net_cases;
+mod net_policies;
 #[cfg(test)]
 mod packets;
 #[cfg(test)]
-mod peer_cases;
+mod peers;
 #[cfg(test)]
-mod pod_rules;
+mod ports;
 #[cfg(test)]
-mod port_cases;
+mod questions;
 #[cfg(test)]
-mod side_layers;
+mod rules;
 #[cfg(test)]
-mod sides;
+mod script;
 #[cfg(test)]
-mod strangers;
-#[cfg(test)]
-mod verdicts;
-#[cfg(test)]
-mod written;
+mod unsaid;

@@ -4,29 +4,21 @@
 #[cfg(test)]
 mod addresses;
 #[cfg(test)]
-mod blocks;
+mod bits;
 #[cfg(test)]
 mod conns;
 #[cfg(test)]
 mod four;
 #[cfg(test)]
-mod gathered;
-#[cfg(test)]
-mod generic;
-#[cfg(test)]
-mod interval_sets;
-#[cfg(test)]
 mod io;
-#[cfg(test)]
-mod joins;
 #[cfg(test)]
 mod labels;
 #[cfg(test)]
 mod layers;
 #[cfg(test)]
-mod pieces;
+mod sampled;
 #[cfg(test)]
-mod prefixes;
+mod script;
 #[cfg(test)]
 mod tiers;
 #[cfg(test)]
