@@ -2,7 +2,8 @@
 """What `np` needs for inputs that are made to be slow: bench/slow.py [--program dist/np] [--seconds 60] [NAME..]
 
 Each input is at a limit of what np reads (20,000 objects, 2,000 workloads, 32 MiB) in one of its parts. For each, and each command that
-reads objects, it prints the seconds, the status and the greatest memory; a run that takes longer than --seconds is ended and told.
+reads objects, it prints the seconds of processor time, the status and the greatest memory; a run that takes longer than --seconds is ended
+and told.
 
 cycle         20,000 controllers, each owned by the next, and the last by one in the middle
 chain         a pod, and 19,999 controllers, each owned by the next
@@ -19,16 +20,17 @@ services      9,000 Services that select the same of 1,000 pods, and an Ingress 
 admin         1,001 AdminNetworkPolicies with 60 rules each, of which all but the last speak of other namespaces
 namespaces    18,000 Namespaces and 2,000 workloads, which nothing may pass between
 statements    a small cluster, and 200,000 statements (check alone)
+manyAsked     2,000 pods with a policy each, and 200 statements of all pods and of a namespace that no pod has (check alone)
 
 No time is promised to users: the numbers tell what the limits cost, on one machine, in one run.
 """
 import argparse
 import json
 import os
+import resource
 import subprocess
 import sys
 import tempfile
-import time
 
 sys.path.insert(0, os.path.dirname(os.path.abspath(__file__)))
 from cost import NAME_KEY, listing, pod, policy, ports, values  # noqa: E402
@@ -118,15 +120,27 @@ def namespaces():
     return spaces + [pod("p", "n%d" % i) for i in range(2000)] + [deny]
 
 
+def many_asked():
+    return [pod("p%d" % i, labels={"app": "a%d" % i}) for i in range(2000)] + [policy("p%d" % i, {
+        "podSelector": {"matchLabels": {"app": "a%d" % i}}, "ingress": [{"from": [{"podSelector": {"matchLabels": {"app": "a%d" % (i * 7 % 2000)}}}]}]})
+        for i in range(2000)]
+
+
+# The lines of the statement file of a shape: as many as it says, and one in all others.
+STATEMENTS = {
+    "statements": ["allow any pod => any address : TCP %d-%d" % (i % 60000 + 1, i % 60000 + 5) for i in range(200000)],
+    "manyAsked": ["deny namespace nobody => any pod : UDP 9", "allow any pod => any address : TCP 9"] * 100,
+}
+
 SHAPES = {"cycle": cycle, "chain": chain, "policies": policies, "peers": peers, "rules": rules, "nested": nested, "values": lambda: values(10000),
           "labels": labels, "ports": lambda: ports(10000), "servicePorts": service_ports, "backends": backends, "services": services,
-          "admin": admin, "namespaces": namespaces, "statements": two_pods}
+          "admin": admin, "namespaces": namespaces, "statements": two_pods, "manyAsked": many_asked}
 
 
 def commands(name, items, statements):
     """The commands that are tried: the ends of `explain` and `evaluate` are the first pod and an address, or the first two pods."""
     pods = ["%s/%s" % (i["metadata"].get("namespace", "default"), i["metadata"]["name"]) for i in items if i["kind"] == "Pod"]
-    if name == "statements":
+    if name in STATEMENTS:
         return [["check", "--statement", statements]]
     if not pods:
         return [["list"]]
@@ -136,25 +150,20 @@ def commands(name, items, statements):
 
 
 def measure(words, seconds):
-    """How long it took, how it ended and the greatest memory in MB; None where it took too long."""
-    start = time.time()
-    process = subprocess.Popen(words, stdout=subprocess.DEVNULL, stderr=subprocess.DEVNULL)
-    while True:
-        done, status, used = os.wait4(process.pid, os.WNOHANG)
-        took = time.time() - start
-        if done:
-            return "%8.2f s  status %d %6d MB" % (took, os.waitstatus_to_exitcode(status), used.ru_maxrss // 1024)
-        if took > seconds:
-            process.kill()
-            os.wait4(process.pid, 0)
-            return "longer than %g s" % seconds
-        time.sleep(0.005)
+    """How much processor time it took, how it ended and the greatest memory in MB; or that it took too long."""
+    limit = lambda: resource.setrlimit(resource.RLIMIT_CPU, (seconds, seconds))
+    process = subprocess.Popen(words, stdout=subprocess.DEVNULL, stderr=subprocess.DEVNULL, preexec_fn=limit)
+    _, status, used = os.wait4(process.pid, 0)
+    ended = os.waitstatus_to_exitcode(status)
+    if ended < 0:
+        return "longer than %d s" % seconds
+    return "%8.2f s  status %d %6d MB" % (used.ru_utime + used.ru_stime, ended, used.ru_maxrss // 1024)
 
 
 def main():
     words = argparse.ArgumentParser(description=__doc__, formatter_class=argparse.RawDescriptionHelpFormatter)
     words.add_argument("--program", default=os.path.join(os.path.dirname(os.path.abspath(__file__)), "..", "dist", "np"))
-    words.add_argument("--seconds", type=float, default=60)
+    words.add_argument("--seconds", type=int, default=60)
     words.add_argument("names", nargs="*", metavar="NAME")
     given = words.parse_args()
     unknown = [n for n in given.names if n not in SHAPES]
@@ -166,8 +175,7 @@ def main():
             with open(path, "w") as f:
                 json.dump(listing(items), f)
             with open(statements, "w") as f:
-                count = 200000 if name == "statements" else 1
-                f.writelines("allow any pod => any address : TCP %d-%d\n" % (i % 60000 + 1, i % 60000 + 5) for i in range(count))
+                f.writelines(line + "\n" for line in STATEMENTS.get(name, ["allow any pod => any address : TCP 80"]))
             for command in commands(name, items, statements):
                 told = measure([given.program, *command, path], given.seconds)
                 print("%-12s %5.1f MB  %-9s %s" % (name, os.path.getsize(path) / 1e6, command[0], told), flush=True)
