@@ -1,26 +1,34 @@
-//! Verdicts by example: what `allows` and the layers of np_rules say of lists, against answers that were written by hand.
-//! It holds tests alone.
+//! Verdicts by example: estates written out as values, and `allows` and the layers of np_rules on them, against answers
+//! that were written by hand. It holds tests alone.
 #![tactic(auto)]
 
 #[cfg(test)]
-mod admin_policies;
+mod address_layers;
 #[cfg(test)]
-mod ends;
+mod admin_cases;
 #[cfg(test)]
-mod layers;
+mod built;
 #[cfg(test)]
-mod net_policies;
+mod clusters;
+#[cfg(test)]
+mod layer_places;
+#[cfg(test)]
+mod net_cases;
 #[cfg(test)]
 mod packets;
 #[cfg(test)]
-mod peers;
+mod peer_cases;
 #[cfg(test)]
-mod ports;
+mod pod_rules;
 #[cfg(test)]
-mod questions;
+mod port_cases;
 #[cfg(test)]
-mod rules;
+mod side_layers;
 #[cfg(test)]
-mod script;
+mod sides;
 #[cfg(test)]
-mod unsaid;
+mod strangers;
+#[cfg(test)]
+mod verdicts;
+#[cfg(test)]
+mod written;

@@ -1,4 +1,4 @@
-//! A type of four points.
+//! A type of four points, and sets of them as bits.
 
 use np_base::{Cells, NoMemory, Point};
 use np_sets::IntervalSet;
@@ -6,7 +6,7 @@ use std::alloc::Global;
 use std::marker::Model;
 
 /// One of four points, from 0 to 3.
-#[derive(Clone, Copy)]
+#[derive(Clone, Copy, Debug, PartialEq, Eq)]
 pub struct Four {
     number: u8,
 }
@@ -65,4 +65,23 @@ pub fn only(alloc: Global, point: u8) -> Result<IntervalSet<Four>, NoMemory> {
         Some(point) => IntervalSet::of_range(alloc, point, point),
         None => IntervalSet::nothing(alloc),
     }
+}
+
+/// Whether the set has the point of that number.
+pub fn has(set: &IntervalSet<Four>, point: u8) -> bool {
+    match Four::at(u128::from(point)) {
+        Some(point) => set.has(point),
+        None => false,
+    }
+}
+
+/// The bits of the points of the set.
+pub fn bits_of(set: &IntervalSet<Four>) -> u8 {
+    let mut bits = 0;
+    for point in 0u8..4 {
+        if has(set, point) {
+            bits |= 1 << point;
+        }
+    }
+    bits
 }

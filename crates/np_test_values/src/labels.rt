@@ -1,160 +1,205 @@
-//! Labels, selectors and what is possible.
+//! Labels, selectors and what is possible, by example.
 
-use crate::script::wrong_lines;
 use np_base::{NoMemory, Seq, Text};
 use np_labels::{Labels, Op, Pair, Requirement, Selector, possible};
 use std::alloc::Global;
-use std::fmt::Write;
 use std::test::Fail;
 
-// The labels of words `key=value`.
-fn labels_of(alloc: Global, text: &str) -> Result<Labels, NoMemory> {
-    let mut pairs = Seq::new(alloc);
-    for word in text.split_whitespace() {
-        let (key, value) = word.split_once("=").unwrap_or((word, ""));
-        pairs.push(Pair {
-            key: Text::of(alloc, key)?,
-            value: Text::of(alloc, value)?,
-        })?;
+fn pair(alloc: Global, key: &str, value: &str) -> Result<Pair, NoMemory> {
+    Ok(Pair {
+        key: Text::of(alloc, key)?,
+        value: Text::of(alloc, value)?,
+    })
+}
+
+fn labels(alloc: Global, pairs: &[(&str, &str)]) -> Result<Labels, NoMemory> {
+    let mut made = Seq::new(alloc);
+    for (key, value) in pairs {
+        made.push(pair(alloc, key, value)?)?;
     }
-    Labels::of(alloc, pairs)
+    Labels::of(alloc, made)
 }
 
-fn texts_of(alloc: Global, text: &str) -> Result<Seq<Text>, NoMemory> {
-    let mut texts = Seq::new(alloc);
-    for word in text.split_whitespace() {
-        texts.push(Text::of(alloc, word)?)?;
+fn texts(alloc: Global, values: &[&str]) -> Result<Seq<Text>, NoMemory> {
+    let mut made = Seq::new(alloc);
+    for value in values {
+        made.push(Text::of(alloc, value)?)?;
     }
-    Ok(texts)
+    Ok(made)
 }
 
-// The requirement that a text says, as `app In a b`.
-fn requirement_of(alloc: Global, text: &str) -> Result<Requirement, NoMemory> {
-    let (key, rest) = text.split_once(" ").unwrap_or((text, ""));
-    let (word, values) = rest.split_once(" ").unwrap_or((rest, ""));
-    let op = match word {
-        "In" => Op::OneOf,
-        "NotIn" => Op::NoneOf,
-        "Exists" => Op::Present,
-        _ => Op::Absent,
-    };
-    Requirement::of(alloc, Text::of(alloc, key)?, op, texts_of(alloc, values)?)
+// A requirement as it is written down: its key, what it asks, and its values.
+type Demand = (&'static str, Op, &'static [&'static str]);
+
+fn requirement(alloc: Global, demand: &Demand) -> Result<Requirement, NoMemory> {
+    let (key, op, values) = *demand;
+    Requirement::of(alloc, Text::of(alloc, key)?, op, texts(alloc, values)?)
 }
 
-/// Writes the values of a requirement, whether the labels behind ` @ ` meet it, and whether they meet its negation.
-pub fn put_requirement(alloc: Global, told: &mut String, text: &str) -> Result<(), NoMemory> {
-    let (demand, labels) = text.split_once(" @ ").unwrap_or((text, ""));
-    let requirement = requirement_of(alloc, demand)?;
-    let negated = requirement.negated()?;
-    let labels = labels_of(alloc, labels)?;
-    put_meeting(told, &requirement, &negated, &labels)
-}
-
-fn put_meeting(
-    told: &mut String,
-    requirement: &Requirement,
-    negated: &Requirement,
-    labels: &Labels,
-) -> Result<(), NoMemory> {
-    for value in requirement.values.items() {
-        write!(told, "{value} ")?;
+fn selector(alloc: Global, demands: &[Demand]) -> Result<Selector, NoMemory> {
+    let mut requirements = Seq::new(alloc);
+    for demand in demands {
+        requirements.push(requirement(alloc, demand)?)?;
     }
-    let is_met = requirement.meets(labels);
-    let is_negation_met = negated.meets(labels);
-    Ok(write!(told, "{is_met} {is_negation_met}")?)
+    Ok(Selector { requirements })
 }
 
-/// Writes how many labels there are and the values of the keys behind ` @ `, and the same of a copy.
-pub fn put_labels(alloc: Global, told: &mut String, text: &str) -> Result<(), NoMemory> {
-    let (pairs, keys) = text.split_once(" @ ").unwrap_or((text, ""));
-    let labels = labels_of(alloc, pairs)?;
-    put_values(told, &labels, keys)?;
-    told.push_str("; ")?;
-    let copy = labels.copy()?;
-    put_values(told, &copy, keys)
+const NOT_IN_A: Demand = ("app", Op::NoneOf, &["a"]);
+
+// The values stand as `a`, `b`, `c` and `d`.
+const IN_FOUR: Demand = ("app", Op::OneOf, &["d", "b", "a", "c", "b"]);
+
+const NOT_IN_FOUR: Demand = ("app", Op::NoneOf, &["d", "b", "a", "c", "b"]);
+
+const IS_ABSENT: Demand = ("app", Op::Absent, &[]);
+
+// A requirement, the labels of an object, and whether it meets it.
+type Meeting = (Demand, &'static [(&'static str, &'static str)], bool);
+
+// Kubernetes API reference, "Resources that support set-based requirements": `NotIn` is met where the key is absent, as
+// `DoesNotExist` is.
+static MEETINGS: &[Meeting] = &[
+    (NOT_IN_A, &[("tier", "web")], true),
+    (NOT_IN_A, &[("app", "b")], true),
+    (NOT_IN_A, &[("app", "a")], false),
+    (NOT_IN_A, &[], true),
+    (IS_ABSENT, &[("tier", "a")], true),
+    (IS_ABSENT, &[("app", "a")], false),
+    // the first and the last value, those between, and values before, between and after them
+    (IN_FOUR, &[("app", "a")], true),
+    (IN_FOUR, &[("app", "b")], true),
+    (IN_FOUR, &[("app", "c")], true),
+    (IN_FOUR, &[("app", "d")], true),
+    (IN_FOUR, &[("app", "")], false),
+    (IN_FOUR, &[("app", "aa")], false),
+    (IN_FOUR, &[("app", "bb")], false),
+    (IN_FOUR, &[("app", "dd")], false),
+    (NOT_IN_FOUR, &[("app", "c")], false),
+    (NOT_IN_FOUR, &[("app", "e")], true),
+    (("app", Op::OneOf, &[]), &[("app", "a")], false),
+    (("app", Op::NoneOf, &[]), &[("app", "a")], true),
+];
+
+// Whether labels meet a requirement as is said, and its negation exactly where they do not.
+fn is_as_said(alloc: Global, meeting: &Meeting) -> Result<bool, NoMemory> {
+    let (demand, pairs, met) = *meeting;
+    let labels = labels(alloc, pairs)?;
+    let requirement = requirement(alloc, &demand)?;
+    Ok(requirement.meets(&labels) == met && requirement.negated()?.meets(&labels) != met)
 }
 
-fn put_values(told: &mut String, labels: &Labels, keys: &str) -> Result<(), NoMemory> {
-    let count = labels.pairs().len();
-    write!(told, "{count}")?;
-    for key in keys.split_whitespace() {
-        let value = labels.get(key).unwrap_or("none");
-        write!(told, " {value}")?;
+#[test]
+fn example_requirement(rt: HostRuntime) -> Result<(), Fail> {
+    for meeting in MEETINGS {
+        assert!(rt; is_as_said(rt.alloc(), meeting)?, "{meeting:?}");
     }
     Ok(())
 }
 
-/// Writes labels that meet all requirements, and whether they meet the selector of them and its copy; or that there are none.
-pub fn put_possible(alloc: Global, told: &mut String, text: &str) -> Result<(), NoMemory> {
-    let mut requirements = Seq::new(alloc);
-    for demand in text.split("; ") {
-        requirements.push(requirement_of(alloc, demand)?)?;
+// The values of a requirement, each behind a space.
+fn values_of(alloc: Global, demand: &Demand) -> Result<String, NoMemory> {
+    let requirement = requirement(alloc, demand)?;
+    let mut text = String::new(alloc);
+    for value in requirement.values.items() {
+        write!(text, " {value}")?;
     }
-    let selector = Selector { requirements };
-    let found = possible(alloc, selector.requirements.items())?;
-    match &found {
-        Some(labels) => put_found(told, &selector, labels),
-        None => Ok(told.push_str("none")?),
-    }
+    Ok(text)
 }
-
-fn put_found(told: &mut String, selector: &Selector, labels: &Labels) -> Result<(), NoMemory> {
-    for pair in labels.pairs() {
-        let key = &pair.key;
-        let value = &pair.value;
-        write!(told, "{key}={value} ")?;
-    }
-    let copy = selector.copy()?;
-    let is_met = selector.meets(labels);
-    let is_copy_met = copy.meets(labels);
-    Ok(write!(told, "{is_met} {is_copy_met}")?)
-}
-
-static SCRIPT: &str =
-    r#"`NotIn` is met where the key is absent, as `DoesNotExist` is (Kubernetes API reference, "Resources that support set-based requirements")
-requirement
-app NotIn a @ tier=web -> a true false
-app NotIn a @ app=b -> a true false
-app NotIn a @ app=a -> a false true
-app NotIn a -> a true false
-app DoesNotExist @ tier=a -> true false
-app DoesNotExist @ app=a -> false true
-
-the values ascend and stand once: the first and the last, those between, and values before, between and after them
-requirement
-app In d b a c b @ app=a -> a b c d true false
-app In d b a c b @ app=b -> a b c d true false
-app In d b a c b @ app=c -> a b c d true false
-app In d b a c b @ app=d -> a b c d true false
-app In d b a c b @ app= -> a b c d false true
-app In d b a c b @ app=aa -> a b c d false true
-app In d b a c b @ app=bb -> a b c d false true
-app In d b a c b @ app=dd -> a b c d false true
-app NotIn d b a c b @ app=c -> a b c d false true
-app NotIn d b a c b @ app=e -> a b c d true false
-app In @ app=a -> false true
-app NotIn @ app=a -> true false
-
-a later pair replaces an earlier one
-labels
-b=1 a=2 b=3 @ b a c -> 2 3 2 none; 2 3 2 none
-
-one listed value is left, and none
-possible
-app In a b; app NotIn a -> app=b true true
-app In a b; app NotIn a b -> none
-
-a key that exists gets an unlisted value, and is not absent
-possible
-k Exists; k NotIn a aa -> k=aaa true true
-k Exists; k DoesNotExist -> none
-
-keys are decided apart
-possible
-k0 In x y; k1 In x y; k2 In x y; k3 In x y; k4 In x y; k5 In x y; k6 In x y; k7 In x y -> k0=x k1=x k2=x k3=x k4=x k5=x k6=x k7=x true true"#;
 
 #[test]
-fn example_requirement(rt: HostRuntime) -> Result<(), Fail> {
-    assert_eq!(rt; wrong_lines(rt.alloc(), SCRIPT)?.as_str(), "");
+fn values_ascend_and_stand_once(rt: HostRuntime) -> Result<(), Fail> {
+    let values = values_of(rt.alloc(), &IN_FOUR)?;
+    assert_eq!(rt; values.as_str(), " a b c d");
+    Ok(())
+}
+
+// Whether there are two pairs, and these are the values of these keys.
+fn has_two(labels: &Labels, wanted: &[(&str, Option<&str>)]) -> bool {
+    labels.pairs().len() == 2 && wanted.iter().all(|(key, value)| labels.get(key) == *value)
+}
+
+#[test]
+fn later_pair_replaces_earlier(rt: HostRuntime) -> Result<(), Fail> {
+    static PAIRS: &[(&str, &str)] = &[("b", "1"), ("a", "2"), ("b", "3")];
+    static WANTED: &[(&str, Option<&str>)] = &[("b", Some("3")), ("a", Some("2")), ("c", None)];
+    let made = labels(rt.alloc(), PAIRS)?;
+    assert!(rt; has_two(&made, WANTED));
+    assert!(rt; has_two(&made.copy()?, WANTED), "copy");
+    Ok(())
+}
+
+// Requirements, and the value of a key in labels that meet them all, where there are such labels.
+type Search = (&'static [Demand], Option<(&'static str, &'static str)>);
+
+static SEARCHES: &[Search] = &[
+    // one listed value is left, and none
+    (
+        &[("app", Op::OneOf, &["a", "b"]), ("app", Op::NoneOf, &["a"])],
+        Some(("app", "b")),
+    ),
+    (
+        &[
+            ("app", Op::OneOf, &["a", "b"]),
+            ("app", Op::NoneOf, &["a", "b"]),
+        ],
+        None,
+    ),
+    // a key that exists gets an unlisted value, and is not absent
+    (
+        &[("k", Op::Present, &[]), ("k", Op::NoneOf, &["a", "aa"])],
+        Some(("k", "aaa")),
+    ),
+    (&[("k", Op::Present, &[]), ("k", Op::Absent, &[])], None),
+];
+
+// Whether the labels that are found are such.
+fn is_found(alloc: Global, search: &Search) -> Result<bool, NoMemory> {
+    let (demands, wanted) = *search;
+    let all = selector(alloc, demands)?;
+    let found = possible(alloc, all.requirements.items())?;
+    Ok(match (&found, wanted) {
+        (Some(labels), Some((key, value))) => labels.get(key) == Some(value),
+        (None, None) => true,
+        _ => false,
+    })
+}
+
+#[test]
+fn labels_that_meet_requirements_are_found(rt: HostRuntime) -> Result<(), Fail> {
+    for search in SEARCHES {
+        assert!(rt; is_found(rt.alloc(), search)?, "{search:?}");
+    }
+    Ok(())
+}
+
+static EIGHT_KEYS: &[Demand] = &[
+    ("k0", Op::OneOf, &["x", "y"]),
+    ("k1", Op::OneOf, &["x", "y"]),
+    ("k2", Op::OneOf, &["x", "y"]),
+    ("k3", Op::OneOf, &["x", "y"]),
+    ("k4", Op::OneOf, &["x", "y"]),
+    ("k5", Op::OneOf, &["x", "y"]),
+    ("k6", Op::OneOf, &["x", "y"]),
+    ("k7", Op::OneOf, &["x", "y"]),
+];
+
+// Whether there are eight labels, the last key has its first value, and they meet the selector and its copy.
+fn are_eight(all: &Selector, labels: &Labels) -> Result<bool, NoMemory> {
+    let is_apart = labels.pairs().len() == 8 && labels.get("k7") == Some("x");
+    Ok(is_apart && all.meets(labels) && all.copy()?.meets(labels))
+}
+
+// Whether such labels are found.
+fn eight_are_found(alloc: Global) -> Result<bool, NoMemory> {
+    let all = selector(alloc, EIGHT_KEYS)?;
+    match possible(alloc, all.requirements.items())? {
+        Some(labels) => are_eight(&all, &labels),
+        None => Ok(false),
+    }
+}
+
+#[test]
+fn keys_are_decided_apart(rt: HostRuntime) -> Result<(), Fail> {
+    assert!(rt; eight_are_found(rt.alloc())?);
     Ok(())
 }

@@ -4,21 +4,29 @@
 #[cfg(test)]
 mod addresses;
 #[cfg(test)]
-mod bits;
+mod blocks;
 #[cfg(test)]
 mod conns;
 #[cfg(test)]
 mod four;
 #[cfg(test)]
+mod gathered;
+#[cfg(test)]
+mod generic;
+#[cfg(test)]
+mod interval_sets;
+#[cfg(test)]
 mod io;
+#[cfg(test)]
+mod joins;
 #[cfg(test)]
 mod labels;
 #[cfg(test)]
 mod layers;
 #[cfg(test)]
-mod sampled;
+mod pieces;
 #[cfg(test)]
-mod script;
+mod prefixes;
 #[cfg(test)]
 mod tiers;
 #[cfg(test)]

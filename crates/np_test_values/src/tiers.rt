@@ -1,67 +1,120 @@
 //! `verdict_set` and `carve` against the plain walk of a layer, spot by spot. Each set of a layer has whole blocks, so
 //! the walk is one over a block, and a comparison with a union of blocks speaks of every spot.
 
-use crate::bits::blocks;
 use crate::four::Four;
-use crate::layers::{ADMIN_TIERS, LOWER_TIERS, layer_of, long_layer};
-use crate::sampled::{Both, Sampled};
+use crate::layers::{Sampled, blocks, layer_of, long_layer};
 use crate::walk::walk;
 use np_base::NoMemory;
 use np_conns::ConnSet;
 use np_sets::IntervalSet;
-use np_tiers::{Layer, Mark, carve, verdict_set};
+use np_tiers::{Layer, Mark, Marked, carve, verdict_set};
 use std::alloc::Global;
-use std::fmt::Write;
+use std::process::Abort;
 use std::test::Fail;
 
-// The bits of the blocks that have this mark on the walk, or of those that it allows.
-fn walked_bits<S: Sampled>(layer: &Layer<S>, mark: Option<Mark>) -> u16 {
+// The bits of the blocks that the walk allows.
+fn allowed_bits<S: Sampled>(layer: &Layer<S>) -> u8 {
     let mut bits = 0;
     for block in 0u8..4 {
-        let (found, allowed) = walk(layer, block, false);
-        let is_in = match mark {
-            Some(mark) => found == mark,
-            None => allowed,
-        };
-        if is_in {
+        if walk(layer, block, false).1 {
             bits |= 1 << block;
         }
     }
     bits
 }
 
-// Whether the set of the spots that are allowed is that of the walk, which says the same of the last spot of each block as of
-// its first.
-fn is_verdict<S: Sampled>(alloc: Global, layer: &Layer<S>) -> Result<bool, NoMemory> {
-    let is_even = (0u8..4).all(|block| walk(layer, block, true) == walk(layer, block, false));
-    let verdict = verdict_set(alloc, layer)?;
-    let allowed = blocks(alloc, walked_bits(layer, None))?;
-    Ok(is_even && verdict.same(&allowed))
+// The bits of the blocks that have this mark on the walk.
+fn marked_bits<S: Sampled>(layer: &Layer<S>, mark: Mark) -> u8 {
+    let mut bits = 0;
+    for block in 0u8..4 {
+        if walk(layer, block, false).0 == mark {
+            bits |= 1 << block;
+        }
+    }
+    bits
 }
 
-// Whether each entry has spots, exactly those of its mark, and they have all blocks, each once.
-fn is_carving<S: Sampled>(alloc: Global, layer: &Layer<S>) -> Result<bool, NoMemory> {
-    let carved = carve(alloc, layer)?;
-    let mut all = 0;
-    for entry in carved.items() {
-        let bits = walked_bits(layer, Some(entry.mark));
-        let marked = blocks(alloc, bits)?;
-        if bits == 0 || all & bits != 0 || !entry.set.same(&marked) {
+// Whether no block before this one has its mark.
+fn is_first_of_mark<S: Sampled>(layer: &Layer<S>, block: u8) -> bool {
+    let mark = walk(layer, block, false).0;
+    (0..block).all(|earlier| walk(layer, earlier, false).0 != mark)
+}
+
+// How many marks decide some block.
+fn count_marks<S: Sampled>(layer: &Layer<S>) -> usize {
+    (0u8..4)
+        .filter(|block| is_first_of_mark(layer, *block))
+        .count()
+}
+
+// Whether the walk says the same of the last spot of each block as of its first.
+fn is_even<S: Sampled>(layer: &Layer<S>) -> bool {
+    (0u8..4).all(|block| walk(layer, block, true) == walk(layer, block, false))
+}
+
+// Whether the set of the spots that are allowed is that of the walk.
+fn is_verdict<S: Sampled>(alloc: Global, layer: &Layer<S>) -> Result<bool, NoMemory> {
+    let verdict = verdict_set(alloc, layer)?;
+    let allowed = blocks(alloc, allowed_bits(layer))?;
+    Ok(verdict.same(&allowed))
+}
+
+// Whether the entry has spots, and exactly those of its mark.
+fn is_entry<S: Sampled>(
+    alloc: Global,
+    layer: &Layer<S>,
+    entry: &Marked<S>,
+) -> Result<bool, NoMemory> {
+    let marked = blocks(alloc, marked_bits(layer, entry.mark))?;
+    Ok(entry.set.same(&marked) && !entry.set.is_empty())
+}
+
+fn are_entries<S: Sampled>(
+    alloc: Global,
+    layer: &Layer<S>,
+    entries: &[Marked<S>],
+) -> Result<bool, NoMemory> {
+    for entry in entries {
+        if !is_entry(alloc, layer, entry)? {
             return Ok(false);
         }
-        all |= bits;
     }
-    Ok(all == 15)
+    Ok(true)
 }
 
-// Writes which of the 48 layers are not as the walk says.
-fn put_wrong<S: Sampled>(alloc: Global, wrong: &mut String) -> Result<(), NoMemory> {
-    for (above, admin) in ADMIN_TIERS.iter().enumerate() {
-        for (below, lower) in LOWER_TIERS.iter().enumerate() {
-            let layer = layer_of::<S>(alloc, admin, *lower)?;
-            if !is_verdict(alloc, &layer)? || !is_carving(alloc, &layer)? {
-                writeln!(wrong, "layer {above}, {below}")?;
-            }
+// Whether all entries are such, and as many as there are marks.
+fn is_carving<S: Sampled>(alloc: Global, layer: &Layer<S>) -> Result<bool, NoMemory> {
+    let carved = carve(alloc, layer)?;
+    let entries = carved.items();
+    Ok(are_entries(alloc, layer, entries)? && entries.len() == count_marks(layer))
+}
+
+// What of the layer is not as the walk says, if anything.
+fn difference_in<S: Sampled>(alloc: Global, layer: &Layer<S>) -> Result<&'static str, NoMemory> {
+    if !is_even(layer) {
+        return Ok("blocks");
+    }
+    if !is_verdict(alloc, layer)? {
+        return Ok("verdict");
+    }
+    if !is_carving(alloc, layer)? {
+        return Ok("carving");
+    }
+    Ok("nothing")
+}
+
+// The same of the layer of these numbers.
+fn difference<S: Sampled>(alloc: Global, above: u32, below: u32) -> Result<&'static str, NoMemory> {
+    let layer = layer_of::<S>(alloc, above, below)?;
+    difference_in(alloc, &layer)
+}
+
+// All 48 layers.
+fn compare_all<S: Sampled>(rt: &impl Abort, alloc: Global) -> Result<(), NoMemory> {
+    for above in 0u32..8 {
+        for below in 0u32..6 {
+            let found = difference::<S>(alloc, above, below)?;
+            assert!(rt; found == "nothing", "{found} of layer {above}, {below}");
         }
     }
     Ok(())
@@ -69,27 +122,28 @@ fn put_wrong<S: Sampled>(alloc: Global, wrong: &mut String) -> Result<(), NoMemo
 
 #[test]
 fn example_verdict_set(rt: HostRuntime) -> Result<(), Fail> {
-    let mut wrong = String::new(rt.alloc());
-    put_wrong::<IntervalSet<Four>>(rt.alloc(), &mut wrong)?;
-    put_wrong::<ConnSet>(rt.alloc(), &mut wrong)?;
-    put_wrong::<Both>(rt.alloc(), &mut wrong)?;
-    assert_eq!(rt; wrong.as_str(), "");
+    compare_all::<IntervalSet<Four>>(&rt, rt.alloc())?;
     Ok(())
+}
+
+#[test]
+fn as_the_walk_over_connections(rt: HostRuntime) -> Result<(), Fail> {
+    compare_all::<ConnSet>(&rt, rt.alloc())?;
+    Ok(())
+}
+
+// What of a long layer is not as the walk says, if anything.
+fn long_difference(alloc: Global, number: u32) -> Result<&'static str, NoMemory> {
+    let layer: Layer<IntervalSet<Four>> = long_layer(alloc, number)?;
+    difference_in(alloc, &layer)
 }
 
 // Tiers of a hundred parts are put together in halves.
 #[test]
 fn as_the_walk_over_long_tiers(rt: HostRuntime) -> Result<(), Fail> {
     for number in 0u32..100 {
-        let layer: Layer<IntervalSet<Four>> = long_layer(rt.alloc(), number)?;
-        assert!(rt;
-            is_verdict(rt.alloc(), &layer)?,
-            "verdict of layer {number}"
-        );
-        assert!(rt;
-            is_carving(rt.alloc(), &layer)?,
-            "carving of layer {number}"
-        );
+        let found = long_difference(rt.alloc(), number)?;
+        assert!(rt; found == "nothing", "{found} of layer {number}");
     }
     Ok(())
 }
