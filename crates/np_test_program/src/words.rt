@@ -1,7 +1,7 @@
 //! What words ask for, by example.
 
 use crate::runs::words_of;
-use np_base::NoMemory;
+use np_base::{NoMemory, Text};
 use np_words::{Job, WordsFault, read_words};
 use std::alloc::Global;
 use std::test::Fail;
@@ -29,7 +29,7 @@ fn files(alloc: Global, line: &str) -> Result<String, NoMemory> {
 }
 
 // The names, each behind a space but the first.
-fn joined(alloc: Global, files: &[String]) -> Result<String, NoMemory> {
+fn joined(alloc: Global, files: &[Text]) -> Result<String, NoMemory> {
     let mut text = String::new(alloc);
     for file in files {
         if !text.is_empty() {
