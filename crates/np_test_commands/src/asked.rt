@@ -2,16 +2,16 @@
 ghost use Rattle.std.specs.Prelude.{◌≡◌, ◌<◌};
 ghost use Rattle.np_estate.specs.Lawful.{IsLawful};
 
-use np_addr::Family;
+use crate::explained::explained_text;
+use crate::exposed::{exposed_text, weight_text};
+use crate::flat::flat_text;
+use crate::routed::{flaws_text, reached_text};
+use crate::stated::broken_text;
+use crate::unused::unused_text;
 use np_base::NoMemory;
-use np_conns::print_conns;
 use np_estate::Estate;
-use np_explain::{explain, print_decider};
-use np_exposure::{ExposureFault, ExposureRow, exposure, print_peer, weight};
 use np_fold::Folded;
 use np_policies::Direction;
-use np_routes::{ingress_set, route_notes};
-use np_rules::End;
 use np_samples::{input_of, list_of};
 use np_steps::Steps;
 use std::alloc::Global;
@@ -33,6 +33,12 @@ pub enum Question {
     Exposed(u32, Direction),
     /// How many patterns the requirements that are mentioned at a pod may tell apart.
     Weight(u32, Direction),
+    /// A line for each rule that decides nothing.
+    Unused,
+    /// How the first line of a file of statements that does not hold is broken, or why the file is refused.
+    Broken(&'static str),
+    /// A line for each NetworkPolicy of those that alone give the same verdicts, or why there are none.
+    Flat,
 }
 
 /// Stops the test unless a list of these items gives these answers.
@@ -87,101 +93,8 @@ fn counted_answer<L: Ledger>(
             exposed_text(alloc, folded.estate(), pod, direction, &mut steps)
         }
         Question::Weight(pod, direction) => weight_text(alloc, folded.estate(), pod, direction),
+        Question::Unused => unused_text(alloc, folded, &mut steps),
+        Question::Broken(file) => broken_text(alloc, folded, file, &mut steps),
+        Question::Flat => flat_text(alloc, folded, &mut steps),
     }
-}
-
-// The ports of a workload that are reached.
-fn reached_text<L: Ledger>(
-    alloc: Global,
-    folded: &Folded,
-    controller: Option<u32>,
-    workload: u32,
-    steps: &mut Steps<L>,
-) -> Result<String, NoMemory> {
-    let count = folded.workloads().count();
-    if workload >= count || controller.unwrap_or(0) >= count {
-        return Ok(String::from_str(alloc, "no such workload")?);
-    }
-    let set = ingress_set(alloc, folded, controller, workload, steps)?;
-    let text = print_conns(alloc, &set)?;
-    Ok(String::from_str(alloc, text.as_str())?)
-}
-
-// The backends that have a flaw.
-fn flaws_text(alloc: Global, estate: &Estate) -> Result<String, NoMemory> {
-    let mut text = String::new(alloc);
-    for note in route_notes(alloc, estate)?.items() {
-        text.push_str(format!(in alloc; "{note}\n")?.as_str())?;
-    }
-    Ok(text)
-}
-
-// What decides between two pods at a side.
-fn explained_text<L: Ledger>(
-    alloc: Global,
-    folded: &Folded,
-    source: u32,
-    destination: u32,
-    direction: Direction,
-    steps: &mut Steps<L>,
-) -> Result<String, NoMemory> {
-    let estate = folded.estate();
-    let count = estate.pods().len();
-    if source as usize >= count || destination as usize >= count || source == destination {
-        return Ok(String::from_str(alloc, "no two pods")?);
-    }
-    let (from, to) = (End::Pod(source), End::Pod(destination));
-    let parts = explain(alloc, estate, from, to, direction, Family::Four, steps)?;
-    let mut text = String::new(alloc);
-    for part in parts.items() {
-        let conns = print_conns(alloc, &part.conns)?;
-        let decider = print_decider(alloc, direction, &part.decider)?;
-        text.push_str(format!(in alloc; "{conns} : {decider}\n")?.as_str())?;
-    }
-    Ok(text)
-}
-
-// The rows of the exposure of a pod, or why there are none.
-fn exposed_text<L: Ledger>(
-    alloc: Global,
-    estate: &Estate,
-    pod: u32,
-    direction: Direction,
-    steps: &mut Steps<L>,
-) -> Result<String, NoMemory> {
-    if pod as usize >= estate.pods().len() {
-        return Ok(String::from_str(alloc, "no such pod")?);
-    }
-    match exposure(alloc, estate, pod, direction, steps) {
-        Ok(rows) => rows_text(alloc, rows.items()),
-        Err(ExposureFault::TooManyPatterns { weight }) => {
-            Ok(format!(in alloc; "TooManyPatterns {weight}")?)
-        }
-        Err(ExposureFault::NoMemory) => Err(NoMemory),
-    }
-}
-
-// Rows of an exposure.
-fn rows_text(alloc: Global, rows: &[ExposureRow]) -> Result<String, NoMemory> {
-    let mut text = String::new(alloc);
-    for row in rows {
-        let peer = print_peer(alloc, row)?;
-        let conns = print_conns(alloc, &row.conns)?;
-        text.push_str(format!(in alloc; "{peer} : {conns}\n")?.as_str())?;
-    }
-    Ok(text)
-}
-
-// How many patterns there may be.
-fn weight_text(
-    alloc: Global,
-    estate: &Estate,
-    pod: u32,
-    direction: Direction,
-) -> Result<String, NoMemory> {
-    if pod as usize >= estate.pods().len() {
-        return Ok(String::from_str(alloc, "no such pod")?);
-    }
-    let weight = weight(alloc, estate, pod, direction)?;
-    Ok(format!(in alloc; "{weight}")?)
 }

@@ -1,7 +1,41 @@
 //! Which rule decides between two pods.
 
 use crate::asked::{Question, expect_answers};
+use np_addr::Family;
+use np_base::NoMemory;
+use np_conns::print_conns;
+use np_explain::{explain, print_decider};
+use np_fold::Folded;
 use np_policies::Direction;
+use np_rules::End;
+use np_steps::Steps;
+use std::alloc::Global;
+use std::sync::ledger::Ledger;
+
+/// What decides between two pods at a side.
+pub fn explained_text<L: Ledger>(
+    alloc: Global,
+    folded: &Folded,
+    source: u32,
+    destination: u32,
+    direction: Direction,
+    steps: &mut Steps<L>,
+) -> Result<String, NoMemory> {
+    let estate = folded.estate();
+    let count = estate.pods().len();
+    if source as usize >= count || destination as usize >= count || source == destination {
+        return Ok(String::from_str(alloc, "no two pods")?);
+    }
+    let (from, to) = (End::Pod(source), End::Pod(destination));
+    let parts = explain(alloc, estate, from, to, direction, Family::Four, steps)?;
+    let mut text = String::new(alloc);
+    for part in parts.items() {
+        let conns = print_conns(alloc, &part.conns)?;
+        let decider = print_decider(alloc, direction, &part.decider)?;
+        text.push_str(format!(in alloc; "{conns} : {decider}\n")?.as_str())?;
+    }
+    Ok(text)
+}
 
 // A rule of the baseline, and none, after a Pass.
 #[test]

@@ -1,7 +1,59 @@
 //! What pods that nobody has written yet could reach, and be reached by.
 
 use crate::asked::{Question, expect_answers};
+use np_base::NoMemory;
+use np_conns::print_conns;
+use np_estate::Estate;
+use np_exposure::{ExposureFault, ExposureRow, exposure, print_peer, weight};
 use np_policies::Direction;
+use np_steps::Steps;
+use std::alloc::Global;
+use std::sync::ledger::Ledger;
+
+/// The rows of the exposure of a pod, or why there are none.
+pub fn exposed_text<L: Ledger>(
+    alloc: Global,
+    estate: &Estate,
+    pod: u32,
+    direction: Direction,
+    steps: &mut Steps<L>,
+) -> Result<String, NoMemory> {
+    if pod as usize >= estate.pods().len() {
+        return Ok(String::from_str(alloc, "no such pod")?);
+    }
+    match exposure(alloc, estate, pod, direction, steps) {
+        Ok(rows) => rows_text(alloc, rows.items()),
+        Err(ExposureFault::TooManyPatterns { weight }) => {
+            Ok(format!(in alloc; "TooManyPatterns {weight}")?)
+        }
+        Err(ExposureFault::NoMemory) => Err(NoMemory),
+    }
+}
+
+// Rows of an exposure.
+fn rows_text(alloc: Global, rows: &[ExposureRow]) -> Result<String, NoMemory> {
+    let mut text = String::new(alloc);
+    for row in rows {
+        let peer = print_peer(alloc, row)?;
+        let conns = print_conns(alloc, &row.conns)?;
+        text.push_str(format!(in alloc; "{peer} : {conns}\n")?.as_str())?;
+    }
+    Ok(text)
+}
+
+/// How many patterns there may be.
+pub fn weight_text(
+    alloc: Global,
+    estate: &Estate,
+    pod: u32,
+    direction: Direction,
+) -> Result<String, NoMemory> {
+    if pod as usize >= estate.pods().len() {
+        return Ok(String::from_str(alloc, "no such pod")?);
+    }
+    let weight = weight(alloc, estate, pod, direction)?;
+    Ok(format!(in alloc; "{weight}")?)
+}
 
 // A peer of two selectors, and one of the policy's own namespace.
 #[test]

@@ -8,4 +8,12 @@ mod explained;
 #[cfg(test)]
 mod exposed;
 #[cfg(test)]
+mod flat;
+#[cfg(test)]
 mod routed;
+#[cfg(test)]
+mod sampled;
+#[cfg(test)]
+mod stated;
+#[cfg(test)]
+mod unused;

@@ -1,6 +1,40 @@
 //! What comes to workloads through Ingresses.
 
 use crate::asked::{Question, expect_answers};
+use np_base::NoMemory;
+use np_conns::print_conns;
+use np_estate::Estate;
+use np_fold::Folded;
+use np_routes::{ingress_set, route_notes};
+use np_steps::Steps;
+use std::alloc::Global;
+use std::sync::ledger::Ledger;
+
+/// The ports of a workload that are reached.
+pub fn reached_text<L: Ledger>(
+    alloc: Global,
+    folded: &Folded,
+    controller: Option<u32>,
+    workload: u32,
+    steps: &mut Steps<L>,
+) -> Result<String, NoMemory> {
+    let count = folded.workloads().count();
+    if workload >= count || controller.unwrap_or(0) >= count {
+        return Ok(String::from_str(alloc, "no such workload")?);
+    }
+    let set = ingress_set(alloc, folded, controller, workload, steps)?;
+    let text = print_conns(alloc, &set)?;
+    Ok(String::from_str(alloc, text.as_str())?)
+}
+
+/// The backends that have a flaw.
+pub fn flaws_text(alloc: Global, estate: &Estate) -> Result<String, NoMemory> {
+    let mut text = String::new(alloc);
+    for note in route_notes(alloc, estate)?.items() {
+        text.push_str(format!(in alloc; "{note}\n")?.as_str())?;
+    }
+    Ok(text)
+}
 
 // A named port that one pod of two has, and a policy that opens it; a backend that names no Service.
 #[test]

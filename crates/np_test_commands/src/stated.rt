@@ -1,0 +1,124 @@
+//! Statements about a cluster, and how they are broken.
+ghost use Rattle.std.specs.Prelude.{All};
+ghost use Rattle.np_statements.specs.AskedLines.{IsAsked};
+
+use crate::asked::{Question, expect_answers};
+use np_base::{NoMemory, Seq};
+use np_check::{EndForm, StatementText, Wanted, read_statement};
+use np_conns::print_conns;
+use np_fold::Folded;
+use np_statements::{AskedLine, find_ends, first_broken, print_broken, read_statements};
+use np_steps::Steps;
+use std::alloc::Global;
+use std::sync::ledger::Ledger;
+
+/// How the first line of a file that does not hold is broken, or that all hold, or why the file is refused.
+pub fn broken_text<L: Ledger>(
+    alloc: Global,
+    folded: &Folded,
+    file: &str,
+    steps: &mut Steps<L>,
+) -> Result<String, NoMemory> {
+    let lines = match read_statements(alloc, file.as_bytes()) {
+        Ok(lines) => lines,
+        Err(fault) => return Ok(format!(in alloc; "{fault}")?),
+    };
+    match find_ends(alloc, folded, lines) {
+        Ok(asked) => first_text(alloc, folded, asked, steps),
+        Err(fault) => Ok(format!(in alloc; "{fault}")?),
+    }
+}
+
+// How the first line that does not hold is broken, or that all hold.
+fn first_text<L: Ledger>(
+    alloc: Global,
+    folded: &Folded,
+    asked: Seq<AskedLine>,
+    steps: &mut Steps<L>,
+) -> Result<String, NoMemory>
+    requires { All (IsAsked folded.now) asked }
+{
+    match first_broken(alloc, folded, asked, steps)? {
+        Some(broken) => {
+            let printed = print_broken(alloc, folded, &broken)?;
+            Ok(String::from_str(alloc, printed.as_str())?)
+        }
+        None => Ok(String::from_str(alloc, "all hold")?),
+    }
+}
+
+#[test]
+fn example_first_broken(rt: HostRuntime) {
+    static ITEMS: &[&str] = &[
+        r#"{"apiVersion":"v1","kind":"Pod","metadata":{"name":"a","labels":{"app":"a"}},"spec":{}}"#,
+        r#"{"apiVersion":"v1","kind":"Pod","metadata":{"name":"b","labels":{"app":"b"}},"spec":{}}"#,
+        r#"{"apiVersion":"networking.k8s.io/v1","kind":"NetworkPolicy","metadata":{"name":"p"},"spec":{"podSelector":{"matchLabels":{"app":"b"}},"ingress":[{"from":[{"podSelector":{"matchLabels":{"app":"a"}}}],"ports":[{"protocol":"TCP","port":80}]}]}}"#,
+    ];
+    static WANTED: &[(Question, &str)] = &[
+        (
+            Question::Broken(concat!(
+                "deny any address => workload default/b[Pod] : All Connections\n",
+                "allow workload default/a[Pod] => workload default/b[Pod] : TCP 80\n",
+            )),
+            "all hold",
+        ),
+        (
+            Question::Broken(concat!(
+                "deny any address => workload default/b[Pod] : All Connections\n",
+                "allow workload default/a[Pod] => workload default/b[Pod] : TCP 80-81\n",
+            )),
+            "line 2: default/a[Pod] => default/b[Pod] : TCP 81 : Deny",
+        ),
+        (
+            Question::Broken("allow any pod => workload default/q[Pod] : TCP 1"),
+            "no workload is named default/q[Pod]",
+        ),
+        (Question::Broken("\nallow"), "line 2 is no statement"),
+    ];
+    expect_answers(&rt, rt.alloc(), ITEMS, WANTED);
+}
+
+// What a line says, in few words.
+fn line_text(alloc: Global, line: &str) -> Result<String, NoMemory> {
+    match read_statement(alloc, line) {
+        Ok(statement) => said_text(alloc, &statement),
+        Err(fault) => Ok(format!(in alloc; "{fault}")?),
+    }
+}
+
+fn said_text(alloc: Global, statement: &StatementText) -> Result<String, NoMemory> {
+    let wanted = match statement.wanted {
+        Wanted::Allow => "may",
+        Wanted::Deny => "may not",
+    };
+    let source = form_text(&statement.source);
+    let destination = form_text(&statement.destination);
+    let conns = print_conns(alloc, &statement.conns)?;
+    Ok(format!(in alloc; "{source} {wanted} {destination}: {conns}")?)
+}
+
+fn form_text(form: &EndForm) -> &str {
+    match form {
+        EndForm::Pods => "pods",
+        EndForm::Addresses => "addresses",
+        EndForm::Namespace(name) => name.as_str(),
+        EndForm::Work(name) => name.as_str(),
+        EndForm::Block(_) => "a block",
+    }
+}
+
+static LINES: &[(&str, &str)] = &[
+    ("allow any pod => any address : TCP 80", "pods may addresses: TCP 80"),
+    ("deny 10.0.0.0/8 => namespace shop : All Connections", "a block may not shop: All Connections"),
+    ("allow workload a/b[Pod] => any pod : No Connections", "a/b[Pod] may pods: No Connections"),
+    ("deny any address => 10.0.0.0/8 : TCP 80", "not a statement"),
+    ("allow any pod => any pod", "not a statement"),
+];
+
+#[test]
+fn example_read_statement(rt: HostRuntime) {
+    for (line, wanted) in LINES {
+        let said = line_text(rt.alloc(), line).expect(&rt, "an answer");
+        assert_eq!(rt; said.as_str(), *wanted);
+    }
+}

@@ -1,0 +1,48 @@
+//! The rules that decide nothing.
+ghost use Rattle.std.specs.Prelude.{All};
+ghost use Rattle.np_lint.specs.Rules.{IsRuleOf};
+
+use crate::asked::{Question, expect_answers};
+use np_base::NoMemory;
+use np_estate::Estate;
+use np_fold::Folded;
+use np_lint::{RuleRef, print_rule, unused_rules};
+use np_steps::Steps;
+use std::alloc::Global;
+use std::sync::ledger::Ledger;
+
+/// A line for each rule that decides nothing.
+pub fn unused_text<L: Ledger>(
+    alloc: Global,
+    folded: &Folded,
+    steps: &mut Steps<L>,
+) -> Result<String, NoMemory> {
+    let rules = unused_rules(alloc, folded, steps)?;
+    rules_text(alloc, folded.estate(), rules.items())
+}
+
+// A line for each of some rules.
+fn rules_text(alloc: Global, estate: &Estate, rules: &[RuleRef]) -> Result<String, NoMemory>
+    requires { All (IsRuleOf estate.now) rules.now }
+{
+    let mut text = String::new(alloc);
+    for rule in rules {
+        let printed = print_rule(alloc, estate, rule)?;
+        writeln!(text, "{printed}")?;
+    }
+    Ok(text)
+}
+
+// Of two policies with the same rule the one of the lesser name decides.
+#[test]
+fn example_unused_rules(rt: HostRuntime) {
+    static ITEMS: &[&str] = &[
+        r#"{"apiVersion":"v1","kind":"Pod","metadata":{"name":"a","labels":{"app":"a"}},"spec":{}}"#,
+        r#"{"apiVersion":"v1","kind":"Pod","metadata":{"name":"b","labels":{"app":"b"}},"spec":{}}"#,
+        r#"{"apiVersion":"networking.k8s.io/v1","kind":"NetworkPolicy","metadata":{"name":"q"},"spec":{"podSelector":{"matchLabels":{"app":"b"}},"ingress":[{"from":[{"podSelector":{"matchLabels":{"app":"a"}}}],"ports":[{"protocol":"TCP","port":80}]}]}}"#,
+        r#"{"apiVersion":"networking.k8s.io/v1","kind":"NetworkPolicy","metadata":{"name":"p"},"spec":{"podSelector":{"matchLabels":{"app":"b"}},"ingress":[{"from":[{"podSelector":{"matchLabels":{"app":"a"}}}],"ports":[{"protocol":"TCP","port":80}]}]}}"#,
+    ];
+    static WANTED: &[(Question, &str)] =
+        &[(Question::Unused, "NetworkPolicy default/q ingress[0]\n")];
+    expect_answers(&rt, rt.alloc(), ITEMS, WANTED);
+}
