@@ -108,9 +108,18 @@ fn form_text(form: &EndForm) -> &str {
 }
 
 static LINES: &[(&str, &str)] = &[
-    ("allow any pod => any address : TCP 80", "pods may addresses: TCP 80"),
-    ("deny 10.0.0.0/8 => namespace shop : All Connections", "a block may not shop: All Connections"),
-    ("allow workload a/b[Pod] => any pod : No Connections", "a/b[Pod] may pods: No Connections"),
+    (
+        "allow any pod => any address : TCP 80",
+        "pods may addresses: TCP 80",
+    ),
+    (
+        "deny 10.0.0.0/8 => namespace shop : All Connections",
+        "a block may not shop: All Connections",
+    ),
+    (
+        "allow workload a/b[Pod] => any pod : No Connections",
+        "a/b[Pod] may pods: No Connections",
+    ),
     ("deny any address => 10.0.0.0/8 : TCP 80", "not a statement"),
     ("allow any pod => any pod", "not a statement"),
 ];

@@ -42,7 +42,9 @@ fn example_unused_rules(rt: HostRuntime) {
         r#"{"apiVersion":"networking.k8s.io/v1","kind":"NetworkPolicy","metadata":{"name":"q"},"spec":{"podSelector":{"matchLabels":{"app":"b"}},"ingress":[{"from":[{"podSelector":{"matchLabels":{"app":"a"}}}],"ports":[{"protocol":"TCP","port":80}]}]}}"#,
         r#"{"apiVersion":"networking.k8s.io/v1","kind":"NetworkPolicy","metadata":{"name":"p"},"spec":{"podSelector":{"matchLabels":{"app":"b"}},"ingress":[{"from":[{"podSelector":{"matchLabels":{"app":"a"}}}],"ports":[{"protocol":"TCP","port":80}]}]}}"#,
     ];
-    static WANTED: &[(Question, &str)] =
-        &[(Question::Unused, "NetworkPolicy default/q ingress[0]\n")];
+    static WANTED: &[(Question, &str)] = &[(
+        Question::Unused,
+        "NetworkPolicy default/q ingress[0]\n",
+    )];
     expect_answers(&rt, rt.alloc(), ITEMS, WANTED);
 }
