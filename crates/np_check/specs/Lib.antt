@@ -1,4 +1,5 @@
 pub mod Counters
+pub mod Faults
 pub mod FirstPacket
 pub mod Firsts
 pub mod Holding

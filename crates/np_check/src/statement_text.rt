@@ -48,6 +48,11 @@ pub enum StatementFault {
 }
 
 impl fmt::Display for StatementFault {
+    ghost use Rattle.std.specs.Prelude.{Some};
+    ghost use Rattle.np_check.specs.Faults.{statement_fault_text};
+
+    ghost output = { λ fault. Some (statement_fault_text fault) };
+
     fn fmt<W: fmt::Write>(&self, f: &mut fmt::Formatter<W>) -> fmt::Result {
         match self {
             StatementFault::BadStatement => write!(f, "not a statement"),

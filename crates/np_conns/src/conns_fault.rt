@@ -14,6 +14,11 @@ pub enum ConnsFault {
 }
 
 impl fmt::Display for ConnsFault {
+    ghost use Rattle.std.specs.Prelude.{Some};
+    ghost use Rattle.np_conns.specs.Faults.{conns_fault_text};
+
+    ghost output = { λ fault. Some (conns_fault_text fault) };
+
     fn fmt<W: fmt::Write>(&self, f: &mut fmt::Formatter<W>) -> fmt::Result {
         match self {
             ConnsFault::BadConns => write!(f, "not the text of connections"),

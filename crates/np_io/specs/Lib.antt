@@ -1,4 +1,5 @@
 pub mod Counts
+pub mod Faults
 pub mod Memory
 pub mod Source
 pub mod Taken

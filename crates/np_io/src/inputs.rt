@@ -12,6 +12,10 @@ use std::fmt;
 pub struct InputFailed;
 
 impl fmt::Display for InputFailed {
+    ghost use Rattle.std.specs.Prelude.{codes};
+
+    ghost output = { λ _. Some (codes "cannot read") };
+
     fn fmt<W: fmt::Write>(&self, f: &mut fmt::Formatter<W>) -> fmt::Result {
         write!(f, "cannot read")
     }

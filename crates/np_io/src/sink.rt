@@ -10,6 +10,10 @@ use std::fmt;
 pub struct SinkFailed;
 
 impl fmt::Display for SinkFailed {
+    ghost use Rattle.std.specs.Prelude.{Some, codes};
+
+    ghost output = { λ _. Some (codes "cannot write") };
+
     fn fmt<W: fmt::Write>(&self, f: &mut fmt::Formatter<W>) -> fmt::Result {
         write!(f, "cannot write")
     }

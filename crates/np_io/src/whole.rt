@@ -22,6 +22,11 @@ pub enum WholeFault {
 }
 
 impl fmt::Display for WholeFault {
+    ghost use Rattle.std.specs.Prelude.{Some};
+    ghost use Rattle.np_io.specs.Faults.{whole_fault_text};
+
+    ghost output = { λ fault. Some (whole_fault_text fault) };
+
     fn fmt<W: fmt::Write>(&self, f: &mut fmt::Formatter<W>) -> fmt::Result {
         match self {
             WholeFault::InputFailed => write!(f, "cannot read"),

@@ -16,6 +16,11 @@ pub enum ReportFault {
 }
 
 impl fmt::Display for ReportFault {
+    ghost use Rattle.std.specs.Prelude.{Some};
+    ghost use Rattle.np_report.specs.Faults.{report_fault_text};
+
+    ghost output = { λ fault. Some (report_fault_text fault) };
+
     fn fmt<W: fmt::Write>(&self, f: &mut fmt::Formatter<W>) -> fmt::Result {
         match self {
             ReportFault::SinkFailed => write!(f, "cannot write"),

@@ -4,6 +4,7 @@ pub mod BrokenLines
 pub mod BrokenText
 pub mod Cuts
 pub mod Ends
+pub mod Faults
 pub mod FirstBrokenLine
 pub mod FoundEnds
 pub mod Holding

@@ -14,6 +14,11 @@ pub enum EndFault {
 }
 
 impl fmt::Display for EndFault {
+    ghost use Rattle.std.specs.Prelude.{Some};
+    ghost use Rattle.np_statements.specs.Faults.{end_fault_text};
+
+    ghost output = { λ fault. Some (end_fault_text fault) };
+
     fn fmt<W: fmt::Write>(&self, f: &mut fmt::Formatter<W>) -> fmt::Result {
         match self {
             EndFault::UnknownEnd { name } => write!(f, "no workload is named {name}"),

@@ -14,6 +14,11 @@ pub enum FileFault {
 }
 
 impl fmt::Display for FileFault {
+    ghost use Rattle.std.specs.Prelude.{Some};
+    ghost use Rattle.np_statements.specs.Faults.{file_fault_text};
+
+    ghost output = { λ fault. Some (file_fault_text fault) };
+
     fn fmt<W: fmt::Write>(&self, f: &mut fmt::Formatter<W>) -> fmt::Result {
         match self {
             FileFault::BadStatement { line } => write!(f, "line {line} is no statement"),

@@ -1,4 +1,5 @@
 pub mod Faults
+pub mod FaultText
 pub mod Flat
 pub mod Groups
 pub mod Pairs

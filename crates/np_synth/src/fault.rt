@@ -18,6 +18,11 @@ pub enum FlatFault {
 }
 
 impl fmt::Display for FlatFault {
+    ghost use Rattle.std.specs.Prelude.{Some};
+    ghost use Rattle.np_synth.specs.FaultText.{flat_fault_text};
+
+    ghost output = { λ fault. Some (flat_fault_text fault) };
+
     fn fmt<W: fmt::Write>(&self, f: &mut fmt::Formatter<W>) -> fmt::Result {
         match self {
             FlatFault::Split {
