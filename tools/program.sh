@@ -70,7 +70,7 @@ build_program() {
     room=$(mktemp -d) || return 1
     log=$room/log
     mkdir -p "$room/repository/crates"
-    echo "np: proving ${#crates[@]} crates and building the program; where nothing was proved before this may take half an hour on four cores" >&2
+    echo "np: proving ${#crates[@]} crates and building the program; where nothing was proved before this may take three quarters of an hour on four cores" >&2
     awk -F: -v names=" ${crates[*]} " '{ split($1, head, " ") } NF > 1 && index(names, " " head[1] " ")' "$root/crates.txt" >"$room/repository/crates.txt"
     cp "$root/HANDLES" "$room/repository/"
     for crate in "${crates[@]}"; do
