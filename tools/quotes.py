@@ -3,7 +3,8 @@
 
     tools/quotes.py PROGRAM [DOCUMENT]...
 
-Without a DOCUMENT it takes README.md and docs/EXAMPLES.md of the repository. It reads the fenced blocks of each, and looks at three kinds:
+Without a DOCUMENT it takes README.md of the repository and every page of docs/use/ that has a quotation, but for RECIPES.md: the cases
+recipe-... run that page. It reads the fenced blocks of each, and looks at three kinds:
 
 - One that begins with `$ ./np `. Each line that begins with `$ ` is a command, and the lines up to the next are what it writes.
 - One that begins with `./np `. That line is the command, and all lines behind it are what it writes.
@@ -25,7 +26,8 @@ import sys
 import tempfile
 
 ROOT = os.path.dirname(os.path.dirname(os.path.realpath(__file__)))
-DOCUMENTS = ["README.md", "docs/EXAMPLES.md"]
+PAGES = "docs/use"
+RUN_BY_CASES = ["RECIPES.md"]
 
 
 def blocks(text):
@@ -90,10 +92,20 @@ def written(command, room):
     return (done.stdout + done.stderr).decode("utf-8", "replace")
 
 
+def quotations_of(document):
+    with open(document, encoding="utf-8") as file:
+        return quotations(file.read())
+
+
+def quoting_documents():
+    """README.md, and the pages for users that quote something."""
+    pages = sorted(name for name in os.listdir(PAGES) if name.endswith(".md") and name not in RUN_BY_CASES)
+    return ["README.md"] + [page for page in (os.path.join(PAGES, name) for name in pages) if quotations_of(page)]
+
+
 def faults(document, room):
     """What is not true in a document, as lines."""
-    with open(document, encoding="utf-8") as file:
-        quoted_ones = quotations(file.read())
+    quoted_ones = quotations_of(document)
     if not quoted_ones:
         return [document + ": there is no quotation"]
     told = []
@@ -111,7 +123,7 @@ def main(program, documents):
         if not documents:
             os.chdir(ROOT)
         os.symlink(os.path.join(ROOT, "examples"), os.path.join(room, "examples"))
-        told = [line for document in documents or DOCUMENTS for line in faults(document, room)]
+        told = [line for document in documents or quoting_documents() for line in faults(document, room)]
     if told:
         print("\n".join(told))
     return 1 if told else 0
