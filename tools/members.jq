@@ -3,7 +3,7 @@
 #
 #   jq -c -f tools/members.jq objects.json >members.json
 #
-# - docs/use/INPUT.md says which members these are. Every item keeps its place and its type, also where its kind is not read, since np counts
+# - docs/INPUT.md says which members these are. Every item keeps its place and its type, also where its kind is not read, since np counts
 #   those, and refuses some.
 # - A value that has not the type that its shape says stays as it is, and so does null: what it is is np's to say.
 # - The specs of policies stay whole. They are small, and a selector is refused for a member that it does not have.
