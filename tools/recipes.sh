@@ -1,4 +1,5 @@
 # The recipes of docs/use/RECIPES.md for ./test. Sourced by the cases whose names begin with recipe, which run in folders of their own.
+# shellcheck shell=bash
 top=$(cd "$(dirname "${BASH_SOURCE[0]}")/.." && pwd) || exit 1
 
 # The headings of the recipes, one a line.
