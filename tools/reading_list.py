@@ -2,7 +2,7 @@
 """The reading list of an auditor: the files of definitions that the contract of np_main rests on, lowest first.
 
 tools/reading_list.py            prints the list
-tools/reading_list.py --write    puts it between the markers of docs/THEOREM.md
+tools/reading_list.py --write    puts it between the markers of docs/proof/THEOREM.md
 tools/reading_list.py --check    says nothing where it stands there exactly so; else says what to do, and ends with 1
 
 A file is in the list where np_main's contract, the contracts of the traits that it is called at, or another file of the list
@@ -18,7 +18,7 @@ from pathlib import Path
 
 TOP = Path(__file__).resolve().parent.parent
 CRATES = TOP / "crates"
-DOCUMENT = TOP / "docs" / "THEOREM.md"
+DOCUMENT = TOP / "docs" / "proof" / "THEOREM.md"
 BEGIN = "<!-- The reading list begins here. tools/reading_list.py --write makes it. -->"
 END = "<!-- The reading list ends here. -->"
 WIDTH = 140
@@ -182,7 +182,7 @@ def main(words):
     if words == ["--write"]:
         DOCUMENT.write_text(before + BEGIN + made + END + behind)
     elif listed != made:
-        raise SystemExit("reading_list: the list of docs/THEOREM.md is not that of the sources: run tools/reading_list.py --write")
+        raise SystemExit("reading_list: the list of docs/proof/THEOREM.md is not that of the sources: run tools/reading_list.py --write")
 
 
 main(sys.argv[1:])

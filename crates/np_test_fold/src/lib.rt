@@ -1,6 +1,6 @@
 //! Folding by example: what rules see of the pods of lists that are read, the workloads that they make, and the rows of
-//! these. It holds tests alone. What a list must answer follows by hand from the rules of docs/MODEL.md and the forms of
-//! docs/OUTPUT.md.
+//! these. It holds tests alone. What a list must answer follows by hand from the rules of docs/use/MODEL.md and the forms of
+//! docs/use/OUTPUT.md.
 #![tactic(auto)]
 
 #[cfg(test)]
