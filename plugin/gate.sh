@@ -53,7 +53,7 @@ run_gate() {
     gate_sort_out
     gate_judge_grammar
     gate_judge_outside
-    gate_write_asks >"$room/gate.asks"
+    gate_write_asks
     gate_judge
     gate_judge_ingress
     gate_judge_nothing
@@ -65,7 +65,7 @@ gate_read() {
     local line number=0
     gate_count=0
     if [ "$gate_file" = - ]; then cat; else cat -- "$gate_file"; fi >"$room/gate.raw" 2>/dev/null || stop 3 "cannot read $gate_file"
-    tr '\000' '\001' <"$room/gate.raw" >"$room/gate.file" || stop 3 "there is no room for the statements"
+    tr '\000' '\001' <"$room/gate.raw" >"$room/gate.file" || gate_no_room
     while IFS= read -r line || [ -n "$line" ]; do
         number=$((number + 1))
         [[ $line == '' || $line =~ ^[[:blank:]]*'#' ]] || gate_take "$number" "$line"
@@ -87,6 +87,9 @@ gate_take() {
 }
 
 gate_fault() { gate_state[$1]=error gate_word[$1]=$2; }
+
+# What could not be written or sorted would be missing from the answers, so there are none.
+gate_no_room() { stop 3 "the statements cannot be sorted in $room (is there room?)"; }
 
 # Cuts the statement $1 into its verdict, its two ends and its connections; false where it has not these parts.
 gate_cut() {
@@ -135,7 +138,7 @@ gate_probe() {
 # Has np judge the statements of gate.rest on the objects in the file $1. What it says must be of all of them.
 gate_check() {
     local all
-    cut -f 2- "$room/gate.rest" >"$room/gate.asked" || stop 3 "there is no room for the statements"
+    cut -f 2- "$room/gate.rest" >"$room/gate.asked" || gate_no_room
     gate_said=$("$np" check --statement "$room/gate.asked" "$1" 2>"$room/gate.fault" </dev/null)
     gate_status=$?
     all=$(($(wc -l <"$room/gate.asked")))
@@ -157,7 +160,8 @@ gate_judge_grammar() {
     local place fault number
     printf '{"apiVersion":"v1","kind":"List"}\n' >"$room/gate.none"
     for ((place = 0; place < gate_count; place++)); do
-        [ -n "${gate_state[place]}" ] || { printf '%s\t' "$place" && gate_probe "$place"; }
+        [ -z "${gate_state[place]}" ] || continue
+        printf '%s\t%s\n' "$place" "$(gate_probe "$place")" || gate_no_room
     done >"$room/gate.rest"
     while gate_check "$room/gate.none" && [ "$gate_status" = 1 ]; do
         fault=$(cat "$room/gate.fault")
@@ -174,9 +178,11 @@ gate_judge_grammar() {
 
 # Keeps of gate.rest the lines of which the condition $1 of awk is true; the first field is the place.
 gate_keep() {
-    awk -F '\t' "$1" "$room/gate.rest" >"$room/gate.kept" || stop 3 "there is no room for the statements"
-    mv "$room/gate.kept" "$room/gate.rest"
+    awk -F '\t' "$1" "$room/gate.rest" >"$room/gate.kept" || gate_no_room
+    gate_take_kept
 }
+
+gate_take_kept() { mv "$room/gate.kept" "$room/gate.rest" || gate_no_room; }
 
 # Prints what may be wrong with the text $1, which is no statement.
 gate_slip() {
@@ -188,7 +194,7 @@ gate_slip() {
     esac
 }
 
-# Prints the statements of np for all that may hold. One of an Ingress asks nothing there, but np looks whether its workload is known.
+# Writes the statements of np for all that may hold. One of an Ingress asks nothing there, but np looks whether its workload is known.
 gate_write_asks() {
     local place verdict from to connections
     for ((place = 0; place < gate_count; place++)); do
@@ -198,13 +204,13 @@ gate_write_asks() {
             plain) printf '%s\t%s\n' "$place" "${gate_text[place]}" ;;
             ingress) printf '%s\tallow any pod => %s : No Connections\n' "$place" "$to" ;;
             outside) gate_spread "$place" ;;
-        esac
-    done
+        esac || gate_no_room
+    done >"$room/gate.asks"
 }
 
 # Judges all statements of gate.asks. The last run is one of which all hold, so that its notes on the objects are known.
 gate_judge() {
-    cp "$room/gate.asks" "$room/gate.rest" || stop 3 "there is no room for the statements"
+    cp "$room/gate.asks" "$room/gate.rest" || gate_no_room
     while gate_check "$list" && [ "$gate_status" != 0 ]; do
         if [ "$gate_status" = 5 ]; then gate_find_violated; else gate_find_unknown; fi
     done
@@ -226,12 +232,13 @@ gate_find_unknown() {
     local place name found='' last='' near=''
     [[ $(cat "$room/gate.fault") == 'error: UnknownEnd '* ]] || gate_give_up 1
     gate_have_names
+    gate_unknown_names >"$room/gate.unknown" || gate_no_room
     while IFS=$'\t' read -r place name; do
         [ "$name" = "$last" ] || near=$(gate_nearest "$name" "$room/gate.names")
         last=$name
         gate_fault "$place" "no workload is named $name$near"
         found=yes
-    done < <(gate_unknown_names)
+    done <"$room/gate.unknown"
     [ -n "$found" ] || gate_give_up 1
     gate_drop_faulty
 }
@@ -257,7 +264,7 @@ gate_unknown_names() {
 gate_drop_faulty() {
     local place line
     while IFS=$'\t' read -r place line; do
-        [ "${gate_state[place]}" = error ] || printf '%s\t%s\n' "$place" "$line"
+        [ "${gate_state[place]}" = error ] || printf '%s\t%s\n' "$place" "$line" || gate_no_room
     done <"$room/gate.rest" >"$room/gate.kept"
-    mv "$room/gate.kept" "$room/gate.rest"
+    gate_take_kept
 }

@@ -5,7 +5,7 @@
 gate_have_names() {
     [ ! -e "$room/gate.names" ] || return 0
     (list_names "$list") >"$room/gate.listed" 2>"$room/gate.fault" || gate_give_up $?
-    cut -d / -f 1 "$room/gate.listed" | sort -u >"$room/gate.spaces" || stop 3 "there is no room for the names"
+    cut -d / -f 1 "$room/gate.listed" | sort -u >"$room/gate.spaces" || gate_no_room
     mv "$room/gate.listed" "$room/gate.names"
 }
 
@@ -40,20 +40,23 @@ gate_judge_outside() {
 # Prints the statements of np for the one at the place $1, each sender with each receiver. Between two addresses there is no packet.
 gate_spread() {
     local sender receiver
-    gate_ends "$to" >"$room/gate.receivers"
+    gate_ends "$from" >"$room/gate.senders" && gate_ends "$to" >"$room/gate.receivers" || return
     while IFS= read -r sender; do
         while IFS= read -r receiver; do
             gate_are_pods "$sender" || gate_are_pods "$receiver" || continue
-            printf '%s\t%s %s => %s : %s\n' "$1" "$verdict" "$sender" "$receiver" "$connections"
+            printf '%s\t%s %s => %s : %s\n' "$1" "$verdict" "$sender" "$receiver" "$connections" || return
         done <"$room/gate.receivers"
-    done < <(gate_ends "$from")
+    done <"$room/gate.senders"
 }
 
 # Prints the ends of np, one a line, that the end $1 stands for.
 gate_ends() {
+    local space
     case $1 in
         'outside-namespace '*)
-            grep -Fvx -- "${1#* }" "$room/gate.spaces" | sed 's/^/namespace /'
+            while IFS= read -r space; do
+                [ "$space" = "${1#* }" ] || printf 'namespace %s\n' "$space" || return
+            done <"$room/gate.spaces"
             echo 'any address' ;;
         *) printf '%s\n' "$1" ;;
     esac
@@ -70,16 +73,25 @@ gate_judge_ingress() {
     for ((place = 0; place < gate_count; place++)); do
         [[ -z ${gate_state[place]} && ${gate_form[place]} == ingress ]] || continue
         gate_cut "${gate_text[place]}"
-        printf '%s\t%s\t%s\t%s\n' "$place" "$verdict" "$to" "$connections"
+        printf '%s\t%s\t%s\t%s\n' "$place" "$verdict" "$to" "$connections" || gate_no_room
     done >"$room/gate.ingress"
     [ -s "$room/gate.ingress" ] || return 0
     gate_have_names
-    "$np" list "$list" >"$room/gate.table" 2>"$room/gate.fault" </dev/null || gate_give_up $?
-    mv "$room/gate.fault" "$room/gate.notes"
-    grep '^{ingress-controller} => ' "$room/gate.table" >"$room/gate.rows"
+    gate_fetch_rows
+    gate_ingress_answers >"$room/gate.answers" || gate_no_room
     while IFS=$'\t' read -r place state word; do
         gate_state[place]=$state gate_word[place]=$word
-    done < <(gate_ingress_answers)
+    done <"$room/gate.answers"
+}
+
+# Puts the rows of Ingresses into gate.rows. What np notes with the whole list has all that it notes without.
+gate_fetch_rows() {
+    local statuses
+    "$np" list "$list" 2>"$room/gate.fault" </dev/null | awk 'index($0, "{ingress-controller} => ") == 1' >"$room/gate.rows"
+    statuses=("${PIPESTATUS[@]}")
+    [ "${statuses[0]}" = 0 ] || gate_give_up "${statuses[0]}"
+    [ "${statuses[1]}" = 0 ] || gate_no_room
+    mv "$room/gate.fault" "$room/gate.notes"
 }
 
 # Prints for each statement of gate.ingress that does not hold `P<tab>violated<tab>PACKET`, with the first workload and its least port in
@@ -93,9 +105,9 @@ gate_ingress_answers() {
         }
         FILENAME == ARGV[1] { workload[++all] = $0; next }
         FILENAME == ARGV[2] {
-            sub(/^[{]ingress-controller[}] => /, "")
-            at = index($0, " : TCP ")
-            row[substr($0, 1, at - 1)] = substr($0, at + 7)
+            name = substr($0, index($0, " => ") + 4)
+            at = index(name, " : TCP ")
+            row[substr(name, 1, at - 1)] = substr(name, at + 7)
             next
         }
         $4 == "No Connections" { print $1 "\tnothing"; next }
@@ -154,13 +166,14 @@ gate_judge_nothing() {
         gate_shown[place]=''
         [[ -z ${gate_state[place]} && ${gate_form[place]} != ingress ]] || gate_shown[place]=yes
     done
-    while IFS= read -r place; do gate_shown[place]=yes; done < <(gate_surely_asking)
+    gate_surely_asking >"$room/gate.shown" || gate_no_room
+    gate_take_shown
     while IFS=$'\t' read -r place line; do
         [ -z "${gate_shown[place]}" ] || continue
         case $line in
             'allow '*) printf '%s\tdeny %s\n' "$place" "${line#allow }" ;;
             *) printf '%s\tallow %s\n' "$place" "${line#deny }" ;;
-        esac
+        esac || gate_no_room
     done <"$room/gate.asks" >"$room/gate.rest"
     gate_judge_opposites
     for ((place = 0; place < gate_count; place++)); do
@@ -168,17 +181,24 @@ gate_judge_nothing() {
     done
 }
 
+# Takes down that the statements at the places in gate.shown ask about packets.
+gate_take_shown() {
+    local place
+    while IFS= read -r place; do gate_shown[place]=yes; done <"$room/gate.shown"
+}
+
 # Judges the opposites in gate.rest. One that does not hold shows that all statements of its two ends ask about packets.
 gate_judge_opposites() {
-    local number place
+    local number
     [ -s "$room/gate.rest" ] || return 0
     while gate_check "$list" && [ "$gate_status" != 0 ]; do
         [ "$gate_status" = 5 ] || gate_give_up "$gate_status"
         number=${gate_said%%: *}
         number=${number#line }
-        while IFS= read -r place; do gate_shown[place]=yes; done < <(gate_alike "$number" shown)
-        gate_alike "$number" left >"$room/gate.kept"
-        mv "$room/gate.kept" "$room/gate.rest"
+        gate_alike "$number" shown >"$room/gate.shown" || gate_no_room
+        gate_take_shown
+        gate_alike "$number" left >"$room/gate.kept" || gate_no_room
+        gate_take_kept
     done
 }
 
@@ -214,7 +234,14 @@ gate_surely_asking() {
             if (many(to) < 0) return many(from) > 0
             return many(from) > 0 && many(to) > 0 && (many(from) > 1 || many(to) > 1 || only(from) != only(to))
         }
-        FILENAME == ARGV[1] { all++; name = $0; space = $0; sub(/[/].*/, "", space); count[space]++; last[space] = name; next }
+        FILENAME == ARGV[1] {
+            all++
+            name = $0
+            space = substr(name, 1, index(name, "/") - 1)
+            count[space]++
+            last[space] = name
+            next
+        }
         {
             from = substr($2, index($2, " ") + 1)
             to = substr(from, index(from, " => ") + 4)
@@ -223,7 +250,7 @@ gate_surely_asking() {
             to = substr(to, 1, index(to, " : ") - 1)
             if (connections != "No Connections" && asks(from, to)) print $1
         }
-    ' "$room/gate.names" "$room/gate.asks" | sort -un
+    ' "$room/gate.names" "$room/gate.asks"
 }
 
 # Takes down that the statement at the place $1 asks about no packet, and why.

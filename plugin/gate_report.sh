@@ -8,7 +8,7 @@ gate_report() {
         case ${gate_state[place]} in violated) violated=$((violated + 1)) ;; error) faulty=$((faulty + 1)) ;; esac
         # Whatever stands in the file of a stranger, it must not look like lines of the gate, or move the cursor.
         printf '%s\t%s\t%s\t%s\n' "${gate_line[place]}" "${gate_state[place]:-ok}" \
-            "${gate_text[place]//[[:cntrl:]]/?}" "${gate_word[place]//[[:cntrl:]]/?}"
+            "${gate_text[place]//[[:cntrl:]]/?}" "${gate_word[place]//[[:cntrl:]]/?}" || gate_no_room
     done >"$room/gate.results"
     cat "$room/gate.notes" >&2
     gate_print || stop 3 "the answers can't be written"
@@ -85,13 +85,12 @@ gate_junit_text() {
     ' "$room/gate.results"
 }
 
-# Writes the report of --junit whole or not at all: beside its place first. What is no file, as a pipe, is written into. Who could read a
-# file of the user's before may read this one, unlike those of the room.
+# Writes the report of --junit whole or not at all: beside its place first. What is no file, as a pipe, is written into.
 gate_write_junit() {
     local new=$gate_junit.$$
     [ -n "$gate_junit" ] || return 0
     [ ! -e "$gate_junit" ] || [ -f "$gate_junit" ] || new=$gate_junit
-    if (umask "${umask_before:-022}" && gate_junit_text >"$new") 2>/dev/null; then
+    if { gate_junit_text >"$new"; } 2>/dev/null; then
         if [ "$new" = "$gate_junit" ] || mv -f "$new" "$gate_junit" 2>/dev/null; then return; fi
     fi
     [ "$new" = "$gate_junit" ] || rm -f "$new"
