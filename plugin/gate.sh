@@ -62,13 +62,13 @@ run_gate() {
 
 # Takes the statements of the file. A byte 0, which the shell would drop, becomes another one that stands in no statement either.
 gate_read() {
-    local line number=0
+    local line number=0 comment='^[[:blank:]]*#'
     gate_count=0
     if [ "$gate_file" = - ]; then cat; else cat -- "$gate_file"; fi >"$room/gate.raw" 2>/dev/null || stop 3 "cannot read $gate_file"
     tr '\000' '\001' <"$room/gate.raw" >"$room/gate.file" || gate_no_room
     while IFS= read -r line || [ -n "$line" ]; do
         number=$((number + 1))
-        [[ $line == '' || $line =~ ^[[:blank:]]*'#' ]] || gate_take "$number" "$line"
+        [[ $line == '' || $line =~ $comment ]] || gate_take "$number" "$line"
     done <"$room/gate.file"
 }
 
@@ -124,14 +124,14 @@ gate_plain_end() {
     esac
 }
 
-# Prints a statement of np that is in the grammar exactly where the one at the place $1 is in the gate's.
+# Prints a statement of np, behind its place $1, that is in the grammar exactly where the one at that place is in the gate's.
 gate_probe() {
     local verdict from to connections
     gate_cut "${gate_text[$1]}"
     case ${gate_form[$1]} in
-        plain) printf '%s\n' "${gate_text[$1]}" ;;
-        ingress) printf '%s any pod => %s : %s\n' "$verdict" "$to" "$connections" ;;
-        outside) printf '%s %s => %s : %s\n' "$verdict" "$(gate_plain_end "$from")" "$(gate_plain_end "$to")" "$connections" ;;
+        plain) printf '%s\t%s\n' "$1" "${gate_text[$1]}" ;;
+        ingress) printf '%s\t%s any pod => %s : %s\n' "$1" "$verdict" "$to" "$connections" ;;
+        outside) printf '%s\t%s %s => %s : %s\n' "$1" "$verdict" "$(gate_plain_end "$from")" "$(gate_plain_end "$to")" "$connections" ;;
     esac
 }
 
@@ -161,7 +161,7 @@ gate_judge_grammar() {
     printf '{"apiVersion":"v1","kind":"List"}\n' >"$room/gate.none"
     for ((place = 0; place < gate_count; place++)); do
         [ -z "${gate_state[place]}" ] || continue
-        printf '%s\t%s\n' "$place" "$(gate_probe "$place")" || gate_no_room
+        gate_probe "$place" || gate_no_room
     done >"$room/gate.rest"
     while gate_check "$room/gate.none" && [ "$gate_status" = 1 ]; do
         fault=$(cat "$room/gate.fault")
