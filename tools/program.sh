@@ -40,9 +40,34 @@ manifest_body() {
     source_digests
 }
 
-# Whether dist/np was built from the sources that stand here and is as it was built.
+# Whether dist/np was built from the sources that stand here and is as it was built. The digests are compared as whole texts: where they
+# went through a pipe that ends at the first difference, xargs would say that a signal ended what it ran.
 is_current() {
-    [ -x "$root/dist/np" ] && [ -f "$root/dist/manifest" ] && manifest_body "$root/dist/np" | cmp -s - <(tail -n +2 "$root/dist/manifest")
+    [ -x "$root/dist/np" ] && [ -f "$root/dist/manifest" ] &&
+        [ "$(manifest_body "$root/dist/np")" = "$(tail -n +2 "$root/dist/manifest")" ]
+}
+
+# Whether nothing changed since is_current said yes and left a stamp: no source, no file of dist/ and no folder of them is newer (a file
+# that goes changes its folder). Asked for is the time at which a file was last written to, renamed or replaced, which no command sets
+# back. What this gives up: it does not see a change where the clock was set back behind the stamp, or on a file system whose times
+# are so coarse that the change has the stamp's. It is there to tell stale sources, and not to stop one who may write here.
+is_as_stamped() {
+    local newer
+    [ -f "$root/.built/stamp" ] && [ -x "$root/dist/np" ] &&
+        newer=$(find "$root/crates" "$root/crates.txt" "$root/dist" -cnewer "$root/.built/stamp" -print -quit 2>&1) && [ -z "$newer" ]
+}
+
+# is_current, and the stamp for the next time. The stamp's time is from before the digests are made, so that a change meanwhile is newer.
+# Where .built cannot be written there is no stamp, and no word about it.
+is_current_and_stamped() {
+    local stamp status
+    { mkdir -p "$root/.built" && stamp=$(mktemp "$root/.built/stamp.XXXXXX"); } 2>/dev/null || stamp=
+    is_current
+    status=$?
+    if [ -n "$stamp" ]; then
+        if [ "$status" = 0 ]; then mv -f "$stamp" "$root/.built/stamp"; else rm -f "$stamp" "$root/.built/stamp"; fi
+    fi
+    return "$status"
 }
 
 # Tells how far a proof is, a line a crate on standard error as each is done, from what `rt ci` prints of so many crates.
@@ -56,6 +81,13 @@ tell_progress() {
             echo "${BASH_REMATCH[1]} could not be proved" >&2
         fi
     done
+}
+
+# Keeps what the prover said, in a file of a new name: one of a fixed name might be a link that somebody else put there.
+keep_log() {
+    local kept
+    echo "np: the program was not built; ./prove tells why for the whole repository" >&2
+    kept=$(mktemp "${TMPDIR:-/tmp}/np-build.XXXXXX") && cp "$1" "$kept" && echo "np: $kept has what the prover said" >&2
 }
 
 # Proves the crates of the program and builds it at the path $1. Tests and edits are not tried: `./prove` does.
@@ -87,8 +119,7 @@ build_program() {
     else
         status=1
         grep -E 'error|NOT PROVED|FAILED' "$log" | head -20 >&2
-        cp "$log" "${TMPDIR:-/tmp}/np-build.log"
-        echo "np: the program was not built; ${TMPDIR:-/tmp}/np-build.log has what the prover said, and ./prove tells the same of the whole repository" >&2
+        keep_log "$log"
     fi
     rm -rf "$room"
     return "$status"

@@ -1,0 +1,76 @@
+# The names that options take, and the nearest of them to one that was not found.
+
+# Prints the names of the workloads of the list in the file $1. In this report exactly one row of each workload begins so.
+list_names() {
+    local statuses
+    "$np" list --report 1 <"$1" 2>"$room/names.said" | LC_ALL=C awk '
+        index($0, "0.0.0.0-") == 1 && (at = index($0, " => ")) {
+            name = substr($0, at + 4)
+            print substr(name, 1, index(name, " : ") - 1)
+        }'
+    statuses=("${PIPESTATUS[@]}")
+    [ "${statuses[0]}" = 0 ] || { cat "$room/names.said" >&2; return "${statuses[0]}"; }
+    [ "${statuses[1]}" = 0 ] || return 3
+}
+
+# Prints the pods of the list in the file $1 that `evaluate` takes: those with a network of their own that are not finished.
+list_pods() {
+    jq -r 'if .kind == "List" then .items[]? else . end
+        | objects | select(.apiVersion == "v1" and .kind == "Pod" and .spec.hostNetwork? != true)
+        | select(.status.phase? != "Succeeded" and .status.phase? != "Failed")
+        | "\(.metadata.namespace? // "" | if . == "" then "default" else . end)/\(.metadata.name?)"' "$1"
+}
+
+# Prints the names that `names` was asked for. np has to take the list for either.
+print_names() {
+    if [ "${#words[@]}" = 0 ]; then
+        list_names "$list"
+    else
+        have jq || stop 3 "names pods needs jq, which is not on the path"
+        list_names "$list" >"$room/names" || return
+        list_pods "$list"
+    fi
+}
+
+# Prints up to three of the names on standard input, the nearest to $1 first: those that take the fewest letters to add, drop or change.
+# Where $1 has no kind in brackets, or no namespace, those of the names do not count. Of a long name only the front is compared.
+nearest_names() {
+    WANTED=$1 LC_ALL=C awk '
+        function least(a, b) { return a < b ? a : b }
+        function distance(a, b,    i, j, above, left, here, n, m) {
+            n = length(a); m = length(b)
+            for (j = 0; j <= m; j++) row[j] = j
+            for (i = 1; i <= n; i++) {
+                above = row[0]
+                row[0] = i
+                for (j = 1; j <= m; j++) {
+                    here = least(least(row[j], row[j - 1]) + 1, above + (substr(a, i, 1) == substr(b, j, 1) ? 0 : 1))
+                    above = row[j]
+                    row[j] = here
+                }
+            }
+            return row[m]
+        }
+        BEGIN { wanted = tolower(substr(ENVIRON["WANTED"], 1, 200)) }
+        {
+            name = tolower(substr($0, 1, 200))
+            if (!index(wanted, "[")) sub(/\[[^]]*\]$/, "", name)
+            if (!index(wanted, "/")) sub(/^[^\/]*\//, "", name)
+            printf "%d\t%d\t%s\n", distance(wanted, name), NR, $0
+        }' | LC_ALL=C sort -n -k 1,1 -k 2,2 | head -n 3 | cut -f 3-
+}
+
+# Where np knew no workload or pod of a name, prints the nearest of those that there are. Its fault is in $room/said.
+tell_nearest() {
+    local wanted names
+    wanted=$(LC_ALL=C sed -n 's/^error: UnknownEnd //p' "$room/said" | tail -n 1)
+    [ -n "$wanted" ] || return 0
+    if [ "$command" = evaluate ]; then
+        have jq || return 0
+        list_pods "$list" >"$room/names" || return 0
+    else
+        list_names "$list" >"$room/names" 2>/dev/null || return 0
+    fi
+    names=$(nearest_names "$wanted" <"$room/names" | LC_ALL=C awk '{ line = line (NR == 1 ? "" : ", ") $0 } END { print line }')
+    if [ -n "$names" ]; then say "the nearest names: $names"; else say "the list has no such names at all"; fi
+}
