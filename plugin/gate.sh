@@ -60,7 +60,7 @@ run_gate() {
     gate_report
 }
 
-# Takes the statements of the file. A byte 0, which the shell would drop, becomes another one that stands in no statement either.
+# Takes the statements of the file. The shell would drop bytes 0, so they become bytes 1, which no statement has either.
 gate_read() {
     local line number=0 comment='^[[:blank:]]*#'
     gate_count=0
@@ -72,7 +72,7 @@ gate_read() {
     done <"$room/gate.file"
 }
 
-# Takes the line $1, $2. What other systems and editors put into files is named, since nobody sees it there.
+# Takes the line with the number $1 and the text $2. What editors and other systems add is named, since it does not show in an editor.
 gate_take() {
     local place=$gate_count
     gate_count=$((place + 1))
@@ -80,7 +80,7 @@ gate_take() {
     case $2 in
         *$'\r')
             gate_text[place]=${2%$'\r'}
-            gate_fault "$place" "the line ends in a carriage return, as files of Windows do; end lines with a line feed alone" ;;
+            gate_fault "$place" "the line ends in a carriage return, as in a file from Windows; end lines with a line feed only" ;;
         $'\357\273\277'*) gate_fault "$place" "the line begins with a byte order mark; save the file without one" ;;
         $'\377\376'* | $'\376\377'*) gate_fault "$place" "the file is in UTF-16; save it in UTF-8" ;;
     esac
@@ -88,10 +88,10 @@ gate_take() {
 
 gate_fault() { gate_state[$1]=error gate_word[$1]=$2; }
 
-# What could not be written or sorted would be missing from the answers, so there are none.
-gate_no_room() { stop 3 "the statements cannot be sorted in $room (is there room?)"; }
+# A statement that could not be written to a file would be missing from np's answers, so there are none.
+gate_no_room() { stop 3 "cannot write temporary files in $room"; }
 
-# Cuts the statement $1 into its verdict, its two ends and its connections; false where it has not these parts.
+# Cuts the statement $1 into its verdict, its two ends and its connections; false where it does not have these parts.
 gate_cut() {
     local rest=${1#* }
     [[ $1 == *' '*' => '*' : '* ]] || return 1
@@ -99,7 +99,7 @@ gate_cut() {
     to=${rest%% : *} connections=${rest#* : }
 }
 
-# Finds the statements of the gate's own forms, and among them those whose ends can't be.
+# Finds the statements of the gate's own forms, and refuses those with an end that such a form cannot have.
 gate_sort_out() {
     local place verdict from to connections
     for ((place = 0; place < gate_count; place++)); do
@@ -109,8 +109,8 @@ gate_sort_out() {
             'ingress-controller => workload '* | 'ingress-controller => namespace '* | 'ingress-controller => any pod')
                 gate_form[place]=ingress ;;
             'ingress-controller => '*)
-                gate_fault "$place" "what comes through Ingresses goes to workload NAME, namespace NAME or any pod" ;;
-            *' => ingress-controller') gate_fault "$place" "ingress-controller can only stand as the source" ;;
+                gate_fault "$place" "with ingress-controller the destination is workload NAME, namespace NAME or any pod" ;;
+            *' => ingress-controller') gate_fault "$place" "ingress-controller can only be the source" ;;
             'outside-namespace '* | *' => outside-namespace '*) gate_form[place]=outside ;;
         esac
     done
@@ -124,7 +124,7 @@ gate_plain_end() {
     esac
 }
 
-# Prints a statement of np, behind its place $1, that is in the grammar exactly where the one at that place is in the gate's.
+# Prints the place $1 and a statement of np that is in np's grammar exactly where the statement at that place is in the gate's.
 gate_probe() {
     local verdict from to connections
     gate_cut "${gate_text[$1]}"
@@ -135,7 +135,7 @@ gate_probe() {
     esac
 }
 
-# Has np judge the statements of gate.rest on the objects in the file $1. What it says must be of all of them.
+# Has np judge the statements of gate.rest on the objects in the file $1. Where they hold, it has to say so of as many as there are.
 gate_check() {
     local all
     cut -f 2- "$room/gate.rest" >"$room/gate.asked" || gate_no_room
@@ -155,7 +155,7 @@ gate_give_up() {
     stop 3 "$np does not answer as np does (status $1)"
 }
 
-# Finds the statements that are in no grammar. No object is needed for it; np looks at the grammar of all lines before it looks for a name.
+# Finds the lines that are no statement. That takes no objects, and np reads all lines before it looks for the names in them.
 gate_judge_grammar() {
     local place fault number
     printf '{"apiVersion":"v1","kind":"List"}\n' >"$room/gate.none"
@@ -164,13 +164,14 @@ gate_judge_grammar() {
         gate_probe "$place" || gate_no_room
     done >"$room/gate.rest"
     while gate_check "$room/gate.none" && [ "$gate_status" = 1 ]; do
-        fault=$(cat "$room/gate.fault")
+        fault=$(tail -n 1 "$room/gate.fault")
         case $fault in
             'error: BadStatement line '*) number=${fault##* } ;;
             'error: UnknownEnd '*) break ;;
             *) gate_give_up 1 ;;
         esac
         place=$(sed -n "${number}p" "$room/gate.rest" | cut -f 1)
+        [ -n "$place" ] || gate_give_up 1
         gate_fault "$place" "$(gate_slip "${gate_text[place]}")"
         gate_keep "NR > $number"
     done
@@ -187,14 +188,14 @@ gate_take_kept() { mv "$room/gate.kept" "$room/gate.rest" || gate_no_room; }
 # Prints what may be wrong with the text $1, which is no statement.
 gate_slip() {
     case $1 in
-        *$'\t'*) echo "it has a tab; single blanks separate the parts of a statement" ;;
-        *' ') echo "it ends in a blank" ;;
-        *'  '*) echo "it has two blanks in a row; single blanks separate the parts of a statement" ;;
+        *$'\t'*) echo "it has a tab; the parts of a statement are separated by single spaces" ;;
+        *' ') echo "it ends with a space" ;;
+        *'  '*) echo "it has two spaces in a row; the parts of a statement are separated by single spaces" ;;
         *) echo "it is not of the form 'allow|deny ENDS => ENDS : CONNECTIONS' (connections as np prints them: TCP 80,443-445; UDP 53)" ;;
     esac
 }
 
-# Writes the statements of np for all that may hold. One of an Ingress asks nothing there, but np looks whether its workload is known.
+# Writes the statements of np for all that may hold. That of an Ingress asks nothing, but np refuses it where it does not know the workload.
 gate_write_asks() {
     local place verdict from to connections
     for ((place = 0; place < gate_count; place++)); do
@@ -208,7 +209,7 @@ gate_write_asks() {
     done >"$room/gate.asks"
 }
 
-# Judges all statements of gate.asks. The last run is one of which all hold, so that its notes on the objects are known.
+# Judges all statements of gate.asks. In the last run all hold (it may have none), since np prints its notes on the objects only then.
 gate_judge() {
     cp "$room/gate.asks" "$room/gate.rest" || gate_no_room
     while gate_check "$list" && [ "$gate_status" != 0 ]; do
@@ -217,7 +218,7 @@ gate_judge() {
     mv "$room/gate.fault" "$room/gate.notes"
 }
 
-# Reads from `line K: PACKET` which statement is violated, and goes on behind it, without what else that one was written as.
+# Reads from `line K: PACKET` which statement is violated, and goes on behind that line, without the other lines of the same statement.
 gate_find_violated() {
     local number=${gate_said%%: *} place
     number=${number#line }
@@ -227,10 +228,10 @@ gate_find_violated() {
     gate_keep "NR > $number && \$1 != $place"
 }
 
-# Takes out the statements that name workloads which np does not know: the one that it said is unknown, and the others by the names of all.
+# Takes out the statements with a workload that np does not know. It names only the first, but the list of all names tells the others.
 gate_find_unknown() {
     local place name found='' last='' near=''
-    [[ $(cat "$room/gate.fault") == 'error: UnknownEnd '* ]] || gate_give_up 1
+    [[ $(tail -n 1 "$room/gate.fault") == 'error: UnknownEnd '* ]] || gate_give_up 1
     gate_have_names
     gate_unknown_names >"$room/gate.unknown" || gate_no_room
     while IFS=$'\t' read -r place name; do

@@ -23,7 +23,7 @@ gate_space_has_pods() { grep -Fqx -- "$1" "$room/gate.spaces"; }
 # Prints that the namespace $1 has no pod.
 gate_no_pod_in() { printf 'no pod is in namespace %s%s' "$1" "$(gate_nearest "$1" "$room/gate.spaces")"; }
 
-# Refuses outside-namespace of a namespace without a pod: everything is outside of a misspelt one.
+# Refuses outside-namespace of a namespace without a pod: everything is outside a misspelt one.
 gate_judge_outside() {
     local place end verdict from to connections
     for ((place = 0; place < gate_count; place++)); do
@@ -67,7 +67,7 @@ gate_are_pods() {
     return 1
 }
 
-# Judges the statements of Ingresses by the rows of np's list. It says what np says of the Ingresses that it can't follow, too.
+# Judges the statements of Ingresses by the rows of np's list.
 gate_judge_ingress() {
     local place state word verdict from to connections
     for ((place = 0; place < gate_count; place++)); do
@@ -84,7 +84,8 @@ gate_judge_ingress() {
     done <"$room/gate.answers"
 }
 
-# Puts the rows of Ingresses into gate.rows. What np notes with the whole list has all that it notes without.
+# Puts the rows of Ingresses into gate.rows. The notes of this run replace those of `check`: they are the same, and those on backends of
+# Ingresses that lead nowhere.
 gate_fetch_rows() {
     local statuses
     "$np" list "$list" 2>"$room/gate.fault" </dev/null | awk 'index($0, "{ingress-controller} => ") == 1' >"$room/gate.rows"
@@ -94,8 +95,8 @@ gate_fetch_rows() {
     mv "$room/gate.fault" "$room/gate.notes"
 }
 
-# Prints for each statement of gate.ingress that does not hold `P<tab>violated<tab>PACKET`, with the first workload and its least port in
-# the order of np, and `P<tab>nothing` where nothing is asked. A workload without a row gets nothing through Ingresses.
+# Prints `P<tab>violated<tab>PACKET` for each statement of gate.ingress that does not hold, with the first workload in the order of np and
+# its least port, and `P<tab>nothing` for each that asks nothing. A workload without a row gets nothing through Ingresses.
 gate_ingress_answers() {
     awk -F '\t' "$gate_ports"'
         function within(name, ends) {
@@ -156,8 +157,8 @@ gate_ports='
         return ""
     }'
 
-# Finds the statements that hold since they ask about no packet: their opposites hold as well. Those that surely ask about one, since their
-# ends have two workloads or an address, need no run for it.
+# Finds the statements that hold because they ask about no packet: their opposites hold as well. Most need no run for that, since two
+# different workloads, or a workload and an address, are among their ends.
 gate_judge_nothing() {
     local place line
     gate_shown=()
@@ -181,7 +182,7 @@ gate_judge_nothing() {
     done
 }
 
-# Takes down that the statements at the places in gate.shown ask about packets.
+# Notes that the statements at the places in gate.shown ask about packets.
 gate_take_shown() {
     local place
     while IFS= read -r place; do gate_shown[place]=yes; done <"$room/gate.shown"
@@ -202,7 +203,7 @@ gate_judge_opposites() {
     done
 }
 
-# Prints of the lines of gate.rest from the $1th on the places of those of its two ends (shown), or the other lines (left).
+# Of the lines of gate.rest from the number $1 on, prints the places of those with the ends of that line (shown), or the other lines (left).
 gate_alike() {
     awk -F '\t' -v number="$1" -v wanted="$2" '
         NR >= number {
@@ -215,16 +216,16 @@ gate_alike() {
     ' "$room/gate.rest"
 }
 
-# Prints the places of those statements of gate.asks that ask about a packet by what np said of the names of workloads.
+# Prints the places of the statements of gate.asks that surely ask about a packet, by the names of the workloads.
 gate_surely_asking() {
     awk -F '\t' '
-        # How many workloads are among the ends, as far as it matters; what an address is is not counted.
+        # How many workloads the ends have, or -1 where they are addresses.
         function many(ends) {
             if (ends == "any pod") return all + 0
             if (ends ~ /^namespace /) return count[substr(ends, 11)] + 0
             return ends ~ /^workload / ? 1 : -1
         }
-        # The workload where the ends have one.
+        # The workload of ends that have one.
         function only(ends) {
             if (ends == "any pod") return name
             return ends ~ /^namespace / ? last[substr(ends, 11)] : substr(ends, 10)
@@ -253,20 +254,20 @@ gate_surely_asking() {
     ' "$room/gate.names" "$room/gate.asks"
 }
 
-# Takes down that the statement at the place $1 asks about no packet, and why.
+# Notes that the statement at the place $1 asks about no packet, and why.
 gate_note_nothing() {
-    local end reason='nothing is asked: both ends are one and the same pod' verdict from to connections
+    local end reason='nothing is asked: both ends are the same single pod' verdict from to connections
     if [ -n "$gate_allow_empty" ]; then
         gate_state[$1]='' gate_word[$1]='nothing is asked'
         return
     fi
     gate_cut "${gate_text[$1]}"
-    [ "$connections" != 'No Connections' ] || reason='nothing is asked: it names no connections'
+    [ "$connections" != 'No Connections' ] || reason='nothing is asked: its connections are No Connections'
     for end in "$to" "$from"; do
         case $end in
             'outside-namespace '*) [ "$(cat "$room/gate.spaces")" != "${end#* }" ] || reason="no pod is outside namespace ${end#* }" ;;
             'namespace '*) gate_space_has_pods "${end#* }" || reason=$(gate_no_pod_in "${end#* }") ;;
-            'any pod') [ -s "$room/gate.names" ] || reason='no pod is listed' ;;
+            'any pod') [ -s "$room/gate.names" ] || reason='there is no pod in the list' ;;
         esac
     done
     gate_fault "$1" "$reason"

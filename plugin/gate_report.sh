@@ -6,12 +6,12 @@ gate_report() {
     local place violated=0 faulty=0
     for ((place = 0; place < gate_count; place++)); do
         case ${gate_state[place]} in violated) violated=$((violated + 1)) ;; error) faulty=$((faulty + 1)) ;; esac
-        # Whatever stands in the file of a stranger, it must not look like lines of the gate, or move the cursor.
+        # Whatever a statement has in it, it must not look like another line of the gate, or move the cursor.
         printf '%s\t%s\t%s\t%s\n' "${gate_line[place]}" "${gate_state[place]:-ok}" \
             "${gate_text[place]//[[:cntrl:]]/?}" "${gate_word[place]//[[:cntrl:]]/?}" || gate_no_room
     done >"$room/gate.results"
     cat "$room/gate.notes" >&2
-    gate_print || stop 3 "the answers can't be written"
+    gate_print || stop 3 "the answers cannot be written"
     gate_write_junit
     [ "$faulty" = 0 ] || return 1
     [ "$violated" = 0 ] || return 5
@@ -64,23 +64,26 @@ gate_junit_text() {
             return "  <testcase classname=\"" file "\" name=\"" escaped(name) "\" file=\"" file "\" line=\"" line "\""
         }
         BEGIN { file = escaped(ENVIRON["gate_file"]) }
-        { many[$2]++; tests++ }
-        $2 == "ok" && $4 == "" { body = body test("line " $1 ": " $3, $1) "/>\n"; next }
         {
+            many[$2]++
             word = escaped($4)
-            if ($2 == "ok") inner = "<system-out>" word "</system-out>"
+            inner = ""
+            if ($2 == "ok" && word != "") inner = "<system-out>" word "</system-out>"
             if ($2 == "violated") inner = "<failure message=\"" word "\" type=\"violated\">" word "</failure>"
             if ($2 == "error") inner = "<error message=\"" word "\" type=\"error\">" word "</error>"
-            body = body test("line " $1 ": " $3, $1) ">" inner "</testcase>\n"
+            tests[NR] = test("line " $1 ": " $3, $1) (inner == "" ? "/>" : ">" inner "</testcase>")
         }
         END {
-            if (!tests) {
-                many["error"] = tests = 1
-                body = test("statements", 1) "><error message=\"there is no statement\" type=\"error\"></error></testcase>\n"
+            all = NR
+            if (!all) {
+                all = many["error"] = 1
+                tests[1] = test("statements", 1) "><error message=\"there is no statement\" type=\"error\"/></testcase>"
             }
-            counts = "tests=\"" tests "\" failures=\"" many["violated"] + 0 "\" errors=\"" many["error"] + 0 "\""
+            counts = "tests=\"" all "\" failures=\"" many["violated"] + 0 "\" errors=\"" many["error"] + 0 "\""
             print "<?xml version=\"1.0\" encoding=\"UTF-8\"?>\n<testsuites " counts ">"
-            printf " <testsuite name=\"%s\" %s skipped=\"0\">\n%s </testsuite>\n</testsuites>\n", file, counts, body
+            print " <testsuite name=\"" file "\" " counts " skipped=\"0\">"
+            for (i = 1; i <= all; i++) print tests[i]
+            print " </testsuite>\n</testsuites>"
         }
     ' "$room/gate.results"
 }
