@@ -26,32 +26,35 @@ print_names() {
     if [ "${#words[@]}" = 0 ]; then
         list_names "$list"
     else
-        have jq || stop 3 "names pods needs jq, which is not on the path"
         list_names "$list" >"$room/names" || return
         list_pods "$list"
     fi
 }
 
-# Prints up to three of the names on standard input, the nearest to $1 first: those that take the fewest letters to add, drop or change.
-# Where $1 has no kind in brackets, or no namespace, those of the names do not count. Of a long name only the front is compared.
+# Prints up to three of the names on standard input, the nearest to $1 first: those that take the fewest letters to add, drop,
+# change or swap with the next one. Where $1 has no kind in brackets, or no namespace, those of the names do not count. Of a long name
+# only the first letters are compared.
 nearest_names() {
     WANTED=$1 LC_ALL=C awk '
         function least(a, b) { return a < b ? a : b }
-        function distance(a, b,    i, j, above, left, here, n, m) {
+        function distance(a, b,    i, j, n, m, here) {
             n = length(a); m = length(b)
-            for (j = 0; j <= m; j++) row[j] = j
+            for (j = 0; j <= m; j++) row[0, j] = j
             for (i = 1; i <= n; i++) {
-                above = row[0]
-                row[0] = i
+                row[i, 0] = i
                 for (j = 1; j <= m; j++) {
-                    here = least(least(row[j], row[j - 1]) + 1, above + (substr(a, i, 1) == substr(b, j, 1) ? 0 : 1))
-                    above = row[j]
-                    row[j] = here
+                    here = least(least(row[i - 1, j], row[i, j - 1]) + 1, row[i - 1, j - 1] + (letter[i] == substr(b, j, 1) ? 0 : 1))
+                    if (i > 1 && j > 1 && letter[i] == substr(b, j - 1, 1) && letter[i - 1] == substr(b, j, 1))
+                        here = least(here, row[i - 2, j - 2] + 1)
+                    row[i, j] = here
                 }
             }
-            return row[m]
+            return row[n, m]
         }
-        BEGIN { wanted = tolower(substr(ENVIRON["WANTED"], 1, 200)) }
+        BEGIN {
+            wanted = tolower(substr(ENVIRON["WANTED"], 1, 200))
+            for (i = 1; i <= length(wanted); i++) letter[i] = substr(wanted, i, 1)
+        }
         {
             name = tolower(substr($0, 1, 200))
             if (!index(wanted, "[")) sub(/\[[^]]*\]$/, "", name)
