@@ -35,8 +35,9 @@ fetch() {
     fi
 }
 
-# Refuses to begin without the commands that the source of the objects needs.
+# Refuses to begin without the commands that are needed to get the objects, and to answer.
 check_commands() {
+    [ "$command ${words[*]-}" != 'names pods' ] || have jq || stop 3 "names pods needs jq, which is not on the path"
     [ -z "$list_file" ] || return 0
     have kubectl || stop 3 "kubectl is not on the path"
     ! has_manifests || have jq || stop 3 "manifests need jq, which is not on the path"

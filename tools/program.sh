@@ -1,5 +1,7 @@
 # The kept program dist/np, its sources and how it is built. Sourced by ./np, ./release and ./prove with `root` set
 # to the top of the repository.
+# shellcheck shell=bash
+root=${root:?}
 
 # The crates that the program np stands on, and np: the closure of its line in crates.txt, in the order of that file.
 program_crates() {
@@ -102,8 +104,10 @@ build_program() {
     room=$(mktemp -d) || return 1
     log=$room/log
     mkdir -p "$room/repository/crates"
-    echo "np: proving ${#crates[@]} crates and building the program; where nothing was proved before this may take three quarters of an hour on four cores" >&2
-    awk -F: -v names=" ${crates[*]} " '{ split($1, head, " ") } NF > 1 && index(names, " " head[1] " ")' "$root/crates.txt" >"$room/repository/crates.txt"
+    echo "np: proving ${#crates[@]} crates and building the program;" \
+        "where nothing was proved before this may take three quarters of an hour on four cores" >&2
+    awk -F: -v names=" ${crates[*]} " '{ split($1, head, " ") } NF > 1 && index(names, " " head[1] " ")' "$root/crates.txt" \
+        >"$room/repository/crates.txt"
     cp "$root/HANDLES" "$room/repository/"
     for crate in "${crates[@]}"; do
         mkdir "$room/repository/crates/$crate"
