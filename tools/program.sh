@@ -1,5 +1,7 @@
 # The kept program dist/np, its sources and how it is built. Sourced by ./np, ./release and ./prove with `root` set
 # to the top of the repository.
+# shellcheck shell=bash
+root=${root:?}
 
 # The crates that the program np stands on, and np: the closure of its line in crates.txt, in the order of that file.
 program_crates() {
@@ -40,9 +42,34 @@ manifest_body() {
     source_digests
 }
 
-# Whether dist/np was built from the sources that stand here and is as it was built.
+# Whether dist/np was built from the sources that stand here and is as it was built. The digests are compared as whole texts: where they
+# went through a pipe that ends at the first difference, xargs would say that a signal ended what it ran.
 is_current() {
-    [ -x "$root/dist/np" ] && [ -f "$root/dist/manifest" ] && manifest_body "$root/dist/np" | cmp -s - <(tail -n +2 "$root/dist/manifest")
+    [ -x "$root/dist/np" ] && [ -f "$root/dist/manifest" ] &&
+        [ "$(manifest_body "$root/dist/np")" = "$(tail -n +2 "$root/dist/manifest")" ]
+}
+
+# Whether nothing changed since is_current said yes and left a stamp: no source, no file of dist/ and no folder of them is newer (a file
+# that goes changes its folder). Asked for is the time at which a file was last written to, renamed or replaced, which no command sets
+# back. What this gives up: it does not see a change where the clock was set back behind the stamp, or on a file system whose times
+# are so coarse that the change has the stamp's. It is there to tell stale sources, and not to stop one who may write here.
+is_as_stamped() {
+    local newer
+    [ -f "$root/.built/stamp" ] && [ -x "$root/dist/np" ] &&
+        newer=$(find "$root/crates" "$root/crates.txt" "$root/dist" -cnewer "$root/.built/stamp" -print -quit 2>&1) && [ -z "$newer" ]
+}
+
+# is_current, and the stamp for the next time. The stamp's time is from before the digests are made, so that a change meanwhile is newer.
+# Where .built cannot be written there is no stamp, and no word about it.
+is_current_and_stamped() {
+    local stamp status
+    { mkdir -p "$root/.built" && stamp=$(mktemp "$root/.built/stamp.XXXXXX"); } 2>/dev/null || stamp=
+    is_current
+    status=$?
+    if [ -n "$stamp" ]; then
+        if [ "$status" = 0 ]; then mv -f "$stamp" "$root/.built/stamp"; else rm -f "$stamp" "$root/.built/stamp"; fi
+    fi
+    return "$status"
 }
 
 # Tells how far a proof is, a line a crate on standard error as each is done, from what `rt ci` prints of so many crates.
@@ -58,6 +85,13 @@ tell_progress() {
     done
 }
 
+# Keeps what the prover said, in a file of a new name: one of a fixed name might be a link that somebody else put there.
+keep_log() {
+    local kept
+    echo "np: the program was not built; ./prove tells why for the whole repository" >&2
+    kept=$(mktemp "${TMPDIR:-/tmp}/np-build.XXXXXX") && cp "$1" "$kept" && echo "np: $kept has what the prover said" >&2
+}
+
 # Proves the crates of the program and builds it at the path $1. Tests and edits are not tried: `./prove` does.
 build_program() {
     if ! command -v rt >/dev/null; then
@@ -70,8 +104,10 @@ build_program() {
     room=$(mktemp -d) || return 1
     log=$room/log
     mkdir -p "$room/repository/crates"
-    echo "np: proving ${#crates[@]} crates and building the program; where nothing was proved before this may take three quarters of an hour on four cores" >&2
-    awk -F: -v names=" ${crates[*]} " '{ split($1, head, " ") } NF > 1 && index(names, " " head[1] " ")' "$root/crates.txt" >"$room/repository/crates.txt"
+    echo "np: proving ${#crates[@]} crates and building the program;" \
+        "where nothing was proved before this may take three quarters of an hour on four cores" >&2
+    awk -F: -v names=" ${crates[*]} " '{ split($1, head, " ") } NF > 1 && index(names, " " head[1] " ")' "$root/crates.txt" \
+        >"$room/repository/crates.txt"
     cp "$root/HANDLES" "$room/repository/"
     for crate in "${crates[@]}"; do
         mkdir "$room/repository/crates/$crate"
@@ -87,8 +123,7 @@ build_program() {
     else
         status=1
         grep -E 'error|NOT PROVED|FAILED' "$log" | head -20 >&2
-        cp "$log" "${TMPDIR:-/tmp}/np-build.log"
-        echo "np: the program was not built; ${TMPDIR:-/tmp}/np-build.log has what the prover said, and ./prove tells the same of the whole repository" >&2
+        keep_log "$log"
     fi
     rm -rf "$room"
     return "$status"

@@ -5,7 +5,11 @@
 set -u
 root=$(cd "$(dirname "$(readlink -f "${BASH_SOURCE[0]}")")/.." && pwd) || exit 1
 cd "$root" || exit 1
-[ $# -gt 0 ] || set -- $(ls wrong-bodies)
+if [ $# = 0 ]; then
+    cd wrong-bodies || exit 1
+    set -- *
+    cd .. || exit 1
+fi
 
 placed=()
 trap 'rm -f "${placed[@]}"' EXIT

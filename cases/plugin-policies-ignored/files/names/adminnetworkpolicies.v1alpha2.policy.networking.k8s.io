@@ -1,0 +1,1 @@
+adminnetworkpolicy.policy.networking.k8s.io/a

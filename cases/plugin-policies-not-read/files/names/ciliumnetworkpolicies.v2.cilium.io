@@ -1,0 +1,2 @@
+ciliumnetworkpolicy.cilium.io/a
+ciliumnetworkpolicy.cilium.io/a

@@ -1,0 +1,1 @@
+clusternetworkpolicy.policy.networking.k8s.io/a
