@@ -57,7 +57,10 @@ answer() {
             step "asking np"
             ask_np "$command" ${words[@]+"${words[@]}"} <"$list"
             status=$?
-            [ "$status" != 1 ] || tell_nearest
+            if [ "$status" = 1 ]; then
+                tell_nearest
+                ! has_manifests || tell_foreign
+            fi
             return "$status"
             ;;
     esac

@@ -82,10 +82,10 @@ nearest_names() {
         END { for (place = 1; place <= 3 && far[place] < 1000; place++) print near[place] }'
 }
 
-# Where np knew no workload or pod of a name, prints the nearest of those that there are. Its fault is in $room/said.
+# Where np knew no workload or pod of a name, prints the nearest of those that there are. Its fault is in $room/refused.
 tell_nearest() {
     local wanted names
-    wanted=$(LC_ALL=C sed -n 's/^error: UnknownEnd //p' "$room/said" | tail -n 1)
+    wanted=$(LC_ALL=C sed -n 's/^error: UnknownEnd //p' "$room/refused" | tail -n 1)
     [ -n "$wanted" ] || return 0
     if [ "$command" = evaluate ]; then
         have jq || return 0
