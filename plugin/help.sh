@@ -186,7 +186,7 @@ find_program() {
     program=$np
     [ "$folder" != "$np" ] || folder=.
     if [ -f "$folder/tools/program.sh" ] && [ "$(head -c 2 "$np" | LC_ALL=C tr -d '\000')" = '#!' ]; then
-        # shellcheck disable=SC2034 source=tools/program.sh # that reads `root`
+        # shellcheck disable=SC2034 source=/dev/null # tools/program.sh reads `root`
         if (root=$folder && . "$folder/tools/program.sh" && is_current); then
             program=$folder/dist/np
         else
