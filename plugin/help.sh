@@ -109,8 +109,8 @@ with no replicas will need is printed too.
 example: kubectl np unused
 END
         check) cat <<'END' ;;
-kubectl np check: whether the statements of a file hold. It names the first that does not, with a packet, and ends with status 5. A name
-that no pod has holds for nothing and passes; kubectl np gate refuses it.
+kubectl np check: whether the statements of a file hold. It names the first that does not, with a packet, and ends with status 5. A
+namespace without pods, also one that is misspelt, passes; kubectl np gate refuses it.
 
   --statement FILE    the statements, a line each: allow or deny, source, =>, destination, :, connections
 

@@ -82,8 +82,8 @@ tell_ignored() {
     local line
     [ "${#ignored[@]}" != 0 ] || return 0
     with_shared_filter '
-        [.items[] | select(is_ignored)] | group_by(kind_and_group)[] | "\(length) of \(.[0] | kind_and_group)"' "$room/all" "$room/said"
-    while IFS= read -r line; do say "passed over: $line"; done <"$room/said"
+        [.items[] | select(is_ignored)] | group_by(kind_and_group)[] | "\(.[0] | kind_and_group) (\(length))"' "$room/all" "$room/said"
+    while IFS= read -r line; do say "ignored: $line"; done <"$room/said"
 }
 
 # Says how many objects have no namespace.
@@ -114,7 +114,7 @@ tell_namespaces_without_labels() {
                 | map(select(. as $name | any($known[]; . == $name) | not)) | join(", ")
             else "" end' "$list" "$room/said"
     names=$(cat "$room/said")
-    [ -z "$names" ] || say "these namespaces have no Namespace object, so no selector finds a label of theirs but their name: $names"
+    [ -z "$names" ] || say "these namespaces have no Namespace object, so np knows no label of theirs but the name: $names"
 }
 
 # Where np refused an item since it is a policy that it does not read, says of which kind it is. Its fault is in $room/refused.

@@ -94,5 +94,5 @@ tell_nearest() {
         list_names "$list" >"$room/names" 2>/dev/null || return 0
     fi
     names=$(nearest_names "$wanted" <"$room/names" | LC_ALL=C awk '{ line = line (NR == 1 ? "" : ", ") $0 } END { print line }')
-    if [ -n "$names" ]; then say "the nearest names: $names"; else say "the list has no such names at all"; fi
+    if [ -n "$names" ]; then say "the nearest names: $names"; else say "there are no such names in the list"; fi
 }
