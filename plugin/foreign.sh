@@ -55,7 +55,7 @@ check_foreign_policies() {
     for ((index = 0; index < ${#asked[@]}; index++)); do
         judge_kind "${named[index]}" "${groups[index]}" "${statuses[index]}" "$room/answer.$index" || stopped=yes
     done
-    [ -z "$stopped" ] || stop 3 "there is no answer without them; --ignore KIND goes on as if they were not there"
+    [ -z "$stopped" ] || stop 3 "without them an answer may be wrong, so there is none; --ignore KIND goes on as if they were not there"
 }
 
 # Whether the kind $1 of the group $2 is no reason to end, by the status $3 and the answer $4 of the request for its objects.
@@ -63,7 +63,7 @@ judge_kind() {
     local count
     if [ "$3" != 0 ]; then
         if is_ignored "$1" "$2"; then
-            say "passed over: all objects of $1.$2, which the cluster does not list"
+            say "ignored: $1.$2 (not counted, since the cluster does not list them)"
         else
             cat "$4.said" >&2
             say "the cluster does not list the objects of $1.$2, policies that np does not read"
@@ -74,9 +74,9 @@ judge_kind() {
     count=$(count_names "$2" "$4")
     [ "$count" != 0 ] || return 0
     if is_ignored "$1" "$2"; then
-        say "passed over: $count of $1.$2"
+        say "ignored: $1.$2 ($count)"
     else
-        say "the cluster has policies that np does not read: $count of $1.$2"
+        say "the cluster has policies that np does not read: $1.$2 ($count)"
         return 1
     fi
 }

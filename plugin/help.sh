@@ -109,8 +109,8 @@ with no replicas will need is printed too.
 example: kubectl np unused
 END
         check) cat <<'END' ;;
-kubectl np check: whether the statements of a file hold. It names the first that does not, with a packet, and ends with status 5. A name
-that no pod has holds for nothing and passes; kubectl np gate refuses it.
+kubectl np check: whether the statements of a file hold. It names the first that does not, with a packet, and ends with status 5. A
+namespace without pods, also one that is misspelt, passes; kubectl np gate refuses it.
 
   --statement FILE    the statements, a line each: allow or deny, source, =>, destination, :, connections
 
@@ -179,13 +179,20 @@ digest_of() {
     fi
 }
 
-# The path of the program that is run. In the repository `np` is a script, which runs dist/np unless sources were changed since.
+# The path of the program that is run. In the repository `np` is a script, which runs dist/np where that was built from the sources that
+# stand there, and else what it built itself.
 find_program() {
     local folder=${np%/*}
     program=$np
     [ "$folder" != "$np" ] || folder=.
-    if [ "$(head -c 2 "$np" | LC_ALL=C tr -d '\000')" = '#!' ] && [ -x "$folder/dist/np" ]; then
-        program=$folder/dist/np
+    if [ -f "$folder/tools/program.sh" ] && [ "$(head -c 2 "$np" | LC_ALL=C tr -d '\000')" = '#!' ]; then
+        # shellcheck disable=SC2034 source=/dev/null # tools/program.sh reads `root`
+        if (root=$folder && . "$folder/tools/program.sh" && is_current); then
+            program=$folder/dist/np
+        else
+            program=$folder/.built/np
+            [ -x "$program" ] || stop 3 "$np has not built its program from the sources as they stand"
+        fi
     fi
 }
 

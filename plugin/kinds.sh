@@ -114,7 +114,7 @@ pass_over_version() {
         metrics.k8s.io/* | custom.metrics.k8s.io/* | external.metrics.k8s.io/*) return ;; # these have no policies, and are often down
     esac
     if ! is_read "$1" && is_ignored '' "${1%/*}"; then
-        say "passed over: $1, which gives no answer"
+        say "ignored: $1, which does not answer"
     else
         is_read "$1" || say "$1 may have policies that np does not read; --ignore ${1%/*} goes on without it"
         no_answer "$(path_of "$1")" "$2"

@@ -16,8 +16,8 @@ check_program() {
 # Refuses words that the command does not take.
 check_words() {
     case $command in
-        snapshot | filter | version) [ "${#words[@]}" = 0 ] || stop 2 "$command takes no further words, as '${words[0]}'" ;;
-        names) [ "${#words[@]}" = 0 ] || [ "${words[*]}" = pods ] || stop 2 "names takes no word but pods, and not '${words[*]}'" ;;
+        snapshot | filter | version) [ "${#words[@]}" = 0 ] || stop 2 "$command takes no further words: '${words[0]}'" ;;
+        names) [ "${#words[@]}" = 0 ] || [ "${words[*]}" = pods ] || stop 2 "names takes no word but pods: '${words[*]}'" ;;
         help) [ "${#words[@]}" -le 1 ] || stop 2 "help takes one command" ;;
         gate) gate_options ${words[@]+"${words[@]}"} ;;
         *) check_words_of_np ;;
@@ -57,7 +57,10 @@ answer() {
             step "asking np"
             ask_np "$command" ${words[@]+"${words[@]}"} <"$list"
             status=$?
-            [ "$status" != 1 ] || tell_nearest
+            if [ "$status" = 1 ]; then
+                tell_nearest
+                ! has_manifests || tell_foreign
+            fi
             return "$status"
             ;;
     esac

@@ -28,15 +28,19 @@ def is_ignored:
 END_OF_FILTER
 }
 
-# Runs jq with the program $1 behind the shared one, on the file $2.
+# Runs jq with the program $1 behind the shared one, on the file $2, and writes what it prints to the file $3.
 with_shared_filter() {
     { shared_filter && printf '%s\n' "$1"; } >"$room/shared.jq"
     jq -c -r --argjson namespaced "$namespaced" --arg ignored "$(printf '%s\n' ${ignored[@]+"${ignored[@]}"})" \
-        --arg namespace "$namespace" -f "$room/shared.jq" "$2"
+        --arg namespace "$namespace" -f "$room/shared.jq" "$2" >"$3" ||
+        stop 3 "jq could not read the manifests"
 }
 
 # Prints the path $1 as kubectl takes it: its option has a list with commas, in which a text in quotes is taken as it stands.
-quoted_path() { printf '"%s"' "${1//\"/\"\"}"; }
+quoted_path() {
+    local quote='"'
+    printf '"%s"' "${1//$quote/$quote$quote}"
+}
 
 # Has kubectl print the objects in the files and folders of -f, or in the file $1, one behind the other. It prints what it changes, so
 # an annotation is set, which goes with all else that np does not read. Without a configuration it knows no cluster that it could ask.
@@ -70,23 +74,24 @@ list_objects() {
     # shellcheck disable=SC2016 # the names are variables of jq
     with_shared_filter '.items |= map(
         select(is_ignored | not)
-        | if $namespace != "" and has_no_namespace then .metadata.namespace = $namespace else . end)' "$room/all" >"$list" ||
-        stop 3 "jq could not make a list of the manifests"
+        | if $namespace != "" and has_no_namespace then .metadata.namespace = $namespace else . end)' "$room/all" "$list"
 }
 
 # Says which policies are passed over.
 tell_ignored() {
     local line
     [ "${#ignored[@]}" != 0 ] || return 0
-    while IFS= read -r line; do say "passed over: $line"; done < <(with_shared_filter '
-        [.items[] | select(is_ignored)] | group_by(kind_and_group)[] | "\(length) of \(.[0] | kind_and_group)"' "$room/all")
+    with_shared_filter '
+        [.items[] | select(is_ignored)] | group_by(kind_and_group)[] | "\(.[0] | kind_and_group) (\(length))"' "$room/all" "$room/said"
+    while IFS= read -r line; do say "ignored: $line"; done <"$room/said"
 }
 
 # Says how many objects have no namespace.
 tell_default() {
     local count
     [ -z "$namespace" ] || return 0
-    count=$(with_shared_filter '[.items[] | select(has_no_namespace)] | length' "$room/all")
+    with_shared_filter '[.items[] | select(has_no_namespace)] | length' "$room/all" "$room/said"
+    count=$(cat "$room/said")
     case $count in
         0) ;;
         1) say "1 object has no namespace and went to default; --namespace names another" ;;
@@ -98,7 +103,7 @@ tell_default() {
 tell_namespaces_without_labels() {
     local names
     # shellcheck disable=SC2016 # the names are variables of jq
-    names=$(with_shared_filter '
+    with_shared_filter '
         def asks_for_a_label:
             any((.matchLabels? | objects | keys_unsorted[]), (.matchExpressions? | arrays | .[] | objects | .key);
                 . != "kubernetes.io/metadata.name");
@@ -107,8 +112,19 @@ tell_namespaces_without_labels() {
                 asks_for_a_label)
             then [.items[] | select(is_namespaced) | .metadata.namespace? // "" | if . == "" then "default" else . end] | unique
                 | map(select(. as $name | any($known[]; . == $name) | not)) | join(", ")
-            else "" end' "$list")
-    [ -z "$names" ] || say "these namespaces have no Namespace object, so no selector finds a label of theirs but their name: $names"
+            else "" end' "$list" "$room/said"
+    names=$(cat "$room/said")
+    [ -z "$names" ] || say "these namespaces have no Namespace object, so np knows no label of theirs but the name: $names"
+}
+
+# Where np refused an item since it is a policy that it does not read, says of which kind it is. Its fault is in $room/refused.
+tell_foreign() {
+    local item
+    item=$(LC_ALL=C sed -n 's/^error: item \([0-9]*\): kind: ForeignPolicy$/\1/p' "$room/refused")
+    [ -n "$item" ] || return 0
+    # shellcheck disable=SC2016 # the names are variables of jq
+    with_shared_filter ".items[$item - 1]"' | "item '"$item"' is of the kind \(kind_and_group | tojson)"' "$list" "$room/said"
+    say "$(cat "$room/said"); --ignore KIND goes on without such policies"
 }
 
 # Writes the objects of the manifests into the file `list`.

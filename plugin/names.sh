@@ -82,10 +82,10 @@ nearest_names() {
         END { for (place = 1; place <= 3 && far[place] < 1000; place++) print near[place] }'
 }
 
-# Where np knew no workload or pod of a name, prints the nearest of those that there are. Its fault is in $room/said.
+# Where np knew no workload or pod of a name, prints the nearest of those that there are. Its fault is in $room/refused.
 tell_nearest() {
     local wanted names
-    wanted=$(LC_ALL=C sed -n 's/^error: UnknownEnd //p' "$room/said" | tail -n 1)
+    wanted=$(LC_ALL=C sed -n 's/^error: UnknownEnd //p' "$room/refused" | tail -n 1)
     [ -n "$wanted" ] || return 0
     if [ "$command" = evaluate ]; then
         have jq || return 0
@@ -94,5 +94,5 @@ tell_nearest() {
         list_names "$list" >"$room/names" 2>/dev/null || return 0
     fi
     names=$(nearest_names "$wanted" <"$room/names" | LC_ALL=C awk '{ line = line (NR == 1 ? "" : ", ") $0 } END { print line }')
-    if [ -n "$names" ]; then say "the nearest names: $names"; else say "the list has no such names at all"; fi
+    if [ -n "$names" ]; then say "the nearest names: $names"; else say "there are no such names in the list"; fi
 }

@@ -76,7 +76,7 @@ take_word_of_command() {
     if ! is_option "$1"; then
         take_bare_word "$1"
     elif [ -z "$command" ]; then
-        stop 2 "'$1' is no option of kubectl that says which cluster, and none of the plugin (kubectl np help)"
+        stop 2 "unknown option '$1' (kubectl np help lists them)"
     else
         words+=("$1")
         if is_question "$command" && [[ $1 != *=* && $# -gt 1 ]] && ! is_option "$2"; then
@@ -92,7 +92,7 @@ take_bare_word() {
         is_command "$1" || stop 2 "there is no command '$1' (kubectl np help lists them)"
         command=$1
     elif is_question "$command"; then
-        stop 2 "takes no files, as '$1': name a list with --list, and manifests with -f"
+        stop 2 "unexpected word '$1': name a list with --list, and manifests with -f"
     else
         words+=("$1")
     fi
@@ -123,13 +123,13 @@ check_sources() {
     [ "${#paths[@]}" = 0 ] || sources=$((sources + 1))
     [ -z "$overlay" ] || sources=$((sources + 1))
     [ -z "$list_file" ] || sources=$((sources + 1))
-    [ "$sources" -le 1 ] || stop 2 "the objects come from one place: -f, -k or --list"
+    [ "$sources" -le 1 ] || stop 2 "choose one of -f, -k and --list"
     [ -z "$recursive" ] || [ "${#paths[@]}" != 0 ] || stop 2 "-R goes with -f"
     if [ -n "$wants_all_namespaces" ] || { [ -n "$namespace" ] && ! has_manifests; }; then
         stop 2 "all namespaces are read, since policies reach across them; leave out -n and -A, and choose rows with --focus"
     fi
     [ -z "$namespace" ] || [[ $namespace =~ ^[a-z0-9]([a-z0-9-]*[a-z0-9])?$ ]] || stop 2 "'$namespace' is no name of a namespace"
-    [ "$sources" = 0 ] || [ "${#own[@]}" = 0 ] || stop 2 "'${own[0]}' is about a cluster, and with -f, -k or --list none is asked"
+    [ "$sources" = 0 ] || [ "${#own[@]}" = 0 ] || stop 2 "'${own[0]}' is about a cluster, but with -f, -k or --list no cluster is asked"
     [ "${#ignored[@]}" = 0 ] || [ -z "$list_file" ] || stop 2 "--ignore does not go with --list, which is read as it is"
     [ "${#paths[@]}" = 0 ] || check_paths
     check_standard_input
@@ -140,7 +140,7 @@ has_manifests() { [ "${#paths[@]}" != 0 ] || [ -n "$overlay" ]; }
 check_paths() {
     local path
     for path in "${paths[@]}"; do
-        case $path in http://* | https://*) stop 2 "no manifest is fetched from the network: '$path'" ;; esac
+        case $path in http://* | https://*) stop 2 "URLs are not fetched: '$path'" ;; esac
     done
 }
 

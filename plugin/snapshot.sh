@@ -53,11 +53,11 @@ fetch_list() {
     fi
 }
 
-# The words of np, with its standard error kept in $room/said, and shown when it ends.
+# Runs np with the words. Its standard error is shown when it ends, and kept in $room/refused.
 ask_np() {
     local status
-    run_slow "$np" "$@" 2>"$room/said"
+    run_slow "$np" "$@" 2>"$room/refused"
     status=$?
-    cat "$room/said" >&2
+    cat "$room/refused" >&2
     return "$status"
 }
