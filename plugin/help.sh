@@ -147,7 +147,8 @@ END
         gate) cat <<'END' ;;
 kubectl np gate STATEMENTS: every statement of the file (- for standard input) on its own, a line each: ok, VIOLATED with a packet, or
 error. The status is 0 only where all hold, 5 where some are violated, and 1 where a statement is faulty or an end has no pods. Empty
-lines and lines that begin with # are passed over.
+lines and lines that begin with # are passed over. Beside the ends of check there are two more: outside-namespace NAME, which is every
+pod of another namespace and every address, and as the source ingress-controller, which is what comes through Ingresses.
 
   --allow-empty       an end that has no pods is no error
   --junit FILE        writes the results as JUnit XML too

@@ -42,6 +42,40 @@ quoted_path() {
     printf '"%s"' "${1//$quote/$quote$quote}"
 }
 
+# Puts what -f - reads into $room/input, since it is looked at before kubectl reads it.
+save_standard_input() {
+    local path
+    : >"$room/input"
+    for path in "${paths[@]}"; do
+        [ "$path" != - ] || cat >"$room/input" || stop 3 "standard input cannot be read"
+    done
+}
+
+# Prints the names of those manifests of -f in which a document has its kind twice.
+find_run_together() {
+    local path depth=(-maxdepth 1)
+    local twice='FNR == 1 || /^---/ { kinds = 0 } /^kind:/ && ++kinds == 2 { print FILENAME }'
+    [ -z "$recursive" ] || depth=()
+    for path in "${paths[@]}"; do
+        # (a name without a slash in it may look to awk like an option, or like what sets a variable)
+        case $path in -) path=$room/input ;; /* | ./* | ../*) ;; *) path=./$path ;; esac
+        if [ -d "$path" ]; then
+            find "$path" ${depth[@]+"${depth[@]}"} \( -name '*.yaml' -o -name '*.yml' \) ! -type d -exec awk "$twice" {} +
+        elif [ -f "$path" ]; then
+            awk "$twice" "$path"
+        fi
+    done
+}
+
+# Refuses two documents without a line --- between them, as `cat *.yaml` makes them: kubectl would take them for one, in which what the
+# last of them says counts, and the others would be missing without a word.
+check_documents() {
+    local found
+    found=$(find_run_together | head -n 1)
+    [ "$found" != "$room/input" ] || found='standard input'
+    [ -z "$found" ] || stop 3 "a document has its kind twice in $found: there is no line --- between two documents"
+}
+
 # Has kubectl print the objects in the files and folders of -f, or in the file $1, one behind the other. It prints what it changes, so
 # an annotation is set, which goes with all else that np does not read. Without a configuration it knows no cluster that it could ask.
 read_objects() {
@@ -52,8 +86,8 @@ read_objects() {
     else
         for path in "${paths[@]}"; do options+=("--filename=$(quoted_path "$path")"); done
     fi
-    KUBECONFIG=/dev/null run_slow kubectl annotate --local --overwrite "${options[@]}" --output json np-read=.. >"$room/objects" ||
-        stop 3 "the manifests cannot be read, so there is no answer"
+    KUBECONFIG=/dev/null run_slow kubectl annotate --local --overwrite "${options[@]}" --output json np-read=.. \
+        <"$room/input" >"$room/objects" || stop 3 "the manifests cannot be read, so there is no answer"
 }
 
 # Builds the overlay of -k.
@@ -131,9 +165,12 @@ tell_foreign() {
 fetch_manifests() {
     step "reading the manifests"
     if [ -n "$overlay" ]; then
+        : >"$room/input"
         build_overlay
         read_objects "$room/built"
     else
+        save_standard_input
+        check_documents
         read_objects
     fi
     list_objects

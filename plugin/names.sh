@@ -1,11 +1,12 @@
 # The names that options take, and the nearest of them to one that was not found.
 
-# Prints the names of the workloads of the list in the file $1. In this report exactly one row of each workload begins so.
+# Prints the names of the workloads of the list in the file $1. In this report exactly one row of each workload begins so: the one of the
+# first range of addresses that may send to it.
 list_names() {
     local statuses
     "$np" list --report 1 <"$1" 2>"$room/names.said" | LC_ALL=C awk '
-        index($0, "0.0.0.0-") == 1 && (at = index($0, " => ")) {
-            name = substr($0, at + 4)
+        /^0\.0\.0\.0(-[0-9.]+)? => / {
+            name = substr($0, index($0, " => ") + 4)
             print substr(name, 1, index(name, " : ") - 1)
         }'
     statuses=("${PIPESTATUS[@]}")
