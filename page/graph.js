@@ -1,7 +1,7 @@
 // The picture of one workload: who sends to it stands at its left, what it sends to at its right, addresses and Ingresses below them. A
 // star needs no layout to be worked out, so no library draws it.
 
-const BOX = { width: 300, height: 34, gap: 10, middle: 260, column: 250 };
+const BOX = { width: 340, height: 46, gap: 10, middle: 300, column: 110 };
 const MOST_BOXES = 30;
 
 function neighbours(table, workload) {
@@ -70,7 +70,10 @@ function starDrawing(app, name, near, outside) {
     const rightX = centre.x + BOX.middle + BOX.column;
     const boxes = [], lines = [];
     const place = (list, whole, x, y, side) => {
-        list.forEach((box, i) => boxes.push(starBox(app, box, x, y + i * step), starLine(app, lines, box, x, y + i * step, centre, side)));
+        list.forEach((box, i) => {
+            boxes.push(starBox(app, box, x, y + i * step));
+            lines.push(...starLine(box, x, y + i * step, centre, side));
+        });
         if (whole.length > list.length) boxes.push(drawing('text', { x: x + 10, y: y + list.length * step + 20, class: 'more-text' },
             'and ' + count(whole.length - list.length, 'other', 'others') + ': see the list'));
     };
@@ -84,10 +87,10 @@ function starDrawing(app, name, near, outside) {
         drawing('text', { x: rightX, y: 20, class: 'side-text' }, near.receivers.length ? 'Workloads that it sends to' : 'It sends to no workload'),
         outer && drawing('text', { x: 0, y: below - 12, class: 'side-text' }, outside.senders.length ? 'From outside' : 'Nothing from outside'),
         outer && drawing('text', { x: rightX, y: below - 12, class: 'side-text' }, outside.receivers.length ? 'To outside' : 'Nothing to outside'),
-        ...lines, ...boxes.filter(Boolean),
+        ...lines, ...boxes,
         drawing('g', { class: 'centre' },
             drawing('rect', { x: centre.x, y: centre.y, width: BOX.middle, height: BOX.height, rx: 6 }),
-            drawing('text', { x: centre.x + BOX.middle / 2, y: centre.y + 22, 'text-anchor': 'middle' }, cutText(name, 36), drawing('title', {}, name))));
+            drawing('text', { x: centre.x + BOX.middle / 2, y: centre.y + 28, 'text-anchor': 'middle' }, cutText(name, 36), drawing('title', {}, name))));
 }
 
 function starBox(app, box, x, y) {
@@ -102,19 +105,18 @@ function starBox(app, box, x, y) {
         } },
     drawing('title', {}, box.label + ' : ' + box.text + (box.members ? ' (double click, or f: its own picture)' : '')),
     drawing('rect', { x, y, width: BOX.width, height: BOX.height, rx: 6 }),
-    drawing('text', { x: x + 10, y: y + 22 }, cutText(box.label, 42)));
+    drawing('text', { x: x + 10, y: y + 19 }, cutText(box.label, 42)),
+    drawing('text', { x: x + 10, y: y + 37, class: 'passes' }, cutText(box.text, 42)));
 }
 
-function starLine(app, lines, box, x, y, centre, side) {
+// The line of a box and its head; thick where everything passes, broken where some does.
+function starLine(box, x, y, centre, side) {
     const middle = y + BOX.height / 2, target = centre.y + BOX.height / 2;
     const start = side === 'left' ? x + BOX.width : centre.x + centre.width;
     const end = side === 'left' ? centre.x : x;
     const startY = side === 'left' ? middle : target, endY = side === 'left' ? target : middle;
     const bend = (end - start) / 2;
-    const everything = box.text === EVERYTHING;
-    lines.push(drawing('path', { class: 'line ' + (everything ? 'all' : 'some'),
-        d: 'M' + start + ' ' + startY + ' C' + (start + bend) + ' ' + startY + ' ' + (end - bend) + ' ' + endY + ' ' + (end - 7) + ' ' + endY }));
-    lines.push(drawing('path', { class: 'arrow', d: 'M' + (end - 8) + ' ' + (endY - 4) + ' L' + end + ' ' + endY + ' L' + (end - 8) + ' ' + (endY + 4) + ' Z' }));
-    return drawing('text', { class: 'line-text', x: side === 'left' ? start + 12 : end - 12, y: middle - 5, 'text-anchor': side === 'left' ? 'start' : 'end' },
-        cutText(box.text, 34), drawing('title', {}, box.text));
+    const curve = 'M' + start + ' ' + startY + ' C' + (start + bend) + ' ' + startY + ' ' + (end - bend) + ' ' + endY + ' ' + (end - 7) + ' ' + endY;
+    const head = 'M' + (end - 8) + ' ' + (endY - 4) + ' L' + end + ' ' + endY + ' L' + (end - 8) + ' ' + (endY + 4) + ' Z';
+    return [drawing('path', { class: 'line ' + (box.text === EVERYTHING ? 'all' : 'some'), d: curve }), drawing('path', { class: 'arrow', d: head })];
 }

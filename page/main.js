@@ -173,6 +173,8 @@ function drawDetail() {
     if (detail.hidden) return;
     detail.append(element('div', { class: 'bar' }, element('h2', {}, from + ' → ' + to),
         element('button', { type: 'button', 'aria-label': 'Close', title: 'Esc', click: () => change({ from: '', to: '' }) }, '×')), detailOf(app, from, to));
+    const cell = document.body.dataset.view === 'matrix' && openedCell(app, app.matrix);
+    if (cell) cell.classList.add('opened');
     for (const made of document.querySelectorAll('[data-ends]')) {
         if (made.dataset.ends === endsKey(from, to)) made.classList.add('opened');
     }

@@ -61,10 +61,18 @@ function pushPart(table, toggled, lines, namespace, key, members, first) {
         heading: place === 0 ? heading : null, label: shortName(table, member, namespace), full: table.names[member] }));
 }
 
+// The name without its namespace, and without its kind where it is the only one of that name. The whole name is told besides.
 function shortName(table, workload, namespace) {
+    if (!table.plainNames) {
+        table.plainNames = new Map();
+        for (const name of table.names) table.plainNames.set(plainName(name), (table.plainNames.get(plainName(name)) || 0) + 1);
+    }
     const name = table.names[workload];
-    return namespace === '' ? name : name.slice(namespace.length + 1);
+    const short = table.plainNames.get(plainName(name)) === 1 ? plainName(name) : name;
+    return namespace === '' ? short : short.slice(namespace.length + 1);
 }
+
+function plainName(name) { return name.replace(/\[[^\]]*\]/, ''); }
 
 function equalLabel(table, namespace, members) {
     const spaces = new Set(members.map(member => table.namespaces[member])).size;
@@ -72,23 +80,32 @@ function equalLabel(table, namespace, members) {
         + (spaces > 1 ? ', in ' + spaces.toLocaleString('en') + ' namespaces' : '');
 }
 
+// The groups of a line: the number of the group, how many of it are in the line, and the first of these.
+function lineGroups(table, line) {
+    if (!line.groups) {
+        const groups = new Map();
+        for (const member of line.members) {
+            const number = table.groupOf[member];
+            if (groups.has(number)) groups.get(number).size += 1;
+            else groups.set(number, { number, size: 1, first: member, group: table.groups[number] });
+        }
+        line.groups = Array.from(groups.values());
+    }
+    return line.groups;
+}
+
 // How many pairs of two lines are of each level; a line and itself: its workloads with each other, and with themselves where np has a row.
 function cellLevels(table, from, to) {
     const levels = [0, 0, 0];
-    const sizes = line => {
-        if (!line.sizes) {
-            line.sizes = new Map();
-            for (const member of line.members) line.sizes.set(table.groupOf[member], (line.sizes.get(table.groupOf[member]) || 0) + 1);
-        }
-        return line.sizes;
-    };
-    for (const [group, size] of sizes(from)) {
-        for (const [other, otherSize] of sizes(to)) {
-            const same = group === other;
-            const pairs = size * otherSize - (same && from === to ? size : 0);
-            const connections = same ? table.groups[group].inner : table.groups[group].row[table.groups[other].members[0]];
-            if (pairs > 0) levels[table.levels[connections]] += pairs;
-            if (same && from === to && (table.groups[group].own || from.members.length === 1)) levels[table.levels[table.groups[group].own]] += size;
+    for (const one of lineGroups(table, from)) {
+        for (const other of lineGroups(table, to)) {
+            if (one.number !== other.number) {
+                levels[table.levels[one.group.row[other.first]]] += one.size * other.size;
+                continue;
+            }
+            const pairs = one.size * other.size - (from === to ? one.size : 0);
+            if (pairs > 0) levels[table.levels[one.group.inner]] += pairs;
+            if (from === to && (one.group.own || from.members.length === 1)) levels[table.levels[one.group.own]] += one.size;
         }
     }
     return levels;
@@ -173,15 +190,18 @@ function makeMatrix(app) {
 
 function matrixSection(app) {
     const matrix = makeMatrix(app);
+    app.matrix = matrix;
     const grid = element('table', { class: 'matrix-table', role: 'grid', 'aria-label': 'Who reaches whom: lines send, columns receive' },
         element('thead', {}, matrixHead(app, matrix)),
         element('tbody', {}, ...matrixRows(app, matrix)));
     grid.addEventListener('click', event => {
-        const cell = event.target.closest('td[data-row]');
-        if (cell) openCell(app, matrix, cell);
+        const place = placeOfEvent(matrix, event);
+        if (place) openCell(app, matrix, place.r, place.c);
     });
-    grid.addEventListener('keydown', event => moveInMatrix(app, matrix, grid, event));
-    const first = grid.querySelector('td[data-row]');
+    grid.addEventListener('keydown', event => moveInMatrix(app, matrix, event));
+    grid.addEventListener('mouseover', event => tellCell(matrix, event));
+    grid.addEventListener('focusin', event => tellCell(matrix, event));
+    const first = grid.querySelector('tbody td:not(.left-out)');
     if (first) first.tabIndex = 0;
     return element('section', { class: 'matrix', 'aria-label': 'Matrix' },
         element('div', { class: 'bar' }, element('h2', {}, 'Who reaches whom'), legend()),
@@ -203,21 +223,30 @@ function matrixHead(app, matrix) {
             element('span', { class: 'turned' }, line.kind === 'namespace' || !line.members || line.namespace === '' ? line.label : line.namespace + '/' + line.label))));
 }
 
-function columnClass(lines, place, app) {
+// Whether a column begins a namespace, where it is not among closed ones.
+function isEdge(lines, place) {
     const line = lines[place], before = lines[place - 1];
-    return [!before || before.namespace !== line.namespace ? 'edge' : '', isFocused(app, line) ? 'focused' : '', line.members ? '' : 'outside'].join(' ').trim() || undefined;
+    return !before || before.namespace !== line.namespace && !(before.kind === 'namespace' && line.kind === 'namespace');
+}
+
+function columnClass(lines, place, app) {
+    const line = lines[place];
+    return [isEdge(lines, place) ? 'edge' : '', isFocused(app, line) ? 'focused' : '', line.members ? '' : 'outside'].join(' ').trim() || undefined;
 }
 
 function isFocused(app, line) { return Boolean(app.state.focus && line.members && line.members.some(member => app.table.names[member] === app.state.focus)); }
 
 function matrixRows(app, matrix) {
     const rows = [];
+    const edges = matrix.receivers.map((line, c) => isEdge(matrix.receivers, c) ? ' edge' : '');
     let namespace;
+    matrix.rows = [];
     matrix.senders.forEach((line, r) => {
         if (line.members && line.kind !== 'namespace' && line.namespace !== namespace) rows.push(headingRow(app, line.namespace, matrix.receivers.length));
         namespace = line.namespace;
         rows.push(element('tr', { class: line.members ? undefined : 'outside' }, lineHead(app, line),
-            ...matrix.cells[r].map((cell, c) => matrixCell(app, matrix, cell, r, c))));
+            ...matrix.cells[r].map((cell, c) => matrixCell(cell, edges[c]))));
+        matrix.rows.push(rows[rows.length - 1]);
     });
     return rows;
 }
@@ -246,17 +275,18 @@ function lineHead(app, line) {
         !line.members && line.label);
 }
 
-function matrixCell(app, matrix, cell, r, c) {
-    const from = matrix.senders[r], to = matrix.receivers[c];
-    const edge = columnClass(matrix.receivers, c, app);
-    if (cell === null) return element('td', { class: ['left-out', edge || ''].join(' ').trim() });
-    const ends = cellEnds(app.table, from, to);
-    const total = cell.levels[0] + cell.levels[1] + cell.levels[2];
-    const words = from.full + ' => ' + to.full + ': ' + (total > 1 && cell.level === SOME
-        ? cell.levels.map((number, level) => number ? number.toLocaleString('en') + ' × ' + LEVEL_WORDS[level] : '').filter(Boolean).reverse().join(', ')
-        : LEVEL_WORDS[cell.level]);
-    return element('td', { class: [LEVEL_CLASSES[cell.level], edge || ''].join(' ').trim(), tabindex: -1, 'data-row': r, 'data-column': c,
-        'data-ends': endsKey(ends.from, ends.to), title: words, 'aria-label': words }, SIGNS[cell.level]);
+// A cell has as little as can be: there may be ten thousand of them. What it says in words is told when it is pointed at.
+function matrixCell(cell, edge) {
+    const made = document.createElement('td');
+    made.className = (cell === null ? 'left-out' : LEVEL_CLASSES[cell.level]) + edge;
+    if (cell !== null) made.textContent = SIGNS[cell.level];
+    return made;
+}
+
+function cellWords(matrix, r, c) {
+    const { levels, level } = matrix.cells[r][c];
+    const counts = levels.map((number, place) => number ? number.toLocaleString('en') + ' × ' + LEVEL_WORDS[place] : '').filter(Boolean).reverse();
+    return matrix.senders[r].full + ' => ' + matrix.receivers[c].full + ': ' + (counts.length > 1 ? counts.join(', ') : LEVEL_WORDS[level]);
 }
 
 // The ends that a cell opens: names of workloads, of a group its first, and its second where both ends are the group.
@@ -270,31 +300,54 @@ function cellEnds(table, from, to) {
     return { from: name(from, to, 0), to: name(to, from, 1) };
 }
 
-function openCell(app, matrix, cell) {
-    app.change(cellEnds(app.table, matrix.senders[cell.dataset.row], matrix.receivers[cell.dataset.column]));
+// The place of the cell of an event, if it is one that may be opened.
+function placeOfEvent(matrix, event) {
+    const cell = event.target.closest('td');
+    if (!cell || cell.classList.contains('left-out')) return null;
+    return { cell, r: matrix.rows.indexOf(cell.parentElement), c: cell.cellIndex - 1 };
+}
+
+function openCell(app, matrix, r, c) { app.change(cellEnds(app.table, matrix.senders[r], matrix.receivers[c])); }
+
+// The cell whose ends are opened.
+function openedCell(app, matrix) {
+    for (const [r, from] of matrix.senders.entries()) {
+        for (const [c, to] of matrix.receivers.entries()) {
+            const ends = cellEnds(app.table, from, to);
+            if (ends.from === app.state.from && ends.to === app.state.to && matrix.cells[r][c]) return matrix.rows[r].cells[c + 1];
+        }
+    }
+    return null;
 }
 
 const STEPS = { ArrowRight: [0, 1], ArrowLeft: [0, -1], ArrowDown: [1, 0], ArrowUp: [-1, 0] };
 
-function moveInMatrix(app, matrix, grid, event) {
-    const cell = event.target.closest('td[data-row]');
-    if (!cell) return;
+function moveInMatrix(app, matrix, event) {
+    const place = placeOfEvent(matrix, event);
+    if (!place) return;
     if (event.key === 'Enter' || event.key === ' ') {
         event.preventDefault();
-        openCell(app, matrix, cell);
+        openCell(app, matrix, place.r, place.c);
         return;
     }
     const step = STEPS[event.key];
     if (!step) return;
     event.preventDefault();
-    let row = Number(cell.dataset.row), column = Number(cell.dataset.column), next = null;
+    let { r, c } = place;
     do {
-        row += step[0];
-        column += step[1];
-        if (!matrix.cells[row] || column < 0 || column >= matrix.receivers.length) return;
-        next = grid.querySelector('td[data-row="' + row + '"][data-column="' + column + '"]');
-    } while (!next);
-    cell.tabIndex = -1;
+        r += step[0];
+        c += step[1];
+        if (!matrix.cells[r] || c < 0 || c >= matrix.receivers.length) return;
+    } while (matrix.cells[r][c] === null);
+    place.cell.removeAttribute('tabindex');
+    const next = matrix.rows[r].cells[c + 1];
     next.tabIndex = 0;
     next.focus();
+}
+
+function tellCell(matrix, event) {
+    const place = placeOfEvent(matrix, event);
+    if (!place || place.cell.title) return;
+    place.cell.title = cellWords(matrix, place.r, place.c);
+    place.cell.setAttribute('aria-label', place.cell.title);
 }
