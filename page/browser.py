@@ -98,6 +98,33 @@ class Browser:
         """, selector, last)
 
 
+def program():
+    """The program that ./np runs: where dist/np is current it is run by itself, since ./np looks at its sources each time."""
+    root = os.environ["ROOT"]
+    current = subprocess.run(["bash", "-c", '. "$root/tools/program.sh"; is_current'], env=dict(os.environ, root=root), check=False)
+    return root + "/dist/np" if current.returncode == 0 else os.environ["NP"]
+
+
+NP = program()
+
+
+def np(*words):
+    return subprocess.run([NP, *words], check=True, capture_output=True, text=True).stdout
+
+
+def rows_of(*words):
+    """The rows of np, each as a list of source, destination and connections."""
+    return [[row["source"], row["destination"], row["connections"]] for row in json.loads(np(*words, "--format", "json"))]
+
+
+def make_page(path, *words, **more):
+    """Writes the page that np-page makes with the words, and returns its size."""
+    with open(path, "wb") as file:
+        subprocess.run([os.environ["ROOT"] + "/np-page", *words], check=True, stdout=file, stderr=subprocess.DEVNULL,
+                       env=dict(os.environ, NP_PAGE_PROGRAM=NP), **more)
+    return os.path.getsize(path)
+
+
 class Checks:
     """Tells what is not as it should be, and at the end whether all was."""
 
