@@ -17,6 +17,15 @@ page_most=5000000
 
 page_part() { cat "$page_folder/$1"; }
 
+# The parts of that name, one behind the other.
+page_parts() {
+    local part
+    for part; do page_part "$part" || return; done
+}
+
+# The parts of the script, in their order.
+page_scripts="model.js rows.js changes.js state.js element.js detail.js list.js matrix.js graph.js main.js"
+
 page_say() { printf 'np-page: %s\n' "$1" >&2; }
 
 # Copies the inputs, so that np is asked about the same bytes each time: the files $2.. to $1.0, $1.1 and so on, whose names it leaves in
@@ -128,18 +137,17 @@ page_data() {
 
 # The page: page.html, in which a line @NAME@ stands for a part.
 page_whole() {
-    local line part
+    local line
+    # shellcheck disable=SC2086 # the scripts are words of one text
     page_part page.html | while IFS= read -r line; do
         case $line in
             @style@) page_part page.css ;;
             @data@) cat "$room/data" ;;
-            @script@) for part in $page_scripts; do page_part "$part"; done ;;
+            @script@) page_parts $page_scripts ;;
             *) printf '%s\n' "$line" ;;
         esac
     done
 }
-
-page_scripts="model.js rows.js changes.js state.js element.js detail.js list.js matrix.js graph.js main.js"
 
 write_page() {
     local bytes
