@@ -158,7 +158,7 @@ function pair(a, b, c) {
 
 # Whether the next row may be known by its text, and by which.
 function foresee() {
-    foreseen = only == "" && !held && connection && (asked == "" || asked_all > most_asked)
+    foreseen = only == "" && !held && connection == row_value && (asked == "" || asked_all > most_asked)
     foreseen_lead = "{\"connections\":\"" $4 "\",\"destination\":\""
     foreseen_trail = "\",\"source\":\"" $12 "\"},"
 }
@@ -472,7 +472,7 @@ function print_lists(title, lists,    a, count, seen, number) {
     print ",\"" title "\":{\"lists\":["
     for (a = 0; a < workloads; a++) {
         number[a] = -1
-        if (!(a in lists)) continue
+        if (lists[a] == "") continue
         if (!(lists[a] in seen)) {
             print (count ? "," : "") lists[a]
             seen[lists[a]] = count++
