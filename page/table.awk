@@ -72,6 +72,10 @@ part == "names" {
 END {
     if (failed) exit failed
     if (!started) start()
+    if (only != "" && !insiders) {
+        print "np-page: no workload is in the namespace " only > "/dev/stderr"
+        exit 1
+    }
     end_pending()
     end_rows(workloads)
     end_columns()
@@ -99,6 +103,7 @@ function name_workload(name) {
     if (name in place) return
     place[plain(name)] = workloads
     inside[workloads] = only != "" && index(name, only "/") == 1
+    insiders += inside[workloads]
     names[workloads++] = name
 }
 

@@ -13,7 +13,8 @@
 # and calls write_page, which writes the page to standard output. Its status is np's where np gives no report.
 # Only bash 3.2 and a POSIX awk are asked for, since this is what macOS has.
 
-page_most=5000000
+# How many bytes a page has at the most: what opens well.
+page_most=${NP_PAGE_MOST:-5000000}
 
 page_part() { cat "$page_folder/$1"; }
 
