@@ -67,7 +67,7 @@ function tellOthers(before, after, end, tell) {
     tell(() => CONTROLLER, name, through(before, end.old), through(after, end.now), { to: end.names, kind: 'through' });
 }
 
-// Where both have the same ranges a row is compared with its own; else all that passes in the family is told as before and after.
+// Where both have the same ranges, or one has none, a row is compared with its own; else what passes in the family is told as a whole.
 function tellRanges(name, end, side, old, now, tell) {
     const row = side === 0 ? { to: end.names, kind: 'from' } : { from: end.names, kind: 'to' };
     const say = (range, was, is) => side === 0 ? tell(() => range, name, was, is, row) : tell(name, () => range, was, is, row);
@@ -76,8 +76,13 @@ function tellRanges(name, end, side, old, now, tell) {
         old.forEach((range, place) => say(range.range, range.text, now[place].text));
         return;
     }
+    if (!old.length || !now.length) {
+        now.forEach(range => say(range.range, NOTHING, range.text));
+        old.forEach(range => say(range.range, range.text, NOTHING));
+        return;
+    }
     const all = rows => rows.filter(range => range.text !== NOTHING).map(range => range.range + ' : ' + range.text).join('; ') || NOTHING;
-    say(old.concat(now)[0].range.includes(':') ? 'addresses (IPv6)' : 'addresses (IPv4)', all(old), all(now));
+    say(old[0].range.includes(':') ? 'addresses (IPv6)' : 'addresses (IPv4)', all(old), all(now));
 }
 
 const CHANGE_SIGNS = { opened: '+', closed: '−', changed: '≠' };
@@ -110,7 +115,7 @@ function changeCounts(changes) {
 function changesOfSort(app, sort, changes) {
     if (!changes.length) return null;
     const head = ['', 'From', 'To', 'Before', 'After'].map(text => element('th', { scope: 'col' }, text));
-    return element('div', { class: sort },
+    return element('div', {},
         element('h3', {}, CHANGE_WORDS[sort] + ' (' + changes.length.toLocaleString('en') + ')'),
         element('table', { class: 'rows-table' }, element('thead', {}, element('tr', {}, ...head)),
             element('tbody', {}, ...changes.slice(0, app.listed).map(change => changeRow(app, change)))),
@@ -127,7 +132,7 @@ function changeRow(app, change) {
     const to = change.to ? change.to[place] : 'addresses';
     const open = () => app.change({ from, to });
     return element('tr', { tabindex: 0, 'data-ends': endsKey(from, to), click: open, keydown: event => { if (event.key === 'Enter') open(); } },
-        element('td', {}, element('span', { class: 'sign ' + change.sort, title: change.sort }, CHANGE_SIGNS[change.sort])),
+        element('td', {}, element('span', { class: 'sign change-' + change.sort, title: change.sort }, CHANGE_SIGNS[change.sort])),
         element('td', { class: 'end' }, change.source), element('td', { class: 'end' }, change.destination),
         element('td', { class: 'connections' }, change.before), element('td', { class: 'connections' }, change.after));
 }

@@ -1,5 +1,7 @@
 // What is opened of a cell or a row: its rows, the commands that say what decides, and what either side allows of new pods.
 
+const MOST_EXPLAINED = 20;
+
 function shellWord(word) { return /^[A-Za-z0-9_.\/:=@%+,-]+$/.test(word) ? word : "'" + word.replace(/'/g, "'\\''") + "'"; }
 
 // The end that np explain takes: a range is explained by the first address of its first block.
@@ -108,7 +110,9 @@ function decidingPart(app, from, to, rows) {
         const other = to === 'addresses' || !app.table.place.has(to) ? explainEnd(row.destination) : to;
         if (!asked.some(pair => pair.one === one && pair.other === other)) asked.push({ one, other });
     }
-    return [element('h3', {}, 'What decides'), ...asked.slice(0, 20).map(pair => explained(app, pair.one, pair.other))];
+    return [element('h3', {}, 'What decides'), ...asked.slice(0, MOST_EXPLAINED).map(pair => explained(app, pair.one, pair.other)),
+        asked.length > MOST_EXPLAINED && element('p', { class: 'hint' }, count(asked.length - MOST_EXPLAINED, 'more range is', 'more ranges are')
+            + ' not explained here; each is a row of the list.')];
 }
 
 function explained(app, from, to) {
@@ -121,6 +125,7 @@ function explained(app, from, to) {
 
 function deciderClass(line) {
     if (line.includes(' : Allow by ') && !line.endsWith(' : Allow by default')) return 'rule';
+    if (line.includes(' : Deny by ')) return 'denied';
     return line.startsWith('ingress of ') || line.startsWith('egress of ') ? 'side' : '';
 }
 

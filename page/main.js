@@ -153,6 +153,7 @@ function change(patch) {
 
 function draw() {
     const view = VIEWS.find(one => one.name === app.state.view && (!one.needs || one.needs(app))) || VIEWS[0];
+    const key = document.activeElement && document.activeElement.dataset.key;
     document.body.dataset.view = view.name;
     for (const button of document.querySelectorAll('button.view')) {
         button.setAttribute('aria-current', button.dataset.view === view.name ? 'page' : 'false');
@@ -161,6 +162,9 @@ function draw() {
     document.getElementById('view').replaceChildren(...view.sections.map(section => section(app)));
     document.getElementById('beside').replaceChildren(...view.beside.map(section => section(app)));
     drawDetail();
+    // Who opened a line by a key is at that line afterwards.
+    const again = key && Array.from(document.querySelectorAll('[data-key]')).find(made => made.dataset.key === key);
+    if (again) again.focus();
 }
 
 function drawDetail() {

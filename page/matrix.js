@@ -259,7 +259,7 @@ function toggle(app, key) {
 function headingRow(app, namespace, columns) {
     const label = namespace === '' ? 'equal in several namespaces' : namespace;
     return element('tr', { class: 'heading' }, element('th', { scope: 'rowgroup', colspan: columns + 1 },
-        namespace === '' ? label : element('button', { type: 'button', class: 'toggle', 'aria-expanded': 'true', title: 'Close the namespace',
+        namespace === '' ? label : element('button', { type: 'button', class: 'toggle', 'data-key': 'namespace ' + namespace, 'aria-expanded': 'true', title: 'Close the namespace',
             click: () => toggle(app, 'namespace ' + namespace) }, '▾ ' + label)));
 }
 
@@ -267,9 +267,9 @@ function lineHead(app, line) {
     const opens = line.kind === 'namespace' || line.kind === 'equal';
     const closes = line.kind === 'workload' && line.key;
     return element('th', { scope: 'row', title: line.full, class: [line.kind, isFocused(app, line) ? 'focused' : ''].join(' ').trim() },
-        opens && element('button', { type: 'button', class: 'toggle', 'aria-expanded': 'false', click: () => toggle(app, line.key) },
+        opens && element('button', { type: 'button', class: 'toggle', 'data-key': line.key, 'aria-expanded': 'false', click: () => toggle(app, line.key) },
             '▸ ' + line.label + (line.kind === 'namespace' ? ' (' + line.members.length.toLocaleString('en') + ')' : '')),
-        closes && element('button', { type: 'button', class: 'toggle', 'aria-expanded': 'true', title: 'Join the equal workloads', click: () => toggle(app, line.key) }, '▾'),
+        closes && element('button', { type: 'button', class: 'toggle', 'data-key': line.key, 'aria-expanded': 'true', title: 'Join the equal workloads', click: () => toggle(app, line.key) }, '▾'),
         line.kind === 'workload' && element('button', { type: 'button', class: 'name', title: 'Picture of ' + line.full,
             click: () => app.change({ view: 'graph', focus: line.full }) }, line.label),
         !line.members && line.label);

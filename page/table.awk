@@ -78,7 +78,6 @@ END {
     }
     end_pending()
     end_rows(workloads)
-    end_columns()
     end_addresses()
     find_groups()
     print_table()
@@ -107,10 +106,15 @@ function name_workload(name) {
     names[workloads++] = name
 }
 
+function new_connections() {
+    value_weight[++connections] = 1 + int(rand() * 16383)
+    return connections
+}
+
 function connection_of(new) {
     if (new == "No Connections") return 0
     if (!(new in connection_place)) {
-        connection_place[plain(new)] = ++connections
+        connection_place[plain(new)] = new_connections()
         connection_json[connections] = "\"" new "\""
     }
     return connection_place[new]
@@ -132,27 +136,26 @@ function expose(name, end, side) {
     exposed[side, place[name]] = exposed[side, place[name]] "," end_place[end] "," connection
 }
 
-# ---- Pair rows. The row of a workload is the list of what it sends to each workload in order, its column the list of what it is sent;
-# either is kept as the places where the value changes (0: nothing passes). Its own place in them is left open, since a workload of one pod
-# has no row with itself; `own` has that. A row has the number of the workload, and a column `workloads` more. The text of the changes
-# before the open place is `head`, that of those behind it `tail`, and `before` the value just before it.
+# ---- Pair rows. The row of a workload is the list of what it sends to each workload in order, kept as the places where the value changes
+# (0: nothing passes). Its own place in it is left open, since a workload of one pod has no row with itself; `own` has that. The text of
+# the changes before the open place is `head`, that of those behind it `tail`, and `before` the value just before it.
+#
+# Of the column of a workload, what it is sent, only a sum is kept: of the weight of each sender times that of the value. Columns of
+# different sums are different; those of the same sum are compared before their workloads become one group.
 
 function start(    k) {
     started = 1
     source = ""
     text = ""
     address_of = -1
+    srand(1)
+    for (k = 0; k < workloads; k++) {
+        weight[k] = 1 + int(rand() * 67108863)
+        step[k] = 0
+    }
+    value_weight[0] = 0
     row = 0
     begin_row()
-    old_runs = 1
-    old_at[1] = 0
-    old_value[1] = 0
-    for (k = 0; k < 2 * workloads; k++) {
-        head[k] = ""
-        tail[k] = ""
-        before[k] = 0
-        column[k] = 0
-    }
 }
 
 function pair(a, b, c) {
@@ -161,11 +164,17 @@ function pair(a, b, c) {
     else see(b, c)
 }
 
-# Whether the next row may be known by its text, and by which.
+# Whether the next row may be known by its text, and by which. The text is made where rows are seen to be alike, and not for each.
 function foresee() {
-    foreseen = only == "" && !held && connection == row_value && (asked == "" || asked_all > most_asked)
-    foreseen_lead = "{\"connections\":\"" $4 "\",\"destination\":\""
-    foreseen_trail = "\",\"source\":\"" $12 "\"},"
+    foreseen = 0
+    if (only != "" || held || connection != row_value || (asked != "" && asked_all <= most_asked)) return
+    if (foreseen_text != text || foreseen_source != source) {
+        foreseen_text = text
+        foreseen_source = source
+        foreseen_lead = "{\"connections\":\"" text "\",\"destination\":\""
+        foreseen_trail = "\",\"source\":\"" source "\"},"
+    }
+    foreseen = 1
 }
 
 function begin_row() {
@@ -204,91 +213,56 @@ function end_rows(a) {
     }
 }
 
-function end_row(    i) {
-    i = row_last + 1
-    if (i == row) i++
-    if (i < workloads) run(i, 0)
+function end_row(    i, last_one, changes, past, amount) {
+    last_one = row_last + 1
+    if (last_one == row) last_one++
+    if (last_one < workloads) run(last_one, 0)
+    changes = ""
+    past = 0
+    head[row] = ""
+    tail[row] = ""
+    before[row] = 0
     for (i = 1; i <= runs; i++) {
-        if (i == 1 && run_value[1] == 0) continue
-        note_change(row, row, run_at[i], run_value[i])
-        has[row, run_value[i]] = 1
-    }
-    end_piece(row)
-    change_columns()
-}
-
-# The columns whose value is another than in the row before: those where the two rows differ, and that whose open place was there.
-function change_columns(    i, j, at, to, end) {
-    i = 1
-    j = 1
-    for (at = 0; at < workloads; at = to) {
-        while (i < runs && run_at[i + 1] <= at) i++
-        while (j < old_runs && old_at[j + 1] <= at) j++
-        to = i < runs ? run_at[i + 1] : workloads
-        end = j < old_runs ? old_at[j + 1] : workloads
-        if (end < to) to = end
-        if (run_value[i] != old_value[j]) {
-            for (; at < to; at++) if (at != row && at != row - 1) change_column(at, run_value[i])
+        if (run_at[i] >= row && !past) {
+            head[row] = head[row] changes
+            changes = ""
+            past = 1
         }
+        if (!past) before[row] = run_value[i]
+        if (i > 1 || run_value[1] != 0) changes = changes run_at[i] ":" run_value[i] " "
+        # A long text is joined from pieces, since each join copies it.
+        if (i % 64 == 0) {
+            if (past) tail[row] = tail[row] changes
+            else head[row] = head[row] changes
+            changes = ""
+        }
+        note_value(run_value[i])
+        amount = weight[row] * value_weight[run_value[i]]
+        step[run_at[i]] += amount
+        if (i < runs) step[run_at[i + 1]] -= amount
     }
-    if (row > 0) change_column(row - 1, value_at(row - 1))
-    old_runs = runs
-    for (i = 1; i <= runs; i++) {
-        old_at[i] = run_at[i]
-        old_value[i] = run_value[i]
-    }
+    if (past) tail[row] = tail[row] changes
+    else head[row] = head[row] changes
 }
 
-# The value that the row has at the place b.
-function value_at(b,    low, high, middle) {
-    low = 1
-    high = runs
-    while (low < high) {
-        middle = int((low + high + 1) / 2)
-        if (run_at[middle] <= b) low = middle
-        else high = middle - 1
-    }
-    return run_value[low]
+function note_value(c) {
+    if (noted[c] == row + 1) return
+    noted[c] = row + 1
+    has[row, c] = 1
 }
 
-function change_column(b, c) {
-    if (c == column[b]) return
-    column[b] = c
-    note_change(workloads + b, b, row, c)
-}
-
-# A long text is joined from pieces, since each join copies it.
-function note_change(k, self, p, c) {
-    if (p < self) {
-        before[k] = c
-    } else if (!past[k]) {
-        end_piece(k)
-        past[k] = 1
-    }
-    piece[k] = piece[k] p ":" c " "
-    if (++pieces[k] % 64 == 0) end_piece(k)
-}
-
-function end_piece(k) {
-    if (past[k]) tail[k] = tail[k] piece[k]
-    else head[k] = head[k] piece[k]
-    piece[k] = ""
-}
-
-function end_columns(    b) { for (b = 0; b < workloads; b++) end_piece(workloads + b) }
-
-# The changes of the list k where its open place has the value c.
-function filled(k, self, c,    mark, space, next_value, rest) {
-    if (c == before[k]) return head[k] tail[k]
-    mark = (self + 1) ":"
-    next_value = before[k]
-    rest = tail[k]
+# The changes of the row of a workload where its open place has the value c.
+function filled(a, c,    mark, space, next_value, rest) {
+    if (c == before[a]) return head[a] tail[a]
+    mark = (a + 1) ":"
+    next_value = before[a]
+    rest = tail[a]
     if (index(rest, mark) == 1) {
         space = index(rest, " ")
         next_value = substr(rest, length(mark) + 1, space - length(mark) - 1) + 0
         rest = substr(rest, space + 1)
     }
-    return head[k] self ":" c " " (self + 1 < workloads && next_value != c ? mark next_value " " : "") rest
+    return head[a] a ":" c " " (a + 1 < workloads && next_value != c ? mark next_value " " : "") rest
 }
 
 # ---- Pair rows that speak of one family alone: IPv4 stands first. Both of a pair become one value.
@@ -315,7 +289,7 @@ function end_pending(    json) {
     held = 0
     json = "{" held_json "}"
     if (!(json in connection_place)) {
-        connection_place[json] = ++connections
+        connection_place[json] = new_connections()
         connection_json[connections] = json
     }
     pair(held_from, held_to, connection_place[json])
@@ -366,11 +340,14 @@ function end_addresses() {
     address_open = 0
 }
 
-# ---- Groups. A group of two or more has one value between any two of its members; each value is tried, and workloads whose rows are the
-# same with it in their open places are one group.
+# ---- Groups. A group of two or more has one value between any two of its members; each value is tried, and workloads whose rows and
+# columns are the same with it in their open places are one group.
 
-function find_groups(    a, c, key, bucket) {
+function find_groups(    a, c, sum, key, bucket) {
+    sum = 0
     for (a = 0; a < workloads; a++) {
+        sum += step[a]
+        column[a] = sum - weight[a] * value_weight[before[a]]
         leader[a] = a
         inner[a] = 0
         size[a] = 1
@@ -379,7 +356,7 @@ function find_groups(    a, c, key, bucket) {
         split("", bucket)
         for (a = 0; a < workloads; a++) {
             if (leader[a] != a || size[a] > 1 || (c > 0 && !((a, c) in has))) continue
-            key = own[a] "|" through[a] "|" addresses[a] "|" filled(a, a, c) "|" filled(workloads + a, a, c)
+            key = sprintf("%.0f", column[a] + weight[a] * value_weight[c]) "|" own[a] "|" through[a] "|" addresses[a] "|" filled(a, c)
             if (key in bucket) {
                 leader[a] = bucket[key]
                 inner[bucket[key]] = c
@@ -389,6 +366,40 @@ function find_groups(    a, c, key, bucket) {
             }
         }
     }
+    compare_columns()
+}
+
+# The rows of a group are those of its leader. Where one of these has another value at a member than at the member's leader, the columns of
+# the two differ although their sums do not, and the member is by itself.
+function compare_columns(    a, m, i, count, values, members) {
+    count = 0
+    for (m = 0; m < workloads; m++) if (leader[m] != m) members[++count] = m
+    if (!count) return
+    for (a = 0; a < workloads; a++) {
+        if (leader[a] != a) continue
+        list_values(filled(a, inner[a]), values)
+        for (i = 1; i <= count; i++) {
+            m = members[i]
+            if (leader[m] != m && values[m] != values[leader[m]]) {
+                size[leader[m]]--
+                leader[m] = m
+                inner[m] = 0
+            }
+        }
+    }
+}
+
+# The values of a list that is written by its changes.
+function list_values(list, values,    parts, count, i, p, colon, value) {
+    count = split(list, parts, " ")
+    value = 0
+    p = 0
+    for (i = 1; i <= count; i++) {
+        colon = index(parts[i], ":")
+        for (; p < substr(parts[i], 1, colon - 1) + 0; p++) values[p] = value
+        value = substr(parts[i], colon + 1) + 0
+    }
+    for (; p < workloads; p++) values[p] = value
 }
 
 # ---- The ends that np explain is asked about: where few rows let something pass, all of them, and else those from addresses, if few.
@@ -465,7 +476,7 @@ function print_groups(    a, count, list) {
     print "],\"groups\":["
     for (a = 0; a < workloads; a++) {
         if (leader[a] != a) continue
-        list = filled(a, a, inner[a])
+        list = filled(a, inner[a])
         print (group[a] ? "," : "") "[" inner[a] "," own[a] "," through[a] + 0 ",\"" substr(list, 1, length(list) - 1) "\"]"
     }
     print "]"

@@ -42,8 +42,8 @@ def main():
                     wanted_changes(rows_of("list", "before.json"), rows_of("list", "after.json")))
         checks.same("addresses that may send to web", [change for change in told if change[2] == "a/web[Pod]" and "[" not in change[1]],
                     [["changed", "addresses (IPv4)", "a/web[Pod]", "10.0.0.0/8 : TCP 80", "10.0.0.0/9 : TCP 80,443"]])
-        checks.same("all IPv4 addresses to new", [change for change in told if change[2] == "a/new[Pod] (new)" and "IPv4" in change[1]],
-                    [["opened", "addresses (IPv4)", "a/new[Pod] (new)", NOTHING, "0.0.0.0/0 : All Connections"]])
+        checks.same("all IPv4 addresses to new", [change for change in told if change[2] == "a/new[Pod] (new)" and "." in change[1]],
+                    [["opened", "0.0.0.0/0", "a/new[Pod] (new)", NOTHING, "All Connections"]])
         checks.same("the counts", browser.texts("#view .count")[0],
                     ", ".join("%d %s" % (sum(change[0] == sort for change in told), sort) for sort in ("opened", "closed", "changed")))
         browser.run("Array.from(document.querySelectorAll('#view tr')).find(row => row.textContent.includes('a/client[Pod]a/web[Pod]')).click()")
