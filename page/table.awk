@@ -61,12 +61,19 @@ part == "names" {
     }
     if (from < 0 || !($8 in place)) {
         other_row()
-    } else if (only == "" || inside[from] || inside[place[$8]]) {
-        end_pending()
-        pair(from, place[$8], connection)
-        ask(source, $8, 0)
-        foresee()
+        next
     }
+    to = place[$8]
+    if (only != "" && !inside[from] && !inside[to]) next
+    if (held) end_pending()
+    if (from != row) end_rows(from)
+    if (connection == row_value && to == row_last + 1 && to != row) {
+        row_last = to
+        foresee()
+    } else {
+        see(to, connection)
+    }
+    if (asked_all <= most_asked) ask(source, $8, 0)
 }
 
 END {
@@ -160,14 +167,12 @@ function start(    k) {
 
 function pair(a, b, c) {
     if (a != row) end_rows(a)
-    if (c == row_value && row_last == b - 1 && b != a) row_last = b
-    else see(b, c)
+    see(b, c)
 }
 
 # Whether the next row may be known by its text, and by which. The text is made where rows are seen to be alike, and not for each.
 function foresee() {
-    foreseen = 0
-    if (only != "" || held || connection != row_value || (asked != "" && asked_all <= most_asked)) return
+    if (only != "" || (asked != "" && asked_all <= most_asked)) return
     if (foreseen_text != text || foreseen_source != source) {
         foreseen_text = text
         foreseen_source = source
@@ -178,11 +183,13 @@ function foresee() {
 }
 
 function begin_row() {
-    runs = 1
-    run_at[1] = 0
-    run_value[1] = 0
+    row_weight = weight[row]
     row_value = 0
     row_last = -1
+    row_text = ""
+    changes = ""
+    changed = 0
+    past = 0
     own[row] = 0
 }
 
@@ -190,18 +197,36 @@ function begin_row() {
 function see(b, c,    gap) {
     gap = row_last + 1
     if (gap == row) gap++
-    if (gap < b) run(gap, 0)
+    if (gap < b && row_value) change(gap, 0)
     if (b == row) own[row] = c
-    else run(b, c)
+    else if (c != row_value) change(b, c)
     row_last = b
 }
 
-function run(b, c) {
-    if (c == row_value) return
+# From the place b on the row has the value c.
+function change(b, c) {
+    if (b > row && !past) end_head()
+    step[b] += row_weight * (value_weight[c] - value_weight[row_value])
     row_value = c
-    if (b > 0) runs++
-    run_at[runs] = b
-    run_value[runs] = c
+    changes = changes b ":" c " "
+    # A long text is joined from pieces, since each join copies it.
+    if (++changed % 64 == 0) {
+        row_text = row_text changes
+        changes = ""
+    }
+    if (noted[c] != row + 1) {
+        noted[c] = row + 1
+        has[row, c] = 1
+    }
+}
+
+# The row is past its open place.
+function end_head() {
+    head[row] = row_text changes
+    before[row] = row_value
+    row_text = ""
+    changes = ""
+    past = 1
 }
 
 # Ends the row that is open, and those of the workloads before a, which send nothing; the row of a is open then.
@@ -213,42 +238,12 @@ function end_rows(a) {
     }
 }
 
-function end_row(    i, last_one, changes, past, amount) {
-    last_one = row_last + 1
-    if (last_one == row) last_one++
-    if (last_one < workloads) run(last_one, 0)
-    changes = ""
-    past = 0
-    head[row] = ""
-    tail[row] = ""
-    before[row] = 0
-    for (i = 1; i <= runs; i++) {
-        if (run_at[i] >= row && !past) {
-            head[row] = head[row] changes
-            changes = ""
-            past = 1
-        }
-        if (!past) before[row] = run_value[i]
-        if (i > 1 || run_value[1] != 0) changes = changes run_at[i] ":" run_value[i] " "
-        # A long text is joined from pieces, since each join copies it.
-        if (i % 64 == 0) {
-            if (past) tail[row] = tail[row] changes
-            else head[row] = head[row] changes
-            changes = ""
-        }
-        note_value(run_value[i])
-        amount = weight[row] * value_weight[run_value[i]]
-        step[run_at[i]] += amount
-        if (i < runs) step[run_at[i + 1]] -= amount
-    }
-    if (past) tail[row] = tail[row] changes
-    else head[row] = head[row] changes
-}
-
-function note_value(c) {
-    if (noted[c] == row + 1) return
-    noted[c] = row + 1
-    has[row, c] = 1
+function end_row(    gap) {
+    gap = row_last + 1
+    if (gap == row) gap++
+    if (gap < workloads && row_value) change(gap, 0)
+    if (!past) end_head()
+    tail[row] = row_text changes
 }
 
 # The changes of the row of a workload where its open place has the value c.
