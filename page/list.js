@@ -1,6 +1,8 @@
 // The list of rows, a part at a time.
 
 const LIST_PART = 200;
+// What a spreadsheet takes.
+const MOST_CSV = 1000000;
 
 function levelSign(text) {
     if (text === NOTHING) return element('span', { class: 'sign none', title: 'nothing passes' }, '·');
@@ -20,7 +22,7 @@ function listSection(app) {
         element('div', { class: 'bar' },
             element('h2', {}, 'Rows'),
             element('span', { class: 'count', role: 'status' }, said),
-            copyButton('Copy as CSV', () => listCsv(app))),
+            copyButton(taken.total > MOST_CSV ? 'Copy the first ' + count(MOST_CSV, 'row', 'rows') + ' as CSV' : 'Copy as CSV', () => listCsv(app))),
         app.table.only && element('p', { class: 'hint' }, 'This page has the rows with an end in the namespace ' + app.table.only + ' alone.'),
         element('table', { class: 'rows-table' },
             element('thead', {}, element('tr', {}, ...['', 'From', 'To', 'Connections'].map(text => element('th', { scope: 'col' }, text)))),
@@ -56,8 +58,8 @@ function listRow(app, row) {
     element('td', { class: 'connections' }, row.connections));
 }
 
-// All rows that the filter keeps, each of np's by itself, up to what a spreadsheet takes.
+// The rows that the filter keeps, each of np's by itself.
 function listCsv(app) {
-    const taken = takeRows(app.table, makeFilter(app.state), false, 1000000);
+    const taken = takeRows(app.table, makeFilter(app.state), false, MOST_CSV);
     return csvOf(['source', 'destination', 'connections'], taken.rows.map(row => [row.source, row.destination, row.connections]));
 }
