@@ -22,6 +22,11 @@ function drawing(name, attributes, ...children) {
     return fill(document.createElementNS('http://www.w3.org/2000/svg', name), attributes, children);
 }
 
+// A text whose lines may end behind a comma or a slash, so that addresses are not broken within.
+function breakable(text) {
+    return [].concat(...(text.match(/[^,\/]+[,\/]?|[,\/]/g) || []).map((part, place) => place ? [document.createElement('wbr'), part] : [part]));
+}
+
 function count(number, one, many) { return number.toLocaleString('en') + ' ' + (number === 1 ? one : many); }
 
 // Puts a text on the clipboard. Where the browser does not let a page do that, the text is shown, marked, to be copied by hand.

@@ -53,8 +53,8 @@ function listRow(app, row) {
         }
     } },
     element('td', {}, levelSign(row.connections)),
-    element('td', { class: 'end' }, row.source),
-    element('td', { class: 'end' }, row.destination),
+    element('td', { class: 'end' }, ...breakable(row.source)),
+    element('td', { class: 'end' }, ...breakable(row.destination)),
     element('td', { class: 'connections' }, row.connections));
 }
 

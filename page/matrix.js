@@ -7,11 +7,22 @@ const SIGNS = ['·', '◐', '●'];
 const LEVEL_WORDS = ['nothing passes', 'some passes', 'everything passes'];
 const LEVEL_CLASSES = ['none', 'some', 'all'];
 
+// The workloads that are an end of a row that the filter keeps and in which something passes.
+function keptWorkloads(table, filter) {
+    const kept = new Set();
+    const wanted = Object.assign({}, filter, { sort: SORTS.all, passing: true, focus: '' });
+    eachRow(table, wanted, true, row => {
+        for (const members of [row.from, row.to]) if (members) members.forEach(member => kept.add(member));
+    });
+    return kept;
+}
+
 // The parts that lines are made of: equal workloads, of one namespace, or of several where there are too many for that.
-function matrixParts(table) {
+function matrixParts(table, kept) {
     const byNamespace = table.groups.map(group => {
         const parts = new Map();
         for (const member of group.members) {
+            if (kept && !kept.has(member)) continue;
             const namespace = table.namespaces[member];
             if (!parts.has(namespace)) parts.set(namespace, []);
             parts.get(namespace).push(member);
@@ -24,8 +35,8 @@ function matrixParts(table) {
         if (!sections.has(namespace)) sections.set(namespace, []);
         sections.get(namespace).push(members);
     };
-    byNamespace.forEach((parts, group) => {
-        if (parts.size > 1 && total > MANY_LINES) put('', table.groups[group].members);
+    byNamespace.forEach(parts => {
+        if (parts.size > 1 && total > MANY_LINES) put('', [].concat(...parts.values()));
         else for (const [namespace, members] of parts) put(namespace, members);
     });
     const lines = Array.from(sections.values()).reduce((sum, parts) => sum + parts.length, 0);
@@ -34,8 +45,8 @@ function matrixParts(table) {
 }
 
 // The lines that are shown: what is toggled is open where it is closed at first, and closed where it is open.
-function matrixLines(table, toggled) {
-    const { closed, sections } = matrixParts(table);
+function matrixLines(table, toggled, kept) {
+    const { closed, sections } = matrixParts(table, kept);
     const lines = [];
     for (const { namespace, parts } of sections) {
         const key = 'namespace ' + namespace;
@@ -75,9 +86,7 @@ function shortName(table, workload, namespace) {
 function plainName(name) { return name.replace(/\[[^\]]*\]/, ''); }
 
 function equalLabel(table, namespace, members) {
-    const spaces = new Set(members.map(member => table.namespaces[member])).size;
-    return shortName(table, members[0], namespace) + ' and ' + (members.length - 1).toLocaleString('en') + ' equal'
-        + (spaces > 1 ? ', in ' + spaces.toLocaleString('en') + ' namespaces' : '');
+    return shortName(table, members[0], namespace) + ' +' + (members.length - 1).toLocaleString('en') + ' equal';
 }
 
 // The groups of a line: the number of the group, how many of it are in the line, and the first of these.
@@ -165,7 +174,7 @@ function outsideCell(table, filter, from, to) {
 function makeMatrix(app) {
     const { table, state } = app;
     const filter = makeFilter(state);
-    const lines = matrixLines(table, state.toggled);
+    const lines = matrixLines(table, state.toggled, filter.narrow && keptWorkloads(table, filter));
     const outside = { kind: 'addresses', label: 'addresses', full: 'addresses' };
     const controller = { kind: 'through', label: CONTROLLER, full: CONTROLLER };
     const some = table.groups.some(group => group.through);

@@ -38,7 +38,7 @@ def check_opens(browser, checks, path, size):
 def check_equal(browser, checks):
     write("equal.json", [pod(place) for place in range(COUNT)])
     check_opens(browser, checks, "equal.html", make_page("equal.html", "equal.json"))
-    checks.same("one line", browser.run("return app.matrix.senders.map(line => line.label)"), ["team-00/p0000 and 1,999 equal, in 100 namespaces", "addresses"])
+    checks.same("one line", browser.run("return app.matrix.senders.map(line => line.label)"), ["team-00/p0000 +1,999 equal", "addresses"])
     checks.same("the count of rows", browser.texts("#beside .count"), ["5 lines, which are 4,006,000 rows of np"])
     browser.click(".matrix-table tbody button.toggle")
     checks.same("opened, as far as can be shown", browser.run("return app.matrix.rows.length"), 151)
@@ -50,8 +50,11 @@ def check_own(browser, checks):
     write("own.json", [make(place) for place in range(COUNT) for make in (pod, policy)])
     check_opens(browser, checks, "own.html", make_page("own.html", "own.json"))
     checks.same("a line for each namespace", browser.run("return app.matrix.senders.length"), 101)
-    browser.run("change({ namespace: 'team-07', toggled: ['namespace team-07'] })")
-    checks.same("an open namespace", browser.run("return app.matrix.senders.filter(line => line.kind === 'workload').length"), 19)
+    browser.run("change({ toggled: ['namespace team-07'] })")
+    checks.same("an open namespace", browser.run("return app.matrix.senders.filter(line => line.kind === 'workload').length"), 20)
+    browser.run("change({ search: 'p0150', toggled: [] })")
+    checks.same("the lines of a search", browser.run("return [app.matrix.senders, app.matrix.receivers].map(lines => lines.map(line => line.full))"),
+                [["team-07/p0149[Pod]", "team-07/p0150[Pod]", "addresses"], ["team-07/p0150[Pod]", "team-07/p0151[Pod]"]])
     table = rows_of("list", "own.json")
     end = "team-07/p0150[Pod]"
     browser.open("own.html", "#view=list&passing=no&focus=" + end)
