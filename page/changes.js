@@ -43,16 +43,17 @@ function changesBetween(before, after) {
 function tellPair(before, after, from, to, tell) {
     const text = (table, places, others, index) => !places.length || others.length <= index ? NOTHING
         : table.joined[between(table, places[0], others[index])];
-    const row = { from: from.names, to: to.names, kind: 'pair' };
+    const size = from.names.length;
+    const row = count => ({ from: from.names, to: to.names, kind: 'pair', count });
     if (from !== to) {
-        tell(() => changeEndText(from), () => changeEndText(to), text(before, from.old, to.old, 0), text(after, from.now, to.now, 0), row);
+        tell(() => changeEndText(from), () => changeEndText(to), text(before, from.old, to.old, 0), text(after, from.now, to.now, 0), row(size * to.names.length));
         return;
     }
-    if (from.names.length > 1) {
-        tell(() => changeEndText(from), () => 'each other', text(before, from.old, from.old, 1), text(after, from.now, from.now, 1), row);
+    if (size > 1) {
+        tell(() => changeEndText(from), () => 'each other', text(before, from.old, from.old, 1), text(after, from.now, from.now, 1), row(size * (size - 1)));
     }
-    const itself = () => from.names.length > 1 ? 'each to itself' : changeEndText(from);
-    tell(() => changeEndText(from), itself, text(before, from.old, from.old, 0), text(after, from.now, from.now, 0), row);
+    const itself = () => size > 1 ? 'each to itself' : changeEndText(from);
+    tell(() => changeEndText(from), itself, text(before, from.old, from.old, 0), text(after, from.now, from.now, 0), row(size));
 }
 
 function tellOthers(before, after, end, tell) {
@@ -64,12 +65,12 @@ function tellOthers(before, after, end, tell) {
         }
     }
     const through = (table, places) => places.length ? table.joined[table.groups[table.groupOf[places[0]]].through] : NOTHING;
-    tell(() => CONTROLLER, name, through(before, end.old), through(after, end.now), { to: end.names, kind: 'through' });
+    tell(() => CONTROLLER, name, through(before, end.old), through(after, end.now), { to: end.names, kind: 'through', count: end.names.length });
 }
 
 // Where both have the same ranges, or one has none, a row is compared with its own; else what passes in the family is told as a whole.
 function tellRanges(name, end, side, old, now, tell) {
-    const row = side === 0 ? { to: end.names, kind: 'from' } : { from: end.names, kind: 'to' };
+    const row = side === 0 ? { to: end.names, kind: 'from', count: end.names.length } : { from: end.names, kind: 'to', count: end.names.length };
     const say = (range, was, is) => side === 0 ? tell(() => range, name, was, is, row) : tell(name, () => range, was, is, row);
     const same = old.length === now.length && old.every((range, place) => range.range === now[place].range);
     if (same) {
@@ -108,15 +109,17 @@ function changesSection(app) {
         ...['opened', 'closed', 'changed'].map(sort => changesOfSort(app, sort, changes.filter(change => change.sort === sort))));
 }
 
+// How many pairs of ends changed in each way, each of equal workloads by itself.
 function changeCounts(changes) {
-    return ['opened', 'closed', 'changed'].map(sort => changes.filter(change => change.sort === sort).length.toLocaleString('en') + ' ' + sort).join(', ');
+    const total = sort => changes.reduce((sum, change) => change.sort === sort ? sum + change.count : sum, 0);
+    return ['opened', 'closed', 'changed'].map(sort => total(sort).toLocaleString('en') + ' ' + sort).join(', ');
 }
 
 function changesOfSort(app, sort, changes) {
     if (!changes.length) return null;
     const head = ['', 'From', 'To', 'Before', 'After'].map(text => element('th', { scope: 'col' }, text));
     return element('div', {},
-        element('h3', {}, CHANGE_WORDS[sort] + ' (' + changes.length.toLocaleString('en') + ')'),
+        element('h3', {}, CHANGE_WORDS[sort] + ' (' + count(changes.length, 'line', 'lines') + ')'),
         element('table', { class: 'rows-table' }, element('thead', {}, element('tr', {}, ...head)),
             element('tbody', {}, ...changes.slice(0, app.listed).map(change => changeRow(app, change)))),
         changes.length > app.listed && element('button', { type: 'button', class: 'more', click: () => {

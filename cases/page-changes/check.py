@@ -1,4 +1,6 @@
 """Two snapshots: what opened, what closed and what changed are the rows in which the tables of np differ."""
+import json
+
 from browser import Browser, Checks, make_page, rows_of
 
 NOTHING = "No Connections"
@@ -28,6 +30,22 @@ def wanted_changes(before, after):
     return sorted(found)
 
 
+def check_equal(browser, checks):
+    """Workloads that are equal before and after are one line, which counts as the rows that it stands for."""
+    items = [{"apiVersion": "v1", "kind": "Pod", "metadata": {"name": name, "namespace": "a"}, "spec": {}} for name in "xyz"]
+    shut = {"apiVersion": "networking.k8s.io/v1", "kind": "NetworkPolicy", "metadata": {"name": "shut", "namespace": "a"},
+            "spec": {"podSelector": {}, "policyTypes": ["Ingress"]}}
+    for path, listed in (("open.json", items), ("shut.json", items + [shut])):
+        with open(path, "w", encoding="utf-8") as file:
+            json.dump({"apiVersion": "v1", "kind": "List", "items": listed}, file)
+    make_page("equal.html", "--before", "open.json", "shut.json")
+    browser.open("equal.html", "#view=changes&sort=workloads")
+    checks.same("equal workloads", browser.run(CHANGES), [["closed", "a/x[Pod] and 2 equal to it", "each other", "All Connections", NOTHING]])
+    checks.same("their count", browser.texts("#view .count"), ["0 opened, 6 closed, 0 changed"])
+    browser.click("#view tbody tr")
+    checks.same("an opened line", browser.texts("#detail .rows code")[0], "a/x[Pod] => a/y[Pod] : No Connections")
+
+
 def main():
     checks = Checks()
     with Browser() as browser:
@@ -50,6 +68,7 @@ def main():
         checks.same("an opened change", browser.texts("#detail .rows code")[0], "a/client[Pod] => a/web[Pod] : TCP 80,443")
         browser.run("change({ search: 'gone' })")
         checks.same("search", {"gone" in change[1] + change[2] for change in browser.run(CHANGES)}, {True})
+        check_equal(browser, checks)
         make_page("same.html", "--before", "after.json", "after.json")
         browser.open("same.html", "#view=changes")
         checks.same("the same twice", browser.texts("#view .hint"), ["Both snapshots have the same rows."])
