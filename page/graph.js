@@ -82,7 +82,8 @@ function starDrawing(app, name, near, outside) {
     place(right, near.receivers, rightX, top, 'right');
     place(leftOut, outside.senders, 0, below, 'left');
     place(rightOut, outside.receivers, rightX, below, 'right');
-    return drawing('svg', { viewBox: '0 0 ' + width + ' ' + height, width, height, role: 'group', 'aria-label': 'Senders at the left and receivers at the right of ' + name },
+    return drawing('svg', { viewBox: '0 0 ' + width + ' ' + height, width, height, role: 'group',
+        'aria-label': 'Senders at the left and receivers at the right of ' + name },
         drawing('text', { x: 0, y: 20, class: 'side-text' }, near.senders.length ? 'Workloads that send to it' : 'No workload sends to it'),
         drawing('text', { x: rightX, y: 20, class: 'side-text' }, near.receivers.length ? 'Workloads that it sends to' : 'It sends to no workload'),
         outer && drawing('text', { x: 0, y: below - 12, class: 'side-text' }, outside.senders.length ? 'From outside' : 'Nothing from outside'),

@@ -56,9 +56,11 @@ function moreButton() {
 function unusedSection() {
     const rules = page.unused.filter(rule => wordBits(makeFilter(app.state).words, rule) === makeFilter(app.state).full);
     return element('section', { class: 'unused', 'aria-label': 'Unused rules' },
-        element('div', { class: 'bar' }, element('h2', {}, 'Rules that decide nothing'), element('span', { class: 'count', role: 'status' }, count(rules.length, 'rule', 'rules')),
+        element('div', { class: 'bar' }, element('h2', {}, 'Rules that decide nothing'),
+            element('span', { class: 'count', role: 'status' }, count(rules.length, 'rule', 'rules')),
             copyButton('Copy', () => rules.map(rule => rule + '\n').join(''))),
-        element('p', { class: 'hint' }, 'Without all of them at once no verdict changes between the listed pods, or between them and an address. Places count from 0.'),
+        element('p', { class: 'hint' }, 'Without all of them at once no verdict changes between the listed pods, or between them and an '
+            + 'address. Places count from 0.'),
         element('ul', { class: 'rows' }, ...rules.map(rule => element('li', {}, element('code', {}, rule)))));
 }
 
@@ -136,7 +138,8 @@ function viewButtons() {
 }
 
 function keysHelp() {
-    const keys = [['1 2 3 …', 'the views'], ['/', 'search'], ['arrows, Enter', 'move in the matrix or the list, open'], ['f', 'in a picture: the picture of that neighbour'], ['Esc', 'close what is open']];
+    const keys = [['1 2 3 …', 'the views'], ['/', 'search'], ['arrows, Enter', 'move in the matrix or the list, open'],
+        ['f', 'in a picture: the picture of that neighbour'], ['Esc', 'close what is open']];
     return element('details', { class: 'keys' }, element('summary', {}, 'Keys'), element('dl', {}, ...[].concat(...keys.map(([key, use]) =>
         [element('dt', {}, key), element('dd', {}, use)]))));
 }

@@ -221,7 +221,9 @@ function matrixSection(app) {
 }
 
 function legend() {
-    const entry = level => element('span', { class: 'entry' }, element('span', { class: 'sign ' + LEVEL_CLASSES[level] }, SIGNS[level]), ' ' + ['nothing', 'some', 'everything'][level]);
+    const words = ['nothing', 'some', 'everything'];
+    const entry = level => element('span', { class: 'entry' },
+        element('span', { class: 'sign ' + LEVEL_CLASSES[level] }, SIGNS[level]), ' ' + words[level]);
     return element('span', { class: 'legend' }, 'from the line to the column: ', entry(ALL), entry(SOME), entry(NONE));
 }
 
@@ -229,7 +231,8 @@ function matrixHead(app, matrix) {
     return element('tr', {},
         element('th', { class: 'corner' }, element('span', {}, 'from ↓   to →')),
         ...matrix.receivers.map((line, c) => element('th', { scope: 'col', class: columnClass(matrix.receivers, c, app), title: line.full },
-            element('span', { class: 'turned' }, line.kind === 'namespace' || !line.members || line.namespace === '' ? line.label : line.namespace + '/' + line.label))));
+            element('span', { class: 'turned' },
+                line.kind === 'namespace' || !line.members || line.namespace === '' ? line.label : line.namespace + '/' + line.label))));
 }
 
 // Whether a column begins a namespace, where it is not among closed ones.
@@ -268,7 +271,8 @@ function toggle(app, key) {
 function headingRow(app, namespace, columns) {
     const label = namespace === '' ? 'equal in several namespaces' : namespace;
     return element('tr', { class: 'heading' }, element('th', { scope: 'rowgroup', colspan: columns + 1 },
-        namespace === '' ? label : element('button', { type: 'button', class: 'toggle', 'data-key': 'namespace ' + namespace, 'aria-expanded': 'true', title: 'Close the namespace',
+        namespace === '' ? label : element('button', { type: 'button', class: 'toggle', 'data-key': 'namespace ' + namespace,
+            'aria-expanded': 'true', title: 'Close the namespace',
             click: () => toggle(app, 'namespace ' + namespace) }, '▾ ' + label)));
 }
 
@@ -278,7 +282,8 @@ function lineHead(app, line) {
     return element('th', { scope: 'row', title: line.full, class: [line.kind, isFocused(app, line) ? 'focused' : ''].join(' ').trim() },
         opens && element('button', { type: 'button', class: 'toggle', 'data-key': line.key, 'aria-expanded': 'false', click: () => toggle(app, line.key) },
             '▸ ' + line.label + (line.kind === 'namespace' ? ' (' + line.members.length.toLocaleString('en') + ')' : '')),
-        closes && element('button', { type: 'button', class: 'toggle', 'data-key': line.key, 'aria-expanded': 'true', title: 'Join the equal workloads', click: () => toggle(app, line.key) }, '▾'),
+        closes && element('button', { type: 'button', class: 'toggle', 'data-key': line.key, 'aria-expanded': 'true',
+            title: 'Join the equal workloads', click: () => toggle(app, line.key) }, '▾'),
         line.kind === 'workload' && element('button', { type: 'button', class: 'name', title: 'Picture of ' + line.full,
             click: () => app.change({ view: 'graph', focus: line.full }) }, line.label),
         !line.members && line.label);

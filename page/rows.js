@@ -46,7 +46,8 @@ function makeFilter(state) {
         if (!ports.has(text)) ports.set(text, hasPort(text, state.protocol, Number(state.port)));
         return ports.get(text);
     };
-    return { words, full, bits, port, namespace: state.namespace, focus: state.focus, sort: Object.prototype.hasOwnProperty.call(SORTS, state.sort) ? SORTS[state.sort] : SORTS.all,
+    return { words, full, bits, port, namespace: state.namespace, focus: state.focus,
+        sort: Object.prototype.hasOwnProperty.call(SORTS, state.sort) ? SORTS[state.sort] : SORTS.all,
         passing: state.passing, narrow: Boolean(words.length || state.namespace || state.protocol || state.port) };
 }
 

@@ -39,8 +39,8 @@ page_copy() {
         if [ "$file" = - ]; then
             head -c 33554433 >"$name.$count"
         elif ! head -c 33554433 -- "$file" >"$name.$count" 2>/dev/null; then
-            "$np" list -- "$file" >/dev/null
-            return
+            "$np" list -- "$file" >/dev/null || return
+            return 3
         fi
         page_copies+=("$name.$count")
         count=$((count + 1))
