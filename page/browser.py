@@ -24,7 +24,11 @@ class Browser:
         words = WORDS + ["--user-data-dir=" + self.room.name]
         options = {"args": words}
         wanted = {"browserName": "chrome", "goog:chromeOptions": options, "goog:loggingPrefs": {"browser": "ALL"}}
-        self.session = self.ask("POST", "/session", {"capabilities": {"alwaysMatch": wanted}})["sessionId"]
+        try:
+            self.session = self.ask("POST", "/session", {"capabilities": {"alwaysMatch": wanted}})["sessionId"]
+        except BaseException:
+            self.driver.terminate()
+            raise
         return self
 
     def __exit__(self, *_):
