@@ -3,20 +3,18 @@
 #
 #   np              the path of the program
 #   room            a folder of temporary files that is removed at exit
-#   page_folder     the folder of the parts of the page (or a page_part of its own)
 #   page_files      the list files, each given to np as it stands; - is standard input
 #   page_before     the list files of the earlier snapshot (an empty array: there is none)
 #   page_title      the title of the page
 #   page_only       the one namespace whose rows the page has (empty: all)
 #   page_commands   commands that explain two ends, each two entries: what stands before the ends and what stands behind them
 #
-# and calls write_page, which writes the page to standard output. Its status is np's where np gives no report.
+# and has two functions, page_part NAME, which prints a part of the page by its name in this folder, and page_say TEXT, which says a text
+# on standard error. It calls write_page, which writes the page to standard output. Its status is np's where np gives no report.
 # Only bash 3.2 and a POSIX awk are asked for, since this is what macOS has.
 
 # How many bytes a page has at the most: what opens well.
 page_most=${NP_PAGE_MOST:-5000000}
-
-page_part() { cat "$page_folder/$1"; }
 
 # The parts of that name, one behind the other.
 page_parts() {
@@ -26,8 +24,6 @@ page_parts() {
 
 # The parts of the script, in their order.
 page_scripts="model.js rows.js changes.js state.js element.js detail.js list.js matrix.js graph.js main.js"
-
-page_say() { printf 'np-page: %s\n' "$1" >&2; }
 
 # Copies the inputs, so that np is asked about the same bytes each time: the files $2.. to $1.0, $1.1 and so on, whose names it leaves in
 # page_copies. np reads 33,554,432 bytes at the most; one byte more is enough for it to refuse them.
@@ -51,7 +47,7 @@ page_copy() {
 page_ask() {
     local report=$1 status
     shift
-    "$np" "$@" -- "${page_copies[@]}" >"$report" 2>"$report.said" && return
+    "$np" "$@" -- ${page_copies[@]+"${page_copies[@]}"} >"$report" 2>"$report.said" && return
     status=$?
     cat "$report.said" >&2
     return "$status"
@@ -79,7 +75,7 @@ page_table() {
     local statuses
     page_exposure "$1" || return
     page_part table.awk >"$room/table.awk"
-    "$np" list --format json -- "${page_copies[@]}" 2>"$1.notes" |
+    "$np" list --format json -- ${page_copies[@]+"${page_copies[@]}"} 2>"$1.notes" |
         NP_PAGE_ONLY=$page_only NP_PAGE_ASKED=$1.asked LC_ALL=C awk -f "$room/table.awk" \
             part=exposure "$1.exposure" part=names "$1.names" part=list - >"$1.table"
     statuses=("${PIPESTATUS[@]}")
@@ -153,10 +149,10 @@ page_whole() {
 write_page() {
     local bytes
     if [ ${#page_before[@]} -gt 0 ]; then
-        page_copy "$room/earlier" "${page_before[@]}" || return
+        page_copy "$room/earlier" ${page_before[@]+"${page_before[@]}"} || return
         page_table "$room/before" || return
     fi
-    page_copy "$room/list" "${page_files[@]}" || return
+    page_copy "$room/list" ${page_files[@]+"${page_files[@]}"} || return
     page_table "$room/after" || return
     page_ask "$room/after.unused" unused || return
     page_explained "$room/after" || return
