@@ -98,7 +98,8 @@ class Browser:
         """The rows of a table as texts of their cells, without the sign in front; all of them, after Show more."""
         return self.run("""
             for (let more; (more = document.querySelector('#view .more')); ) more.click();
-            return Array.from(document.querySelectorAll(arguments[0]), row => Array.from(row.cells).slice(1, arguments[1]).map(cell => cell.textContent));
+            const texts = row => Array.from(row.cells).slice(1, arguments[1]).map(cell => cell.textContent);
+            return Array.from(document.querySelectorAll(arguments[0]), texts);
         """, selector, last)
 
 

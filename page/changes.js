@@ -33,7 +33,13 @@ function changesBetween(before, after) {
     // The texts of the ends are made where there is a change alone: there may be millions of pairs.
     const tell = (source, destination, old, now, row) => {
         if (old === now) return;
-        changes.push(Object.assign({ sort: sortOfChange(old, now), source: source(), destination: destination(), before: old, after: now }, row));
+        changes.push(Object.assign({
+            sort: sortOfChange(old, now),
+            source: source(),
+            destination: destination(),
+            before: old,
+            after: now,
+        }, row));
     };
     for (const from of ends) for (const to of ends) tellPair(before, after, from, to, tell);
     for (const end of ends) tellOthers(before, after, end, tell);
@@ -46,31 +52,38 @@ function tellPair(before, after, from, to, tell) {
     const size = from.names.length;
     const row = count => ({ from: from.names, to: to.names, kind: 'pair', count });
     if (from !== to) {
-        tell(() => changeEndText(from), () => changeEndText(to), text(before, from.old, to.old, 0), text(after, from.now, to.now, 0), row(size * to.names.length));
+        tell(() => changeEndText(from), () => changeEndText(to),
+            text(before, from.old, to.old, 0), text(after, from.now, to.now, 0), row(size * to.names.length));
         return;
     }
     if (size > 1) {
-        tell(() => changeEndText(from), () => 'each other', text(before, from.old, from.old, 1), text(after, from.now, from.now, 1), row(size * (size - 1)));
+        tell(() => changeEndText(from), () => 'each other',
+            text(before, from.old, from.old, 1), text(after, from.now, from.now, 1), row(size * (size - 1)));
     }
     const itself = () => size > 1 ? 'each to itself' : changeEndText(from);
-    tell(() => changeEndText(from), itself, text(before, from.old, from.old, 0), text(after, from.now, from.now, 0), row(size));
+    tell(() => changeEndText(from), itself,
+        text(before, from.old, from.old, 0), text(after, from.now, from.now, 0), row(size));
 }
 
 function tellOthers(before, after, end, tell) {
     const name = () => changeEndText(end);
     for (const side of [0, 1]) {
         for (const colon of [false, true]) {
-            const ranges = (table, places) => places.length ? addressRows(table, places[0], side).filter(row => row.range.includes(':') === colon) : [];
+            const inFamily = row => row.range.includes(':') === colon;
+            const ranges = (table, places) => places.length ? addressRows(table, places[0], side).filter(inFamily) : [];
             tellRanges(name, end, side, ranges(before, end.old), ranges(after, end.now), tell);
         }
     }
     const through = (table, places) => places.length ? table.joined[table.groups[table.groupOf[places[0]]].through] : NOTHING;
-    tell(() => CONTROLLER, name, through(before, end.old), through(after, end.now), { to: end.names, kind: 'through', count: end.names.length });
+    tell(() => CONTROLLER, name, through(before, end.old), through(after, end.now),
+        { to: end.names, kind: 'through', count: end.names.length });
 }
 
 // Where both have the same ranges, or one has none, a row is compared with its own; else what passes in the family is told as a whole.
 function tellRanges(name, end, side, old, now, tell) {
-    const row = side === 0 ? { to: end.names, kind: 'from', count: end.names.length } : { from: end.names, kind: 'to', count: end.names.length };
+    const row = side === 0
+        ? { to: end.names, kind: 'from', count: end.names.length }
+        : { from: end.names, kind: 'to', count: end.names.length };
     const say = (range, was, is) => side === 0 ? tell(() => range, name, was, is, row) : tell(name, () => range, was, is, row);
     const same = old.length === now.length && old.every((range, place) => range.range === now[place].range);
     if (same) {
@@ -87,7 +100,11 @@ function tellRanges(name, end, side, old, now, tell) {
 }
 
 const CHANGE_SIGNS = { opened: '+', closed: '−', changed: '≠' };
-const CHANGE_WORDS = { opened: 'Opened: nothing passed before', closed: 'Closed: nothing passes now', changed: 'Changed: something else passes' };
+const CHANGE_WORDS = {
+    opened: 'Opened: nothing passed before',
+    closed: 'Closed: nothing passes now',
+    changed: 'Changed: something else passes',
+};
 
 function changeKept(filter, change) {
     const spaces = (change.from || []).concat(change.to || []);
@@ -101,11 +118,15 @@ function changeKept(filter, change) {
 function changesSection(app) {
     const filter = makeFilter(app.state);
     const changes = app.changes.filter(change => changeKept(filter, change));
-    const all = [['change', 'source', 'destination', 'before', 'after']];
+    const head = ['change', 'source', 'destination', 'before', 'after'];
+    const texts = change => [change.sort, change.source, change.destination, change.before, change.after];
     return element('section', { class: 'changes', 'aria-label': 'Changes' },
-        element('div', { class: 'bar' }, element('h2', {}, 'What changed'), element('span', { class: 'count', role: 'status' }, changeCounts(changes)),
-            copyButton('Copy as CSV', () => csvOf(all[0], changes.map(change => [change.sort, change.source, change.destination, change.before, change.after])))),
-        !changes.length && element('p', { class: 'hint' }, app.changes.length ? 'No change is kept by the filter.' : 'Both snapshots have the same rows.'),
+        element('div', { class: 'bar' },
+            element('h2', {}, 'What changed'),
+            element('span', { class: 'count', role: 'status' }, changeCounts(changes)),
+            copyButton('Copy as CSV', () => csvOf(head, changes.map(texts)))),
+        !changes.length && element('p', { class: 'hint' },
+            app.changes.length ? 'No change is kept by the filter.' : 'Both snapshots have the same rows.'),
         ...['opened', 'closed', 'changed'].map(sort => changesOfSort(app, sort, changes.filter(change => change.sort === sort))));
 }
 
@@ -134,8 +155,16 @@ function changeRow(app, change) {
     const from = change.from ? change.from[0] : change.kind === 'through' ? CONTROLLER : 'addresses';
     const to = change.to ? change.to[place] : 'addresses';
     const open = () => app.change({ from, to });
-    return element('tr', { tabindex: 0, 'data-ends': endsKey(from, to), click: open, keydown: event => { if (event.key === 'Enter') open(); } },
+    const attributes = {
+        tabindex: 0,
+        'data-ends': endsKey(from, to),
+        click: open,
+        keydown: event => { if (event.key === 'Enter') open(); },
+    };
+    return element('tr', attributes,
         element('td', {}, element('span', { class: 'sign change-' + change.sort, title: change.sort }, CHANGE_SIGNS[change.sort])),
-        element('td', { class: 'end' }, change.source), element('td', { class: 'end' }, change.destination),
-        element('td', { class: 'connections' }, change.before), element('td', { class: 'connections' }, change.after));
+        element('td', { class: 'end' }, change.source),
+        element('td', { class: 'end' }, change.destination),
+        element('td', { class: 'connections' }, change.before),
+        element('td', { class: 'connections' }, change.after));
 }

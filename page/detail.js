@@ -30,10 +30,12 @@ function readExplained(lines) {
 function rowsOfEnds(table, from, to) {
     const source = table.place.get(from), destination = table.place.get(to);
     if (source !== undefined && destination !== undefined) {
-        return table.texts[between(table, source, destination)].map(({ mark, text }) => ({ source: from, destination: to + mark, connections: text }));
+        return table.texts[between(table, source, destination)]
+            .map(({ mark, text }) => ({ source: from, destination: to + mark, connections: text }));
     }
     if (from === CONTROLLER) {
-        return table.texts[table.groups[table.groupOf[destination]].through].map(({ text }) => ({ source: from, destination: to, connections: text }));
+        return table.texts[table.groups[table.groupOf[destination]].through]
+            .map(({ text }) => ({ source: from, destination: to, connections: text }));
     }
     const side = source === undefined ? 0 : 1;
     const wanted = side === 0 ? from : to;
@@ -56,7 +58,8 @@ function endMembers(table, end) {
 function manyRows(app, from, to) {
     const { table } = app;
     const senders = endMembers(table, from), receivers = endMembers(table, to);
-    const state = Object.assign({}, app.state, { passing: true, namespace: '', focus: '', sort: 'all', search: '', protocol: '', port: '' });
+    const state = Object.assign({}, app.state,
+        { passing: true, namespace: '', focus: '', sort: 'all', search: '', protocol: '', port: '' });
     const inside = (members, workloads) => !members || members.some(member => workloads.has(member));
     const sending = new Set(senders), receiving = new Set(receivers);
     const rows = [];
@@ -110,9 +113,11 @@ function decidingPart(app, from, to, rows) {
         const other = to === 'addresses' || !app.table.place.has(to) ? explainEnd(row.destination) : to;
         if (!asked.some(pair => pair.one === one && pair.other === other)) asked.push({ one, other });
     }
-    return [element('h3', {}, 'What decides'), ...asked.slice(0, MOST_EXPLAINED).map(pair => explained(app, pair.one, pair.other)),
-        asked.length > MOST_EXPLAINED && element('p', { class: 'hint' }, count(asked.length - MOST_EXPLAINED, 'more range is', 'more ranges are')
-            + ' not explained here; each is a row of the list.')];
+    const left = asked.length - MOST_EXPLAINED;
+    return [element('h3', {}, 'What decides'),
+        ...asked.slice(0, MOST_EXPLAINED).map(pair => explained(app, pair.one, pair.other)),
+        left > 0 && element('p', { class: 'hint' },
+            count(left, 'more range is', 'more ranges are') + ' not explained here; each is a row of the list.')];
 }
 
 function explained(app, from, to) {
@@ -120,7 +125,8 @@ function explained(app, from, to) {
     return element('div', { class: 'explained' },
         answer ? element('pre', { class: 'answer' }, ...answer.map(line => element('span', { class: deciderClass(line) }, line + '\n')))
             : element('p', { class: 'hint' }, 'The rule is named by np, for every port and at both ends:'),
-        ...explainCommands(from, to).map(command => element('div', { class: 'command' }, element('code', {}, command), copyButton('Copy', command))));
+        ...explainCommands(from, to).map(command => element('div', { class: 'command' },
+            element('code', {}, command), copyButton('Copy', command))));
 }
 
 function deciderClass(line) {

@@ -24,7 +24,8 @@ function drawing(name, attributes, ...children) {
 
 // A text whose lines may end behind a comma or a slash, so that addresses are not broken within.
 function breakable(text) {
-    return [].concat(...(text.match(/[^,\/]+[,\/]?|[,\/]/g) || []).map((part, place) => place ? [document.createElement('wbr'), part] : [part]));
+    const parts = text.match(/[^,\/]+[,\/]?|[,\/]/g) || [];
+    return [].concat(...parts.map((part, place) => place ? [document.createElement('wbr'), part] : [part]));
 }
 
 function count(number, one, many) { return number.toLocaleString('en') + ' ' + (number === 1 ? one : many); }
@@ -56,5 +57,6 @@ function copyByHand(text) {
 }
 
 function copyButton(label, text) {
-    return element('button', { type: 'button', class: 'copy', click: event => copyText(typeof text === 'function' ? text() : text, event.currentTarget) }, label);
+    const copy = event => copyText(typeof text === 'function' ? text() : text, event.currentTarget);
+    return element('button', { type: 'button', class: 'copy', click: copy }, label);
 }

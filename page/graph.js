@@ -42,8 +42,11 @@ function graphSection(app) {
     const workload = table.place.get(state.focus);
     const chooser = element('label', {}, 'Workload ', focusInput(app));
     if (workload === undefined) {
-        return element('section', { class: 'graph', 'aria-label': 'Picture' }, element('div', { class: 'bar' }, element('h2', {}, 'One workload'), chooser),
-            element('p', { class: 'hint' }, state.focus ? 'No workload has that name.' : 'Choose a workload to see who sends to it and what it sends to.'));
+        return element('section', { class: 'graph', 'aria-label': 'Picture' },
+            element('div', { class: 'bar' }, element('h2', {}, 'One workload'), chooser),
+            element('p', { class: 'hint' }, state.focus
+                ? 'No workload has that name.'
+                : 'Choose a workload to see who sends to it and what it sends to.'));
     }
     const near = neighbours(table, workload), outside = outsideNeighbours(table, workload);
     return element('section', { class: 'graph', 'aria-label': 'Picture of ' + state.focus },
@@ -53,7 +56,13 @@ function graphSection(app) {
 
 function focusInput(app) {
     const names = element('datalist', { id: 'names' }, ...app.table.names.map(name => element('option', { value: name })));
-    const input = element('input', { id: 'focus', list: 'names', size: 40, autocomplete: 'off', change: event => app.change({ focus: event.currentTarget.value }) });
+    const input = element('input', {
+        id: 'focus',
+        list: 'names',
+        size: 40,
+        autocomplete: 'off',
+        change: event => app.change({ focus: event.currentTarget.value }),
+    });
     input.value = app.state.focus;
     return element('span', {}, input, names);
 }
@@ -62,8 +71,10 @@ function starDrawing(app, name, near, outside) {
     const left = near.senders.slice(0, MOST_BOXES), right = near.receivers.slice(0, MOST_BOXES);
     const leftOut = outside.senders.slice(0, MOST_BOXES), rightOut = outside.receivers.slice(0, MOST_BOXES);
     const step = BOX.height + BOX.gap;
-    const inner = Math.max(left.length + (near.senders.length > left.length), right.length + (near.receivers.length > right.length), 1);
-    const outer = Math.max(leftOut.length + (outside.senders.length > leftOut.length), rightOut.length + (outside.receivers.length > rightOut.length));
+    // How many steps a column is high: where boxes are left out, the text that counts them takes one.
+    const steps = (list, whole) => list.length + (whole.length > list.length);
+    const inner = Math.max(steps(left, near.senders), steps(right, near.receivers), 1);
+    const outer = Math.max(steps(leftOut, outside.senders), steps(rightOut, outside.receivers));
     const top = 40, height = top + (inner + outer) * step + (outer ? 50 : 10);
     const width = 2 * (BOX.width + BOX.column) + BOX.middle;
     const centre = { x: BOX.width + BOX.column, y: top + Math.max(0, (inner * step - BOX.gap - BOX.height) / 2), width: BOX.middle };
@@ -78,36 +89,45 @@ function starDrawing(app, name, near, outside) {
             'and ' + count(whole.length - list.length, 'other', 'others') + ': see the list'));
     };
     const below = top + inner * step + 34;
+    const sideText = (x, y, text) => drawing('text', { x, y, class: 'side-text' }, text);
     place(left, near.senders, 0, top, 'left');
     place(right, near.receivers, rightX, top, 'right');
     place(leftOut, outside.senders, 0, below, 'left');
     place(rightOut, outside.receivers, rightX, below, 'right');
     return drawing('svg', { viewBox: '0 0 ' + width + ' ' + height, width, height, role: 'group',
         'aria-label': 'Senders at the left and receivers at the right of ' + name },
-        drawing('text', { x: 0, y: 20, class: 'side-text' }, near.senders.length ? 'Workloads that send to it' : 'No workload sends to it'),
-        drawing('text', { x: rightX, y: 20, class: 'side-text' }, near.receivers.length ? 'Workloads that it sends to' : 'It sends to no workload'),
-        outer && drawing('text', { x: 0, y: below - 12, class: 'side-text' }, outside.senders.length ? 'From outside' : 'Nothing from outside'),
-        outer && drawing('text', { x: rightX, y: below - 12, class: 'side-text' }, outside.receivers.length ? 'To outside' : 'Nothing to outside'),
+        sideText(0, 20, near.senders.length ? 'Workloads that send to it' : 'No workload sends to it'),
+        sideText(rightX, 20, near.receivers.length ? 'Workloads that it sends to' : 'It sends to no workload'),
+        outer && sideText(0, below - 12, outside.senders.length ? 'From outside' : 'Nothing from outside'),
+        outer && sideText(rightX, below - 12, outside.receivers.length ? 'To outside' : 'Nothing to outside'),
         ...lines, ...boxes,
         drawing('g', { class: 'centre' },
             drawing('rect', { x: centre.x, y: centre.y, width: BOX.middle, height: BOX.height, rx: 6 }),
-            drawing('text', { x: centre.x + BOX.middle / 2, y: centre.y + 28, 'text-anchor': 'middle' }, cutText(name, 36), drawing('title', {}, name))));
+            drawing('text', { x: centre.x + BOX.middle / 2, y: centre.y + 28, 'text-anchor': 'middle' },
+                cutText(name, 36), drawing('title', {}, name))));
 }
 
 function starBox(app, box, x, y) {
     const open = () => app.change({ from: box.from, to: box.to });
     const focus = () => app.change({ focus: app.table.names[box.members[0]], from: '', to: '' });
-    return drawing('g', { class: 'box' + (box.members ? '' : ' outside'), 'data-ends': endsKey(box.from, box.to), tabindex: 0, role: 'button',
+    const attributes = {
+        class: 'box' + (box.members ? '' : ' outside'),
+        'data-ends': endsKey(box.from, box.to),
+        tabindex: 0,
+        role: 'button',
         'aria-label': rowLine({ source: box.from, destination: box.to, connections: box.text }),
-        click: open, dblclick: () => box.members && focus(),
+        click: open,
+        dblclick: () => box.members && focus(),
         keydown: event => {
             if (event.key === 'Enter' || event.key === ' ') { event.preventDefault(); open(); }
             if (event.key === 'f' && box.members) { event.stopPropagation(); focus(); }
-        } },
-    drawing('title', {}, box.label + ' : ' + box.text + (box.members ? ' (double click, or f: its own picture)' : '')),
-    drawing('rect', { x, y, width: BOX.width, height: BOX.height, rx: 6 }),
-    drawing('text', { x: x + 10, y: y + 19 }, cutText(box.label, 42)),
-    drawing('text', { x: x + 10, y: y + 37, class: 'passes' }, cutText(box.text, 42)));
+        },
+    };
+    return drawing('g', attributes,
+        drawing('title', {}, box.label + ' : ' + box.text + (box.members ? ' (double click, or f: its own picture)' : '')),
+        drawing('rect', { x, y, width: BOX.width, height: BOX.height, rx: 6 }),
+        drawing('text', { x: x + 10, y: y + 19 }, cutText(box.label, 42)),
+        drawing('text', { x: x + 10, y: y + 37, class: 'passes' }, cutText(box.text, 42)));
 }
 
 // The line of a box and its head; thick where everything passes, broken where some does.
@@ -117,7 +137,12 @@ function starLine(box, x, y, centre, side) {
     const end = side === 'left' ? centre.x : x;
     const startY = side === 'left' ? middle : target, endY = side === 'left' ? target : middle;
     const bend = (end - start) / 2;
-    const curve = 'M' + start + ' ' + startY + ' C' + (start + bend) + ' ' + startY + ' ' + (end - bend) + ' ' + endY + ' ' + (end - 7) + ' ' + endY;
-    const head = 'M' + (end - 8) + ' ' + (endY - 4) + ' L' + end + ' ' + endY + ' L' + (end - 8) + ' ' + (endY + 4) + ' Z';
-    return [drawing('path', { class: 'line ' + (box.text === EVERYTHING ? 'all' : 'some'), d: curve }), drawing('path', { class: 'arrow', d: head })];
+    const point = (x, y) => x + ' ' + y;
+    const curve = 'M' + point(start, startY)
+        + ' C' + point(start + bend, startY) + ' ' + point(end - bend, endY) + ' ' + point(end - 7, endY);
+    const head = 'M' + point(end - 8, endY - 4) + ' L' + point(end, endY) + ' L' + point(end - 8, endY + 4) + ' Z';
+    return [
+        drawing('path', { class: 'line ' + (box.text === EVERYTHING ? 'all' : 'some'), d: curve }),
+        drawing('path', { class: 'arrow', d: head }),
+    ];
 }

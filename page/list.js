@@ -18,14 +18,17 @@ function listSection(app) {
     const said = count(taken.lines, joined ? 'line' : 'row', joined ? 'lines' : 'rows')
         + (joined && taken.total !== taken.lines ? ', which are ' + count(taken.total, 'row', 'rows') + ' of np' : '')
         + (taken.rows.length < taken.lines ? '; the first ' + taken.rows.length.toLocaleString('en') + ' are shown' : '');
+    const copyLabel = taken.total > MOST_CSV ? 'Copy the first ' + count(MOST_CSV, 'row', 'rows') + ' as CSV' : 'Copy as CSV';
+    const head = ['', 'From', 'To', 'Connections'].map(text => element('th', { scope: 'col' }, text));
     return element('section', { class: 'list', 'aria-label': 'List of rows' },
         element('div', { class: 'bar' },
             element('h2', {}, 'Rows'),
             element('span', { class: 'count', role: 'status' }, said),
-            copyButton(taken.total > MOST_CSV ? 'Copy the first ' + count(MOST_CSV, 'row', 'rows') + ' as CSV' : 'Copy as CSV', () => listCsv(app))),
-        app.table.only && element('p', { class: 'hint' }, 'This page has the rows with an end in the namespace ' + app.table.only + ' alone.'),
+            copyButton(copyLabel, () => listCsv(app))),
+        app.table.only && element('p', { class: 'hint' },
+            'This page has the rows with an end in the namespace ' + app.table.only + ' alone.'),
         element('table', { class: 'rows-table' },
-            element('thead', {}, element('tr', {}, ...['', 'From', 'To', 'Connections'].map(text => element('th', { scope: 'col' }, text)))),
+            element('thead', {}, element('tr', {}, ...head)),
             element('tbody', {}, ...taken.rows.map(row => listRow(app, row)))),
         !taken.lines && element('p', { class: 'hint' }, 'No row is kept by the filter.'),
         taken.rows.length < taken.lines && element('button', { type: 'button', class: 'more', click: () => {

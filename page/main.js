@@ -28,25 +28,41 @@ app.changes = app.before ? changesBetween(app.before, app.table) : [];
 function exposureSection() {
     const { table, state } = app;
     const filter = makeFilter(state);
-    if (app.refused) return element('section', { class: 'exposure' }, element('h2', {}, 'New pods'), element('p', { class: 'hint' }, app.refused));
+    if (app.refused) {
+        return element('section', { class: 'exposure' },
+            element('h2', {}, 'New pods'),
+            element('p', { class: 'hint' }, app.refused));
+    }
     const rows = [];
     table.names.forEach((name, workload) => {
         if (filter.namespace && table.namespaces[workload] !== filter.namespace || filter.focus && filter.focus !== name) return;
         const put = (source, destination, connections) => {
-            if (keepsText(filter, connections, filter.bits(source) | filter.bits(destination))) rows.push({ source, destination, connections });
+            const kept = keepsText(filter, connections, filter.bits(source) | filter.bits(destination));
+            if (kept) rows.push({ source, destination, connections });
         };
         for (const row of exposureRows(table, workload, 0)) put(row.end, name, row.text);
         for (const row of exposureRows(table, workload, 1)) put(name, row.end, row.text);
     });
+    const texts = row => [row.source, row.destination, row.connections];
     return element('section', { class: 'exposure', 'aria-label': 'New pods' },
-        element('div', { class: 'bar' }, element('h2', {}, 'New pods'), element('span', { class: 'count', role: 'status' }, count(rows.length, 'row', 'rows')),
-            copyButton('Copy as CSV', () => csvOf(['source', 'destination', 'connections'], rows.map(row => [row.source, row.destination, row.connections])))),
-        element('p', { class: 'hint' }, 'What each workload allows a pod that nobody has written yet. Of a workload and a direction, the first row whose '
-            + 'requirements the pod meets is its verdict' + (state.passing ? '; rows where nothing passes are hidden by the filter, and count all the same.' : '.')),
-        element('table', { class: 'rows-table' }, element('tbody', {}, ...rows.slice(0, app.listed).map(row => element('tr', {},
-            element('td', {}, levelSign(row.connections)), element('td', { class: 'end' }, row.source), element('td', { class: 'end' }, row.destination),
-            element('td', { class: 'connections' }, row.connections))))),
+        element('div', { class: 'bar' },
+            element('h2', {}, 'New pods'),
+            element('span', { class: 'count', role: 'status' }, count(rows.length, 'row', 'rows')),
+            copyButton('Copy as CSV', () => csvOf(['source', 'destination', 'connections'], rows.map(texts)))),
+        element('p', { class: 'hint' },
+            'What each workload allows a pod that nobody has written yet. Of a workload and a direction, the first row whose '
+            + 'requirements the pod meets is its verdict'
+            + (state.passing ? '; rows where nothing passes are hidden by the filter, and count all the same.' : '.')),
+        element('table', { class: 'rows-table' }, element('tbody', {}, ...rows.slice(0, app.listed).map(exposureRow))),
         rows.length > app.listed && moreButton());
+}
+
+function exposureRow(row) {
+    return element('tr', {},
+        element('td', {}, levelSign(row.connections)),
+        element('td', { class: 'end' }, row.source),
+        element('td', { class: 'end' }, row.destination),
+        element('td', { class: 'connections' }, row.connections));
 }
 
 function moreButton() {
@@ -105,17 +121,20 @@ function control(name, made) {
 function toolbar() {
     const namespaces = Array.from(new Set(app.table.namespaces)).sort();
     const labelled = (label, made) => element('label', {}, label + ' ', made);
+    const search = element('input', { type: 'search', placeholder: 'name, port, address ( / )', autocomplete: 'off' });
+    const options = names => names.map(name => option(name, name));
+    const check = (name, label) => element('label', { class: 'check' }, control(name, element('input', { type: 'checkbox' })), label);
+    const reset = () => change(Object.assign({}, START, { view: app.state.view }));
     return element('form', { class: 'toolbar', role: 'search', submit: event => event.preventDefault() },
-        labelled('Search', control('search', element('input', { type: 'search', placeholder: 'name, port, address ( / )', autocomplete: 'off' }))),
-        labelled('Namespace', control('namespace', element('select', {}, option('', 'all'), ...namespaces.map(name => option(name, name))))),
+        labelled('Search', control('search', search)),
+        labelled('Namespace', control('namespace', element('select', {}, option('', 'all'), ...options(namespaces)))),
         labelled('Rows', control('sort', element('select', {}, ...Object.keys(SORTS).map(name => option(name, SORTS[name].label))))),
-        labelled('Protocol', control('protocol', element('select', {}, option('', 'any'), ...['TCP', 'UDP', 'SCTP'].map(name => option(name, name))))),
+        labelled('Protocol', control('protocol', element('select', {}, option('', 'any'), ...options(['TCP', 'UDP', 'SCTP'])))),
         labelled('Port', control('port', element('input', { type: 'number', min: 1, max: 65535 }))),
-        element('label', { class: 'check' }, control('passing', element('input', { type: 'checkbox' })), ' only what passes'),
-        app.table.groups.length < app.table.names.length
-            && element('label', { class: 'check' }, control('joined', element('input', { type: 'checkbox' })), ' equal workloads as one line'),
+        check('passing', ' only what passes'),
+        app.table.groups.length < app.table.names.length && check('joined', ' equal workloads as one line'),
         element('span', { id: 'focused' }),
-        element('button', { type: 'button', id: 'reset', click: () => change(Object.assign({}, START, { view: app.state.view })) }, 'Reset'),
+        element('button', { type: 'button', id: 'reset', click: reset }, 'Reset'),
         copyButton('Copy link', () => location.href));
 }
 
@@ -132,9 +151,15 @@ function showControls() {
 }
 
 function viewButtons() {
-    return element('nav', { 'aria-label': 'Views' }, ...VIEWS.filter(view => !view.needs || view.needs(app)).map((view, place) =>
-        element('button', { type: 'button', class: 'view', 'data-view': view.name, title: 'Key ' + (place + 1), click: () => change({ view: view.name }) },
-            view.label)));
+    const shown = VIEWS.filter(view => !view.needs || view.needs(app));
+    const button = (view, place) => element('button', {
+        type: 'button',
+        class: 'view',
+        'data-view': view.name,
+        title: 'Key ' + (place + 1),
+        click: () => change({ view: view.name }),
+    }, view.label);
+    return element('nav', { 'aria-label': 'Views' }, ...shown.map(button));
 }
 
 function keysHelp() {
@@ -178,8 +203,13 @@ function drawDetail() {
     detail.hidden = !(from && to);
     document.body.classList.toggle('has-detail', !detail.hidden);
     if (detail.hidden) return;
-    detail.append(element('div', { class: 'bar' }, element('h2', {}, from + ' → ' + to),
-        element('button', { type: 'button', 'aria-label': 'Close', title: 'Esc', click: () => change({ from: '', to: '' }) }, '×')), detailOf(app, from, to));
+    const close = element('button', {
+        type: 'button',
+        'aria-label': 'Close',
+        title: 'Esc',
+        click: () => change({ from: '', to: '' }),
+    }, '×');
+    detail.append(element('div', { class: 'bar' }, element('h2', {}, from + ' → ' + to), close), detailOf(app, from, to));
     const cell = document.body.dataset.view === 'matrix' && openedCell(app, app.matrix);
     if (cell) cell.classList.add('opened');
     for (const made of document.querySelectorAll('[data-ends]')) {
@@ -215,7 +245,10 @@ function build() {
             element('aside', { id: 'side' },
                 element('section', { id: 'detail', 'aria-label': 'What is open', hidden: true }),
                 element('div', { id: 'beside' }))),
-        element('footer', {}, keysHelp(), element('p', {}, 'Every row, answer and list of this page is np’s. The page itself only lays out, filters and searches.')));
+        element('footer', {},
+            keysHelp(),
+            element('p', {}, 'Every row, answer and list of this page is np’s. '
+                + 'The page itself only lays out, filters and searches.')));
     document.addEventListener('keydown', pressed);
     window.addEventListener('hashchange', () => { app.state = readState(location.hash); draw(); });
     draw();

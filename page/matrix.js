@@ -50,9 +50,11 @@ function matrixLines(table, toggled, kept) {
     const lines = [];
     for (const { namespace, parts } of sections) {
         const key = 'namespace ' + namespace;
-        const open = namespace === '' || (closed && parts.length > 1) === toggled.includes(key) || parts.length === 1 && parts[0].length === 1;
+        const alone = parts.length === 1 && parts[0].length === 1;
+        const open = namespace === '' || (closed && parts.length > 1) === toggled.includes(key) || alone;
         if (!open) {
-            lines.push({ kind: 'namespace', key, namespace, members: [].concat(...parts), label: namespace, full: 'namespace ' + namespace });
+            const members = [].concat(...parts);
+            lines.push({ kind: 'namespace', key, namespace, members, label: namespace, full: 'namespace ' + namespace });
             continue;
         }
         parts.forEach((members, place) => pushPart(table, toggled, lines, namespace, key, members, place === 0));
@@ -65,11 +67,19 @@ function pushPart(table, toggled, lines, namespace, key, members, first) {
     const open = members.length === 1 || toggled.includes(group);
     const heading = first ? { namespace, key } : null;
     if (!open) {
-        lines.push({ kind: 'equal', key: group, namespace, members, heading, label: equalLabel(table, namespace, members), full: endText(table, members) });
+        const label = equalLabel(table, namespace, members);
+        lines.push({ kind: 'equal', key: group, namespace, members, heading, label, full: endText(table, members) });
         return;
     }
-    members.forEach((member, place) => lines.push({ kind: 'workload', key: members.length > 1 && place === 0 ? group : null, namespace, members: [member],
-        heading: place === 0 ? heading : null, label: shortName(table, member, namespace), full: table.names[member] }));
+    members.forEach((member, place) => lines.push({
+        kind: 'workload',
+        key: members.length > 1 && place === 0 ? group : null,
+        namespace,
+        members: [member],
+        heading: place === 0 ? heading : null,
+        label: shortName(table, member, namespace),
+        full: table.names[member],
+    }));
 }
 
 // The name without its namespace, and without its kind where it is the only one of that name. The whole name is told besides.
@@ -165,7 +175,8 @@ function outsideCell(table, filter, from, to) {
         const level = from.kind === 'through' ? (rows.length ? (rows[0].text === EVERYTHING ? ALL : SOME) : NONE)
             : addressLevel(table, member, from.kind === 'addresses' ? 0 : 1);
         levels[level] += 1;
-        kept = kept || rows.some(row => row.text !== NOTHING && keepsText(filter, row.text, filter.bits(table.names[member]) | filter.bits(row.range)));
+        kept = kept || rows.some(row => row.text !== NOTHING
+            && keepsText(filter, row.text, filter.bits(table.names[member]) | filter.bits(row.range)));
     }
     if (!kept || !(levels[0] + levels[1] + levels[2])) return null;
     return { level: levelOfCounts(levels), levels };
@@ -212,12 +223,14 @@ function matrixSection(app) {
     grid.addEventListener('focusin', event => tellCell(matrix, event));
     const first = grid.querySelector('tbody td:not(.left-out)');
     if (first) first.tabIndex = 0;
+    const nothing = app.table.names.length ? 'Nothing that passes is kept by the filter.' : 'The cluster has no workloads.';
     return element('section', { class: 'matrix', 'aria-label': 'Matrix' },
         element('div', { class: 'bar' }, element('h2', {}, 'Who reaches whom'), legend()),
         matrix.left > 0 && element('p', { class: 'hint' }, count(matrix.left, 'line is', 'lines are') + ' not shown here: '
             + 'close namespaces that are open, choose a namespace, or read the list.'),
-        matrix.senders.length && matrix.receivers.length ? element('div', { class: 'scroll' }, grid)
-            : element('p', { class: 'hint' }, app.table.names.length ? 'Nothing that passes is kept by the filter.' : 'The cluster has no workloads.'));
+        matrix.senders.length && matrix.receivers.length
+            ? element('div', { class: 'scroll' }, grid)
+            : element('p', { class: 'hint' }, nothing));
 }
 
 function legend() {
@@ -243,10 +256,14 @@ function isEdge(lines, place) {
 
 function columnClass(lines, place, app) {
     const line = lines[place];
-    return [isEdge(lines, place) ? 'edge' : '', isFocused(app, line) ? 'focused' : '', line.members ? '' : 'outside'].join(' ').trim() || undefined;
+    const classes = [isEdge(lines, place) ? 'edge' : '', isFocused(app, line) ? 'focused' : '', line.members ? '' : 'outside'];
+    return classes.join(' ').trim() || undefined;
 }
 
-function isFocused(app, line) { return Boolean(app.state.focus && line.members && line.members.some(member => app.table.names[member] === app.state.focus)); }
+function isFocused(app, line) {
+    const { focus } = app.state;
+    return Boolean(focus && line.members && line.members.some(member => app.table.names[member] === focus));
+}
 
 function matrixRows(app, matrix) {
     const rows = [];
@@ -254,7 +271,8 @@ function matrixRows(app, matrix) {
     let namespace;
     matrix.rows = [];
     matrix.senders.forEach((line, r) => {
-        if (line.members && line.kind !== 'namespace' && line.namespace !== namespace) rows.push(headingRow(app, line.namespace, matrix.receivers.length));
+        const begins = line.members && line.kind !== 'namespace' && line.namespace !== namespace;
+        if (begins) rows.push(headingRow(app, line.namespace, matrix.receivers.length));
         namespace = line.namespace;
         rows.push(element('tr', { class: line.members ? undefined : 'outside' }, lineHead(app, line),
             ...matrix.cells[r].map((cell, c) => matrixCell(cell, edges[c]))));
@@ -280,12 +298,27 @@ function lineHead(app, line) {
     const opens = line.kind === 'namespace' || line.kind === 'equal';
     const closes = line.kind === 'workload' && line.key;
     return element('th', { scope: 'row', title: line.full, class: [line.kind, isFocused(app, line) ? 'focused' : ''].join(' ').trim() },
-        opens && element('button', { type: 'button', class: 'toggle', 'data-key': line.key, 'aria-expanded': 'false', click: () => toggle(app, line.key) },
-            '▸ ' + line.label + (line.kind === 'namespace' ? ' (' + line.members.length.toLocaleString('en') + ')' : '')),
-        closes && element('button', { type: 'button', class: 'toggle', 'data-key': line.key, 'aria-expanded': 'true',
-            title: 'Join the equal workloads', click: () => toggle(app, line.key) }, '▾'),
-        line.kind === 'workload' && element('button', { type: 'button', class: 'name', title: 'Picture of ' + line.full,
-            click: () => app.change({ view: 'graph', focus: line.full }) }, line.label),
+        opens && element('button', {
+            type: 'button',
+            class: 'toggle',
+            'data-key': line.key,
+            'aria-expanded': 'false',
+            click: () => toggle(app, line.key),
+        }, '▸ ' + line.label + (line.kind === 'namespace' ? ' (' + line.members.length.toLocaleString('en') + ')' : '')),
+        closes && element('button', {
+            type: 'button',
+            class: 'toggle',
+            'data-key': line.key,
+            'aria-expanded': 'true',
+            title: 'Join the equal workloads',
+            click: () => toggle(app, line.key),
+        }, '▾'),
+        line.kind === 'workload' && element('button', {
+            type: 'button',
+            class: 'name',
+            title: 'Picture of ' + line.full,
+            click: () => app.change({ view: 'graph', focus: line.full }),
+        }, line.label),
         !line.members && line.label);
 }
 
@@ -299,7 +332,10 @@ function matrixCell(cell, edge) {
 
 function cellWords(matrix, r, c) {
     const { levels, level } = matrix.cells[r][c];
-    const counts = levels.map((number, place) => number ? number.toLocaleString('en') + ' × ' + LEVEL_WORDS[place] : '').filter(Boolean).reverse();
+    const counts = levels
+        .map((number, place) => number ? number.toLocaleString('en') + ' × ' + LEVEL_WORDS[place] : '')
+        .filter(Boolean)
+        .reverse();
     return matrix.senders[r].full + ' => ' + matrix.receivers[c].full + ': ' + (counts.length > 1 ? counts.join(', ') : LEVEL_WORDS[level]);
 }
 

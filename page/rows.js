@@ -129,9 +129,11 @@ function eachAddressRow(table, filter, end, visit) {
 }
 
 function eachIngressRow(table, filter, end, visit) {
+    const count = end.members.length;
     const through = table.groups[table.groupOf[end.members[0]]].through;
     for (const { text } of table.texts[through]) {
-        visitOther(filter, end, { kind: 'through', source: CONTROLLER, destination: end.text, connections: text, count: end.members.length, to: end.members }, visit);
+        const row = { kind: 'through', source: CONTROLLER, destination: end.text, connections: text, count, to: end.members };
+        visitOther(filter, end, row, visit);
     }
 }
 

@@ -1,7 +1,19 @@
 // What is looked at, which the address of the page keeps behind its #, so that a link shows the same again.
 
-const START = { view: 'matrix', focus: '', from: '', to: '', search: '', namespace: '', protocol: '', port: '', sort: 'all', passing: true,
-    joined: true, toggled: [] };
+const START = {
+    view: 'matrix',
+    focus: '',
+    from: '',
+    to: '',
+    search: '',
+    namespace: '',
+    protocol: '',
+    port: '',
+    sort: 'all',
+    passing: true,
+    joined: true,
+    toggled: [],
+};
 
 function readState(hash) {
     const state = Object.assign({}, START, { toggled: [] });
@@ -26,7 +38,12 @@ function writeState(state) {
         const value = state[name];
         if (name === 'toggled' ? !value.length : name !== 'view' && value === START[name]) continue;
         const text = name === 'toggled' ? value.join('|') : typeof value === 'boolean' ? (value ? 'yes' : 'no') : value;
-        parts.push(name + '=' + encodeURIComponent(text).replace(/%2F/g, '/').replace(/%5B/g, '[').replace(/%5D/g, ']').replace(/%3A/g, ':'));
+        const coded = encodeURIComponent(text)
+            .replace(/%2F/g, '/')
+            .replace(/%5B/g, '[')
+            .replace(/%5D/g, ']')
+            .replace(/%3A/g, ':');
+        parts.push(name + '=' + coded);
     }
     return '#' + parts.join('&');
 }

@@ -147,7 +147,7 @@ page_whole() {
 }
 
 write_page() {
-    local bytes
+    local bytes too_large
     if [ ${#page_before[@]} -gt 0 ]; then
         page_copy "$room/earlier" ${page_before[@]+"${page_before[@]}"} || return
         page_table "$room/before" || return
@@ -159,7 +159,8 @@ write_page() {
     page_data >"$room/data" && page_whole >"$room/page" || return 3
     bytes=$(($(wc -c <"$room/page")))
     if [ "$bytes" -gt "$page_most" ]; then
-        page_say "the page would have $bytes bytes, and $page_most is the most that opens well: its rows differ too much to be shown together"
+        too_large="the page would have $bytes bytes, and $page_most is the most that opens well"
+        page_say "$too_large: its rows differ too much to be shown together"
         page_say "make a page of one namespace at a time, with --only NAMESPACE, or read the rows of one workload: np list --focus WORKLOAD"
         return 1
     fi
