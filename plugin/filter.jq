@@ -5,8 +5,8 @@
 #   kubectl-np filter >members.jq
 #   jq -c -f members.jq objects.json >members.json
 #
-# - docs/use/TABLES.md says which members these are. Items keep their order and their types, also where np does not read their kind, since it
-#   counts those, and refuses some.
+# - docs/use/TABLES.md says which members these are. Items keep their order and their types, also where np does not read their kind,
+#   since it counts those, and refuses some.
 # - A value that has not the type that its shape says stays as it is, and so does null: what it is is np's to say.
 # - The specs of policies stay whole. They are small, and a selector is refused for a member that it does not have.
 # - ReplicaSets of no replicas to which no item refers as an owner go: they stand for no pod, and no chain of owners leads through them.
