@@ -8,7 +8,11 @@ function __np_complete --argument-names program
     set -l offered (kubectl_complete-np --program $program $words "$plain" 2>/dev/null)
     string match -v -- ':*' $offered
     if test "$offered[-1]" = :0
-        __fish_complete_path $typed
+        # The name of a file may stand behind --option= too.
+        set -l option (string match -r '^--[a-z]+=' -- $typed)
+        for file in (complete -C "'' "(string replace -- "$option" '' $typed))
+            printf '%s\n' "$option$file"
+        end
     end
 end
 complete -c np -f -a '(__np_complete np)'
