@@ -19,7 +19,7 @@ and of the plugin:
   names [pods]        the names that --focus, --from, --to and the like take
   snapshot            the list of objects that np is given
   filter              the jq program that keeps of a list what np reads
-  version             which program is run
+  version             the version, and which program is run
   help [COMMAND]      this text, or more about a command
 
 where the objects come from:
@@ -173,7 +173,8 @@ kubectl np filter: the jq program that keeps of a list what np reads, for those 
 example: kubectl np filter >members.jq && jq -c -f members.jq objects.json >members.json
 END
         version) cat <<'END' ;;
-kubectl np version: the path and the SHA-256 digest of the program that is run, and the kit that it was built with where that is known.
+kubectl np version: the version of np, the path and the SHA-256 digest of the program that is run, and the kit that it was built with
+where that is known.
 
 example: kubectl np version
 END
@@ -208,10 +209,19 @@ find_program() {
     fi
 }
 
+# The first line of the manifest of the program, which names its kit. In the repository the manifest lies beside it, and where np is
+# installed in ../share/np.
+print_kit() {
+    local folder=. manifest
+    case $program in */*) folder=${program%/*} ;; esac
+    for manifest in "$folder/manifest" "$folder/../share/np/manifest"; do
+        [ ! -f "$manifest" ] || { head -n 1 "$manifest"; return; }
+    done
+}
+
 print_version() {
-    local program manifest
+    local program
     find_program
-    printf 'program %s\nsha256 %s\n' "$program" "$(digest_of "$program")"
-    manifest=${program%/*}/manifest
-    [ ! -f "$manifest" ] || head -n 1 "$manifest"
+    printf 'version %s\nprogram %s\nsha256 %s\n' '@VERSION@' "$program" "$(digest_of "$program")"
+    print_kit
 }

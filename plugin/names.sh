@@ -22,14 +22,22 @@ list_pods() {
         | "\(.metadata.namespace? // "" | if . == "" then "default" else . end)/\(.metadata.name?)"' "$1"
 }
 
-# Prints the names that `names` was asked for. np has to take the list for either.
+# Keeps the names on standard input as the file $1, for the completion of shells, which asks no cluster. Nobody else may read it. Where it
+# cannot be kept nothing is said: it is no part of the answer.
+keep_names() {
+    local folder=${XDG_CACHE_HOME:-${HOME-}/.cache}/kubectl-np
+    { mkdir -p "$folder" && cat >"$folder/.$1.$$" && mv -f "$folder/.$1.$$" "$folder/$1"; } 2>/dev/null
+}
+
+# Prints the names that `names` was asked for. np has to take the list for either. Those of a cluster are kept too.
 print_names() {
-    if [ "${#words[@]}" = 0 ]; then
-        list_names "$list"
-    else
-        list_names "$list" >"$room/names" || return
-        list_pods "$list"
+    local kind=${words[0]-names}
+    list_names "$list" >"$room/printed" || return
+    if [ "$kind" = pods ]; then
+        list_pods "$list" >"$room/printed" || return
     fi
+    [ -n "$list_file" ] || has_manifests || keep_names "$kind" <"$room/printed"
+    cat "$room/printed" || stop 3 "the names cannot be written"
 }
 
 # Prints up to three of the names on standard input, the nearest to $1 first: those that take the fewest letters to add, drop, change or

@@ -11,6 +11,8 @@ needed() { cat "$root"/cases/*/needs | sort -u; }
 package_of() {
     case $1 in
         kubectl) echo kubernetes-client ;;
+        man) echo man-db ;;
+        dpkg-deb) echo dpkg ;;
         *) echo "$1" ;;
     esac
 }

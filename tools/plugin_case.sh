@@ -2,5 +2,5 @@
 # it), or with the word `manifests` the plugin with the real kubectl and no cluster. Sourced by the cases of the plugin.
 # shellcheck shell=bash
 [ "${1-}" = manifests ] || export PATH=$ROOT/tools/fake-cluster:$PATH
-export KUBECTL_NP_PROGRAM=$NP
+export KUBECTL_NP_PROGRAM=$NP XDG_CACHE_HOME=$PWD/cache
 plugin() { "$ROOT/kubectl-np" "$@"; }
