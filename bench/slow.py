@@ -17,6 +17,9 @@ ports         a pod with 10,000 named ports, and a rule with an entry for each n
 servicePorts  a Service with 10,000 ports, and an Ingress with a backend for each
 backends      an Ingress with 20,000 backends of one Service
 services      9,000 Services that select the same of 1,000 pods, and an Ingress with a backend for each
+equalRoutes   a pod with 2,000 container ports of one name and number, a Service with 2,000 ports that lead to that name, and an Ingress with as
+              many backends that name one of them
+namedRoutes   the same with 10,000 of each, whose names and numbers all differ
 admin         1,001 AdminNetworkPolicies with 60 rules each, of which all but the last speak of other namespaces
 namespaces    18,000 Namespaces and 2,000 workloads, which nothing may pass between
 statements    a small cluster, and 200,000 statements (check alone)
@@ -109,6 +112,13 @@ def services():
         ingress([("s%d" % i, {"number": 80}) for i in range(9000)])]
 
 
+def routes(count, name, number):
+    """As many container ports of a pod, ports of a Service that lead to them, and backends that name these, by their names and numbers."""
+    entries = [{"name": "s" + name(i), "port": number(i), "targetPort": name(i)} for i in range(count)]
+    pods = [pod("a", labels={"app": "a"}, ports=[(name(i), number(i)) for i in range(count)]), pod("b", labels={"app": "b"})]
+    return pods + [service("s", entries, {"app": "a"}), ingress([("s", {"name": e["name"]}) for e in entries])]
+
+
 def admin():
     far = lambda i: {"namespaces": {"matchLabels": {NAME_KEY: "far-%d" % i}}}
     return two_pods() + [{"apiVersion": "policy.networking.k8s.io/v1alpha1", "kind": "AdminNetworkPolicy", "metadata": {"name": "p%d" % i}, "spec": {
@@ -148,6 +158,8 @@ STATEMENTS = {
 
 SHAPES = {"cycle": cycle, "chain": chain, "policies": policies, "peers": peers, "rules": rules, "nested": nested, "values": lambda: values(10000),
           "labels": labels, "ports": lambda: ports(10000), "servicePorts": service_ports, "backends": backends, "services": services,
+          "equalRoutes": lambda: routes(2000, lambda i: "h", lambda i: 80),
+          "namedRoutes": lambda: routes(10000, lambda i: "h%d" % i, lambda i: i + 1),
           "admin": admin, "namespaces": namespaces, "statements": two_pods, "manyAsked": many_asked,
           "exposureNamespaces": exposure_namespaces, "exposureKeys": exposure_keys, "exposurePeers": peers}
 

@@ -1,7 +1,10 @@
+pub mod AnyLemmas
+pub mod AskedLemmas
 pub mod BackendLemmas
 pub mod ClusterLemmas
 pub mod IngressRowLemmas
 pub mod KindRoutes
+pub mod PortSetLemmas
 pub mod ReachedLemmas
 pub mod RouteLemmas
 pub mod ServiceLemmas

@@ -32,7 +32,7 @@ some_passes test xs any =
 passes_some : {X : Type 0} (test : X → Bool) (xs : List X) (x : X) → Contains xs x → test x ≡ true → list_any test xs ≡ true
 passes_some test xs x has is = list_any-from_Any test xs (has.0, x, has.1, has.2, is)
 
-list_any-flat_map : {X Y : Type 0} (test : Y → Bool) (f : X → List Y) (xs : List X) → list_any test (flat_map f xs) ≡ list_any (λ x. list_any test (f x)) xs
+pub list_any-flat_map : {X Y : Type 0} (test : Y → Bool) (f : X → List Y) (xs : List X) → list_any test (flat_map f xs) ≡ list_any (λ x. list_any test (f x)) xs
 list_any-flat_map test f [] = refl
 list_any-flat_map test f (x ∷ xs) = list_any-append test (f x) (flat_map f xs) ∙ ap (λ (b : Bool). list_any test (f x) || b) (list_any-flat_map test f xs)
 
@@ -60,19 +60,19 @@ through-ports p number named service =
     ∙ list_any-filter (λ port. leads_to p number (record { service = service; port = port })) (is_backend_port named) service.ports
 
 module _ (lists : EstateLists) (p : PodEnd) (number : ℕ) where
-  abbrev backend_leads : List ℕ → Backend → Bool
+  abbrev pub backend_leads : List ℕ → Backend → Bool
   backend_leads namespace one = list_any (leads_to p number) (routes_of_backend lists.services namespace one)
 
-  abbrev ingress_leads : PlacedIngress → Bool
+  abbrev pub ingress_leads : PlacedIngress → Bool
   ingress_leads placed = is_in_namespace p.namespace placed && list_any (leads_to p number) (routes_of_ingress lists.services placed.ingress)
 
-  by_ingresses : list_any (leads_to p number) (routes_in lists p.namespace) ≡ list_any ingress_leads lists.ingresses
+  pub by_ingresses : list_any (leads_to p number) (routes_in lists p.namespace) ≡ list_any ingress_leads lists.ingresses
   unfolding routes_in
   by_ingresses =
       list_any-flat_map (leads_to p number) (λ placed. routes_of_ingress lists.services placed.ingress) (filter (is_in_namespace p.namespace) lists.ingresses)
       ∙ list_any-filter (λ placed. list_any (leads_to p number) (routes_of_ingress lists.services placed.ingress)) (is_in_namespace p.namespace) lists.ingresses
 
-  by_backends : (placed : PlacedIngress) → list_any (leads_to p number) (routes_of_ingress lists.services placed.ingress) ≡ list_any (backend_leads placed.ingress.namespace) placed.ingress.backends
+  pub by_backends : (placed : PlacedIngress) → list_any (leads_to p number) (routes_of_ingress lists.services placed.ingress) ≡ list_any (backend_leads placed.ingress.namespace) placed.ingress.backends
   by_backends placed = list_any-flat_map (leads_to p number) (routes_of_backend lists.services placed.ingress.namespace) placed.ingress.backends
 
   -- ---- a route in the words of the API

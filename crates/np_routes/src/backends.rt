@@ -1,33 +1,28 @@
-//! The backends of the ingresses of each namespace.
-ghost use Rattle.std.specs.Prelude.{◌≡◌, ◌<◌, ◌++◌, [], ◌∷◌, List, ℕ, IfOk, OnOk, flat_map, length, if◌then◌else◌};
+//! Where the backends of the ingresses of each namespace lead.
+ghost use Rattle.std.specs.Prelude.{◌≡◌, ◌<◌, ◌++◌, ◌||◌, [], ◌∷◌, List, ℕ, IfOk, OnOk, length, if◌then◌else◌};
+ghost use Rattle.std.specs.List.{list_any};
 ghost use Rattle.std.specs.Option.{option_map_or};
 ghost use Rattle.std.specs.Str.{bytes_eq};
 ghost use Rattle.np_routes.specs.Routes as spec;
-ghost use Rattle.np_routes.specs.steps.BackendsByNamespace.{backends_at, routes_at, routes_of};
-ghost use Rattle.np_rules.specs.Ends.{pod_end};
+ghost use Rattle.np_routes.specs.steps.AskedServices.{asked_leads};
+ghost use Rattle.np_routes.specs.steps.TargetsByNamespace.{target_leads, targets_in};
+ghost use Rattle.np_rules.specs.Ends.{PodEnd, pod_end};
 ghost use Rattle.np_rules.specs.Verdict.{pod_at};
 
-use crate::services::Services;
+use crate::asked_services::{AskedService, asked_services};
+use crate::service_targets::ServiceTargets;
 use np_base::NoMemory;
 use np_estate::{Estate, Pod};
-use np_objects::{Backend, IngressItem, PortName, ServiceItem};
 use std::alloc::Global;
 use std::collections::BTreeMap;
 use std::marker::Model;
 
-/// A backend of an ingress that names a port of a listed service.
-#[derive(Drop)]
-pub(crate) struct ServiceBackend<'a> {
-    pub service: &'a ServiceItem,
-    pub port: &'a PortName,
-}
-
-/// The backends of all ingresses that name ports of listed services, to be found by namespace. Contracts see the lists of
-/// the estate.
+/// The services whose ports the backends of ingresses name, with the targets of these ports, to be found by namespace.
+/// Contracts see the lists of the estate.
 #[derive(Drop)]
 pub(crate) struct Backends<'a> {
     estate: &'a Estate,
-    by_namespace: BTreeMap<&'a str, Vec<ServiceBackend<'a>>>,
+    by_namespace: BTreeMap<&'a str, Vec<ServiceTargets<'a>>>,
 }
 
 impl<'a> Model for Backends<'a> {
@@ -35,22 +30,22 @@ impl<'a> Model for Backends<'a> {
 
     ghost Value = { EstateLists };
 
-    ghost use Rattle.np_routes.specs.steps.BackendsByNamespace.{HoldsRoutes};
+    ghost use Rattle.np_routes.specs.steps.TargetsByNamespace.{HoldsTargets};
 
     ghost view = { λ b. b.estate.now };
 
-    ghost invariant = { λ b. HoldsRoutes b.estate.now b.by_namespace };
+    ghost invariant = { λ b. HoldsTargets b.estate.now b.by_namespace };
 }
 
 impl<'a> Backends<'a> {
-    /// Those of an estate. Each ingress is gone through once.
+    /// Those of an estate. Each service and each ingress is gone through once.
     pub(crate) fn of(alloc: Global, estate: &'a Estate) -> Result<Backends<'a>, NoMemory>
         ensures { IfOk result (λ made. made ≡ estate.now) }
     {
-        let services = Services::of(alloc, estate.services())?;
+        let services = asked_services(alloc, estate)?;
         let mut by_namespace = BTreeMap::new(alloc);
-        for placed in estate.ingresses() {
-            add_ingress(&mut by_namespace, &services, &placed.ingress)?;
+        for asked in &services {
+            add_service(alloc, &mut by_namespace, asked)?;
         }
         Ok(Backends {
             estate,
@@ -73,58 +68,43 @@ impl<'a> Backends<'a> {
         &self.estate.pods()[place as usize]
     }
 
-    /// Those of a namespace, by ingress and then as written. `None` where it has none.
-    pub(crate) fn of_namespace(&self, namespace: &str) -> Option<&[ServiceBackend<'a>]>
-        ensures { option_map_or (λ own. flat_map routes_of own.now) result [] ≡ spec.routes_in self.now namespace.now }
+    /// Those of a pod's namespace. `None` where it has none.
+    pub(crate) fn near(&self, pod: &Pod) -> Option<&[ServiceTargets<'a>]>
+        ensures { (number : ℕ) →
+            list_any (target_leads (pod_end pod.now) number) (option_map_or (λ own. own.now) result [])
+            ≡ list_any (spec.leads_to (pod_end pod.now) number) (spec.routes_in self.now (pod_end pod.now).namespace) }
     {
-        let backends = self.by_namespace.get(namespace)?;
-        Some(backends.as_slice())
+        let targets = self.by_namespace.get(pod.namespace.as_str())?;
+        Some(targets.as_slice())
     }
 }
 
-// Adds the backends of an ingress to those of its namespace.
-fn add_ingress<'a>(
-    by_namespace: &mut BTreeMap<&'a str, Vec<ServiceBackend<'a>>>,
-    services: &Services<'a>,
-    ingress: &'a IngressItem,
+// Adds the targets of a service to those of its namespace, where backends name ports of it.
+fn add_service<'a>(
+    alloc: Global,
+    by_namespace: &mut BTreeMap<&'a str, Vec<ServiceTargets<'a>>>,
+    asked: &AskedService<'a>,
 ) -> Result<(), NoMemory>
-    ensures { OnOk result ((namespace : List ℕ) → routes_at by_namespace.new namespace
-        ≡ routes_at by_namespace.old namespace
-        ++ (if bytes_eq ingress.now.namespace namespace then spec.routes_of_ingress services.now ingress.now else [])) }
+    ensures { OnOk result ((p : PodEnd) (number : ℕ) →
+        list_any (target_leads p number) (targets_in by_namespace.new p.namespace)
+        ≡ (list_any (target_leads p number) (targets_in by_namespace.old p.namespace) || asked_leads p number asked.now)) }
 {
-    let namespace = ingress.namespace.as_str();
-    for backend in ingress.backends.items() {
-        if let Some(found) = service_backend(services, namespace, backend) {
-            put_last(by_namespace, namespace, found)?;
-        }
+    if asked.ports.is_empty() {
+        return Ok(());
     }
-    Ok(())
+    let targets = ServiceTargets::of(alloc, asked)?;
+    put_last(by_namespace, asked.service.namespace.as_str(), targets)
 }
 
-// A backend of an ingress of a namespace, where it names a port of a listed service.
-fn service_backend<'a>(
-    services: &Services<'a>,
-    namespace: &'a str,
-    backend: &'a Backend,
-) -> Option<ServiceBackend<'a>>
-    ensures { option_map_or routes_of result [] ≡ spec.routes_of_backend services.now namespace.now backend.now }
-{
-    let Backend::Service { name, port } = backend else {
-        return None;
-    };
-    let service = services.named(namespace, name.as_str())?;
-    Some(ServiceBackend { service, port })
-}
-
-// Puts a backend behind the others of its namespace.
+// Puts a service behind the others of its namespace.
 fn put_last<'a>(
-    by_namespace: &mut BTreeMap<&'a str, Vec<ServiceBackend<'a>>>,
+    by_namespace: &mut BTreeMap<&'a str, Vec<ServiceTargets<'a>>>,
     namespace: &'a str,
-    backend: ServiceBackend<'a>,
+    targets: ServiceTargets<'a>,
 ) -> Result<(), NoMemory>
-    ensures { OnOk result ((asked : List ℕ) → backends_at by_namespace.new asked
-        ≡ backends_at by_namespace.old asked ++ (if bytes_eq namespace.now asked then backend.entry ∷ [] else [])) }
+    ensures { OnOk result ((asked : List ℕ) → targets_in by_namespace.new asked
+        ≡ targets_in by_namespace.old asked ++ (if bytes_eq namespace.now asked then targets.entry ∷ [] else [])) }
 {
-    by_namespace.entry(namespace)?.or_default().push(backend)?;
+    by_namespace.entry(namespace)?.or_default().push(targets)?;
     Ok(())
 }

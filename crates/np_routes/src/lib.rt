@@ -2,15 +2,18 @@
 //! with them.
 #![tactic(auto)]
 
+mod asked_services;
 mod backend_flaws;
 mod backends;
 mod cluster_rows;
 mod first_pods;
 mod laws;
+mod port_set;
 mod route_note;
 mod routes;
 mod senders;
 mod service_ports;
+mod service_targets;
 mod services;
 mod targets;
 
@@ -22,4 +25,3 @@ pub use laws::{
 };
 pub use route_note::{RouteFlaw, RouteNote};
 pub use routes::{Routes, ingress_set};
-pub use services::Services;

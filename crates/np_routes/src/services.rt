@@ -1,8 +1,8 @@
 //! The listed services by their names.
-ghost use Rattle.std.specs.Prelude.{◌≡◌, ◌&&◌, ℕ, List, Some, IfOk, OnOk, if◌then◌else◌};
-ghost use Rattle.std.specs.Option.{option_copied};
+ghost use Rattle.std.specs.Prelude.{◌≡◌, ℕ, List, Some, None, IfOk, OnOk, if◌then◌else◌};
+ghost use Rattle.std.specs.Option.{option_or};
 ghost use Rattle.np_routes.specs.Services.{is_service, service_named};
-ghost use Rattle.np_routes.specs.steps.ServicesByName.{service_at};
+ghost use Rattle.np_routes.specs.steps.ServicesByName.{IsPlaceOf, place_at};
 
 use np_base::NoMemory;
 use np_objects::ServiceItem;
@@ -10,11 +10,11 @@ use std::alloc::Global;
 use std::collections::BTreeMap;
 use std::marker::Model;
 
-/// The listed services, to be found by namespace and name. Contracts see the list.
+/// The places of the listed services, to be found by namespace and name. Contracts see the list.
 #[derive(Drop)]
-pub struct Services<'a> {
+pub(crate) struct Services<'a> {
     listed: &'a [ServiceItem],
-    by_name: BTreeMap<(&'a str, &'a str), &'a ServiceItem>,
+    places: BTreeMap<(&'a str, &'a str), usize>,
 }
 
 impl<'a> Model for Services<'a> {
@@ -23,46 +23,46 @@ impl<'a> Model for Services<'a> {
 
     ghost Value = { List ServiceItem };
 
-    ghost use Rattle.np_routes.specs.steps.ServicesByName.{HoldsServices};
+    ghost use Rattle.np_routes.specs.steps.ServicesByName.{HoldsPlaces};
 
     ghost view = { λ s. s.listed.now };
 
-    ghost invariant = { λ s. HoldsServices s.listed.now s.by_name };
+    ghost invariant = { λ s. HoldsPlaces s.listed.now s.places };
 }
 
 impl<'a> Services<'a> {
     /// These services, which are gone through once.
-    pub fn of(alloc: Global, listed: &'a [ServiceItem]) -> Result<Services<'a>, NoMemory>
+    pub(crate) fn of(alloc: Global, listed: &'a [ServiceItem]) -> Result<Services<'a>, NoMemory>
         ensures { IfOk result (λ made. made ≡ listed.now) }
     {
-        let mut by_name = BTreeMap::new(alloc);
-        for service in listed.iter().rev() {
-            put(&mut by_name, service)?;
+        let mut places = BTreeMap::new(alloc);
+        for (place, service) in listed.iter().enumerate() {
+            put(&mut places, service, place)?;
         }
-        Ok(Services { listed, by_name })
+        Ok(Services { listed, places })
     }
 
-    /// The service of a namespace and a name, the first listed one where there are several. `None` exactly where there is
-    /// none. The two texts are to be kept as long as the services.
-    pub fn named(&self, namespace: &'a str, name: &'a str) -> Option<&'a ServiceItem>
-        ensures { option_copied result ≡ service_named self.now namespace.now name.now }
+    /// The place of the service of a namespace and a name, of the first listed one where there are several. `None` exactly
+    /// where there is none. The two texts are to be kept as long as the services.
+    pub(crate) fn place(&self, namespace: &'a str, name: &'a str) -> Option<usize>
+        ensures { IsPlaceOf self.now (service_named self.now namespace.now name.now) result }
     {
-        match self.by_name.get(&(namespace, name)) {
-            Some(service) => Some(*service),
-            None => None,
-        }
+        self.places.get(&(namespace, name)).copied()
     }
 }
 
-// Puts a service under its name, in the place of one that stood there.
+// Puts the place of a service under its name, unless an earlier one stands there.
 fn put<'a>(
-    by_name: &mut BTreeMap<(&'a str, &'a str), &'a ServiceItem>,
+    places: &mut BTreeMap<(&'a str, &'a str), usize>,
     service: &'a ServiceItem,
+    place: usize,
 ) -> Result<(), NoMemory>
-    ensures { OnOk result ((namespace name : List ℕ) → service_at by_name.new namespace name
-        ≡ (if is_service namespace name service.now then Some service.now else service_at by_name.old namespace name)) }
+    ensures { OnOk result ((namespace name : List ℕ) → place_at places.new namespace name
+        ≡ option_or (place_at places.old namespace name) (if is_service namespace name service.now then Some place else None)) }
 {
     let key = (service.namespace.as_str(), service.name.as_str());
-    by_name.insert(key, service)?;
+    if !places.contains_key(&key) {
+        places.insert(key, place)?;
+    }
     Ok(())
 }

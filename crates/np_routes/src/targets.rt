@@ -1,21 +1,25 @@
 //! The TCP ports to which routes lead at a pod.
-ghost use Rattle.std.specs.Prelude.{◌≡◌, ◌<◌, ◌&&◌, ◌||◌, true, ℕ, IfOk, OnOk, flat_map, length};
+ghost use Rattle.std.specs.Prelude.{◌≡◌, ◌<◌, ◌&&◌, ◌||◌, true, ℕ, IfOk, OnOk, length};
 ghost use Rattle.std.specs.List.{list_any};
 ghost use Rattle.np_conns.specs.Conns.{IsConns, has_spot, same_proto};
 ghost use Rattle.np_conns.specs.declared.port_spot.PortSpot.{PortSpot};
 ghost use Rattle.np_conns.specs.declared.proto.Proto.TheVariants.{Tcp};
-ghost use Rattle.np_routes.specs.Routes.{is_routed, leads_to};
-ghost use Rattle.np_routes.specs.Services as spec;
-ghost use Rattle.np_routes.specs.steps.BackendsByNamespace.{routes_of};
+ghost use Rattle.np_objects.specs.declared.service.PortName.TheVariants.{Number};
+ghost use Rattle.np_routes.specs.Routes.{is_routed};
+ghost use Rattle.np_routes.specs.steps.PortSets.{at_pod, has_port, is_named_in};
 ghost use Rattle.np_routes.specs.steps.Targets.{has_target};
+ghost use Rattle.np_routes.specs.steps.TargetsByNamespace.{target_leads};
 ghost use Rattle.np_rules.specs.Ends.{pod_end};
 ghost use Rattle.np_rules.specs.Verdict.{pod_at};
 
-use crate::backends::{Backends, ServiceBackend};
-use crate::service_ports::{add_targets, is_backend_port, serves};
+use crate::backends::Backends;
+use crate::port_set::PortSet;
+use crate::service_ports::serves;
+use crate::service_targets::ServiceTargets;
 use np_base::{Cells, NoMemory, PortNum};
 use np_conns::{ConnSet, Proto};
 use np_estate::Pod;
+use np_objects::NamedPort;
 use std::alloc::Global;
 
 /// The TCP ports to which routes lead at the pod at a place, as a set.
@@ -30,44 +34,53 @@ pub(crate) fn routed_set(
     ensures well { IfOk result IsConns }
 {
     let pod = backends.pod(place);
-    let Some(own) = backends.of_namespace(pod.namespace.as_str()) else {
+    let Some(own) = backends.near(pod) else {
         return ConnSet::nothing(alloc);
     };
-    let targets = targets_of(alloc, own, pod)?;
-    tcp_set(alloc, &targets)
+    let numbers = numbers_at(alloc, own, pod)?;
+    tcp_set(alloc, &numbers)
 }
 
-// The numbers of the TCP ports of a pod to which backends of its namespace lead, as often as they do.
-fn targets_of(
+// The numbers of the TCP ports of a pod to which services lead, each once.
+fn numbers_at(
     alloc: Global,
-    backends: &[ServiceBackend<'_>],
+    services: &[ServiceTargets<'_>],
     pod: &Pod,
 ) -> Result<Vec<PortNum>, NoMemory>
     ensures { IfOk result (λ made. (number : ℕ) → has_target made.items number
-        ≡ list_any (leads_to (pod_end pod.now) number) (flat_map routes_of backends.now)) }
+        ≡ list_any (target_leads (pod_end pod.now) number) services.now) }
 {
-    let mut targets = Vec::new(alloc);
-    for backend in backends {
-        if serves(backend.service, pod) {
-            add_of_backend(&mut targets, backend, pod)?;
-        }
-    }
-    Ok(targets)
+    let mut targets = targets_at(alloc, services, pod)?;
+    add_named(&mut targets, pod.ports.items())?;
+    targets.numbers(alloc)
 }
 
-// Adds those to which one backend leads, whose service serves the pod.
-fn add_of_backend(
-    targets: &mut Vec<PortNum>,
-    backend: &ServiceBackend<'_>,
+// The targets of those services that serve a pod.
+fn targets_at<'a>(
+    alloc: Global,
+    services: &[ServiceTargets<'a>],
     pod: &Pod,
-) -> Result<(), NoMemory>
-    requires { spec.serves backend.now.service.now (pod_end pod.now) ≡ true }
-    ensures { OnOk result ((number : ℕ) → has_target targets.new.items number
-        ≡ (has_target targets.old.items number || list_any (leads_to (pod_end pod.now) number) (routes_of backend.now))) }
+) -> Result<PortSet<'a>, NoMemory>
+    ensures { IfOk result (λ made. (number : ℕ) → at_pod made (pod_end pod.now) number
+        ≡ list_any (target_leads (pod_end pod.now) number) services.now) }
 {
-    for port in backend.service.ports.items() {
-        if is_backend_port(backend.port, port) {
-            add_targets(targets, backend.service, port, pod)?;
+    let mut made = PortSet::new(alloc);
+    for one in services {
+        if serves(one.service, pod) {
+            made.add_all(&one.targets)?;
+        }
+    }
+    Ok(made)
+}
+
+// Adds the numbers of the TCP ports whose names are among the targets.
+fn add_named(targets: &mut PortSet<'_>, ports: &[NamedPort]) -> Result<(), NoMemory>
+    ensures { OnOk result ((number : ℕ) → has_port targets.new (Number number)
+        ≡ (has_port targets.old (Number number) || list_any (is_named_in (has_port targets.old) number) ports.now)) }
+{
+    for port in ports {
+        if port.proto == Proto::Tcp && targets.has_name(port.name.as_str()) {
+            targets.add_number(port.number)?;
         }
     }
     Ok(())

@@ -1,5 +1,5 @@
--- Services as they are kept by namespace and name.
-use Rattle.std.specs.Prelude.{ℕ, ◌≡◌, List, Option, option_map}
+-- Places of services as they are kept by namespace and name.
+use Rattle.std.specs.Prelude.{ℕ, ◌≡◌, ◌<◌, List, length, Option, Some, None, slice_get}
 use Rattle.std.specs.BTreeMap.{BTreeMap, get_by}
 use Rattle.std.specs.Borrow.{Bor}
 use Rattle.std.specs.Cmp.Lexicographic.{slice_cmp}
@@ -12,10 +12,15 @@ use Rattle.np_routes.specs.Services.{service_named}
 abbrev pub compare_names : List ℕ → List ℕ → Bor (List ℕ) × Bor (List ℕ) → Ordering
 compare_names namespace name key = ordering_then (slice_cmp nat_cmp namespace key.0.now) (slice_cmp nat_cmp name key.1.now)
 
--- the service that is kept under a namespace and a name
-abbrev pub service_at : BTreeMap (Bor (List ℕ) × Bor (List ℕ)) (Bor ServiceItem) → List ℕ → List ℕ → Option ServiceItem
-service_at services namespace name = option_map (λ service. service.now) (get_by (compare_names namespace name) services)
+-- the place that is kept under a namespace and a name
+abbrev pub place_at : BTreeMap (Bor (List ℕ) × Bor (List ℕ)) ℕ → List ℕ → List ℕ → Option ℕ
+place_at places namespace name = get_by (compare_names namespace name) places
 
--- under each is kept the service that the list has
-abbrev pub HoldsServices : List ServiceItem → BTreeMap (Bor (List ℕ) × Bor (List ℕ)) (Bor ServiceItem) → Type 0
-HoldsServices listed services = (namespace name : List ℕ) → service_at services namespace name ≡ service_named listed namespace name
+-- a place, where there is one, is that of the service that was found, and else none was
+abbrev pub IsPlaceOf : List ServiceItem → Option ServiceItem → Option ℕ → Type 0
+IsPlaceOf listed found None = found ≡ None
+IsPlaceOf listed found (Some place) = (place < length listed) × (found ≡ slice_get listed place)
+
+-- under each namespace and name is kept the place of the service that the list has
+abbrev pub HoldsPlaces : List ServiceItem → BTreeMap (Bor (List ℕ) × Bor (List ℕ)) ℕ → Type 0
+HoldsPlaces listed places = (namespace name : List ℕ) → IsPlaceOf listed (service_named listed namespace name) (place_at places namespace name)

@@ -1,10 +1,10 @@
-use Rattle.std.proofs.Common.{◌≡◌, List, ℕ, flat_map, take}
-use Rattle.std.specs.Prelude.{filter}
-use Rattle.np_routes.specs.Routes.{is_in_namespace, routes_of_ingress}
-use Rattle.np_routes.specs.steps.BackendsByNamespace.{routes_at}
+use Rattle.std.proofs.Common.{◌≡◌, ℕ, take}
+use Rattle.std.specs.List.{list_any}
+use Rattle.np_routes.specs.steps.AskedServices.{asked_leads}
+use Rattle.np_routes.specs.steps.TargetsByNamespace.{target_leads, targets_in}
 use Rattle.np_routes.proofs.backends.Backends.of.Given as goal
+use Rattle.np_rules.specs.Ends.{PodEnd}
 
--- in each namespace stand the routes of its ingresses so far
-abbrev pub invariant-loop-placed : goal.invariant-loop-placed
-invariant-loop-placed l =
-    (namespace : List ℕ) → routes_at l.by_namespace namespace ≡ flat_map (λ placed. routes_of_ingress l.fn.estate.services placed.ingress) (filter (is_in_namespace namespace) (take l.placed-index l.placed-items))
+-- the services so far lead where those that are kept of a pod's namespace do
+abbrev pub invariant-loop-asked : goal.invariant-loop-asked
+invariant-loop-asked l = (p : PodEnd) (number : ℕ) → list_any (target_leads p number) (targets_in l.by_namespace p.namespace) ≡ list_any (asked_leads p number) (take l.asked-index l.asked-items)
