@@ -5,6 +5,7 @@ pub mod EvaluateLemmas
 pub mod ExplainLemmas
 pub mod ExposureLemmas
 pub mod FlattenLemmas
+pub mod FoundLemmas
 pub mod HeadlineLemmas
 pub mod ListingLemmas
 pub mod PromisesLemmas

@@ -1,15 +1,13 @@
 -- Lines that are broken, and the first of them.
-use Rattle.std.proofs.Common.{◌≡◌, ℕ, ◌+◌, ◌<◌, ◌↔◌, not, List, [], ◌∷◌, Bool, false, Option, Some, None, Ok, All, drop, get_or, is_some, length, option_map, refl, sym, ap, subst, ◌∙◌}
+use Rattle.std.proofs.Common.{◌≡◌, ℕ, ◌↔◌, not, List, [], ◌∷◌, Bool, false, Option, Some, None, Ok, All, option_map, refl, sym, ap, subst, ◌∙◌}
 use Rattle.std.specs.Option.{option_or}
 use Rattle.std.proofs.lemmas.Bool.{and_parts, not-false, not-true}
-use Rattle.std.proofs.lemmas.List.{at_drop_more}
 use Rattle.std.proofs.lemmas.List.Elements.{All-cons, All-contains, All-head, All-nil, All-same, All-tail, All-weaker}
 use Rattle.std.proofs.lemmas.Option.{none-some, same_Some}
 use Rattle.np_check.proofs.FirstLemmas.{none_each}
 use Rattle.np_check.proofs.HoldLemmas.{found_none, holds}
 use Rattle.np_check.proofs.LeastLemmas.{first_broken as first_packet}
 use Rattle.np_check.proofs.NoneLemmas.{among_all, none_all, none_map}
-use Rattle.np_check.proofs.PairLemmas.{none_or}
 use Rattle.np_check.specs.Counters.{complies, counter_of}
 use Rattle.np_check.specs.FirstPacket.{IsEndOf}
 use Rattle.np_check.specs.Firsts.{first_of}
@@ -71,17 +69,6 @@ pub packet-places : (lists : EstateLists) (question : Question) (packet : Counte
 packet-places lists question packet is found =
     let first = first_packet lists question packet is.sources_ascend is.destinations_ascend found in
     (place-is lists question.source packet.source is.sources first.own.from, place-is lists question.destination packet.destination is.destinations first.own.to)
-
--- ---- the first of all in a loop
-
--- where a line is not broken, the first of those left is the first behind it
-pub none_more : {X Y : Type 0} (gives : X → Option Y) (xs : List X) (i next : ℕ) (x : X) (found : Option Y) → (i < length xs) × (x ≡ get_or xs i x) → first_of gives (drop i xs) ≡ first_of gives xs → found ≡ gives x → is_some found ≡ false → next ≡ i + 1 → first_of gives (drop next xs) ≡ first_of gives xs
-none_more gives xs i next x found (within, at) left is none later =
-    ap (λ (k : ℕ). first_of gives (drop k xs)) later
-    ∙ none_or found (first_of gives (drop (i + 1) xs)) none
-    ∙ ap (λ (one : Option _). option_or one (first_of gives (drop (i + 1) xs))) (is ∙ ap gives at)
-    ∙ sym (at_drop_more (first_of gives) xs i x within)
-    ∙ left
 
 -- ---- lines that hold
 

@@ -1,6 +1,9 @@
 -- Lines with their ends found.
-use Rattle.std.proofs.Common.{◌≡◌, ℕ, ◌+◌, ◌<◌, ◌≤◌, List, [], ◌∷◌, ◌++◌, Result, Ok, Err, All, length, drop, get_or, refl, sym, ap, subst, ◌∙◌, inl, inr, append-nil, append_assoc}
-use Rattle.std.proofs.lemmas.Bool.{and_cases}
+use Rattle.std.proofs.Common.{◌≡◌, ℕ, zero, suc, ◌+◌, ◌<◌, ◌≤◌, List, [], ◌∷◌, ◌++◌, Option, Some, None, Result, Ok, Err, is_ok, All, length, drop, get_or, refl, sym, ap, subst, ◌∙◌, inl, inr, append-nil, append_assoc}
+use Rattle.std.specs.Borrow.{Bor}
+use Rattle.std.specs.Option.{option_or}
+use Rattle.std.specs.Prelude.{IsOk}
+use Rattle.std.proofs.lemmas.Bool.{and_cases, false≢true}
 use Rattle.std.proofs.lemmas.List.{at_drop_more, drop_all}
 use Rattle.std.proofs.lemmas.List.Elements.{All-cons, All-get_or, All-head, All-nil, All-same, All-tail}
 use Rattle.np_check.specs.StatementGrammar.{is_address_form}
@@ -8,14 +11,12 @@ use Rattle.np_check.specs.declared.question.Ends.{Ends}
 use Rattle.np_estate.specs.declared.lists.EstateLists.{EstateLists}
 use Rattle.np_statements.proofs.EndLemmas.{ends_of-are}
 use Rattle.np_statements.proofs.StepLemmas.{after, after-none, same_ok, then-ok}
-use Rattle.np_statements.specs.Answers.{GivesEnds}
+use Rattle.np_statements.specs.Answers.{TellsUnknown}
 use Rattle.np_statements.specs.AskedLines.{IsAsked, IsWellLine}
 use Rattle.np_statements.specs.Ends.{ends_of}
 use Rattle.np_statements.specs.FoundEnds.{asked_of, ends_found}
 use Rattle.np_statements.specs.Steps.{◌>>=◌}
 use Rattle.np_statements.specs.declared.asked_line.AskedLine.{AskedLine}
-use Rattle.np_statements.specs.declared.end_fault.EndFault.{EndFault}
-use Rattle.np_statements.specs.declared.end_fault.EndFault.TheVariants.{NoMemory, UnknownEnd}
 use Rattle.np_statements.specs.declared.statement_line.StatementLine.{StatementLine}
 
 -- ---- what is asked
@@ -37,7 +38,7 @@ asked-by lists line asked is =
     record { source = source; destination = destination; sources = sources; destinations = destinations; is = same_ok (made source destination) asked last }
 
 -- it is known
-asked-known : (lists : EstateLists) (line : StatementLine) (asked : AskedLine) → IsWellLine line → IsAskedBy lists line asked → IsAsked lists asked
+pub asked-known : (lists : EstateLists) (line : StatementLine) (asked : AskedLine) → IsWellLine line → IsAskedBy lists line asked → IsAsked lists asked
 asked-known lists line asked well by =
     let sources = ends_of-are lists line.statement.source by.source by.sources in
     let destinations = ends_of-are lists line.statement.destination by.destination by.destinations in
@@ -101,10 +102,9 @@ one_found lists lines i next line front made first all turn so_far found more la
     ∙ ap (λ (k : ℕ). after made (ends_found lists (drop k lines))) (sym later)
 
 -- the first name that no workload has
-pub not_found : (lists : EstateLists) (lines : List StatementLine) (i : ℕ) (line : StatementLine) (front : List AskedLine) (fault : EndFault) (all : Result (List AskedLine) (List ℕ)) → (i < length lines) × (line ≡ get_or lines i line) → all ≡ after front (ends_found lists (drop i lines)) → GivesEnds {X = AskedLine} (Err fault) (asked_of lists line) → GivesEnds {X = List AskedLine} (Err fault) all
+pub not_found : (lists : EstateLists) (lines : List StatementLine) (i : ℕ) (line : StatementLine) (front : List AskedLine) (name : List ℕ) (all : Result (List AskedLine) (List ℕ)) → (i < length lines) × (line ≡ get_or lines i line) → all ≡ after front (ends_found lists (drop i lines)) → asked_of lists line ≡ Err name → all ≡ Err name
 unfolding found_by
-not_found lists lines i line front (UnknownEnd name) all turn so_far found = so_far ∙ line_at lists lines i line front turn ∙ ap (found_by lists lines i front) found
-not_found lists lines i line front NoMemory all turn so_far found = tt
+not_found lists lines i line front name all turn so_far found = so_far ∙ line_at lists lines i line front turn ∙ ap (found_by lists lines i front) found
 
 -- and where there is none, all are found
 pub all_found : (lists : EstateLists) (lines : List StatementLine) (i : ℕ) (front : List AskedLine) (all : Result (List AskedLine) (List ℕ)) → length lines ≤ i → all ≡ after front (ends_found lists (drop i lines)) → all ≡ Ok front
@@ -112,5 +112,61 @@ all_found lists lines i front all behind so_far =
     so_far ∙ ap (λ (rest : List StatementLine). after front (ends_found lists rest)) (drop_all i lines behind) ∙ ap Ok (append-nil front)
 
 -- before the first
-pub none_found : (lists : EstateLists) (lines : List StatementLine) (front : List AskedLine) → front ≡ [] → ends_found lists lines ≡ after front (ends_found lists lines)
-none_found lists lines front none = after-none (ends_found lists lines) ∙ ap (λ (so : List AskedLine). after so (ends_found lists lines)) (sym none)
+pub none_found : (lists : EstateLists) (lines : List StatementLine) → ends_found lists lines ≡ after [] (ends_found lists lines)
+none_found lists lines = after-none (ends_found lists lines)
+
+-- ---- names that are told
+
+told : {X : Type 0} (found : Result X (List ℕ)) → IsOk found → (x : X) × (found ≡ Ok x)
+told (Ok x) is = (x, refl)
+told (Err name) is = absurd (false≢true is)
+
+told-by : {X : Type 0} (found : Result X (List ℕ)) (x : X) → found ≡ Ok x → IsOk found
+told-by found x is = ap is_ok is
+
+-- what a line asks, by what is found of its ends
+abbrev asked_by : StatementLine → Result Ends (List ℕ) → Result Ends (List ℕ) → Result AskedLine (List ℕ)
+asked_by line source destination = source >>= (λ from. destination >>= (λ to. Ok (record { line = line.line; question = record { wanted = line.statement.wanted; source = from; destination = to; conns = line.statement.conns } })))
+
+-- of a line by those of its ends, its source first
+pub told-line : (lists : EstateLists) (line : StatementLine) (source destination : Option (Bor (List ℕ))) → TellsUnknown source (ends_of lists line.statement.source) → TellsUnknown destination (ends_of lists line.statement.destination) → TellsUnknown (option_or source destination) (asked_of lists line)
+unfolding asked_of
+told-line lists line (Some name) destination from to = ap (λ (found : Result Ends (List ℕ)). asked_by line found (ends_of lists line.statement.destination)) from
+told-line lists line None (Some name) from to =
+    let source = told (ends_of lists line.statement.source) from in
+    ap (λ (found : Result Ends (List ℕ)). asked_by line found (ends_of lists line.statement.destination)) source.1
+    ∙ ap (asked_by line (Ok source.0)) to
+told-line lists line None None from to =
+    let source = told (ends_of lists line.statement.source) from in
+    let destination = told (ends_of lists line.statement.destination) to in
+    told-by (asked_of lists line) _
+    (ap (λ (found : Result Ends (List ℕ)). asked_by line found (ends_of lists line.statement.destination)) source.1
+    ∙ ap (asked_by line (Ok source.0)) destination.1)
+
+-- the lines so far ask something
+abbrev pub AreFoundTo : EstateLists → List StatementLine → ℕ → Type 0
+AreFoundTo lists lines i = (front : List AskedLine) × (ends_found lists lines ≡ after front (ends_found lists (drop i lines)))
+
+pub told_more : (lists : EstateLists) (lines : List StatementLine) (i : ℕ) (line : StatementLine) → (i < length lines) × (line ≡ get_or lines i line) → AreFoundTo lists lines i → IsOk (asked_of lists line) → AreFoundTo lists lines (i + 1)
+told_more lists lines i line turn so_far is =
+    let first = told (asked_of lists line) is in
+    (so_far.0 ++ first.0 ∷ [], one_found lists lines i (i + 1) line so_far.0 (so_far.0 ++ first.0 ∷ []) first.0 _ turn so_far.1 first.1 refl refl)
+
+pub told_all : (lists : EstateLists) (lines : List StatementLine) (i : ℕ) → length lines ≤ i → AreFoundTo lists lines i → IsOk (ends_found lists lines)
+told_all lists lines i behind so_far = told-by _ so_far.0 (all_found lists lines i so_far.0 _ behind so_far.1)
+
+-- what is found of lines is found of those behind some
+pub found-behind : (lists : EstateLists) (lines : List StatementLine) (i : ℕ) → IsOk (ends_found lists lines) → (asked : List AskedLine) × (ends_found lists (drop i lines) ≡ Ok asked)
+found-behind lists lines zero is = told (ends_found lists lines) is
+found-behind lists [] (suc i) is = ([], refl)
+found-behind lists (line ∷ lines) (suc i) is =
+    let all = told (ends_found lists (line ∷ lines)) is in
+    let by = found-by lists line lines all.0 all.1 in
+    found-behind lists lines i (told-by (ends_found lists lines) by.others by.others_are)
+
+-- lines ask as much as they are
+pub length-found : (lists : EstateLists) (lines : List StatementLine) (asked : List AskedLine) → ends_found lists lines ≡ Ok asked → length asked ≡ length lines
+length-found lists [] asked is = ap length (sym (same_ok [] asked is))
+length-found lists (line ∷ lines) asked is =
+    let by = found-by lists line lines asked is in
+    ap length (sym by.are) ∙ ap suc (length-found lists lines by.others by.others_are)

@@ -1,4 +1,6 @@
 pub mod AddressSetLemmas
+pub mod AmongLemmas
+pub mod AscendLemmas
 pub mod BrokenLemmas
 pub mod ConnsLemmas
 pub mod CutLemmas

@@ -1,13 +1,16 @@
 -- The first line whose statement does not hold.
-use Rattle.std.specs.Prelude.{ℕ, List, Bool, Option, option_map}
+use Rattle.std.specs.Prelude.{ℕ, List, Bool, Option, option_map, Result, Ok}
 use Rattle.np_check.specs.Counters.{allows_between, counter_of}
 use Rattle.np_check.specs.Firsts.{first_of}
 use Rattle.np_check.specs.declared.counter.Counter.{Counter}
 use Rattle.np_check.specs.declared.counter.PlaceEnd.{PlaceEnd}
 use Rattle.np_check.specs.declared.counter.PlaceEnd.TheVariants.{At, Work}
 use Rattle.np_estate.specs.declared.lists.EstateLists.{EstateLists}
+use Rattle.np_statements.specs.FoundEnds.{ends_found}
+use Rattle.np_statements.specs.Steps.{◌>>=◌}
 use Rattle.np_statements.specs.declared.asked_line.AskedLine.{AskedLine}
 use Rattle.np_statements.specs.declared.broken.Broken.{Broken}
+use Rattle.np_statements.specs.declared.statement_line.StatementLine.{StatementLine}
 use Rattle.np_table.specs.Table.{IsWorkload}
 
 -- whether a packet is allowed
@@ -25,6 +28,12 @@ broken_of lists asked = option_map (broken_by lists asked.line) (counter_of list
 -- how the first broken line is
 unfoldable pub first_broken : EstateLists → List AskedLine → Option Broken
 first_broken lists asked = first_of (broken_of lists) asked
+
+-- what is found of statements: how the first broken line is, or the first name that no workload has
+unfoldable pub broken_among : EstateLists → List StatementLine → Result (Option Broken) (List ℕ)
+broken_among lists statements = do
+  asked ← ends_found lists statements
+  Ok (first_broken lists asked)
 
 -- an end of a packet is a workload, or an address
 abbrev pub IsPlace : EstateLists → PlaceEnd → Type 0

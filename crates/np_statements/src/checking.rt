@@ -1,13 +1,17 @@
 //! The first line that does not hold.
 ghost use Rattle.std.specs.Prelude.{◌≡◌, ◌≤◌, All, IfOk, IfSome, false};
 ghost use Rattle.np_check.specs.Counters.{complies, counter_of};
-ghost use Rattle.np_check.specs.Numbers.{is_among};
-ghost use Rattle.np_statements.specs.AskedLines.{IsAsked, IsQuestion};
+ghost use Rattle.np_statements.specs.Answers.{GivesEnds};
+ghost use Rattle.np_statements.specs.AskedLines.{IsAsked, IsQuestion, IsWellLine};
 ghost use Rattle.np_statements.specs.BrokenLines as spec;
 ghost use Rattle.np_statements.specs.BrokenLines.{HasPlaces};
 
+use crate::ascending::Ascending;
 use crate::asked_line::AskedLine;
 use crate::broken::Broken;
+use crate::end_fault::EndFault;
+use crate::find::{asked_of, unknown_name};
+use crate::statement_line::StatementLine;
 use np_base::{NoMemory, Seq};
 use np_check::{Counter, IsDestination, IsSource, Question, Statement, Wanted, check};
 use np_fold::Folded;
@@ -16,20 +20,25 @@ use std::alloc::Global;
 use std::sync::ledger::Ledger;
 
 /// The first line whose statement does not hold, with the first packet that does not comply, in the order of `check`. `None`
-/// exactly where all hold.
+/// exactly where all hold. `UnknownEnd` comes exactly where a statement names a workload that is not there, with the first such
+/// name by lines, in a line that of the source first; no line is checked then. The ends of a line are kept while it is checked.
 pub fn first_broken<L: Ledger>(
     alloc: Global,
     folded: &Folded,
-    asked: Seq<AskedLine>,
+    statements: Seq<StatementLine>,
     steps: &mut Steps<L>,
-) -> Result<Option<Broken>, NoMemory>
-    requires { All (IsAsked folded.now) asked }
-    ensures first { IfOk result (λ made. made ≡ spec.first_broken folded.now asked) }
+) -> Result<Option<Broken>, EndFault>
+    requires { All IsWellLine statements }
+    ensures first { GivesEnds result (spec.broken_among folded.now statements) }
     ensures places { IfOk result (λ made. IfSome made (HasPlaces folded.now)) }
     ensures least { steps.old ≤ steps.new }
 {
-    for line in asked.into_vec() {
-        let found = broken_of(alloc, folded, line, steps)?;
+    if let Some(name) = unknown_name(folded, statements.items()) {
+        return Err(EndFault::UnknownEnd { name: name.copy()? });
+    }
+    for line in statements.into_vec() {
+        let asked = asked_of(alloc, folded, line)?;
+        let found = broken_of(alloc, folded, asked, steps)?;
         if found.is_some() {
             return Ok(found);
         }
@@ -85,17 +94,10 @@ fn counter_of<L: Ledger>(
         destination,
         conns,
     } = question;
-    let sources = Vec::from_slice(alloc, source.works.items())?;
-    let destinations = Vec::from_slice(alloc, destination.works.items())?;
-    let from: IsSource = Box::new(alloc, move |work: u32| is_among(&sources, work))?;
-    let to: IsDestination = Box::new(alloc, move |work: u32| is_among(&destinations, work))?;
+    let sources = Ascending::of(alloc, source.works.items())?;
+    let destinations = Ascending::of(alloc, destination.works.items())?;
+    let from: IsSource = Box::new(alloc, move |work: u32| sources.has(work))?;
+    let to: IsDestination = Box::new(alloc, move |work: u32| destinations.has(work))?;
     let statement = Statement::new(wanted, source, destination, conns, from, to);
     check(alloc, folded, &statement, steps)
-}
-
-// Whether a number is one of some.
-fn is_among(numbers: &[u32], number: u32) -> bool
-    ensures { result ≡ is_among numbers.now number }
-{
-    numbers.iter().any(|one| *one == number)
 }

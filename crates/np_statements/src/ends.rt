@@ -14,7 +14,9 @@ use np_check::{EndForm, Ends};
 use np_fold::Folded;
 use std::alloc::Global;
 
-/// The ends of a form. `UnknownEnd` comes exactly where it names a workload that is not there.
+/// The ends of a form: `any pod` names all workloads, `any address` all addresses, `namespace` the workloads of that namespace,
+/// none where no pod has it, `workload` the one of that name, and a block its addresses. `UnknownEnd` comes exactly where a form
+/// names a workload that is not there.
 #[tactic(auto, unfolding(crate::specs::Ends::ends_of))]
 pub(crate) fn ends_of(alloc: Global, folded: &Folded, form: &EndForm) -> Result<Ends, EndFault>
     requires { IsWellForm form.now }

@@ -1,40 +1,60 @@
 //! Finding the ends of statements.
-ghost use Rattle.std.specs.Prelude.{◌≡◌, All, IfOk};
-ghost use Rattle.np_statements.specs.Answers.{GivesEnds};
-ghost use Rattle.np_statements.specs.AskedLines.{IsAsked, IsWellLine};
+ghost use Rattle.std.specs.Prelude.{◌≡◌};
+ghost use Rattle.np_statements.specs.Answers.{GivesEnds, TellsUnknown};
+ghost use Rattle.np_statements.specs.AskedLines.{IsWellLine};
+ghost use Rattle.np_statements.specs.Ends.{ends_of};
 ghost use Rattle.np_statements.specs.FoundEnds as spec;
 
 use crate::asked_line::AskedLine;
 use crate::end_fault::EndFault;
 use crate::ends::ends_of;
 use crate::statement_line::StatementLine;
-use np_base::Seq;
-use np_check::{Question, StatementText};
+use np_base::Text;
+use np_check::{EndForm, Question, StatementText};
 use np_fold::Folded;
 use std::alloc::Global;
 
-/// Finds the ends of statements in a cluster. `any pod` names all workloads, `any address` all addresses, `namespace` the
-/// workloads of that namespace, none where no pod has it, `workload` the one of that name, and a block its addresses.
-/// `UnknownEnd` comes exactly where a `workload` is not there, with the first such name by lines, in a line that of the source first.
-pub fn find_ends(
-    alloc: Global,
-    folded: &Folded,
-    statements: Seq<StatementLine>,
-) -> Result<Seq<AskedLine>, EndFault>
-    requires { All IsWellLine statements }
-    ensures found { GivesEnds result (spec.ends_found folded.now statements) }
-    ensures asked { IfOk result (All (IsAsked folded.now)) }
+/// The first name in statements that no workload has: by lines, and in a line that of the source first.
+pub(crate) fn unknown_name<'a>(folded: &Folded, statements: &'a [StatementLine]) -> Option<&'a Text>
+    ensures { TellsUnknown result (spec.ends_found folded.now statements.now) }
 {
-    let mut asked = Seq::new(alloc);
-    for line in statements.into_vec() {
-        asked.push(asked_of(alloc, folded, line)?)?;
+    for line in statements {
+        if let Some(name) = unknown_in_line(folded, line) {
+            return Some(name);
+        }
     }
-    Ok(asked)
+    None
 }
 
-// What the statement of a line asks. The ends of its source are found first.
+// The first name in a line that no workload has.
+fn unknown_in_line<'a>(folded: &Folded, line: &'a StatementLine) -> Option<&'a Text>
+    ensures { TellsUnknown result (spec.asked_of folded.now line.now) }
+{
+    let source = unknown_end(folded, &line.statement.source);
+    source.or(unknown_end(folded, &line.statement.destination))
+}
+
+// The name of a form, where it is that of a workload that is not there.
+#[tactic(auto, unfolding(crate::specs::Ends::ends_of))]
+fn unknown_end<'a>(folded: &Folded, form: &'a EndForm) -> Option<&'a Text>
+    ensures { TellsUnknown result (ends_of folded.now form.now) }
+{
+    match form {
+        EndForm::Work(name) => match folded.workloads().by_name(name.as_str()) {
+            Some(_) => None,
+            None => Some(name),
+        },
+        EndForm::Pods | EndForm::Addresses | EndForm::Namespace(_) | EndForm::Block(_) => None,
+    }
+}
+
+/// What the statement of a line asks. The ends of its source are found first.
 #[tactic(auto, unfolding(crate::specs::FoundEnds::asked_of))]
-fn asked_of(alloc: Global, folded: &Folded, line: StatementLine) -> Result<AskedLine, EndFault>
+pub(crate) fn asked_of(
+    alloc: Global,
+    folded: &Folded,
+    line: StatementLine,
+) -> Result<AskedLine, EndFault>
     requires { IsWellLine line }
     ensures { GivesEnds result (spec.asked_of folded.now line) }
 {

@@ -2,6 +2,7 @@
 //! does not hold.
 #![tactic(auto)]
 
+mod ascending;
 mod asked_line;
 mod broken;
 mod checking;
@@ -19,7 +20,6 @@ pub use broken::Broken;
 pub use checking::first_broken;
 pub use end_fault::EndFault;
 pub use file_fault::FileFault;
-pub use find::find_ends;
 pub use laws::{
     ends_are_those_of_their_forms, lines_are_read_by_the_grammar,
     lines_ask_what_their_statements_say, nothing_is_broken_where_a_file_holds,

@@ -1,13 +1,11 @@
 //! Statements about a cluster, and how they are broken.
-ghost use Rattle.std.specs.Prelude.{All};
-ghost use Rattle.np_statements.specs.AskedLines.{IsAsked};
 
 use crate::asked::{Question, expect_answers};
-use np_base::{NoMemory, Seq};
+use np_base::NoMemory;
 use np_check::{EndForm, StatementText, Wanted, read_statement};
 use np_conns::print_conns;
 use np_fold::Folded;
-use np_statements::{AskedLine, find_ends, first_broken, print_broken, read_statements};
+use np_statements::{first_broken, print_broken, read_statements};
 use np_steps::Steps;
 use std::alloc::Global;
 use std::sync::ledger::Ledger;
@@ -23,27 +21,13 @@ pub fn broken_text<L: Ledger>(
         Ok(lines) => lines,
         Err(fault) => return Ok(format!(in alloc; "{fault}")?),
     };
-    match find_ends(alloc, folded, lines) {
-        Ok(asked) => first_text(alloc, folded, asked, steps),
-        Err(fault) => Ok(format!(in alloc; "{fault}")?),
-    }
-}
-
-// How the first line that does not hold is broken, or that all hold.
-fn first_text<L: Ledger>(
-    alloc: Global,
-    folded: &Folded,
-    asked: Seq<AskedLine>,
-    steps: &mut Steps<L>,
-) -> Result<String, NoMemory>
-    requires { All (IsAsked folded.now) asked }
-{
-    match first_broken(alloc, folded, asked, steps)? {
-        Some(broken) => {
+    match first_broken(alloc, folded, lines, steps) {
+        Ok(Some(broken)) => {
             let printed = print_broken(alloc, folded, &broken)?;
             Ok(String::from_str(alloc, printed.as_str())?)
         }
-        None => Ok(String::from_str(alloc, "all hold")?),
+        Ok(None) => Ok(String::from_str(alloc, "all hold")?),
+        Err(fault) => Ok(format!(in alloc; "{fault}")?),
     }
 }
 

@@ -9,7 +9,7 @@ use crate::failure::Failure;
 use np_base::NoMemory;
 use np_fold::Folded;
 use np_io::{Sink, write_whole};
-use np_statements::{Broken, find_ends, first_broken, print_broken, read_statements};
+use np_statements::{Broken, first_broken, print_broken, read_statements};
 use np_steps::Steps;
 use std::alloc::Global;
 use std::sync::ledger::Ledger;
@@ -18,7 +18,7 @@ use std::sync::ledger::Ledger;
 /// not, with the first packet that breaks it. Answers whether all hold. `BadStatement` comes exactly where a line is no
 /// statement, with the first such line, and `UnknownEnd` exactly where all are and one names a workload that is not there, with
 /// the first such name. Both come before any statement is checked.
-#[tactic(auto, unfolding(crate::specs::commands::Check::check_reply, crate::specs::commands::Check::all_hold, crate::specs::commands::Check::asked_in))]
+#[tactic(auto, using(crate::proofs::FoundLemmas::reply_found, crate::proofs::FoundLemmas::reply_unknown, crate::proofs::FoundLemmas::hold_found), unfolding(crate::specs::commands::Check::check_reply, crate::specs::commands::Check::all_hold, crate::specs::commands::Check::asked_in))]
 pub(super) fn check_file<O: Sink, L: Ledger>(
     alloc: Global,
     bytes: &[u8],
@@ -33,9 +33,8 @@ pub(super) fn check_file<O: Sink, L: Ledger>(
     ensures least { steps.old ≤ steps.new }
 {
     let statements = read_statements(alloc, bytes)?;
-    let asked = find_ends(alloc, folded, statements)?;
-    let count = asked.items().len();
-    let broken = first_broken(alloc, folded, asked, steps)?;
+    let count = statements.items().len();
+    let broken = first_broken(alloc, folded, statements, steps)?;
     let line = finding(alloc, folded, count, &broken)?;
     write_whole(out, line.as_bytes())?;
     Ok(broken.is_none())
