@@ -21,6 +21,9 @@ admin         1,001 AdminNetworkPolicies with 60 rules each, of which all but th
 namespaces    18,000 Namespaces and 2,000 workloads, which nothing may pass between
 statements    a small cluster, and 200,000 statements (check alone)
 manyAsked     2,000 pods with a policy each, and 200 statements of all pods and of a namespace that no pod has (check alone)
+exposureNamespaces  15,000 rules of one port each, and each of one namespace by its name (exposure alone)
+exposureKeys  20,000 rules, each of one of 14 keys that may be there or not (exposure alone)
+exposurePeers 20,000 peers of one rule, each of one value of a label (exposure alone)
 
 No time is promised to users: the numbers tell what the limits cost, on one machine, in one run.
 """
@@ -126,6 +129,17 @@ def many_asked():
         for i in range(2000)]
 
 
+def exposure_namespaces():
+    return two_pods() + [policy("p", {"podSelector": {}, "ingress": [
+        {"from": [{"namespaceSelector": {"matchLabels": {NAME_KEY: "n%d" % i}}}], "ports": [{"port": i + 1}]} for i in range(15000)]})]
+
+
+def exposure_keys():
+    return two_pods() + [policy("p", {"podSelector": {}, "ingress": [
+        {"from": [{"podSelector": {"matchExpressions": [{"key": "k%d" % (i % 14), "operator": "Exists"}]}}], "ports": [{"port": i % 14 + 1}]}
+        for i in range(20000)]})]
+
+
 # The lines of the statement file of a shape: as many as it says, and one in all others.
 STATEMENTS = {
     "statements": ["allow any pod => any address : TCP %d-%d" % (i % 60000 + 1, i % 60000 + 5) for i in range(200000)],
@@ -134,7 +148,8 @@ STATEMENTS = {
 
 SHAPES = {"cycle": cycle, "chain": chain, "policies": policies, "peers": peers, "rules": rules, "nested": nested, "values": lambda: values(10000),
           "labels": labels, "ports": lambda: ports(10000), "servicePorts": service_ports, "backends": backends, "services": services,
-          "admin": admin, "namespaces": namespaces, "statements": two_pods, "manyAsked": many_asked}
+          "admin": admin, "namespaces": namespaces, "statements": two_pods, "manyAsked": many_asked,
+          "exposureNamespaces": exposure_namespaces, "exposureKeys": exposure_keys, "exposurePeers": peers}
 
 
 def commands(name, items, statements):
@@ -142,6 +157,8 @@ def commands(name, items, statements):
     pods = ["%s/%s" % (i["metadata"].get("namespace", "default"), i["metadata"]["name"]) for i in items if i["kind"] == "Pod"]
     if name in STATEMENTS:
         return [["check", "--statement", statements]]
+    if name.startswith("exposure"):
+        return [["exposure"]]
     if not pods:
         return [["list"]]
     return [["list"], ["explain", "--from", "10.0.0.1", "--to", pods[0] + "[Pod]"], ["exposure"],
@@ -178,7 +195,7 @@ def main():
                 f.writelines(line + "\n" for line in STATEMENTS.get(name, ["allow any pod => any address : TCP 80"]))
             for command in commands(name, items, statements):
                 told = measure([given.program, *command, path], given.seconds)
-                print("%-12s %5.1f MB  %-9s %s" % (name, os.path.getsize(path) / 1e6, command[0], told), flush=True)
+                print("%-18s %5.1f MB  %-9s %s" % (name, os.path.getsize(path) / 1e6, command[0], told), flush=True)
 
 
 if __name__ == "__main__":

@@ -15,6 +15,7 @@ questions, answered by np from the objects (kubectl np help COMMAND for each):
   sample N            a made-up cluster of N pods, to see np work
 and of the plugin:
   gate STATEMENTS     every statement of a file on its own, for pipelines
+  page                one HTML file to look at, for a browser
   names [pods]        the names that --focus, --from, --to and the like take
   snapshot            the list of objects that np is given
   filter              the jq program that keeps of a list what np reads
@@ -52,7 +53,7 @@ print_help() {
         '' | help) print_usage ;;
         list | explain | exposure | evaluate) help_of_rows "$1" ;;
         unused | check | flatten | sample) help_of_policies "$1" ;;
-        snapshot | names | gate | filter | version) help_of_plugin "$1" ;;
+        snapshot | names | gate | page | filter | version) help_of_plugin "$1" ;;
         *) stop 2 "there is no command '$1' (kubectl np help lists them)" ;;
     esac
 }
@@ -155,6 +156,16 @@ pod of another namespace and every address, and as the source ingress-controller
   --github            writes annotations for GitHub too
 
 example: kubectl np gate -f manifests/ statements.txt
+END
+        page) cat <<'END' ;;
+kubectl np page: one HTML file to look at, which any browser opens from disk: who reaches whom as a matrix, a list and a picture of one
+workload, what decides, what a new pod could reach, and which rules decide nothing.
+
+  --before LIST       a list of an earlier snapshot: what opened, what closed and what changed since (may be repeated)
+  --only NAMESPACE    only the rows with an end in that namespace, where the page would be too large
+  --title TEXT        the title of the page
+
+example: kubectl np page >cluster.html
 END
         filter) cat <<'END' ;;
 kubectl np filter: the jq program that keeps of a list what np reads, for those who call kubectl themselves.

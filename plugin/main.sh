@@ -20,6 +20,7 @@ check_words() {
         names) [ "${#words[@]}" = 0 ] || [ "${words[*]}" = pods ] || stop 2 "names takes no word but pods: '${words[*]}'" ;;
         help) [ "${#words[@]}" -le 1 ] || stop 2 "help takes one command" ;;
         gate) gate_options ${words[@]+"${words[@]}"} ;;
+        page) page_options ${words[@]+"${words[@]}"} ;;
         *) check_words_of_np ;;
     esac
 }
@@ -49,6 +50,7 @@ answer() {
     case $command in
         snapshot) cat "$list" || stop 3 "the list cannot be written" ;;
         names) print_names ;;
+        page) run_page ;;
         gate)
             umask "$umask_before" # what the gate writes for others is theirs to read
             run_gate

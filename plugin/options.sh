@@ -19,7 +19,7 @@ wants_all_namespaces=
 
 # Which of the commands the word $1 is: one of np's that asks about objects, one of the plugin's, or none.
 is_question() { case $1 in list | explain | exposure | evaluate | unused | check | flatten) ;; *) return 1 ;; esac }
-is_command() { is_question "$1" || case $1 in sample | snapshot | names | gate | filter | version | help) ;; *) return 1 ;; esac }
+is_command() { is_question "$1" || case $1 in sample | snapshot | names | gate | page | filter | version | help) ;; *) return 1 ;; esac }
 
 # Whether the word $1 begins as an option does. A hyphen alone stands for standard input.
 is_option() { [[ $1 == -?* ]]; }

@@ -8,7 +8,7 @@ use Rattle.std.proofs.lemmas.List.{length-append}
 use Rattle.np_exposure.proofs.FirstLemmas.{first-parts}
 use Rattle.np_exposure.proofs.ListLemmas.{All-each, All-from, IsAmong-filter, list_all-from}
 use Rattle.np_exposure.proofs.SameLemmas.{is_same-equal}
-use Rattle.np_exposure.proofs.StandsLemmas.{Alike, HasLike, Stands, is_at, walked-rows}
+use Rattle.np_exposure.proofs.StandsLemmas.{Alike, HasLike, Stands, walked-rows}
 use Rattle.np_exposure.specs.Mentions.{each_once, is_same, mentions, same_side, with_more}
 use Rattle.np_exposure.specs.Strangers.{is_hypothetical, labels_at, meets_all}
 use Rattle.np_exposure.specs.Tree.{AreRowsOf}
@@ -18,6 +18,7 @@ use Rattle.np_exposure.specs.declared.side.Side.{Side}
 use Rattle.np_exposure.specs.declared.side.Side.TheVariants.{Namespace, Pod}
 use Rattle.np_exposure.specs.declared.sided_requirement.SidedRequirement.{SidedRequirement}
 use Rattle.np_exposure.specs.Choices.{Choices, choices_at_first, choices_of, fits, is_name_key, label_at, labels_on, other_than}
+use Rattle.np_exposure.specs.steps.States.{are_at, is_at}
 use Rattle.np_exposure.specs.steps.Walks.{AreWalked}
 use Rattle.np_labels.proofs.Distinct.{is_listed-distinct}
 use Rattle.np_labels.specs.Labels.{value_of}
@@ -253,6 +254,10 @@ is_at-first all asked among =
         or-back : (b : Bool) → is_at (map choices_of (labels_on Pod all)) asked ≡ true → (b || is_at (map choices_of (labels_on Pod all)) asked) ≡ true
         or-back true later = refl
         or-back false later = later
+
+-- each requirement that is walked over looks at a key of the first choices
+pub are_at-first : (all : List SidedRequirement) → are_at (choices_at_first all) (each_once all) ≡ true
+are_at-first all = list_all-from (is_at (choices_at_first all)) (each_once all) (λ asked among. is_at-first all asked (or-second (once-within [] all asked among)))
 
 -- ---- all of it
 

@@ -9,7 +9,7 @@ use Rattle.np_exposure.proofs.BeginLemmas.{Stands-first}
 use Rattle.np_exposure.proofs.FirstLemmas.{first-parts}
 use Rattle.np_exposure.proofs.ListLemmas.{list_all-at}
 use Rattle.np_exposure.proofs.RightLemmas.{some_stranger}
-use Rattle.np_exposure.proofs.StandsLemmas.{HasLike, Stands, Stands-more, is_at}
+use Rattle.np_exposure.proofs.StandsLemmas.{HasLike, Stands, Stands-more}
 use Rattle.np_exposure.specs.Mentions.{mentions, requirements}
 use Rattle.np_exposure.specs.Strangers.{negated}
 use Rattle.np_exposure.specs.Tree.{AreRows, AreRowsAt, AreRowsOf, IsJoined, IsPossible, always, apart, either, equal, never, with_first}
@@ -19,7 +19,7 @@ use Rattle.np_exposure.specs.declared.side.Side.{Side}
 use Rattle.np_exposure.specs.declared.side.Side.TheVariants.{Namespace, Pod}
 use Rattle.np_exposure.specs.declared.sided_requirement.SidedRequirement.{SidedRequirement}
 use Rattle.np_exposure.specs.Choices.{Choices, choices_at_first, choices_of, is_name_key, label_at, labels_on, other_than}
-use Rattle.np_exposure.specs.steps.States.{narrowed, suits}
+use Rattle.np_exposure.specs.steps.States.{is_at, narrowed, suits}
 use Rattle.np_rules.specs.Laws.{IsAmong}
 use Rattle.np_rules.specs.PodSides.{PodSide}
 use Rattle.np_rules.specs.declared.stranger.Stranger.{Stranger}

@@ -16,7 +16,7 @@ use Rattle.np_exposure.specs.declared.exposure_row.ExposureRow.{ExposureRow}
 use Rattle.np_exposure.specs.declared.side.Side.{Side}
 use Rattle.np_exposure.specs.declared.sided_requirement.SidedRequirement.{SidedRequirement}
 use Rattle.np_exposure.specs.Choices.{Choices, allows_found, fits}
-use Rattle.np_exposure.specs.steps.States.{IsChosen, IsWitness, as_wanted, can_be, narrowed, suits}
+use Rattle.np_exposure.specs.steps.States.{IsChosen, IsWitness, as_wanted, can_be, is_at, narrowed, suits}
 use Rattle.np_exposure.specs.steps.Walks.{AreJoinedAt, AreWalked}
 use Rattle.np_labels.specs.Labels.{value_of}
 use Rattle.np_labels.specs.Selectors.{allows, opposite_of}
@@ -78,9 +78,6 @@ Alike all choices one other = AllByRecursion (λ asked. looks_at choices.side ch
 -- one of the choices is like what the stranger has
 abbrev pub HasLike : List SidedRequirement → Stranger → Choices → Type 0
 HasLike all s choices = (found : Option (List ℕ)) × IsAmong found choices.found × Alike all choices found (value_of (labels_at choices.side s) choices.key)
-
-abbrev pub is_at : List Choices → SidedRequirement → Bool
-is_at state asked = list_any (λ choices. looks_at choices.side choices.key asked) state
 
 -- it is assumed that the requirement is met, or that it is not
 abbrev pub IsDecided : List SidedRequirement → SidedRequirement → Type 0
@@ -154,7 +151,7 @@ module _ (wanted : Bool) (asked : SidedRequirement) where
   is_at-narrowed [] other = refl
   is_at-narrowed (choices ∷ state) other = ap (λ b. looks_at choices.side choices.key other || b) (is_at-narrowed state other)
 
-  all_at-narrowed : (state : List Choices) (others : List SidedRequirement) → list_all (is_at state) others ≡ true → list_all (is_at (narrowed wanted asked state)) others ≡ true
+  pub all_at-narrowed : (state : List Choices) (others : List SidedRequirement) → list_all (is_at state) others ≡ true → list_all (is_at (narrowed wanted asked state)) others ≡ true
   all_at-narrowed state [] at = refl
   all_at-narrowed state (other ∷ others) at =
       let parts = and_parts (is_at state other) (list_all (is_at state) others) at in

@@ -38,7 +38,7 @@ module _ (asked : SidedRequirement) (can : Bool → Bool) (Rows : Bool → List 
 
 module _ (side : PodSide) (asked : SidedRequirement) (rest : List SidedRequirement) (state next : List Choices) where
   -- where it cannot be otherwise, the rows are those of the one case
-  walked-alone : (rows : List ExposureRow) → IsStepTo asked state next None → AreWalked side rest next rows → AreWalked side (asked ∷ rest) state rows
+  pub walked-alone : (rows : List ExposureRow) → IsStepTo asked state next None → AreWalked side rest next rows → AreWalked side (asked ∷ rest) state rows
   unfolding AreWalked
   walked-alone rows step walked =
       one-case asked (λ wanted. can_be wanted asked state) (λ wanted. AreWalked side rest (narrowed wanted asked state)) rows step.0 step.1 step.2

@@ -71,6 +71,13 @@ impl<'a> KeyChoices<'a> {
         }
     }
 
+    // Whether one choice is left.
+    fn is_made(&self) -> bool
+        ensures { result ≡ states.is_made self.now }
+    {
+        self.found.len() == 1
+    }
+
     /// Whether some choice is as wanted: a requirement on it is met, or it is missed.
     fn can_be(&self, asked: &SidedRequirement, wanted: bool) -> bool
         ensures { result ≡ list_any (states.suits wanted asked.now self.now) self.now.found }
@@ -127,6 +134,13 @@ pub(crate) fn all_choices<'a>(
         state.push(KeyChoices::of(alloc, label)?)?;
     }
     Ok(state)
+}
+
+/// Whether one choice is left at each key, so that no requirement can be both met and missed.
+pub(crate) fn is_decided(state: &[KeyChoices<'_>]) -> bool
+    ensures { result ≡ states.is_decided state.now }
+{
+    state.iter().all(|choices| choices.is_made())
 }
 
 /// Whether some choice at each key is as wanted: a requirement is met, or it is missed.

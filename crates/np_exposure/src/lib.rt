@@ -21,6 +21,7 @@ mod same;
 mod side;
 mod sided_requirement;
 mod step;
+mod told;
 mod walk;
 mod weights;
 mod witness;

@@ -82,8 +82,18 @@ fn allows(requirement: &Requirement, found: Option<&str>) -> bool
     }
 }
 
-// Whether a value is one of the listed ones. It is looked up by halves.
+// Whether a value is one of the listed ones. Most requirements list one alone, as each label of `matchLabels` does.
 fn lists(requirement: &Requirement, value: &str) -> bool
+    ensures { result ≡ is_listed requirement.now.values value.now }
+{
+    match requirement.values.items() {
+        [only] => only.as_str() == value,
+        _ => finds(requirement, value),
+    }
+}
+
+// Whether a value is one of the listed ones. It is looked up by halves.
+fn finds(requirement: &Requirement, value: &str) -> bool
     ensures { result ≡ is_listed requirement.now.values value.now }
 {
     requirement

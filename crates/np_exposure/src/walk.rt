@@ -1,16 +1,20 @@
 //! The walk over the requirements.
-ghost use Rattle.std.specs.Prelude.{◌≤◌, IfOk};
-ghost use Rattle.np_exposure.specs.steps.States.{IsState};
+ghost use Rattle.std.specs.Prelude.{◌≡◌, ◌≤◌, IfOk, IsTrue};
+ghost use Rattle.np_exposure.specs.Strangers.{IsExposure};
+ghost use Rattle.np_exposure.specs.steps.States.{IsState, are_at};
+ghost use Rattle.np_exposure.specs.steps.Walks as walks;
 ghost use Rattle.np_exposure.specs.steps.Walks.{AreWalked, IsLeaf};
 
-use crate::choices::KeyChoices;
+use crate::choices::{KeyChoices, is_decided};
 use crate::open_row::OpenRow;
 use crate::pending::{Pending, all_joined};
 use crate::sided_requirement::SidedRequirement;
 use crate::step::{Step, next_step};
+use crate::told::told_layer;
 use crate::witness::stranger_of;
 use np_base::NoMemory;
-use np_rules::PodRules;
+use np_conns::ConnSet;
+use np_rules::{PodRules, Stranger};
 use np_steps::Steps;
 use np_tiers::verdict_set;
 use std::alloc::Global;
@@ -18,7 +22,8 @@ use std::sync::ledger::Ledger;
 
 /// The rows of the requirements that are left, with the choices that are left. Where a requirement can be both met and
 /// missed, the case with fewer choices is a call of its own, and the other goes on here. So calls stand at most 16 deep in
-/// one another, since each has at most half of the patterns, of which there are 65,536 at most.
+/// one another, since each has at most half of the patterns, of which there are 65,536 at most. Where one choice is left at
+/// each key, no more requirements are asked.
 pub(crate) fn rows_of<'a, L: Ledger>(
     alloc: Global,
     rules: &PodRules<'_>,
@@ -26,15 +31,17 @@ pub(crate) fn rows_of<'a, L: Ledger>(
     state: Vec<KeyChoices<'_>>,
     steps: &mut Steps<L>,
 ) -> Result<Vec<OpenRow<'a>>, NoMemory>
-    requires { IsState state.items }
+    requires state { IsState state.items }
+    requires keys { IsTrue (are_at state.items asked.now) }
     ensures rows { IfOk result (λ rows. AreWalked rules.now asked.now state.entry.items rows.items) }
     ensures least { steps.old ≤ steps.new }
 {
-    let mut left = asked;
+    let mut left = still_asked(asked, &state);
     let mut state = state;
     let mut pending = Vec::new(alloc);
     while let Some((first, rest)) = left.split_first() {
         let Step { next, aside } = next_step(alloc, first, state)?;
+        left = still_asked(rest, &next);
         if let Some(aside) = aside {
             let rows = rows_of(alloc, rules, rest, aside.state, steps)?;
             pending.push(Pending {
@@ -44,10 +51,16 @@ pub(crate) fn rows_of<'a, L: Ledger>(
             })?;
         }
         state = next;
-        left = rest;
     }
     let last = leaf(alloc, rules, &state, steps)?;
     all_joined(pending, last)
+}
+
+// The requirements that are still to be asked: none where one choice is left at each key.
+fn still_asked<'a>(left: &'a [SidedRequirement], state: &[KeyChoices<'_>]) -> &'a [SidedRequirement]
+    ensures { result.now ≡ walks.still_asked left.now state.now }
+{
+    if is_decided(state) { &[] } else { left }
 }
 
 // One row of the exposure of a hypothetical pod with labels among the choices.
@@ -62,9 +75,24 @@ fn leaf<'a, L: Ledger>(
     ensures least { steps.old ≤ steps.new }
 {
     let stranger = stranger_of(alloc, state)?;
-    let layer = rules.stranger_layer(alloc, &stranger, steps)?;
-    let conns = verdict_set(alloc, &layer)?;
+    let conns = exposed(alloc, rules, &stranger, steps)?;
     let mut rows = Vec::new(alloc);
     rows.push(OpenRow::of(alloc, conns))?;
     Ok(rows)
+}
+
+// What the rules allow a stranger. Most rules match none of its protocols and ports, and are left out of the join.
+fn exposed<L: Ledger>(
+    alloc: Global,
+    rules: &PodRules<'_>,
+    stranger: &Stranger,
+    steps: &mut Steps<L>,
+) -> Result<ConnSet, NoMemory>
+    ensures exposure { IfOk result (IsExposure rules.now stranger.now) }
+    ensures least { steps.old ≤ steps.new }
+{
+    let layer = rules.stranger_layer(alloc, stranger, steps)?;
+    let told = told_layer(alloc, layer)?;
+    let conns = verdict_set(alloc, &told)?;
+    Ok(conns)
 }

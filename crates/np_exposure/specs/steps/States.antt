@@ -1,5 +1,5 @@
 -- The choices as the walk over the requirements keeps them: what one requirement more leaves of them.
-use Rattle.std.specs.Prelude.{ℕ, List, [], ◌∷◌, map, filter, Bool, true, false, not, ◌&&◌, ◌||◌, Option, is_some, IsTrue}
+use Rattle.std.specs.Prelude.{ℕ, List, [], ◌∷◌, length, ◌==◌, map, filter, Bool, true, false, not, ◌&&◌, ◌||◌, Option, is_some, IsTrue}
 use Rattle.std.specs.List.{AllByRecursion, list_all, list_any}
 use Rattle.std.specs.Str.{bytes_eq}
 use Rattle.np_exposure.specs.Choices.{Choices, allows_found, is_name_key, is_open}
@@ -29,6 +29,21 @@ narrowed_at wanted asked choices = record choices { found = filter (suits wanted
 
 abbrev pub narrowed : Bool → SidedRequirement → List Choices → List Choices
 narrowed wanted asked state = map (narrowed_at wanted asked) state
+
+-- whether the requirement looks at one of the keys
+abbrev pub is_at : List Choices → SidedRequirement → Bool
+is_at state asked = list_any (λ choices. looks_at choices.side choices.key asked) state
+
+-- whether the requirements all look at one of the keys
+abbrev pub are_at : List Choices → List SidedRequirement → Bool
+are_at state all = list_all (is_at state) all
+
+abbrev pub is_made : Choices → Bool
+is_made choices = length choices.found == 1
+
+-- whether one choice is left at each key
+abbrev pub is_decided : List Choices → Bool
+is_decided state = list_all is_made state
 
 -- whether the choices are at different keys or sides
 abbrev pub are_apart : Choices → Choices → Bool

@@ -8,7 +8,7 @@ use Rattle.np_exposure.specs.declared.pending.Pending.{Pending}
 use Rattle.np_exposure.specs.declared.sided_requirement.SidedRequirement.{SidedRequirement}
 use Rattle.np_exposure.specs.declared.step.Aside.{Aside}
 use Rattle.np_exposure.specs.Choices.{Choices}
-use Rattle.np_exposure.specs.steps.States.{IsWitness, can_be, narrowed}
+use Rattle.np_exposure.specs.steps.States.{IsWitness, can_be, is_decided, narrowed}
 use Rattle.np_rules.specs.PodSides.{PodSide}
 use Rattle.np_rules.specs.declared.stranger.Stranger.{Stranger}
 
@@ -31,6 +31,10 @@ unfoldable pub AreWalked : PodSide → List SidedRequirement → List Choices �
 AreWalked side [] state rows = IsLeaf side state rows
 AreWalked side (asked ∷ left) state rows =
     AreJoinedAt asked (can_be true asked state) (can_be false asked state) (AreWalked side left (narrowed true asked state)) (AreWalked side left (narrowed false asked state)) rows
+
+-- the requirements that are still to be asked: none where one choice is left at each key
+abbrev pub still_asked : List SidedRequirement → List Choices → List SidedRequirement
+still_asked left state = if is_decided state then [] else left
 
 -- ---- one requirement of the walk
 

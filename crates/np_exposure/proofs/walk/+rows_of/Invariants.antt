@@ -1,6 +1,6 @@
-use Rattle.std.proofs.Common.{◌≤◌, length}
+use Rattle.std.proofs.Common.{◌≤◌, length, IsTrue}
 use Rattle.np_exposure.proofs.WalkLemmas.{IsFilled}
-use Rattle.np_exposure.specs.steps.States.{IsState}
+use Rattle.np_exposure.specs.steps.States.{IsState, are_at}
 use Rattle.np_exposure.specs.steps.Walks.{AreWalked}
 use Rattle.np_exposure.proofs.walk.+rows_of.Given as goal
 
@@ -8,6 +8,7 @@ use Rattle.np_exposure.proofs.walk.+rows_of.Given as goal
 abbrev pub invariant-loop-first : goal.invariant-loop-first
 invariant-loop-first g l = record {
   state : IsState l.state.items;
+  keys : IsTrue (are_at l.state.items l.left);
   shorter : length l.left ≤ length l.fn.asked;
   filled : IsFilled l.rules l.pending.items l.left l.state.items (AreWalked l.rules l.fn.asked l.fn.state.items);
   least : l.fn.steps ≤ l.steps;

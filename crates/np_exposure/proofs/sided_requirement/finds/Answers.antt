@@ -4,7 +4,7 @@ use Rattle.std.specs.Cmp.Lexicographic.{slice_cmp}
 use Rattle.std.specs.List.Sorted.{IsBinarySearchResult, IsSearchInRange}
 use Rattle.std.specs.Ordering.{nat_cmp}
 use Rattle.np_labels.proofs.Halves.{is_listed-by_halves}
-use Rattle.np_exposure.proofs.sided_requirement.lists.Goals as goal
+use Rattle.np_exposure.proofs.sided_requirement.finds.Goals as goal
 
 pub returns : goal.returns
 returns c =

@@ -1,0 +1,68 @@
+// The list of rows, a part at a time.
+
+const LIST_PART = 200;
+// What a spreadsheet takes.
+const MOST_CSV = 1000000;
+
+function levelSign(text) {
+    if (text === NOTHING) return element('span', { class: 'sign none', title: 'nothing passes' }, '·');
+    if (text === EVERYTHING) return element('span', { class: 'sign all', title: 'everything passes' }, '●');
+    return element('span', { class: 'sign some', title: 'some passes' }, '◐');
+}
+
+function listSection(app) {
+    const { table, state } = app;
+    const joined = state.joined && table.groups.length < table.names.length;
+    const filter = makeFilter(state);
+    const taken = takeRows(table, filter, joined, app.listed);
+    const said = count(taken.lines, joined ? 'line' : 'row', joined ? 'lines' : 'rows')
+        + (joined && taken.total !== taken.lines ? ', which are ' + count(taken.total, 'row', 'rows') + ' of np' : '')
+        + (taken.rows.length < taken.lines ? '; the first ' + taken.rows.length.toLocaleString('en') + ' are shown' : '');
+    const copyLabel = taken.total > MOST_CSV ? 'Copy the first ' + count(MOST_CSV, 'row', 'rows') + ' as CSV' : 'Copy as CSV';
+    const head = ['', 'From', 'To', 'Connections'].map(text => element('th', { scope: 'col' }, text));
+    return element('section', { class: 'list', 'aria-label': 'List of rows' },
+        element('div', { class: 'bar' },
+            element('h2', {}, 'Rows'),
+            element('span', { class: 'count', role: 'status' }, said),
+            copyButton(copyLabel, () => listCsv(app))),
+        app.table.only && element('p', { class: 'hint' },
+            'This page has the rows with an end in the namespace ' + app.table.only + ' alone.'),
+        element('table', { class: 'rows-table' },
+            element('thead', {}, element('tr', {}, ...head)),
+            element('tbody', {}, ...taken.rows.map(row => listRow(app, row)))),
+        !taken.lines && element('p', { class: 'hint' }, 'No row is kept by the filter.'),
+        taken.rows.length < taken.lines && element('button', { type: 'button', class: 'more', click: () => {
+            app.listed += LIST_PART * 5;
+            app.draw();
+        } }, 'Show ' + Math.min(LIST_PART * 5, taken.lines - taken.rows.length).toLocaleString('en') + ' more'));
+}
+
+// The ends that a row opens: of a group its first workload, and its second where both ends are the group.
+function endsOfRow(table, row) {
+    if (row.kind === 'from' || row.kind === 'through') return [row.source, table.names[row.to[0]]];
+    if (row.kind === 'to') return [table.names[row.from[0]], row.destination];
+    const second = row.from === row.to && !row.own && row.from.length > 1 ? 1 : 0;
+    return [table.names[row.from[0]], table.names[row.to[second]]];
+}
+
+function listRow(app, row) {
+    const [from, to] = endsOfRow(app.table, row);
+    const open = () => app.change({ from, to });
+    return element('tr', { 'data-ends': endsKey(from, to), tabindex: 0, click: open, keydown: event => {
+        if (event.key === 'Enter' || event.key === ' ') { event.preventDefault(); open(); }
+        if (event.key === 'ArrowDown' || event.key === 'ArrowUp') {
+            const next = event.key === 'ArrowDown' ? event.currentTarget.nextElementSibling : event.currentTarget.previousElementSibling;
+            if (next) { event.preventDefault(); next.focus(); }
+        }
+    } },
+    element('td', {}, levelSign(row.connections)),
+    element('td', { class: 'end' }, ...breakable(row.source)),
+    element('td', { class: 'end' }, ...breakable(row.destination)),
+    element('td', { class: 'connections' }, row.connections));
+}
+
+// The rows that the filter keeps, each of np's by itself.
+function listCsv(app) {
+    const taken = takeRows(app.table, makeFilter(app.state), false, MOST_CSV);
+    return csvOf(['source', 'destination', 'connections'], taken.rows.map(row => [row.source, row.destination, row.connections]));
+}

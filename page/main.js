@@ -1,0 +1,257 @@
+// The page: what stands at its top, the views, and what its keys do.
+
+const page = JSON.parse(document.getElementById('data').textContent);
+
+const VIEWS = [
+    { name: 'matrix', label: 'Matrix', sections: [matrixSection], beside: [listSection] },
+    { name: 'list', label: 'List', sections: [listSection], beside: [] },
+    { name: 'graph', label: 'One workload', sections: [graphSection], beside: [listSection] },
+    { name: 'changes', label: 'Changes', sections: [changesSection], beside: [], needs: app => app.before },
+    { name: 'exposure', label: 'New pods', sections: [exposureSection], beside: [] },
+    { name: 'unused', label: 'Unused rules', sections: [unusedSection], beside: [] },
+];
+
+const app = {
+    table: readTable(page.table),
+    before: page.before && readTable(page.before),
+    explained: readExplained(page.explained),
+    refused: page.refused.length ? 'np does not show what new pods would reach here: ' + page.refused.join(' ') : '',
+    listed: LIST_PART,
+    state: readState(location.hash),
+    change,
+    draw,
+};
+app.changes = app.before ? changesBetween(app.before, app.table) : [];
+
+// ---- What new pods would reach, and the rules that decide nothing
+
+function exposureSection() {
+    const { table, state } = app;
+    const filter = makeFilter(state);
+    if (app.refused) {
+        return element('section', { class: 'exposure' },
+            element('h2', {}, 'New pods'),
+            element('p', { class: 'hint' }, app.refused));
+    }
+    const rows = [];
+    table.names.forEach((name, workload) => {
+        if (filter.namespace && table.namespaces[workload] !== filter.namespace || filter.focus && filter.focus !== name) return;
+        const put = (source, destination, connections) => {
+            const kept = keepsText(filter, connections, filter.bits(source) | filter.bits(destination));
+            if (kept) rows.push({ source, destination, connections });
+        };
+        for (const row of exposureRows(table, workload, 0)) put(row.end, name, row.text);
+        for (const row of exposureRows(table, workload, 1)) put(name, row.end, row.text);
+    });
+    const texts = row => [row.source, row.destination, row.connections];
+    return element('section', { class: 'exposure', 'aria-label': 'New pods' },
+        element('div', { class: 'bar' },
+            element('h2', {}, 'New pods'),
+            element('span', { class: 'count', role: 'status' }, count(rows.length, 'row', 'rows')),
+            copyButton('Copy as CSV', () => csvOf(['source', 'destination', 'connections'], rows.map(texts)))),
+        element('p', { class: 'hint' },
+            'What each workload allows a pod that nobody has written yet. Of a workload and a direction, the first row whose '
+            + 'requirements the pod meets is its verdict'
+            + (state.passing ? '; rows where nothing passes are hidden by the filter, and count all the same.' : '.')),
+        element('table', { class: 'rows-table' }, element('tbody', {}, ...rows.slice(0, app.listed).map(exposureRow))),
+        rows.length > app.listed && moreButton());
+}
+
+function exposureRow(row) {
+    return element('tr', {},
+        element('td', {}, levelSign(row.connections)),
+        element('td', { class: 'end' }, row.source),
+        element('td', { class: 'end' }, row.destination),
+        element('td', { class: 'connections' }, row.connections));
+}
+
+function moreButton() {
+    return element('button', { type: 'button', class: 'more', click: () => { app.listed += LIST_PART * 5; draw(); } }, 'Show more');
+}
+
+function unusedSection() {
+    const rules = page.unused.filter(rule => wordBits(makeFilter(app.state).words, rule) === makeFilter(app.state).full);
+    return element('section', { class: 'unused', 'aria-label': 'Unused rules' },
+        element('div', { class: 'bar' }, element('h2', {}, 'Rules that decide nothing'),
+            element('span', { class: 'count', role: 'status' }, count(rules.length, 'rule', 'rules')),
+            copyButton('Copy', () => rules.map(rule => rule + '\n').join(''))),
+        element('p', { class: 'hint' }, 'Without all of them at once no verdict changes between the listed pods, or between them and an '
+            + 'address. Places count from 0.'),
+        element('ul', { class: 'rows' }, ...rules.map(rule => element('li', {}, element('code', {}, rule)))));
+}
+
+// ---- The top
+
+function outsideCount() {
+    const { table } = app;
+    return table.names.filter((name, workload) => table.outside.of[workload] >= 0
+        && (addressLevel(table, workload, 0) !== NONE || table.groups[table.groupOf[workload]].through)).length;
+}
+
+function fact(text, patch) {
+    return patch ? element('a', { class: 'fact', href: writeState(Object.assign({}, START, patch)), click: event => {
+        event.preventDefault();
+        change(Object.assign({}, START, patch));
+    } }, text) : element('span', { class: 'fact' }, text);
+}
+
+function facts() {
+    const { table } = app;
+    const namespaces = new Set(table.namespaces).size;
+    const groups = table.groups.length;
+    return element('p', { class: 'facts' },
+        fact(count(table.names.length, 'workload', 'workloads') + ' in ' + count(namespaces, 'namespace', 'namespaces')
+            + (groups < table.names.length ? ', ' + count(groups, 'kind', 'kinds') + ' of equal rows' : '')),
+        fact('Reached from addresses or Ingresses: ' + count(outsideCount(), 'workload', 'workloads'), { view: 'list', sort: 'reach' }),
+        fact(count(page.unused.length, 'rule decides', 'rules decide') + ' nothing', { view: 'unused' }),
+        app.before && fact(changeCounts(app.changes), { view: 'changes' }));
+}
+
+function option(value, label) { return element('option', { value }, label); }
+
+function control(name, made) {
+    made.id = 'filter-' + name;
+    made.addEventListener(made.tagName === 'INPUT' && made.type !== 'checkbox' ? 'input' : 'change', () => {
+        app.listed = LIST_PART;
+        change({ [name]: made.type === 'checkbox' ? made.checked : made.value });
+    });
+    return made;
+}
+
+function toolbar() {
+    const namespaces = Array.from(new Set(app.table.namespaces)).sort();
+    const labelled = (label, made) => element('label', {}, label + ' ', made);
+    const search = element('input', { type: 'search', placeholder: 'name, port, address ( / )', autocomplete: 'off' });
+    const options = names => names.map(name => option(name, name));
+    const check = (name, label) => element('label', { class: 'check' }, control(name, element('input', { type: 'checkbox' })), label);
+    const reset = () => change(Object.assign({}, START, { view: app.state.view }));
+    return element('form', { class: 'toolbar', role: 'search', submit: event => event.preventDefault() },
+        labelled('Search', control('search', search)),
+        labelled('Namespace', control('namespace', element('select', {}, option('', 'all'), ...options(namespaces)))),
+        labelled('Rows', control('sort', element('select', {}, ...Object.keys(SORTS).map(name => option(name, SORTS[name].label))))),
+        labelled('Protocol', control('protocol', element('select', {}, option('', 'any'), ...options(['TCP', 'UDP', 'SCTP'])))),
+        labelled('Port', control('port', element('input', { type: 'number', min: 1, max: 65535 }))),
+        check('passing', ' only what passes'),
+        app.table.groups.length < app.table.names.length && check('joined', ' equal workloads as one line'),
+        element('span', { id: 'focused' }),
+        element('button', { type: 'button', id: 'reset', click: reset }, 'Reset'),
+        copyButton('Copy link', () => location.href));
+}
+
+function showControls() {
+    for (const name of ['search', 'namespace', 'sort', 'protocol', 'port', 'passing', 'joined']) {
+        const made = document.getElementById('filter-' + name);
+        if (!made) continue;
+        if (made.type === 'checkbox') made.checked = app.state[name];
+        else if (made.value !== app.state[name]) made.value = app.state[name];
+    }
+    const focused = document.getElementById('focused');
+    focused.replaceChildren(...app.state.focus ? [element('button', { type: 'button', class: 'chip', title: 'Show all workloads again',
+        click: () => change({ focus: '' }) }, app.state.focus + ' ×')] : []);
+}
+
+function viewButtons() {
+    const shown = VIEWS.filter(view => !view.needs || view.needs(app));
+    const button = (view, place) => element('button', {
+        type: 'button',
+        class: 'view',
+        'data-view': view.name,
+        title: 'Key ' + (place + 1),
+        click: () => change({ view: view.name }),
+    }, view.label);
+    return element('nav', { 'aria-label': 'Views' }, ...shown.map(button));
+}
+
+function keysHelp() {
+    const keys = [['1 2 3 …', 'the views'], ['/', 'search'], ['arrows, Enter', 'move in the matrix or the list, open'],
+        ['f', 'in a picture: the picture of that neighbour'], ['Esc', 'close what is open']];
+    return element('details', { class: 'keys' }, element('summary', {}, 'Keys'), element('dl', {}, ...[].concat(...keys.map(([key, use]) =>
+        [element('dt', {}, key), element('dd', {}, use)]))));
+}
+
+// ---- Drawing
+
+function change(patch) {
+    const opened = Object.keys(patch).every(name => name === 'from' || name === 'to');
+    app.state = Object.assign({}, app.state, patch);
+    try { history.replaceState(null, '', writeState(app.state)); } catch (error) { location.hash = writeState(app.state); }
+    if (opened) drawDetail();
+    else draw();
+}
+
+function draw() {
+    const view = VIEWS.find(one => one.name === app.state.view && (!one.needs || one.needs(app))) || VIEWS[0];
+    const key = document.activeElement && document.activeElement.dataset.key;
+    document.body.dataset.view = view.name;
+    for (const button of document.querySelectorAll('button.view')) {
+        button.setAttribute('aria-current', button.dataset.view === view.name ? 'page' : 'false');
+    }
+    showControls();
+    document.getElementById('view').replaceChildren(...view.sections.map(section => section(app)));
+    document.getElementById('beside').replaceChildren(...view.beside.map(section => section(app)));
+    drawDetail();
+    // Who opened a line by a key is at that line afterwards.
+    const again = key && Array.from(document.querySelectorAll('[data-key]')).find(made => made.dataset.key === key);
+    if (again) again.focus();
+}
+
+function drawDetail() {
+    const { from, to } = app.state;
+    const detail = document.getElementById('detail');
+    detail.replaceChildren();
+    for (const made of document.querySelectorAll('.opened')) made.classList.remove('opened');
+    detail.hidden = !(from && to);
+    document.body.classList.toggle('has-detail', !detail.hidden);
+    if (detail.hidden) return;
+    const close = element('button', {
+        type: 'button',
+        'aria-label': 'Close',
+        title: 'Esc',
+        click: () => change({ from: '', to: '' }),
+    }, '×');
+    detail.append(element('div', { class: 'bar' }, element('h2', {}, from + ' → ' + to), close), detailOf(app, from, to));
+    const cell = document.body.dataset.view === 'matrix' && openedCell(app, app.matrix);
+    if (cell) cell.classList.add('opened');
+    for (const made of document.querySelectorAll('[data-ends]')) {
+        if (made.dataset.ends === endsKey(from, to)) made.classList.add('opened');
+    }
+}
+
+function pressed(event) {
+    if (event.ctrlKey || event.metaKey || event.altKey) return;
+    if (event.key === 'Escape' && (app.state.from || app.state.to)) {
+        change({ from: '', to: '' });
+        return;
+    }
+    if (/^(INPUT|SELECT|TEXTAREA)$/.test(event.target.tagName)) return;
+    const views = document.querySelectorAll('button.view');
+    if (event.key === '/') {
+        event.preventDefault();
+        document.getElementById('filter-search').focus();
+    } else if (/^[1-9]$/.test(event.key) && views[Number(event.key) - 1]) {
+        views[Number(event.key) - 1].click();
+    }
+}
+
+function build() {
+    document.title = page.title[0] + ' – np';
+    document.getElementById('page').append(
+        element('header', {},
+            element('h1', {}, page.title[0]),
+            facts(), viewButtons(), toolbar(),
+            ...page.notes.map(note => element('p', { class: 'note' }, note))),
+        element('main', {},
+            element('div', { id: 'view' }),
+            element('aside', { id: 'side' },
+                element('section', { id: 'detail', 'aria-label': 'What is open', hidden: true }),
+                element('div', { id: 'beside' }))),
+        element('footer', {},
+            keysHelp(),
+            element('p', {}, 'Every row, answer and list of this page is np’s. '
+                + 'The page itself only lays out, filters and searches.')));
+    document.addEventListener('keydown', pressed);
+    window.addEventListener('hashchange', () => { app.state = readState(location.hash); draw(); });
+    draw();
+}
+
+build();
