@@ -78,14 +78,14 @@ enumerate-push {X} start (first ∷ xs) x =
     ap (λ (rest : List (ℕ × X)). (start, first) ∷ rest) (enumerate-push (start + 1) xs x)
     ∙ ap (λ (place : ℕ). (start, first) ∷ enumerate_from (start + 1) xs ++ (place, x) ∷ []) here
 
-passing-push : {X : Type 0} (start : ℕ) (test : X → Bool) (xs : List X) (x : X) → passing start test (xs ++ x ∷ []) ≡ passing start test xs ++ cond (test x) (start + length xs ∷ []) []
+passing-push : {X : Type 0} (start : ℕ) (test : X → Bool) (xs : List X) (x : X) → passing start test (xs ++ x ∷ []) ≡ passing start test xs ++ cond (test x) ((start + length xs) ∷ []) []
 passing-push {X} start test xs x =
     ap (λ (all : List (ℕ × X)). map (λ at. at.0) (filter (λ at. test at.1) all)) (enumerate-push start xs x)
     ∙ ap (map (λ (at : ℕ × X). at.0)) (filter-append (λ (at : ℕ × X). test at.1) (enumerate_from start xs) ((start + length xs, x) ∷ []))
     ∙ map-append (λ (at : ℕ × X). at.0) (filter (λ at. test at.1) (enumerate_from start xs)) (cond (test x) ((start + length xs, x) ∷ []) [])
     ∙ ap (λ (last : List ℕ). passing start test xs ++ last) (by (test x))
   where
-    by : (b : Bool) → map (λ (at : ℕ × X). at.0) (cond b ((start + length xs, x) ∷ []) []) ≡ cond b (start + length xs ∷ []) []
+    by : (b : Bool) → map (λ (at : ℕ × X). at.0) (cond b ((start + length xs, x) ∷ []) []) ≡ cond b ((start + length xs) ∷ []) []
     by true = refl
     by false = refl
 
