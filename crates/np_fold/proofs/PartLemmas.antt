@@ -27,12 +27,13 @@ pub keys-agree : (keys made more : List (List ℕ)) → made ≡ keys → keys �
 keys-agree keys made more same is key = rw (same, is) (is_listed-distinct more key)
 
 -- and they ascend
-pub keys-ascend : (made keys more : List (List ℕ)) → made ≡ keys → keys ≡ with_keys [] more → IsStrictlySortedBy (slice_cmp nat_cmp) made
-keys-ascend made keys more same is = rw (same, is) (distinct-sorted more)
+pub keys-ascend : (keys made more : List (List ℕ)) → made ≡ keys → keys ≡ with_keys [] more → IsStrictlySortedBy (slice_cmp nat_cmp) made
+keys-ascend keys made more same is = rw (same, is) (distinct-sorted more)
 
+-- those of a folding too
 pub relevant-ascend : (lists : EstateLists) (made : List (List ℕ)) → made ≡ (folding_of lists).relevant → IsStrictlySortedBy (slice_cmp nat_cmp) made
 unfolding folding_of
-relevant-ascend lists made is = keys-ascend made (with_keys [] (keys_of_estate lists)) (keys_of_estate lists) is refl
+relevant-ascend lists made is = keys-ascend (with_keys [] (keys_of_estate lists)) made (keys_of_estate lists) is refl
 
 module _ (lists : EstateLists) (few : workload_count lists ≤ 2000) (named : List Named) (is : named ≡ named_first_pods lists) where
   -- there is one name for each first pod
