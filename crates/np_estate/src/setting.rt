@@ -40,9 +40,7 @@ pub(crate) fn settings(
     for (place, item) in items.iter().enumerate() {
         let makes = makers[place];
         let owner = &owners[place];
-        made.push(setting_if(
-            alloc, items, places, &mut known, makes, item, owner,
-        )?)?;
+        made.push(setting_if(alloc, items, places, &mut known, makes, item, owner)?)?;
     }
     Ok(made)
 }
