@@ -150,7 +150,9 @@ slice_get-some (x ∷ xs) place within = (get_or (x ∷ xs) place x, slice_get-g
 pub alike-is : (lists : EstateLists) → IsAlike (pods_alike lists) (length lists.pods)
 alike-is lists =
     places-alike (are_alike lists) (traits_of (keys_of_estate lists) (cidrs_of_estate lists))
-    (λ a b. Decides-like (are_alike lists a b) (traits-alike lists (keys_of_estate lists) (λ key. refl) (cidrs_of_estate lists) (λ test. refl) a b).1 (traits-alike lists (keys_of_estate lists) (λ key. refl) (cidrs_of_estate lists) (λ test. refl) a b).0 (alike_decide lists a b))
+    (λ a b.
+    let equal = traits-alike lists (keys_of_estate lists) (λ key. refl) (cidrs_of_estate lists) (λ test. refl) a b in
+    Decides-like (are_alike lists a b) equal.1 equal.0 (alike_decide lists a b))
     (slice_get lists.pods) (length lists.pods) (slice_get-some lists.pods)
 
 -- an owner of no name
@@ -161,5 +163,7 @@ nobody = record { kind = []; name = [] }
 pub kinds-are : (lists : EstateLists) (count : ℕ) → ((number : ℕ) → number < count → (pod : Pod) × (first_pod lists number ≡ Some pod)) → IsAlike (kinds_alike lists) count
 kinds-are lists count there =
     places-alike (are_same_kind lists) (λ pod. with_owner nobody (traits_of (keys_of_estate lists) (cidrs_of_estate lists) pod))
-    (λ a b. Decides-like (are_same_kind lists a b) (traits-same_kind lists (keys_of_estate lists) (λ key. refl) (cidrs_of_estate lists) (λ test. refl) a b nobody).1 (traits-same_kind lists (keys_of_estate lists) (λ key. refl) (cidrs_of_estate lists) (λ test. refl) a b nobody).0 (kinds_decide lists a b))
+    (λ a b.
+    let equal = traits-same_kind lists (keys_of_estate lists) (λ key. refl) (cidrs_of_estate lists) (λ test. refl) a b nobody in
+    Decides-like (are_same_kind lists a b) equal.1 equal.0 (kinds_decide lists a b))
     (first_pod lists) count there

@@ -89,7 +89,8 @@ passing-push {X} start test xs x =
     by true = refl
     by false = refl
 
-pub places-more : {X : Type 0} (test : X → Bool) (xs : List X) (i : ℕ) (x : X) (places : List ℕ) → i < length xs → x ≡ get_or xs i x → places ≡ passing 0 test (take i xs) → places ++ cond (test x) (i ∷ []) [] ≡ passing 0 test (take (i + 1) xs)
+pub places-more : {X : Type 0} (test : X → Bool) (xs : List X) (i : ℕ) (x : X) (places : List ℕ) → i < length xs → x ≡ get_or xs i x → places ≡ passing 0 test (take i xs)
+    → places ++ cond (test x) (i ∷ []) [] ≡ passing 0 test (take (i + 1) xs)
 places-more test xs i x places below is so_far =
     let place : i ≡ 0 + length (take i xs) = omega (arith, length-take i xs, below) in
     ap (λ (all : List ℕ). all ++ cond (test x) (i ∷ []) []) so_far

@@ -25,6 +25,9 @@ use Rattle.np_labels.specs.declared.pair.Pair.{Pair}
 abbrev order : List ℕ → List ℕ → Ordering
 order = slice_cmp nat_cmp
 
+abbrev label_with : List ℕ → List ℕ → Label
+label_with key value = record { key = key; value = value }
+
 or_true : (b : Bool) → (b || true) ≡ true
 or_true true = refl
 or_true false = refl
@@ -55,16 +58,14 @@ module _ (test : List ℕ → Bool) (P : List ℕ → Type 0) (each : (key : Lis
   Decides-listed keys = (from_all keys, to_all keys)
 
 -- labels with equal values at listed keys give the same
-pub labels-from_values : (pairs others : List Pair) (keys : List (List ℕ)) → ((key : List ℕ) → is_listed keys key ≡ true → value_of pairs key ≡ value_of others key) → filter_map (label_of pairs) keys ≡ filter_map (label_of others) keys
+pub labels-from_values : (pairs others : List Pair) (keys : List (List ℕ)) → ((key : List ℕ) → is_listed keys key ≡ true → value_of pairs key ≡ value_of others key)
+    → filter_map (label_of pairs) keys ≡ filter_map (label_of others) keys
 labels-from_values pairs others [] agree = refl
 labels-from_values pairs others (first ∷ keys) agree =
-    let here : label_of pairs first ≡ label_of others first = ap (option_map (λ (value : List ℕ). let label : Label = record { key = first; value = value } in label)) (agree first (listed_first first keys)) in
+    let here : label_of pairs first ≡ label_of others first = ap (option_map (label_with first)) (agree first (listed_first first keys)) in
     rw (here, labels-from_values pairs others keys (λ key listed. agree key (rw listed (or_true (bytes_eq first key))))) refl
 
 -- ---- the same as pairs
-
-abbrev label_with : List ℕ → List ℕ → Label
-label_with key value = record { key = key; value = value }
 
 abbrev pair_with : List ℕ → List ℕ → Pair
 pair_with key value = record { key = key; value = value }
@@ -138,7 +139,8 @@ value_of-are_listed keys (pair ∷ pairs) key = by (is_listed keys pair.key) ref
     by false is false same others = others
 
 -- equal labels have equal values at listed keys
-pub values-from_labels : (pairs others : List Pair) (keys : List (List ℕ)) → filter_map (label_of pairs) keys ≡ filter_map (label_of others) keys → (key : List ℕ) → is_listed keys key ≡ true → value_of pairs key ≡ value_of others key
+pub values-from_labels : (pairs others : List Pair) (keys : List (List ℕ)) → filter_map (label_of pairs) keys ≡ filter_map (label_of others) keys
+    → (key : List ℕ) → is_listed keys key ≡ true → value_of pairs key ≡ value_of others key
 values-from_labels pairs others keys same key listed =
     sym (value pairs) ∙ ap (λ (labels : List Label). value_of (map pair_of labels) key) same ∙ value others
   where
@@ -182,7 +184,8 @@ HasAscendingKeys-are_listed keys (pair ∷ pairs) ascending = by (is_listed keys
     by false others = others
 
 -- the labels of ascending keys are those of ascending pairs whose keys are listed
-pub labels-listed : (keys : List (List ℕ)) (pairs : List Pair) → IsStrictlySortedBy (slice_cmp nat_cmp) keys → HasAscendingKeys pairs → map label_of_pair (are_listed keys pairs) ≡ filter_map (label_of pairs) keys
+pub labels-listed : (keys : List (List ℕ)) (pairs : List Pair) → IsStrictlySortedBy (slice_cmp nat_cmp) keys → HasAscendingKeys pairs
+    → map label_of_pair (are_listed keys pairs) ≡ filter_map (label_of pairs) keys
 labels-listed keys pairs ascending in_order =
     ap (map label_of_pair)
     (same_by_values (are_listed keys pairs) (pairs_at keys pairs) (HasAscendingKeys-are_listed keys pairs in_order) (HasAscendingKeys-pairs_at keys pairs ascending)
@@ -203,7 +206,8 @@ is_ascending-from_sorted (key ∷ keys) ascending =
 
 -- ---- one more pair
 
-module _ (keys : List (List ℕ)) (pairs : List Pair) (i : ℕ) (pair : Pair) (labels : List Label) (below : i < length pairs) (is : pair ≡ get_or pairs i pair) (so_far : labels ≡ map label_of_pair (are_listed keys (take i pairs))) where
+module _ (keys : List (List ℕ)) (pairs : List Pair) (i : ℕ) (pair : Pair) (labels : List Label)
+    (below : i < length pairs) (is : pair ≡ get_or pairs i pair) (so_far : labels ≡ map label_of_pair (are_listed keys (take i pairs))) where
   more : are_listed keys (take (i + 1) pairs) ≡ are_listed keys (take i pairs) ++ cond (is_listed keys pair.key) (pair ∷ []) []
   more =
       filter_more (λ (one : Pair). is_listed keys one.key) pairs i pair below
