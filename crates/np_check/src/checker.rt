@@ -130,8 +130,20 @@ impl<'a> Checker<'a> {
         ensures least { steps.old ≤ steps.new }
     {
         let alloc = self.alloc;
-        ask(alloc, self.folded, Direction::Egress, source, &mut self.senders)?;
-        ask(alloc, self.folded, Direction::Ingress, destination, &mut self.receivers)?;
+        ask(
+            alloc,
+            self.folded,
+            Direction::Egress,
+            source,
+            &mut self.senders,
+        )?;
+        ask(
+            alloc,
+            self.folded,
+            Direction::Ingress,
+            destination,
+            &mut self.receivers,
+        )?;
         let sender = self.senders.get(&source).unwrap();
         let receiver = self.receivers.get(&destination).unwrap();
         set_between(alloc, sender, receiver, family, steps)

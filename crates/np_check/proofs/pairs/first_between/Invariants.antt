@@ -8,7 +8,7 @@ use Rattle.np_check.proofs.pairs.first_between.Given as goal
 abbrev pub invariant-loop-family : goal.invariant-loop-family
 invariant-loop-family g l = record {
   left : first_of (counter_in l.initial.checker l.asked.wanted l.asked.conns.now (Work l.source) (Work l.destination)) (drop l.family-index l.family-items)
-    ≡ first_of (counter_in l.initial.checker l.asked.wanted l.asked.conns.now (Work l.source) (Work l.destination)) l.family-items;
+      ≡ first_of (counter_in l.initial.checker l.asked.wanted l.asked.conns.now (Work l.source) (Work l.destination)) l.family-items;
   same : l.checker ≡ l.initial.checker;
   least : l.initial.steps ≤ l.steps;
 }

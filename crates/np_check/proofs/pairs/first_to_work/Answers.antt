@@ -1,10 +1,9 @@
 use Rattle.std.proofs.Common.{◌≡◌, ◌==◌, ◌&&◌, if◌then◌else◌, ℕ, true, refl, sym, ap, subst, ◌∙◌, slice_index}
 use Rattle.np_check.proofs.PairLemmas.{none_of_is, settled-more}
 use Rattle.np_check.specs.Counters.{counter_between}
-use Rattle.np_check.specs.steps.Pairs.{AreSettled, has_pair, kind_of}
+use Rattle.np_check.specs.steps.Pairs.{has_pair, kind_of}
 use Rattle.np_check.specs.declared.counter.PlaceEnd.TheVariants.{Work}
 use Rattle.np_estate.specs.Lawful.{IsLawful}
-use Rattle.np_estate.specs.declared.lists.EstateLists.{EstateLists}
 use Rattle.np_fold.specs.Workloads.{Folding, folding_of}
 use Rattle.np_table.proofs.KindLemmas.{kind-there}
 use Rattle.np_check.proofs.pairs.first_to_work.Goals as goal

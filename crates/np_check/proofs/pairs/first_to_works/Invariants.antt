@@ -9,7 +9,7 @@ use Rattle.np_check.proofs.pairs.first_to_works.Given as goal
 abbrev pub invariant-loop-destination : goal.invariant-loop-destination
 invariant-loop-destination g l = record {
   left : first_of (λ destination. counter_between l.initial.checker l.asked.wanted l.asked.conns.now (Work l.source) (Work destination)) (drop l.destination-index l.destinations)
-    ≡ first_of (λ destination. counter_between l.initial.checker l.asked.wanted l.asked.conns.now (Work l.source) (Work destination)) l.destinations;
+      ≡ first_of (λ destination. counter_between l.initial.checker l.asked.wanted l.asked.conns.now (Work l.source) (Work destination)) l.destinations;
   same : l.checker ≡ l.initial.checker;
   settled : AreSettled l.checker l.asked.wanted l.asked.conns.now l.settled.keys;
   least : l.initial.steps ≤ l.steps;
