@@ -63,7 +63,10 @@ pub known-is : (known : Option PodSide) (found : Option (Bor PodSide)) (given : 
 known-is known found given side is copied there = same_some given.now side (ap option_copied (sym is) ∙ copied ∙ there)
 
 -- two workloads are told by the rules of their first pods, also where they are one
-pub passing-is : (lists : EstateLists) (source destination : ℕ) (family : Family) (sender receiver : PodSide) → sender ≡ first_side lists Egress source → receiver ≡ first_side lists Ingress destination → IsLawful lists → IsWorkload lists source → IsWorkload lists destination → is_alone (folding_of lists) source destination ≡ false → conns_of (between_pods sender.lists sender.pod receiver.pod family) ≡ conns_of (pair_allows lists (folding_of lists) source destination family)
+pub passing-is : (lists : EstateLists) (source destination : ℕ) (family : Family) (sender receiver : PodSide) → sender ≡ first_side lists Egress source →
+    receiver ≡ first_side lists Ingress destination → IsLawful lists → IsWorkload lists source → IsWorkload lists destination → is_alone
+    (folding_of lists) source destination ≡ false → conns_of (between_pods sender.lists sender.pod receiver.pod family) ≡ conns_of (pair_allows lists
+    (folding_of lists) source destination family)
 passing-is lists source destination family sender receiver sends receives lawful source_in destination_in apart =
     let from = (kinds-by lists source source_in).0 in
     let to = (kinds-by lists destination destination_in).0 in
@@ -138,7 +141,9 @@ settled-more lists wanted conns pairs more a b lawful a_in b_in differ none has 
 
 -- ---- from a workload
 
-pub from-work : (lists : EstateLists) (wanted : Wanted) (conns : Conns) (ends : Ends) (source : ℕ) (destinations : List ℕ) → ends.works ≡ destinations → counter_from lists wanted conns ends (Work source) ≡ option_or (first_of (λ destination. counter_between lists wanted conns (Work source) (Work destination)) destinations) (first_of (λ address. counter_between lists wanted conns (Work source) (At address)) (addresses_of ends.block))
+pub from-work : (lists : EstateLists) (wanted : Wanted) (conns : Conns) (ends : Ends) (source : ℕ) (destinations : List ℕ) → ends.works ≡ destinations →
+    counter_from lists wanted conns ends (Work source) ≡ option_or (first_of (λ destination. counter_between lists wanted conns (Work source) (Work destination)) destinations)
+    (first_of (λ address. counter_between lists wanted conns (Work source) (At address)) (addresses_of ends.block))
 unfolding counter_from
 from-work lists wanted conns ends source destinations are =
     first_of-append (counter_between lists wanted conns (Work source)) (map Work ends.works) (map At (addresses_of ends.block))

@@ -9,4 +9,5 @@ bounds-members-0 c = rw (c.members-members.ensures, c.workloads.ensures.value) (
 pub of-requires : goal.of-requires
 of-requires c =
     let some = members-some c.args.folded.now (folding_of c.args.folded.now) c.args.work refl c.requires.work in
-    rw (c.estate.ensures.value, c.members-members.ensures, c.workloads.ensures.value) (members-within c.args.folded.now (folding_of c.args.folded.now) c.args.work _ refl c.requires.work (source-member (folding_of c.args.folded.now) c.args.work some))
+    rw (c.estate.ensures.value, c.members-members.ensures, c.workloads.ensures.value) (members-within c.args.folded.now
+    (folding_of c.args.folded.now) c.args.work _ refl c.requires.work (source-member (folding_of c.args.folded.now) c.args.work some))

@@ -26,7 +26,8 @@ returns-then-contains-clause-counter g c =
     let receives : c.kind_of-2.result ≡ kind_of c.args.checker.now c.args.destination = c.kind_of-2.ensures ∙ ap (λ (f : Folding). slice_index f.kinds c.args.destination) folding in
     let has : has_pair c.args.settled.now.keys c.kind_of.result c.kind_of-2.result ≡ true = sym c.contains.ensures ∙ c.if-contains.true in
     sym (c.requires.settled c.args.source c.args.destination c.requires.source c.requires.destination
-    (ap (λ (i : ℕ). has_pair c.args.settled.now.keys i (kind_of c.args.checker.now c.args.destination)) (sym sends) ∙ ap (λ (j : ℕ). has_pair c.args.settled.now.keys c.kind_of.result j) (sym receives) ∙ has))
+    (ap (λ (i : ℕ). has_pair c.args.settled.now.keys i (kind_of c.args.checker.now c.args.destination)) (sym sends)
+    ∙ ap (λ (j : ℕ). has_pair c.args.settled.now.keys c.kind_of.result j) (sym receives) ∙ has))
 
 pub returns-clause-settled : goal.returns-clause-settled
 returns-clause-settled g c =
@@ -36,11 +37,15 @@ returns-clause-settled g c =
     let receives : c.kind_of-2.result ≡ kind_of c.args.checker.now c.args.destination = c.kind_of-2.ensures ∙ ap (λ (f : Folding). slice_index f.kinds c.args.destination) folding in
     elim c.if-is_none.branch [
       | then-is_none+then-source-destination+in_ok-insert w ↦
-          let none = none_of_is c.in_ok-found.found (counter_between c.args.checker.now c.args.asked.now.wanted c.args.asked.now.conns.now (Work c.args.source) (Work c.args.destination)) c.is_none.result c.is_none.ensures w.if-is_none.true c.in_ok-found.ensures.counter in
-          let has : (i j : ℕ) → has_pair w.insert.new.self.keys i j ≡ (if (kind_of c.args.checker.now c.args.source == i) && (kind_of c.args.checker.now c.args.destination == j) then true else has_pair c.args.settled.now.keys i j) = λ i j.
+          let none = none_of_is c.in_ok-found.found (counter_between c.args.checker.now c.args.asked.now.wanted c.args.asked.now.conns.now (Work c.args.source)
+          (Work c.args.destination)) c.is_none.result c.is_none.ensures w.if-is_none.true c.in_ok-found.ensures.counter in
+          let has : (i j : ℕ) → has_pair w.insert.new.self.keys i j ≡ (if (kind_of c.args.checker.now c.args.source == i)
+          && (kind_of c.args.checker.now c.args.destination == j) then true else has_pair c.args.settled.now.keys i j) = λ i j.
           w.in_ok-insert.ensures.updates.0 (i, j)
           ∙ ap (λ (k : ℕ). if (k == i) && (c.kind_of-2.result == j) then true else has_pair c.args.settled.now.keys i j) sends
           ∙ ap (λ (k : ℕ). if (kind_of c.args.checker.now c.args.source == i) && (k == j) then true else has_pair c.args.settled.now.keys i j) receives in
-          rw (w.settled-is, c.in_ok-found.ensures.same) (settled-more c.args.checker.now c.args.asked.now.wanted c.args.asked.now.conns.now c.args.settled.now.keys w.insert.new.self.keys c.args.source c.args.destination lawful c.requires.source c.requires.destination w.if-source-destination.true none has c.requires.settled)
+          rw (w.settled-is, c.in_ok-found.ensures.same)
+          (settled-more c.args.checker.now c.args.asked.now.wanted c.args.asked.now.conns.now c.args.settled.now.keys w.insert.new.self.keys
+          c.args.source c.args.destination lawful c.requires.source c.requires.destination w.if-source-destination.true none has c.requires.settled)
       | else-is_none w ↦ rw (w.settled-is, c.in_ok-found.ensures.same) c.requires.settled
     ]
