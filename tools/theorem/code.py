@@ -68,10 +68,21 @@ def ghost_members(block):
     return found
 
 
-def model_of(file, name):
-    """The block `impl Model for NAME`, or None."""
-    found = re.search(rf"^impl(?:<[^{{]*?>)? Model for {name}\b[^{{]*", file.text, re.MULTILINE)
+def impl_of(file, trait, name):
+    """The block `impl TRAIT for NAME`, or None."""
+    found = re.search(rf"^impl(?:<[^{{]*?>)? {trait} for {name}\b[^{{]*", file.text, re.MULTILINE)
     return file.text[found.end():closing(file.text, found.end())] if found else None
+
+
+def ghosts_of_impl(trait, item):
+    """A line with what contracts see of a type by a trait, where the type meets it; its laws are left out."""
+    block = impl_of(item.home, trait.name, item.name)
+    if block is None:
+        return []
+    declared = re.findall(r"ghost (\w+): \{ (.*) \};", "\n".join(trait.lines))
+    names = [name for name, kind in declared if not re.search("[≡≤<]", kind)]
+    members = ghost_members(block)
+    return [f"impl {trait.name} for {item.name}: " + "; ".join(f"{name} = {{ {members[name]} }}" for name in names if name in members)]
 
 
 def parts_of(body):
@@ -111,11 +122,10 @@ def type_item(file, name):
     item = Item(name, {"const": "constant", "static": "constant", "trait": "trait"}.get(kind, "type"), file, start)
     item.comment = comment_above(file.text, start)
     item.terms, item.types, item.generics = [], "", []
-    rest = file.text[start:]
+    rest = re.sub(r"^pub(\([a-z]+\))? ", "", file.text[start:])
     head = re.match(r"[^{;(=]*", rest).group().strip()
-    head = re.sub(r"^pub(\([a-z]+\))? ", "", head)
     item.generics = re.findall(r"[<,]\s*(\w+)", head)
-    model = model_of(file, name)
+    model = impl_of(file, "Model", name)
     if kind == "trait":
         return trait_item(item, file, rest)
     if model is not None:
@@ -126,13 +136,12 @@ def type_item(file, name):
         item.terms = [members[key] for key in ("Value", "view", "invariant") if key in members]
         item.kind, item.types = "model", head.partition("<")[2]
     elif kind in ("type", "const", "static") or rest[len(re.match(r"[^{;(]*", rest).group())] in ";":
-        item.lines = [re.sub(r"^pub(\([a-z]+\))? ", "", rest.split(";")[0]).replace("\n", " ") + ";"]
+        item.lines = [rest.split(";")[0].replace("\n", " ") + ";"]
         item.types = item.lines[0].split("=")[-1] if kind == "type" else ""
     else:
-        opening = start + re.search(r"[{(]", rest).start()
-        body = file.text[opening + 1:closing(file.text, opening) - 1]
-        parts = parts_of(body)
-        item.lines = laid_out(head, parts) if file.text[opening] == "{" else [f"{head}({', '.join(text for _, text in parts)})"]
+        opening = re.search(r"[{(]", rest).start()
+        parts = parts_of(rest[opening + 1:closing(rest, opening) - 1])
+        item.lines = laid_out(head, parts) if rest[opening] == "{" else [f"{head}({', '.join(text for _, text in parts)})"]
         ghosts = [text.split(": ", 1)[1].strip("{} ") for _, text in parts if text.startswith("ghost ")]
         item.terms = ghosts
         if kind == "enum":
@@ -151,7 +160,7 @@ def clauses(text, form):
 def trait_item(item, file, rest):
     """A trait with its comments and contracts, as it stands."""
     end = closing(rest, rest.index("{"))
-    item.lines = rest[:end].removeprefix("pub ").split("\n")
+    item.lines = rest[:end].split("\n")
     text = re.sub(r"//[^\n]*", "", rest[:end])
     item.fields = [*re.findall(r"ghost (\w+)", text), *re.findall(r"(\w+): ", text), "self", "Self", "result", "into", "P", "S"]
     item.terms = clauses(text, r"(?:ensures|requires)(?: \w+)? (?=\{)|ghost \w+: (?=\{)")

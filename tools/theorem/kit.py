@@ -89,6 +89,12 @@ def equations(lines, number, name):
     return text if found and len(text) <= WIDTH - 40 else kind
 
 
+def fixity(lines, name):
+    """How an operator binds, where its file says so."""
+    found = [line.strip() for line in lines if re.fullmatch(rf"\s*infix[lr]? \d+ {re.escape(name)}", line)]
+    return f" ({found[0].rsplit(' ', 1)[0]})" if found else ""
+
+
 def look_up(kit, module, name, depth=0):
     """The line of a name, or an empty one."""
     if depth > 6:
@@ -107,7 +113,8 @@ def look_up(kit, module, name, depth=0):
             continue
         number = defined(lines, name)
         if number is not None:
-            return comment_above(lines, number, "--") or said_at_head(lines, name) or equations(lines, number, name)
+            said = comment_above(lines, number, "--") or said_at_head(lines, name) or equations(lines, number, name)
+            return said + fixity(lines, name)
         for further, source in passed_on(text, name):
             found = look_up(kit, further, source, depth + 1)
             if found:

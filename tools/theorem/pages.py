@@ -34,6 +34,8 @@ class Document:
         self.all = self.project.reached([self.main])
         self.promises = [item for item in self.all if item.home.title() == PROMISES]
         self.parts = self.in_parts()
+        for trait in [item for item in self.all if item.kind == "trait"]:
+            trait.lines += [line for item in self.all if item.kind == "model" for line in code.ghosts_of_impl(trait, item)]
         self.spelled = {}
         for item in self.all:
             for name in [item.name, *item.constructors]:
@@ -66,9 +68,9 @@ class Document:
 
     @staticmethod
     def counts(items):
-        """How many definitions, lines of them, types of code, lines of these, and lines of comments."""
-        definitions = [item for item in items if isinstance(item.home, specs.Home)]
-        types = [item for item in items if not isinstance(item.home, specs.Home)]
+        """How many definitions, the contract among them, lines of these, types of code, lines of those, and lines of comments."""
+        definitions = [item for item in items if isinstance(item.home, specs.Home) or item.kind == "function"]
+        types = [item for item in items if item not in definitions]
         comments = sum(len(item.comment) + len(item.lines) - item.code_lines() for item in items)
         return (len(definitions), sum(item.code_lines() for item in definitions),
                 len(types), sum(item.code_lines() for item in types), comments)
@@ -92,23 +94,19 @@ class Document:
 
     # ---- the text of items
 
-    @staticmethod
-    def place_of(item):
-        """Where an item stands, as a reader looks it up."""
-        return item.home.title()
-
     def remarks(self, items):
         """What names of these items stand for that an import renamed, or that several definitions have."""
-        found, own = {}, set(items)
+        found, files, own = {}, {}, set(items)
         for item in items:
             for name, (module, source) in item.renamed.items():
-                found[name] = self.meant(module, source)
+                found[name if source else f"{name}.x"] = ("" if source else "x of ") + self.meant(module, source)
             for need in item.needs:
-                others = [other for other in self.spelled.get(need.name, []) if other is not need]
-                if others and need not in own and isinstance(item.home, specs.Home) and need.name in item.home.names.items \
-                        and need.name not in item.renamed:
-                    found[need.name] = f"that of {self.place_of(need)}"
-        return [f"`{name}` is {what}" for name, what in sorted(found.items())]
+                known = need.name in item.home.names.items and need.name not in item.renamed and ">>" not in need.name
+                if known and need not in own and len(self.spelled[need.name]) > 1:
+                    files.setdefault(need.home.title(), set()).add(f"`{need.name}`")
+        said = [f"`{name}` is {what}" for name, what in sorted(found.items())]
+        return said + [f"{', '.join(sorted(names))} {'is that' if len(names) == 1 else 'are those'} of {file}"
+                       for file, names in sorted(files.items())]
 
     @staticmethod
     def meant(module, source):
@@ -119,12 +117,12 @@ class Document:
             variants = place[-1] == "TheVariants"
             place = place[:-1] if variants else place
             return f"`{place[-1]}{f'.{source}' if source and variants else ''}` of {crate}"
-        path = "/".join(place)
-        return f"`{source}` of {crate}/{path}" if source else f"the file {crate}/{path}"
+        path = f"{crate}/{'/'.join(place)}.antt" if (project.CRATES / crate).is_dir() else f"the kit's {module}"
+        return f"`{source}` of {path}" if source else path
 
     def here(self, items):
         remarks = self.remarks(items)
-        text = f"Here {', '.join(remarks)}." if remarks else ""
+        text = f"Here {'; '.join(remarks)}." if remarks else ""
         return textwrap.wrap(text, WIDTH, initial_indent="    ", subsequent_indent="    ", break_on_hyphens=False, break_long_words=False)
 
     @staticmethod
@@ -190,7 +188,8 @@ class Document:
         main = code.function_item(self.project.file("np", "src/main.rt"), "main", with_body=True)
         counted = code.function_item(self.project.file("np", "src/main.rt"), "run_counted", with_body=True)
         lines = [*FRONT.rstrip("\n").split("\n"), "", "HOW MUCH THERE IS TO READ", "", *self.table(), ""]
-        lines += ["Lines are counted without comments and empty lines; those of types as they stand in this document.", ""]
+        lines += ["Lines are counted without comments and empty lines; those of types as they stand in this document.",
+                  "With comments, headings and empty lines the document has LINES lines, the appendix among them.", ""]
         lines += ["", title_line("THE CONTRACT"), "", f"━━━ {self.main.home.title()}", "", *self.main.comment, *self.main.lines, ""]
         lines += ["How the program calls it:", "", f"━━━ {main.home.title()}", "", *main.lines, ""]
         lines += [*counted.comment, *counted.lines, ""]
@@ -207,7 +206,7 @@ class Document:
         lines += ["", title_line("APPENDIX. Names of the kit"), "",
                   "What the definitions use of the kit (Rattle) and its logic, by the modules from which they import it. A line is what",
                   "the kit's own sources say of the name, or its equations or its type there.", *kit.appendix(names, self.kit_line)]
-        return lines
+        return [line.replace("LINES lines", f"{len(lines):,} lines") for line in lines]
 
 
 def title_line(title):

@@ -121,7 +121,7 @@ class Project:
         if re.search(rf"^(?:pub(?:\([a-z]+\))? )?(?:struct|enum|type|trait) {name}\b", file.text, re.MULTILINE):
             return self.type(file.crate, file.path, name)
         if name not in file.uses:
-            return None
+            raise SystemExit(f"theorem_text: {file.title()}: the type {name} is not found")
         path, source = file.uses[name]
         crate, *place = path.split("::")
         crate = file.crate if crate == "crate" else crate
@@ -188,9 +188,26 @@ def shelf(item):
     return (item.home.crate, item.home.path if isinstance(item.home, specs.Home) or item.kind == "trait" else "src")
 
 
+def by_need(items):
+    """The number of each shelf, those that others need first: in the order in which a walk from the last items leaves them."""
+    met, numbers, among = set(), {}, set(items)
+
+    def leave(item):
+        met.add(item)
+        for need in item.needs:
+            if need in among and need not in met:
+                leave(need)
+        numbers[shelf(item)] = len(met)
+
+    for item in items:
+        if item not in met:
+            leave(item)
+    return numbers
+
+
 def in_order(items):
     """Items behind all that they need of these, those of a file together where that can be."""
-    crates = {crate: number for number, crate in enumerate(crate_order())}
+    crates, numbers = {crate: number for number, crate in enumerate(crate_order())}, by_need(items)
     left, ordered, here = dict.fromkeys(items), [], None
 
     def ready(among):
@@ -208,7 +225,7 @@ def in_order(items):
             open_ = [place for place in shelves if ready(shelves[place])]
             if not open_:
                 raise SystemExit("theorem_text: definitions need one another: " + ", ".join(item.name for item in left))
-            here = min(open_, key=lambda place: (crates[place[0]], not finished(shelves[place]), place[1] != "src", place[1]))
+            here = min(open_, key=lambda place: (crates[place[0]], not finished(shelves[place]), numbers[place]))
         item = min(ready(shelves[here]), key=lambda item: (item.home.path, item.place))
         ordered.append(item)
         del left[item]
