@@ -22,6 +22,8 @@ PARTS = [
     ("What is promised of every run", ["np_cli/src/run.rt"]),
 ]
 PROMISES = "np_cli/specs/Promises.antt"
+# Stands where the contents are to stand.
+CONTENTS = "CONTENTS"
 
 FRONT = (Path(__file__).resolve().parent / "front.txt").read_text()
 
@@ -189,7 +191,7 @@ class Document:
         counted = code.function_item(self.project.file("np", "src/main.rt"), "run_counted", with_body=True)
         lines = [*FRONT.rstrip("\n").split("\n"), "", "HOW MUCH THERE IS TO READ", "", *self.table(), ""]
         lines += ["Lines are counted without comments and empty lines; those of types as they stand in this document.",
-                  "With comments, headings and empty lines the document has LINES lines, the appendix among them.", ""]
+                  "With comments, headings and empty lines the document has LINES lines, the appendix among them.", "", CONTENTS, ""]
         lines += ["", title_line("THE CONTRACT"), "", f"━━━ {self.main.home.title()}", "", *self.main.comment, *self.main.lines, ""]
         lines += ["How the program calls it:", "", f"━━━ {main.home.title()}", "", *main.lines, ""]
         lines += [*counted.comment, *counted.lines, ""]
@@ -206,7 +208,29 @@ class Document:
         lines += ["", title_line("APPENDIX. Names of the kit"), "",
                   "What the definitions use of the kit (Rattle) and its logic, by the modules from which they import it. A line is what",
                   "the kit's own sources say of the name, or its equations or its type there.", *kit.appendix(names, self.kit_line)]
-        return [line.replace("LINES lines", f"{len(lines):,} lines") for line in lines]
+        return with_contents(lines)
+
+
+def contents(lines):
+    """The line of each part, and within it that of each crate."""
+    found = []
+    for number, line in enumerate(lines, 1):
+        if line.startswith("════════ "):
+            found.append([f"{line.strip('═ ')}: line {number}"])
+        elif re.match(r"NP_[A-Z]+\. ", line):
+            found[-1].append(f"{line.split('.')[0].lower()} {number}")
+    return [line for title, *crates in found for line in
+            textwrap.wrap(title + (f" ({', '.join(crates)})" if crates else ""), WIDTH, initial_indent="  ", subsequent_indent="    ")]
+
+
+def with_contents(lines):
+    """The lines with those of the contents in their place. They say where the others stand, so they are made until they are true."""
+    place, made = lines.index(CONTENTS), []
+    while True:
+        whole = [*lines[:place], *made, *lines[place + 1:]]
+        if contents(whole) == made:
+            return [line.replace("LINES lines", f"{len(whole):,} lines") for line in whole]
+        made = contents(whole)
 
 
 def title_line(title):
