@@ -1,18 +1,16 @@
 -- The first packet between two ends.
-use Rattle.std.proofs.Common.{◌≡◌, ℕ, suc, ◌<◌, ◌≤◌, ◌==◌, ◌&&◌, List, [], ◌∷◌, Bool, true, false, Option, Some, None, All, drop, get_or, length, map, option_map, is_some, not, refl, sym, ap, ◌∙◌, inl, inr, if◌then◌else◌}
-use Rattle.std.specs.Option.{option_or}
+use Rattle.std.proofs.Common.{◌≡◌, Bor, ℕ, suc, ◌<◌, ◌≤◌, ◌==◌, ◌&&◌, List, [], ◌∷◌, Bool, true, false, Option, Some, None, drop, get_or, length, map, option_map, is_some, not, refl, sym, ap, ◌∙◌, inl, inr, if◌then◌else◌}
+use Rattle.std.specs.Option.{option_copied, option_or}
 use Rattle.std.proofs.Math.Seq.{drop-cons}
 use Rattle.std.proofs.lemmas.List.{drop_all}
 use Rattle.std.proofs.lemmas.Bool.{and_parts, cases_Bool, eqb-true, ne_eqb}
-use Rattle.std.proofs.lemmas.List.Elements.{All-cons, All-head, All-nil, All-tail}
 use Rattle.np_addr.specs.declared.address.Family.{Family}
 use Rattle.np_check.proofs.FirstLemmas.{first_of-append, first_of-map, none_both}
 use Rattle.np_check.proofs.SpotLemmas.{breaks-same}
 use Rattle.np_check.specs.Counters.{addresses_of, breaks, counter_at, counter_between, counter_from, counter_in}
 use Rattle.np_check.specs.Firsts.{first_of, first_spot}
-use Rattle.np_check.specs.steps.Pairs.{AreSettled, IsSide, has_pair, kind_of, side_with}
+use Rattle.np_check.specs.steps.Pairs.{AreSettled, has_pair, kind_of}
 use Rattle.np_check.specs.declared.counter.PlaceEnd.TheVariants.{At, Work}
-use Rattle.np_check.specs.declared.pairs.Side.{Side}
 use Rattle.np_check.specs.declared.question.Ends.{Ends}
 use Rattle.np_check.specs.declared.statement_text.Wanted.{Wanted}
 use Rattle.np_conns.specs.Conns.{Conns, has_spot}
@@ -21,16 +19,15 @@ use Rattle.np_estate.specs.Families.{families_of}
 use Rattle.np_estate.specs.Lawful.{IsLawful}
 use Rattle.np_estate.specs.declared.lists.EstateLists.{EstateLists}
 use Rattle.np_fold.specs.Workloads.{folding_of, members_of}
-use Rattle.np_policies.specs.declared.direction.Direction.{Direction}
 use Rattle.np_policies.specs.declared.direction.Direction.TheVariants.{Egress, Ingress}
 use Rattle.np_rules.specs.PodSides.{PodSide}
 use Rattle.np_table.proofs.KindLemmas.{kinds-by}
-use Rattle.np_table.proofs.PairLemmas.{pair_allows-between, pair_allows-kinds}
+use Rattle.np_table.proofs.PairLemmas.{pair_allows-firsts, pair_allows-kinds}
 use Rattle.np_table.proofs.RangeSets.{conns_of-agrees}
 use Rattle.np_table.proofs.SetLemmas.{has_spot-conns_of}
 use Rattle.np_table.specs.PairRules.{first_side}
 use Rattle.np_table.specs.Right.{conns_of}
-use Rattle.np_table.specs.Table.{IsWorkload, between_pods, destination_pod, is_alone, pair_allows, source_pod}
+use Rattle.np_table.specs.Table.{IsWorkload, between_pods, is_alone, pair_allows, source_pod}
 
 -- ---- the first of a list in a loop
 
@@ -58,15 +55,22 @@ none_of_is (Some y) wanted none is yes_none same = cc
 
 -- ---- what passes between workloads
 
-pub passing-is : (lists : EstateLists) (source destination : ℕ) (family : Family) (sender receiver : PodSide) → sender ≡ first_side lists Egress source → receiver ≡ first_side lists Ingress destination → (source ≡ destination → ⊥) → is_alone (folding_of lists) source destination ≡ false → conns_of (between_pods sender.lists sender.pod receiver.pod family) ≡ conns_of (pair_allows lists (folding_of lists) source destination family)
-passing-is lists source destination family sender receiver sends receives differ apart =
-    let other : (source == destination) ≡ false = ne_eqb source destination differ in
-    let far : destination_pod (folding_of lists) source destination ≡ source_pod (folding_of lists) destination = rw other refl in
+same_some : (a b : PodSide) → Some a ≡ Some b → a ≡ b
+same_some a b is = cc
+
+-- the rules that are given of those that are known
+pub known-is : (known : Option PodSide) (found : Option (Bor PodSide)) (given : Bor PodSide) (side : PodSide) → found ≡ Some given → option_copied found ≡ known → known ≡ Some side → given.now ≡ side
+known-is known found given side is copied there = same_some given.now side (ap option_copied (sym is) ∙ copied ∙ there)
+
+-- two workloads are told by the rules of their first pods, also where they are one
+pub passing-is : (lists : EstateLists) (source destination : ℕ) (family : Family) (sender receiver : PodSide) → sender ≡ first_side lists Egress source → receiver ≡ first_side lists Ingress destination → IsLawful lists → IsWorkload lists source → IsWorkload lists destination → is_alone (folding_of lists) source destination ≡ false → conns_of (between_pods sender.lists sender.pod receiver.pod family) ≡ conns_of (pair_allows lists (folding_of lists) source destination family)
+passing-is lists source destination family sender receiver sends receives lawful source_in destination_in apart =
+    let from = (kinds-by lists source source_in).0 in
+    let to = (kinds-by lists destination destination_in).0 in
     conns_of-agrees (between_pods sender.lists sender.pod receiver.pod family) (pair_allows lists (folding_of lists) source destination family) (λ spot is.
     ap (λ (side : PodSide). between_pods side.lists side.pod receiver.pod family spot) sends
     ∙ ap (λ (side : PodSide). between_pods lists (source_pod (folding_of lists) source) side.pod family spot) receives
-    ∙ ap (λ (pod : ℕ). between_pods lists (source_pod (folding_of lists) source) pod family spot) (sym far)
-    ∙ sym (pair_allows-between lists (folding_of lists) source destination family spot apart))
+    ∙ sym (pair_allows-firsts lists source source destination destination family spot lawful from from to to refl refl apart))
 
 -- the first by the set of what passes
 by_set : (lists : EstateLists) (wanted : Wanted) (conns passes : Conns) (a b : ℕ) (family : Family) → passes ≡ conns_of (pair_allows lists (folding_of lists) a b family) → first_spot (breaks wanted conns (has_spot passes)) ≡ first_spot (breaks wanted conns (pair_allows lists (folding_of lists) a b family))
@@ -134,19 +138,12 @@ settled-more lists wanted conns pairs more a b lawful a_in b_in differ none has 
 
 -- ---- from a workload
 
-pub from-work : (lists : EstateLists) (wanted : Wanted) (conns : Conns) (ends : Ends) (source : ℕ) (receivers : List Side) → receivers ≡ map (side_with lists Ingress) ends.works → counter_from lists wanted conns ends (Work source) ≡ option_or (first_of (λ receiver. counter_between lists wanted conns (Work source) (Work receiver.work)) receivers) (first_of (λ address. counter_between lists wanted conns (Work source) (At address)) (addresses_of ends.block))
+pub from-work : (lists : EstateLists) (wanted : Wanted) (conns : Conns) (ends : Ends) (source : ℕ) (destinations : List ℕ) → ends.works ≡ destinations → counter_from lists wanted conns ends (Work source) ≡ option_or (first_of (λ destination. counter_between lists wanted conns (Work source) (Work destination)) destinations) (first_of (λ address. counter_between lists wanted conns (Work source) (At address)) (addresses_of ends.block))
 unfolding counter_from
-from-work lists wanted conns ends source receivers are =
+from-work lists wanted conns ends source destinations are =
     first_of-append (counter_between lists wanted conns (Work source)) (map Work ends.works) (map At (addresses_of ends.block))
     ∙ ap (λ first. option_or first (first_of (counter_between lists wanted conns (Work source)) (map At (addresses_of ends.block))))
     (first_of-map (counter_between lists wanted conns (Work source)) Work ends.works
-    ∙ sym (first_of-map (λ receiver. counter_between lists wanted conns (Work source) (Work receiver.work)) (side_with lists Ingress) ends.works)
-    ∙ ap (first_of (λ receiver. counter_between lists wanted conns (Work source) (Work receiver.work))) (sym are))
-    ∙ ap (λ rest. option_or (first_of (λ receiver. counter_between lists wanted conns (Work source) (Work receiver.work)) receivers) rest)
+    ∙ ap (first_of (λ destination. counter_between lists wanted conns (Work source) (Work destination))) are)
+    ∙ ap (λ rest. option_or (first_of (λ destination. counter_between lists wanted conns (Work source) (Work destination)) destinations) rest)
     (first_of-map (counter_between lists wanted conns (Work source)) At (addresses_of ends.block))
-
-pub sides-are : (lists : EstateLists) (direction : Direction) (works : List ℕ) → All (IsWorkload lists) works → All (IsSide lists direction) (map (side_with lists direction) works)
-sides-are lists direction [] are = All-nil (IsSide lists direction)
-sides-are lists direction (work ∷ works) are =
-    All-cons (IsSide lists direction) (side_with lists direction work) (map (side_with lists direction) works) (record { work = All-head (IsWorkload lists) work works are; rules = refl })
-    (sides-are lists direction works (All-tail (IsWorkload lists) work works are))

@@ -3,6 +3,7 @@
 
 mod addresses;
 mod asked;
+mod checker;
 mod checking;
 mod counter;
 mod laws;
@@ -13,7 +14,7 @@ mod read;
 mod statement;
 mod statement_text;
 
-pub use checking::check;
+pub use checker::Checker;
 pub use counter::{Counter, PlaceEnd};
 pub use laws::{
     nothing_is_found_where_a_statement_holds, one_statement_of_a_line,

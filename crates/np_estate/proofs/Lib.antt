@@ -2,6 +2,7 @@ pub mod CountLemmas
 pub mod EndLemmas
 pub mod GatherLemmas
 pub mod KeptEntries
+pub mod KnownLemmas
 pub mod LawfulApart
 pub mod LawfulEntries
 pub mod LawfulLists

@@ -1,20 +1,47 @@
 //! The labels of namespaces.
-ghost use Rattle.std.specs.Prelude.{◌≡◌, IfOk};
+ghost use Rattle.std.specs.Prelude.{◌≡◌, IfOk, OnOk};
 ghost use Rattle.std.specs.List.{slice_get};
 ghost use Rattle.std.specs.Option.{option_and_then};
 ghost use Rattle.np_estate.specs.Namespaces as spec;
+ghost use Rattle.np_estate.specs.steps.Known.{KnowsLabels};
 ghost use Rattle.np_owners.specs.Names.{HoldsPlaces};
 
 use np_base::{NoMemory, Seq, Text, TryCopy};
 use np_items::Item;
-use np_labels::{Labels, Pair};
+use np_labels::{Labels, Pair, SharedLabels};
 use np_objects::Object;
 use np_owners::{ObjectName, Places};
 use std::alloc::Global;
+use std::collections::BTreeMap;
 
-/// The labels of a namespace: those of its Namespace object, if it is listed, and `kubernetes.io/metadata.name`, which
-/// always says its name (Kubernetes API reference, "Well-Known Labels, Annotations and Taints").
-pub(crate) fn namespace_labels(
+/// The labels of the namespaces that were asked for, by their names, each made once.
+pub(crate) type KnownLabels = BTreeMap<Text, SharedLabels>;
+
+/// The labels of a namespace, which all that ask for them share: those that are known, or they are made and known from
+/// then on.
+pub(crate) fn shared_labels(
+    alloc: Global,
+    items: &[Item],
+    places: &Places,
+    known: &mut KnownLabels,
+    name: &Text,
+) -> Result<SharedLabels, NoMemory>
+    requires places { HoldsPlaces items.now places.now }
+    requires known { KnowsLabels items.now known.old }
+    ensures labels { IfOk result (λ labels. labels ≡ spec.namespace_labels items.now name.now) }
+    ensures known { OnOk result (KnowsLabels items.now known.new) }
+{
+    if let Some(labels) = known.get(name) {
+        return labels.share();
+    }
+    let labels = SharedLabels::of(alloc, namespace_labels(alloc, items, places, name)?)?;
+    known.insert(name.copy()?, labels.share()?)?;
+    Ok(labels)
+}
+
+// The labels of a namespace: those of its Namespace object, if it is listed, and `kubernetes.io/metadata.name`, which
+// always says its name (Kubernetes API reference, "Well-Known Labels, Annotations and Taints").
+fn namespace_labels(
     alloc: Global,
     items: &[Item],
     places: &Places,

@@ -2,7 +2,7 @@
 
 use np_addr::Address;
 use np_base::{Seq, Text};
-use np_labels::Labels;
+use np_labels::{Labels, SharedLabels};
 use np_objects::NamedPort;
 use np_owners::Owner;
 
@@ -10,8 +10,9 @@ use np_owners::Owner;
 #[derive(Debug, Drop)]
 pub struct Pod {
     pub namespace: Text,
-    /// They say the namespace's name under `kubernetes.io/metadata.name` where they were read from JSON.
-    pub namespace_labels: Labels,
+    /// They say the namespace's name under `kubernetes.io/metadata.name` where they were read from JSON. The pods of a
+    /// namespace share them.
+    pub namespace_labels: SharedLabels,
     pub name: Text,
     pub labels: Labels,
     /// The container ports that have a name, in order.

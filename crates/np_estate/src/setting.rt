@@ -1,14 +1,15 @@
 //! What the rest of a list says of a pod.
-ghost use Rattle.std.specs.Prelude.{◌≡◌, IfOk};
+ghost use Rattle.std.specs.Prelude.{◌≡◌, IfOk, OnOk};
 ghost use Rattle.np_estate.specs.Ends as spec;
+ghost use Rattle.np_estate.specs.steps.Known.{KnowsLabels};
 ghost use Rattle.np_owners.specs.MadePods as made_pods;
 ghost use Rattle.np_owners.specs.Names.{HoldsPlaces};
 ghost use Rattle.np_owners.specs.Owners.{top_owners};
 
-use crate::namespaces::namespace_labels;
+use crate::namespaces::{KnownLabels, shared_labels};
 use np_base::{NoMemory, TryCopy};
 use np_items::Item;
-use np_labels::Labels;
+use np_labels::SharedLabels;
 use np_objects::{ControllerItem, Object};
 use np_owners::{Owner, Places, name_of};
 use std::alloc::Global;
@@ -16,7 +17,7 @@ use std::alloc::Global;
 /// What the rest of a list says of the pod that an item gives.
 #[derive(Drop)]
 pub(crate) struct Setting {
-    pub(crate) namespace_labels: Labels,
+    pub(crate) namespace_labels: SharedLabels,
     pub(crate) owner: Owner,
 }
 
@@ -34,11 +35,12 @@ pub(crate) fn settings(
     requires owners { owners.now ≡ top_owners items.now }
     ensures { IfOk result (λ made. made.items ≡ spec.settings_of items.now) }
 {
+    let mut known = KnownLabels::new(alloc);
     let mut made = Vec::new(alloc);
     for (place, item) in items.iter().enumerate() {
         let makes = makers[place];
         let owner = &owners[place];
-        made.push(setting_if(alloc, items, places, makes, item, owner)?)?;
+        made.push(setting_if(alloc, items, places, &mut known, makes, item, owner)?)?;
     }
     Ok(made)
 }
@@ -48,15 +50,18 @@ fn setting_if(
     alloc: Global,
     items: &[Item],
     places: &Places,
+    known: &mut KnownLabels,
     makes: bool,
     item: &Item,
     owner: &Option<Owner>,
 ) -> Result<Option<Setting>, NoMemory>
-    requires { HoldsPlaces items.now places.now }
-    ensures { IfOk result (λ made. made ≡ spec.setting_if makes items.now item.now owner.now) }
+    requires places { HoldsPlaces items.now places.now }
+    requires known { KnowsLabels items.now known.old }
+    ensures setting { IfOk result (λ made. made ≡ spec.setting_if makes items.now item.now owner.now) }
+    ensures known { OnOk result (KnowsLabels items.now known.new) }
 {
     if gives_end(makes, item) {
-        setting_of(alloc, items, places, item, owner)
+        setting_of(alloc, items, places, known, item, owner)
     } else {
         Ok(None)
     }
@@ -67,11 +72,14 @@ fn setting_of(
     alloc: Global,
     items: &[Item],
     places: &Places,
+    known: &mut KnownLabels,
     item: &Item,
     owner: &Option<Owner>,
 ) -> Result<Option<Setting>, NoMemory>
-    requires { HoldsPlaces items.now places.now }
-    ensures { IfOk result (λ made. made ≡ spec.setting_of items.now item.now owner.now) }
+    requires places { HoldsPlaces items.now places.now }
+    requires known { KnowsLabels items.now known.old }
+    ensures setting { IfOk result (λ made. made ≡ spec.setting_of items.now item.now owner.now) }
+    ensures known { OnOk result (KnowsLabels items.now known.new) }
 {
     let Some(name) = name_of(alloc, item)? else {
         return Ok(None);
@@ -79,7 +87,7 @@ fn setting_of(
     let Some(owner) = owner else {
         return Ok(None);
     };
-    let namespace_labels = namespace_labels(alloc, items, places, &name.namespace)?;
+    let namespace_labels = shared_labels(alloc, items, places, known, &name.namespace)?;
     Ok(Some(Setting {
         namespace_labels,
         owner: owner.try_copy(alloc)?,

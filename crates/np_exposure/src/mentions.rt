@@ -155,7 +155,7 @@ fn net_selects(policy: &NetPolicy, near: &Pod) -> bool
 fn subject_selects(subject: &Subject, near: &Pod) -> bool
     ensures { result ≡ selection.subject_selects subject.now (pod_end near.now) }
 {
-    subject.namespaces.meets(&near.namespace_labels) && subject.pods.meets(&near.labels)
+    subject.namespaces.meets(near.namespace_labels.labels()) && subject.pods.meets(&near.labels)
 }
 
 // Adds what admin rules mention.

@@ -1,30 +1,34 @@
 -- The questions about two pods, and what they say of pods at places.
-use Rattle.std.proofs.Common.{◌≡◌, ◌↔◌, ℕ, ◌<◌, List, [], ◌∷◌, map, length, get_or, slice_get, Bool, true, false, ◌&&◌, ◌==◌, Option, Some, None, refl, sym, ap, subst, ◌∙◌, arith}
+use Rattle.std.proofs.Common.{◌≡◌, ℕ, ◌<◌, List, [], ◌∷◌, map, length, get_or, slice_get, Bool, true, false, ◌==◌, Option, Some, None, All, refl, sym, ap, ◌∙◌, arith}
 use Rattle.std.specs.Bool.{Decides}
-use Rattle.std.specs.Cmp.{Equal-is, booleans_Decides}
+use Rattle.std.specs.Cmp.{Equal-is}
 use Rattle.std.specs.Cmp.Lexicographic.{bytes_decides, pointwise, pointwise_decides}
 use Rattle.std.specs.List.{list_all}
 use Rattle.std.specs.Option.{option_eq, option_map}
 use Rattle.std.specs.Ordering.{is_eq}
 use Rattle.std.proofs.lemmas.Bool.Decides.{Decides-and, Decides-eqb, Decides-like, same_from_decides}
+use Rattle.std.proofs.lemmas.List.Elements.{All-from_recursion, recursion_from_All}
 use Rattle.std.proofs.lemmas.Option.{same_Some, slice_get-get_or, slice_get-map}
 use Rattle.np_classes.specs.Classes.{IsAlike, keys_tie, of_both}
+use Rattle.np_addr.specs.declared.cidr.Cidr.{Cidr}
 use Rattle.np_estate.specs.declared.lists.EstateLists.{EstateLists}
 use Rattle.np_estate.specs.declared.pod.Pod.{Pod}
-use Rattle.np_fold.specs.Alike.{Alike, IsSameKind, are_alike, are_same_kind, are_same_owner, are_same_port, is_in}
+use Rattle.np_fold.specs.Alike.{Alike, IsSameKind, are_alike, are_both_in, are_same_kind, are_same_owner, are_same_port, have_same_value, is_in}
 use Rattle.np_fold.specs.Blocks.{cidrs_of_estate}
 use Rattle.np_fold.specs.Keys.{keys_of_estate}
 use Rattle.np_fold.specs.Order.{compare_traits, rank}
 use Rattle.np_fold.specs.Traits.{traits_of, with_owner}
+use Rattle.np_fold.specs.steps.Folded.{HaveSame}
 use Rattle.np_fold.specs.Workloads.{first_pod, kinds_alike, pods_alike}
 use Rattle.np_fold.specs.declared.traits.Traits.{Traits}
+use Rattle.np_fold.proofs.BlockLemmas.{agree-from_test, test-from_agree}
+use Rattle.np_fold.proofs.LabelLemmas.{Decides-listed}
 use Rattle.np_fold.proofs.OrderLemmas.{protos, ties-equal}
 use Rattle.np_fold.proofs.TraitLemmas.{traits-alike, traits-same_kind}
 use Rattle.np_labels.specs.Labels.{value_of}
 use Rattle.np_labels.specs.Selectors.{is_listed}
 use Rattle.np_objects.specs.declared.named_port.NamedPort.{NamedPort}
 use Rattle.np_owners.specs.declared.owner.Owner.{Owner}
-use mathlib.Core.Bool.{beq}
 
 -- ---- what a question decides
 
@@ -48,34 +52,25 @@ values_decide None (Some y) = (λ is. let never : false ≡ true = is in cc, λ 
 values_decide (Some x) None = (λ is. let never : false ≡ true = is in cc, λ same. cc)
 values_decide (Some x) (Some y) = Decides-like (pointwise (λ x y. x == y) x y) (ap Some) (same_Some x y) (bytes_decides x y)
 
--- a test of all items is one of two lists
-pointwise-maps : {X Y : Type 0} (test : Y → Y → Bool) (f g : X → Y) (xs : List X) → pointwise test (map f xs) (map g xs) ≡ list_all (λ x. test (f x) (g x)) xs
-pointwise-maps test f g [] = refl
-pointwise-maps test f g (x ∷ xs) = ap (λ (rest : Bool). test (f x) (g x) && rest) (pointwise-maps test f g xs)
-
-maps_decide : {X Y : Type 0} (test : Y → Y → Bool) → ((x y : Y) → Decides (test x y) (x ≡ y)) → (f g : X → Y) (xs : List X) → Decides (list_all (λ x. test (f x) (g x)) xs) (map f xs ≡ map g xs)
-maps_decide test each f g xs = subst (λ (b : Bool). Decides b (map f xs ≡ map g xs)) (pointwise-maps test f g xs) (pointwise_decides each (map f xs) (map g xs))
-
 module _ (lists : EstateLists) (a b : Pod) where
-  -- what rules see of a pod, with one owner put in
-  abbrev seen : Pod → Traits
-  seen pod = with_owner a.owner (traits_of (keys_of_estate lists) (cidrs_of_estate lists) pod)
+  labels_decide : Decides (list_all (have_same_value a b) (keys_of_estate lists)) ((key : List ℕ) → is_listed (keys_of_estate lists) key ≡ true → value_of a.labels key ≡ value_of b.labels key)
+  labels_decide =
+      Decides-listed (have_same_value a b) (λ key. value_of a.labels key ≡ value_of b.labels key)
+      (λ key. values_decide (value_of a.labels key) (value_of b.labels key)) (keys_of_estate lists)
 
-  seen-kind : (seen a ≡ seen b) ↔ IsSameKind lists a b
-  seen-kind = traits-same_kind lists (keys_of_estate lists) (λ key. refl) a b a.owner
+  blocks_decide : Decides (list_all (are_both_in a b) (cidrs_of_estate lists)) (All (λ cidr. is_in a.addresses cidr ≡ is_in b.addresses cidr) (cidrs_of_estate lists))
+  blocks_decide = (
+    λ all. All-from_recursion _ (cidrs_of_estate lists) (agree-from_test (is_in a.addresses) (is_in b.addresses) (cidrs_of_estate lists) all),
+    λ agree. test-from_agree (is_in a.addresses) (is_in b.addresses) (cidrs_of_estate lists) (recursion_from_All _ (cidrs_of_estate lists) agree),
+  )
 
   pub kinds_decide : Decides (are_same_kind lists a b) (IsSameKind lists a b)
   unfolding are_same_kind
   kinds_decide =
       Decides-like (are_same_kind lists a b)
-      (λ same. seen-kind.0 (rw (same.0.0.0, same.0.0.1, same.0.1, same.1) refl))
-      (λ kind.
-      let equal : seen a ≡ seen b = seen-kind.1 kind in
-      (((kind.namespace, ap (λ (t : Traits). t.values) equal), kind.ports), ap (λ (t : Traits). t.blocks) equal))
-      (Decides-and _ _ (Decides-and _ _ (Decides-and _ _ (bytes_decides a.namespace b.namespace)
-      (maps_decide (option_eq (pointwise (λ x y. x == y))) values_decide (value_of a.labels) (value_of b.labels) (keys_of_estate lists)))
-      (pointwise_decides ports_decide a.ports b.ports))
-      (maps_decide beq booleans_Decides (is_in a.addresses) (is_in b.addresses) (cidrs_of_estate lists)))
+      (λ same. record { namespace = same.0.0.0; labels = same.0.0.1; ports = same.0.1; blocks = same.1 })
+      (λ kind. (((kind.namespace, kind.labels), kind.ports), kind.blocks))
+      (Decides-and _ _ (Decides-and _ _ (Decides-and _ _ (bytes_decides a.namespace b.namespace) labels_decide) (pointwise_decides ports_decide a.ports b.ports)) blocks_decide)
 
   pub alike_decide : Decides (are_alike lists a b) (Alike lists a b)
   unfolding are_alike
@@ -96,33 +91,33 @@ of_both-map ask ask' f same None (Some y) = refl
 of_both-map ask ask' f same (Some x) None = refl
 of_both-map ask ask' f same (Some x) (Some y) = same x y
 
-module _ (lists : EstateLists) (keys : List (List ℕ)) (same : (key : List ℕ) → is_listed keys key ≡ is_listed (keys_of_estate lists) key) where
+module _ (lists : EstateLists) (keys : List (List ℕ)) (same : (key : List ℕ) → is_listed keys key ≡ is_listed (keys_of_estate lists) key) (cidrs : List Cidr) (blocks : HaveSame cidrs (cidrs_of_estate lists)) where
   -- pods are alike where their traits tie
-  traits-tie : (a b : Pod) → is_eq (compare_traits (traits_of keys (cidrs_of_estate lists) a) (traits_of keys (cidrs_of_estate lists) b)) ≡ are_alike lists a b
+  traits-tie : (a b : Pod) → is_eq (compare_traits (traits_of keys cidrs a) (traits_of keys cidrs b)) ≡ are_alike lists a b
   traits-tie a b =
       same_from_decides _ (are_alike lists a b)
-      (Decides-like _ (traits-alike lists keys same a b).0 (traits-alike lists keys same a b).1 (ties_decide (traits_of keys (cidrs_of_estate lists) a) (traits_of keys (cidrs_of_estate lists) b)))
+      (Decides-like _ (traits-alike lists keys same cidrs blocks a b).0 (traits-alike lists keys same cidrs blocks a b).1 (ties_decide (traits_of keys cidrs a) (traits_of keys cidrs b)))
       (alike_decide lists a b)
 
   -- and of one kind where they tie with one owner put in
-  kinds-tie : (owner : Owner) (a b : Pod) → is_eq (compare_traits (with_owner owner (traits_of keys (cidrs_of_estate lists) a)) (with_owner owner (traits_of keys (cidrs_of_estate lists) b))) ≡ are_same_kind lists a b
+  kinds-tie : (owner : Owner) (a b : Pod) → is_eq (compare_traits (with_owner owner (traits_of keys cidrs a)) (with_owner owner (traits_of keys cidrs b))) ≡ are_same_kind lists a b
   kinds-tie owner a b =
       same_from_decides _ (are_same_kind lists a b)
-      (Decides-like _ (traits-same_kind lists keys same a b owner).0 (traits-same_kind lists keys same a b owner).1 (ties_decide (with_owner owner (traits_of keys (cidrs_of_estate lists) a)) (with_owner owner (traits_of keys (cidrs_of_estate lists) b))))
+      (Decides-like _ (traits-same_kind lists keys same cidrs blocks a b owner).0 (traits-same_kind lists keys same cidrs blocks a b owner).1 (ties_decide (with_owner owner (traits_of keys cidrs a)) (with_owner owner (traits_of keys cidrs b))))
       (kinds_decide lists a b)
 
   -- so the traits of all pods tie where the pods are alike
-  pub keys_tie-pods : (a b : ℕ) → keys_tie compare_traits (map (traits_of keys (cidrs_of_estate lists)) lists.pods) a b ≡ pods_alike lists a b
+  pub keys_tie-pods : (a b : ℕ) → keys_tie compare_traits (map (traits_of keys cidrs) lists.pods) a b ≡ pods_alike lists a b
   keys_tie-pods a b =
-      rw (slice_get-map (traits_of keys (cidrs_of_estate lists)) lists.pods a, slice_get-map (traits_of keys (cidrs_of_estate lists)) lists.pods b)
-      (of_both-map (λ x y. is_eq (compare_traits x y)) (are_alike lists) (traits_of keys (cidrs_of_estate lists)) traits-tie (slice_get lists.pods a) (slice_get lists.pods b))
+      rw (slice_get-map (traits_of keys cidrs) lists.pods a, slice_get-map (traits_of keys cidrs) lists.pods b)
+      (of_both-map (λ x y. is_eq (compare_traits x y)) (are_alike lists) (traits_of keys cidrs) traits-tie (slice_get lists.pods a) (slice_get lists.pods b))
 
   -- and those of the first pods of workloads, with one owner put in, where the workloads are of one kind
-  pub keys_tie-kinds : (owner : Owner) (made : List Traits) → ((number : ℕ) → slice_get made number ≡ option_map (λ pod. with_owner owner (traits_of keys (cidrs_of_estate lists) pod)) (first_pod lists number))
+  pub keys_tie-kinds : (owner : Owner) (made : List Traits) → ((number : ℕ) → slice_get made number ≡ option_map (λ pod. with_owner owner (traits_of keys cidrs pod)) (first_pod lists number))
       → (a b : ℕ) → keys_tie compare_traits made a b ≡ kinds_alike lists a b
   keys_tie-kinds owner made each a b =
       rw (each a, each b)
-      (of_both-map (λ x y. is_eq (compare_traits x y)) (are_same_kind lists) (λ pod. with_owner owner (traits_of keys (cidrs_of_estate lists) pod)) (kinds-tie owner) (first_pod lists a) (first_pod lists b))
+      (of_both-map (λ x y. is_eq (compare_traits x y)) (are_same_kind lists) (λ pod. with_owner owner (traits_of keys cidrs pod)) (kinds-tie owner) (first_pod lists a) (first_pod lists b))
 
 -- ---- alike places
 
@@ -155,7 +150,9 @@ slice_get-some (x ∷ xs) place within = (get_or (x ∷ xs) place x, slice_get-g
 pub alike-is : (lists : EstateLists) → IsAlike (pods_alike lists) (length lists.pods)
 alike-is lists =
     places-alike (are_alike lists) (traits_of (keys_of_estate lists) (cidrs_of_estate lists))
-    (λ a b. Decides-like (are_alike lists a b) (traits-alike lists (keys_of_estate lists) (λ key. refl) a b).1 (traits-alike lists (keys_of_estate lists) (λ key. refl) a b).0 (alike_decide lists a b))
+    (λ a b.
+    let equal = traits-alike lists (keys_of_estate lists) (λ key. refl) (cidrs_of_estate lists) (λ test. refl) a b in
+    Decides-like (are_alike lists a b) equal.1 equal.0 (alike_decide lists a b))
     (slice_get lists.pods) (length lists.pods) (slice_get-some lists.pods)
 
 -- an owner of no name
@@ -166,5 +163,7 @@ nobody = record { kind = []; name = [] }
 pub kinds-are : (lists : EstateLists) (count : ℕ) → ((number : ℕ) → number < count → (pod : Pod) × (first_pod lists number ≡ Some pod)) → IsAlike (kinds_alike lists) count
 kinds-are lists count there =
     places-alike (are_same_kind lists) (λ pod. with_owner nobody (traits_of (keys_of_estate lists) (cidrs_of_estate lists) pod))
-    (λ a b. Decides-like (are_same_kind lists a b) (traits-same_kind lists (keys_of_estate lists) (λ key. refl) a b nobody).1 (traits-same_kind lists (keys_of_estate lists) (λ key. refl) a b nobody).0 (kinds_decide lists a b))
+    (λ a b.
+    let equal = traits-same_kind lists (keys_of_estate lists) (λ key. refl) (cidrs_of_estate lists) (λ test. refl) a b nobody in
+    Decides-like (are_same_kind lists a b) equal.1 equal.0 (kinds_decide lists a b))
     (first_pod lists) count there

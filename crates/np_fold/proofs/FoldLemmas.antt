@@ -10,7 +10,7 @@ use Rattle.np_classes.specs.Classes.{class_of, firsts, keys_tie, places}
 use Rattle.np_estate.specs.declared.lists.EstateLists.{EstateLists}
 use Rattle.np_estate.specs.declared.pod.Pod.{Pod}
 use Rattle.np_fold.specs.Blocks.{cidrs_of_estate}
-use Rattle.np_fold.specs.steps.Folded.{classes_of_pods, first_kinds, kind_at, kind_traits, kinds_of_workloads, nobody, number_among}
+use Rattle.np_fold.specs.steps.Folded.{HaveSame, classes_of_pods, first_kinds, kind_at, kind_traits, kinds_of_workloads, nobody, number_among}
 use Rattle.np_fold.specs.Keys.{keys_of_estate}
 use Rattle.np_fold.specs.Order.{compare_traits}
 use Rattle.np_fold.specs.Traits.{traits_of}
@@ -40,19 +40,19 @@ owner_name-here lists place pod within is =
 
 -- ---- classes of pods
 
-module _ (lists : EstateLists) (keys : List (List ℕ)) (same : (key : List ℕ) → is_listed keys key ≡ is_listed (keys_of_estate lists) key) where
-  traits_alike : (traits : List Traits) → traits ≡ map (traits_of keys (cidrs_of_estate lists)) lists.pods → keys_tie compare_traits traits ≡ pods_alike lists
+module _ (lists : EstateLists) (keys : List (List ℕ)) (same : (key : List ℕ) → is_listed keys key ≡ is_listed (keys_of_estate lists) key) (cidrs : List Cidr) (blocks : HaveSame cidrs (cidrs_of_estate lists)) where
+  traits_alike : (traits : List Traits) → traits ≡ map (traits_of keys cidrs) lists.pods → keys_tie compare_traits traits ≡ pods_alike lists
   traits_alike traits is =
       ap (keys_tie compare_traits) is
-      ∙ one_relation (keys_tie compare_traits (map (traits_of keys (cidrs_of_estate lists)) lists.pods)) (pods_alike lists) (keys_tie-pods lists keys same)
+      ∙ one_relation (keys_tie compare_traits (map (traits_of keys cidrs) lists.pods)) (pods_alike lists) (keys_tie-pods lists keys same cidrs blocks)
 
-  traits_count : (traits : List Traits) → traits ≡ map (traits_of keys (cidrs_of_estate lists)) lists.pods → length traits ≡ length lists.pods
-  traits_count traits is = ap length is ∙ length-map lists.pods (traits_of keys (cidrs_of_estate lists))
+  traits_count : (traits : List Traits) → traits ≡ map (traits_of keys cidrs) lists.pods → length traits ≡ length lists.pods
+  traits_count traits is = ap length is ∙ length-map lists.pods (traits_of keys cidrs)
 
-  pub classes-firsts : (traits : List Traits) → traits ≡ map (traits_of keys (cidrs_of_estate lists)) lists.pods → firsts (keys_tie compare_traits traits) (length traits) ≡ first_pods lists
+  pub classes-firsts : (traits : List Traits) → traits ≡ map (traits_of keys cidrs) lists.pods → firsts (keys_tie compare_traits traits) (length traits) ≡ first_pods lists
   classes-firsts traits is = rw (traits_alike traits is, traits_count traits is) refl
 
-  pub classes-numbers : (traits : List Traits) → traits ≡ map (traits_of keys (cidrs_of_estate lists)) lists.pods → map (class_of (keys_tie compare_traits traits) (length traits)) (places (length traits)) ≡ classes_of_pods lists
+  pub classes-numbers : (traits : List Traits) → traits ≡ map (traits_of keys cidrs) lists.pods → map (class_of (keys_tie compare_traits traits) (length traits)) (places (length traits)) ≡ classes_of_pods lists
   classes-numbers traits is = rw (traits_alike traits is, traits_count traits is) refl
 
 -- ---- numbers of pods
@@ -110,22 +110,22 @@ counts-agree f (x ∷ xs) (y ∷ made) is =
     let others : map Some made ≡ map f xs = cc in
     ap suc (counts-agree f xs made others)
 
-module _ (lists : EstateLists) (keys : List (List ℕ)) (same : (key : List ℕ) → is_listed keys key ≡ is_listed (keys_of_estate lists) key)
-    (made : List Traits) (is : map Some made ≡ map (kind_at keys (cidrs_of_estate lists) lists.pods (first_pods lists)) (named_first_pods lists)) where
-  each : (number : ℕ) → slice_get made number ≡ option_map (kind_traits keys (cidrs_of_estate lists)) (first_pod lists number)
+module _ (lists : EstateLists) (keys : List (List ℕ)) (same : (key : List ℕ) → is_listed keys key ≡ is_listed (keys_of_estate lists) key) (cidrs : List Cidr) (blocks : HaveSame cidrs (cidrs_of_estate lists))
+    (made : List Traits) (is : map Some made ≡ map (kind_at keys cidrs lists.pods (first_pods lists)) (named_first_pods lists)) where
+  each : (number : ℕ) → slice_get made number ≡ option_map (kind_traits keys cidrs) (first_pod lists number)
   each number =
-      value_at-number (kind_at keys (cidrs_of_estate lists) lists.pods (first_pods lists)) (named_first_pods lists) made is number
+      value_at-number (kind_at keys cidrs lists.pods (first_pods lists)) (named_first_pods lists) made is number
       ∙ moved (slice_get (named_first_pods lists) number)
     where
-      moved : (one : Option Named) → option_and_then (kind_at keys (cidrs_of_estate lists) lists.pods (first_pods lists)) one ≡ option_map (kind_traits keys (cidrs_of_estate lists)) (option_and_then (λ (one : Named). slice_get lists.pods (get_or (first_pods lists) one.place 0)) one)
+      moved : (one : Option Named) → option_and_then (kind_at keys cidrs lists.pods (first_pods lists)) one ≡ option_map (kind_traits keys cidrs) (option_and_then (λ (one : Named). slice_get lists.pods (get_or (first_pods lists) one.place 0)) one)
       moved None = refl
       moved (Some one) = refl
 
   made_alike : keys_tie compare_traits made ≡ kinds_alike lists
-  made_alike = one_relation (keys_tie compare_traits made) (kinds_alike lists) (keys_tie-kinds lists keys same nobody made each)
+  made_alike = one_relation (keys_tie compare_traits made) (kinds_alike lists) (keys_tie-kinds lists keys same cidrs blocks nobody made each)
 
   made_count : length made ≡ workload_count lists
-  made_count = counts-agree (kind_at keys (cidrs_of_estate lists) lists.pods (first_pods lists)) (named_first_pods lists) made is ∙ count-is lists
+  made_count = counts-agree (kind_at keys cidrs lists.pods (first_pods lists)) (named_first_pods lists) made is ∙ count-is lists
 
   pub kinds-firsts : firsts (keys_tie compare_traits made) (length made) ≡ first_kinds lists
   kinds-firsts = rw (made_alike, made_count) refl

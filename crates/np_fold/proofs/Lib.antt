@@ -1,5 +1,7 @@
 pub mod AlikeLemmas
+pub mod BlockLemmas
 pub mod FoldLemmas
+pub mod LabelLemmas
 pub mod MemberLemmas
 pub mod NumberLemmas
 pub mod OrderLemmas

@@ -1,42 +1,29 @@
 -- Only equal traits tie in their order.
-use Rattle.std.proofs.Common.{◌≡◌, ◌↔◌, [], ◌∷◌, true, false, arith, Some, None, Ordering, Less, Equal, Greater, refl, sym, ap}
+use Rattle.std.proofs.Common.{◌≡◌, ◌↔◌, [], ◌∷◌, arith, Ordering, Less, Equal, Greater, refl, sym}
 use Rattle.std.specs.Cmp.{ranked, tied_itself}
 use Rattle.std.specs.Cmp.Lexicographic.{slice_cmp}
-use Rattle.std.specs.Option.{option_cmp}
-use Rattle.std.specs.Ordering.{bool_cmp, nat_cmp, ordering_then}
+use Rattle.std.specs.Ordering.{nat_cmp, ordering_then}
 use Rattle.np_conns.specs.declared.proto.Proto.{Proto}
 use Rattle.np_conns.specs.declared.proto.Proto.TheVariants.{Tcp, Udp, Sctp}
-use Rattle.np_fold.specs.Order.{compare_owners, compare_ports, compare_texts, compare_traits, rank, traits_total}
+use Rattle.np_fold.specs.Order.{compare_labels, compare_owners, compare_ports, compare_texts, compare_traits, rank, traits_total}
 use Rattle.np_fold.specs.declared.traits.Traits.{Traits}
 
 -- only equal values tie
 abbrev TiesOnlyEqual : {K : Type 0} → (K → K → Ordering) → Type 0
 TiesOnlyEqual {K} R = (x y : K) → R x y ≡ Equal → x ≡ y
 
-first_ties : (first second : Ordering) → ordering_then first second ≡ Equal → first ≡ Equal
+pub first_ties : (first second : Ordering) → ordering_then first second ≡ Equal → first ≡ Equal
 first_ties Less second ties = cc
 first_ties Equal second ties = refl
 first_ties Greater second ties = cc
 
-second_ties : (first second : Ordering) → ordering_then first second ≡ Equal → second ≡ Equal
+pub second_ties : (first second : Ordering) → ordering_then first second ≡ Equal → second ≡ Equal
 second_ties Less second ties = cc
 second_ties Equal second ties = ties
 second_ties Greater second ties = cc
 
-numbers : TiesOnlyEqual nat_cmp
+pub numbers : TiesOnlyEqual nat_cmp
 numbers x y ties = ranked x y Equal (sym ties)
-
-bools : TiesOnlyEqual bool_cmp
-bools true true ties = refl
-bools true false ties = cc
-bools false true ties = cc
-bools false false ties = refl
-
-options : {K : Type 0} (R : K → K → Ordering) → TiesOnlyEqual R → TiesOnlyEqual (option_cmp R)
-options R only None None ties = refl
-options R only None (Some y) ties = cc
-options R only (Some x) None ties = cc
-options R only (Some x) (Some y) ties = ap Some (only x y ties)
 
 lists : {K : Type 0} (R : K → K → Ordering) → TiesOnlyEqual R → TiesOnlyEqual (slice_cmp R)
 lists R only [] [] ties = refl
@@ -62,6 +49,10 @@ owners : TiesOnlyEqual compare_owners
 owners x y ties =
     rw (texts x.kind y.kind (first_ties (compare_texts x.kind y.kind) (compare_texts x.name y.name) ties), texts x.name y.name (second_ties (compare_texts x.kind y.kind) (compare_texts x.name y.name) ties)) refl
 
+labels : TiesOnlyEqual compare_labels
+labels x y ties =
+    rw (texts x.key y.key (first_ties (compare_texts x.key y.key) (compare_texts x.value y.value) ties), texts x.value y.value (second_ties (compare_texts x.key y.key) (compare_texts x.value y.value) ties)) refl
+
 ports : TiesOnlyEqual compare_ports
 ports x y ties =
     let name : Ordering = compare_texts x.name y.name in
@@ -74,18 +65,18 @@ only_equal : TiesOnlyEqual compare_traits
 only_equal x y ties =
     let one : Ordering = compare_texts x.namespace y.namespace in
     let two : Ordering = compare_owners x.owner y.owner in
-    let three : Ordering = slice_cmp (option_cmp compare_texts) x.values y.values in
+    let three : Ordering = slice_cmp compare_labels x.labels y.labels in
     let four : Ordering = slice_cmp compare_ports x.ports y.ports in
-    let five : Ordering = slice_cmp bool_cmp x.blocks y.blocks in
+    let five : Ordering = slice_cmp nat_cmp x.blocks y.blocks in
     let to_four : ordering_then (ordering_then (ordering_then one two) three) four ≡ Equal = first_ties (ordering_then (ordering_then (ordering_then one two) three) four) five ties in
     let to_three : ordering_then (ordering_then one two) three ≡ Equal = first_ties (ordering_then (ordering_then one two) three) four to_four in
     let to_two : ordering_then one two ≡ Equal = first_ties (ordering_then one two) three to_three in
     rw (
       texts x.namespace y.namespace (first_ties one two to_two),
       owners x.owner y.owner (second_ties one two to_two),
-      lists (option_cmp compare_texts) (options compare_texts texts) x.values y.values (second_ties (ordering_then one two) three to_three),
+      lists compare_labels labels x.labels y.labels (second_ties (ordering_then one two) three to_three),
       lists compare_ports ports x.ports y.ports (second_ties (ordering_then (ordering_then one two) three) four to_four),
-      lists bool_cmp bools x.blocks y.blocks (second_ties (ordering_then (ordering_then (ordering_then one two) three) four) five ties),
+      lists nat_cmp numbers x.blocks y.blocks (second_ties (ordering_then (ordering_then (ordering_then one two) three) four) five ties),
     ) refl
 
 pub ties-equal : (x y : Traits) → (compare_traits x y ≡ Equal) ↔ (x ≡ y)

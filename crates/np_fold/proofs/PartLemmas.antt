@@ -17,6 +17,7 @@ use Rattle.np_fold.specs.Workloads.{Folding, Workload, folding_of, kinds_alike, 
 use Rattle.np_fold.proofs.FoldLemmas.{numbers-are}
 use Rattle.np_fold.proofs.MemberLemmas.{workloads-are}
 use Rattle.np_fold.proofs.NumberLemmas.{classes-within, count-is, named-within, names-strict, numbers-within}
+use Rattle.np_labels.proofs.Distinct.{distinct-sorted}
 use Rattle.np_labels.specs.Selectors.{is_listed}
 use Rattle.np_names.specs.declared.named.Named.{Named}
 use Rattle.np_policies.proofs.SelectorLemmas.{is_listed-distinct}
@@ -24,6 +25,15 @@ use Rattle.np_policies.proofs.SelectorLemmas.{is_listed-distinct}
 -- the relevant keys are those that selectors name
 pub keys-agree : (keys made more : List (List ℕ)) → made ≡ keys → keys ≡ with_keys [] more → (key : List ℕ) → is_listed made key ≡ is_listed more key
 keys-agree keys made more same is key = rw (same, is) (is_listed-distinct more key)
+
+-- and they ascend
+pub keys-ascend : (keys made more : List (List ℕ)) → made ≡ keys → keys ≡ with_keys [] more → IsStrictlySortedBy (slice_cmp nat_cmp) made
+keys-ascend keys made more same is = rw (same, is) (distinct-sorted more)
+
+-- those of a folding too
+pub relevant-ascend : (lists : EstateLists) (made : List (List ℕ)) → made ≡ (folding_of lists).relevant → IsStrictlySortedBy (slice_cmp nat_cmp) made
+unfolding folding_of
+relevant-ascend lists made is = keys-ascend (with_keys [] (keys_of_estate lists)) made (keys_of_estate lists) is refl
 
 module _ (lists : EstateLists) (few : workload_count lists ≤ 2000) (named : List Named) (is : named ≡ named_first_pods lists) where
   -- there is one name for each first pod

@@ -1,12 +1,12 @@
 -- The order of traits.
 use Rattle.std.specs.Prelude.{ℕ, List}
-use Rattle.std.specs.Cmp.{IsTotalOrder, bool_cmp_total, nat_cmp_total, on_total, then_total}
-use Rattle.std.specs.Cmp.Lexicographic.{slice_cmp, lists_total, nat_list_cmp_total, options_total}
-use Rattle.std.specs.Option.{option_cmp}
-use Rattle.std.specs.Ordering.{bool_cmp, nat_cmp, on, then_cmp}
+use Rattle.std.specs.Cmp.{IsTotalOrder, nat_cmp_total, on_total, then_total}
+use Rattle.std.specs.Cmp.Lexicographic.{slice_cmp, lists_total, nat_list_cmp_total}
+use Rattle.std.specs.Ordering.{nat_cmp, on, ordering_then, then_cmp}
 use Rattle.std.specs.declared.cmp.Ordering.{Ordering}
 use Rattle.np_conns.specs.declared.proto.Proto.{Proto}
 use Rattle.np_conns.specs.declared.proto.Proto.TheVariants.{Tcp, Udp, Sctp}
+use Rattle.np_fold.specs.declared.traits.Label.{Label}
 use Rattle.np_fold.specs.declared.traits.Traits.{Traits}
 use Rattle.np_objects.specs.declared.named_port.NamedPort.{NamedPort}
 use Rattle.np_owners.specs.declared.owner.Owner.{Owner}
@@ -29,9 +29,13 @@ rank Sctp = 2
 abbrev pub compare_ports : NamedPort → NamedPort → Ordering
 compare_ports = then_cmp (then_cmp (on (λ port. port.name) compare_texts) (on (λ port. rank port.proto) nat_cmp)) (on (λ port. port.number) nat_cmp)
 
--- field by field: a list goes by its first difference, and a missing value stands before all others
+-- by key, and then by value
+abbrev pub compare_labels : Label → Label → Ordering
+compare_labels a b = ordering_then (compare_texts a.key b.key) (compare_texts a.value b.value)
+
+-- field by field: a list goes by its first difference
 abbrev pub compare_traits : Traits → Traits → Ordering
-compare_traits = then_cmp (then_cmp (then_cmp (then_cmp (on (λ traits. traits.namespace) compare_texts) (on (λ traits. traits.owner) compare_owners)) (on (λ traits. traits.values) (slice_cmp (option_cmp compare_texts)))) (on (λ traits. traits.ports) (slice_cmp compare_ports))) (on (λ traits. traits.blocks) (slice_cmp bool_cmp))
+compare_traits = then_cmp (then_cmp (then_cmp (then_cmp (on (λ traits. traits.namespace) compare_texts) (on (λ traits. traits.owner) compare_owners)) (on (λ traits. traits.labels) (slice_cmp compare_labels))) (on (λ traits. traits.ports) (slice_cmp compare_ports))) (on (λ traits. traits.blocks) (slice_cmp nat_cmp))
 
 -- ---- these orders are total
 
@@ -41,11 +45,14 @@ owners_total = then_total (on_total (λ (o : Owner). o.kind) nat_list_cmp_total)
 ports_total : IsTotalOrder compare_ports
 ports_total = then_total (then_total (on_total (λ (p : NamedPort). p.name) nat_list_cmp_total) (on_total (λ (p : NamedPort). rank p.proto) nat_cmp_total)) (on_total (λ (p : NamedPort). p.number) nat_cmp_total)
 
+labels_total : IsTotalOrder compare_labels
+labels_total = then_total (on_total (λ (l : Label). l.key) nat_list_cmp_total) (on_total (λ (l : Label). l.value) nat_list_cmp_total)
+
 pub traits_total : IsTotalOrder compare_traits
 traits_total =
     then_total (then_total (then_total (then_total
     (on_total (λ (t : Traits). t.namespace) nat_list_cmp_total)
     (on_total (λ (t : Traits). t.owner) owners_total))
-    (on_total (λ (t : Traits). t.values) (lists_total (options_total nat_list_cmp_total))))
+    (on_total (λ (t : Traits). t.labels) (lists_total labels_total)))
     (on_total (λ (t : Traits). t.ports) (lists_total ports_total)))
-    (on_total (λ (t : Traits). t.blocks) (lists_total bool_cmp_total))
+    (on_total (λ (t : Traits). t.blocks) nat_list_cmp_total)

@@ -1,5 +1,8 @@
 //! The kinds of workloads.
 ghost use Rattle.std.specs.Prelude.{◌≡◌, ◌<◌, ◌^◌, All, IfOk, List, Some, ℕ, length, map};
+ghost use Rattle.std.specs.Cmp.Lexicographic.{slice_cmp};
+ghost use Rattle.std.specs.List.Sorted.{IsStrictlySortedBy};
+ghost use Rattle.std.specs.Ordering.{nat_cmp};
 ghost use Rattle.np_classes.specs.Classes.{class_of, firsts, places};
 ghost use Rattle.np_fold.specs.Blocks.{cidrs_of_estate};
 ghost use Rattle.np_fold.specs.steps.Folded as folded;
@@ -28,7 +31,8 @@ pub(crate) fn kinds_of_workloads(
 ) -> Result<Classes, NoMemory>
     requires few { length named.now < 2 ^ 32 }
     requires keys { (key : List ℕ) → is_listed keys.now key ≡ is_listed (keys_of_estate estate.now) key }
-    requires cidrs { cidrs.now ≡ cidrs_of_estate estate.now }
+    requires ascending { IsStrictlySortedBy (slice_cmp nat_cmp) keys.now }
+    requires cidrs { folded.HaveSame cidrs.now (cidrs_of_estate estate.now) }
     requires firsts { firsts.now ≡ spec.first_pods estate.now }
     requires named { named.now ≡ spec.named_first_pods estate.now }
     ensures firsts { IfOk result (λ made. made.firsts ≡ folded.first_kinds estate.now) }
@@ -47,6 +51,7 @@ fn traits_by_name(
     firsts: &[u32],
     named: &[Named],
 ) -> Result<Seq<Traits>, NoMemory>
+    requires keys { IsStrictlySortedBy (slice_cmp nat_cmp) keys.now }
     requires firsts { All (λ first. first < length pods.now) firsts.now }
     requires named { All (λ one. one.place < length firsts.now) named.now }
     ensures { IfOk result (λ made. map Some made ≡ map (folded.kind_at keys.now cidrs.now pods.now firsts.now) named.now) }
@@ -61,6 +66,7 @@ fn traits_by_name(
 
 // What rules see of a pod, without its owner.
 fn kind_traits(alloc: Global, pod: &Pod, keys: &[Text], cidrs: &[Cidr]) -> Result<Traits, NoMemory>
+    requires { IsStrictlySortedBy (slice_cmp nat_cmp) keys.now }
     ensures { IfOk result (λ made. made ≡ folded.kind_traits keys.now cidrs.now pod.now) }
 {
     let mut traits = Traits::of(alloc, pod, keys, cidrs)?;

@@ -3,6 +3,7 @@
 #![tactic(auto)]
 
 mod blocks;
+mod distinct_blocks;
 mod fold_fault;
 mod folded;
 mod kinds;
@@ -25,5 +26,5 @@ pub use laws::{
     the_five_equalities, traits_tell_pods_apart, workloads_have_pods, workloads_stand_by_name,
 };
 pub use relevant::relevant_keys;
-pub use traits::Traits;
+pub use traits::{Label, Traits};
 pub use workloads::{MOST_WORKLOADS, Workloads};

@@ -60,7 +60,7 @@ impl Ord for Traits {
         self.namespace
             .cmp(&other.namespace)
             .then(compare_owners(&self.owner, &other.owner))
-            .then(self.values.items().cmp(other.values.items()))
+            .then(self.labels.items().cmp(other.labels.items()))
             .then(compare_port_lists(self.ports.items(), other.ports.items()))
             .then(self.blocks.items().cmp(other.blocks.items()))
     }

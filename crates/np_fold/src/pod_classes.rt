@@ -1,5 +1,8 @@
 //! The classes of alike pods.
 ghost use Rattle.std.specs.Prelude.{◌≡◌, ◌<◌, ◌^◌, IfOk, List, ℕ, length};
+ghost use Rattle.std.specs.Cmp.Lexicographic.{slice_cmp};
+ghost use Rattle.std.specs.List.Sorted.{IsStrictlySortedBy};
+ghost use Rattle.std.specs.Ordering.{nat_cmp};
 ghost use Rattle.np_fold.specs.Blocks.{cidrs_of_estate};
 ghost use Rattle.np_fold.specs.steps.Folded as folded;
 ghost use Rattle.np_fold.specs.Keys.{keys_of_estate};
@@ -22,7 +25,8 @@ pub(crate) fn classes_of_pods(
 ) -> Result<Classes, NoMemory>
     requires few { length estate.now.pods < 2 ^ 32 }
     requires keys { (key : List ℕ) → is_listed keys.now key ≡ is_listed (keys_of_estate estate.now) key }
-    requires cidrs { cidrs.now ≡ cidrs_of_estate estate.now }
+    requires ascending { IsStrictlySortedBy (slice_cmp nat_cmp) keys.now }
+    requires cidrs { folded.HaveSame cidrs.now (cidrs_of_estate estate.now) }
     ensures firsts { IfOk result (λ made. made.firsts ≡ spec.first_pods estate.now) }
     ensures numbers { IfOk result (λ made. made.numbers ≡ folded.classes_of_pods estate.now) }
 {

@@ -1,50 +1,64 @@
 //! What rules see of a pod.
 ghost use Rattle.std.specs.Prelude.{◌≡◌, IfOk, map};
+ghost use Rattle.std.specs.Cmp.Lexicographic.{slice_cmp};
+ghost use Rattle.std.specs.List.{filter_map};
+ghost use Rattle.std.specs.List.Sorted.{IsStrictlySortedBy};
+ghost use Rattle.std.specs.Ordering.{nat_cmp};
 ghost use Rattle.np_fold.specs.Alike.{is_in};
 ghost use Rattle.np_fold.specs.Traits as spec;
-ghost use Rattle.np_labels.specs.Labels.{value_of};
+ghost use Rattle.np_labels.specs.Labels.{HasAscendingKeys};
+ghost use Rattle.np_labels.specs.Selectors.{is_listed};
 
 use np_addr::{Address, Cidr, cidr_has};
 use np_base::{NoMemory, Seq, Text, TryCopy};
 use np_estate::Pod;
-use np_labels::Labels;
+use np_labels::Pair;
 use np_objects::NamedPort;
 use np_owners::Owner;
 use std::alloc::Global;
+
+/// A label that rules see. Labels are ordered by their keys, and those of one key by their values.
+#[derive(Debug, Drop, PartialEq, Eq, PartialOrd, Ord)]
+pub struct Label {
+    pub key: Text,
+    pub value: Text,
+}
 
 /// What rules see of a pod, and its top owner. Pods with equal traits are alike.
 #[derive(Debug, Drop)]
 pub struct Traits {
     pub namespace: Text,
     pub owner: Owner,
-    /// The value of each relevant key, in their order.
-    pub values: Seq<Option<Text>>,
+    /// The labels of relevant keys, in the order of the keys.
+    pub labels: Seq<Label>,
     pub ports: Seq<NamedPort>,
-    /// Of each listed block, whether some address of the pod is in it.
-    pub blocks: Seq<bool>,
+    /// The places of the listed blocks that some address of the pod is in, in ascending order.
+    pub blocks: Seq<u64>,
 }
 
 impl Traits {
-    /// The traits of a pod by these keys and these blocks.
+    /// The traits of a pod by these keys, which ascend, and these blocks.
     pub fn of(alloc: Global, pod: &Pod, keys: &[Text], cidrs: &[Cidr]) -> Result<Traits, NoMemory>
+        requires { IsStrictlySortedBy (slice_cmp nat_cmp) keys.now }
         ensures { IfOk result (λ made. made ≡ spec.traits_of keys.now cidrs.now pod.now) }
     {
         Ok(Traits {
             namespace: pod.namespace.copy()?,
             owner: pod.owner.try_copy(alloc)?,
-            values: values_at(alloc, &pod.labels, keys)?,
+            labels: labels_of(alloc, pod.labels.pairs(), keys)?,
             ports: pod.ports.try_copy(alloc)?,
             blocks: blocks_of(alloc, pod.addresses.items(), cidrs)?,
         })
     }
 
-    /// The traits of pods by these keys and these blocks, in order.
+    /// The traits of pods by these keys, which ascend, and these blocks, in order.
     pub fn of_all(
         alloc: Global,
         pods: &[Pod],
         keys: &[Text],
         cidrs: &[Cidr],
     ) -> Result<Seq<Traits>, NoMemory>
+        requires { IsStrictlySortedBy (slice_cmp nat_cmp) keys.now }
         ensures { IfOk result (λ made. made ≡ map (spec.traits_of keys.now cidrs.now) pods.now) }
     {
         let mut made = Seq::new(alloc);
@@ -55,34 +69,41 @@ impl Traits {
     }
 }
 
-// The values of keys, in order.
-fn values_at(alloc: Global, labels: &Labels, keys: &[Text]) -> Result<Seq<Option<Text>>, NoMemory>
-    ensures { IfOk result (λ made. made ≡ map (value_of labels.now) keys.now) }
+// The labels of these keys, in their order.
+fn labels_of(alloc: Global, pairs: &[Pair], keys: &[Text]) -> Result<Seq<Label>, NoMemory>
+    requires pairs { HasAscendingKeys pairs.now }
+    requires keys { IsStrictlySortedBy (slice_cmp nat_cmp) keys.now }
+    ensures { IfOk result (λ made. made ≡ filter_map (spec.label_of pairs.now) keys.now) }
 {
-    let mut values = Seq::new(alloc);
-    for key in keys {
-        values.push(value_at(alloc, labels, key)?)?;
+    let mut labels = Seq::new(alloc);
+    for pair in pairs {
+        if is_listed(keys, &pair.key) {
+            labels.push(Label {
+                key: pair.key.try_copy(alloc)?,
+                value: pair.value.try_copy(alloc)?,
+            })?;
+        }
     }
-    Ok(values)
+    Ok(labels)
 }
 
-// The value of a key.
-fn value_at(alloc: Global, labels: &Labels, key: &Text) -> Result<Option<Text>, NoMemory>
-    ensures { IfOk result (λ value. value ≡ value_of labels.now key.now) }
+// Whether a key is one of these. It is looked up by halves.
+fn is_listed(keys: &[Text], key: &Text) -> bool
+    requires { IsStrictlySortedBy (slice_cmp nat_cmp) keys.now }
+    ensures { result ≡ is_listed keys.now key.now }
 {
-    match labels.get(key.as_str()) {
-        Some(value) => Ok(Some(Text::of(alloc, value)?)),
-        None => Ok(None),
-    }
+    keys.binary_search(key).is_ok()
 }
 
-// Of each block, whether some address is in it.
-fn blocks_of(alloc: Global, addresses: &[Address], cidrs: &[Cidr]) -> Result<Seq<bool>, NoMemory>
-    ensures { IfOk result (λ made. made ≡ map (is_in addresses.now) cidrs.now) }
+// The places of the blocks that some address is in, in ascending order.
+fn blocks_of(alloc: Global, addresses: &[Address], cidrs: &[Cidr]) -> Result<Seq<u64>, NoMemory>
+    ensures { IfOk result (λ made. made ≡ spec.blocks_of cidrs.now addresses.now) }
 {
     let mut blocks = Seq::new(alloc);
-    for cidr in cidrs {
-        blocks.push(is_in(addresses, cidr))?;
+    for (place, cidr) in cidrs.iter().enumerate() {
+        if is_in(addresses, cidr) {
+            blocks.push(place as u64)?;
+        }
     }
     Ok(blocks)
 }

@@ -6,7 +6,7 @@ ghost use Rattle.np_fold.specs.Keys.{keys_of_estate, with_keys};
 ghost use Rattle.np_fold.specs.Workloads as spec;
 ghost use Rattle.np_fold.specs.declared.fold_fault.FoldFault.TheVariants.{TooManyWorkloads};
 
-use crate::blocks::listed_cidrs;
+use crate::distinct_blocks::distinct_cidrs;
 use crate::fold_fault::FoldFault;
 use crate::kinds::kinds_of_workloads;
 use crate::members::members_by_name;
@@ -64,7 +64,7 @@ impl Workloads {
             (MOST_WORKLOADS < spec.workload_count estate.now) × (count ≡ spec.workload_count estate.now) }
     {
         let relevant = relevant_keys(alloc, estate)?;
-        let cidrs = listed_cidrs(alloc, estate)?;
+        let cidrs = distinct_cidrs(alloc, estate)?;
         let classes = classes_of_pods(alloc, estate, relevant.items(), cidrs.items())?;
         let count = classes.firsts.items().len();
         if count > MOST_WORKLOADS {
@@ -86,7 +86,7 @@ impl Workloads {
         requires pods { length estate.now.pods < 2 ^ 32 }
         requires few { spec.workload_count estate.now ≤ MOST_WORKLOADS }
         requires relevant { relevant ≡ with_keys [] (keys_of_estate estate.now) }
-        requires cidrs { cidrs.now ≡ cidrs_of_estate estate.now }
+        requires cidrs { folded.HaveSame cidrs.now (cidrs_of_estate estate.now) }
         requires firsts { classes.now.firsts ≡ spec.first_pods estate.now }
         requires numbers { classes.now.numbers ≡ folded.classes_of_pods estate.now }
         ensures { IfOk result (λ workloads. workloads ≡ spec.folding_of estate.now) }

@@ -13,7 +13,7 @@ use Rattle.np_labels.specs.Labels.{value_of, keys_of, with_pair, labels_of, HasA
 use Rattle.np_labels.specs.declared.pair.Pair.{Pair}
 
 -- the order of texts
-abbrev order : List ℕ → List ℕ → Ordering
+abbrev pub order : List ℕ → List ℕ → Ordering
 order = slice_cmp nat_cmp
 
 -- a text is above one that is below it

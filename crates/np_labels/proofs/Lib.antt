@@ -2,6 +2,7 @@ pub mod Ascending
 pub mod Beyond
 pub mod Distinct
 pub mod Halves
+pub mod KeyHalves
 pub mod Listed
 pub mod MeetsAll
 pub mod PairLists

@@ -77,16 +77,15 @@ impl TryCopy for Labels {
     }
 }
 
-// The value of the first pair with the key.
+// The value of a key, which is looked for by halves.
 fn find_value<'a>(pairs: &'a [Pair], key: &str) -> Option<&'a str>
+    requires { HasAscendingKeys pairs.now }
     ensures { option_map (λ value. value.now) result ≡ value_of pairs.now key.now }
 {
-    for pair in pairs {
-        if pair.key.as_str() == key {
-            return Some(pair.value.as_str());
-        }
+    match pairs.binary_search_by(|pair| pair.key.as_str().cmp(key)) {
+        Ok(place) => Some(pairs[place].value.as_str()),
+        Err(_) => None,
     }
-    None
 }
 
 // Each key with the value of its last pair.

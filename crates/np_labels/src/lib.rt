@@ -10,6 +10,7 @@ mod pair;
 mod possibility;
 mod requirement;
 mod selector;
+mod shared_labels;
 mod value_set;
 mod values;
 
@@ -19,3 +20,4 @@ pub use pair::Pair;
 pub use possibility::possible;
 pub use requirement::Requirement;
 pub use selector::Selector;
+pub use shared_labels::SharedLabels;

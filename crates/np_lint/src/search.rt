@@ -99,7 +99,7 @@ fn search_addresses<L: Ledger>(
         return Ok(());
     }
     let layer = side.address_layer(alloc, steps)?;
-    used.note_layer(alloc, &layer, rules)
+    used.note_layer(alloc, layer, rules)
 }
 
 // Looks for the rules of a side with the pods of all kinds as far ends, in packets of some families.
@@ -193,5 +193,5 @@ fn search_pod<L: Ledger>(
         return Ok(());
     }
     let layer = side.pod_layer(alloc, far, family, steps)?;
-    used.note_layer(alloc, &layer, rules)
+    used.note_layer(alloc, layer, rules)
 }

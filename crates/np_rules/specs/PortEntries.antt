@@ -17,9 +17,13 @@ use Rattle.np_rules.specs.Ends.{End, pod, address}
 abbrev pub in_span : Proto → ℕ → ℕ → PortSpot → Bool
 in_span proto lo hi spot = same_proto spot.proto proto && (nat_le lo spot.port && nat_le spot.port hi)
 
--- whether a container port has the name, and is the spot's port of the spot's protocol
+-- whether a container port is the spot's port of the spot's protocol
+abbrev pub is_port : PortSpot → NamedPort → Bool
+is_port spot port = same_proto spot.proto port.proto && (spot.port == port.number)
+
+-- whether a container port has the name, and is the spot's
 abbrev pub is_named : List ℕ → PortSpot → NamedPort → Bool
-is_named name spot port = bytes_eq port.name name && (same_proto spot.proto port.proto && (spot.port == port.number))
+is_named name spot port = bytes_eq port.name name && is_port spot port
 
 -- whether the spot is a port of that name at the end; an address has none
 abbrev pub has_named : List ℕ → PortSpot → End → Bool

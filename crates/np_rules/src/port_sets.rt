@@ -1,5 +1,5 @@
 //! The protocols and ports of port entries, as sets.
-ghost use Rattle.std.specs.Prelude.{◌≡◌, ◌==◌, Bool, true, ◌&&◌, ◌||◌, IfOk};
+ghost use Rattle.std.specs.Prelude.{◌≡◌, Bool, true, ◌&&◌, IfOk};
 ghost use Rattle.std.specs.List.{list_any};
 ghost use Rattle.np_conns.specs.Conns.{is_spot, has_spot, same_proto};
 ghost use Rattle.np_conns.specs.declared.port_spot.PortSpot.{PortSpot};
@@ -138,39 +138,54 @@ fn named_at(alloc: Global, name: &str, end: &EndView<'_>) -> Result<ConnSet, NoM
     }
 }
 
-// The ports of that name.
+// The ports of that name. They are gathered before they are joined, since most ports have another.
 fn named_set(alloc: Global, name: &str, ports: &[NamedPort]) -> Result<ConnSet, NoMemory>
     ensures { IfOk result (λ made. (spot : PortSpot) → has_spot made spot ≡ list_any (spec.is_named name.now spot) ports.now) }
 {
-    let mut joined = ConnSet::nothing(alloc)?;
-    for port in ports {
-        joined = with_named(alloc, joined, name, port)?;
-    }
-    Ok(joined)
+    let named = ports_named(alloc, name, ports)?;
+    ports_set(alloc, &named)
 }
 
-// The set with a port, where that has the name. The name is asked first, since most ports have another.
-fn with_named(
+// The ports that have the name, in order.
+fn ports_named<'a>(
     alloc: Global,
-    set: ConnSet,
     name: &str,
-    port: &NamedPort,
-) -> Result<ConnSet, NoMemory>
-    ensures { IfOk result (λ made. (spot : PortSpot) →
-        has_spot made spot ≡ (has_spot set spot || spec.is_named name.now spot port.now)) }
+    ports: &'a [NamedPort],
+) -> Result<Vec<&'a NamedPort>, NoMemory>
+    ensures { IfOk result (λ made. (spot : PortSpot) → list_any (λ port. spec.is_port spot port.now) made.items
+        ≡ list_any (spec.is_named name.now spot) ports.now) }
 {
-    if port.name.as_str() == name {
-        let with = set.join(&port_set(alloc, port)?)?;
-        Ok(with)
-    } else {
-        Ok(set)
+    let mut named = Vec::new(alloc);
+    for port in ports {
+        if port.name.as_str() == name {
+            named.push(port)?;
+        }
+    }
+    Ok(named)
+}
+
+// The ports, whatever their names are. The sets of both halves are joined, so that n ports take time n log n.
+fn ports_set(alloc: Global, ports: &[&NamedPort]) -> Result<ConnSet, NoMemory>
+    ensures { IfOk result (λ made. (spot : PortSpot) → has_spot made spot
+        ≡ list_any (λ port. spec.is_port spot port.now) ports.now) }
+{
+    match ports {
+        [] => ConnSet::nothing(alloc),
+        [port] => port_set(alloc, port),
+        _ => {
+            let (front, back) = ports.split_at(ports.len() / 2);
+            let first = ports_set(alloc, front)?;
+            let second = ports_set(alloc, back)?;
+            let joined = first.join(&second)?;
+            Ok(joined)
+        }
     }
 }
 
 // The port alone.
 fn port_set(alloc: Global, port: &NamedPort) -> Result<ConnSet, NoMemory>
     ensures { IfOk result (λ made. (spot : PortSpot) →
-        has_spot made spot ≡ (same_proto spot.proto port.now.proto && (spot.port == port.now.number))) }
+        has_spot made spot ≡ spec.is_port spot port.now) }
 {
     ConnSet::of(alloc, port.proto, port.number, port.number)
 }

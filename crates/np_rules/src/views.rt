@@ -26,7 +26,7 @@ pub(crate) fn view_of_pod(pod: &Pod) -> PodView<'_>
 {
     PodView {
         namespace: pod.namespace.as_str(),
-        namespace_labels: &pod.namespace_labels,
+        namespace_labels: pod.namespace_labels.labels(),
         labels: &pod.labels,
         ports: pod.ports.items(),
         addresses: pod.addresses.items(),

@@ -13,7 +13,7 @@ use crate::end_fault::EndFault;
 use crate::find::{asked_of, unknown_name};
 use crate::statement_line::StatementLine;
 use np_base::{NoMemory, Seq};
-use np_check::{Counter, IsDestination, IsSource, Question, Statement, Wanted, check};
+use np_check::{Checker, Counter, IsDestination, IsSource, Question, Statement, Wanted};
 use np_fold::Folded;
 use np_steps::Steps;
 use std::alloc::Global;
@@ -21,7 +21,8 @@ use std::sync::ledger::Ledger;
 
 /// The first line whose statement does not hold, with the first packet that does not comply, in the order of `check`. `None`
 /// exactly where all hold. `UnknownEnd` comes exactly where a statement names a workload that is not there, with the first such
-/// name by lines, in a line that of the source first; no line is checked then. The ends of a line are kept while it is checked.
+/// name by lines, in a line that of the source first; no line is checked then. The ends of a line are kept while it is checked, and
+/// the rules of workloads that were asked for are kept for the lines behind it.
 pub fn first_broken<L: Ledger>(
     alloc: Global,
     folded: &Folded,
@@ -36,9 +37,10 @@ pub fn first_broken<L: Ledger>(
     if let Some(name) = unknown_name(folded, statements.items()) {
         return Err(EndFault::UnknownEnd { name: name.copy()? });
     }
+    let mut checker = Checker::new(alloc, folded);
     for line in statements.into_vec() {
         let asked = asked_of(alloc, folded, line)?;
-        let found = broken_of(alloc, folded, asked, steps)?;
+        let found = broken_of(alloc, &mut checker, asked, steps)?;
         if found.is_some() {
             return Ok(found);
         }
@@ -49,18 +51,19 @@ pub fn first_broken<L: Ledger>(
 // How a line is broken, if it is.
 fn broken_of<L: Ledger>(
     alloc: Global,
-    folded: &Folded,
+    checker: &mut Checker<'_>,
     asked: AskedLine,
     steps: &mut Steps<L>,
 ) -> Result<Option<Broken>, NoMemory>
-    requires { IsAsked folded.now asked }
-    ensures broken { IfOk result (λ made. made ≡ spec.broken_of folded.now asked) }
-    ensures places { IfOk result (λ made. IfSome made (HasPlaces folded.now)) }
+    requires { IsAsked checker.old asked }
+    ensures broken { IfOk result (λ made. made ≡ spec.broken_of checker.old asked) }
+    ensures places { IfOk result (λ made. IfSome made (HasPlaces checker.old)) }
+    ensures same { checker.new ≡ checker.old }
     ensures least { steps.old ≤ steps.new }
 {
     let AskedLine { line, question } = asked;
     let allowed = broken_verdict(question.wanted);
-    let Some(packet) = counter_of(alloc, folded, question, steps)? else {
+    let Some(packet) = counter_of(alloc, checker, question, steps)? else {
         return Ok(None);
     };
     Ok(Some(Broken {
@@ -80,12 +83,13 @@ fn broken_verdict(wanted: Wanted) -> bool
 // The first packet that does not comply. The closures that `check` asks which workloads a statement speaks of are made here.
 fn counter_of<L: Ledger>(
     alloc: Global,
-    folded: &Folded,
+    checker: &mut Checker<'_>,
     question: Question,
     steps: &mut Steps<L>,
 ) -> Result<Option<Counter>, NoMemory>
-    requires { IsQuestion folded.now question }
-    ensures counter { IfOk result (λ made. made ≡ counter_of folded.now question) }
+    requires { IsQuestion checker.old question }
+    ensures counter { IfOk result (λ made. made ≡ counter_of checker.old question) }
+    ensures same { checker.new ≡ checker.old }
     ensures least { steps.old ≤ steps.new }
 {
     let Question {
@@ -99,5 +103,5 @@ fn counter_of<L: Ledger>(
     let from: IsSource = Box::new(alloc, move |work: u32| sources.has(work))?;
     let to: IsDestination = Box::new(alloc, move |work: u32| destinations.has(work))?;
     let statement = Statement::new(wanted, source, destination, conns, from, to);
-    check(alloc, folded, &statement, steps)
+    checker.check(&statement, steps)
 }

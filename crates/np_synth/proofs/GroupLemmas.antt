@@ -1,9 +1,9 @@
 -- Groups, by what selectors see of pods.
-use Rattle.std.proofs.Common.{◌≡◌, ℕ, ◌+◌, ◌<◌, List, [], ◌∷◌, ◌++◌, Bool, true, false, ◌&&◌, Option, Some, None, map, length, slice_get, slice_index, get_or, refl, sym, ap, subst, ◌∙◌, zero-add}
+use Rattle.std.proofs.Common.{◌≡◌, ℕ, ◌+◌, ◌<◌, List, [], ◌∷◌, ◌++◌, Bool, true, false, Option, Some, None, map, length, slice_get, slice_index, get_or, refl, sym, ap, ◌∙◌, zero-add}
 use Rattle.std.specs.Bool.{Decides}
 use Rattle.std.specs.Cmp.{Equal-is}
-use Rattle.std.specs.Cmp.Lexicographic.{bytes_decides, pointwise, pointwise_decides}
-use Rattle.std.specs.List.{list_all}
+use Rattle.std.specs.Cmp.Lexicographic.{bytes_decides}
+use Rattle.std.specs.List.{filter_map, list_all}
 use Rattle.std.specs.Option.{option_eq, option_map}
 use Rattle.std.specs.Ordering.{is_eq}
 use Rattle.std.specs.Str.{bytes_eq}
@@ -16,8 +16,10 @@ use Rattle.np_classes.proofs.Relations.{class_of_agree, firsts_agree}
 use Rattle.np_classes.specs.Classes.{IsAlike, class_of, firsts, keys_tie, places}
 use Rattle.np_estate.specs.declared.lists.EstateLists.{EstateLists}
 use Rattle.np_estate.specs.declared.pod.Pod.{Pod}
+use Rattle.np_fold.proofs.LabelLemmas.{Decides-listed, labels-from_values, values-from_labels}
 use Rattle.np_fold.proofs.OrderLemmas.{ties-equal}
 use Rattle.np_fold.specs.Order.{compare_traits}
+use Rattle.np_fold.specs.Traits.{label_of}
 use Rattle.np_fold.specs.declared.traits.Traits.{Traits}
 use Rattle.np_labels.specs.Labels.{value_of}
 use Rattle.np_rules.specs.Ends.{PodEnd, pod_end}
@@ -34,24 +36,18 @@ values_decide None (Some y) = (λ is. let never : false ≡ true = is in cc, λ 
 values_decide (Some x) None = (λ is. let never : false ≡ true = is in cc, λ same. cc)
 values_decide (Some x) (Some y) = Decides-like (bytes_eq x y) (ap Some) (same_Some x y) (bytes_decides x y)
 
--- a test of all items is one of two lists
-pointwise-maps : {X Y : Type 0} (test : Y → Y → Bool) (f g : X → Y) (xs : List X) → pointwise test (map f xs) (map g xs) ≡ list_all (λ x. test (f x) (g x)) xs
-pointwise-maps test f g [] = refl
-pointwise-maps test f g (x ∷ xs) = ap (λ (rest : Bool). test (f x) (g x) && rest) (pointwise-maps test f g xs)
-
-values_all : (keys : List (List ℕ)) (p q : PodEnd) → Decides (list_all (have_same_value p q) keys) (map (value_of p.labels) keys ≡ map (value_of q.labels) keys)
-values_all keys p q =
-    subst (λ (b : Bool). Decides b (map (value_of p.labels) keys ≡ map (value_of q.labels) keys))
-    (pointwise-maps (option_eq bytes_eq) (value_of p.labels) (value_of q.labels) keys)
-    (pointwise_decides values_decide (map (value_of p.labels) keys) (map (value_of q.labels) keys))
+labels_all : (keys : List (List ℕ)) (p q : PodEnd) → Decides (list_all (have_same_value p q) keys) (filter_map (label_of p.labels) keys ≡ filter_map (label_of q.labels) keys)
+labels_all keys p q =
+    Decides-like (list_all (have_same_value p q) keys) (labels-from_values p.labels q.labels keys) (values-from_labels p.labels q.labels keys)
+    (Decides-listed (have_same_value p q) (λ key. value_of p.labels key ≡ value_of q.labels key) (λ key. values_decide (value_of p.labels key) (value_of q.labels key)) keys)
 
 -- pods look alike where the same is seen of them
 pub look_decides : (keys : List (List ℕ)) (p q : PodEnd) → Decides (look_alike keys p q) (seen keys p ≡ seen keys q)
 look_decides keys p q =
     Decides-like (look_alike keys p q)
     (λ same. rw (same.0, same.1) refl)
-    (λ equal. (ap (λ (t : Traits). t.namespace) equal, ap (λ (t : Traits). t.values) equal))
-    (Decides-and (bytes_eq p.namespace q.namespace) (list_all (have_same_value p q) keys) (bytes_decides p.namespace q.namespace) (values_all keys p q))
+    (λ equal. (ap (λ (t : Traits). t.namespace) equal, ap (λ (t : Traits). t.labels) equal))
+    (Decides-and (bytes_eq p.namespace q.namespace) (list_all (have_same_value p q) keys) (bytes_decides p.namespace q.namespace) (labels_all keys p q))
 
 ties_decide : (x y : Traits) → Decides (is_eq (compare_traits x y)) (x ≡ y)
 ties_decide x y = Decides-like (is_eq (compare_traits x y)) (ties-equal x y).0 (ties-equal x y).1 (Equal-is (compare_traits x y))

@@ -1,5 +1,8 @@
 //! The groups of the workloads.
 ghost use Rattle.std.specs.Prelude.{◌≡◌, ◌<◌, ◌^◌, IfOk, OnOk, map};
+ghost use Rattle.std.specs.Cmp.Lexicographic.{slice_cmp};
+ghost use Rattle.std.specs.List.Sorted.{IsStrictlySortedBy};
+ghost use Rattle.std.specs.Ordering.{nat_cmp};
 ghost use Rattle.np_classes.specs.Classes.{places};
 ghost use Rattle.np_rules.specs.Ends.{pod_end};
 ghost use Rattle.np_synth.specs.Groups as spec;
@@ -38,8 +41,9 @@ fn seen_of_workloads(alloc: Global, folded: &Folded) -> Result<Vec<Traits>, NoMe
     Ok(made)
 }
 
-// What a selector sees of a pod: its namespace, and the values of these keys.
+// What a selector sees of a pod: its namespace, and the labels of these keys, which ascend.
 fn seen_of(alloc: Global, pod: &Pod, keys: &[Text]) -> Result<Traits, NoMemory>
+    requires { IsStrictlySortedBy (slice_cmp nat_cmp) keys.now }
     ensures { IfOk result (λ made. made ≡ seen keys.now (pod_end pod.now)) }
 {
     let mut traits = Traits::of(alloc, pod, keys, &[])?;

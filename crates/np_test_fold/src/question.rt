@@ -22,7 +22,7 @@ pub enum Question {
     Keys,
     /// The blocks of addresses by which rules select pods.
     Blocks,
-    /// A line for each pod: its values of these keys, and whether it is in each of these blocks.
+    /// A line for each pod: its labels of these keys, and the places of those of these blocks that it is in.
     Traits,
     /// What passes between two workloads in a family.
     PairSet(u32, u32, Family),

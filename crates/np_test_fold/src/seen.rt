@@ -2,7 +2,7 @@
 
 use crate::described::names;
 use np_addr::{Address, Cidr, print_address};
-use np_base::{NoMemory, Text};
+use np_base::NoMemory;
 use np_estate::Estate;
 use np_fold::{Traits, listed_cidrs, relevant_keys};
 use std::alloc::{AllocError, Global};
@@ -33,8 +33,8 @@ fn block(alloc: Global, cidr: &Cidr) -> Result<String, NoMemory> {
     Ok(format!(in alloc; " {base}/{length}")?)
 }
 
-/// A line for each pod of an estate: its values of the keys that selectors name, and for each block by which rules
-/// select pods whether it is there.
+/// A line for each pod of an estate: its labels of the keys that selectors name, and the places of the blocks by which
+/// rules select it.
 pub fn traits(alloc: Global, estate: &Estate) -> Result<String, NoMemory> {
     let keys = relevant_keys(alloc, estate)?;
     let cidrs = listed_cidrs(alloc, estate)?;
@@ -49,21 +49,13 @@ pub fn traits(alloc: Global, estate: &Estate) -> Result<String, NoMemory> {
 // The line of a pod.
 fn line(alloc: Global, seen: &Traits) -> Result<String, AllocError> {
     let mut text = String::new(alloc);
-    for value in seen.values.items() {
-        text.push_str(value_text(value))?;
-        text.push_str(" ")?;
+    for label in seen.labels.items() {
+        let (key, value) = (label.key.as_str(), label.value.as_str());
+        text.push_str(format!(in alloc; "{key}={value} ")?.as_str())?;
     }
-    for block in seen.blocks.items() {
-        text.push_str(if *block { "in" } else { "out" })?;
+    for place in seen.blocks.items() {
+        text.push_str(format!(in alloc; "{place} ")?.as_str())?;
     }
     text.push_str("\n")?;
     Ok(text)
-}
-
-// The value of a key, where it is there.
-fn value_text(value: &Option<Text>) -> &str {
-    match value {
-        Some(value) => value.as_str(),
-        None => "-",
-    }
 }

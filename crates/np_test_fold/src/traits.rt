@@ -32,10 +32,10 @@ fn blocks_of_networks(rt: HostRuntime) {
     expect_answers(&rt, rt.alloc(), List::Of(&[], OBJECTS), WANTED);
 }
 
-// For each pod its values of `app`, `team` and `tier`, and whether it is in the block; but for that, and for their
-// owners, the pods have the same traits.
+// For each pod its labels of `app`, `team` and `tier`, and the place of the block where it is in it; but for that, and for
+// their owners, the pods have the same traits.
 #[test]
 fn traits_of_pods(rt: HostRuntime) {
-    static WANTED: &[(Question, &str)] = &[(Question::Traits, "x - - in\nx - - in\nx - - out\n")];
+    static WANTED: &[(Question, &str)] = &[(Question::Traits, "app=x 0 \napp=x 0 \napp=x \n")];
     expect_answers(&rt, rt.alloc(), List::Of(&[], OBJECTS), WANTED);
 }

@@ -10,7 +10,7 @@ use crate::written::{
 use np_addr::{Address, Cidr, read_address, read_cidr};
 use np_base::{Point, PortNum, Seq, Text};
 use np_estate::{Estate, EstateLists, Notes, Owner, Pod};
-use np_labels::{Labels, Pair, Selector};
+use np_labels::{Labels, Pair, Selector, SharedLabels};
 use np_objects::NamedPort;
 use np_policies::{
     AdminPeer, AdminPolicy, AdminPort, AdminRule, BasePolicy, NetPeer, NetPolicy, NetPort, NetRule,
@@ -148,7 +148,7 @@ impl Written for WrittenPod {
         };
         Ok(Pod {
             namespace: Text::of(alloc, self.namespace)?,
-            namespace_labels: name_label(alloc, self.namespace)?,
+            namespace_labels: SharedLabels::of(alloc, name_label(alloc, self.namespace)?)?,
             name: Text::of(alloc, self.name)?,
             labels: labels(alloc, self.labels)?,
             ports: all_of(alloc, self.ports)?,

@@ -1,7 +1,7 @@
 //! Labels, selectors and what is possible, by example.
 
 use np_base::{NoMemory, Seq, Text};
-use np_labels::{Labels, Op, Pair, Requirement, Selector, possible};
+use np_labels::{Labels, Op, Pair, Requirement, Selector, SharedLabels, possible};
 use std::alloc::Global;
 use std::test::Fail;
 
@@ -125,6 +125,8 @@ fn later_pair_replaces_earlier(rt: HostRuntime) -> Result<(), Fail> {
     let made = labels(rt.alloc(), PAIRS)?;
     assert!(rt; has_two(&made, WANTED));
     assert!(rt; has_two(&made.copy()?, WANTED), "copy");
+    let shared = SharedLabels::of(rt.alloc(), made)?;
+    assert!(rt; has_two(shared.share()?.labels(), WANTED), "shared");
     Ok(())
 }
 

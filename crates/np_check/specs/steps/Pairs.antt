@@ -1,25 +1,13 @@
--- Workloads with the rules of their first pods, and kinds of workloads between which nothing breaks a statement.
+-- Kinds of workloads between which nothing breaks a statement.
 use Rattle.std.specs.Prelude.{◌≡◌, ◌&&◌, ◌==◌, ℕ, List, Bool, true, None, slice_index}
 use Rattle.std.specs.List.{list_any}
 use Rattle.np_check.specs.Counters.{counter_between}
 use Rattle.np_check.specs.declared.counter.PlaceEnd.TheVariants.{Work}
-use Rattle.np_check.specs.declared.pairs.Side.{Side}
 use Rattle.np_check.specs.declared.statement_text.Wanted.{Wanted}
 use Rattle.np_conns.specs.Conns.{Conns}
 use Rattle.np_estate.specs.declared.lists.EstateLists.{EstateLists}
 use Rattle.np_fold.specs.Workloads.{folding_of}
-use Rattle.np_policies.specs.declared.direction.Direction.{Direction}
-use Rattle.np_table.specs.PairRules.{first_side}
 use Rattle.np_table.specs.Table.{IsWorkload}
-
--- a workload with its rules
-abbrev pub side_with : EstateLists → Direction → ℕ → Side
-side_with lists direction work = record { work = work; rules = first_side lists direction work }
-
--- the rules are those of the workload
-pub record IsSide (lists : EstateLists) (direction : Direction) (side : Side) : Type 0 where
-  pub work : IsWorkload lists side.work
-  pub rules : side.rules ≡ first_side lists direction side.work
 
 -- the kind of a workload
 abbrev pub kind_of : EstateLists → ℕ → ℕ

@@ -1,8 +1,11 @@
 -- What the steps of a folding make.
-use Rattle.std.specs.Prelude.{ℕ, List, [], ◌==◌, map, length, Option, slice_get, slice_index}
-use Rattle.std.specs.List.{position_or_len}
+use Rattle.std.specs.Prelude.{◌≡◌, ℕ, List, [], Bool, ◌==◌, map, length, Option, slice_get, slice_index}
+use Rattle.std.specs.List.{list_all, position_or_len}
 use Rattle.std.specs.Option.{option_map}
+use Rattle.np_addr.specs.declared.address.Address.{Address}
+use Rattle.np_addr.specs.declared.address.Address.TheVariants as address
 use Rattle.np_addr.specs.declared.cidr.Cidr.{Cidr}
+use Rattle.np_addr.specs.declared.cidr.Cidr.TheVariants as cidr
 use Rattle.np_classes.specs.Classes.{class_of, firsts, places}
 use Rattle.np_estate.specs.declared.lists.EstateLists.{EstateLists}
 use Rattle.np_estate.specs.declared.pod.Pod.{Pod}
@@ -11,6 +14,22 @@ use Rattle.np_fold.specs.Workloads.{Workload, kinds_alike, pods_alike, workload_
 use Rattle.np_fold.specs.declared.traits.Traits.{Traits}
 use Rattle.np_names.specs.declared.named.Named.{Named}
 use Rattle.np_owners.specs.declared.owner.Owner.{Owner}
+
+-- ---- blocks
+
+-- two lists have the same blocks: what all of one pass, all of the other do
+abbrev pub HaveSame : List Cidr → List Cidr → Type 0
+HaveSame cidrs others = (test : Cidr → Bool) → list_all test cidrs ≡ list_all test others
+
+-- the first address of a block, and how many bits its addresses have in common
+abbrev pub start_of : Cidr → Address × ℕ
+start_of (cidr.Four base len) = (address.Four base, len)
+start_of (cidr.Six base len) = (address.Six base, len)
+
+-- the block of these
+abbrev pub block_at : Address × ℕ → Cidr
+block_at (address.Four base, len) = cidr.Four base len
+block_at (address.Six base, len) = cidr.Six base len
 
 -- ---- numbers
 

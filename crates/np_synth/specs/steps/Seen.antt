@@ -1,8 +1,9 @@
 -- What a selector sees of a pod, as traits without all else.
-use Rattle.std.specs.Prelude.{ℕ, List, [], map}
+use Rattle.std.specs.Prelude.{ℕ, List, []}
+use Rattle.std.specs.List.{filter_map}
 use Rattle.np_estate.specs.declared.lists.EstateLists.{EstateLists}
+use Rattle.np_fold.specs.Traits.{label_of}
 use Rattle.np_fold.specs.declared.traits.Traits.{Traits}
-use Rattle.np_labels.specs.Labels.{value_of}
 use Rattle.np_owners.specs.declared.owner.Owner.{Owner}
 use Rattle.np_rules.specs.Ends.{PodEnd}
 use Rattle.np_synth.specs.Groups.{first_end, relevant}
@@ -11,9 +12,9 @@ use Rattle.np_synth.specs.Groups.{first_end, relevant}
 abbrev pub nobody : Owner
 nobody = record { kind = []; name = [] }
 
--- the namespace of a pod and its values of these keys
+-- the namespace of a pod and its labels of these keys
 abbrev pub seen : List (List ℕ) → PodEnd → Traits
-seen keys p = record { namespace = p.namespace; owner = nobody; values = map (value_of p.labels) keys; ports = []; blocks = [] }
+seen keys p = record { namespace = p.namespace; owner = nobody; labels = filter_map (label_of p.labels) keys; ports = []; blocks = [] }
 
 -- those of the first pod of a workload
 abbrev pub seen_at : EstateLists → ℕ → Traits

@@ -6,7 +6,9 @@ use Rattle.np_check.proofs.pairs.first_between.Given as goal
 
 -- the first in the families that are left is the first in all
 abbrev pub invariant-loop-family : goal.invariant-loop-family
-invariant-loop-family g l =
-    (first_of (counter_in l.folded l.asked.wanted l.asked.conns.now (Work l.sender.work) (Work l.receiver.work)) (drop l.family-index l.family-items)
-    ≡ first_of (counter_in l.folded l.asked.wanted l.asked.conns.now (Work l.sender.work) (Work l.receiver.work)) l.family-items)
-    × (l.initial.steps ≤ l.steps)
+invariant-loop-family g l = record {
+  left : first_of (counter_in l.initial.checker l.asked.wanted l.asked.conns.now (Work l.source) (Work l.destination)) (drop l.family-index l.family-items)
+      ≡ first_of (counter_in l.initial.checker l.asked.wanted l.asked.conns.now (Work l.source) (Work l.destination)) l.family-items;
+  same : l.checker ≡ l.initial.checker;
+  least : l.initial.steps ≤ l.steps;
+}

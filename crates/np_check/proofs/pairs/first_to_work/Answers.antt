@@ -1,38 +1,46 @@
-use Rattle.std.proofs.Common.{◌≡◌, ◌==◌, ◌&&◌, if◌then◌else◌, ℕ, true, refl, sym, ap, ◌∙◌, slice_index}
+use Rattle.std.proofs.Common.{◌≡◌, ◌==◌, ◌&&◌, if◌then◌else◌, ℕ, true, refl, sym, ap, subst, ◌∙◌, slice_index}
 use Rattle.np_check.proofs.PairLemmas.{none_of_is, settled-more}
 use Rattle.np_check.specs.Counters.{counter_between}
 use Rattle.np_check.specs.steps.Pairs.{has_pair, kind_of}
 use Rattle.np_check.specs.declared.counter.PlaceEnd.TheVariants.{Work}
+use Rattle.np_estate.specs.Lawful.{IsLawful}
 use Rattle.np_fold.specs.Workloads.{Folding, folding_of}
 use Rattle.np_table.proofs.KindLemmas.{kind-there}
 use Rattle.np_check.proofs.pairs.first_to_work.Goals as goal
-use Rattle.np_check.proofs.pairs.first_to_work.Goals.{then-is_none+then-sender-receiver+in_ok-insert, else-is_none}
+use Rattle.np_check.proofs.pairs.first_to_work.Goals.{then-is_none+then-source-destination+in_ok-insert, else-is_none}
 
 pub kind_of-requires : goal.kind_of-requires
-kind_of-requires g c = rw c.workloads-workloads.ensures.value (kind-there c.args.folded.now (folding_of c.args.folded.now) c.args.sender.now.work refl c.requires.sender.work)
+kind_of-requires g c =
+    let folding : c.workloads-workloads.result.now ≡ folding_of c.args.checker.now = c.workloads-workloads.ensures.value ∙ ap folding_of c.folded.ensures in
+    rw folding (kind-there c.args.checker.now (folding_of c.args.checker.now) c.args.source refl c.requires.source)
 
 pub kind_of-requires-2 : goal.kind_of-requires-2
-kind_of-requires-2 g c = rw c.workloads-workloads.ensures.value (kind-there c.args.folded.now (folding_of c.args.folded.now) c.args.receiver.now.work refl c.requires.receiver.work)
+kind_of-requires-2 g c =
+    let folding : c.workloads-workloads.result.now ≡ folding_of c.args.checker.now = c.workloads-workloads.ensures.value ∙ ap folding_of c.folded.ensures in
+    rw folding (kind-there c.args.checker.now (folding_of c.args.checker.now) c.args.destination refl c.requires.destination)
 
 pub returns-then-contains-clause-counter : goal.returns-then-contains-clause-counter
 returns-then-contains-clause-counter g c =
-    let sends : c.kind_of.result ≡ kind_of c.args.folded.now c.args.sender.now.work = c.kind_of.ensures ∙ ap (λ (f : Folding). slice_index f.kinds c.args.sender.now.work) c.workloads-workloads.ensures.value in
-    let receives : c.kind_of-2.result ≡ kind_of c.args.folded.now c.args.receiver.now.work = c.kind_of-2.ensures ∙ ap (λ (f : Folding). slice_index f.kinds c.args.receiver.now.work) c.workloads-workloads.ensures.value in
+    let folding : c.workloads-workloads.result.now ≡ folding_of c.args.checker.now = c.workloads-workloads.ensures.value ∙ ap folding_of c.folded.ensures in
+    let sends : c.kind_of.result ≡ kind_of c.args.checker.now c.args.source = c.kind_of.ensures ∙ ap (λ (f : Folding). slice_index f.kinds c.args.source) folding in
+    let receives : c.kind_of-2.result ≡ kind_of c.args.checker.now c.args.destination = c.kind_of-2.ensures ∙ ap (λ (f : Folding). slice_index f.kinds c.args.destination) folding in
     let has : has_pair c.args.settled.now.keys c.kind_of.result c.kind_of-2.result ≡ true = sym c.contains.ensures ∙ c.if-contains.true in
-    sym (c.requires.settled c.args.sender.now.work c.args.receiver.now.work c.requires.sender.work c.requires.receiver.work
-    (ap (λ (i : ℕ). has_pair c.args.settled.now.keys i (kind_of c.args.folded.now c.args.receiver.now.work)) (sym sends) ∙ ap (λ (j : ℕ). has_pair c.args.settled.now.keys c.kind_of.result j) (sym receives) ∙ has))
+    sym (c.requires.settled c.args.source c.args.destination c.requires.source c.requires.destination
+    (ap (λ (i : ℕ). has_pair c.args.settled.now.keys i (kind_of c.args.checker.now c.args.destination)) (sym sends) ∙ ap (λ (j : ℕ). has_pair c.args.settled.now.keys c.kind_of.result j) (sym receives) ∙ has))
 
 pub returns-clause-settled : goal.returns-clause-settled
 returns-clause-settled g c =
-    let sends : c.kind_of.result ≡ kind_of c.args.folded.now c.args.sender.now.work = c.kind_of.ensures ∙ ap (λ (f : Folding). slice_index f.kinds c.args.sender.now.work) c.workloads-workloads.ensures.value in
-    let receives : c.kind_of-2.result ≡ kind_of c.args.folded.now c.args.receiver.now.work = c.kind_of-2.ensures ∙ ap (λ (f : Folding). slice_index f.kinds c.args.receiver.now.work) c.workloads-workloads.ensures.value in
+    let folding : c.workloads-workloads.result.now ≡ folding_of c.args.checker.now = c.workloads-workloads.ensures.value ∙ ap folding_of c.folded.ensures in
+    let lawful : IsLawful c.args.checker.now = subst IsLawful c.folded.ensures c.workloads-workloads.ensures.lawful in
+    let sends : c.kind_of.result ≡ kind_of c.args.checker.now c.args.source = c.kind_of.ensures ∙ ap (λ (f : Folding). slice_index f.kinds c.args.source) folding in
+    let receives : c.kind_of-2.result ≡ kind_of c.args.checker.now c.args.destination = c.kind_of-2.ensures ∙ ap (λ (f : Folding). slice_index f.kinds c.args.destination) folding in
     elim c.if-is_none.branch [
-      | then-is_none+then-sender-receiver+in_ok-insert w ↦
-          let none = none_of_is c.in_ok-found.found (counter_between c.args.folded.now c.args.asked.now.wanted c.args.asked.now.conns.now (Work c.args.sender.now.work) (Work c.args.receiver.now.work)) c.is_none.result c.is_none.ensures w.if-is_none.true c.in_ok-found.ensures.counter in
-          let has : (i j : ℕ) → has_pair w.insert.new.self.keys i j ≡ (if (kind_of c.args.folded.now c.args.sender.now.work == i) && (kind_of c.args.folded.now c.args.receiver.now.work == j) then true else has_pair c.args.settled.now.keys i j) = λ i j.
+      | then-is_none+then-source-destination+in_ok-insert w ↦
+          let none = none_of_is c.in_ok-found.found (counter_between c.args.checker.now c.args.asked.now.wanted c.args.asked.now.conns.now (Work c.args.source) (Work c.args.destination)) c.is_none.result c.is_none.ensures w.if-is_none.true c.in_ok-found.ensures.counter in
+          let has : (i j : ℕ) → has_pair w.insert.new.self.keys i j ≡ (if (kind_of c.args.checker.now c.args.source == i) && (kind_of c.args.checker.now c.args.destination == j) then true else has_pair c.args.settled.now.keys i j) = λ i j.
           w.in_ok-insert.ensures.updates.0 (i, j)
           ∙ ap (λ (k : ℕ). if (k == i) && (c.kind_of-2.result == j) then true else has_pair c.args.settled.now.keys i j) sends
-          ∙ ap (λ (k : ℕ). if (kind_of c.args.folded.now c.args.sender.now.work == i) && (k == j) then true else has_pair c.args.settled.now.keys i j) receives in
-          rw w.settled-is (settled-more c.args.folded.now c.args.asked.now.wanted c.args.asked.now.conns.now c.args.settled.now.keys w.insert.new.self.keys c.args.sender.now.work c.args.receiver.now.work c.workloads-workloads.ensures.lawful c.requires.sender.work c.requires.receiver.work w.if-sender-receiver.true none has c.requires.settled)
-      | else-is_none w ↦ rw w.settled-is c.requires.settled
+          ∙ ap (λ (k : ℕ). if (kind_of c.args.checker.now c.args.source == i) && (k == j) then true else has_pair c.args.settled.now.keys i j) receives in
+          rw (w.settled-is, c.in_ok-found.ensures.same) (settled-more c.args.checker.now c.args.asked.now.wanted c.args.asked.now.conns.now c.args.settled.now.keys w.insert.new.self.keys c.args.source c.args.destination lawful c.requires.source c.requires.destination w.if-source-destination.true none has c.requires.settled)
+      | else-is_none w ↦ rw (w.settled-is, c.in_ok-found.ensures.same) c.requires.settled
     ]

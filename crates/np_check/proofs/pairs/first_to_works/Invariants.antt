@@ -6,9 +6,11 @@ use Rattle.np_check.specs.declared.counter.PlaceEnd.TheVariants.{Work}
 use Rattle.np_check.proofs.pairs.first_to_works.Given as goal
 
 -- the first to those that are left is the first to all
-abbrev pub invariant-loop-receiver : goal.invariant-loop-receiver
-invariant-loop-receiver g l =
-    (first_of (λ receiver. counter_between l.folded l.asked.wanted l.asked.conns.now (Work l.sender.work) (Work receiver.work)) (drop l.receiver-index l.receivers)
-    ≡ first_of (λ receiver. counter_between l.folded l.asked.wanted l.asked.conns.now (Work l.sender.work) (Work receiver.work)) l.receivers)
-    × AreSettled l.folded l.asked.wanted l.asked.conns.now l.settled.keys
-    × (l.initial.steps ≤ l.steps)
+abbrev pub invariant-loop-destination : goal.invariant-loop-destination
+invariant-loop-destination g l = record {
+  left : first_of (λ destination. counter_between l.initial.checker l.asked.wanted l.asked.conns.now (Work l.source) (Work destination)) (drop l.destination-index l.destinations)
+      ≡ first_of (λ destination. counter_between l.initial.checker l.asked.wanted l.asked.conns.now (Work l.source) (Work destination)) l.destinations;
+  same : l.checker ≡ l.initial.checker;
+  settled : AreSettled l.checker l.asked.wanted l.asked.conns.now l.settled.keys;
+  least : l.initial.steps ≤ l.steps;
+}

@@ -19,5 +19,8 @@ loop-place-preserved c =
     let place = c.loop-place.place in
     let within = c.loop-place-test.true in
     let owner = owner_at items c.args.owners.now place c.index-owners-place.result c.requires.owners within in
-    let here = setting_here items place c.index-items-place.result _ _ c.in_ok-setting_if.field-0 c.in_ok-setting_if.ensures (maker_at items c.args.makers.now place _ c.requires.makers within) (c.index-owners-place.is ∙ owner) in
-    settings-more items place c.index-items-place.result _ c.loop-place.made.items c.push.new.self.items within c.index-items-place.is here c.in_ok-push.ensures.items c.loop-place.invariant
+    let here = setting_here items place c.index-items-place.result _ _ c.in_ok-setting_if.field-0 c.in_ok-setting_if.ensures.setting (maker_at items c.args.makers.now place _ c.requires.makers within) (c.index-owners-place.is ∙ owner) in
+    record {
+      settings = settings-more items place c.index-items-place.result _ c.loop-place.made.items c.push.new.self.items within c.index-items-place.is here c.in_ok-push.ensures.items c.loop-place.invariant.settings;
+      known = c.in_ok-setting_if.ensures.known;
+    }

@@ -1,7 +1,7 @@
-use Rattle.std.proofs.Common.{◌≡◌, take, map}
-use Rattle.np_fold.specs.Alike.{is_in}
+use Rattle.std.proofs.Common.{◌≡◌, take}
+use Rattle.np_fold.specs.Traits.{blocks_of}
 use Rattle.np_fold.proofs.traits.blocks_of.Given as goal
 
--- the answers so far are those of the blocks so far
-abbrev pub invariant-loop-cidr : goal.invariant-loop-cidr
-invariant-loop-cidr l = l.blocks ≡ map (is_in l.addresses) (take l.cidr-index l.cidrs)
+-- the places so far are those among the blocks so far
+abbrev pub invariant-loop-place : goal.invariant-loop-place
+invariant-loop-place l = l.blocks ≡ blocks_of (take l.place l.cidrs) l.addresses

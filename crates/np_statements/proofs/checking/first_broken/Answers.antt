@@ -1,12 +1,14 @@
-use Rattle.std.proofs.Common.{◌≡◌, Err, sym, ap, ◌∙◌, arith}
-use Rattle.std.specs.Prelude.{IsOk}
+use Rattle.std.proofs.Common.{◌≡◌, Err, sym, ap, subst, ◌∙◌, arith}
+use Rattle.std.specs.Prelude.{IfSome, IsOk}
 use Rattle.std.proofs.lemmas.Iterator.Adapters.{YieldsList-from_vec}
 use Rattle.std.proofs.lemmas.Iterator.Consumers.{YieldsList-end, YieldsList-turn}
 use Rattle.std.proofs.lemmas.List.{length_push}
 use Rattle.std.proofs.lemmas.Result.{err_from_is_err_and}
 use Rattle.np_statements.proofs.AmongLemmas.{known-line, line_unknown, name_unknown, none_broken, one_broken, one_left}
 use Rattle.np_statements.proofs.FoundLemmas.{at_turn}
-use Rattle.np_statements.specs.AskedLines.{IsWellLine}
+use Rattle.np_estate.specs.declared.lists.EstateLists.{EstateLists}
+use Rattle.np_statements.specs.AskedLines.{IsAsked, IsWellLine}
+use Rattle.np_statements.specs.BrokenLines.{HasPlaces, broken_of}
 use Rattle.np_statements.specs.FoundEnds.{ends_found}
 use Rattle.np_statements.proofs.checking.first_broken.Goals as goal
 
@@ -29,19 +31,26 @@ returns-in_err-asked-clause-first g c =
 pub broken_of-requires : goal.broken_of-requires
 broken_of-requires g c =
     let turn = YieldsList-turn (YieldsList-from_vec c.args.statements (cc) (let long = c.into_vec-line-items.result.ok.0 in cc)) c.loop-line.yielded c.loop-line.line-iterator c.loop-line.yielded_by c.next.result c.next.new.self c.in-Some-line.line c.in-Some-line.is c.next.ensures.steps in
-    known-line c.args.folded.now c.in-Some-line.line c.in_ok-asked.asked (at_turn IsWellLine c.args.statements _ c.in-Some-line.line turn c.requires) c.in_ok-asked.ensures
+    subst (λ (lists : EstateLists). IsAsked lists c.in_ok-asked.asked) (sym c.loop-line.invariant.same)
+    (known-line c.args.folded.now c.in-Some-line.line c.in_ok-asked.asked (at_turn IsWellLine c.args.statements _ c.in-Some-line.line turn c.requires) c.in_ok-asked.ensures)
 
 pub returns-then-is_some-clause-first : goal.returns-then-is_some-clause-first
 returns-then-is_some-clause-first g c =
     let turn = YieldsList-turn (YieldsList-from_vec c.args.statements (cc) (let long = c.into_vec-line-items.result.ok.0 in cc)) c.loop-line.yielded c.loop-line.line-iterator c.loop-line.yielded_by c.next.result c.next.new.self c.in-Some-line.line c.in-Some-line.is c.next.ensures.steps in
     let known : IsOk (ends_found c.args.folded.now c.args.statements) = rw c.items.ensures at c.in_default.ensures in
-    one_broken c.args.folded.now c.args.statements _ c.in-Some-line.line c.in_ok-asked.asked c.in_ok-found.found turn c.loop-line.invariant.left known c.in_ok-asked.ensures c.in_ok-found.ensures.broken (sym c.is_some.ensures ∙ c.if-is_some.true)
+    let broken = c.in_ok-found.ensures.broken ∙ ap (λ (lists : EstateLists). broken_of lists c.in_ok-asked.asked) c.loop-line.invariant.same in
+    one_broken c.args.folded.now c.args.statements _ c.in-Some-line.line c.in_ok-asked.asked c.in_ok-found.found turn c.loop-line.invariant.left known c.in_ok-asked.ensures broken (sym c.is_some.ensures ∙ c.if-is_some.true)
+
+pub returns-then-is_some-clause-places : goal.returns-then-is_some-clause-places
+returns-then-is_some-clause-places g c = subst (λ (lists : EstateLists). IfSome c.in_ok-found.found (HasPlaces lists)) c.loop-line.invariant.same c.in_ok-found.ensures.places
 
 pub loop-line-preserved : goal.loop-line-preserved
 loop-line-preserved g c =
     let turn = YieldsList-turn (YieldsList-from_vec c.args.statements (cc) (let long = c.into_vec-line-items.result.ok.0 in cc)) c.loop-line.yielded c.loop-line.line-iterator c.loop-line.yielded_by c.next.result c.next.new.self c.in-Some-line.line c.in-Some-line.is c.next.ensures.steps in
+    let broken = c.in_ok-found.ensures.broken ∙ ap (λ (lists : EstateLists). broken_of lists c.in_ok-asked.asked) c.loop-line.invariant.same in
     record {
-      left = one_left c.args.folded.now c.args.statements _ _ c.in-Some-line.line c.in_ok-asked.asked c.in_ok-found.found turn c.loop-line.invariant.left c.in_ok-asked.ensures c.in_ok-found.ensures.broken (sym c.is_some.ensures ∙ c.if-is_some.false) (length_push c.loop-line.yielded c.in-Some-line.line);
+      left = one_left c.args.folded.now c.args.statements _ _ c.in-Some-line.line c.in_ok-asked.asked c.in_ok-found.found turn c.loop-line.invariant.left c.in_ok-asked.ensures broken (sym c.is_some.ensures ∙ c.if-is_some.false) (length_push c.loop-line.yielded c.in-Some-line.line);
+      same = c.in_ok-found.ensures.same ∙ c.loop-line.invariant.same;
       least = omega (arith, c.loop-line.invariant.least, c.broken_of.ensures.least);
     }
 

@@ -1,4 +1,4 @@
-use Rattle.std.proofs.Common.{◌≤◌, length}
+use Rattle.std.proofs.Common.{◌≡◌, ◌≤◌, length}
 use Rattle.np_statements.proofs.AmongLemmas.{IsLeft}
 use Rattle.np_statements.proofs.checking.first_broken.Given as goal
 
@@ -6,5 +6,6 @@ use Rattle.np_statements.proofs.checking.first_broken.Given as goal
 abbrev pub invariant-loop-line : goal.invariant-loop-line
 invariant-loop-line g l = record {
   left : IsLeft l.folded l.fn.statements (length l.yielded);
+  same : l.checker ≡ l.folded;
   least : l.initial.steps ≤ l.steps;
 }

@@ -1,8 +1,9 @@
-use Rattle.std.proofs.Common.{◌≡◌, map, refl, ◌∙◌, arith}
+use Rattle.std.proofs.Common.{◌≡◌, map, refl, ◌∙◌}
+use Rattle.np_fold.specs.Keys.{keys_of_estate}
 use Rattle.np_fold.specs.steps.Folded.{number_among}
 use Rattle.np_fold.specs.Workloads.{workload_of_entry}
 use Rattle.np_fold.proofs.FoldLemmas.{firsts-in}
-use Rattle.np_fold.proofs.PartLemmas.{classes-in, folding-is, keys-agree, kinds-few, names-ascend, names-few, numbers-few, numbers-in, numbers-made, places-in, workloads-few, workloads-made}
+use Rattle.np_fold.proofs.PartLemmas.{classes-in, folding-is, keys-agree, keys-ascend, kinds-few, names-ascend, names-few, numbers-few, numbers-in, numbers-made, places-in, workloads-few, workloads-made}
 use Rattle.np_fold.proofs.workloads.Workloads.of_classes.Goals as goal
 
 pub first_pods_by_name-requires-clause-within : goal.first_pods_by_name-requires-clause-within
@@ -13,6 +14,9 @@ kinds_of_workloads-requires-clause-few c = names-few c.args.estate.now c.require
 
 pub kinds_of_workloads-requires-clause-keys : goal.kinds_of_workloads-requires-clause-keys
 kinds_of_workloads-requires-clause-keys c = keys-agree c.args.relevant c.items.result.now _ c.items.ensures c.requires.relevant
+
+pub kinds_of_workloads-requires-clause-ascending : goal.kinds_of_workloads-requires-clause-ascending
+kinds_of_workloads-requires-clause-ascending c = keys-ascend c.args.relevant c.items.result.now (keys_of_estate c.args.estate.now) c.items.ensures c.requires.relevant
 
 pub numbers_by_name-requires-clause-few : goal.numbers_by_name-requires-clause-few
 numbers_by_name-requires-clause-few c = names-few c.args.estate.now c.requires.few c.items-4.result.now (c.items-4.ensures ∙ c.in_ok-named.ensures)

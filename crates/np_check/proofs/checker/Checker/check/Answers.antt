@@ -1,0 +1,33 @@
+use Rattle.std.proofs.Common.{◌≡◌, ℕ, Option, List, sym, ap, ◌∙◌}
+use Rattle.std.specs.Option.{option_or}
+use Rattle.std.proofs.lemmas.Result.{IfOk-weaker}
+use Rattle.np_addr.specs.declared.address.Address.{Address}
+use Rattle.np_check.proofs.PairLemmas.{none_or, some_or}
+use Rattle.np_check.proofs.WholeLemmas.{of-question}
+use Rattle.np_check.specs.Counters.{addresses_of, counter_between, counter_from, counter_of}
+use Rattle.np_check.specs.Firsts.{first_of}
+use Rattle.np_check.specs.declared.counter.Counter.{Counter}
+use Rattle.np_check.specs.declared.counter.PlaceEnd.TheVariants.{At, Work}
+use Rattle.np_estate.specs.declared.lists.EstateLists.{EstateLists}
+use Rattle.np_check.proofs.checker.Checker.check.Goals as goal
+
+pub returns-then-is_some-clause-counter : goal.returns-then-is_some-clause-counter
+returns-then-is_some-clause-counter g c =
+    let question = c.args.statement.now.question in
+    let rest = first_of (λ (address : Address). first_of (λ (work : ℕ). counter_between c.args.self.now question.wanted question.conns (At address) (Work work)) question.destination.works) (addresses_of question.source.block) in
+    let works = c.in_ok-found.ensures.counter ∙ ap (first_of (λ (source : ℕ). counter_from c.args.self.now question.wanted question.conns question.destination (Work source))) (c.deref.ensures.value ∙ c.in_ok-sources.ensures) in
+    some_or c.in_ok-found.found rest (sym c.is_some.ensures ∙ c.if-is_some.true)
+    ∙ ap (λ (first : Option Counter). option_or first rest) works
+    ∙ sym (of-question c.args.self.now question)
+
+pub returns-clause-counter : goal.returns-clause-counter
+returns-clause-counter g c =
+    let question = c.args.statement.now.question in
+    let from_all = λ (lists : EstateLists) (works : List ℕ). first_of (λ (address : Address). first_of (λ (work : ℕ). counter_between lists question.wanted question.conns (At address) (Work work)) works) (addresses_of question.source.block) in
+    let rest = from_all c.args.self.now question.destination.works in
+    let works = c.in_ok-found.ensures.counter ∙ ap (first_of (λ (source : ℕ). counter_from c.args.self.now question.wanted question.conns question.destination (Work source))) (c.deref.ensures.value ∙ c.in_ok-sources.ensures) in
+    let all = none_or c.in_ok-found.found rest (sym c.is_some.ensures ∙ c.if-is_some.false)
+    ∙ ap (λ (first : Option Counter). option_or first rest) works
+    ∙ sym (of-question c.args.self.now question) in
+    IfOk-weaker c.first_from_addresses.result (λ (made : Option Counter). made ≡ from_all c.self.inside.folded.now c.deref-3.result.now) (λ (made : Option Counter). made ≡ counter_of c.args.self.now question)
+    (λ made is. is ∙ ap (λ (lists : EstateLists). from_all lists c.deref-3.result.now) c.self.view_is ∙ ap (from_all c.args.self.now) (c.deref-3.ensures.value ∙ c.in_ok-destinations.ensures) ∙ all) c.first_from_addresses.ensures.counter

@@ -1,0 +1,12 @@
+use Rattle.std.proofs.Common.{refl}
+use Rattle.np_fold.specs.Workloads.{folding_of}
+use Rattle.np_table.proofs.MemberLemmas.{members-some, members-within, source-member}
+use Rattle.np_check.proofs.checker.ask.Goals as goal
+
+pub bounds-members-0 : goal.bounds-members-0
+bounds-members-0 c = rw (c.members-members.ensures, c.workloads.ensures.value) (members-some c.args.folded.now (folding_of c.args.folded.now) c.args.work refl c.requires.work)
+
+pub of-requires : goal.of-requires
+of-requires c =
+    let some = members-some c.args.folded.now (folding_of c.args.folded.now) c.args.work refl c.requires.work in
+    rw (c.estate.ensures.value, c.members-members.ensures, c.workloads.ensures.value) (members-within c.args.folded.now (folding_of c.args.folded.now) c.args.work _ refl c.requires.work (source-member (folding_of c.args.folded.now) c.args.work some))

@@ -1,0 +1,174 @@
+//! Whether the statements of a cluster hold.
+ghost use Rattle.std.specs.Prelude.{◌≡◌, ◌≤◌, false, nat_eq, All, IfOk, OnOk, Some};
+ghost use Rattle.std.specs.HashMap.{get};
+ghost use Rattle.np_check.specs.Counters.{counter_of};
+ghost use Rattle.np_check.specs.steps.Known.{AreKnown};
+ghost use Rattle.np_estate.specs.Lawful.{IsLawful};
+ghost use Rattle.np_fold.specs.Workloads.{folding_of};
+ghost use Rattle.np_table.specs.PairRules.{first_side};
+ghost use Rattle.np_table.specs.Right.{conns_of};
+ghost use Rattle.np_table.specs.Table.{IsWorkload, is_alone, pair_allows};
+
+use crate::addresses::first_from_addresses;
+use crate::asked::Asked;
+use crate::checking::first_from_works;
+use crate::counter::Counter;
+use crate::statement::Statement;
+use np_addr::Family;
+use np_base::NoMemory;
+use np_conns::ConnSet;
+use np_fold::Folded;
+use np_policies::Direction;
+use np_rules::PodRules;
+use np_steps::Steps;
+use np_table::set_between;
+use std::alloc::Global;
+use std::collections::HashMap;
+use std::marker::Model;
+use std::sync::ledger::Ledger;
+
+/// A cluster of which statements are checked, one after the other. The rules of a workload are found when they are first
+/// asked for, once as it sends and once as it receives, and kept for the statements to come. Contracts see the lists of
+/// the cluster.
+#[derive(Drop)]
+pub struct Checker<'a> {
+    alloc: Global,
+    folded: &'a Folded,
+    // The rules of the first pods of workloads, by the numbers of these, as they send and as they receive.
+    senders: HashMap<u32, PodRules<'a>>,
+    receivers: HashMap<u32, PodRules<'a>>,
+}
+
+impl<'a> Model for Checker<'a> {
+    ghost use Rattle.np_estate.specs.declared.lists.EstateLists.{EstateLists};
+
+    ghost Value = { EstateLists };
+
+    ghost use Rattle.np_check.specs.steps.Known.{AreKnown};
+    ghost use Rattle.np_policies.specs.declared.direction.Direction.TheVariants.{Egress, Ingress};
+
+    ghost view = { λ c. c.folded.now };
+
+    ghost invariant = { λ c. AreKnown c.folded.now Egress c.senders × AreKnown c.folded.now Ingress c.receivers };
+}
+
+impl<'a> Checker<'a> {
+    /// A cluster of which no rules were asked for. It takes no memory.
+    pub fn new(alloc: Global, folded: &'a Folded) -> Checker<'a>
+        ensures { result ≡ folded.now }
+    {
+        Checker {
+            alloc,
+            folded,
+            senders: HashMap::new(alloc),
+            receivers: HashMap::new(alloc),
+        }
+    }
+
+    /// Whether a statement holds: `None` exactly where no packet breaks it, and else the first that does. Packets are
+    /// ordered by source, destination, family, protocol (TCP, UDP, SCTP) and port: workloads by number before addresses,
+    /// IPv4 before IPv6, addresses by number. Between workloads the families are those of the list; no packet is of a
+    /// workload of one pod with itself. No address is asked by itself: the rules give what passes with whole ranges of
+    /// them.
+    pub fn check<L: Ledger>(
+        &mut self,
+        statement: &Statement,
+        steps: &mut Steps<L>,
+    ) -> Result<Option<Counter>, NoMemory>
+        requires sources { All (IsWorkload self.old) statement.now.question.source.works }
+        requires destinations { All (IsWorkload self.old) statement.now.question.destination.works }
+        ensures counter { IfOk result (λ made. made ≡ counter_of self.old statement.now.question) }
+        ensures same { self.new ≡ self.old }
+        ensures least { steps.old ≤ steps.new }
+    {
+        let alloc = self.alloc;
+        let folded = self.folded;
+        let count = folded.workloads().count();
+        let sources = statement.sources(alloc, count)?;
+        let destinations = statement.destinations(alloc, count)?;
+        let question = &statement.question;
+        let asked = Asked {
+            wanted: question.wanted,
+            conns: &question.conns,
+        };
+        let ends = &question.destination;
+        let found = first_from_works(self, &asked, &sources, &destinations, ends, steps)?;
+        if found.is_some() {
+            return Ok(found);
+        }
+        let block = &question.source.block;
+        first_from_addresses(alloc, folded, &asked, block, &destinations, steps)
+    }
+
+    /// Where the memory of what is found comes from.
+    pub(crate) fn alloc(&self) -> Global {
+        self.alloc
+    }
+
+    /// The cluster.
+    pub(crate) fn folded(&self) -> &'a Folded
+        ensures { result.now ≡ self.now }
+    {
+        self.folded
+    }
+
+    /// The protocols and ports that pass from a workload to another in a family, by the rules of their first pods. No rule
+    /// tells the pods of a workload apart, so this is right of a workload with itself, too.
+    pub(crate) fn passing<L: Ledger>(
+        &mut self,
+        source: u32,
+        destination: u32,
+        family: Family,
+        steps: &mut Steps<L>,
+    ) -> Result<ConnSet, NoMemory>
+        requires source { IsWorkload self.old source }
+        requires destination { IsWorkload self.old destination }
+        requires apart { is_alone (folding_of self.old) source destination ≡ false }
+        ensures set { IfOk result (λ made. made
+            ≡ conns_of (pair_allows self.old (folding_of self.old) source destination family)) }
+        ensures same { self.new ≡ self.old }
+        ensures least { steps.old ≤ steps.new }
+    {
+        let alloc = self.alloc;
+        ask(
+            alloc,
+            self.folded,
+            Direction::Egress,
+            source,
+            &mut self.senders,
+        )?;
+        ask(
+            alloc,
+            self.folded,
+            Direction::Ingress,
+            destination,
+            &mut self.receivers,
+        )?;
+        let sender = self.senders.get(&source).unwrap();
+        let receiver = self.receivers.get(&destination).unwrap();
+        set_between(alloc, sender, receiver, family, steps)
+    }
+}
+
+// Finds the rules of a workload in a direction, unless they are known. The lists of the cluster are lawful.
+fn ask<'a>(
+    alloc: Global,
+    folded: &'a Folded,
+    direction: Direction,
+    work: u32,
+    known: &mut HashMap<u32, PodRules<'a>>,
+) -> Result<(), NoMemory>
+    requires work { IsWorkload folded.now work }
+    requires known { AreKnown folded.now direction known.old }
+    ensures there { OnOk result (get nat_eq known.new work ≡ Some (first_side folded.now direction work)) }
+    ensures known { AreKnown folded.now direction known.new }
+    ensures lawful { IsLawful folded.now }
+{
+    let members = folded.workloads().members(work);
+    if known.contains_key(&work) {
+        return Ok(());
+    }
+    let rules = PodRules::of(alloc, folded.estate(), members[0], direction)?;
+    known.insert(work, rules)?;
+    Ok(())
+}

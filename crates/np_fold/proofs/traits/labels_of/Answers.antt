@@ -1,0 +1,23 @@
+use Rattle.std.proofs.Common.{◌≡◌, ◌++◌, ◌∷◌, [], map, ap, sym, ◌∙◌}
+use Rattle.std.proofs.lemmas.List.{take_all}
+use Rattle.np_fold.proofs.LabelLemmas.{are_listed, label_of_pair, labels-listed, listed-more, unlisted-more}
+use Rattle.np_fold.proofs.traits.labels_of.Goals as goal
+use Rattle.np_fold.proofs.traits.labels_of.Goals.{then-is_listed+in_ok-try_copy+in_ok-try_copy-2+in_ok-push, else-is_listed}
+
+pub loop-pair-preserved : goal.loop-pair-preserved
+loop-pair-preserved c =
+    let keys = c.args.keys.now in
+    let pairs = c.args.pairs.now in
+    elim c.if-is_listed.branch [
+      | then-is_listed+in_ok-try_copy+in_ok-try_copy-2+in_ok-push w ↦
+          let put : c.if-is_listed.labels ≡ c.loop-pair.labels ++ label_of_pair c.pair-item.result ∷ [] = cc (w.labels-is, w.in_ok-push.ensures.ok, w.in_ok-try_copy.ensures, w.in_ok-try_copy-2.ensures) in
+          put ∙ listed-more keys pairs c.loop-pair.pair-index c.pair-item.result c.loop-pair.labels c.loop-pair-test.true c.pair-item.is c.loop-pair.invariant (sym c.is_listed.ensures ∙ w.if-is_listed.true)
+      | else-is_listed w ↦
+          w.labels-is ∙ unlisted-more keys pairs c.loop-pair.pair-index c.pair-item.result c.loop-pair.labels c.loop-pair-test.true c.pair-item.is c.loop-pair.invariant (sym c.is_listed.ensures ∙ w.if-is_listed.false)
+    ]
+
+pub returns : goal.returns
+returns c =
+    c.loop-pair.invariant
+    ∙ ap (λ all. map label_of_pair (are_listed c.args.keys.now all)) (take_all c.loop-pair.pair-index c.args.pairs.now c.loop-pair-test.false)
+    ∙ labels-listed c.args.keys.now c.args.pairs.now c.requires.keys c.requires.pairs
