@@ -68,7 +68,8 @@ def cluster(workloads):
         items.append(policy(name, {"podSelector": {"matchLabels": {"app": name}}, "policyTypes": ["Ingress", "Egress"],
                                    "ingress": [{"from": [peer(i + 1), peer(i + 7)], "ports": [{"port": "http"}]}],
                                    "egress": [{"to": [peer(i - 1), peer(i - 7)], "ports": [{"port": "http"}]},
-                                              {"to": [{"ipBlock": {"cidr": "172.%d.0.0/16" % (16 + i % 16)}}], "ports": [{"port": 443}]}]}, space))
+                                              {"to": [{"ipBlock": {"cidr": "172.%d.0.0/16" % (16 + i % 16)}}], "ports": [{"port": 443}]}]},
+                            space))
     items.append({"apiVersion": "policy.networking.k8s.io/v1alpha1", "kind": "AdminNetworkPolicy", "metadata": {"name": "no-dev-to-prod"},
                   "spec": {"priority": 10, "subject": {"namespaces": {"matchLabels": {"env": "prod"}}},
                            "ingress": [{"action": "Deny", "from": [{"namespaces": {"matchLabels": {"env": "dev"}}}]}]}})
@@ -120,8 +121,9 @@ def ingress(services):
     for i in range(services):
         items.append({"apiVersion": "v1", "kind": "Service", "metadata": {"name": "s%d" % i}, "spec": {
             "selector": {"app": "a%d" % i}, "ports": [{"name": "web", "port": 80, "targetPort": "http"}]}})
-    items.append({"apiVersion": "networking.k8s.io/v1", "kind": "Ingress", "metadata": {"name": "i"}, "spec": {"rules": [{"http": {"paths": [
-        {"backend": {"service": {"name": "s%d" % i, "port": {"name": "web"}}}} for i in range(services)]}}]}})
+    paths = [{"backend": {"service": {"name": "s%d" % i, "port": {"name": "web"}}}} for i in range(services)]
+    items.append({"apiVersion": "networking.k8s.io/v1", "kind": "Ingress", "metadata": {"name": "i"},
+                  "spec": {"rules": [{"http": {"paths": paths}}]}})
     items.append({"apiVersion": "policy.networking.k8s.io/v1alpha1", "kind": "AdminNetworkPolicy", "metadata": {"name": "apart"}, "spec": {
         "priority": 1, "subject": {"namespaces": {}}, "ingress": [{"action": "Deny", "from": [{"namespaces": {"matchExpressions": [
             {"key": NAME_KEY, "operator": "NotIn", "values": [""]}]}}]}]}})
@@ -166,7 +168,8 @@ def measure(program, folder, name, quick):
             json.dump(listing(make(size)), f)
         seconds, megabytes = best_of_three([program, "list", path])
         growth = "" if before is None else "   x%.2f" % (seconds / before)
-        print("%-10s %6d  %6.1f MB read %8.2f s %6d MB%s" % (name, size, os.path.getsize(path) / 1e6, seconds, megabytes, growth), flush=True)
+        read = os.path.getsize(path) / 1e6
+        print("%-10s %6d  %6.1f MB read %8.2f s %6d MB%s" % (name, size, read, seconds, megabytes, growth), flush=True)
         os.remove(path)
         before = seconds
 
@@ -189,7 +192,8 @@ def count_writes(program, folder):
     path = os.path.join(folder, "writes.json")
     with open(path, "w") as f:
         json.dump(listing(uniform(500)), f)
-    traced = subprocess.run(["strace", "-f", "-c", "-e", "trace=write", program, "list", path], stdout=subprocess.PIPE, stderr=subprocess.PIPE, text=True)
+    words = ["strace", "-f", "-c", "-e", "trace=write", program, "list", path]
+    traced = subprocess.run(words, stdout=subprocess.PIPE, stderr=subprocess.PIPE, text=True)
     calls = sum(int(line.split()[3]) for line in traced.stderr.splitlines() if line.split()[-1:] == ["write"])
     print("writes: %d bytes in %d rows by %d calls of write" % (len(traced.stdout), traced.stdout.count("\n"), calls))
 
