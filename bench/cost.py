@@ -21,6 +21,7 @@ No time is promised to users: the numbers tell how the cost grows, on one machin
 """
 import argparse
 import json
+import multiprocessing
 import os
 import shutil
 import subprocess
@@ -159,13 +160,24 @@ def best_of_three(words):
     return best, peak
 
 
+def write(path, name, size):
+    """Makes an input, in a process of its own: what is measured begins as a copy of this one, whose memory would count as its own."""
+    def dump():
+        with open(path, "w") as f:
+            json.dump(listing(SHAPES[name][0](size)), f)
+    maker = multiprocessing.get_context("fork").Process(target=dump)
+    maker.start()
+    maker.join()
+    if maker.exitcode:
+        sys.exit("%s could not be made" % path)
+
+
 def measure(program, folder, name, quick):
-    make, sizes = SHAPES[name]
+    sizes = SHAPES[name][1]
     before = None
     for size in sizes[:-1] if quick else sizes:
         path = os.path.join(folder, "%s-%d.json" % (name, size))
-        with open(path, "w") as f:
-            json.dump(listing(make(size)), f)
+        write(path, name, size)
         seconds, megabytes = best_of_three([program, "list", path])
         growth = "" if before is None else "   x%.2f" % (seconds / before)
         read = os.path.getsize(path) / 1e6

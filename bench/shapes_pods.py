@@ -98,7 +98,7 @@ def ports(count):
     return cost.ports(count)
 
 
-@shape("namedPortRules", (2000,), (3,), "a pod with {0:,} container ports of one name and different numbers, and as many rules with that"
+@shape("namedPortRules", (10000,), (3,), "a pod with {0:,} container ports of one name and different numbers, and as many rules with that"
        " name", ("list", "explain", "evaluate", "unused"), source="default/b")
 def named_port_rules(count):
     return [pod("a", ports=[("h", 2 * i + 1) for i in range(count)]), pod("b"), to_all(*[{"ports": [{"port": "h"}]} for _ in range(count)])]

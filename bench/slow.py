@@ -65,7 +65,7 @@ KNOWN = {(name, command): why for name, commands, why in (
     ("groupKeys", "list", PAIRS),
     ("groupKeys", "flatten", "each policy names all groups, and each group by all keys"),
     ("strangers", "list unused flatten", PAIRS),
-    ("namedPortRules", "list unused", "each rule makes the set of the ports of that name anew, one port after the other"),
+    ("namedPortRules", "list explain unused", "each rule makes the set of the ports of that name anew, one port after the other"),
     ("rules", "unused", BLOCKS),
     ("lintBlocks", "unused", BLOCKS),
     ("nested", "unused", BLOCKS),
@@ -135,7 +135,7 @@ def measure(program, name, tiny, seconds, kept):
     with tempfile.TemporaryDirectory() as folder:
         files = [os.path.join(folder, "objects.json"), os.path.join(folder, "statements")]
         if any((name, c) not in kept for c in shape.commands):
-            maker = multiprocessing.Process(target=write_files, args=(name, tiny, *files))
+            maker = multiprocessing.get_context("fork").Process(target=write_files, args=(name, tiny, *files))
             maker.start()
             maker.join()
             if maker.exitcode:
