@@ -3,7 +3,7 @@ import itertools
 
 import cost
 from cost import NAME_KEY, policy
-from shape import (admin_policy, labelled_pods, named_block, one_rule, pods_with, pods_with_key, port_rule, shape, to_all, two_pods)
+from shape import (admin_policy, but, labelled_pods, named_block, one_rule, pods_with, pods_with_key, port_rule, shape, to_all, two_pods)
 
 
 # Policies and rules.
@@ -21,7 +21,7 @@ def one_policy_namespace(count, pods):
         one_rule([pods_with("app", "a%d" % (i * 7 % pods))], [i + 1])]}) for i in range(count)]
 
 
-@shape("peers", (20000,), (3,), "a rule with {0:,} peers, each of one value of a label")
+@shape("peers", (20000,), (3,), "a rule with {0:,} peers, each of one value of a label", but("exposure"))
 def peers(count):
     return [*two_pods(), to_all({"from": [pods_with("app", "x%d" % i) for i in range(count)]})]
 
@@ -86,7 +86,7 @@ def exposure_keys(count, keys):
     return [*two_pods(), to_all(*[one_rule([pods_with_key("k%d" % (i % keys))], [i % keys + 1]) for i in range(count)])]
 
 
-@shape("exposurePeers", (20000,), (3,), "a rule with {0:,} peers, each of one value of a label", ("exposure",))
+@shape("exposurePeers", (20000,), (3,), "the rule of peers", ("exposure",))
 def exposure_peers(count):
     return peers(count)
 

@@ -43,6 +43,7 @@ DOCUMENT = os.path.join(TOP, "docs", "develop", "LIMITS.md")
 BEGIN = "<!-- The tables begin here. bench/slow.py --write makes them. -->"
 END = "<!-- The tables end here. -->"
 MOST_BYTES = 2000000 * 1024
+SECONDS = 60
 LARGE = 1000000000
 # Ordinary clusters take at most so many times the bytes that are read; little memory is not compared, since the program itself takes some.
 TIMES = 80
@@ -57,7 +58,7 @@ LINES = "each line is asked anew of every two workloads that it is about"
 KNOWN = {(name, command): why for name, commands, why in (
     ("longNames", "list", LONG_ANSWER),
     ("samePorts", "list", LONG_ANSWER),
-    ("ignored", "list", "the JSON is held whole, and an object of one member takes 600 bytes of memory"),
+    ("ignored", "list", "the JSON is held whole, and an object of one member takes more than 500 bytes of memory"),
     ("mostBlocks", "list evaluate", "the JSON and the policies are held whole, at 50 bytes of memory for each byte"),
     ("mostNetworks", "list evaluate", "each address of a pod is looked for in each block"),
     ("namespaceLabels", " ".join(COMMANDS), "each pod has a copy of the labels of its namespace"),
@@ -71,7 +72,6 @@ KNOWN = {(name, command): why for name, commands, why in (
     ("nested", "unused", BLOCKS),
     ("blocksAndPorts", "unused", "each range of addresses has a set of ports of its own"),
     ("explainPasses", "explain", "each part names all policies that isolate the pod, and the text is held whole"),
-    ("peers", "exposure", PATTERNS),
     ("exposureNamespaces", "exposure", PATTERNS),
     ("exposureKeys", "exposure", PATTERNS),
     ("exposurePeers", "exposure", PATTERNS),
@@ -176,6 +176,10 @@ def row(*cells):
     return "| %s |" % " | ".join(cells)
 
 
+def under(columns):
+    return "|" + "---|" * columns
+
+
 def words_joined(runs):
     return ", ".join(done["command"] for done in runs)
 
@@ -197,10 +201,12 @@ def table(runs):
     lines = ["Measured on %s with version %s of the program, on one of %d processors (%s). Each run had %s seconds of processor time, and"
              " %s of address space." % (day, version, os.cpu_count(), processor(), given, size_of(MOST_BYTES)),
              "", "### What breaks the bounds", ""]
+    if any(how == "slow" and done["seconds"] < SECONDS for done, how in runs):
+        lines += ["Runs that were ended before %d seconds count as slow; with more time some of them might have come to an end." % SECONDS, ""]
     broken = [(done["name"], how, KNOWN.get((done["name"], done["command"]), "**not known yet**"), done) for done, how in runs if how]
     if broken:
         lines += ["Where commands share a row, the numbers are the greatest of them.", "",
-                  row("shape", "command", "bound", "time", "memory", "printed", "why"), row(*["---"] * 7)]
+                  row("shape", "command", "bound", "time", "memory", "printed", "why"), under(7)]
     for (name, how, why), alike in itertools.groupby(broken, lambda one: one[:3]):
         together = [one[3] for one in alike]
         took = ending_of(max(together, key=lambda done: done["took"]))[0]
@@ -212,15 +218,15 @@ def table(runs):
         lines += ["", "Listed as breaking a bound, and within all of them here: %s." % ", ".join(fine)]
     lines += ["", "### What takes more memory than its size explains", "",
               "More than %s, and more than %d times the bytes that were read:" % (size_of(LITTLE), TIMES), "",
-              row("shape", "command", "read", "memory", "times"), row(*["---"] * 5)]
+              row("shape", "command", "read", "memory", "times"), under(5)]
     large = [done for done, _ in runs if done["memory"] > max(LITTLE, TIMES * done["read"])]
     for name, alike in itertools.groupby(large, lambda done: done["name"]):
         together = list(alike)
         times = max(done["memory"] / done["read"] for done in together)
         lines.append(row(name, words_joined(together), most(together, "read"), most(together, "memory"), "%d" % times))
-    lines += ["", "### The shapes", "", row("shape", "what it is"), row(*["---"] * 2)]
+    lines += ["", "### The shapes", "", row("shape", "what it is"), under(2)]
     lines += [row(name, shape.says) for name, shape in SHAPES.items()]
-    lines += ["", "### All runs", "", row("shape", "read", "command", "time", "status", "memory", "printed", "bound"), row(*["---"] * 8)]
+    lines += ["", "### All runs", "", row("shape", "read", "command", "time", "status", "memory", "printed", "bound"), under(8)]
     for done, how in runs:
         read, memory, printed = (size_of(done[what]) for what in ("read", "memory", "printed"))
         lines.append(row(done["name"], read, done["command"], *ending_of(done), memory, printed, how))
@@ -237,7 +243,7 @@ def put_into_document(text):
 def main():
     words = argparse.ArgumentParser(description=__doc__, formatter_class=argparse.RawDescriptionHelpFormatter)
     words.add_argument("--program", default=os.path.join(TOP, "dist", "np"))
-    words.add_argument("--seconds", type=int, default=60)
+    words.add_argument("--seconds", type=int, default=SECONDS)
     words.add_argument("--table", action="store_true")
     words.add_argument("--write", action="store_true")
     words.add_argument("--results", metavar="FILE")
