@@ -202,7 +202,7 @@ def table(runs):
              " %s of address space." % (day, version, os.cpu_count(), processor(), given, size_of(MOST_BYTES)),
              "", "### What breaks the bounds", ""]
     if any(how == "slow" and done["seconds"] < SECONDS for done, how in runs):
-        lines += ["Runs that were ended before %d seconds count as slow; with more time some of them might have come to an end." % SECONDS, ""]
+        lines += ["Runs that were ended before %d seconds count as slow; some of them might have had an answer by then." % SECONDS, ""]
     broken = [(done["name"], how, KNOWN.get((done["name"], done["command"]), "**not known yet**"), done) for done, how in runs if how]
     if broken:
         lines += ["Where commands share a row, the numbers are the greatest of them.", "",
