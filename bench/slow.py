@@ -119,14 +119,12 @@ def run(words, seconds):
 
 
 def breach(done, refused):
-    """Which bound a run breaks."""
-    if done["status"] in (-signal.SIGXCPU, -signal.SIGKILL) or done["took"] > done["seconds"]:
-        return "slow"
-    if done["memory"] > LARGE or done["status"] in (4, -signal.SIGABRT):
-        return "large"
-    if (done["status"] not in (0, 5) or done["fault"] != "") != refused:
-        return "refused"
-    return ""
+    """Which bounds a run breaks."""
+    slow = done["status"] in (-signal.SIGXCPU, -signal.SIGKILL) or done["took"] > done["seconds"]
+    large = done["memory"] > LARGE or done["status"] in (4, -signal.SIGABRT)
+    if slow or large:
+        return ", ".join(["slow"] * slow + ["large"] * large)
+    return "refused" if (done["status"] not in (0, 5) or done["fault"] != "") != refused else ""
 
 
 def measure(program, name, tiny, seconds, kept):
@@ -201,7 +199,7 @@ def table(runs):
     lines = ["Measured on %s with version %s of the program, on one of %d processors (%s). Each run had %s seconds of processor time, and"
              " %s of address space." % (day, version, os.cpu_count(), processor(), given, size_of(MOST_BYTES)),
              "", "### What breaks the bounds", ""]
-    if any(how == "slow" and done["seconds"] < SECONDS for done, how in runs):
+    if any("slow" in how and done["seconds"] < SECONDS for done, how in runs):
         lines += ["Runs that were ended before %d seconds count as slow; some of them might have had an answer by then." % SECONDS, ""]
     broken = [(done["name"], how, KNOWN.get((done["name"], done["command"]), "**not known yet**"), done) for done, how in runs if how]
     if broken:
@@ -219,13 +217,14 @@ def table(runs):
     lines += ["", "### What takes more memory than its size explains", "",
               "More than %s, and more than %d times the bytes that were read:" % (size_of(LITTLE), TIMES), "",
               row("shape", "command", "read", "memory", "times"), under(5)]
-    large = [done for done, _ in runs if done["memory"] > max(LITTLE, TIMES * done["read"])]
+    large = [done for done, _ in runs if done["read"] and done["memory"] > max(LITTLE, TIMES * done["read"])]
     for name, alike in itertools.groupby(large, lambda done: done["name"]):
         together = list(alike)
         times = max(done["memory"] / done["read"] for done in together)
         lines.append(row(name, words_joined(together), most(together, "read"), most(together, "memory"), "%d" % times))
     lines += ["", "### The shapes", "", row("shape", "what it is"), under(2)]
-    lines += [row(name, shape.says) for name, shape in SHAPES.items()]
+    measured = {done["name"] for done, _ in runs}
+    lines += [row(name, shape.says) for name, shape in SHAPES.items() if name in measured]
     lines += ["", "### All runs", "", row("shape", "read", "command", "time", "status", "memory", "printed", "bound"), under(8)]
     for done, how in runs:
         read, memory, printed = (size_of(done[what]) for what in ("read", "memory", "printed"))
