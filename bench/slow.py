@@ -10,7 +10,8 @@ large    it took more than 1 GB, or ended because it had no more than the 2,000,
 refused  there was no answer, so that nothing was measured
 
 --table      prints all of it as Markdown, and --write puts that into docs/develop/LIMITS.md
---results    keeps each run in a file, and takes those that are there already from it, so that an interrupted measurement goes on
+--results    keeps each run in a file, and takes those that are there already from it, so that an interrupted measurement goes on; another
+             program wants another file
 --tiny       takes tiny inputs of the same forms, which shows that np takes them
 --names      prints the names of the shapes, with what they are
 
