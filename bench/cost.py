@@ -21,6 +21,7 @@ No time is promised to users: the numbers tell how the cost grows, on one machin
 """
 import argparse
 import json
+import multiprocessing
 import os
 import shutil
 import subprocess
@@ -68,7 +69,8 @@ def cluster(workloads):
         items.append(policy(name, {"podSelector": {"matchLabels": {"app": name}}, "policyTypes": ["Ingress", "Egress"],
                                    "ingress": [{"from": [peer(i + 1), peer(i + 7)], "ports": [{"port": "http"}]}],
                                    "egress": [{"to": [peer(i - 1), peer(i - 7)], "ports": [{"port": "http"}]},
-                                              {"to": [{"ipBlock": {"cidr": "172.%d.0.0/16" % (16 + i % 16)}}], "ports": [{"port": 443}]}]}, space))
+                                              {"to": [{"ipBlock": {"cidr": "172.%d.0.0/16" % (16 + i % 16)}}], "ports": [{"port": 443}]}]},
+                            space))
     items.append({"apiVersion": "policy.networking.k8s.io/v1alpha1", "kind": "AdminNetworkPolicy", "metadata": {"name": "no-dev-to-prod"},
                   "spec": {"priority": 10, "subject": {"namespaces": {"matchLabels": {"env": "prod"}}},
                            "ingress": [{"action": "Deny", "from": [{"namespaces": {"matchLabels": {"env": "dev"}}}]}]}})
@@ -120,8 +122,9 @@ def ingress(services):
     for i in range(services):
         items.append({"apiVersion": "v1", "kind": "Service", "metadata": {"name": "s%d" % i}, "spec": {
             "selector": {"app": "a%d" % i}, "ports": [{"name": "web", "port": 80, "targetPort": "http"}]}})
-    items.append({"apiVersion": "networking.k8s.io/v1", "kind": "Ingress", "metadata": {"name": "i"}, "spec": {"rules": [{"http": {"paths": [
-        {"backend": {"service": {"name": "s%d" % i, "port": {"name": "web"}}}} for i in range(services)]}}]}})
+    paths = [{"backend": {"service": {"name": "s%d" % i, "port": {"name": "web"}}}} for i in range(services)]
+    items.append({"apiVersion": "networking.k8s.io/v1", "kind": "Ingress", "metadata": {"name": "i"},
+                  "spec": {"rules": [{"http": {"paths": paths}}]}})
     items.append({"apiVersion": "policy.networking.k8s.io/v1alpha1", "kind": "AdminNetworkPolicy", "metadata": {"name": "apart"}, "spec": {
         "priority": 1, "subject": {"namespaces": {}}, "ingress": [{"action": "Deny", "from": [{"namespaces": {"matchExpressions": [
             {"key": NAME_KEY, "operator": "NotIn", "values": [""]}]}}]}]}})
@@ -157,16 +160,28 @@ def best_of_three(words):
     return best, peak
 
 
+def write(path, name, size):
+    """Makes an input, in a process of its own: what is measured begins as a copy of this one, whose memory would count as its own."""
+    def dump():
+        with open(path, "w") as f:
+            json.dump(listing(SHAPES[name][0](size)), f)
+    maker = multiprocessing.get_context("fork").Process(target=dump)
+    maker.start()
+    maker.join()
+    if maker.exitcode:
+        sys.exit("%s could not be made" % path)
+
+
 def measure(program, folder, name, quick):
-    make, sizes = SHAPES[name]
+    sizes = SHAPES[name][1]
     before = None
     for size in sizes[:-1] if quick else sizes:
         path = os.path.join(folder, "%s-%d.json" % (name, size))
-        with open(path, "w") as f:
-            json.dump(listing(make(size)), f)
+        write(path, name, size)
         seconds, megabytes = best_of_three([program, "list", path])
         growth = "" if before is None else "   x%.2f" % (seconds / before)
-        print("%-10s %6d  %6.1f MB read %8.2f s %6d MB%s" % (name, size, os.path.getsize(path) / 1e6, seconds, megabytes, growth), flush=True)
+        read = os.path.getsize(path) / 1e6
+        print("%-10s %6d  %6.1f MB read %8.2f s %6d MB%s" % (name, size, read, seconds, megabytes, growth), flush=True)
         os.remove(path)
         before = seconds
 
@@ -189,7 +204,8 @@ def count_writes(program, folder):
     path = os.path.join(folder, "writes.json")
     with open(path, "w") as f:
         json.dump(listing(uniform(500)), f)
-    traced = subprocess.run(["strace", "-f", "-c", "-e", "trace=write", program, "list", path], stdout=subprocess.PIPE, stderr=subprocess.PIPE, text=True)
+    words = ["strace", "-f", "-c", "-e", "trace=write", program, "list", path]
+    traced = subprocess.run(words, stdout=subprocess.PIPE, stderr=subprocess.PIPE, text=True)
     calls = sum(int(line.split()[3]) for line in traced.stderr.splitlines() if line.split()[-1:] == ["write"])
     print("writes: %d bytes in %d rows by %d calls of write" % (len(traced.stdout), traced.stdout.count("\n"), calls))
 

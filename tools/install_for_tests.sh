@@ -13,6 +13,7 @@ package_of() {
         kubectl) echo kubernetes-client ;;
         man) echo man-db ;;
         dpkg-deb) echo dpkg ;;
+        strip) echo binutils ;;
         *) echo "$1" ;;
     esac
 }

@@ -92,6 +92,16 @@ keep_log() {
     kept=$(mktemp "${TMPDIR:-/tmp}/np-build.XXXXXX") && cp "$1" "$kept" && echo "np: $kept has what the prover said" >&2
 }
 
+# Keeps the program $1 at the path $2 without its symbols, which only a debugger asks for. What is loaded when it runs stays as the kit
+# linked it.
+keep_stripped() {
+    if ! command -v strip >/dev/null; then
+        echo "np: this needs the command strip (of Debian's package binutils)" >&2
+        return 1
+    fi
+    strip --strip-all -o "$2" "$1"
+}
+
 # Proves the crates of the program and builds it at the path $1. Tests and edits are not tried: `./prove` does.
 build_program() {
     if ! command -v rt >/dev/null; then

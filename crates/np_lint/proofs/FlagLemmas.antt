@@ -27,12 +27,12 @@ or_false false = refl
 
 -- ---- one flag is set
 
-get-set_same : {X : Type 0} (xs : List X) (i : ℕ) (x : X) → i < length xs → slice_get (set xs i x) i ≡ Some x
+pub get-set_same : {X : Type 0} (xs : List X) (i : ℕ) (x : X) → i < length xs → slice_get (set xs i x) i ≡ Some x
 get-set_same [] i x within = absurd (omega arith)
 get-set_same (y ∷ xs) zero x within = refl
 get-set_same (y ∷ xs) (suc i) x within = get-set_same xs i x (omega arith)
 
-get-set_other : {X : Type 0} (xs : List X) (i j : ℕ) (x : X) → j ≢ i → slice_get (set xs i x) j ≡ slice_get xs j
+pub get-set_other : {X : Type 0} (xs : List X) (i j : ℕ) (x : X) → j ≢ i → slice_get (set xs i x) j ≡ slice_get xs j
 get-set_other [] i j x other = refl
 get-set_other (y ∷ xs) zero zero x other = absurd (other refl)
 get-set_other (y ∷ xs) zero (suc j) x other = refl

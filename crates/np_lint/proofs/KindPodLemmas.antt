@@ -82,6 +82,13 @@ kind_by_number lists p within =
     let kind = kinds-by lists (number_of lists p) (number_within lists p within) in
     (kind.0, ap (slice_index (folding_of lists).kinds) (number_is lists p within) ∙ kind.2)
 
+-- each pod is of one of the kinds
+pub kind_within : (lists : EstateLists) (p : ℕ) → p < length lists.pods → pod_kind lists p < length (folding_of lists).first_of_kinds
+kind_within lists p within =
+    let by = kind_by_number lists p within in
+    let first = kind_first lists (number_of lists p) by.0 in
+    slice_get_within (folding_of lists).first_of_kinds (pod_kind lists p) first.0 (ap (slice_get (folding_of lists).first_of_kinds) by.1 ∙ first.1)
+
 -- pods that stand in order and are of one namespace have the same labels of it
 namespaces_agree : (pods : List Pod) (i j : ℕ) (a b : Pod) → AllPairs AgreeOnNamespace pods → slice_get pods i ≡ Some a → slice_get pods j ≡ Some b → i < j → AgreeOnNamespace a b
 namespaces_agree pods i j a b agree is is' before =
@@ -133,7 +140,7 @@ module _ (lists : EstateLists) (lawful : IsLawful lists) (kinds : List KindPod) 
       let by = kind_by_number lists p within in
       let first = kind_first lists number by.0 in
       let at : slice_get (folding_of lists).first_of_kinds kind ≡ Some first.0 = ap (slice_get (folding_of lists).first_of_kinds) by.1 ∙ first.1 in
-      let inside : kind < length kinds = omega (arith, are.count, slice_get_within (folding_of lists).first_of_kinds kind first.0 at) in
+      let inside : kind < length kinds = omega (arith, are.count, kind_within lists p within) in
       let nothing : KindPod = record { pod = 0; is_shared = false } in
       let one = get_or kinds kind nothing in
       let there : slice_get kinds kind ≡ Some one = slice_get-get_or kinds kind nothing inside in

@@ -1,16 +1,18 @@
 -- The pod of one more kind.
-use Rattle.std.proofs.Common.{◌≡◌, ℕ, ◌+◌, ◌<◌, List, [], ◌∷◌, ◌++◌, length, get_or, slice_get, slice_index, Some, sym, ap, ◌∙◌, subst, inl, inr, arith}
-use Rattle.std.proofs.lemmas.Bool.{cases_order}
-use Rattle.std.proofs.lemmas.List.{length-append}
+use Rattle.std.proofs.Common.{◌≡◌, ◌≢◌, ℕ, ◌+◌, ◌<◌, ◌≤◌, List, [], ◌∷◌, ◌++◌, length, get_or, slice_get, slice_index, set, true, Some, sym, ap, ◌∙◌, subst, inl, inr, arith}
+use Rattle.std.proofs.lemmas.Bool.{cases_eq, cases_order, false≢true}
+use Rattle.std.proofs.lemmas.List.{length-append, length-set}
 use Rattle.std.proofs.lemmas.List.FromFn.{get_or-map-range_with_len, length-map-range_with_len}
-use Rattle.std.proofs.lemmas.Option.{none-some, same_Some, slice_get_past}
+use Rattle.std.proofs.lemmas.Option.{none-some, same_Some, slice_get_past, slice_get_within}
 use Rattle.np_classes.proofs.Lists.{slice_get-front, slice_get-last}
 use Rattle.np_estate.specs.declared.lists.EstateLists.{EstateLists}
 use Rattle.np_estate.specs.declared.pod.Pod.{Pod}
 use Rattle.np_fold.proofs.WorkloadLemmas.{number-in_workloads}
 use Rattle.np_fold.specs.Workloads.{Folding, folding_of, members_of, number_of}
+use Rattle.np_lint.proofs.FlagLemmas.{get-set_other, get-set_same}
+use Rattle.np_lint.proofs.KindPodLemmas.{kind_within}
 use Rattle.np_lint.specs.declared.kind_pods.KindPod.{KindPod}
-use Rattle.np_lint.specs.steps.Kinds.{IsKindPod, first_of_kind, pod_kind}
+use Rattle.np_lint.specs.steps.Kinds.{AreKindPods, AreKindPodsOf, IsKindPodOf, first_of_kind, pod_kind}
 use Rattle.np_table.proofs.KindLemmas.{kind-there}
 use Rattle.np_table.proofs.MemberLemmas.{members-some}
 use Rattle.np_table.proofs.SideLemmas.{firsts-workloads}
@@ -47,8 +49,70 @@ kind_looked_up lists folding place number kind folded numbered is =
 
 -- ---- one pod more is looked at
 
-pub none_before : (lists : EstateLists) (kind first : ℕ) (p : ℕ) → p < 0 → pod_kind lists p ≡ kind → p ≡ first
-none_before lists kind first p below is = absurd (omega arith)
+-- its kind has a pod
+pub kind_in : (lists : EstateLists) (folding : Folding) (pods : List Pod) (place number kind : ℕ) (kinds : List KindPod) → folding ≡ folding_of lists → pods ≡ lists.pods → place < length pods → number ≡ slice_index folding.numbers place → kind ≡ slice_index folding.kinds number → AreKindPodsOf lists place kinds → kind < length kinds
+kind_in lists folding pods place number kind kinds folded are within numbered is pods_of =
+    let inside : place < length lists.pods = subst (λ (all : List Pod). place < length all) are within in
+    let same : kind ≡ pod_kind lists place = kind_looked_up lists folding place number kind folded numbered is in
+    omega (arith, same, pods_of.count, kind_within lists place inside)
+
+module _ (lists : EstateLists) (place kind : ℕ) (kinds : List KindPod) (one : KindPod) (kind_is : kind ≡ pod_kind lists place) (at : slice_get kinds kind ≡ Some one) (are : AreKindPodsOf lists place kinds) where
+  -- it is the pod of its kind
+  pub own_seen : one.pod ≡ place → AreKindPodsOf lists (place + 1) kinds
+  own_seen own = record {
+    count = are.count;
+    each = λ k other at_k.
+        let is = are.each k other at_k in record {
+          pod = is.pod;
+          shared = is.shared;
+          alone = λ alone p low of_kind. elim (cases_order p place) [
+            | inl same ↦ same ∙ sym own ∙ ap (λ (o : KindPod). o.pod) (same_Some one other (sym at ∙ ap (slice_get kinds) (kind_is ∙ ap (pod_kind lists) (sym same) ∙ of_kind) ∙ at_k))
+            | inr (inl before) ↦ is.alone alone p before of_kind
+            | inr (inr after) ↦ absurd (omega arith)
+          ];
+        };
+  }
+
+  -- it is another one
+  abbrev noted : KindPod
+  noted = record { pod = one.pod; is_shared = true }
+
+  noted_is : place < length lists.pods → one.pod ≢ place → IsKindPodOf lists (place + 1) kind noted
+  noted_is within other_pod = record {
+    pod = (are.each kind one at).pod;
+    shared = λ shared. (place, within, sym kind_is, λ same. other_pod (sym same));
+    alone = λ alone. absurd (false≢true (sym alone));
+  }
+
+  other_is : (k : ℕ) (other : KindPod) → k ≢ kind → slice_get kinds k ≡ Some other → IsKindPodOf lists (place + 1) k other
+  other_is k other apart at_k =
+      let is = are.each k other at_k in record {
+        pod = is.pod;
+        shared = is.shared;
+        alone = λ alone p low of_kind. elim (cases_order p place) [
+          | inl same ↦ absurd (apart (sym of_kind ∙ ap (pod_kind lists) same ∙ sym kind_is))
+          | inr (inl before) ↦ is.alone alone p before of_kind
+          | inr (inr after) ↦ absurd (omega arith)
+        ];
+      }
+
+  pub other_seen : place < length lists.pods → one.pod ≢ place → AreKindPodsOf lists (place + 1) (set kinds kind (record { pod = one.pod; is_shared = true }))
+  other_seen within other_pod = record {
+    count = length-set kinds kind noted ∙ are.count;
+    each = λ k other at_k. elim (cases_eq k kind) [
+      | inl same ↦ subst (λ (n : ℕ). IsKindPodOf lists (place + 1) n other) (sym same) (subst (IsKindPodOf lists (place + 1) kind) (same_Some noted other (sym (get-set_same kinds kind noted (slice_get_within kinds kind one at)) ∙ ap (slice_get (set kinds kind noted)) (sym same) ∙ at_k)) (noted_is within other_pod))
+      | inr apart ↦ other_is k other apart (sym (get-set_other kinds kind k noted apart) ∙ at_k)
+    ];
+  }
+
+-- all pods were looked at
+pub all_seen : (lists : EstateLists) (pods : ℕ) (kinds : List KindPod) → length lists.pods ≤ pods → AreKindPodsOf lists pods kinds → AreKindPods lists kinds
+all_seen lists pods kinds past are = record {
+  count = are.count;
+  each = λ kind one at.
+      let is = are.each kind one at in
+      record { pod = is.pod; shared = is.shared; alone = λ alone p low. is.alone alone p (omega arith) };
+}
 
 -- ---- one kind more
 
@@ -69,10 +133,10 @@ first_pod_is lists folding firsts members kind folded are members_are =
     ∙ ap (λ (f : Folding). get_or (members_of f (get_or firsts kind 0)) 0 0) folded
     ∙ ap (λ (all : List ℕ). get_or (members_of (folding_of lists) (get_or all kind 0)) 0 0) same
 
-pub each_more : (lists : EstateLists) (kinds made : List KindPod) (one : KindPod) (kind : ℕ) → length kinds ≡ kind → ((k : ℕ) (other : KindPod) → slice_get kinds k ≡ Some other → IsKindPod lists k other) → IsKindPod lists kind one → made ≡ kinds ++ one ∷ [] → (k : ℕ) (other : KindPod) → slice_get made k ≡ Some other → IsKindPod lists k other
-each_more lists kinds made one kind count each is pushed k other at =
+pub each_more : (lists : EstateLists) (pods : ℕ) (kinds made : List KindPod) (one : KindPod) (kind : ℕ) → length kinds ≡ kind → ((k : ℕ) (other : KindPod) → slice_get kinds k ≡ Some other → IsKindPodOf lists pods k other) → IsKindPodOf lists pods kind one → made ≡ kinds ++ one ∷ [] → (k : ℕ) (other : KindPod) → slice_get made k ≡ Some other → IsKindPodOf lists pods k other
+each_more lists pods kinds made one kind count each is pushed k other at =
     elim (cases_order k kind) [
-      | inl equal ↦ subst (λ (n : ℕ). IsKindPod lists n other) (sym equal) (subst (IsKindPod lists kind) (same_Some one other (sym (slice_get-last kinds one) ∙ ap (slice_get (kinds ++ one ∷ [])) (count ∙ sym equal) ∙ here)) is)
+      | inl equal ↦ subst (λ (n : ℕ). IsKindPodOf lists pods n other) (sym equal) (subst (IsKindPodOf lists pods kind) (same_Some one other (sym (slice_get-last kinds one) ∙ ap (slice_get (kinds ++ one ∷ [])) (count ∙ sym equal) ∙ here)) is)
       | inr (inl before) ↦ each k other (sym (slice_get-front kinds one k (omega arith)) ∙ here)
       | inr (inr after) ↦ absurd (none-some other (sym (slice_get_past (kinds ++ one ∷ []) k (omega (arith, length-append kinds (one ∷ [])))) ∙ here))
     ]

@@ -1,102 +1,162 @@
--- What is known after marks were noted.
-use Rattle.std.proofs.Common.{◌≡◌, ◌⊎◌, ◌↔◌, ℕ, ◌+◌, ◌<◌, List, [], ◌∷◌, Bool, true, false, ◌||◌, IsTrue, length, get_or, take, Option, All, refl, sym, ap, ◌∙◌, inl, inr, map, filter, if◌then◌else◌}
-use Rattle.std.specs.List.{Any, list_any}
-use Rattle.std.proofs.lemmas.Bool.{false≢true}
-use Rattle.std.proofs.lemmas.List.Folds.{Any-from_list_any, list_any_more}
+-- What is known after the tiers of a layer were looked at.
+use Rattle.std.proofs.Common.{◌≡◌, ◌⊎◌, ℕ, ◌+◌, List, [], ◌∷◌, Bool, true, false, ◌&&◌, not, Option, Some, None, refl, sym, ap, ◌∙◌, inl, inr, if◌then◌else◌, find}
+use Rattle.std.specs.List.{enumerate_from, position_from, slice_get}
+use Rattle.std.specs.Option.{option_and_then, option_map_or}
+use Rattle.std.proofs.lemmas.Bool.{and_from, and_parts, false≢true}
+use Rattle.np_lint.proofs.FirstLemmas.{first_at-position}
+use Rattle.np_lint.proofs.NoteLemmas.{notes_as, notes_none}
 use Rattle.np_lint.specs.declared.flags.Flags.{Flags}
 use Rattle.np_lint.specs.declared.rule_ref.Tier.{Tier}
-use Rattle.np_lint.specs.declared.rule_ref.Tier.TheVariants.{Admin, Net, Base}
+use Rattle.np_lint.specs.declared.rule_ref.Tier.TheVariants as tier
 use Rattle.np_lint.specs.declared.used_rules.UsedRules.{UsedRules}
-use Rattle.np_lint.specs.steps.Known.{base_place, flag_at, is_known, is_met, marks, net_place}
+use Rattle.np_lint.specs.steps.Firsts.{Notes, first_at, hands_down, is_pass, names}
+use Rattle.np_lint.specs.steps.Known.{base_place, flag_at, flags_of, is_known, is_met, marks, net_place}
 use Rattle.np_rules.specs.declared.rule_ids.LayerRules.{LayerRules}
 use Rattle.np_rules.specs.declared.rule_ids.RuleId.{RuleId}
 use Rattle.np_tiers.specs.Entries.{admin_place}
-use Rattle.np_tiers.specs.Marks.{mark_of, marks_at}
+use Rattle.np_tiers.specs.Marks.{admin_mark, base_mark, lower_mark, mark_of, net_mark}
+use Rattle.np_tiers.specs.declared.layer.Action.{Action}
+use Rattle.np_tiers.specs.declared.layer.Action.TheVariants.{Allow, Deny, Pass}
+use Rattle.np_tiers.specs.declared.layer.AdminPart.{AdminPart}
 use Rattle.np_tiers.specs.declared.layer.Layer.{Layer}
 use Rattle.np_tiers.specs.declared.mark.Mark.{Mark}
-use Rattle.np_tiers.specs.declared.mark.Marked.{Marked}
+use Rattle.np_tiers.specs.declared.mark.Mark.TheVariants.{Admin}
 
--- ---- one mark
+-- ---- the places of a mark
 
--- the flags of a tier after the rule at a place was noted
-abbrev pub IsNoted : Flags → Flags → List RuleId → Option ℕ → Type 0
-IsNoted old new ids met = (p n : ℕ) → flag_at new p n ≡ (flag_at old p n || is_met ids met p n)
+admin_below : (isolated : Bool) (net base pass : Option ℕ) → admin_place (if isolated then net_mark pass net else base_mark pass base) ≡ pass
+admin_below true None base pass = refl
+admin_below true (Some place) base pass = refl
+admin_below false net None pass = refl
+admin_below false net (Some place) pass = refl
 
-noted-as : (old new : Flags) (ids ids' : List RuleId) (met met' : Option ℕ) → ids ≡ ids' → met ≡ met' → IsNoted old new ids met → IsNoted old new ids' met'
-noted-as old new ids ids' met met' same at noted p n =
-    noted p n ∙ ap (λ (list : List RuleId). flag_at old p n || is_met list met p n) same ∙ ap (λ (place : Option ℕ). flag_at old p n || is_met ids' place p n) at
+net_below : (isolated : Bool) (net base pass : Option ℕ) → net_place (if isolated then net_mark pass net else base_mark pass base) ≡ (if isolated then net else None)
+net_below true None base pass = refl
+net_below true (Some place) base pass = refl
+net_below false net None pass = refl
+net_below false net (Some place) pass = refl
 
-pub mark-noted : (rules : LayerRules) (mark : Mark) (old new : UsedRules) → IsNoted old.admin new.admin rules.admin (admin_place mark) → IsNoted old.net new.net rules.net (net_place mark) → IsNoted old.base new.base rules.base (base_place mark) → (tier : Tier) (policy place : ℕ) → is_known new tier policy place ≡ (is_known old tier policy place || marks rules tier policy place mark)
-unfolding is_known marks
-mark-noted rules mark old new admin net base Admin policy place = admin policy place
-mark-noted rules mark old new admin net base Net policy place = net policy place
-mark-noted rules mark old new admin net base Base policy place = base policy place
+base_below : (isolated : Bool) (net base pass : Option ℕ) → base_place (if isolated then net_mark pass net else base_mark pass base) ≡ (if not isolated then base else None)
+base_below true None base pass = refl
+base_below true (Some place) base pass = refl
+base_below false net None pass = refl
+base_below false net (Some place) pass = refl
 
--- the same, by the lists and places that are handed over
-pub marks-noted : (rules : LayerRules) (mark : Mark) (old new : UsedRules) (admins nets bases : List RuleId) (admin net base : Option ℕ) → admins ≡ rules.admin → nets ≡ rules.net → bases ≡ rules.base → admin ≡ admin_place mark → net ≡ net_place mark → base ≡ base_place mark → IsNoted old.admin new.admin admins admin → IsNoted old.net new.net nets net → IsNoted old.base new.base bases base → (tier : Tier) (policy place : ℕ) → is_known new tier policy place ≡ (is_known old tier policy place || marks rules tier policy place mark)
-marks-noted rules mark old new admins nets bases admin net base are_admins are_nets are_bases at_admin at_net at_base noted_admin noted_net noted_base =
-    mark-noted rules mark old new
-    (noted-as old.admin new.admin admins rules.admin admin (admin_place mark) are_admins at_admin noted_admin)
-    (noted-as old.net new.net nets rules.net net (net_place mark) are_nets at_net noted_net)
-    (noted-as old.base new.base bases rules.base base (base_place mark) are_bases at_base noted_base)
+module _ {S : Type 0} (at : S → Bool) (layer : Layer S) where
+  abbrev net_at : Option ℕ
+  net_at = position_from at 0 layer.net
 
--- ---- all marks
+  abbrev base_at : Option ℕ
+  base_at = position_from (λ part. at part.set) 0 layer.base
 
-or_assoc : (a b c : Bool) → ((a || b) || c) ≡ (a || (b || c))
-or_assoc true b c = refl
-or_assoc false b c = refl
+  -- what decides, by the admin parts of which the first stands at a place
+  abbrev mark_from : ℕ → List (AdminPart S) → Mark
+  mark_from k parts = admin_mark (find (λ numbered. at numbered.1.set) (enumerate_from k parts)) (lower_mark at layer)
 
-or_none : (b : Bool) → b ≡ (b || false)
-or_none true = refl
-or_none false = refl
+  admin_from : (k : ℕ) (parts : List (AdminPart S)) → admin_place (mark_from k parts) ≡ position_from (λ part. at part.set) k parts
+  admin_from k [] = admin_below layer.isolated net_at base_at None
+  admin_from k (part ∷ parts) = by (at part.set) part.action (admin_from (k + 1) parts)
+    where
+      by : (b : Bool) (action : Action) → admin_place (mark_from (k + 1) parts) ≡ position_from (λ (p : AdminPart S). at p.set) (k + 1) parts → admin_place (admin_mark (if b then Some (k, record part { action = action }) else find (λ numbered. at numbered.1.set) (enumerate_from (k + 1) parts)) (lower_mark at layer)) ≡ (if b then Some k else position_from (λ (p : AdminPart S). at p.set) (k + 1) parts)
+      by false action later = later
+      by true Allow later = refl
+      by true Deny later = refl
+      by true Pass later = admin_below layer.isolated net_at base_at (Some k)
 
-pub known-none : (b : Bool) → b ≡ (b || false)
-known-none = or_none
+  -- a place below the admin tier, which is the same whatever was passed on
+  lower_from : (place_of : Mark → Option ℕ) (below : Option ℕ) → ((k : ℕ) → place_of (Admin k) ≡ None) → ((pass : Option ℕ) → place_of (lower_mark at layer pass) ≡ below) → (k : ℕ) (parts : List (AdminPart S)) → place_of (mark_from k parts) ≡ (if hands_down at parts then below else None)
+  lower_from place_of below of_admin of_lower k [] = of_lower None
+  lower_from place_of below of_admin of_lower k (part ∷ parts) = by (at part.set) part.action (lower_from place_of below of_admin of_lower (k + 1) parts)
+    where
+      by : (b : Bool) (action : Action) → place_of (mark_from (k + 1) parts) ≡ (if hands_down at parts then below else None) → place_of (admin_mark (if b then Some (k, record part { action = action }) else find (λ numbered. at numbered.1.set) (enumerate_from (k + 1) parts)) (lower_mark at layer)) ≡ (if option_map_or (λ (p : AdminPart S). is_pass p.action) (if b then Some (record part { action = action }) else find (λ (p : AdminPart S). at p.set) parts) true then below else None)
+      by false action later = later
+      by true Allow later = of_admin k
+      by true Deny later = of_admin k
+      by true Pass later = of_lower (Some k)
 
-pub known-more : {X : Type 0} (test : X → Bool) (items : List X) (i : ℕ) (item : X) (old so_far made : Bool) → i < length items → item ≡ get_or items i item → so_far ≡ (old || list_any test (take i items)) → made ≡ (so_far || test item) → made ≡ (old || list_any test (take (i + 1) items))
-known-more {X} test items i item old so_far made within is before more =
-    more ∙ ap (λ (b : Bool). b || test item) before ∙ or_assoc old (list_any test (take i items)) (test item)
-    ∙ ap (λ (x : X). old || (list_any test (take i items) || test x)) is
-    ∙ ap (λ (b : Bool). old || b) (sym (list_any_more test items i item within))
+  -- ---- the rules that a mark names
+
+  named_at : (ids : List RuleId) (hands here : Bool) (found : Option ℕ) (first : Option RuleId) (policy place : ℕ) → option_and_then (slice_get ids) found ≡ first → is_met ids (if hands then (if here then found else None) else None) policy place ≡ (hands && (here && names first policy place))
+  named_at ids false here found first policy place is = refl
+  named_at ids true false found first policy place is = refl
+  named_at ids true true found first policy place is = ap (λ (id : Option RuleId). names id policy place) is
+
+  module _ (rules : LayerRules) (policy place : ℕ) where
+    pub marks_admin : marks rules tier.Admin policy place (mark_of at layer) ≡ names (first_at (λ part. at part.set) layer.admin rules.admin) policy place
+    unfolding marks
+    marks_admin =
+        ap (λ (found : Option ℕ). is_met rules.admin found policy place) (admin_from 0 layer.admin)
+        ∙ ap (λ (id : Option RuleId). names id policy place) (first_at-position (λ part. at part.set) layer.admin rules.admin)
+
+    pub marks_net : marks rules tier.Net policy place (mark_of at layer) ≡ (hands_down at layer.admin && (layer.isolated && names (first_at at layer.net rules.net) policy place))
+    unfolding marks
+    marks_net =
+        ap (λ (found : Option ℕ). is_met rules.net found policy place) (lower_from net_place (if layer.isolated then net_at else None) (λ k. refl) (net_below layer.isolated net_at base_at) 0 layer.admin)
+        ∙ named_at rules.net (hands_down at layer.admin) layer.isolated net_at (first_at at layer.net rules.net) policy place (first_at-position at layer.net rules.net)
+
+    pub marks_base : marks rules tier.Base policy place (mark_of at layer) ≡ (hands_down at layer.admin && (not layer.isolated && names (first_at (λ part. at part.set) layer.base rules.base) policy place))
+    unfolding marks
+    marks_base =
+        ap (λ (found : Option ℕ). is_met rules.base found policy place) (lower_from base_place (if not layer.isolated then base_at else None) (λ k. refl) (base_below layer.isolated net_at base_at) 0 layer.admin)
+        ∙ named_at rules.base (hands_down at layer.admin) (not layer.isolated) base_at (first_at (λ part. at part.set) layer.base rules.base) policy place (first_at-position (λ part. at part.set) layer.base rules.base)
 
 -- ---- a layer
 
-or_left : (a b : Bool) → a ≡ true → (a || b) ≡ true
-or_left true b is = refl
-or_left false b is = absurd (false≢true is)
+module _ {S Spot : Type 0} (has : S → Spot → Bool) (in_space : Spot → Bool) (layer : Layer S) (rules : LayerRules) where
+  -- the rules that a tier's marks name
+  abbrev pub marks_test : Tier → Spot → ℕ → ℕ → Bool
+  marks_test one spot policy place = in_space spot && marks rules one policy place (mark_of (λ set. has set spot) layer)
 
-or_right : (a b : Bool) → b ≡ true → (a || b) ≡ true
-or_right true b is = refl
-or_right false b is = is
+  -- the first rules of a tier that are handed some spot
+  abbrev pub handed_test : {P : Type 0} → (P → S) → List (AdminPart S) → List P → List RuleId → Spot → ℕ → ℕ → Bool
+  handed_test set_of above parts ids spot policy place = (in_space spot && hands_down (λ set. has set spot) above) && names (first_at (λ part. has (set_of part) spot) parts ids) policy place
 
-or_either : (a b : Bool) → (a || b) ≡ true → (a ≡ true) ⊎ (b ≡ true)
-or_either true b is = inl refl
-or_either false b is = inr is
+  notes_same : (test noted : Spot → ℕ → ℕ → Bool) (old new : Flags) → ((spot : Spot) (policy place : ℕ) → test spot policy place ≡ noted spot policy place) → Notes noted old new → Notes test old new
+  notes_same test noted old new same = notes_as test noted old new (λ spot policy place is. sym (same spot policy place) ∙ is) (λ spot policy place is. same spot policy place ∙ is)
 
--- the mark of a spot is that of some entry
-mark-found : {S : Type 0} (at : S → Bool) (test : Mark → Bool) (m : Mark) (entries : List (Marked S)) → marks_at at entries ≡ m ∷ [] → test m ≡ true → list_any (λ entry. test entry.mark) entries ≡ true
-mark-found at test m [] marks passes = cc
-mark-found {S} at test m (entry ∷ entries) marks passes = go (at entry.set) marks (λ is. mark-found at test m entries is passes)
-  where
-    go : (b : Bool) → map (λ e. e.mark) (if b then entry ∷ filter (λ e. at e.set) entries else filter (λ e. at e.set) entries) ≡ m ∷ [] → (map (λ e. e.mark) (filter (λ e. at e.set) entries) ≡ m ∷ [] → list_any (λ e. test e.mark) entries ≡ true) → (test entry.mark || list_any (λ e. test e.mark) entries) ≡ true
-    go true is later = let same : entry.mark ≡ m = cc in or_left (test entry.mark) _ (ap test same ∙ passes)
-    go false is later = or_right (test entry.mark) _ (later is)
+  admin_same : (a b : Bool) → (a && b) ≡ ((a && true) && b)
+  admin_same true b = refl
+  admin_same false b = refl
 
-module _ {S Spot : Type 0} (has : S → Spot → Bool) (in_space : Spot → Bool) (layer : Layer S) (entries items : List (Marked S)) (same : items ≡ entries) (test : Mark → Bool) (old new : Bool) (made : new ≡ (old || list_any (λ entry. test entry.mark) items)) where
-  is : new ≡ (old || list_any (λ entry. test entry.mark) entries)
-  is = made ∙ ap (λ (list : List (Marked S)). old || list_any (λ entry. test entry.mark) list) same
+  lower_same : (a b c d : Bool) → c ≡ true → (a && (b && (c && d))) ≡ ((a && b) && d)
+  lower_same true b c d is = rw is refl
+  lower_same false b c d is = refl
 
-  pub layer-finds : (spot : Spot) → marks_at (λ set. has set spot) entries ≡ mark_of (λ set. has set spot) layer ∷ [] → test (mark_of (λ set. has set spot) layer) ≡ true → new ≡ true
-  layer-finds spot marks passes = is ∙ or_right old _ (mark-found (λ set. has set spot) test (mark_of (λ set. has set spot) layer) entries marks passes)
+  unheard : (a b c d : Bool) → c ≡ false → (a && (b && (c && d))) ≡ true → ⊥
+  unheard true true c d none is = false≢true (rw none at is)
+  unheard true false c d none is = false≢true is
+  unheard false b c d none is = false≢true is
 
-  pub layer-only : All (λ entry. (spot : Spot) → IsTrue (has entry.set spot) ↔ (IsTrue (in_space spot) × (mark_of (λ set. has set spot) layer ≡ entry.mark))) entries → All (λ entry. (spot : Spot) × (has entry.set spot ≡ true)) entries → new ≡ true → (old ≡ true) ⊎ ((spot : Spot) × (in_space spot ≡ true) × (test (mark_of (λ set. has set spot) layer) ≡ true))
-  layer-only exact some known =
-      elim (or_either old (list_any (λ entry. test entry.mark) entries) (sym is ∙ known)) [ inl before ↦ inl before | inr found ↦ inr (spot_of (Any-from_list_any (λ entry. test entry.mark) entries found)) ]
-    where
-      spot_of : Any (λ entry. test entry.mark ≡ true) entries → (spot : Spot) × (in_space spot ≡ true) × (test (mark_of (λ set. has set spot) layer) ≡ true)
-      spot_of any =
-          let k = any.0 in let entry = any.1 in
-          let filled = some k entry any.2 in
-          let both = (exact k entry any.2 filled.0).0 filled.1 in
-          let here : get_or entries k entry ≡ entry = any.3 in
-          (filled.0, both.0, ap test both.1 ∙ ap (λ (e : Marked S). test e.mark) here ∙ any.4)
+  module _ (old new : UsedRules) (admin : Notes (handed_test (λ part. part.set) [] layer.admin rules.admin) old.admin new.admin) where
+    admin_noted : Notes (marks_test tier.Admin) old.admin new.admin
+    admin_noted = notes_same (marks_test tier.Admin) _ old.admin new.admin (λ spot policy place. ap (λ (b : Bool). in_space spot && b) (marks_admin (λ set. has set spot) layer rules policy place) ∙ admin_same (in_space spot) _) admin
+
+    -- a tier that is not looked at names nothing
+    pub isolated_noted : layer.isolated ≡ true → Notes (handed_test (λ set. set) layer.admin layer.net rules.net) old.net new.net → new.base ≡ old.base → (one : Tier) → Notes (marks_test one) (flags_of old one) (flags_of new one)
+    isolated_noted isolated net kept tier.Admin = admin_noted
+    isolated_noted isolated net kept tier.Net = notes_same (marks_test tier.Net) _ old.net new.net (λ spot policy place. ap (λ (b : Bool). in_space spot && b) (marks_net (λ set. has set spot) layer rules policy place) ∙ lower_same (in_space spot) (hands_down (λ set. has set spot) layer.admin) layer.isolated _ isolated) net
+    isolated_noted isolated net kept tier.Base =
+        rw kept (notes_none (marks_test tier.Base) old.base (λ spot policy place is. absurd (unheard (in_space spot) (hands_down (λ set. has set spot) layer.admin) (not layer.isolated) _ (ap not isolated) (sym (ap (λ (b : Bool). in_space spot && b) (marks_base (λ set. has set spot) layer rules policy place)) ∙ is))))
+
+    pub open_noted : layer.isolated ≡ false → Notes (handed_test (λ part. part.set) layer.admin layer.base rules.base) old.base new.base → new.net ≡ old.net → (one : Tier) → Notes (marks_test one) (flags_of old one) (flags_of new one)
+    open_noted unisolated base kept tier.Admin = admin_noted
+    open_noted unisolated base kept tier.Base = notes_same (marks_test tier.Base) _ old.base new.base (λ spot policy place. ap (λ (b : Bool). in_space spot && b) (marks_base (λ set. has set spot) layer rules policy place) ∙ lower_same (in_space spot) (hands_down (λ set. has set spot) layer.admin) (not layer.isolated) _ (ap not unisolated)) base
+    open_noted unisolated base kept tier.Net =
+        rw kept (notes_none (marks_test tier.Net) old.net (λ spot policy place is. absurd (unheard (in_space spot) (hands_down (λ set. has set spot) layer.admin) layer.isolated _ unisolated (sym (ap (λ (b : Bool). in_space spot && b) (marks_net (λ set. has set spot) layer rules policy place)) ∙ is))))
+
+  module _ (old new : UsedRules) (noted : (one : Tier) → Notes (marks_test one) (flags_of old one) (flags_of new one)) (one : Tier) (policy place : ℕ) where
+    pub layer_grows : is_known old one policy place ≡ true → is_known new one policy place ≡ true
+    unfolding is_known
+    layer_grows known = (noted one).grows policy place known
+
+    pub layer_finds : (spot : Spot) → in_space spot ≡ true → marks rules one policy place (mark_of (λ set. has set spot) layer) ≡ true → is_known new one policy place ≡ true
+    unfolding is_known
+    layer_finds spot inside named = (noted one).finds spot policy place (and_from (in_space spot) _ inside named)
+
+    pub layer_only : is_known new one policy place ≡ true → (is_known old one policy place ≡ true) ⊎ ((spot : Spot) × (in_space spot ≡ true) × (marks rules one policy place (mark_of (λ set. has set spot) layer) ≡ true))
+    unfolding is_known
+    layer_only known = by ((noted one).only policy place known)
+      where
+        by : (flag_at (flags_of old one) policy place ≡ true) ⊎ ((spot : Spot) × (marks_test one spot policy place ≡ true)) → (flag_at (flags_of old one) policy place ≡ true) ⊎ ((spot : Spot) × (in_space spot ≡ true) × (marks rules one policy place (mark_of (λ set. has set spot) layer) ≡ true))
+        by (inl before) = inl before
+        by (inr found) = let both = and_parts (in_space found.0) _ found.1 in inr (found.0, both.0, both.1)

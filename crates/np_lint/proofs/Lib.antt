@@ -1,12 +1,14 @@
 pub mod AllowLemmas
 pub mod ChangeLemmas
 pub mod FindLemmas
+pub mod FirstLemmas
 pub mod FlagLemmas
 pub mod KindPodLemmas
 pub mod KindStepLemmas
 pub mod KnownLemmas
 pub mod LawLemmas
 pub mod NameLemmas
+pub mod NoteLemmas
 pub mod PacketLemmas
 pub mod PolicyLemmas
 pub mod PrintLemmas

@@ -81,6 +81,12 @@ pub all_pods_known : (side : PodSide) → IsLawful side.lists → (rules : Layer
 unfolding KnowsPods
 all_pods_known side lawful rules are kinds near family used answer is all kind far at asked spot inside = knows_side side lawful rules are used (sym is ∙ all) (with_pod far.pod family side spot)
 
+pub all_known_of : (side : PodSide) → IsLawful side.lists → (rules : LayerRules) → AreRulesOf side rules → (kinds : List KindPod) (near : ℕ) (used : UsedRules) (answer : Bool) → answer ≡ all_known used rules → answer ≡ true → KnowsSide side kinds near used
+all_known_of side lawful rules are kinds near used answer is all = record {
+  addresses = all_addresses_known side lawful rules are used answer is all;
+  pods = λ family of_family. all_pods_known side lawful rules are kinds near family used answer is all;
+}
+
 -- ---- kinds one after another
 
 -- so it is with the first kinds as far ends

@@ -1,6 +1,6 @@
 //! Pods that stand for their kinds.
-ghost use Rattle.std.specs.Prelude.{◌≡◌, ◌≢◌, ◌<◌, ℕ, true, false, IfOk, length};
-ghost use Rattle.np_lint.specs.steps.Kinds.{AreKindPods, pod_kind};
+ghost use Rattle.std.specs.Prelude.{IfOk};
+ghost use Rattle.np_lint.specs.steps.Kinds.{AreKindPods, AreKindPodsOf};
 
 use np_base::NoMemory;
 use np_fold::Folded;
@@ -18,29 +18,38 @@ pub struct KindPod {
 pub(crate) fn kind_pods(alloc: Global, folded: &Folded) -> Result<Vec<KindPod>, NoMemory>
     ensures { IfOk result (λ made. AreKindPods folded.now made.items) }
 {
+    let mut kinds = first_pods(alloc, folded)?;
+    note_others(folded, &mut kinds);
+    Ok(kinds)
+}
+
+// The first pod of each kind, as if no kind had another pod.
+fn first_pods(alloc: Global, folded: &Folded) -> Result<Vec<KindPod>, NoMemory>
+    ensures { IfOk result (λ made. AreKindPodsOf folded.now 0 made.items) }
+{
     let workloads = folded.workloads();
     let mut kinds = Vec::new(alloc);
-    for (kind, workload) in workloads.first_of_kinds().iter().enumerate() {
+    for workload in workloads.first_of_kinds() {
         let pod = workloads.members(*workload)[0];
-        let is_shared = has_other(folded, kind, pod);
-        kinds.push(KindPod { pod, is_shared })?;
+        kinds.push(KindPod {
+            pod,
+            is_shared: false,
+        })?;
     }
     Ok(kinds)
 }
 
-// Whether a kind has another pod than its first one.
-fn has_other(folded: &Folded, kind: usize, first: u32) -> bool
-    ensures some { result ≡ true →
-        (p : ℕ) × (p < length folded.now.pods) × (pod_kind folded.now p ≡ kind) × (p ≢ first) }
-    ensures none { result ≡ false →
-        (p : ℕ) → p < length folded.now.pods → pod_kind folded.now p ≡ kind → p ≡ first }
+// Notes which kinds have another pod than their first one, in one walk over all pods.
+fn note_others(folded: &Folded, kinds: &mut [KindPod])
+    requires { AreKindPodsOf folded.now 0 kinds.old }
+    ensures { AreKindPods folded.now kinds.new }
 {
     let workloads = folded.workloads();
     let count = folded.estate().pods().len() as u32;
     for pod in 0..count {
-        if pod != first && workloads.kind_of(workloads.workload_of(pod)) as usize == kind {
-            return true;
+        let kind = workloads.kind_of(workloads.workload_of(pod)) as usize;
+        if kinds[kind].pod != pod {
+            kinds[kind].is_shared = true;
         }
     }
-    false
 }

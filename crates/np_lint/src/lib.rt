@@ -2,11 +2,14 @@
 #![tactic(auto)]
 
 mod all_rules;
+mod first_rules;
 mod flags;
+mod handed_down;
 mod kind_pods;
 mod laws;
 mod print;
 mod rule_ref;
+mod rule_spots;
 mod search;
 mod unused;
 mod used_rules;

@@ -42,7 +42,7 @@ pub(crate) fn used_rules<L: Ledger>(
     Ok(used)
 }
 
-// Looks for the rules of the pod that stands for a kind.
+// Looks for the rules of the pod that stands for a kind, unless all are known.
 fn search_side<L: Ledger>(
     alloc: Global,
     estate: &Estate,
@@ -64,6 +64,9 @@ fn search_side<L: Ledger>(
 {
     let pod = kinds[near].pod;
     let rules = layer_rules(alloc, estate, pod, direction)?;
+    if used.has_all(&rules) {
+        return Ok(());
+    }
     let side = PodRules::of(alloc, estate, pod, direction)?;
     search_addresses(alloc, &side, &rules, used, steps)?;
     search_families(
@@ -78,7 +81,7 @@ fn search_side<L: Ledger>(
     )
 }
 
-// Looks for the rules of a side with all addresses as far ends, unless all are known.
+// Looks for the rules of a side with all addresses as far ends.
 fn search_addresses<L: Ledger>(
     alloc: Global,
     side: &PodRules<'_>,
@@ -95,11 +98,8 @@ fn search_addresses<L: Ledger>(
     ensures finds { OnOk result (KnowsAll is_place side.now with_addresses used.new) }
     ensures least { steps.old ≤ steps.new }
 {
-    if used.has_all(rules) {
-        return Ok(());
-    }
     let layer = side.address_layer(alloc, steps)?;
-    used.note_layer(alloc, &layer, rules)
+    used.note_layer(alloc, layer, rules)
 }
 
 // Looks for the rules of a side with the pods of all kinds as far ends, in packets of some families.
@@ -193,5 +193,5 @@ fn search_pod<L: Ledger>(
         return Ok(());
     }
     let layer = side.pod_layer(alloc, far, family, steps)?;
-    used.note_layer(alloc, &layer, rules)
+    used.note_layer(alloc, layer, rules)
 }

@@ -1,15 +1,15 @@
 //! The rules that are known to be used.
-ghost use Rattle.std.specs.Prelude.{◌≡◌, ◌⊎◌, ◌||◌, ℕ, true, false, OnOk};
+ghost use Rattle.std.specs.Prelude.{◌≡◌, ◌⊎◌, ℕ, true, false, OnOk};
 ghost use Rattle.np_lint.specs.declared.rule_ref.Tier.{Tier as SpecTier};
-ghost use Rattle.np_lint.specs.steps.Known.{all_known, are_known, base_place, flag_at, is_known, is_met, marks, net_place, some_marks};
-ghost use Rattle.np_tiers.specs.Entries.{admin_place};
+ghost use Rattle.np_lint.specs.steps.Known.{all_known, are_known, is_known, marks};
 ghost use Rattle.np_tiers.specs.Marks.{mark_of};
 
+use crate::first_rules::note_tier;
 use crate::flags::Flags;
 use crate::rule_ref::Tier;
-use np_base::{Cells, NoMemory};
+use np_base::{Cells, NoMemory, Seq};
 use np_rules::{LayerRules, RuleId};
-use np_tiers::{Layer, Mark, Marked, carve};
+use np_tiers::{AdminPart, Layer};
 use std::alloc::Global;
 
 /// The rules of one direction that are known to be used, tier by tier.
@@ -55,55 +55,48 @@ impl UsedRules {
             && has_each(&self.base, rules.base.items())
     }
 
-    /// Notes all rules that decide some spot of a layer, or pass it on. The rules are those of the layer, place by place.
+    /// Notes all rules that decide some spot of a layer, or pass it on. The rules are those of the layer, place by place. A
+    /// rule decides or passes on what it is the first to match of the spots that the admin rules above its tier hand down.
     pub(crate) fn note_layer<S: Cells>(
         &mut self,
         alloc: Global,
-        layer: &Layer<S>,
+        layer: Layer<S>,
         rules: &LayerRules,
     ) -> Result<(), NoMemory>
         ensures grows { OnOk result ((tier : SpecTier) (policy place : ℕ) →
             is_known self.old tier policy place ≡ true → is_known self.new tier policy place ≡ true) }
         ensures finds { OnOk result ((tier : SpecTier) (policy place : ℕ) (spot : S.Spot) → S.in_space spot ≡ true →
-            marks rules.now tier policy place (mark_of (λ set. S.has set spot) layer.now) ≡ true →
+            marks rules.now tier policy place (mark_of (λ set. S.has set spot) layer) ≡ true →
             is_known self.new tier policy place ≡ true) }
         ensures only { OnOk result ((tier : SpecTier) (policy place : ℕ) → is_known self.new tier policy place ≡ true →
             (is_known self.old tier policy place ≡ true) ⊎ ((spot : S.Spot) × (S.in_space spot ≡ true)
-            × (marks rules.now tier policy place (mark_of (λ set. S.has set spot) layer.now) ≡ true))) }
+            × (marks rules.now tier policy place (mark_of (λ set. S.has set spot) layer) ≡ true))) }
     {
-        let entries = carve(alloc, layer)?;
-        self.note_entries(alloc, entries.items(), rules)
-    }
-
-    // Notes the rules that the marks of entries name.
-    fn note_entries<S>(
-        &mut self,
-        alloc: Global,
-        entries: &[Marked<S>],
-        rules: &LayerRules,
-    ) -> Result<(), NoMemory>
-        ensures { OnOk result ((tier : SpecTier) (policy place : ℕ) → is_known self.new tier policy place
-            ≡ (is_known self.old tier policy place || some_marks rules.now tier policy place entries.now)) }
-    {
-        for entry in entries {
-            self.note_mark(alloc, entry.mark, rules)?;
-        }
-        Ok(())
-    }
-
-    // Notes the rules that a mark names.
-    fn note_mark(&mut self, alloc: Global, mark: Mark, rules: &LayerRules) -> Result<(), NoMemory>
-        ensures { OnOk result ((tier : SpecTier) (policy place : ℕ) → is_known self.new tier policy place
-            ≡ (is_known self.old tier policy place || marks rules.now tier policy place mark)) }
-    {
-        note(
+        let Layer {
+            admin,
+            isolated,
+            net,
+            base,
+        } = layer;
+        let none: Seq<AdminPart<S>> = Seq::new(alloc);
+        note_tier(
             alloc,
-            &mut self.admin,
+            none,
+            admin.items(),
             rules.admin.items(),
-            admin_place(mark),
+            &mut self.admin,
         )?;
-        note(alloc, &mut self.net, rules.net.items(), net_place(mark))?;
-        note(alloc, &mut self.base, rules.base.items(), base_place(mark))
+        if isolated {
+            note_tier(alloc, admin, net.items(), rules.net.items(), &mut self.net)
+        } else {
+            note_tier(
+                alloc,
+                admin,
+                base.items(),
+                rules.base.items(),
+                &mut self.base,
+            )
+        }
     }
 }
 
@@ -112,55 +105,4 @@ fn has_each(flags: &Flags, ids: &[RuleId]) -> bool
     ensures { result ≡ are_known flags.now ids.now }
 {
     ids.iter().all(|id| flags.has(id.policy, id.place))
-}
-
-// Notes the rule at a place of a tier, if there is one.
-fn note(
-    alloc: Global,
-    flags: &mut Flags,
-    ids: &[RuleId],
-    place: Option<u64>,
-) -> Result<(), NoMemory>
-    ensures { OnOk result ((p n : ℕ) → flag_at flags.new p n ≡ (flag_at flags.old p n || is_met ids.now place p n)) }
-{
-    let Some(place) = place else {
-        return Ok(());
-    };
-    match ids.get(place as usize) {
-        Some(id) => flags.set(alloc, id.policy, id.place),
-        None => Ok(()),
-    }
-}
-
-// The place of the admin rule that decides or passes on, if one does.
-fn admin_place(mark: Mark) -> Option<u64>
-    ensures { result ≡ admin_place mark }
-{
-    match mark {
-        Mark::Admin { place } => Some(place),
-        Mark::Net { pass, .. }
-        | Mark::Isolated { pass }
-        | Mark::Base { pass, .. }
-        | Mark::Free { pass } => pass,
-    }
-}
-
-// The place of the NetworkPolicies' rule that decides, if one does.
-fn net_place(mark: Mark) -> Option<u64>
-    ensures { result ≡ net_place mark }
-{
-    match mark {
-        Mark::Net { place, .. } => Some(place),
-        _ => None,
-    }
-}
-
-// The place of the baseline's rule that decides, if one does.
-fn base_place(mark: Mark) -> Option<u64>
-    ensures { result ≡ base_place mark }
-{
-    match mark {
-        Mark::Base { place, .. } => Some(place),
-        _ => None,
-    }
 }

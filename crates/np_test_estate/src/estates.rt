@@ -78,7 +78,10 @@ fn place(alloc: Global, estate: &Estate, namespace: &str, name: &str) -> Result<
 fn namespace_labels(alloc: Global, estate: &Estate) -> Result<String, NoMemory> {
     let mut text = String::new(alloc);
     for pod in estate.pods() {
-        let name = pod.namespace_labels.labels().get("kubernetes.io/metadata.name");
+        let name = pod
+            .namespace_labels
+            .labels()
+            .get("kubernetes.io/metadata.name");
         let team = pod.namespace_labels.labels().get("team");
         writeln!(
             text,

@@ -1,6 +1,6 @@
 -- The rules of one direction that are known to be used.
 use Rattle.std.specs.Prelude.{ℕ, List, Bool, false, ◌&&◌, ◌==◌, Option, Some, None, Vec, unwrap_or}
-use Rattle.std.specs.List.{list_all, list_any, slice_get}
+use Rattle.std.specs.List.{list_all, slice_get}
 use Rattle.std.specs.Option.{option_and_then, option_map_or}
 use Rattle.std.specs.declared.alloc.Global.{Global}
 use Rattle.np_lint.specs.declared.flags.Flags.{Flags}
@@ -12,7 +12,6 @@ use Rattle.np_rules.specs.declared.rule_ids.RuleId.{RuleId}
 use Rattle.np_tiers.specs.Entries.{admin_place}
 use Rattle.np_tiers.specs.declared.mark.Mark.{Mark}
 use Rattle.np_tiers.specs.declared.mark.Mark.TheVariants.{Admin, Net, Isolated, Base, Free}
-use Rattle.np_tiers.specs.declared.mark.Marked.{Marked}
 
 -- ---- flags
 
@@ -75,10 +74,6 @@ is_met ids met policy place = option_map_or (is_id policy place) (option_and_the
 -- whether a mark names a rule of a tier
 unfoldable pub marks : LayerRules → Tier → ℕ → ℕ → Mark → Bool
 marks rules one policy place mark = is_met (ids_of rules one) (place_in one mark) policy place
-
--- whether some entry's mark does
-abbrev pub some_marks : {S : Type 0} → LayerRules → Tier → ℕ → ℕ → List (Marked S) → Bool
-some_marks rules one policy place entries = list_any (λ entry. marks rules one policy place entry.mark) entries
 
 -- ---- all rules of a side
 

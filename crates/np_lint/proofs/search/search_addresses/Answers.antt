@@ -1,12 +1,8 @@
 use Rattle.std.proofs.lemmas.Result.{IfOk-weaker}
 use Rattle.np_lint.proofs.SearchLemmas.{layer_finds, layer_sound}
-use Rattle.np_lint.proofs.StepLemmas.{all_addresses_known}
 use Rattle.np_lint.proofs.search.search_addresses.Goals as goal
 use Rattle.np_rules.specs.EveryAddress.{has_place, is_place}
 use Rattle.np_rules.specs.PodSides.{with_addresses}
-
-pub returns-then-has_all-clause-finds : goal.returns-then-has_all-clause-finds
-returns-then-has_all-clause-finds g c = all_addresses_known c.args.side.now c.requires.lawful c.args.rules.now c.requires.rules c.args.used.now c.has_all.result c.has_all.ensures c.if-has_all.true
 
 pub returns-clause-sound : goal.returns-clause-sound
 returns-clause-sound g c =

@@ -1,15 +1,15 @@
-use Rattle.std.proofs.Common.{◌≡◌, false, get_or, slice_get, subst, List, Some}
+use Rattle.std.proofs.Common.{◌≡◌, ℕ, false, ap, get_or, slice_get, subst, List, Some}
 use Rattle.std.specs.List.{Contains}
-use Rattle.std.proofs.lemmas.Option.{slice_get-get_or}
+use Rattle.std.proofs.lemmas.Option.{get_or_from_slice_get, slice_get-get_or}
 use Rattle.np_addr.specs.declared.address.Family.{Family}
 use Rattle.np_lint.proofs.FindLemmas.{addresses_listed, pods_listed}
 use Rattle.np_lint.proofs.KindPodLemmas.{own_kind}
-use Rattle.np_lint.proofs.StepLemmas.{both_ok, by_side, side_known}
+use Rattle.np_lint.proofs.StepLemmas.{all_known_of, both_ok, by_side, side_known}
 use Rattle.np_lint.proofs.search.search_side.Goals as goal
 use Rattle.np_lint.specs.declared.kind_pods.KindPod.{KindPod}
-use Rattle.np_lint.specs.steps.Search.{AllAreUsed, PodsAreUsed}
+use Rattle.np_lint.specs.steps.Search.{AllAreUsed, AreRulesOf, PodsAreUsed}
 use Rattle.np_rules.specs.EveryAddress.{is_place}
-use Rattle.np_rules.specs.PodSides.{with_addresses}
+use Rattle.np_rules.specs.PodSides.{side_of, with_addresses}
 
 pub layer_rules-requires-clause-pod : goal.layer_rules-requires-clause-pod
 layer_rules-requires-clause-pod g c =
@@ -17,6 +17,14 @@ layer_rules-requires-clause-pod g c =
     let first = get_or c.args.kinds.now c.args.near none in
     let at : slice_get c.args.kinds.now c.args.near ≡ Some first = slice_get-get_or c.args.kinds.now c.args.near none c.requires.near in
     (own_kind c.args.estate.now c.requires.lawful c.args.kinds.now c.requires.kinds c.args.near first at).0
+
+pub returns-then-has_all-clause-finds : goal.returns-then-has_all-clause-finds
+returns-then-has_all-clause-finds g c one at =
+    let side = side_of c.args.estate.now one.pod c.args.direction in
+    let none : KindPod = record { pod = 0; is_shared = false } in
+    let pod_is : (get_or c.args.kinds.now c.args.near none).pod ≡ one.pod = ap (λ (k : KindPod). k.pod) (get_or_from_slice_get c.args.kinds.now c.args.near one none at) in
+    let are : AreRulesOf side c.in_ok-rules.rules = subst (λ (pod : ℕ). AreRulesOf (side_of c.args.estate.now pod c.args.direction) c.in_ok-rules.rules) pod_is (record { admin = c.in_ok-rules.ensures.admin; net = c.in_ok-rules.ensures.net; base = c.in_ok-rules.ensures.base }) in
+    all_known_of side c.requires.lawful c.in_ok-rules.rules are c.args.kinds.now c.args.near c.args.used.now c.has_all.result c.has_all.ensures c.if-has_all.true
 
 pub of-requires : goal.of-requires
 of-requires g c =
