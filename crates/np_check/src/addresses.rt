@@ -13,37 +13,36 @@ ghost use Rattle.np_table.specs.Rows.{rows_of_addresses};
 ghost use Rattle.np_table.specs.Table.{IsWorkload};
 
 use crate::asked::Asked;
+use crate::checker::Checker;
 use crate::counter::{Counter, PlaceEnd};
 use crate::order::comes_before;
 use np_addr::{AddrSet, Address, family_of};
 use np_base::{Cells, NoMemory, Point, Range, later};
 use np_conns::PortSpot;
-use np_fold::Folded;
 use np_policies::Direction;
 use np_steps::Steps;
-use np_table::{AddressRow, AddressSpan, address_rows};
-use std::alloc::Global;
+use np_table::{AddressRow, AddressSpan};
 use std::sync::ledger::Ledger;
 
 /// The first packet from a workload to the addresses of a set that breaks a statement.
 pub(crate) fn first_to_addresses<L: Ledger>(
-    alloc: Global,
-    folded: &Folded,
+    checker: &mut Checker<'_>,
     asked: &Asked<'_>,
     source: u32,
     block: &AddrSet,
     steps: &mut Steps<L>,
 ) -> Result<Option<Counter>, NoMemory>
-    requires { IsWorkload folded.now source }
+    requires { IsWorkload checker.old source }
     ensures counter { IfOk result (λ made. made ≡ first_of
-        (λ address. counter_between folded.now asked.now.wanted asked.now.conns.now (Work source) (At address))
+        (λ address. counter_between checker.old asked.now.wanted asked.now.conns.now (Work source) (At address))
         (addresses_of block.now)) }
+    ensures same { checker.new ≡ checker.old }
     ensures least { steps.old ≤ steps.new }
 {
     if block.is_empty() {
         return Ok(None);
     }
-    let rows = address_rows(alloc, folded, source, Direction::Egress, steps)?;
+    let rows = checker.address_rows(source, Direction::Egress, steps)?;
     let Some(broken) = first_broken(asked, rows.items(), block)? else {
         return Ok(None);
     };
@@ -58,18 +57,18 @@ pub(crate) fn first_to_addresses<L: Ledger>(
 /// The first packet from the addresses of a set to some workloads that breaks a statement: by the address, and then by the
 /// workload. For each workload the first address is found, and of these the first is taken.
 pub(crate) fn first_from_addresses<L: Ledger>(
-    alloc: Global,
-    folded: &Folded,
+    checker: &mut Checker<'_>,
     asked: &Asked<'_>,
     block: &AddrSet,
     destinations: &[u32],
     steps: &mut Steps<L>,
 ) -> Result<Option<Counter>, NoMemory>
-    requires { All (IsWorkload folded.now) destinations.now }
+    requires { All (IsWorkload checker.old) destinations.now }
     ensures counter { IfOk result (λ made. made ≡ first_of
         (λ address. first_of
-        (λ destination. counter_between folded.now asked.now.wanted asked.now.conns.now (At address) (Work destination))
+        (λ destination. counter_between checker.old asked.now.wanted asked.now.conns.now (At address) (Work destination))
         destinations.now) (addresses_of block.now)) }
+    ensures same { checker.new ≡ checker.old }
     ensures least { steps.old ≤ steps.new }
 {
     let mut first = None;
@@ -77,7 +76,7 @@ pub(crate) fn first_from_addresses<L: Ledger>(
         return Ok(first);
     }
     for destination in destinations {
-        let found = first_from(alloc, folded, asked, block, *destination, steps)?;
+        let found = first_from(checker, asked, block, *destination, steps)?;
         first = earlier(first, found);
     }
     Ok(first)
@@ -85,21 +84,21 @@ pub(crate) fn first_from_addresses<L: Ledger>(
 
 // The first packet from the addresses of a set to a workload that breaks a statement.
 fn first_from<L: Ledger>(
-    alloc: Global,
-    folded: &Folded,
+    checker: &mut Checker<'_>,
     asked: &Asked<'_>,
     block: &AddrSet,
     destination: u32,
     steps: &mut Steps<L>,
 ) -> Result<Option<Counter>, NoMemory>
-    requires destination { IsWorkload folded.now destination }
+    requires destination { IsWorkload checker.old destination }
     requires block { IsAddressSet block.now }
     ensures counter { IfOk result (λ made. made ≡ first_of
-        (λ address. counter_between folded.now asked.now.wanted asked.now.conns.now (At address) (Work destination))
+        (λ address. counter_between checker.old asked.now.wanted asked.now.conns.now (At address) (Work destination))
         (addresses_of block.now)) }
+    ensures same { checker.new ≡ checker.old }
     ensures least { steps.old ≤ steps.new }
 {
-    let rows = address_rows(alloc, folded, destination, Direction::Ingress, steps)?;
+    let rows = checker.address_rows(destination, Direction::Ingress, steps)?;
     let Some(broken) = first_broken(asked, rows.items(), block)? else {
         return Ok(None);
     };

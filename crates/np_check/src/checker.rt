@@ -7,7 +7,8 @@ ghost use Rattle.np_estate.specs.Lawful.{IsLawful};
 ghost use Rattle.np_fold.specs.Workloads.{folding_of};
 ghost use Rattle.np_table.specs.PairRules.{first_side};
 ghost use Rattle.np_table.specs.Right.{conns_of};
-ghost use Rattle.np_table.specs.Table.{IsWorkload, is_alone, pair_allows};
+ghost use Rattle.np_table.specs.Rows.{address_rows};
+ghost use Rattle.np_table.specs.Table.{IsWorkload, estate_table, is_alone, pair_allows};
 
 use crate::addresses::first_from_addresses;
 use crate::asked::Asked;
@@ -15,13 +16,13 @@ use crate::checking::first_from_works;
 use crate::counter::Counter;
 use crate::statement::Statement;
 use np_addr::Family;
-use np_base::NoMemory;
+use np_base::{NoMemory, Seq};
 use np_conns::ConnSet;
 use np_fold::Folded;
 use np_policies::Direction;
 use np_rules::PodRules;
 use np_steps::Steps;
-use np_table::set_between;
+use np_table::{AddressRow, rows_by_addresses, set_between};
 use std::alloc::Global;
 use std::collections::HashMap;
 use std::marker::Model;
@@ -97,7 +98,7 @@ impl<'a> Checker<'a> {
             return Ok(found);
         }
         let block = &question.source.block;
-        first_from_addresses(alloc, folded, &asked, block, &destinations, steps)
+        first_from_addresses(self, &asked, block, &destinations, steps)
     }
 
     /// Where the memory of what is found comes from.
@@ -110,6 +111,31 @@ impl<'a> Checker<'a> {
         ensures { result.now ≡ self.now }
     {
         self.folded
+    }
+
+    /// What passes between a workload and each address: from the addresses to it in the direction of ingress, and from it to
+    /// them in that of egress.
+    pub(crate) fn address_rows<L: Ledger>(
+        &mut self,
+        work: u32,
+        direction: Direction,
+        steps: &mut Steps<L>,
+    ) -> Result<Seq<AddressRow>, NoMemory>
+        requires { IsWorkload self.old work }
+        ensures rows { IfOk result (λ made. made ≡ address_rows (estate_table self.old) work direction) }
+        ensures same { self.new ≡ self.old }
+        ensures least { steps.old ≤ steps.new }
+    {
+        let alloc = self.alloc;
+        let folded = self.folded;
+        match direction {
+            Direction::Egress => {
+                rows_by_known(alloc, folded, direction, work, &mut self.senders, steps)
+            }
+            Direction::Ingress => {
+                rows_by_known(alloc, folded, direction, work, &mut self.receivers, steps)
+            }
+        }
     }
 
     /// The protocols and ports that pass from a workload to another in a family, by the rules of their first pods. No rule
@@ -148,6 +174,26 @@ impl<'a> Checker<'a> {
         let receiver = self.receivers.get(&destination).unwrap();
         set_between(alloc, sender, receiver, family, steps)
     }
+}
+
+// What passes between a workload and each address in a direction, by its rules, which are found unless they are known.
+fn rows_by_known<'a, L: Ledger>(
+    alloc: Global,
+    folded: &'a Folded,
+    direction: Direction,
+    work: u32,
+    known: &mut HashMap<u32, PodRules<'a>>,
+    steps: &mut Steps<L>,
+) -> Result<Seq<AddressRow>, NoMemory>
+    requires work { IsWorkload folded.now work }
+    requires known { AreKnown folded.now direction known.old }
+    ensures rows { IfOk result (λ made. made ≡ address_rows (estate_table folded.now) work direction) }
+    ensures known { AreKnown folded.now direction known.new }
+    ensures least { steps.old ≤ steps.new }
+{
+    ask(alloc, folded, direction, work, known)?;
+    let near = known.get(&work).unwrap();
+    rows_by_addresses(alloc, near, steps)
 }
 
 // Finds the rules of a workload in a direction, unless they are known. The lists of the cluster are lawful.

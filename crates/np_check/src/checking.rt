@@ -76,6 +76,5 @@ fn first_from_work<L: Ledger>(
     if found.is_some() {
         return Ok(found);
     }
-    let folded = checker.folded();
-    first_to_addresses(checker.alloc(), folded, asked, source, &ends.block, steps)
+    first_to_addresses(checker, asked, source, &ends.block, steps)
 }

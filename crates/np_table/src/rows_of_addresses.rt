@@ -39,8 +39,9 @@ pub fn address_rows<L: Ledger>(
     rows_by_addresses(alloc, &near, steps)
 }
 
-/// What passes between a pod and each address, by the pod's rules.
-pub(crate) fn rows_by_addresses<L: Ledger>(
+/// What passes between a pod and each address, by the pod's rules, as `address_rows` has it for the workload that the pod
+/// stands for. A caller that asks about a workload more than once keeps its rules.
+pub fn rows_by_addresses<L: Ledger>(
     alloc: Global,
     near: &PodRules<'_>,
     steps: &mut Steps<L>,

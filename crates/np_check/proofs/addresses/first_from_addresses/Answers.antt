@@ -1,4 +1,6 @@
-use Rattle.std.proofs.Common.{ℕ, List, ap, ◌∙◌, arith}
+use Rattle.std.proofs.Common.{ℕ, List, get_or, refl, sym, ap, subst, ◌∙◌, arith}
+use Rattle.np_estate.specs.declared.lists.EstateLists.{EstateLists}
+use Rattle.np_table.specs.Table.{IsWorkload}
 use Rattle.std.proofs.lemmas.List.{take_all}
 use Rattle.np_addr.specs.declared.address.Address.{Address}
 use Rattle.np_base.specs.declared.beside.Which.TheVariants.{First, Second}
@@ -10,20 +12,40 @@ use Rattle.np_check.proofs.addresses.first_from_addresses.Goals as goal
 
 pub returns-then-is_empty-clause-counter : goal.returns-then-is_empty-clause-counter
 returns-then-is_empty-clause-counter g c =
-    none_of c.args.block.now (λ address. first_of (λ (work : ℕ). counter_between c.args.folded.now c.args.asked.now.wanted c.args.asked.now.conns.now (At address) (Work work)) c.args.destinations.now) (λ n. c.if-is_empty.ensures.answer (First n)) (λ n. c.if-is_empty.ensures.answer (Second n))
+    none_of c.args.block.now (λ address. first_of (λ (work : ℕ). counter_between c.args.checker.now c.args.asked.now.wanted c.args.asked.now.conns.now (At address) (Work work)) c.args.destinations.now) (λ n. c.if-is_empty.ensures.answer (First n)) (λ n. c.if-is_empty.ensures.answer (Second n))
 
 pub loop-destination-init : goal.loop-destination-init
-loop-destination-init g c = (no_works c.args.folded.now c.args.asked.now.wanted c.args.asked.now.conns.now c.args.block.now, omega arith)
+loop-destination-init g c = record {
+  first = no_works c.args.checker.now c.args.asked.now.wanted c.args.asked.now.conns.now c.args.block.now;
+  same = refl;
+  least = omega arith;
+}
+
+pub first_from-requires-clause-destination : goal.first_from-requires-clause-destination
+first_from-requires-clause-destination g c =
+    subst (λ (lists : EstateLists). IsWorkload lists (get_or c.args.destinations.now c.loop-destination.destination-index 0)) (sym c.loop-destination.invariant.same)
+    (c.requires c.loop-destination.destination-index 0 c.loop-destination-test.true)
+
+pub returns-in_err-found-clause-same : goal.returns-in_err-found-clause-same
+returns-in_err-found-clause-same g c = c.first_from.ensures.same ∙ c.loop-destination.invariant.same
 
 pub loop-destination-preserved : goal.loop-destination-preserved
-loop-destination-preserved g c = (
-  c.earlier-first.ensures
-      ∙ one_work_more c.args.folded.now c.args.asked.now.wanted c.args.asked.now.conns.now c.args.block.now c.args.destinations.now c.loop-destination.destination-index c.loop-destination.first c.in_ok-found.found c.loop-destination-test.true c.loop-destination.invariant.0 c.in_ok-found.ensures.counter,
-  omega (arith, c.loop-destination.invariant.1, c.first_from.ensures.least),
-)
+loop-destination-preserved g c =
+    let first_to = λ (lists : EstateLists). first_of (λ address. counter_between lists c.args.asked.now.wanted c.args.asked.now.conns.now (At address) (Work (get_or c.args.destinations.now c.loop-destination.destination-index 0))) (addresses_of c.args.block.now) in
+    let found = c.in_ok-found.ensures.counter ∙ ap first_to c.loop-destination.invariant.same in
+    record {
+      first = c.earlier-first.ensures
+          ∙ one_work_more c.args.checker.now c.args.asked.now.wanted c.args.asked.now.conns.now c.args.block.now c.args.destinations.now
+          c.loop-destination.destination-index c.loop-destination.first c.in_ok-found.found c.loop-destination-test.true c.loop-destination.invariant.first found;
+      same = c.in_ok-found.ensures.same ∙ c.loop-destination.invariant.same;
+      least = omega (arith, c.loop-destination.invariant.least, c.first_from.ensures.least);
+    }
 
 pub returns-clause-counter : goal.returns-clause-counter
 returns-clause-counter g c =
-    c.loop-destination.invariant.0
-    ∙ ap (λ (works : List ℕ). first_of (λ (address : Address). first_of (λ (work : ℕ). counter_between c.args.folded.now c.args.asked.now.wanted c.args.asked.now.conns.now (At address) (Work work)) works) (addresses_of c.args.block.now))
+    c.loop-destination.invariant.first
+    ∙ ap (λ (works : List ℕ). first_of (λ (address : Address). first_of (λ (work : ℕ). counter_between c.args.checker.now c.args.asked.now.wanted c.args.asked.now.conns.now (At address) (Work work)) works) (addresses_of c.args.block.now))
     (take_all c.loop-destination.destination-index c.args.destinations.now c.loop-destination-test.false)
+
+pub returns-clause-same : goal.returns-clause-same
+returns-clause-same g c = c.loop-destination.invariant.same

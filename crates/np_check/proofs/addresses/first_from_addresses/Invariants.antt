@@ -6,6 +6,9 @@ use Rattle.np_check.proofs.addresses.first_from_addresses.Given as goal
 
 -- what is kept is the first to the workloads so far
 abbrev pub invariant-loop-destination : goal.invariant-loop-destination
-invariant-loop-destination g l =
-    (l.first ≡ first_of (λ address. first_of (λ destination. counter_between l.folded l.asked.wanted l.asked.conns.now (At address) (Work destination)) (take l.destination-index l.destinations)) (addresses_of l.block))
-    × (l.initial.steps ≤ l.steps)
+invariant-loop-destination g l = record {
+  first : l.first ≡ first_of (λ address. first_of (λ destination. counter_between l.initial.checker l.asked.wanted l.asked.conns.now (At address) (Work destination))
+      (take l.destination-index l.destinations)) (addresses_of l.block);
+  same : l.checker ≡ l.initial.checker;
+  least : l.initial.steps ≤ l.steps;
+}

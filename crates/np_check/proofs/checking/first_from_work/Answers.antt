@@ -21,10 +21,9 @@ returns-clause-counter g c =
     let to_addresses = λ (lists : EstateLists). first_of (λ address. counter_between lists c.args.asked.now.wanted c.args.asked.now.conns.now (Work c.args.source) (At address))
     (addresses_of c.args.ends.now.block) in
     let rest = to_addresses c.args.checker.now in
-    let same : c.folded-folded.result.now ≡ c.args.checker.now = c.folded-folded.ensures ∙ c.in_ok-found.ensures.same in
     let all = none_or c.in_ok-found.found rest (sym c.is_some.ensures ∙ c.if-is_some.false)
     ∙ ap (λ (first : Option Counter). option_or first rest) c.in_ok-found.ensures.counter
     ∙ sym (from-work c.args.checker.now c.args.asked.now.wanted c.args.asked.now.conns.now c.args.ends.now c.args.source c.args.destinations.now c.requires.ends) in
-    IfOk-weaker c.first_to_addresses.result (λ (made : Option Counter). made ≡ to_addresses c.folded-folded.result.now)
+    IfOk-weaker c.first_to_addresses.result (λ (made : Option Counter). made ≡ to_addresses c.first_to_works.new.checker)
     (λ (made : Option Counter). made ≡ counter_from c.args.checker.now c.args.asked.now.wanted c.args.asked.now.conns.now c.args.ends.now (Work c.args.source)) (λ made is. is
-    ∙ ap to_addresses same ∙ all) c.first_to_addresses.ensures.counter
+    ∙ ap to_addresses c.in_ok-found.ensures.same ∙ all) c.first_to_addresses.ensures.counter
