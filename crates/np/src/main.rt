@@ -1,12 +1,20 @@
 //! The program: the top call over the system.
 #![tactic(auto)]
 
-ghost use Rattle.std.specs.Prelude.{◌≡◌, ◌<◌};
+ghost use Rattle.std.specs.Prelude.{◌≡◌, ◌<◌, ℕ};
+ghost use Rattle.np_cli.specs.Promises.{Promises};
+ghost use Rattle.np_cli.specs.Runs.{ran};
+ghost use Rattle.np_cli.specs.Sinks.{sunk};
+ghost use Rattle.np_cli.specs.Sources.{sourced};
+ghost use Rattle.np_cli.specs.Statuses.{code_of};
+ghost use Rattle.np_cli.specs.declared.status.Status.{Status as SpecStatus};
+ghost use Rattle.np_words.specs.CommandLines.{asked_by};
 
 use np_cli::{Status, np_main};
 use np_io::{Inputs, RealInputs, RealSink, Sink};
 use np_steps::Steps;
 use std::alloc::Global;
+use std::io::{Stderr, Stdout};
 use std::marker::Brand;
 use std::process::ExitCode;
 use std::rt::Env;
@@ -14,12 +22,13 @@ use std::sync::ledger::{Blank, Ledger};
 use std::{env, io};
 
 fn main(rt: HostRuntime) -> ExitCode {
-    let status = match words(&rt) {
+    let code = match words(&rt) {
         Ok(words) => {
             let mut inputs = RealInputs::new(rt);
             let mut out = RealSink::new(rt.stdout());
             let mut err = RealSink::new(rt.stderr());
-            run_counted::<Brand>(
+            // The types tell the two streams apart: the report goes to the former, what is said of the run to the latter.
+            run_counted::<RealInputs<HostRuntime>, RealSink<Stdout>, RealSink<Stderr>, Brand>(
                 rt.alloc(),
                 &words,
                 &mut inputs,
@@ -28,27 +37,34 @@ fn main(rt: HostRuntime) -> ExitCode {
                 Blank::new(1),
             )
         }
-        Err(error) if error.kind() == io::ErrorKind::OutOfMemory => Status::NoMemory,
-        Err(_) => Status::Usage,
+        Err(error) if error.kind() == io::ErrorKind::OutOfMemory => Status::NoMemory.code(),
+        Err(_) => Status::Usage.code(),
     };
-    ExitCode::from(status.code())
+    ExitCode::from(code)
 }
 
-// The top call, with a counter on the ledger of this blank.
-fn run_counted<L: Ledger>(
+// The code that the top call ends with: that of a status of which all is promised that `np_main` promises of its own. The rules are counted
+// from 0, on the ledger of this blank.
+fn run_counted<I: Inputs, O: Sink, E: Sink, L: Ledger>(
     alloc: Global,
     words: &[String],
-    inputs: &mut impl Inputs,
-    out: &mut impl Sink,
-    err: &mut impl Sink,
+    inputs: &mut I,
+    out: &mut O,
+    err: &mut E,
     blank: Blank,
-) -> Status
+) -> u8
     requires name { blank.name ≡ L.name }
     requires parts { blank.parts ≡ L.parts }
     requires some { 0 < blank.parts }
+    ensures promises { let run = ran (asked_by words.now)
+        (sourced I.holds I.left I.faults I.handed I.began inputs.old inputs.new)
+        (sunk O.taken O.faults out.old out.new) in
+        (status : SpecStatus) × (counted : ℕ) × (result ≡ code_of status)
+        × Promises run (sunk E.taken E.faults err.old err.new) 0 counted status }
+    ensures usage { result ≡ 2 → (inputs.new ≡ inputs.old) × (out.new ≡ out.old) }
 {
     let mut steps: Steps<L> = Steps::new(blank);
-    np_main(alloc, words, inputs, out, err, &mut steps)
+    np_main(alloc, words, inputs, out, err, &mut steps).code()
 }
 
 // The words after the program's name.
