@@ -14,6 +14,7 @@ package_of() {
         man) echo man-db ;;
         dpkg-deb) echo dpkg ;;
         strip) echo binutils ;;
+        chromedriver) echo chromium-driver ;;
         *) echo "$1" ;;
     esac
 }
