@@ -34,7 +34,7 @@ import time
 TOP = os.path.join(os.path.dirname(os.path.abspath(__file__)), "..")
 sys.path.insert(0, os.path.join(TOP, "bench"))
 from cost import listing  # noqa: E402
-from shape import COMMANDS, SHAPES  # noqa: E402
+from shape import SHAPES  # noqa: E402
 
 # Each enters its shapes.
 for module in ("shapes_pods", "shapes_rules"):
@@ -53,7 +53,6 @@ LITTLE = 30000000
 # The runs that are known to break the bounds, and why. One that does so and is not here is a finding.
 LONG_ANSWER = "the answer is as long as that"
 PAIRS = "the peers are asked about every two workloads"
-BLOCKS = "the addresses are carved anew for each rule, so that the time grows with the square of the rules"
 PATTERNS = "all rules are asked anew for each pattern of labels that they tell apart"
 LINES = "each line is asked anew of every two workloads that it is about"
 KNOWN = {(name, command): why for name, commands, why in (
@@ -62,20 +61,11 @@ KNOWN = {(name, command): why for name, commands, why in (
     ("ignored", "list", "the JSON is held whole, and an object of one member takes more than 500 bytes of memory"),
     ("mostBlocks", "list evaluate", "the JSON and the policies are held whole, at 50 bytes of memory for each byte"),
     ("mostNetworks", "list evaluate", "each address of a pod is looked for in each block"),
-    ("namespaceLabels", " ".join(COMMANDS), "each pod has a copy of the labels of its namespace"),
-    ("selectorKeys", "list explain evaluate unused check flatten", "each pod has a list of its values of all keys that selectors name"),
     ("groupKeys", "list", PAIRS),
     ("groupKeys", "flatten", "each policy names all groups, and each group by all keys"),
-    ("strangers", "list unused flatten", PAIRS),
-    ("namedPortRules", "list explain unused", "each rule makes the set of the ports of that name anew, one port after the other"),
-    ("rules", "unused", BLOCKS),
-    ("lintBlocks", "unused", BLOCKS),
-    ("nested", "unused", BLOCKS),
-    ("blocksAndPorts", "unused", "each range of addresses has a set of ports of its own"),
+    ("namedPortRules", "list unused", "each rule has a set of its own of all ports of that name"),
     ("explainPasses", "explain", "each part names all policies that isolate the pod, and the text is held whole"),
-    ("exposureNamespaces", "exposure", PATTERNS),
     ("exposureKeys", "exposure", PATTERNS),
-    ("exposurePeers", "exposure", PATTERNS),
     ("manyLines", "check", LINES),
     ("statementsOfAllPods", "check", LINES),
     ("statementsOfOne", "check", LINES),
