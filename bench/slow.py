@@ -68,7 +68,6 @@ KNOWN = {(name, command): why for name, commands, why in (
     ("exposureKeys", "exposure", PATTERNS),
     ("manyLines", "check", LINES),
     ("statementsOfAllPods", "check", LINES),
-    ("statementsOfOne", "check", LINES),
 ) for command in commands.split()}
 
 
