@@ -77,15 +77,33 @@ impl TryCopy for Labels {
     }
 }
 
-// The value of a key, which is looked for by halves.
+// So many labels are gone over faster than they are halved.
+const FEW: usize = 8;
+
+// The value of a key. Of many labels it is looked for by halves.
 fn find_value<'a>(pairs: &'a [Pair], key: &str) -> Option<&'a str>
     requires { HasAscendingKeys pairs.now }
     ensures { option_map (λ value. value.now) result ≡ value_of pairs.now key.now }
 {
+    if pairs.len() <= FEW {
+        return find_among_few(pairs, key);
+    }
     match pairs.binary_search_by(|pair| pair.key.as_str().cmp(key)) {
         Ok(place) => Some(pairs[place].value.as_str()),
         Err(_) => None,
     }
+}
+
+// The value of the first pair of a key.
+fn find_among_few<'a>(pairs: &'a [Pair], key: &str) -> Option<&'a str>
+    ensures { option_map (λ value. value.now) result ≡ value_of pairs.now key.now }
+{
+    for pair in pairs {
+        if pair.key.as_str() == key {
+            return Some(pair.value.as_str());
+        }
+    }
+    None
 }
 
 // Each key with the value of its last pair.
