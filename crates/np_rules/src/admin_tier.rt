@@ -73,8 +73,8 @@ pub(crate) fn admin_rules_for<'a>(
     }
 }
 
-// The rules of a direction.
-fn admin_rules_of(policy: &AdminPolicy, direction: Direction) -> &[AdminRule]
+/// The rules of a direction.
+pub fn admin_rules_of(policy: &AdminPolicy, direction: Direction) -> &[AdminRule]
     ensures { result.now ≡ spec.admin_rules_of direction policy.now }
 {
     match direction {

@@ -6,6 +6,7 @@ mod address_sets;
 mod admin_tier;
 mod base_tier;
 mod decider;
+mod estate_pods;
 mod every_address;
 mod far_ends;
 mod gathering;
@@ -27,13 +28,18 @@ mod stranger;
 mod verdict;
 mod views;
 
+pub use admin_tier::admin_rules_of;
 pub use decider::{Decider, RuleName};
+pub use estate_pods::{
+    admin_policy_selects, admin_rule_reaches, net_policy_selects, net_rule_reaches,
+};
 pub use every_address::AddrConns;
 pub use laws::{
     decider_gives_the_verdict, first_admin_rule_decides, network_policies_alone_isolate,
     networks_alone_tell_families, policies_add_up, rules_add_up, unselected_pods_are_free,
 };
 pub use layers::{address_layer, pod_layer, point_layer, stranger_layer};
+pub use net_tier::net_rules_of;
 pub use packet::{End, Packet};
 pub use pod_rules::PodRules;
 pub use rule_ids::{LayerRules, RuleId, layer_rules};

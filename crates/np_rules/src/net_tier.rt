@@ -31,8 +31,8 @@ pub(crate) fn isolates(policy: &NetPolicy, direction: Direction, pod: &PodView<'
     net_selects(policy, pod) && net_rules_of(policy, direction).is_some()
 }
 
-// The rules of a direction, where it is among the policy's types.
-fn net_rules_of(policy: &NetPolicy, direction: Direction) -> Option<&[NetRule]>
+/// The rules of a direction, where it is among the policy's types.
+pub fn net_rules_of(policy: &NetPolicy, direction: Direction) -> Option<&[NetRule]>
     ensures { option_map (λ rules. rules.now) result ≡ net_rules_of direction policy.now }
 {
     let rules = match direction {
