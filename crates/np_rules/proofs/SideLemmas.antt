@@ -120,7 +120,7 @@ isolates-with_rule Ingress p rule policy = ap (λ b. net_selects policy p && b) 
 isolates-with_rule Egress p rule policy = ap (λ b. net_selects policy p && b) (some_still (λ rules. rules ++ rule ∷ []) policy.egress)
 
 -- some rule of a policy that selects the pod matches
-places-matches : (direction : Direction) (p : PodEnd) (contact : Contact) (policy : NetPolicy) → list_any (placed_net_matches contact) (places_by direction p policy) ≡ (net_selects policy p && list_any (λ rule. net_rule_matches policy.namespace rule contact) (unwrap_or (net_rules_of direction policy) []))
+pub places-matches : (direction : Direction) (p : PodEnd) (contact : Contact) (policy : NetPolicy) → list_any (placed_net_matches contact) (places_by direction p policy) ≡ (net_selects policy p && list_any (λ rule. net_rule_matches policy.namespace rule contact) (unwrap_or (net_rules_of direction policy) []))
 places-matches direction p contact policy = go (net_selects policy p) (list_any-numbered (λ numbered. record { policy = policy; place = numbered.0; rule = numbered.1 }) (λ rule. net_rule_matches policy.namespace rule contact) (placed_net_matches contact) (λ numbered. refl) 0 (unwrap_or (net_rules_of direction policy) []))
   where
     go : (b : Bool) → list_any (placed_net_matches contact) (net_places_of direction policy) ≡ list_any (λ rule. net_rule_matches policy.namespace rule contact) (unwrap_or (net_rules_of direction policy) []) → list_any (placed_net_matches contact) (if b then net_places_of direction policy else []) ≡ (b && list_any (λ rule. net_rule_matches policy.namespace rule contact) (unwrap_or (net_rules_of direction policy) []))
