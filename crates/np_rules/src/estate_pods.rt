@@ -2,22 +2,31 @@
 ghost use Rattle.std.specs.Prelude.{◌≡◌};
 ghost use Rattle.std.specs.List.{list_any};
 ghost use Rattle.np_rules.specs.Ends.{pod, pod_end};
+ghost use Rattle.np_rules.specs.NetTier.{is_isolated};
 ghost use Rattle.np_rules.specs.Peers.{admin_peer_matches, net_peer_matches};
 ghost use Rattle.np_rules.specs.Rules.{none_or_any};
 ghost use Rattle.np_rules.specs.Selection as spec;
 
+use crate::net_tier::is_isolated;
 use crate::peers::{admin_peers_match, net_peers_match};
 use crate::selection::{net_selects, subject_selects};
 use crate::views::{EndView, view_of_pod};
 use np_addr::Family;
 use np_estate::Pod;
-use np_policies::{AdminRule, NetPolicy, NetRule, Subject};
+use np_policies::{AdminRule, Direction, NetPolicy, NetRule, Subject};
 
 /// Whether a NetworkPolicy selects a pod.
 pub fn net_policy_selects(policy: &NetPolicy, pod: &Pod) -> bool
     ensures { result ≡ spec.net_selects policy.now (pod_end pod.now) }
 {
     net_selects(policy, &view_of_pod(pod))
+}
+
+/// Whether some NetworkPolicy isolates a pod.
+pub fn isolates_pod(policies: &[NetPolicy], direction: Direction, pod: &Pod) -> bool
+    ensures { result ≡ is_isolated policies.now direction (pod_end pod.now) }
+{
+    is_isolated(policies, direction, &view_of_pod(pod))
 }
 
 /// Whether the subject of an admin policy or of the baseline selects a pod.

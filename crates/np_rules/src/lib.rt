@@ -31,7 +31,7 @@ mod views;
 pub use admin_tier::admin_rules_of;
 pub use decider::{Decider, RuleName};
 pub use estate_pods::{
-    admin_policy_selects, admin_rule_reaches, net_policy_selects, net_rule_reaches,
+    admin_policy_selects, admin_rule_reaches, isolates_pod, net_policy_selects, net_rule_reaches,
 };
 pub use every_address::AddrConns;
 pub use laws::{
