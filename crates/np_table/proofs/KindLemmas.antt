@@ -80,18 +80,18 @@ with_ends-pair_rows lists folding source b b' same =
 
 -- ---- a workload of one pod with itself
 
-abbrev nothing : Conns
+abbrev pub nothing : Conns
 nothing = record { tcp = []; udp = []; sctp = [] }
 
 nothing-has : (spot : PortSpot) → has_spot nothing spot ≡ false
 nothing-has spot = elim spot.proto as (λ proto. has_spot nothing (record { proto = proto; port = spot.port }) ≡ false) [ Tcp ↦ refl | Udp ↦ refl | Sctp ↦ refl ]
 
-conns_of-nothing : (passes : PortSpot → Bool) → ((spot : PortSpot) → passes spot ≡ false) → conns_of passes ≡ nothing
+pub conns_of-nothing : (passes : PortSpot → Bool) → ((spot : PortSpot) → passes spot ≡ false) → conns_of passes ≡ nothing
 conns_of-nothing passes none =
     conns_of-agrees passes (has_spot nothing) (λ spot _. none spot ∙ sym (nothing-has spot))
     ∙ conns_of-has_spot nothing (record { tcp = tt; udp = tt; sctp = tt })
 
-rows_in-nothing : (families : List Family) (key : RowKey) → rows_in families key (λ family. nothing) ≡ []
+pub rows_in-nothing : (families : List Family) (key : RowKey) → rows_in families key (λ family. nothing) ≡ []
 rows_in-nothing [] key = refl
 rows_in-nothing (family ∷ []) key = refl
 rows_in-nothing (family ∷ next ∷ families) key = refl

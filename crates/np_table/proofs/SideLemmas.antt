@@ -1,8 +1,9 @@
 -- The sides of the pods that stand for workloads, and of those that stand for kinds.
-use Rattle.std.proofs.Common.{◌≡◌, ◌<◌, ◌≤◌, ◌+◌, ◌-◌, ◌*◌, ◌^◌, ℕ, List, Bool, true, false, ◌&&◌, Some, None, map, length, slice_get, slice_index, take, lit≤, arith, refl, sym, ap, subst, ◌∙◌, if◌then◌else◌}
+use Rattle.std.proofs.Common.{◌≡◌, ◌<◌, ◌≤◌, ◌+◌, ◌-◌, ◌*◌, ◌^◌, ℕ, zero, suc, List, [], Bool, true, false, ◌&&◌, Some, None, map, length, slice_get, slice_index, take, lit≤, arith, refl, sym, ap, subst, ◌∙◌, ◌⊎◌, inl, inr, if◌then◌else◌}
 use Rattle.std.specs.Prelude.{All}
 use Rattle.std.specs.Option.{option_map}
 use Rattle.std.proofs.Math.Seq.{take-length}
+use Rattle.std.proofs.lemmas.Bool.{and_left}
 use Rattle.std.proofs.lemmas.List.Elements.{All-weaker}
 use Rattle.std.proofs.lemmas.Option.{same_Some, slice_get-map, slice_get_within}
 use Rattle.np_addr.specs.declared.address.Family.{Family}
@@ -18,21 +19,25 @@ use Rattle.np_fold.proofs.AlikeLemmas.{kinds-are}
 use Rattle.np_fold.specs.Workloads.{Folding, folding_of, kinds_alike, workload_count}
 use Rattle.np_policies.specs.declared.direction.Direction.{Direction}
 use Rattle.np_policies.specs.declared.direction.Direction.TheVariants.{Egress, Ingress}
-use Rattle.np_rules.specs.Ends.{pod}
-use Rattle.np_rules.specs.PodSides.{PodSide, side_of, side_rule_count}
+use Rattle.np_reach.proofs.MarkLemmas.{may_at-of}
+use Rattle.np_reach.proofs.ReachLemmas.{out_of_reach}
+use Rattle.np_reach.specs.Reach.{may_at, may_reach, reach_of}
+use Rattle.np_rules.specs.Ends.{Contact, PodEnd, pod}
+use Rattle.np_rules.specs.PodSides.{PodSide, side_of, side_rule_count, with_pod}
 use Rattle.np_rules.specs.Verdict.{allows, pod_at}
-use Rattle.np_table.proofs.KindLemmas.{first_pod-there, kinds-by, rows_in-agree, rules-most}
-use Rattle.np_table.proofs.PairLemmas.{in_folding, one_kind-sources, pair_allows-between, pair_allows-firsts, rule_count-destination, with_address-same}
+use Rattle.np_table.proofs.KindLemmas.{conns_of-nothing, first_pod-there, kinds-by, nothing, rows_in-agree, rows_in-nothing, rules-most}
+use Rattle.np_table.proofs.PairLemmas.{in_folding, one_kind-sources, pair_allows-alone, pair_allows-between, pair_allows-firsts, rule_count-destination, with_address-same}
 use Rattle.np_table.proofs.RangeOneList.{walk-agrees}
 use Rattle.np_table.proofs.RangeSets.{conns_of-agrees}
 use Rattle.np_table.proofs.SetLemmas.{conns_of-set}
-use Rattle.np_table.specs.PairRules.{AreEnds, AreOfKinds, first_side, rules_of_pair, side_with_address, sides_of_kinds}
+use Rattle.np_table.specs.PairRules.{AreEnds, AreOfKinds, IsKindReach, IsReach, first_end, first_side, rules_of_pair, side_with_address, sides_of_kinds}
 use Rattle.np_table.specs.steps.PairSides.{ends_of, side_allows_pod, sides_at}
 use Rattle.np_table.specs.Right.{conns_of}
 use Rattle.np_table.specs.Rows.{address_rows, pair_key, pair_rows, rows_in, rows_of_addresses}
 use Rattle.np_table.specs.Table.{IsWorkload, address_allows, between_pods, estate_table, is_alone, pair_allows, source_pod, table_of}
 use Rattle.np_table.specs.ToCome.{most_rules}
 use Rattle.np_table.specs.declared.pair_sets.PairEnds.{PairEnds}
+use Rattle.np_table.specs.declared.kind_reach.KindReach.{KindReach}
 use Rattle.np_table.specs.declared.rules_by_kind.KindRules.{KindRules}
 
 -- ---- a sender and a receiver
@@ -207,6 +212,72 @@ sides-stand lists folding rules source destination kind kind' sender receiver fo
     subst (λ (s : PodSide). StandFor lists source destination s receiver) (sym near.3)
     (subst (λ (r : PodSide). StandFor lists source destination (first_side lists Egress near.0) r) (sym far.3)
     (first-stand lists source destination near.0 far.0 (kinds-by lists source source_in).0 (kinds-by lists destination destination_in).0 near.1 far.1 near.2 far.2))
+
+-- ---- kinds between which nothing may pass
+
+-- what the sides of kinds let through is right where it is what the sides of their first pods do
+pub reach-right : (lists : EstateLists) (direction : Direction) (pods : List PodEnd) (reach : List (List Bool)) → pods ≡ map (first_end lists) (folding_of lists).first_of_kinds → reach ≡ reach_of lists direction pods → IsReach lists direction reach
+unfolding IsReach
+reach-right lists direction pods reach are is near far workload peer near_is far_is out contact far_end =
+    let firsts = (folding_of lists).first_of_kinds in
+    let at : (kind first : ℕ) → slice_get firsts kind ≡ Some first → slice_get pods kind ≡ Some (first_end lists first) = λ kind first found.
+    ap (λ (ends : List PodEnd). slice_get ends kind) are ∙ slice_get-map (first_end lists) firsts kind ∙ ap (option_map (first_end lists)) found in
+    let known : may_reach lists direction (first_end lists workload) (pod (first_end lists peer)) ≡ false =
+    sym (may_at-of lists direction pods near far (first_end lists workload) (first_end lists peer) (at near workload near_is) (at far peer far_is)) ∙ ap (λ (rows : List (List Bool)). may_at rows near far) (sym is) ∙ out in
+    out_of_reach lists direction (first_end lists workload) contact (ap (may_reach lists direction (first_end lists workload)) far_end ∙ known)
+
+-- where nothing is known it is right
+pub reach-nothing : (lists : EstateLists) (direction : Direction) → IsReach lists direction []
+unfolding IsReach
+reach-nothing lists direction zero far workload peer near_is far_is out contact far_end = absurd (cc)
+reach-nothing lists direction (suc near) far workload peer near_is far_is out contact far_end = absurd (cc)
+
+-- whether anything may pass between two kinds by what is known
+abbrev pub may_pass : KindReach → ℕ → ℕ → Bool
+may_pass reach near far = may_at reach.sent near far && may_at reach.received far near
+
+and_either : (a b : Bool) → (a && b) ≡ false → (a ≡ false) ⊎ (b ≡ false)
+and_either true b is = inr is
+and_either false b is = inl refl
+
+-- nothing passes between the first pods of two kinds of which one does not let the other through
+silent-between : (lists : EstateLists) (reach : KindReach) (near far a b : ℕ) (family : Family) (spot : PortSpot) → IsKindReach lists reach → slice_get (folding_of lists).first_of_kinds near ≡ Some a → slice_get (folding_of lists).first_of_kinds far ≡ Some b → may_pass reach near far ≡ false → between_pods lists (source_pod (folding_of lists) a) (source_pod (folding_of lists) b) family spot ≡ false
+unfolding IsReach
+silent-between lists reach near far a b family spot are near_is far_is out =
+    let p = source_pod (folding_of lists) a in
+    let q = source_pod (folding_of lists) b in
+    between-is lists p q family spot
+    ∙ elim (and_either (may_at reach.sent near far) (may_at reach.received far near) out) [
+      | inl silent ↦ and_left (side_allows_pod (side_of lists p Egress) q family spot) (side_allows_pod (side_of lists q Ingress) p family spot) (are.sent near far a b near_is far_is silent (with_pod q family (side_of lists p Egress) spot) refl)
+      | inr silent ↦ and_false (side_allows_pod (side_of lists p Egress) q family spot) (side_allows_pod (side_of lists q Ingress) p family spot) (are.received far near b a far_is near_is silent (with_pod p family (side_of lists q Ingress) spot) refl)
+    ]
+
+-- nothing passes between two workloads of these kinds
+pub silent-pair : (lists : EstateLists) (folding : Folding) (reach : KindReach) (source destination near far : ℕ) (family : Family) (spot : PortSpot) → folding ≡ folding_of lists → IsKindReach lists reach → IsLawful lists → IsWorkload lists source → IsWorkload lists destination → near ≡ slice_index folding.kinds source → far ≡ slice_index folding.kinds destination → may_pass reach near far ≡ false → pair_allows lists (folding_of lists) source destination family spot ≡ false
+silent-pair lists folding reach source destination near far family spot folded are lawful source_in destination_in near_is far_is out =
+    go (is_alone (folding_of lists) source destination) refl
+  where
+    near_kind : near ≡ slice_index (folding_of lists).kinds source
+    near_kind = near_is ∙ ap (λ (f : Folding). slice_index f.kinds source) folded
+
+    far_kind : far ≡ slice_index (folding_of lists).kinds destination
+    far_kind = far_is ∙ ap (λ (f : Folding). slice_index f.kinds destination) folded
+
+    go : (b : Bool) → is_alone (folding_of lists) source destination ≡ b → pair_allows lists (folding_of lists) source destination family spot ≡ false
+    go true alone = pair_allows-alone lists (folding_of lists) source destination family spot alone
+    go false apart =
+        let a = first-of_kind lists source source_in in
+        let b = first-of_kind lists destination destination_in in
+        let firsts = (folding_of lists).first_of_kinds in
+        pair_allows-firsts lists source a.0 destination b.0 family spot lawful (kinds-by lists source source_in).0 a.1 (kinds-by lists destination destination_in).0 b.1 a.2 b.2 apart
+        ∙ silent-between lists reach near far a.0 b.0 family spot are (ap (slice_get firsts) near_kind ∙ a.3) (ap (slice_get firsts) far_kind ∙ b.3) out
+
+-- two workloads between which nothing passes have no rows
+pub silent-rows : (lists : EstateLists) (source destination : ℕ) → ((family : Family) (spot : PortSpot) → pair_allows lists (folding_of lists) source destination family spot ≡ false) → [] ≡ pair_rows (estate_table lists) source destination
+unfolding pair_rows table_of
+silent-rows lists source destination silent =
+    sym (rows_in-agree (families_of lists.pods) (pair_key source destination) (λ family. conns_of (pair_allows lists (folding_of lists) source destination family)) (λ family. nothing) (λ family. conns_of-nothing _ (silent family))
+    ∙ rows_in-nothing (families_of lists.pods) (pair_key source destination))
 
 -- ---- addresses
 

@@ -47,6 +47,12 @@ rows_at table place =
 unfoldable pub rows_from : Table → ℕ → List Row
 rows_from table place = flat_map (rows_at table) (range_with_len place (place_count (length table.names) - place))
 
+-- a later place is of the same source, where the first is one of the pairs, and else it is the first
+pub record IsOfSameSource (count place later : ℕ) : Type 0 where
+  pub up : place ≤ later
+  pub pairs : place < pair_count count → (later < pair_count count) × (later / count ≡ place / count)
+  pub behind : pair_count count ≤ place → later ≡ place
+
 -- ---- rules that are still to be looked at
 
 -- how many rules speak of the first pod of a workload

@@ -3,12 +3,13 @@ ghost use Rattle.std.specs.Prelude.{◌≡◌, ◌≤◌, ◌<◌, ◌+◌, ◌*
 ghost use Rattle.np_fold.specs.Workloads.{folding_of};
 ghost use Rattle.np_policies.specs.declared.direction.Direction.{Direction};
 ghost use Rattle.np_table.specs.Kept.{IsKept};
-ghost use Rattle.np_table.specs.PairRules.{AreOfKinds};
+ghost use Rattle.np_table.specs.PairRules.{AreOfKinds, IsKindReach};
 ghost use Rattle.np_table.specs.Rows as table;
 ghost use Rattle.np_table.specs.Table.{estate_table, number_of_workloads};
 ghost use Rattle.np_table.specs.ToCome as spec;
 
 use crate::kept::Kept;
+use crate::kind_reach::KindReach;
 use crate::rows::{AddressRow, Row, RowEnd, RowKey};
 use crate::rows_by_kind::rows_by_kind;
 use crate::rows_of_addresses::rows_by_addresses;
@@ -88,6 +89,7 @@ impl<'a> Rows<'a> {
             if self.place == self.end {
                 return Ok(None);
             }
+            self.place = pass_over(self.folded, &self.rules.reach, self.place);
             let rows = rows_at(
                 self.alloc,
                 self.folded,
@@ -119,6 +121,29 @@ fn place_count(workloads: &Workloads) -> u64
 {
     let count = u64::from(workloads.count());
     count * count + 2 * count
+}
+
+// Passes over the destinations from a place on to which nothing passes, of the same source, and at most up to the last.
+fn pass_over(folded: &Folded, reach: &KindReach, place: u64) -> u64
+    requires reach { IsKindReach folded.now reach.now }
+    requires place { place < spec.place_count (number_of_workloads folded.now) }
+    requires fits { spec.place_count (number_of_workloads folded.now) < 2 ^ 64 }
+    ensures rows { spec.rows_from (estate_table folded.now) result ≡ spec.rows_from (estate_table folded.now) place }
+    ensures source { spec.IsOfSameSource (number_of_workloads folded.now) place result }
+{
+    let count = u64::from(folded.workloads().count());
+    if place >= count * count {
+        return place;
+    }
+    let source = place / count;
+    let mut destination = place % count;
+    while destination + 1 < count {
+        if !reach.is_silent(folded, source as u32, destination as u32) {
+            break;
+        }
+        destination += 1;
+    }
+    source * count + destination
 }
 
 // The rows at a place. What is kept is made ready for the next place.

@@ -21,7 +21,8 @@ use std::sync::ledger::Ledger;
 
 /// The rows of two workloads: copies with these ends where they are kept for the destination's kind, and else the rules of
 /// the two kinds are asked, and what they give is kept for that kind. The rules give the same for each destination of a
-/// kind, but for a workload of one pod with itself, which has no row and keeps nothing.
+/// kind, but for a workload of one pod with itself, which has no row and keeps nothing; so do kinds between which nothing may
+/// pass.
 pub(crate) fn rows_by_kind<L: Ledger>(
     alloc: Global,
     folded: &Folded,
@@ -46,6 +47,9 @@ pub(crate) fn rows_by_kind<L: Ledger>(
 {
     let workloads = folded.workloads();
     if is_alone(workloads, source, destination) {
+        return Ok(Seq::new(alloc));
+    }
+    if rules.reach.is_silent(folded, source, destination) {
         return Ok(Seq::new(alloc));
     }
     let kind = workloads.kind_of(destination);

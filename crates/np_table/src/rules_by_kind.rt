@@ -4,6 +4,7 @@ ghost use Rattle.np_table.specs.PairRules as spec;
 ghost use Rattle.np_table.specs.Table.{IsWorkload};
 ghost use Rattle.np_table.specs.steps.PairSides.{sides_at};
 
+use crate::kind_reach::KindReach;
 use np_base::NoMemory;
 use np_fold::Folded;
 use np_policies::Direction;
@@ -11,24 +12,39 @@ use np_rules::PodRules;
 use std::alloc::Global;
 
 /// For each kind of workloads, by its number, the rules of the first pod of its first workload, as it sends and as it
-/// receives. No rule tells pods of one kind apart, so that one of them stands for all. Both lists are empty until the rules
-/// are asked for.
+/// receives, and which kinds these let through at all. No rule tells pods of one kind apart, so that one of them stands for
+/// all. All lists are empty until the rules are asked for.
 #[derive(Drop)]
 pub(crate) struct KindRules<'a> {
     pub senders: Vec<PodRules<'a>>,
     pub receivers: Vec<PodRules<'a>>,
+    pub reach: KindReach,
 }
 
 impl<'a> KindRules<'a> {
     /// No rules. It takes no memory.
     pub(crate) fn nothing(alloc: Global) -> KindRules<'a>
-        ensures senders { length result.senders.items ≡ 0 }
-        ensures receivers { length result.receivers.items ≡ 0 }
+        ensures { length result.senders.items ≡ 0 }
     {
         KindRules {
             senders: Vec::new(alloc),
             receivers: Vec::new(alloc),
+            reach: KindReach::nothing(alloc),
         }
+    }
+
+    // The rules of all kinds.
+    fn of(alloc: Global, folded: &'a Folded) -> Result<KindRules<'a>, NoMemory>
+        ensures { IfOk result (spec.AreOfKinds folded.now) }
+    {
+        let senders = sides_of_kinds(alloc, folded, Direction::Egress)?;
+        let receivers = sides_of_kinds(alloc, folded, Direction::Ingress)?;
+        let reach = KindReach::of(alloc, folded)?;
+        Ok(KindRules {
+            senders,
+            receivers,
+            reach,
+        })
     }
 
     /// Asks for the rules of all kinds, unless they are known.
@@ -37,8 +53,9 @@ impl<'a> KindRules<'a> {
         ensures all { OnOk result (spec.AreOfKinds folded.now self.new) }
         ensures err { OnErr result (spec.AreOfKindsIfAny folded.now self.new) }
     {
-        ask_side(alloc, folded, Direction::Egress, &mut self.senders)?;
-        ask_side(alloc, folded, Direction::Ingress, &mut self.receivers)?;
+        if self.senders.is_empty() {
+            *self = KindRules::of(alloc, folded)?;
+        }
         Ok(())
     }
 
@@ -53,23 +70,6 @@ impl<'a> KindRules<'a> {
         };
         &sides[kind as usize]
     }
-}
-
-// Asks for the rules of all kinds in a direction, unless they are known.
-fn ask_side<'a>(
-    alloc: Global,
-    folded: &'a Folded,
-    direction: Direction,
-    known: &mut Vec<PodRules<'a>>,
-) -> Result<(), NoMemory>
-    requires { 0 < length known.old.items → known.old.items ≡ spec.sides_of_kinds folded.now direction }
-    ensures all { OnOk result (known.new.items ≡ spec.sides_of_kinds folded.now direction) }
-    ensures err { OnErr result (known.new.items ≡ known.old.items) }
-{
-    if known.is_empty() {
-        *known = sides_of_kinds(alloc, folded, direction)?;
-    }
-    Ok(())
 }
 
 // The rules of all kinds in a direction.

@@ -1,0 +1,87 @@
+//! Policies whose rules may allow.
+ghost use Rattle.std.specs.Prelude.{◌≡◌, Bool, ◌&&◌, ◌||◌};
+ghost use Rattle.std.specs.List.{list_any};
+ghost use Rattle.np_policies.specs.declared.direction.Direction.{Direction};
+ghost use Rattle.np_reach.specs.Reach as spec;
+ghost use Rattle.np_rules.specs.Ends.{End, PodEnd, pod, pod_end};
+
+use np_addr::Family;
+use np_estate::Pod;
+use np_policies::{Action, AdminPolicy, AdminRule, Direction, NetPolicy};
+use np_rules::{
+    admin_policy_selects, admin_rule_reaches, admin_rules_of, net_policy_selects, net_rule_reaches,
+    net_rules_of,
+};
+
+/// A policy whose rules may allow what the side of a pod that it selects lets through.
+pub(crate) trait Speaker {
+    /// Whether it selects a pod.
+    ghost picks: { Self → PodEnd → Bool };
+
+    /// Whether some rule of a direction allows, and speaks of a far end.
+    ghost speaks: { Direction → End → Self → Bool };
+
+    /// Whether it selects a pod.
+    fn selects(&self, near: &Pod) -> bool
+        ensures { result ≡ picks self.now (pod_end near.now) };
+
+    /// Whether some rule of a direction allows, and speaks of a pod.
+    fn reaches(&self, direction: Direction, far: &Pod) -> bool
+        ensures { result ≡ speaks direction (pod (pod_end far.now)) self.now };
+}
+
+impl Speaker for NetPolicy {
+    ghost use Rattle.np_reach.specs.Reach.{net_reaches};
+    ghost use Rattle.np_rules.specs.Selection.{net_selects};
+
+    ghost picks = { net_selects };
+
+    ghost speaks = { net_reaches };
+
+    fn selects(&self, near: &Pod) -> bool {
+        net_policy_selects(self, near)
+    }
+
+    fn reaches(&self, direction: Direction, far: &Pod) -> bool {
+        match net_rules_of(self, direction) {
+            Some(rules) => rules.iter().any(|rule| net_rule_reaches(
+                self.namespace.as_str(),
+                rule,
+                far,
+            )),
+            None => false,
+        }
+    }
+}
+
+impl Speaker for AdminPolicy {
+    ghost use Rattle.np_reach.specs.Reach.{admin_reaches};
+    ghost use Rattle.np_rules.specs.Selection.{subject_selects};
+
+    ghost picks = { λ policy near. subject_selects policy.subject near };
+
+    ghost speaks = { admin_reaches };
+
+    fn selects(&self, near: &Pod) -> bool {
+        admin_policy_selects(&self.subject, near)
+    }
+
+    fn reaches(&self, direction: Direction, far: &Pod) -> bool {
+        admin_rules_of(self, direction)
+            .iter()
+            .any(|rule| allows_with(rule, far))
+    }
+}
+
+// Whether an admin rule allows, and speaks of a pod in packets of some family.
+fn allows_with(rule: &AdminRule, far: &Pod) -> bool
+    ensures { result ≡ spec.admin_rule_reaches (pod (pod_end far.now)) rule.now }
+{
+    match rule.action {
+        Action::Allow => {
+            admin_rule_reaches(rule, far, Family::Four)
+                || admin_rule_reaches(rule, far, Family::Six)
+        }
+        Action::Deny | Action::Pass => false,
+    }
+}

@@ -1,0 +1,77 @@
+//! Which kinds of workloads may send anything to which.
+ghost use Rattle.std.specs.Prelude.{◌≡◌, IfOk, false, map, true};
+ghost use Rattle.np_addr.specs.declared.address.Family.{Family};
+ghost use Rattle.np_conns.specs.declared.port_spot.PortSpot.{PortSpot};
+ghost use Rattle.np_estate.specs.declared.lists.EstateLists.{EstateLists};
+ghost use Rattle.np_fold.specs.Workloads.{folding_of};
+ghost use Rattle.np_rules.specs.Ends.{pod_end};
+ghost use Rattle.np_table.specs.PairRules as spec;
+ghost use Rattle.np_table.specs.Table.{IsWorkload, pair_allows};
+
+use np_base::NoMemory;
+use np_estate::Pod;
+use np_fold::Folded;
+use np_policies::Direction;
+use np_reach::Reach;
+use std::alloc::Global;
+
+/// For each kind of workloads, by its number, which kinds it lets through at all, as it sends and as it receives. No rule
+/// tells pods of one kind apart, so that the first pod of its first workload stands for all. What is not known may pass.
+#[derive(Drop)]
+pub struct KindReach {
+    pub sent: Reach,
+    pub received: Reach,
+}
+
+impl KindReach {
+    /// Nothing is known, of whatever estate. It takes no memory.
+    pub fn nothing(alloc: Global) -> KindReach
+        ensures { (lists : EstateLists) → spec.IsKindReach lists result }
+    {
+        KindReach {
+            sent: Reach::nothing(alloc),
+            received: Reach::nothing(alloc),
+        }
+    }
+
+    /// What the kinds of an estate let through.
+    pub fn of(alloc: Global, folded: &Folded) -> Result<KindReach, NoMemory>
+        ensures { IfOk result (spec.IsKindReach folded.now) }
+    {
+        let pods = first_pods(alloc, folded)?;
+        let estate = folded.estate();
+        let sent = Reach::of(alloc, estate, &pods, Direction::Egress)?;
+        let received = Reach::of(alloc, estate, &pods, Direction::Ingress)?;
+        Ok(KindReach { sent, received })
+    }
+
+    /// Whether it is known that nothing passes from a workload to another, by their kinds: the one lets the other through
+    /// not at all as it sends, or the other the one as it receives.
+    pub fn is_silent(&self, folded: &Folded, source: u32, destination: u32) -> bool
+        requires reach { spec.IsKindReach folded.now self.now }
+        requires source { IsWorkload folded.now source }
+        requires destination { IsWorkload folded.now destination }
+        ensures silent { result ≡ true → (family : Family) (spot : PortSpot) →
+            pair_allows folded.now (folding_of folded.now) source destination family spot ≡ false }
+    {
+        let workloads = folded.workloads();
+        let near = workloads.kind_of(source);
+        let far = workloads.kind_of(destination);
+        !(self.sent.may(near, far) && self.received.may(far, near))
+    }
+}
+
+// The first pod of each kind.
+fn first_pods(alloc: Global, folded: &Folded) -> Result<Vec<&Pod>, NoMemory>
+    ensures { IfOk result (λ made. map (λ one. pod_end one.now) made.items
+        ≡ map (spec.first_end folded.now) (folding_of folded.now).first_of_kinds) }
+{
+    let workloads = folded.workloads();
+    let pods = folded.estate().pods();
+    let mut firsts = Vec::new(alloc);
+    for workload in workloads.first_of_kinds() {
+        let place = workloads.members(*workload)[0];
+        firsts.push(&pods[place as usize])?;
+    }
+    Ok(firsts)
+}
