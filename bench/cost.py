@@ -1,5 +1,5 @@
 #!/usr/bin/env python3
-"""How the time of `np list` grows with its input: bench/cost.py [--program dist/np] [--quick] [NAME..]
+"""How the time of `np list` grows with its input: bench/cost.py [--program dist/np] [--quick] [--commands | NAME..]
 
 Makes inputs of several shapes, each in two or more sizes, and prints for each the seconds (the best of three runs, of one where
 it takes long), the greatest memory, and how many times the seconds of the size before. A shape that grows as its answer does
@@ -16,6 +16,10 @@ values     one selector with many values, over many pods
 ingress    one Ingress with a backend for each Service of one workload, and as many workloads again: no pairs, one row for each Service
 formats    the rows of many pods as text, as CSV and as JSON, beside each other
 writes     how many calls of `write` the system sees for so many bytes of rows (needs strace)
+
+--commands prints what each command costs on the shape `cluster`, of 1,000 and of 2,000 workloads, with its admin policy and without: the
+           seconds of processor time, how many more these are than those of `evaluate`, which hardly does more than read, and the
+           greatest memory, which is at least that of this script
 
 No time is promised to users: the numbers tell how the cost grows, on one machine, in one run.
 """
@@ -131,6 +135,10 @@ def ingress(services):
     return items
 
 
+def without_admin_policies(workloads):
+    return [item for item in cluster(workloads) if item["kind"] != "AdminNetworkPolicy"]
+
+
 SHAPES = {
     "cluster": (cluster, (250, 500, 1000, 2000)),
     "uniform": (uniform, (500, 1000, 2000)),
@@ -144,27 +152,28 @@ SHAPES = {
 }
 
 
-def best_of_three(words):
+def best_of_three(words, processor=False):
+    """The least seconds, those of the clock or of the processor, and the greatest memory; of one run where it takes long."""
     best, peak = None, 0
     for _ in range(3):
         start = time.time()
         process = subprocess.Popen(words, stdout=subprocess.DEVNULL, stderr=subprocess.PIPE)
         said = process.stderr.read()
         _, status, used = os.wait4(process.pid, 0)
-        took = time.time() - start
+        took = used.ru_utime + used.ru_stime if processor else time.time() - start
         if os.waitstatus_to_exitcode(status):
             sys.exit("%s failed: %s" % (" ".join(words), said.decode()[:300]))
-        best, peak = min(best or took, took), max(peak, used.ru_maxrss // 1024)
-        if took > 10:
+        best, peak = took if best is None else min(best, took), max(peak, used.ru_maxrss // 1024)
+        if took > (5 if processor else 10):
             break
     return best, peak
 
 
-def write(path, name, size):
+def write(path, make, size):
     """Makes an input, in a process of its own: what is measured begins as a copy of this one, whose memory would count as its own."""
     def dump():
         with open(path, "w") as f:
-            json.dump(listing(SHAPES[name][0](size)), f)
+            json.dump(listing(make(size)), f)
     maker = multiprocessing.get_context("fork").Process(target=dump)
     maker.start()
     maker.join()
@@ -173,11 +182,11 @@ def write(path, name, size):
 
 
 def measure(program, folder, name, quick):
-    sizes = SHAPES[name][1]
+    make, sizes = SHAPES[name]
     before = None
     for size in sizes[:-1] if quick else sizes:
         path = os.path.join(folder, "%s-%d.json" % (name, size))
-        write(path, name, size)
+        write(path, make, size)
         seconds, megabytes = best_of_three([program, "list", path])
         growth = "" if before is None else "   x%.2f" % (seconds / before)
         read = os.path.getsize(path) / 1e6
@@ -210,16 +219,57 @@ def count_writes(program, folder):
     print("writes: %d bytes in %d rows by %d calls of write" % (len(traced.stdout), traced.stdout.count("\n"), calls))
 
 
+def commands_of(program, statements):
+    """The rows of the table, each with the words that an input comes after. The others are compared with the first."""
+    pods, workloads = (["team-000/svc-%04d%s" % (i, end) for i in range(2)] for end in ("-0", "[StatefulSet]"))
+    words = {"evaluate": ["--from", pods[1], "--to", pods[0], "--protocol", "TCP", "--port", "8000"],
+             "list": [],
+             "list --focus": [workloads[0]],
+             "check": ["--statement", statements],
+             "unused": [],
+             "flatten": [],
+             "explain": ["--from", workloads[1], "--to", workloads[0]],
+             "exposure": ["--workload", workloads[0]]}
+    return {**{name: [program, *name.split(), *rest] for name, rest in words.items()}, "jq length": ["jq", "length"]}
+
+
+def compare_commands(program, folder, sizes):
+    statements = os.path.join(folder, "statements")
+    with open(statements, "w") as f:
+        f.writelines("deny any pod => any pod : TCP %d\n" % (i + 1) for i in range(10))
+    inputs = {"%d%s" % (size, told): (make, size) for size in sizes
+              for told, make in ((" workloads", cluster), (", no admin policy", without_admin_policies))}
+    paths = [os.path.join(folder, "%d.json" % i) for i in range(len(inputs))]
+    for path, (make, size) in zip(paths, inputs.values()):
+        write(path, make, size)
+    print(" " * 12 + "".join("%26s" % title for title in inputs))
+    print(" " * 12 + "%10s %8s %6s" % ("seconds", "above", "MB") * len(inputs))
+    base = None
+    for name, words in commands_of(program, statements).items():
+        if words[0] == "jq" and not shutil.which("jq"):
+            print("%-12s" % name + "%10s %8s %6s" % ("-", "-", "-") * len(inputs))
+            continue
+        runs = [best_of_three([*words, path], processor=True) for path in paths]
+        base = base or runs
+        cells = ["%10.2f %+8.2f %6d" % (seconds, seconds - least, peak) for (seconds, peak), (least, _) in zip(runs, base)]
+        print("%-12s" % name + "".join(cells), flush=True)
+
+
 def main():
     words = argparse.ArgumentParser(description=__doc__, formatter_class=argparse.RawDescriptionHelpFormatter)
     words.add_argument("--program", default=os.path.join(os.path.dirname(os.path.abspath(__file__)), "..", "dist", "np"))
-    words.add_argument("--quick", action="store_true", help="without the greatest size of each shape")
+    words.add_argument("--quick", action="store_true", help="without the greatest size of each shape; 100 and 200 workloads for --commands")
+    words.add_argument("--commands", action="store_true", help="a table of the commands, and no shapes")
     words.add_argument("names", nargs="*", metavar="NAME")
     given = words.parse_args()
     unknown = [n for n in given.names if n not in SHAPES and n not in ("formats", "writes")]
     if unknown:
         words.error("no shape is named %s" % unknown[0])
+    if given.commands and given.names:
+        words.error("the commands have an input of their own")
     with tempfile.TemporaryDirectory() as folder:
+        if given.commands:
+            return compare_commands(given.program, folder, (100, 200) if given.quick else (1000, 2000))
         for name in given.names or [*SHAPES, "formats", "writes"]:
             if name == "formats":
                 compare_formats(given.program, folder)

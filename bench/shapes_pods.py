@@ -91,6 +91,11 @@ def strangers(count, peers):
     return [*labelled_pods(count), to_all({"from": [pods_with("app", "x%d" % i) for i in range(peers)]})]
 
 
+@shape("manyStrangers", (2000, 60000), (3, 2), "the same with {1:,} peers", ("list",))
+def many_strangers(count, peers):
+    return strangers(count, peers)
+
+
 # Ports and addresses.
 
 @shape("ports", (10000,), (3,), "a pod with {0:,} named ports, and a rule with an entry for each name", but("flatten"))

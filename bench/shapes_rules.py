@@ -31,6 +31,11 @@ def rules(count):
     return [*two_pods(), to_all(*[one_rule([named_block(i << 8, 24)], [i + 1]) for i in range(count)])]
 
 
+@shape("strangerRules", (2000, 40000), (3, 2), "{0:,} pods, and {1:,} rules of one port each, whose peers match none of them", ("list",))
+def stranger_rules(count, many):
+    return [*labelled_pods(count), to_all(*[one_rule([pods_with("app", "x%d" % i)], [i + 1]) for i in range(many)])]
+
+
 @shape("lintBlocks", (40000,), (3,), "{0:,} rules of one block and one port each, for a pod", ("unused",))
 def lint_blocks(count):
     return cost.rules(count)
