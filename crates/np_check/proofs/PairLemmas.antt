@@ -1,5 +1,6 @@
 -- The first packet between two ends.
 use Rattle.std.proofs.Common.{◌≡◌, Bor, ℕ, suc, ◌<◌, ◌≤◌, ◌==◌, ◌&&◌, List, [], ◌∷◌, Bool, true, false, Option, Some, None, drop, get_or, length, map, option_map, is_some, not, refl, sym, ap, ◌∙◌, inl, inr, if◌then◌else◌}
+use Rattle.std.specs.List.{find, range_with_len}
 use Rattle.std.specs.Option.{option_copied, option_or}
 use Rattle.std.proofs.Math.Seq.{drop-cons}
 use Rattle.std.proofs.lemmas.List.{drop_all}
@@ -7,14 +8,16 @@ use Rattle.std.proofs.lemmas.Bool.{and_parts, cases_Bool, eqb-true, ne_eqb}
 use Rattle.np_addr.specs.declared.address.Family.{Family}
 use Rattle.np_check.proofs.FirstLemmas.{first_of-append, first_of-map, none_both}
 use Rattle.np_check.proofs.SpotLemmas.{breaks-same}
-use Rattle.np_check.specs.Counters.{addresses_of, breaks, counter_at, counter_between, counter_from, counter_in}
-use Rattle.np_check.specs.Firsts.{first_of, first_spot}
+use Rattle.np_check.specs.Counters.{addresses_of, breaks, complies, counter_at, counter_between, counter_from, counter_in, families_between}
+use Rattle.np_check.specs.Firsts.{first_of, first_of_ports, first_of_proto, first_spot}
 use Rattle.np_check.specs.steps.Pairs.{AreSettled, has_pair, kind_of}
 use Rattle.np_check.specs.declared.counter.PlaceEnd.TheVariants.{At, Work}
 use Rattle.np_check.specs.declared.question.Ends.{Ends}
 use Rattle.np_check.specs.declared.statement_text.Wanted.{Wanted}
+use Rattle.np_check.specs.declared.statement_text.Wanted.TheVariants.{Deny}
 use Rattle.np_conns.specs.Conns.{Conns, has_spot}
 use Rattle.np_conns.specs.declared.port_spot.PortSpot.{PortSpot}
+use Rattle.np_conns.specs.declared.proto.Proto.{Proto}
 use Rattle.np_estate.specs.Families.{families_of}
 use Rattle.np_estate.specs.Lawful.{IsLawful}
 use Rattle.np_estate.specs.declared.lists.EstateLists.{EstateLists}
@@ -152,3 +155,35 @@ from-work lists wanted conns ends source destinations are =
     ∙ ap (first_of (λ destination. counter_between lists wanted conns (Work source) (Work destination))) are)
     ∙ ap (λ rest. option_or (first_of (λ destination. counter_between lists wanted conns (Work source) (Work destination)) destinations) rest)
     (first_of-map (counter_between lists wanted conns (Work source)) At (addresses_of ends.block))
+
+-- ---- workloads between which nothing passes
+
+find_none : {X : Type 0} (test : X → Bool) (xs : List X) → ((x : X) → test x ≡ false) → find test xs ≡ None
+find_none test [] none = refl
+find_none test (x ∷ xs) none = rw (none x) (find_none test xs none)
+
+first_of-none : {X Y : Type 0} (gives : X → Option Y) (xs : List X) → ((x : X) → gives x ≡ None) → first_of gives xs ≡ None
+first_of-none gives [] none = refl
+first_of-none gives (x ∷ xs) none = rw (none x) (first_of-none gives xs none)
+
+first_of_proto-none : (passes : PortSpot → Bool) → ((spot : PortSpot) → passes spot ≡ false) → (proto : Proto) → first_of_proto passes proto ≡ None
+unfolding first_of_ports
+first_of_proto-none passes none proto =
+    let at : ℕ → PortSpot = λ port. record { proto = proto; port = port } in
+    ap (option_map at) (find_none (λ port. passes (at port)) (range_with_len 1 65535) (λ port. none (at port)))
+
+first_spot-none : (passes : PortSpot → Bool) → ((spot : PortSpot) → passes spot ≡ false) → first_spot passes ≡ None
+unfolding first_spot
+first_spot-none passes none = first_of-none (first_of_proto passes) _ (first_of_proto-none passes none)
+
+not_denied : (speaks allowed : Bool) → allowed ≡ false → (speaks && not (complies Deny allowed)) ≡ false
+not_denied true allowed none = rw none refl
+not_denied false allowed none = refl
+
+-- no packet between them breaks a statement that denies
+pub none_denied : (lists : EstateLists) (wanted : Wanted) (conns : Conns) (a b : ℕ) → wanted ≡ Deny → ((family : Family) (spot : PortSpot) → pair_allows lists (folding_of lists) a b family spot ≡ false) → None ≡ counter_between lists wanted conns (Work a) (Work b)
+unfolding counter_between
+none_denied lists wanted conns a b denies silent =
+    sym (ap (λ (w : Wanted). counter_between lists w conns (Work a) (Work b)) denies
+    ∙ first_of-none (counter_in lists Deny conns (Work a) (Work b)) (families_between lists (Work a) (Work b)) (λ family.
+    ap (option_map (counter_at (Work a) (Work b) family)) (first_spot-none (breaks Deny conns (pair_allows lists (folding_of lists) a b family)) (λ spot. not_denied (has_spot conns spot) _ (silent family spot)))))

@@ -1,8 +1,10 @@
 //! Whether the statements of a cluster hold.
-ghost use Rattle.std.specs.Prelude.{◌≡◌, ◌≤◌, false, nat_eq, All, IfOk, OnOk, Some};
+ghost use Rattle.std.specs.Prelude.{◌≡◌, ◌≤◌, false, nat_eq, true, All, IfOk, OnOk, Some};
 ghost use Rattle.std.specs.HashMap.{get};
+ghost use Rattle.np_addr.specs.declared.address.Family.{Family as SpecFamily};
 ghost use Rattle.np_check.specs.Counters.{counter_of};
 ghost use Rattle.np_check.specs.steps.Known.{AreKnown};
+ghost use Rattle.np_conns.specs.declared.port_spot.PortSpot.{PortSpot};
 ghost use Rattle.np_estate.specs.Lawful.{IsLawful};
 ghost use Rattle.np_fold.specs.Workloads.{folding_of};
 ghost use Rattle.np_table.specs.PairRules.{first_side};
@@ -22,15 +24,18 @@ use np_fold::Folded;
 use np_policies::Direction;
 use np_rules::PodRules;
 use np_steps::Steps;
-use np_table::{AddressRow, rows_by_addresses, set_between};
+use np_table::{AddressRow, KindReach, rows_by_addresses, set_between};
 use std::alloc::Global;
 use std::collections::HashMap;
 use std::marker::Model;
 use std::sync::ledger::Ledger;
 
+// From so many pairs a workload on it is worth it to find out first which kinds may send anything to which.
+const PAIRS_PER_WORKLOAD: u64 = 50;
+
 /// A cluster of which statements are checked, one after the other. The rules of a workload are found when they are first
-/// asked for, once as it sends and once as it receives, and kept for the statements to come. Contracts see the lists of
-/// the cluster.
+/// asked for, once as it sends and once as it receives, and kept for the statements to come. Which kinds may send anything
+/// to which is found once many pairs were asked for. Contracts see the lists of the cluster.
 #[derive(Drop)]
 pub struct Checker<'a> {
     alloc: Global,
@@ -38,6 +43,9 @@ pub struct Checker<'a> {
     // The rules of the first pods of workloads, by the numbers of these, as they send and as they receive.
     senders: HashMap<u32, PodRules<'a>>,
     receivers: HashMap<u32, PodRules<'a>>,
+    // How many pairs of workloads were asked for.
+    pairs: u64,
+    reach: Option<KindReach>,
 }
 
 impl<'a> Model for Checker<'a> {
@@ -50,7 +58,10 @@ impl<'a> Model for Checker<'a> {
 
     ghost view = { λ c. c.folded.now };
 
-    ghost invariant = { λ c. AreKnown c.folded.now Egress c.senders × AreKnown c.folded.now Ingress c.receivers };
+    ghost use Rattle.std.specs.Prelude.{IfSome};
+    ghost use Rattle.np_table.specs.PairRules.{IsKindReach};
+
+    ghost invariant = { λ c. AreKnown c.folded.now Egress c.senders × AreKnown c.folded.now Ingress c.receivers × IfSome c.reach (IsKindReach c.folded.now) };
 }
 
 impl<'a> Checker<'a> {
@@ -63,6 +74,8 @@ impl<'a> Checker<'a> {
             folded,
             senders: HashMap::new(alloc),
             receivers: HashMap::new(alloc),
+            pairs: 0,
+            reach: None,
         }
     }
 
@@ -87,6 +100,7 @@ impl<'a> Checker<'a> {
         let count = folded.workloads().count();
         let sources = statement.sources(alloc, count)?;
         let destinations = statement.destinations(alloc, count)?;
+        self.expect(sources.len() as u64, destinations.len() as u64)?;
         let question = &statement.question;
         let asked = Asked {
             wanted: question.wanted,
@@ -99,6 +113,32 @@ impl<'a> Checker<'a> {
         }
         let block = &question.source.block;
         first_from_addresses(self, &asked, block, &destinations, steps)
+    }
+
+    // Counts the pairs of a statement, and finds out which kinds may send anything to which once they are many.
+    fn expect(&mut self, sources: u64, destinations: u64) -> Result<(), NoMemory>
+        ensures { self.new ≡ self.old }
+    {
+        let pairs = sources.saturating_mul(destinations);
+        self.pairs = self.pairs.saturating_add(pairs);
+        let few = PAIRS_PER_WORKLOAD * u64::from(self.folded.workloads().count());
+        if self.reach.is_none() && self.pairs > few {
+            self.reach = Some(KindReach::of(self.alloc, self.folded)?);
+        }
+        Ok(())
+    }
+
+    /// Whether it is known that nothing passes from a workload to another.
+    pub(crate) fn is_silent(&self, source: u32, destination: u32) -> bool
+        requires source { IsWorkload self.now source }
+        requires destination { IsWorkload self.now destination }
+        ensures { result ≡ true → (family : SpecFamily) (spot : PortSpot) →
+            pair_allows self.now (folding_of self.now) source destination family spot ≡ false }
+    {
+        match &self.reach {
+            Some(reach) => reach.is_silent(self.folded, source, destination),
+            None => false,
+        }
     }
 
     /// Where the memory of what is found comes from.

@@ -10,6 +10,7 @@ ghost use Rattle.np_table.specs.Table.{IsWorkload, is_alone};
 use crate::asked::Asked;
 use crate::checker::Checker;
 use crate::counter::{Counter, PlaceEnd};
+use crate::statement_text::Wanted;
 use np_addr::Family;
 use np_base::NoMemory;
 use np_fold::Workloads;
@@ -50,7 +51,8 @@ pub(crate) fn first_to_works<L: Ledger>(
     Ok(None)
 }
 
-// The first packet from a workload to another that breaks a statement, unless it is known that there is none.
+// The first packet from a workload to another that breaks a statement, unless it is known that there is none: what passes
+// not at all breaks no statement that denies, and is not kept.
 fn first_to_work<L: Ledger>(
     checker: &mut Checker<'_>,
     asked: &Asked<'_>,
@@ -68,6 +70,10 @@ fn first_to_work<L: Ledger>(
     ensures settled { AreSettled checker.new asked.now.wanted asked.now.conns.now settled.new.keys }
     ensures least { steps.old ≤ steps.new }
 {
+    let denied = matches!(asked.wanted, Wanted::Deny);
+    if denied && checker.is_silent(source, destination) {
+        return Ok(None);
+    }
     let workloads = checker.folded().workloads();
     let kinds = (workloads.kind_of(source), workloads.kind_of(destination));
     if settled.contains(&kinds) {

@@ -8,25 +8,27 @@ ghost use Rattle.np_table.specs.PairRules.{first_side};
 ghost use Rattle.np_table.specs.Table.{IsWorkload, is_alone, number_of_workloads};
 
 use np_addr::Family;
-use np_base::NoMemory;
+use np_base::{Cells, NoMemory};
 use np_conns::ConnSet;
 use np_fold::Folded;
 use np_policies::Direction;
 use np_rules::PodRules;
 use np_steps::Steps;
-use np_table::{pair_set, set_between};
+use np_table::{KindReach, pair_set, set_between};
 use std::alloc::Global;
 use std::marker::Model;
 use std::sync::ledger::Ledger;
 
-/// For each workload of an estate the rules of its first pod, as it sends and as it receives. What they give between two
-/// workloads is made when it is asked for, and not kept. Contracts see the lists of the estate.
+/// For each workload of an estate the rules of its first pod, as it sends and as it receives, and which kinds these let
+/// through at all. What they give between two workloads is made when it is asked for, and not kept. Contracts see the lists
+/// of the estate.
 #[derive(Drop)]
 pub(crate) struct Sides<'a> {
     alloc: Global,
     folded: &'a Folded,
     senders: Vec<PodRules<'a>>,
     receivers: Vec<PodRules<'a>>,
+    reach: KindReach,
 }
 
 impl<'a> Model for Sides<'a> {
@@ -34,7 +36,7 @@ impl<'a> Model for Sides<'a> {
     ghost use Rattle.np_classes.specs.Classes.{places};
     ghost use Rattle.np_estate.specs.declared.lists.EstateLists.{EstateLists};
     ghost use Rattle.np_policies.specs.declared.direction.Direction.TheVariants.{Egress, Ingress};
-    ghost use Rattle.np_table.specs.PairRules.{first_side};
+    ghost use Rattle.np_table.specs.PairRules.{IsKindReach, first_side};
     ghost use Rattle.np_table.specs.Table.{number_of_workloads};
 
     ghost Value = { EstateLists };
@@ -42,7 +44,8 @@ impl<'a> Model for Sides<'a> {
     ghost view = { λ s. s.folded.now };
 
     ghost invariant = { λ s. (s.senders.items ≡ map (first_side s.folded.now Egress) (places (number_of_workloads s.folded.now)))
-        × (s.receivers.items ≡ map (first_side s.folded.now Ingress) (places (number_of_workloads s.folded.now))) };
+        × (s.receivers.items ≡ map (first_side s.folded.now Ingress) (places (number_of_workloads s.folded.now)))
+        × IsKindReach s.folded.now s.reach };
 }
 
 impl<'a> Sides<'a> {
@@ -52,11 +55,13 @@ impl<'a> Sides<'a> {
     {
         let senders = rules_of_workloads(alloc, folded, Direction::Egress)?;
         let receivers = rules_of_workloads(alloc, folded, Direction::Ingress)?;
+        let reach = KindReach::of(alloc, folded)?;
         Ok(Sides {
             alloc,
             folded,
             senders,
             receivers,
+            reach,
         })
     }
 
@@ -85,6 +90,9 @@ impl<'a> Sides<'a> {
         ensures set { IfOk result (λ made. made ≡ spec.set_of self.now source destination) }
         ensures least { steps.old ≤ steps.new }
     {
+        if self.reach.is_silent(self.folded, source, destination) {
+            return ConnSet::nothing(self.alloc);
+        }
         let sender = &self.senders[source as usize];
         let receiver = &self.receivers[destination as usize];
         set_between(

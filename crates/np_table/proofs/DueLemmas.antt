@@ -1,14 +1,14 @@
 -- How many rules are still to be looked at, from place to place.
-use Rattle.std.proofs.Common.{◌≡◌, ◌≢◌, ◌<◌, ◌≤◌, ◌+◌, ◌-◌, ◌*◌, ◌/◌, ◌%◌, ℕ, zero, suc, List, [], Bool, true, Option, length, map, nat_lt, arith, sym, ap, subst, inl, inr, ◌∙◌, if◌then◌else◌}
+use Rattle.std.proofs.Common.{◌≡◌, ◌≢◌, ◌<◌, ◌≤◌, ◌+◌, ◌-◌, ◌*◌, ◌/◌, ◌%◌, ℕ, zero, suc, List, [], Bool, true, false, Option, length, map, nat_lt, arith, refl, sym, ap, subst, inl, inr, ◌∙◌, if◌then◌else◌}
 use Rattle.std.specs.List.{range_with_len}
 use Rattle.std.proofs.Math.Nat.{div-lt_iff_lt-mul, mod-lt, mul-le-mul_left, mul-le-mul_right}
-use Rattle.std.proofs.lemmas.Bool.{cases_order, lt-ltb, le-ltb}
+use Rattle.std.proofs.lemmas.Bool.{cases_lt, cases_order, lt-ltb, le-ltb}
 use Rattle.std.proofs.lemmas.Nat.{div-add-mod', div-mul-add}
 use Rattle.np_estate.specs.declared.lists.EstateLists.{EstateLists}
 use Rattle.np_fold.specs.Workloads.{Folding}
 use Rattle.np_table.specs.Kept.{kept_count}
 use Rattle.np_table.specs.declared.kept.KeptConns.{KeptConns}
-use Rattle.np_table.specs.ToCome.{due_at, due_from, most_rules, greatest, pair_count, place_count}
+use Rattle.np_table.specs.ToCome.{IsOfSameSource, due_at, due_from, most_rules, greatest, pair_count, place_count}
 
 -- ---- the greatest number
 
@@ -189,3 +189,45 @@ module _ (lists : EstateLists) (folding : Folding) (old new place : ℕ) (kept k
       let unkept = folding.kind_count - kept_count kept in
       let P : ℕ → Type 0 = λ p. new ≤ old + due_at count folding.kind_count (most_rules lists folding) unkept p in
       subst P is (due-unkept count folding.kind_count (most_rules lists folding) old new unkept (place / count) (place % count) (source-below count place below) (destination-below count place below) steps)
+
+-- ---- places that are passed over
+
+module _ (count place later : ℕ) (same : IsOfSameSource count place later) where
+  pub over-source : later / count ≡ place / count
+  over-source = elim (cases_lt place (pair_count count)) [
+    | inl below ↦ (same.pairs below).1
+    | inr up ↦ ap (λ (n : ℕ). n / count) (same.behind up)
+  ]
+
+  pub over-within : place < place_count count → later < place_count count
+  over-within within = elim (cases_lt place (pair_count count)) [
+    | inl below ↦ omega (arith, (same.pairs below).0)
+    | inr up ↦ subst (λ (n : ℕ). n < place_count count) (sym (same.behind up)) within
+  ]
+
+  over-pairs : nat_lt later (pair_count count) ≡ nat_lt place (pair_count count)
+  over-pairs = elim (cases_lt place (pair_count count)) [
+    | inl below ↦ lt-ltb later (pair_count count) (same.pairs below).0 ∙ sym (lt-ltb place (pair_count count) below)
+    | inr up ↦ ap (λ (n : ℕ). nat_lt n (pair_count count)) (same.behind up)
+  ]
+
+  over-behind : nat_lt place (pair_count count) ≡ false → later ≡ place
+  over-behind behind = elim (cases_lt place (pair_count count)) [
+    | inl below ↦ absurd (let there = lt-ltb place (pair_count count) below in cc)
+    | inr up ↦ same.behind up
+  ]
+
+  over-due : (kinds most unkept : ℕ) → due_at count kinds most unkept later ≡ due_at count kinds most unkept place
+  unfolding due_at
+  over-due kinds most unkept =
+      ap (λ (b : Bool). if b then most * (4 * (kinds * (count - 1 - later / count) + unkept) + 2 * count) else most * (place_count count - later)) over-pairs
+      ∙ go (nat_lt place (pair_count count)) over-behind
+    where
+      go : (b : Bool) → (b ≡ false → later ≡ place) → (if b then most * (4 * (kinds * (count - 1 - later / count) + unkept) + 2 * count) else most * (place_count count - later)) ≡ (if b then most * (4 * (kinds * (count - 1 - place / count) + unkept) + 2 * count) else most * (place_count count - place))
+      go true behind = ap (λ (source : ℕ). most * (4 * (kinds * (count - 1 - source) + unkept) + 2 * count)) over-source
+      go false behind = ap (λ (n : ℕ). most * (place_count count - n)) (behind refl)
+
+-- as much is due at a later place of the same source
+pub due_from-over : (lists : EstateLists) (folding : Folding) (place later : ℕ) (kept : List (Option (List KeptConns))) → IsOfSameSource (length folding.workloads) place later → due_from lists folding later kept ≡ due_from lists folding place kept
+unfolding due_from
+due_from-over lists folding place later kept same = over-due (length folding.workloads) place later same folding.kind_count (most_rules lists folding) (folding.kind_count - kept_count kept)

@@ -22,13 +22,13 @@ use Rattle.np_policies.specs.declared.direction.Direction.{Direction}
 use Rattle.np_policies.specs.declared.direction.Direction.TheVariants.{Egress, Ingress}
 use Rattle.np_table.proofs.RangeSets.{conns_of-agrees, conns_of-has_spot}
 use Rattle.np_table.specs.Right.{are_same_conns, conns_of}
-use Rattle.np_table.proofs.DueLemmas.{greatest-at, same_source, source-behind}
+use Rattle.np_table.proofs.DueLemmas.{greatest-at, over-source, same_source, source-behind}
 use Rattle.np_table.proofs.KeptLemmas.{kept_count-below}
 use Rattle.np_table.proofs.PairLemmas.{first_there, in_workloads, pair_allows-alone, pair_allows-kinds, pod_there, source-within}
 use Rattle.np_table.specs.Kept.{IsKept, KeepsAlso, KeepsTheSame, kept_at, kept_count, kept_of, row_with}
 use Rattle.np_table.specs.Rows.{is_nothing, pair_key, pair_rows, row_if, rows_in, rows_of_both}
 use Rattle.np_table.specs.Table.{is_alone, pair_allows, source_pod, table_of}
-use Rattle.np_table.specs.ToCome.{most_rules, rules_of}
+use Rattle.np_table.specs.ToCome.{IsOfSameSource, most_rules, rules_of}
 use Rattle.np_table.specs.declared.kept.KeptConns.{KeptConns}
 use Rattle.np_table.specs.declared.rows.Row.{Row}
 use Rattle.np_table.specs.declared.rows.RowKey.{RowKey}
@@ -238,3 +238,8 @@ IsKept-same_source lists folding place kept below more is =
 pub IsKept-behind : (lists : EstateLists) (folding : Folding) (place : ℕ) (kept : List (Option (List KeptConns))) → length folding.workloads * length folding.workloads ≤ place → IsKept lists folding (place / length folding.workloads) kept
 unfolding IsKept
 IsKept-behind lists folding place kept up destination conns near far alone is = absurd (source-behind (length folding.workloads) place up near)
+
+-- for a later place of the same source the same is kept
+pub IsKept-over : (lists : EstateLists) (folding : Folding) (place later : ℕ) (kept : List (Option (List KeptConns))) → IsOfSameSource (length folding.workloads) place later → IsKept lists folding (place / length folding.workloads) kept → IsKept lists folding (later / length folding.workloads) kept
+IsKept-over lists folding place later kept same is =
+    subst (λ (source : ℕ). IsKept lists folding source kept) (sym (over-source (length folding.workloads) place later same)) is

@@ -194,3 +194,26 @@ made-ready lists folding [] more rows place empty below made to_come =
     ∙ sym (rows_from-next table place (subst (λ (n : ℕ). place < place_count n) (sym (names-are lists folding)) below))
     ∙ to_come
 made-ready lists folding (row ∷ ready) more rows place empty below made to_come = absurd (omega (arith, empty))
+
+-- ---- places that are passed over
+
+-- a pair without rows
+pub rows_from-over : (lists : EstateLists) (folding : Folding) (source destination count : ℕ) → count ≡ length folding.workloads → source < count → destination < count → [] ≡ pair_rows (table_of lists folding) source destination → rows_from (table_of lists folding) (source * count + (destination + 1)) ≡ rows_from (table_of lists folding) (source * count + destination)
+rows_from-over lists folding source destination count is low below none =
+    let table = table_of lists folding in
+    let place = source * count + destination in
+    let more : (source + 1) * count ≤ count * count = mul-le-mul_right count (let up : source + 1 ≤ count = omega (arith, low) in up) in
+    let up : place < count * count = omega (arith, more, below) in
+    let within : place < place_count (length table.names) = subst (λ n. place < place_count n) (is ∙ sym (names-are lists folding)) (let all : place < place_count count = omega (arith, up) in all) in
+    let here : rows_at table place ≡ [] =
+    rows_at-pair lists folding place count is up
+    ∙ ap (λ s. pair_rows table s (place % count)) (div-mul-add source count destination below)
+    ∙ ap (pair_rows table source) (mod-mul-add source count destination below)
+    ∙ sym none in
+    ap (rows_from table) (let same : source * count + (destination + 1) ≡ place + 1 = omega arith in same)
+    ∙ ap (λ rows. rows ++ rows_from table (place + 1)) (sym here)
+    ∙ sym (rows_from-next table place within)
+
+-- what is to come is what was, where nothing is ready
+pub passed-over : (lists : EstateLists) (folding : Folding) (ready rows : List Row) (place later : ℕ) → rows_from (table_of lists folding) later ≡ rows_from (table_of lists folding) place → reverse ready ++ rows_from (table_of lists folding) place ≡ rows → reverse ready ++ rows_from (table_of lists folding) later ≡ rows
+passed-over lists folding ready rows place later same to_come = ap (λ (more : List Row). reverse ready ++ more) same ∙ to_come

@@ -7,7 +7,7 @@ use crate::described::{counts, number_named, numbers_of_pods, relevant, size, wo
 use crate::lists::{List, list_text};
 use crate::question::Question;
 use crate::seen::{blocks, keys, traits};
-use crate::tables::{pair_rows_text, pair_set_text, ranges_text, rows_text};
+use crate::tables::{pair_rows_text, pair_set_text, ranges_text, rows_text, silence_text};
 use np_base::NoMemory;
 use np_estate::Estate;
 use np_fold::Folded;
@@ -100,6 +100,7 @@ fn answer_with<L: Ledger>(
         Question::PairRows(source, destination) => {
             pair_rows_text(alloc, folded, source, destination, steps)
         }
+        Question::Silent(source, destination) => silence_text(alloc, folded, source, destination),
         Question::Ranges(workload, direction) => {
             ranges_text(alloc, folded, workload, direction, steps)
         }

@@ -69,6 +69,62 @@ fn rows_of_two_workloads(rt: HostRuntime) {
     expect_answers(&rt, rt.alloc(), List::Of(PODS, POLICY), WANTED);
 }
 
+// Pods of which `x` is isolated. It may receive from `y`, and may send to `z` by an admin rule that allows in one family.
+static ISOLATED: &[Pod] = &[
+    Pod { name: "w", ..BARE },
+    Pod {
+        name: "x",
+        labels: r#""app":"x""#,
+        ..BARE
+    },
+    Pod {
+        name: "y",
+        labels: r#""app":"y""#,
+        ..BARE
+    },
+    Pod {
+        name: "z",
+        addresses: r#"{"ip":"10.0.0.3"},{"ip":"fd00::3"}"#,
+        ..BARE
+    },
+];
+
+static LETS: &[&str] = &[
+    concat!(
+        r#"{"apiVersion":"networking.k8s.io/v1","kind":"NetworkPolicy","metadata":{"name":"p"},"spec":{"#,
+        r#""podSelector":{"matchLabels":{"app":"x"}},"policyTypes":["Ingress","Egress"],"ingress":["#,
+        r#"{"from":[{"podSelector":{"matchLabels":{"app":"y"}}}],"ports":[{"port":5432}]}]}}"#,
+    ),
+    concat!(
+        r#"{"apiVersion":"policy.networking.k8s.io/v1alpha1","kind":"AdminNetworkPolicy","metadata":{"name":"n"},"spec":{"#,
+        r#""priority":1,"subject":{"namespaces":{}},"egress":["#,
+        r#"{"action":"Allow","to":[{"networks":["fd00::3/128"]}]}]}}"#,
+    ),
+];
+
+// Only of kinds of which one does not let the other through at all it is known that nothing passes.
+#[test]
+fn kinds_that_stay_silent(rt: HostRuntime) {
+    static WANTED: &[(Question, &str)] = &[
+        (Question::Silent(0, 1), "nothing"),
+        (Question::Silent(1, 0), "nothing"),
+        (Question::Silent(2, 1), "may pass"),
+        (Question::Silent(3, 1), "nothing"),
+        (Question::Silent(1, 3), "may pass"),
+        (Question::Silent(0, 3), "may pass"),
+        (Question::PairRows(1, 0), ""),
+        (
+            Question::PairRows(2, 1),
+            "default/y[Pod] => default/x[Pod] : TCP 5432\n",
+        ),
+        (
+            Question::PairRows(1, 3),
+            "default/x[Pod] => default/z[Pod] (IPv6) : All Connections\n",
+        ),
+    ];
+    expect_answers(&rt, rt.alloc(), List::Of(ISOLATED, LETS), WANTED);
+}
+
 // Pods with addresses of both families. Nobody may send to TCP 80 of `b` in IPv6, nor anything to `c` in IPv4.
 static DUAL: &[Pod] = &[
     Pod {

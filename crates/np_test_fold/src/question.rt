@@ -28,6 +28,8 @@ pub enum Question {
     PairSet(u32, u32, Family),
     /// The rows of two workloads.
     PairRows(u32, u32),
+    /// Whether it is known of the kinds of two workloads that nothing passes from the one to the other.
+    Silent(u32, u32),
     /// A line for each range of addresses: what passes between it and a workload.
     Ranges(u32, Direction),
     /// What so many calls for the rows of the table give, one after another.

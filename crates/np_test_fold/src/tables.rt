@@ -10,7 +10,7 @@ use np_fold::Folded;
 use np_policies::Direction;
 use np_report::{Report, row_text};
 use np_steps::Steps;
-use np_table::{Row, Rows, address_rows, pair_rows, pair_set};
+use np_table::{KindReach, Row, Rows, address_rows, pair_rows, pair_set};
 use std::alloc::Global;
 use std::sync::ledger::Ledger;
 
@@ -55,6 +55,25 @@ pub fn pair_rows_text<L: Ledger>(
         text.push_str(line(alloc, folded, row)?.as_str())?;
     }
     Ok(text)
+}
+
+/// Whether it is known that nothing passes between the workloads of two numbers.
+pub fn silence_text(
+    alloc: Global,
+    folded: &Folded,
+    source: u32,
+    destination: u32,
+) -> Result<String, NoMemory> {
+    if source >= folded.workloads().count() || destination >= folded.workloads().count() {
+        return Ok(String::from_str(alloc, "no such workload")?);
+    }
+    let reach = KindReach::of(alloc, folded)?;
+    let told = if reach.is_silent(folded, source, destination) {
+        "nothing"
+    } else {
+        "may pass"
+    };
+    Ok(String::from_str(alloc, told)?)
 }
 
 /// The ranges of addresses of the workload of a number.

@@ -6,7 +6,7 @@ use Rattle.np_fold.specs.Workloads.{Folding, folding_of}
 use Rattle.np_policies.specs.declared.direction.Direction.TheVariants.{Egress, Ingress}
 use Rattle.np_table.proofs.KindLemmas.{IsKept-also, IsKept-same, kind-there, kind-within, none_kept, pair-counted, pair-due, pair_rows-alone, rows-kept}
 use Rattle.np_table.proofs.SetLemmas.{OnErr-from}
-use Rattle.np_table.proofs.SideLemmas.{side-within, sides-stand}
+use Rattle.np_table.proofs.SideLemmas.{side-within, sides-stand, silent-rows}
 use Rattle.np_table.proofs.rows_by_kind.rows_by_kind.Goals as goal
 use Rattle.np_table.specs.Kept.{kept_at}
 use Rattle.np_table.specs.Right.{conns_of}
@@ -17,6 +17,13 @@ use Rattle.np_table.specs.declared.rows.RowKey.{RowKey}
 pub returns-then-is_alone-clause-rows : goal.returns-then-is_alone-clause-rows
 returns-then-is_alone-clause-rows g c =
     c.new.ensures ∙ pair_rows-alone c.args.folded.now (folding_of c.args.folded.now) c.args.source c.args.destination (rw c.workloads-workloads.ensures.value at (sym c.is_alone.ensures ∙ c.if-is_alone.true))
+
+pub is_silent-requires-clause-reach : goal.is_silent-requires-clause-reach
+is_silent-requires-clause-reach g c = c.requires.rules.reach
+
+pub returns-then-is_silent-clause-rows : goal.returns-then-is_silent-clause-rows
+returns-then-is_silent-clause-rows g c =
+    c.new.ensures ∙ silent-rows c.args.folded.now c.args.source c.args.destination (c.is_silent.ensures c.if-is_silent.true)
 
 pub kind_of-kind-requires : goal.kind_of-kind-requires
 kind_of-kind-requires g c = rw c.workloads-workloads.ensures.value (kind-there c.args.folded.now (folding_of c.args.folded.now) c.args.destination refl c.requires.destination)

@@ -39,3 +39,12 @@ returns-clause-set g c =
 
 pub returns-clause-least : goal.returns-clause-least
 returns-clause-least g c = c.set_between.ensures.least
+
+pub is_silent-requires-clause-reach : goal.is_silent-requires-clause-reach
+is_silent-requires-clause-reach g c = c.self.invariant.2
+
+pub is_silent-requires-clause-source : goal.is_silent-requires-clause-source
+is_silent-requires-clause-source g c = subst (λ (l : EstateLists). c.args.source < number_of_workloads l) (sym c.self.view_is) c.requires.source
+
+pub is_silent-requires-clause-destination : goal.is_silent-requires-clause-destination
+is_silent-requires-clause-destination g c = subst (λ (l : EstateLists). c.args.destination < number_of_workloads l) (sym c.self.view_is) c.requires.destination

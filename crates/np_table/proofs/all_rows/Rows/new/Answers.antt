@@ -16,10 +16,7 @@ invariant_of-result c = (
     few = rw c.nothing-2.ensures (omega arith);
     keeps = rw c.nothing-2.ensures (IsKept-nothing c.args.folded.now (folding_of c.args.folded.now) _);
   },
-  record {
-    senders = λ some. absurd (omega (arith, some, c.nothing.ensures.senders));
-    receivers = λ some. absurd (omega (arith, some, c.nothing.ensures.receivers));
-  },
+  λ some. absurd (omega (arith, some, c.nothing.ensures)),
 )
 
 pub returns-clause-rows : goal.returns-clause-rows
