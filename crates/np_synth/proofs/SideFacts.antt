@@ -6,6 +6,8 @@ use Rattle.std.proofs.lemmas.List.FromFn.{length-range_with_len}
 use Rattle.std.proofs.lemmas.Option.{get_or_from_slice_get}
 use Rattle.np_addr.specs.declared.address.Family.{Family}
 use Rattle.np_classes.specs.Classes.{places}
+use Rattle.np_conns.specs.Conns.{Conns, IsConns, has_spot}
+use Rattle.np_conns.specs.declared.port_spot.PortSpot.{PortSpot}
 use Rattle.np_estate.specs.declared.lists.EstateLists.{EstateLists}
 use Rattle.np_fold.specs.Workloads.{folding_of, members_of}
 use Rattle.np_policies.specs.declared.direction.Direction.{Direction}
@@ -15,9 +17,10 @@ use Rattle.np_synth.proofs.GroupLemmas.{get-map}
 use Rattle.np_synth.specs.Faults.{family_of_list, set_in, set_of}
 use Rattle.np_table.proofs.PairLemmas.{pair_allows-between}
 use Rattle.np_table.proofs.RangeSets.{conns_of-agrees}
+use Rattle.np_table.proofs.SetLemmas.{conns_of-set}
 use Rattle.np_table.specs.PairRules.{AreEnds, first_side}
 use Rattle.np_table.specs.Right.{conns_of}
-use Rattle.np_table.specs.Table.{between_pods, destination_pod, is_alone, number_of_workloads, source_pod}
+use Rattle.np_table.specs.Table.{between_pods, destination_pod, is_alone, number_of_workloads, pair_allows, source_pod}
 
 -- there is a side for each workload
 pub sides-count : (lists : EstateLists) (direction : Direction) (sides : List PodSide) → sides ≡ map (first_side lists direction) (places (number_of_workloads lists)) → length sides ≡ number_of_workloads lists
@@ -52,3 +55,11 @@ sides-set lists sender receiver source destination family sends receives is apar
     ∙ ap (λ (r : PodSide). conns_of (between_pods lists (source_pod (folding_of lists) source) r.pod family)) receives
     ∙ firsts-set lists source destination family apart
     ∙ ap (λ (f : Family). set_in lists f source destination) is
+
+-- ---- workloads between which nothing passes
+
+-- nothing is what passes between them
+pub silent-set : (lists : EstateLists) (made : Conns) (source destination : ℕ) → IsConns made → ((spot : PortSpot) → has_spot made spot ≡ false) → ((family : Family) (spot : PortSpot) → pair_allows lists (folding_of lists) source destination family spot ≡ false) → made ≡ set_of lists source destination
+unfolding set_in
+silent-set lists made source destination well none silent =
+    conns_of-set made (pair_allows lists (folding_of lists) source destination (family_of_list lists)) well (λ spot is. none spot ∙ sym (silent (family_of_list lists) spot))

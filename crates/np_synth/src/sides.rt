@@ -91,7 +91,8 @@ impl<'a> Sides<'a> {
         ensures least { steps.old ≤ steps.new }
     {
         if self.reach.is_silent(self.folded, source, destination) {
-            return ConnSet::nothing(self.alloc);
+            let nothing = ConnSet::nothing(self.alloc)?;
+            return Ok(nothing);
         }
         let sender = &self.senders[source as usize];
         let receiver = &self.receivers[destination as usize];

@@ -2,7 +2,7 @@ use Rattle.std.proofs.Common.{◌<◌, arith, sym, ap, subst, ◌∙◌}
 use Rattle.std.proofs.lemmas.Result.{IfOk-weaker}
 use Rattle.np_estate.specs.declared.lists.EstateLists.{EstateLists}
 use Rattle.np_policies.specs.declared.direction.Direction.TheVariants.{Egress, Ingress}
-use Rattle.np_synth.proofs.SideFacts.{side-at, sides-count, sides-ends, sides-set}
+use Rattle.np_synth.proofs.SideFacts.{side-at, sides-count, sides-ends, sides-set, silent-set}
 use Rattle.np_synth.proofs.sides.Sides.between.Goals as goal
 use Rattle.np_synth.specs.Faults.{set_of}
 use Rattle.np_table.specs.Table.{number_of_workloads}
@@ -48,3 +48,8 @@ is_silent-requires-clause-source g c = subst (λ (l : EstateLists). c.args.sourc
 
 pub is_silent-requires-clause-destination : goal.is_silent-requires-clause-destination
 is_silent-requires-clause-destination g c = subst (λ (l : EstateLists). c.args.destination < number_of_workloads l) (sym c.self.view_is) c.requires.destination
+
+pub returns-then-is_silent-clause-set : goal.returns-then-is_silent-clause-set
+returns-then-is_silent-clause-set g c =
+    silent-set c.self.inside.folded.now c.in_ok-nothing.nothing c.args.source c.args.destination c.in_ok-nothing.ensures.well c.in_ok-nothing.ensures.members (c.is_silent.ensures c.if-is_silent.true)
+    ∙ ap (λ (l : EstateLists). set_of l c.args.source c.args.destination) c.self.view_is
