@@ -1,21 +1,52 @@
 -- What a pod's row says of each far end.
-use Rattle.std.proofs.Common.{◌≡◌, ℕ, zero, suc, ◌+◌, ◌<◌, List, [], ◌∷◌, Bool, true, false, ◌&&◌, ◌||◌, not, map, length, option_and_then, slice_get, unwrap_or, Option, Some, None, arith, refl, sym, ap, ◌∙◌}
+use Rattle.std.proofs.Common.{◌≡◌, ℕ, zero, suc, ◌+◌, ◌<◌, List, [], ◌∷◌, ◌++◌, Bool, true, false, ◌&&◌, ◌||◌, not, map, length, take, get_or, option_and_then, slice_get, unwrap_or, Option, Some, None, arith, refl, sym, ap, ◌∙◌}
 use Rattle.std.specs.Prelude.{All}
 use Rattle.std.specs.List.{list_any, range_with_len}
 use Rattle.std.specs.Option.{option_map}
+use Rattle.std.proofs.lemmas.List.{map-append, take_more}
+use Rattle.std.proofs.lemmas.List.FromFn.{map-range_with_len_more}
 use Rattle.std.proofs.lemmas.Option.{slice_get-map}
 use Rattle.np_estate.specs.declared.lists.EstateLists.{EstateLists}
 use Rattle.np_policies.specs.declared.direction.Direction.{Direction}
-use Rattle.np_reach.specs.Reach.{has_place, may_at, may_reach, reach_of}
+use Rattle.np_reach.specs.Reach.{admin_reaches, has_place, may_at, may_reach, net_reaches, reach_of}
 use Rattle.np_rules.specs.Ends.{PodEnd, pod}
+use Rattle.np_rules.specs.NetTier.{is_isolated}
+use Rattle.np_rules.specs.Selection.{net_selects, subject_selects}
 
 -- what is made of places is what is made of the items there
 pub by_place : {X Y : Type 0} (f : ℕ → Y) (g : X → Y) (xs : List X) → ((place : ℕ) (x : X) → slice_get xs place ≡ Some x → f place ≡ g x) → map f (range_with_len 0 (length xs)) ≡ map g xs
-by_place f g xs same = from f g 0 xs same
+by_place f g xs same = from f g 0 xs (λ place x at. ap f (let is : 0 + place ≡ place = omega arith in is) ∙ same place x at)
   where
     from : {X Y : Type 0} (f : ℕ → Y) (g : X → Y) (n : ℕ) (xs : List X) → ((place : ℕ) (x : X) → slice_get xs place ≡ Some x → f (n + place) ≡ g x) → map f (range_with_len n (length xs)) ≡ map g xs
     from f g n [] same = refl
-    from f g n (x ∷ xs) same = rw (same 0 x refl) (ap (λ ys. g x ∷ ys) (from f g (n + 1) xs (λ place y at. same (suc place) y at)))
+    from {X} {Y} f g n (x ∷ xs) same =
+        ap (λ (y : Y). y ∷ map f (range_with_len (n + 1) (length xs))) (ap f (let is : n ≡ n + zero = omega arith in is) ∙ same zero x refl)
+        ∙ ap (λ (ys : List Y). g x ∷ ys) (from f g (n + 1) xs (λ place y at. ap f (let is : n + 1 + place ≡ n + suc place = omega arith in is) ∙ same (suc place) y at))
+
+-- one place more
+pub place_more : {Y : Type 0} (f : ℕ → Y) (place : ℕ) (made new : List Y) (y : Y) → new ≡ made ++ y ∷ [] → made ≡ map f (range_with_len 0 place) → y ≡ f place → new ≡ map f (range_with_len 0 (place + 1))
+place_more {Y} f place made new y pushed so_far is =
+    pushed
+    ∙ ap (λ (ys : List Y). ys ++ y ∷ []) so_far
+    ∙ ap (λ (last : Y). map f (range_with_len 0 place) ++ last ∷ []) is
+    ∙ sym (map-range_with_len_more f 0 place place (omega arith))
+
+-- one item more
+pub item_more : {X Y : Type 0} (f : X → Y) (xs : List X) (i : ℕ) (x : X) (made new : List Y) (y : Y) → i < length xs → x ≡ get_or xs i x → new ≡ made ++ y ∷ [] → made ≡ map f (take i xs) → y ≡ f x → new ≡ map f (take (i + 1) xs)
+item_more {X} {Y} f xs i x made new y within at pushed so_far is =
+    pushed
+    ∙ ap (λ (ys : List Y). ys ++ y ∷ []) so_far
+    ∙ ap (λ (last : Y). map f (take i xs) ++ last ∷ []) is
+    ∙ sym (ap (map f) (take_more xs i x within ∙ ap (λ (last : X). take i xs ++ last ∷ []) (sym at)) ∙ map-append f (take i xs) (x ∷ []))
+
+-- one policy more
+pub policy_more : {O P : Type 0} (policy_of : O → P) (policies : List P) (i : ℕ) (policy : P) (made new : List O) (one : O) → i < length policies → policy ≡ get_or policies i policy → new ≡ made ++ one ∷ [] → map policy_of made ≡ take i policies → policy_of one ≡ policy → map policy_of new ≡ take (i + 1) policies
+policy_more {O} {P} policy_of policies i policy made new one within at pushed so_far is =
+    ap (map policy_of) pushed
+    ∙ map-append policy_of made (one ∷ [])
+    ∙ ap (λ (ps : List P). ps ++ policy_of one ∷ []) so_far
+    ∙ ap (λ (last : P). take i policies ++ last ∷ []) (is ∙ at)
+    ∙ sym (take_more policies i policy within)
 
 -- the mark at a place is what is said of the item there
 pub mark_at : {X : Type 0} (speaks : X → Bool) (xs : List X) (place : ℕ) (x : X) → slice_get xs place ≡ Some x → has_place (map speaks xs) place ≡ speaks x
@@ -29,7 +60,30 @@ marked_by {P} {X} {O} policy_of far_of picks speaks policies xs place x made are
     go [] far = refl
     go (one ∷ made) far =
         ap (λ b. picks (policy_of one) && b || list_any (λ one. picks (policy_of one) && has_place (far_of one) place) made) (ap (λ marks. has_place marks place) (far 0 one (omega arith)) ∙ mark_at (speaks (policy_of one)) xs place x at)
-        ∙ ap (λ b. picks (policy_of one) && speaks (policy_of one) x || b) (go made (λ i d within. far (i + 1) d (omega arith)))
+        ∙ ap (λ b. picks (policy_of one) && speaks (policy_of one) x || b) (go made (λ i d within. far (suc i) d (omega arith)))
+
+-- a row of a pod
+pub row_right : {X C : Type 0} (lists : EstateLists) (direction : Direction) (near : PodEnd) (end_of : X → PodEnd) (pods : List X) (isolated : Bool) (marks_of : C → List Bool) (chosen : List C) → isolated ≡ is_isolated lists.net_policies direction near → ((place : ℕ) (x : X) → slice_get pods place ≡ Some x → list_any (λ one. has_place (marks_of one) place) chosen ≡ (list_any (λ policy. net_selects policy near && net_reaches direction (pod (end_of x)) policy) lists.net_policies || list_any (λ policy. subject_selects policy.subject near && admin_reaches direction (pod (end_of x)) policy) lists.admin_policies)) → map (λ place. not isolated || list_any (λ one. has_place (marks_of one) place) chosen) (range_with_len 0 (length pods)) ≡ map (λ far. may_reach lists direction near (pod (end_of far))) pods
+unfolding may_reach
+row_right lists direction near end_of pods isolated marks_of chosen isolates speaks =
+    by_place (λ place. not isolated || list_any (λ one. has_place (marks_of one) place) chosen) (λ far. may_reach lists direction near (pod (end_of far))) pods (λ place x at.
+    ap (λ (b : Bool). not b || list_any (λ one. has_place (marks_of one) place) chosen) isolates
+    ∙ ap (λ (b : Bool). not (is_isolated lists.net_policies direction near) || b) (speaks place x at))
+
+-- what is chosen of the ones and of the others
+pub both_chosen : (none first both net net' admin admin' : Bool) → none ≡ false → first ≡ (none || net) → both ≡ (first || admin) → net ≡ net' → admin ≡ admin' → both ≡ (net' || admin')
+both_chosen none first both net net' admin admin' nothing one other is is' = rw (other, one, nothing, is, is') refl
+
+-- rows of items by what is seen of them
+pub seen_rows : {X Q : Type 0} (f : Q → Q → Bool) (seen : X → Q) (all xs : List X) → map (λ near. map (λ far. f (seen near) (seen far)) all) xs ≡ map (λ near. map (λ far. f near far) (map seen all)) (map seen xs)
+seen_rows f seen all [] = refl
+seen_rows {X} {Q} f seen all (x ∷ xs) =
+    ap (λ (row : List Bool). row ∷ map (λ near. map (λ far. f (seen near) (seen far)) all) xs) (seen_row (f (seen x)) all)
+    ∙ ap (λ (rows : List (List Bool)). map (λ far. f (seen x) far) (map seen all) ∷ rows) (seen_rows f seen all xs)
+  where
+    seen_row : (g : Q → Bool) (ys : List X) → map (λ far. g (seen far)) ys ≡ map (λ far. g far) (map seen ys)
+    seen_row g [] = refl
+    seen_row g (y ∷ ys) = ap (λ (row : List Bool). g (seen y) ∷ row) (seen_row g ys)
 
 -- what is known of two of the pods
 pub may_at-of : (lists : EstateLists) (direction : Direction) (pods : List PodEnd) (near far : ℕ) (p q : PodEnd) → slice_get pods near ≡ Some p → slice_get pods far ≡ Some q → may_at (reach_of lists direction pods) near far ≡ may_reach lists direction p (pod q)

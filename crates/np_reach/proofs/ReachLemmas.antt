@@ -1,5 +1,5 @@
 -- A side allows nothing with a far end that is out of its reach.
-use Rattle.std.proofs.Common.{◌≡◌, ℕ, List, [], ◌∷◌, ◌++◌, Bool, true, false, ◌&&◌, ◌||◌, not, filter, unwrap_or, Option, Some, None, refl, sym, ap, ◌∙◌, if◌then◌else◌}
+use Rattle.std.proofs.Common.{◌≡◌, ℕ, List, [], ◌∷◌, ◌++◌, Bool, true, false, ◌&&◌, ◌||◌, not, filter, unwrap_or, Option, Some, None, refl, sym, ap, ◌∙◌, inl, inr, if◌then◌else◌}
 use Rattle.std.specs.List.{list_any}
 use Rattle.std.proofs.lemmas.Bool.{and_left, or_parts, or_from}
 use Rattle.std.proofs.lemmas.List.Folds.{list_any-append}
@@ -106,19 +106,16 @@ among_quiet : (contact : Contact) (items : List PlacedAdminRule) (found : Placed
 among_quiet contact [] found none among = absurd among
 among_quiet contact (item ∷ items) found none among =
     let parts = or_parts (lets_placed contact item) (list_any (lets_placed contact) items) none in
-    go (admin_rule_matches item.rule contact) parts.0 among
+    go (admin_rule_matches item.rule contact) parts.0 (among_quiet contact items found parts.1) among
   where
-    rest : IsAmong found (filter (λ placed. admin_rule_matches placed.rule contact) items) → is_allow found.rule.action ≡ false
-    rest = among_quiet contact items found (or_parts (lets_placed contact item) (list_any (lets_placed contact) items) none).1
-
     and_true : (b : Bool) → (b && true) ≡ false → b ≡ false
     and_true true is = is
     and_true false is = refl
 
-    go : (b : Bool) → (is_allow item.rule.action && b) ≡ false → IsAmong found (if b then item ∷ filter (λ placed. admin_rule_matches placed.rule contact) items else filter (λ placed. admin_rule_matches placed.rule contact) items) → is_allow found.rule.action ≡ false
-    go true silent (inl same) = ap (λ (placed : PlacedAdminRule). is_allow placed.rule.action) same ∙ and_true (is_allow item.rule.action) silent
-    go true silent (inr later) = rest later
-    go false silent later = rest later
+    go : (b : Bool) → (is_allow item.rule.action && b) ≡ false → (IsAmong found (filter (λ placed. admin_rule_matches placed.rule contact) items) → is_allow found.rule.action ≡ false) → IsAmong found (if b then item ∷ filter (λ placed. admin_rule_matches placed.rule contact) items else filter (λ placed. admin_rule_matches placed.rule contact) items) → is_allow found.rule.action ≡ false
+    go true silent rest (inl same) = ap (λ (placed : PlacedAdminRule). is_allow placed.rule.action) same ∙ and_true (is_allow item.rule.action) silent
+    go true silent rest (inr later) = rest later
+    go false silent rest later = rest later
 
 action_quiet : (action : Action) (below : Bool) → is_allow action ≡ false → below ≡ false → action_says action below ≡ false
 action_quiet Allow below silent none = silent

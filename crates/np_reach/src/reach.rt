@@ -85,16 +85,33 @@ fn row_of(
 {
     let mut row = Seq::new(alloc);
     for place in 0..count {
-        row.push(!isolated || some_has(chosen, place))?;
+        row.push(lets_through(isolated, chosen, place))?;
     }
     Ok(row)
 }
 
-// Whether some policy speaks of the pod at a place.
+// Whether the pod at a place is let through: by a pod that is not isolated each is.
+fn lets_through(isolated: bool, chosen: &[&[bool]], place: usize) -> bool
+    ensures { result ≡ (not isolated || list_any (λ far. spec.has_place far.now place) chosen.now) }
+{
+    !isolated || some_has(chosen, place)
+}
+
+// Whether some of the chosen marks a place.
 fn some_has(chosen: &[&[bool]], place: usize) -> bool
     ensures { result ≡ list_any (λ far. spec.has_place far.now place) chosen.now }
 {
-    chosen
-        .iter()
-        .any(|far| far.get(place).copied().unwrap_or(false))
+    for marks in chosen {
+        if has_place(marks, place) {
+            return true;
+        }
+    }
+    false
+}
+
+// Whether a place is marked.
+fn has_place(marks: &[bool], place: usize) -> bool
+    ensures { result ≡ spec.has_place marks.now place }
+{
+    marks.get(place).copied().unwrap_or(false)
 }
