@@ -41,7 +41,8 @@ use Rattle.np_synth.proofs.PortLemmas.{ports-match}
 use Rattle.np_synth.proofs.SelectLemmas.{meets-namespace_named, meets-selector_of}
 use Rattle.np_synth.specs.Faults.{flat_fault, is_defined, set_in}
 use Rattle.np_synth.specs.Flat.{egress_rules, flat_policy, flattened, group_namespace, group_peer, group_rows, ingress_rules, rule_if, rules_from_group, rules_from_groups, rules_of_addresses, rules_of_set, set_from}
-use Rattle.np_synth.specs.Groups.{are_together, first_end, first_of_group, group_count, group_of, look_alike, relevant}
+use Rattle.np_synth.specs.Groups.{are_together, first_of_group, group_count, group_of, look_alike, relevant}
+use Rattle.np_table.specs.PairRules.{first_end}
 use Rattle.np_synth.specs.Ports.{ports_of}
 use Rattle.np_synth.specs.steps.Seen.{seen}
 use Rattle.np_table.proofs.MemberLemmas.{member-number, members-some, members-within, not-alone, own-member, source-member}

@@ -24,7 +24,8 @@ use Rattle.np_fold.specs.declared.traits.Traits.{Traits}
 use Rattle.np_labels.specs.Labels.{value_of}
 use Rattle.np_rules.specs.Ends.{PodEnd, pod_end}
 use Rattle.np_rules.specs.Verdict.{pod_or_none}
-use Rattle.np_synth.specs.Groups.{are_together, first_end, group_firsts, group_of, have_same_value, look_alike, relevant}
+use Rattle.np_synth.specs.Groups.{are_together, group_firsts, group_of, have_same_value, look_alike, relevant}
+use Rattle.np_table.specs.PairRules.{first_end}
 use Rattle.np_synth.specs.steps.Seen.{seen, seen_at}
 use Rattle.np_table.specs.Table.{number_of_workloads}
 
@@ -70,13 +71,6 @@ get-map f n k below = slice_get-map f (places n) k ∙ ap (option_map f) (get-pl
 -- one more value of a function of places
 pub one_more : {X : Type 0} (f : ℕ → X) (n : ℕ) (made : List X) (x : X) → made ≡ map f (places n) → x ≡ f n → made ++ x ∷ [] ≡ map f (places (n + 1))
 one_more f n made x so_far here = rw (so_far, here) (sym (ap (map f) (places_more n) ∙ map-append f (places n) (n ∷ [])))
-
--- the pod at the first of some places, as rules see it
-pub pod-first : (pods all : List Pod) (members others : List ℕ) (a : Pod) → pods ≡ all → members ≡ others → slice_index members 0 < length pods → a ≡ get_or pods (slice_index members 0) a → pod_end a ≡ pod_or_none (slice_get all (slice_index others 0))
-pod-first pods all members others a same same' within is =
-    sym (ap pod_or_none (slice_get-get_or pods (slice_index members 0) a within ∙ ap (λ (x : Pod). Some x) (sym is)))
-    ∙ ap (λ (xs : List Pod). pod_or_none (slice_get xs (slice_index members 0))) same
-    ∙ ap (λ (ms : List ℕ). pod_or_none (slice_get all (slice_index ms 0))) same'
 
 -- being of one group is a relation of classes
 pub together-is : (lists : EstateLists) (count : ℕ) → IsAlike (are_together lists) count

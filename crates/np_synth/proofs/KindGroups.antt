@@ -28,7 +28,8 @@ use Rattle.np_synth.proofs.ClassFirsts.{class_first, first-in, first-listed, fir
 use Rattle.np_synth.proofs.DifferLemmas.{apart-defined, from_agree, own_rows, to_agree}
 use Rattle.np_synth.proofs.GroupLemmas.{together-is, values_decide}
 use Rattle.np_synth.specs.Faults.{differ, family_of_list, is_defined, is_unlike, set_in, set_of}
-use Rattle.np_synth.specs.Groups.{are_together, first_end, have_same_value, look_alike, relevant}
+use Rattle.np_synth.specs.Groups.{are_together, have_same_value, look_alike, relevant}
+use Rattle.np_table.specs.PairRules.{first_end}
 use Rattle.np_synth.specs.Pairs.{first_pair}
 use Rattle.np_synth.specs.steps.Unlike.{IsLeastUnlike, first_with}
 use Rattle.np_table.proofs.KindLemmas.{first_pod-there}

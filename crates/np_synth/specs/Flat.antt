@@ -13,7 +13,8 @@ use Rattle.np_policies.specs.declared.network_policy.NetPeer.TheVariants.{Pods, 
 use Rattle.np_policies.specs.declared.network_policy.NetPolicy.{NetPolicy}
 use Rattle.np_policies.specs.declared.network_policy.NetRule.{NetRule}
 use Rattle.np_synth.specs.Faults.{is_defined, set_of}
-use Rattle.np_synth.specs.Groups.{first_end, first_of_group, group_count, group_of, relevant}
+use Rattle.np_synth.specs.Groups.{first_of_group, group_count, group_of, relevant}
+use Rattle.np_table.specs.PairRules.{first_end}
 use Rattle.np_synth.specs.Ports.{ports_of}
 use Rattle.np_synth.specs.Selecting.{namespace_named, selector_of}
 use Rattle.np_table.specs.Rows.{address_rows, is_nothing}

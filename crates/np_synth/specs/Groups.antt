@@ -8,12 +8,8 @@ use Rattle.np_estate.specs.declared.lists.EstateLists.{EstateLists}
 use Rattle.np_fold.specs.Workloads.{folding_of}
 use Rattle.np_labels.specs.Labels.{value_of}
 use Rattle.np_rules.specs.Ends.{PodEnd}
-use Rattle.np_rules.specs.Verdict.{pod_at}
-use Rattle.np_table.specs.Table.{number_of_workloads, source_pod}
-
--- the first pod of a workload, as rules see it
-abbrev pub first_end : EstateLists → ℕ → PodEnd
-first_end lists workload = pod_at lists (source_pod (folding_of lists) workload)
+use Rattle.np_table.specs.PairRules.{first_end}
+use Rattle.np_table.specs.Table.{number_of_workloads}
 
 -- the keys of labels that selectors name, in ascending order
 abbrev pub relevant : EstateLists → List (List ℕ)

@@ -7,7 +7,6 @@ ghost use Rattle.np_synth.specs.steps.Next.{next_in};
 ghost use Rattle.np_table.specs.Table.{IsWorkload, number_of_workloads};
 
 use crate::address_rules::add_rules_of_addresses;
-use crate::groups::first_pod;
 use crate::policy_parts::{
     flat_name, is_nothing, peer_like, ports_of, rule_to_everyone, selector_of,
 };
@@ -18,7 +17,7 @@ use np_conns::ConnSet;
 use np_fold::Folded;
 use np_policies::{Direction, NetPolicy, NetRule};
 use np_steps::Steps;
-use np_table::address_rows;
+use np_table::{address_rows, first_pod};
 use std::marker::Model;
 use std::sync::ledger::Ledger;
 

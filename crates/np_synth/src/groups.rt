@@ -7,13 +7,14 @@ ghost use Rattle.np_classes.specs.Classes.{places};
 ghost use Rattle.np_rules.specs.Ends.{pod_end};
 ghost use Rattle.np_synth.specs.Groups as spec;
 ghost use Rattle.np_synth.specs.steps.Seen.{nobody, seen, seen_at};
-ghost use Rattle.np_table.specs.Table.{IsWorkload, number_of_workloads};
+ghost use Rattle.np_table.specs.Table.{number_of_workloads};
 
 use np_base::{NoMemory, Seq, Text};
 use np_classes::Classes;
 use np_estate::Pod;
 use np_fold::{Folded, Traits};
 use np_owners::Owner;
+use np_table::first_pod;
 use std::alloc::Global;
 
 /// The groups of the workloads of an estate: those of one namespace whose pods have the same values of all keys that some
@@ -60,13 +61,4 @@ fn nobody(alloc: Global) -> Result<Owner, NoMemory>
         kind: Text::of(alloc, "")?,
         name: Text::of(alloc, "")?,
     })
-}
-
-/// The first pod of a workload.
-pub(crate) fn first_pod(folded: &Folded, workload: u32) -> &Pod
-    requires { IsWorkload folded.now workload }
-    ensures { pod_end result.now ≡ spec.first_end folded.now workload }
-{
-    let place = folded.workloads().members(workload)[0];
-    &folded.estate().pods()[place as usize]
 }

@@ -115,7 +115,7 @@ due_from-start lists folding =
 -- ---- places
 
 -- the source of a place among the pairs is a workload
-source-below : (count place : ℕ) → place < count * count → place / count < count
+pub source-below : (count place : ℕ) → place < count * count → place / count < count
 source-below zero place below = absurd (omega (arith, below))
 source-below (suc n) place below = (div-lt_iff_lt-mul {k = suc n} {x = place} {y = suc n} (omega arith)).1 below
 

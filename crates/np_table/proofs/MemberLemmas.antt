@@ -1,5 +1,5 @@
 -- The pods of workloads.
-use Rattle.std.proofs.Common.{◌≡◌, ◌≢◌, ◌<◌, ◌==◌, ◌&&◌, ℕ, List, [], ◌∷◌, Bool, true, false, Option, Some, None, Contains, length, slice_index_or, slice_get, get_or, if◌then◌else◌, arith, refl, sym, subst, ◌∙◌, ap, eq-eqb, inl, inr}
+use Rattle.std.proofs.Common.{◌≡◌, ◌≢◌, ◌<◌, ◌==◌, ◌&&◌, ℕ, List, [], ◌∷◌, Bool, true, false, Option, Some, None, Contains, length, slice_index, slice_index_or, slice_get, get_or, if◌then◌else◌, arith, refl, sym, subst, ◌∙◌, ap, eq-eqb, inl, inr}
 use Rattle.std.specs.Option.{option_map_or}
 use Rattle.std.specs.Prelude.{IsSomeAnd}
 use Rattle.std.proofs.lemmas.Bool.{and_parts, eqb-true, false_from_ne_true}
@@ -10,6 +10,9 @@ use Rattle.std.proofs.lemmas.Option.{slice_get-get_or}
 use Rattle.np_estate.specs.declared.lists.EstateLists.{EstateLists}
 use Rattle.np_fold.specs.Workloads.{Folding, Workload, folding_of, has_member, members_of, number_of, workloads_of}
 use Rattle.np_fold.proofs.WorkloadLemmas.{first-is, member-by_number, number-in_workloads, pods-within}
+use Rattle.np_estate.specs.declared.pod.Pod.{Pod}
+use Rattle.np_rules.specs.Ends.{pod_end}
+use Rattle.np_rules.specs.Verdict.{pod_or_none}
 use Rattle.np_table.specs.Table.{destination_pod, is_alone, source_pod}
 
 -- ---- workloads have pods
@@ -116,3 +119,10 @@ not-alone folding a b p q has has' differ =
     let parts = and_parts (a == b) (length (members_of folding a) == 1) yes in
     let in_a : Contains (members_of folding a) q = subst (λ (n : ℕ). Contains (members_of folding n) q) (sym (eqb-true a b parts.0)) has' in
     two_in_one (members_of folding a) p q has in_a differ (eqb-true (length (members_of folding a)) 1 parts.1))
+
+-- the pod at the first of some places, as rules see it
+pub pod-first : (pods all : List Pod) (members others : List ℕ) (a : Pod) → pods ≡ all → members ≡ others → slice_index members 0 < length pods → a ≡ get_or pods (slice_index members 0) a → pod_end a ≡ pod_or_none (slice_get all (slice_index others 0))
+pod-first pods all members others a same same' within is =
+    sym (ap pod_or_none (slice_get-get_or pods (slice_index members 0) a within ∙ ap (λ (x : Pod). Some x) (sym is)))
+    ∙ ap (λ (xs : List Pod). pod_or_none (slice_get xs (slice_index members 0))) same
+    ∙ ap (λ (ms : List ℕ). pod_or_none (slice_get all (slice_index ms 0))) same'

@@ -1,5 +1,5 @@
 -- The sides of the pods that stand for workloads, and of those that stand for kinds.
-use Rattle.std.proofs.Common.{◌≡◌, ◌<◌, ◌≤◌, ◌+◌, ◌-◌, ◌*◌, ◌^◌, ℕ, zero, suc, List, [], Bool, true, false, ◌&&◌, Some, None, map, length, slice_get, slice_index, take, lit≤, arith, refl, sym, ap, subst, ◌∙◌, ◌⊎◌, inl, inr, if◌then◌else◌}
+use Rattle.std.proofs.Common.{◌≡◌, ◌<◌, ◌≤◌, ◌+◌, ◌-◌, ◌*◌, ◌^◌, ℕ, zero, suc, List, [], Bool, true, false, ◌&&◌, Some, None, map, not, length, slice_get, slice_index, take, lit≤, arith, refl, sym, ap, subst, ◌∙◌, ◌⊎◌, inl, inr, if◌then◌else◌}
 use Rattle.std.specs.Prelude.{All}
 use Rattle.std.specs.Option.{option_map}
 use Rattle.std.proofs.Math.Seq.{take-length}
@@ -31,7 +31,7 @@ use Rattle.np_table.proofs.RangeOneList.{walk-agrees}
 use Rattle.np_table.proofs.RangeSets.{conns_of-agrees}
 use Rattle.np_table.proofs.SetLemmas.{conns_of-set}
 use Rattle.np_table.specs.PairRules.{AreEnds, AreOfKinds, IsKindReach, IsReach, first_end, first_side, rules_of_pair, side_with_address, sides_of_kinds}
-use Rattle.np_table.specs.steps.PairSides.{ends_of, side_allows_pod, sides_at}
+use Rattle.np_table.specs.steps.PairSides.{ends_of, may_pass, side_allows_pod, sides_at}
 use Rattle.np_table.specs.Right.{conns_of}
 use Rattle.np_table.specs.Rows.{address_rows, pair_key, pair_rows, rows_in, rows_of_addresses}
 use Rattle.np_table.specs.Table.{IsWorkload, address_allows, between_pods, estate_table, is_alone, pair_allows, source_pod, table_of}
@@ -232,9 +232,9 @@ unfolding IsReach
 reach-nothing lists direction zero far workload peer near_is far_is out contact far_end = absurd (cc)
 reach-nothing lists direction (suc near) far workload peer near_is far_is out contact far_end = absurd (cc)
 
--- whether anything may pass between two kinds by what is known
-abbrev pub may_pass : KindReach → ℕ → ℕ → Bool
-may_pass reach near far = may_at reach.sent near far && may_at reach.received far near
+pub not_true : (b : Bool) → not b ≡ true → b ≡ false
+not_true true is = sym is
+not_true false is = refl
 
 and_either : (a b : Bool) → (a && b) ≡ false → (a ≡ false) ⊎ (b ≡ false)
 and_either true b is = inr is

@@ -138,10 +138,11 @@ fn pass_over(folded: &Folded, reach: &KindReach, place: u64) -> u64
     let source = place / count;
     let mut destination = place % count;
     while destination + 1 < count {
-        if !reach.is_silent(folded, source as u32, destination as u32) {
+        if reach.is_silent(folded, source as u32, destination as u32) {
+            destination += 1;
+        } else {
             break;
         }
-        destination += 1;
     }
     source * count + destination
 }

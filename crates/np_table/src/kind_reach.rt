@@ -7,6 +7,7 @@ ghost use Rattle.np_fold.specs.Workloads.{folding_of};
 ghost use Rattle.np_rules.specs.Ends.{pod_end};
 ghost use Rattle.np_table.specs.PairRules as spec;
 ghost use Rattle.np_table.specs.Table.{IsWorkload, pair_allows};
+ghost use Rattle.np_table.specs.steps.PairSides.{may_pass};
 
 use np_base::NoMemory;
 use np_estate::Pod;
@@ -57,8 +58,24 @@ impl KindReach {
         let workloads = folded.workloads();
         let near = workloads.kind_of(source);
         let far = workloads.kind_of(destination);
-        !(self.sent.may(near, far) && self.received.may(far, near))
+        !self.may_pass(near, far)
     }
+
+    // Whether anything may pass from a kind to another.
+    fn may_pass(&self, near: u32, far: u32) -> bool
+        ensures { result ≡ may_pass self.now near far }
+    {
+        self.sent.may(near, far) && self.received.may(far, near)
+    }
+}
+
+/// The first pod of a workload.
+pub fn first_pod(folded: &Folded, workload: u32) -> &Pod
+    requires { IsWorkload folded.now workload }
+    ensures { pod_end result.now ≡ spec.first_end folded.now workload }
+{
+    let place = folded.workloads().members(workload)[0];
+    &folded.estate().pods()[place as usize]
 }
 
 // The first pod of each kind.
@@ -66,12 +83,9 @@ fn first_pods(alloc: Global, folded: &Folded) -> Result<Vec<&Pod>, NoMemory>
     ensures { IfOk result (λ made. map (λ one. pod_end one.now) made.items
         ≡ map (spec.first_end folded.now) (folding_of folded.now).first_of_kinds) }
 {
-    let workloads = folded.workloads();
-    let pods = folded.estate().pods();
     let mut firsts = Vec::new(alloc);
-    for workload in workloads.first_of_kinds() {
-        let place = workloads.members(*workload)[0];
-        firsts.push(&pods[place as usize])?;
+    for workload in folded.workloads().first_of_kinds() {
+        firsts.push(first_pod(folded, *workload))?;
     }
     Ok(firsts)
 }

@@ -16,7 +16,7 @@ mod rules_by_kind;
 
 pub use all_rows::Rows;
 pub use kind_laws::{kinds_give_the_deciders, kinds_give_the_rule_counts, kinds_give_the_verdict};
-pub use kind_reach::KindReach;
+pub use kind_reach::{KindReach, first_pod};
 pub use laws::{
     kinds_give_the_pairs, no_row_with_itself, one_row_for_each_address,
     one_row_where_the_same_ports_pass, rows_say_what_passes, workloads_stand_for_their_pods,

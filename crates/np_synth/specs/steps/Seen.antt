@@ -6,7 +6,8 @@ use Rattle.np_fold.specs.Traits.{label_of}
 use Rattle.np_fold.specs.declared.traits.Traits.{Traits}
 use Rattle.np_owners.specs.declared.owner.Owner.{Owner}
 use Rattle.np_rules.specs.Ends.{PodEnd}
-use Rattle.np_synth.specs.Groups.{first_end, relevant}
+use Rattle.np_synth.specs.Groups.{relevant}
+use Rattle.np_table.specs.PairRules.{first_end}
 
 -- an owner of no name
 abbrev pub nobody : Owner

@@ -23,7 +23,7 @@ is_silent-requires-clause-reach g c = c.requires.rules.reach
 
 pub returns-then-is_silent-clause-rows : goal.returns-then-is_silent-clause-rows
 returns-then-is_silent-clause-rows g c =
-    c.new.ensures ∙ silent-rows c.args.folded.now c.args.source c.args.destination (c.is_silent.ensures c.if-is_silent.true)
+    c.new-then-is_silent.ensures ∙ silent-rows c.args.folded.now c.args.source c.args.destination (c.is_silent.ensures.silent c.if-is_silent.true)
 
 pub kind_of-kind-requires : goal.kind_of-kind-requires
 kind_of-kind-requires g c = rw c.workloads-workloads.ensures.value (kind-there c.args.folded.now (folding_of c.args.folded.now) c.args.destination refl c.requires.destination)

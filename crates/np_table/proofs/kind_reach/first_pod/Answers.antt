@@ -1,9 +1,8 @@
 use Rattle.std.proofs.Common.{◌<◌, length, slice_index, refl, ap, ◌∙◌}
 use Rattle.np_estate.specs.declared.lists.EstateLists.{EstateLists}
 use Rattle.np_fold.specs.Workloads.{Folding, folding_of, members_of}
-use Rattle.np_synth.proofs.GroupLemmas.{pod-first}
-use Rattle.np_synth.proofs.groups.first_pod.Goals as goal
-use Rattle.np_table.proofs.MemberLemmas.{members-some, members-within, source-member}
+use Rattle.np_table.proofs.MemberLemmas.{members-some, members-within, pod-first, source-member}
+use Rattle.np_table.proofs.kind_reach.first_pod.Goals as goal
 
 pub bounds-members-0 : goal.bounds-members-0
 bounds-members-0 c = rw (c.members.ensures, c.workloads.ensures.value) (members-some c.args.folded.now (folding_of c.args.folded.now) c.args.workload refl c.requires)
