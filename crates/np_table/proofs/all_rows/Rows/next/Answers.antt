@@ -3,6 +3,7 @@ use Rattle.std.proofs.lemmas.Bool.{eqb-true}
 use Rattle.np_fold.specs.Workloads.{folding_of}
 use Rattle.np_table.proofs.DueLemmas.{due_from-over, over-within}
 use Rattle.np_table.proofs.PlaceLemmas.{made-ready, nothing-left, passed-over}
+use Rattle.np_table.proofs.SetLemmas.{OnErr-from}
 use Rattle.np_table.proofs.all_rows.Rows.next.Goals as goal
 use Rattle.np_table.specs.ToCome.{RowsToCome}
 
@@ -34,3 +35,8 @@ loop-self-preserved g c =
       counted = omega (arith, c.in_ok-rows.ensures.counted, c.loop-self.invariant.counted, due_from-over c.loop-self.self-inside.folded.now folding c.loop-self.self-inside.place c.pass_over-self-inside.result c.loop-self.self-inside.kept same);
       least = omega (arith, c.in_ok-rows.ensures.least, c.loop-self.invariant.least);
     }
+
+pub returns-in_err-rows-clause-most : goal.returns-in_err-rows-clause-most
+returns-in_err-rows-clause-most g c =
+    let due = due_from-over c.loop-self.self-inside.folded.now (folding_of c.loop-self.self-inside.folded.now) c.loop-self.self-inside.place c.pass_over-self-inside.result c.loop-self.self-inside.kept c.pass_over-self-inside.ensures.source in
+    OnErr-from c.from_residual-in_err-rows.result _ (omega (arith, due, c.in_err-rows.ensures.most, c.loop-self.invariant.counted))
