@@ -7,7 +7,6 @@ use Rattle.np_policies.specs.declared.admin_policy.AdminPolicy.{AdminPolicy}
 use Rattle.np_policies.specs.declared.admin_policy.AdminRule.{AdminRule}
 use Rattle.np_policies.specs.declared.direction.Direction.{Direction}
 use Rattle.np_policies.specs.declared.network_policy.NetPolicy.{NetPolicy}
-use Rattle.np_policies.specs.declared.network_policy.NetRule.{NetRule}
 use Rattle.np_rules.specs.Ends.{End, PodEnd, pod}
 use Rattle.np_rules.specs.NetTier.{is_isolated}
 use Rattle.np_rules.specs.Peers.{admin_peer_matches, net_peer_matches}

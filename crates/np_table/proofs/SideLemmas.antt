@@ -22,7 +22,7 @@ use Rattle.np_policies.specs.declared.direction.Direction.TheVariants.{Egress, I
 use Rattle.np_reach.proofs.MarkLemmas.{may_at-of}
 use Rattle.np_reach.proofs.ReachLemmas.{out_of_reach}
 use Rattle.np_reach.specs.Reach.{may_at, may_reach, reach_of}
-use Rattle.np_rules.specs.Ends.{Contact, PodEnd, pod}
+use Rattle.np_rules.specs.Ends.{PodEnd, pod}
 use Rattle.np_rules.specs.PodSides.{PodSide, side_of, side_rule_count, with_pod}
 use Rattle.np_rules.specs.Verdict.{allows, pod_at}
 use Rattle.np_table.proofs.KindLemmas.{conns_of-nothing, first_pod-there, kinds-by, nothing, rows_in-agree, rows_in-nothing, rules-most}

@@ -1,10 +1,10 @@
-use Rattle.std.proofs.Common.{◌||◌, ◌&&◌, ◌≡◌, Bool, List, false, map, arith, refl, sym, ap, ◌∙◌}
+use Rattle.std.proofs.Common.{◌&&◌, map, arith, refl, ap, ◌∙◌}
 use Rattle.std.specs.List.{list_any}
 use Rattle.std.proofs.lemmas.List.{take_all}
 use Rattle.np_reach.proofs.MarkLemmas.{both_chosen, item_more, marked_by, row_right, seen_rows}
 use Rattle.np_reach.specs.Reach.{admin_reaches, has_place, may_reach, net_reaches}
 use Rattle.np_reach.proofs.reach.Reach.of.Goals as goal
-use Rattle.np_rules.specs.Ends.{PodEnd, pod, pod_end}
+use Rattle.np_rules.specs.Ends.{pod, pod_end}
 use Rattle.np_rules.specs.NetTier.{is_isolated}
 use Rattle.np_rules.specs.Selection.{net_selects, subject_selects}
 
