@@ -10,14 +10,15 @@ use Rattle.np_check.proofs.FirstLemmas.{first_of-append, first_of-map, none_both
 use Rattle.np_check.proofs.SpotLemmas.{breaks-same}
 use Rattle.np_check.specs.Counters.{addresses_of, breaks, complies, counter_at, counter_between, counter_from, counter_in, families_between}
 use Rattle.np_check.specs.Firsts.{first_of, first_of_ports, first_of_proto, first_spot}
-use Rattle.np_check.specs.steps.Pairs.{AreSettled, has_pair, kind_of}
+use Rattle.np_check.specs.steps.Pairs.{AreSettled, has_pair, is_deny, kind_of}
 use Rattle.np_check.specs.declared.counter.PlaceEnd.TheVariants.{At, Work}
 use Rattle.np_check.specs.declared.question.Ends.{Ends}
 use Rattle.np_check.specs.declared.statement_text.Wanted.{Wanted}
-use Rattle.np_check.specs.declared.statement_text.Wanted.TheVariants.{Deny}
+use Rattle.np_check.specs.declared.statement_text.Wanted.TheVariants.{Allow, Deny}
 use Rattle.np_conns.specs.Conns.{Conns, has_spot}
 use Rattle.np_conns.specs.declared.port_spot.PortSpot.{PortSpot}
 use Rattle.np_conns.specs.declared.proto.Proto.{Proto}
+use Rattle.np_conns.specs.declared.proto.Proto.TheVariants.{Tcp, Udp, Sctp}
 use Rattle.np_estate.specs.Families.{families_of}
 use Rattle.np_estate.specs.Lawful.{IsLawful}
 use Rattle.np_estate.specs.declared.lists.EstateLists.{EstateLists}
@@ -174,16 +175,16 @@ first_of_proto-none passes none proto =
 
 first_spot-none : (passes : PortSpot → Bool) → ((spot : PortSpot) → passes spot ≡ false) → first_spot passes ≡ None
 unfolding first_spot
-first_spot-none passes none = first_of-none (first_of_proto passes) _ (first_of_proto-none passes none)
+first_spot-none passes none = first_of-none (first_of_proto passes) (Tcp ∷ Udp ∷ Sctp ∷ []) (first_of_proto-none passes none)
 
 not_denied : (speaks allowed : Bool) → allowed ≡ false → (speaks && not (complies Deny allowed)) ≡ false
 not_denied true allowed none = rw none refl
 not_denied false allowed none = refl
 
 -- no packet between them breaks a statement that denies
-pub none_denied : (lists : EstateLists) (wanted : Wanted) (conns : Conns) (a b : ℕ) → wanted ≡ Deny → ((family : Family) (spot : PortSpot) → pair_allows lists (folding_of lists) a b family spot ≡ false) → None ≡ counter_between lists wanted conns (Work a) (Work b)
+pub none_denied : (lists : EstateLists) (wanted : Wanted) (conns : Conns) (a b : ℕ) → is_deny wanted ≡ true → ((family : Family) (spot : PortSpot) → pair_allows lists (folding_of lists) a b family spot ≡ false) → None ≡ counter_between lists wanted conns (Work a) (Work b)
 unfolding counter_between
-none_denied lists wanted conns a b denies silent =
-    sym (ap (λ (w : Wanted). counter_between lists w conns (Work a) (Work b)) denies
-    ∙ first_of-none (counter_in lists Deny conns (Work a) (Work b)) (families_between lists (Work a) (Work b)) (λ family.
+none_denied lists Allow conns a b denies silent = absurd (cc)
+none_denied lists Deny conns a b denies silent =
+    sym (first_of-none (counter_in lists Deny conns (Work a) (Work b)) (families_between lists (Work a) (Work b)) (λ family.
     ap (option_map (counter_at (Work a) (Work b) family)) (first_spot-none (breaks Deny conns (pair_allows lists (folding_of lists) a b family)) (λ spot. not_denied (has_spot conns spot) _ (silent family spot)))))

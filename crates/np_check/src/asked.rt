@@ -2,6 +2,7 @@
 ghost use Rattle.std.specs.Prelude.{◌≡◌, IfOk};
 ghost use Rattle.np_check.specs.Counters.{breaks};
 ghost use Rattle.np_check.specs.Firsts as spec;
+ghost use Rattle.np_check.specs.steps.Pairs.{is_deny};
 ghost use Rattle.np_conns.specs.Conns.{has_spot};
 ghost use Rattle.np_conns.specs.declared.port_spot.PortSpot.{PortSpot};
 
@@ -17,6 +18,16 @@ pub(crate) struct Asked<'a> {
 }
 
 impl<'a> Asked<'a> {
+    /// Whether no packet may be allowed.
+    pub(crate) fn denies(&self) -> bool
+        ensures { result ≡ is_deny self.now.wanted }
+    {
+        match self.wanted {
+            Wanted::Allow => false,
+            Wanted::Deny => true,
+        }
+    }
+
     /// The first protocol and port of the statement at which a packet breaks it, by the set of those that pass.
     pub(crate) fn first_broken(&self, passes: &ConnSet) -> Result<Option<PortSpot>, NoMemory>
         ensures { IfOk result (λ made.

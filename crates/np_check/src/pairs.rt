@@ -10,7 +10,6 @@ ghost use Rattle.np_table.specs.Table.{IsWorkload, is_alone};
 use crate::asked::Asked;
 use crate::checker::Checker;
 use crate::counter::{Counter, PlaceEnd};
-use crate::statement_text::Wanted;
 use np_addr::Family;
 use np_base::NoMemory;
 use np_fold::Workloads;
@@ -70,7 +69,7 @@ fn first_to_work<L: Ledger>(
     ensures settled { AreSettled checker.new asked.now.wanted asked.now.conns.now settled.new.keys }
     ensures least { steps.old ≤ steps.new }
 {
-    let denied = matches!(asked.wanted, Wanted::Deny);
+    let denied = asked.denies();
     if denied && checker.is_silent(source, destination) {
         return Ok(None);
     }

@@ -1,13 +1,19 @@
 -- Kinds of workloads between which nothing breaks a statement.
-use Rattle.std.specs.Prelude.{◌≡◌, ◌&&◌, ◌==◌, ℕ, List, Bool, true, None, slice_index}
+use Rattle.std.specs.Prelude.{◌≡◌, ◌&&◌, ◌==◌, ℕ, List, Bool, true, false, None, slice_index}
 use Rattle.std.specs.List.{list_any}
 use Rattle.np_check.specs.Counters.{counter_between}
 use Rattle.np_check.specs.declared.counter.PlaceEnd.TheVariants.{Work}
 use Rattle.np_check.specs.declared.statement_text.Wanted.{Wanted}
+use Rattle.np_check.specs.declared.statement_text.Wanted.TheVariants.{Allow, Deny}
 use Rattle.np_conns.specs.Conns.{Conns}
 use Rattle.np_estate.specs.declared.lists.EstateLists.{EstateLists}
 use Rattle.np_fold.specs.Workloads.{folding_of}
 use Rattle.np_table.specs.Table.{IsWorkload}
+
+-- whether a statement wants that no packet is allowed
+abbrev pub is_deny : Wanted → Bool
+is_deny Allow = false
+is_deny Deny = true
 
 -- the kind of a workload
 abbrev pub kind_of : EstateLists → ℕ → ℕ

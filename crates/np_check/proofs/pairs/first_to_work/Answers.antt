@@ -1,5 +1,5 @@
 use Rattle.std.proofs.Common.{◌≡◌, ◌==◌, ◌&&◌, if◌then◌else◌, ℕ, true, refl, sym, ap, subst, ◌∙◌, slice_index}
-use Rattle.np_check.proofs.PairLemmas.{none_of_is, settled-more}
+use Rattle.np_check.proofs.PairLemmas.{none_denied, none_of_is, settled-more}
 use Rattle.np_check.specs.Counters.{counter_between}
 use Rattle.np_check.specs.steps.Pairs.{has_pair, kind_of}
 use Rattle.np_check.specs.declared.counter.PlaceEnd.TheVariants.{Work}
@@ -49,3 +49,8 @@ returns-clause-settled g c =
           c.args.source c.args.destination lawful c.requires.source c.requires.destination w.if-source-destination.true none has c.requires.settled)
       | else-is_none w ↦ rw (w.settled-is, c.in_ok-found.ensures.same) c.requires.settled
     ]
+
+pub returns-then-is_silent-clause-counter : goal.returns-then-is_silent-clause-counter
+returns-then-is_silent-clause-counter g c =
+    none_denied c.args.checker.now c.args.asked.now.wanted c.args.asked.now.conns.now c.args.source c.args.destination
+    (sym c.denies-denied.ensures ∙ c.if-denied.true) (c.is_silent.ensures c.if-is_silent.true)

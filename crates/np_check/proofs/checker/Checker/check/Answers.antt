@@ -16,7 +16,7 @@ returns-then-is_some-clause-counter g c =
     let question = c.args.statement.now.question in
     let rest = first_of (λ (address : Address). first_of (λ (work : ℕ). counter_between c.args.self.now question.wanted question.conns (At address)
     (Work work)) question.destination.works) (addresses_of question.source.block) in
-    let works = c.in_ok-found.ensures.counter ∙ ap (first_of (λ (source : ℕ). counter_from c.args.self.now question.wanted question.conns question.destination (Work source)))
+    let works = (rw c.expect.ensures at c.in_ok-found.ensures.counter) ∙ ap (first_of (λ (source : ℕ). counter_from c.args.self.now question.wanted question.conns question.destination (Work source)))
     (c.deref.ensures.value ∙ c.in_ok-sources.ensures) in
     some_or c.in_ok-found.found rest (sym c.is_some.ensures ∙ c.if-is_some.true)
     ∙ ap (λ (first : Option Counter). option_or first rest) works
@@ -28,12 +28,12 @@ returns-clause-counter g c =
     let from_all = λ (lists : EstateLists) (works : List ℕ). first_of (λ (address : Address). first_of (λ (work : ℕ). counter_between lists question.wanted question.conns
     (At address) (Work work)) works) (addresses_of question.source.block) in
     let rest = from_all c.args.self.now question.destination.works in
-    let works = c.in_ok-found.ensures.counter ∙ ap (first_of (λ (source : ℕ). counter_from c.args.self.now question.wanted question.conns question.destination (Work source)))
+    let works = (rw c.expect.ensures at c.in_ok-found.ensures.counter) ∙ ap (first_of (λ (source : ℕ). counter_from c.args.self.now question.wanted question.conns question.destination (Work source)))
     (c.deref.ensures.value ∙ c.in_ok-sources.ensures) in
     let all = none_or c.in_ok-found.found rest (sym c.is_some.ensures ∙ c.if-is_some.false)
     ∙ ap (λ (first : Option Counter). option_or first rest) works
     ∙ sym (of-question c.args.self.now question) in
     IfOk-weaker c.first_from_addresses.result (λ (made : Option Counter). made ≡ from_all c.first_from_works.new.checker c.deref-3.result.now)
     (λ (made : Option Counter). made ≡ counter_of c.args.self.now question)
-    (λ made is. is ∙ ap (λ (lists : EstateLists). from_all lists c.deref-3.result.now) c.in_ok-found.ensures.same ∙ ap (from_all c.args.self.now) (c.deref-3.ensures.value
+    (λ made is. is ∙ ap (λ (lists : EstateLists). from_all lists c.deref-3.result.now) (c.in_ok-found.ensures.same ∙ c.expect.ensures) ∙ ap (from_all c.args.self.now) (c.deref-3.ensures.value
     ∙ c.in_ok-destinations.ensures) ∙ all) c.first_from_addresses.ensures.counter
