@@ -52,10 +52,11 @@ use Rattle.np_synth.proofs.KindGroups.{in_count}
 use Rattle.np_synth.proofs.ReceiverFacts.{group-first-in, groups-le}
 use Rattle.np_synth.specs.Faults.{family_of_list, set_in, set_of}
 use Rattle.np_synth.specs.Flat.{blocks_of_span, flat_name, flat_policies, flat_policy, group_namespace, group_peer, group_rows, group_selector, ingress_rules, ranges_of_span, receiver_in, rule_if, rules_from_group, rules_from_groups, rules_of_addresses, rules_of_set, set_from}
-use Rattle.np_synth.specs.Groups.{first_end, first_of_group, group_count, group_firsts, relevant}
+use Rattle.np_synth.specs.Groups.{first_of_group, group_count, group_firsts, relevant}
 use Rattle.np_synth.specs.Ports.{ports_of, span_of, spans_of_all}
 use Rattle.np_synth.specs.Selecting.{namespace_named, requirement_at, requirement_of_key}
 use Rattle.np_table.proofs.PairLemmas.{pod_there, source-within}
+use Rattle.np_table.specs.PairRules.{first_end}
 use Rattle.np_table.specs.Rows.{address_rows, is_nothing}
 use Rattle.np_table.specs.Table.{estate_table, number_of_workloads, pair_allows, source_pod}
 use Rattle.np_table.specs.declared.rows.AddressRow.{AddressRow}
