@@ -67,7 +67,6 @@ KNOWN = {(name, command): why for name, commands, why in (
     ("namedPortRules", "list unused", "each rule has a set of its own of all ports of that name"),
     ("explainPasses", "explain", "each part names all policies that isolate the pod, and the text is held whole"),
     ("exposureKeys", "exposure", PATTERNS),
-    ("manyLines", "check", LINES),
     ("statementsOfAllPods", "check", LINES),
 ) for command in commands.split()}
 
