@@ -1,8 +1,8 @@
 //! The whole of what a list says.
-ghost use Rattle.std.specs.Prelude.{◌≡◌, ◌<◌, ◌^◌, length, IfSome};
+ghost use Rattle.std.specs.Prelude.{◌≡◌, ◌<◌, ◌^◌, length, AllPairs, IfSome};
 ghost use Rattle.std.specs.Option.{option_copied};
 ghost use Rattle.np_estate.specs.Families.{families_of};
-ghost use Rattle.np_estate.specs.Lawful.{HasAscendingPriorities};
+ghost use Rattle.np_estate.specs.Lawful.{HasAscendingPriorities, StandsBefore};
 ghost use Rattle.np_estate.specs.PodPlaces as places;
 
 use crate::families::families_of;
@@ -16,7 +16,8 @@ use np_policies::{AdminPolicy, BasePolicy, NetPolicy};
 use std::marker::Model;
 
 /// The whole of what a list says, to be looked at. Contracts see it as its lists. Its admin policies ascend strictly
-/// in priority, so that the first of them that matches is the one that decides.
+/// in priority, so that the first of them that matches is the one that decides, and its NetworkPolicies in namespace and
+/// name, so that those of a namespace stand together.
 #[derive(Debug, Drop)]
 pub struct Estate {
     lists: EstateLists,
@@ -30,17 +31,19 @@ impl Model for Estate {
     ghost Value = { EstateLists };
 
     ghost use Rattle.np_estate.specs.Families.{families_of};
-    ghost use Rattle.np_estate.specs.Lawful.{HasAscendingPriorities};
+    ghost use Rattle.std.specs.Prelude.{AllPairs};
+    ghost use Rattle.np_estate.specs.Lawful.{HasAscendingPriorities, StandsBefore};
 
     ghost view = { λ e. e.lists };
 
-    ghost invariant = { λ e. (e.families.now ≡ families_of e.lists.pods) × HasAscendingPriorities e.lists.admin_policies };
+    ghost invariant = { λ e. (e.families.now ≡ families_of e.lists.pods) × HasAscendingPriorities e.lists.admin_policies × AllPairs StandsBefore e.lists.net_policies };
 }
 
 impl Estate {
     /// The estate of these lists. It takes no memory.
     pub fn of(lists: EstateLists) -> Estate
-        requires { HasAscendingPriorities lists.admin_policies }
+        requires admin_policies { HasAscendingPriorities lists.admin_policies }
+        requires net_policies { AllPairs StandsBefore lists.net_policies }
         ensures { result ≡ lists }
     {
         let families = families_of(lists.pods.items());
@@ -72,9 +75,10 @@ impl Estate {
         self.families
     }
 
-    /// The NetworkPolicies.
+    /// The NetworkPolicies, in the strict order of their namespaces and names.
     pub fn net_policies(&self) -> &[NetPolicy]
-        ensures { result.now ≡ self.now.net_policies }
+        ensures value { result.now ≡ self.now.net_policies }
+        ensures ascending { AllPairs StandsBefore self.now.net_policies }
     {
         self.lists.net_policies.items()
     }

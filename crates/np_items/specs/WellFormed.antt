@@ -1,4 +1,5 @@
--- Items whose names and labels are names and labels.
+-- Items that have no names and labels but such as reading lets through: words of letters, digits and the marks `-_./:`; names
+-- are not empty and have no `/`.
 use Rattle.std.specs.Prelude.{◌≡◌, true}
 use Rattle.np_objects.specs.WellFormed.{IsWellObject}
 use Rattle.np_policies.specs.WellFormed.{is_well_policy}

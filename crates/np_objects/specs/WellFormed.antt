@@ -1,4 +1,5 @@
--- Objects whose names and labels are names and labels.
+-- Objects that have no names and labels but such as reading lets through: words of letters, digits and the marks `-_./:`; names
+-- are not empty and have no `/`.
 use Rattle.std.specs.Prelude.{ℕ, List, length, Bool, true, not, IsTrue, ◌&&◌, ◌==◌, Option, Some, None}
 use Rattle.std.specs.List.{list_all}
 use Rattle.np_json.specs.Scalars.{is_label}

@@ -1,2 +1,3 @@
 pub mod MarkLemmas
 pub mod ReachLemmas
+pub mod StretchLemmas

@@ -1,14 +1,15 @@
 -- What a pod's row says of each far end.
 use Rattle.std.proofs.Common.{◌≡◌, ℕ, zero, suc, ◌+◌, ◌<◌, List, [], ◌∷◌, ◌++◌, Bool, true, false, ◌&&◌, ◌||◌, not, map, length, take, get_or, option_and_then, slice_get, unwrap_or, Option, Some, arith, refl, sym, ap, ◌∙◌}
 use Rattle.std.specs.Prelude.{All}
-use Rattle.std.specs.List.{list_any, range_with_len}
+use Rattle.std.specs.List.{flat_map, list_any, range_with_len}
 use Rattle.std.specs.Option.{option_map}
-use Rattle.std.proofs.lemmas.List.{map-append, take_more}
+use Rattle.std.proofs.lemmas.List.{append_assoc, map-append, take_more}
 use Rattle.std.proofs.lemmas.List.FromFn.{map-range_with_len_more}
 use Rattle.std.proofs.lemmas.Option.{slice_get-map}
 use Rattle.np_estate.specs.declared.lists.EstateLists.{EstateLists}
 use Rattle.np_policies.specs.declared.direction.Direction.{Direction}
 use Rattle.np_reach.specs.Reach.{admin_reaches, has_place, may_at, may_reach, net_reaches, reach_of}
+use Rattle.np_rules.proofs.PlacesLemmas.{flat_map-next}
 use Rattle.np_rules.specs.Ends.{PodEnd, pod}
 use Rattle.np_rules.specs.NetTier.{is_isolated}
 use Rattle.np_rules.specs.Selection.{net_selects, subject_selects}
@@ -38,6 +39,21 @@ item_more {X} {Y} f xs i x made new y within at pushed so_far is =
     ∙ ap (λ (ys : List Y). ys ++ y ∷ []) so_far
     ∙ ap (λ (last : Y). map f (take i xs) ++ last ∷ []) is
     ∙ sym (ap (map f) (take_more xs i x within ∙ ap (λ (last : X). take i xs ++ last ∷ []) (sym at)) ∙ map-append f (take i xs) (x ∷ []))
+
+-- one item more behind what was there
+pub item_behind : {X Y : Type 0} (f : X → Y) (xs : List X) (i : ℕ) (x : X) (start made new : List Y) (y : Y) → i < length xs → x ≡ get_or xs i x → new ≡ made ++ y ∷ [] → made ≡ start ++ map f (take i xs) → y ≡ f x → new ≡ start ++ map f (take (i + 1) xs)
+item_behind {X} {Y} f xs i x start made new y within at pushed so_far is =
+    pushed
+    ∙ ap (λ (ys : List Y). ys ++ y ∷ []) so_far
+    ∙ append_assoc start (map f (take i xs)) (y ∷ [])
+    ∙ ap (λ (ys : List Y). start ++ ys) (item_more f xs i x (map f (take i xs)) (map f (take i xs) ++ y ∷ []) y within at refl refl is)
+
+-- what is said of the pods of one stretch more
+pub marks_more : {S X Y : Type 0} (f : X → Y) (pods_of : S → List X) (stretches : List S) (i : ℕ) (stretch : S) (made new : List Y) → i < length stretches → stretch ≡ get_or stretches i stretch → new ≡ made ++ map f (pods_of stretch) → made ≡ map f (flat_map pods_of (take i stretches)) → new ≡ map f (flat_map pods_of (take (i + 1) stretches))
+marks_more {S} {X} {Y} f pods_of stretches i stretch made new within at pushed so_far =
+    pushed
+    ∙ ap (λ (ys : List Y). ys ++ map f (pods_of stretch)) so_far
+    ∙ sym (ap (map f) (flat_map-next pods_of stretches i stretch within at) ∙ map-append f (flat_map pods_of (take i stretches)) (pods_of stretch))
 
 -- one policy more
 pub policy_more : {O P : Type 0} (policy_of : O → P) (policies : List P) (i : ℕ) (policy : P) (made new : List O) (one : O) → i < length policies → policy ≡ get_or policies i policy → new ≡ made ++ one ∷ [] → map policy_of made ≡ take i policies → policy_of one ≡ policy → map policy_of new ≡ take (i + 1) policies

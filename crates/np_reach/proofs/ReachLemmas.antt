@@ -13,6 +13,7 @@ use Rattle.np_policies.specs.declared.admin_policy.AdminRule.{AdminRule}
 use Rattle.np_policies.specs.declared.direction.Direction.{Direction}
 use Rattle.np_policies.specs.declared.network_policy.NetPolicy.{NetPolicy}
 use Rattle.np_policies.specs.declared.network_policy.NetRule.{NetRule}
+use Rattle.np_reach.specs.Namespaces.{quieter}
 use Rattle.np_reach.specs.Reach.{admin_reaches, admin_rule_reaches, may_reach, net_reaches}
 use Rattle.np_rules.proofs.AdminTierLemmas as admin
 use Rattle.np_rules.proofs.DeciderLemmas.{least_is_among}
@@ -21,7 +22,7 @@ use Rattle.np_rules.proofs.PlacesLemmas.{list_any-numbered}
 use Rattle.np_rules.proofs.SideLemmas.{places-matches}
 use Rattle.np_rules.specs.AdminTier.{admin_candidates, admin_decider, admin_precedes}
 use Rattle.np_rules.specs.BaseTier.{base_decider}
-use Rattle.np_rules.specs.Ends.{Contact, PodEnd}
+use Rattle.np_rules.specs.Ends.{Contact, End, PodEnd}
 use Rattle.np_rules.specs.Laws.{IsAmong}
 use Rattle.np_rules.specs.NetTier.{is_isolated, permits, placed_net_matches}
 use Rattle.np_rules.specs.Peers.{admin_peer_matches, net_peer_matches}
@@ -30,13 +31,6 @@ use Rattle.np_rules.specs.PortEntries.{admin_entry_matches, net_entry_matches}
 use Rattle.np_rules.specs.Rules.{admin_rule_matches, net_rule_matches, none_or_any}
 use Rattle.np_rules.specs.Selection.{net_selects, subject_selects}
 use Rattle.np_rules.specs.Sides.{action_says, admin_says, base_says, is_allow, side_allows}
-
--- what fails wherever another test fails passes at no item where that passes at none
-quieter : {X : Type 0} (test less : X → Bool) (xs : List X) → ((x : X) → test x ≡ false → less x ≡ false) → list_any test xs ≡ false → list_any less xs ≡ false
-quieter test less [] weaker none = refl
-quieter test less (x ∷ xs) weaker none =
-    let parts = or_parts (test x) (list_any test xs) none in
-    or_from (less x) (list_any less xs) (weaker x parts.0) (quieter test less xs weaker parts.1)
 
 and_quieter : (a b c : Bool) → (b ≡ false → c ≡ false) → (a && b) ≡ false → (a && c) ≡ false
 and_quieter true b c weaker none = weaker none
@@ -132,14 +126,24 @@ not_false : (b : Bool) → not b ≡ false → b ≡ true
 not_false true is = refl
 not_false false is = sym is
 
+-- a pod that a far end is out of reach of is isolated
+pub isolated-out_of_reach : (lists : EstateLists) (direction : Direction) (near : PodEnd) (far : End) → may_reach lists direction near far ≡ false → is_isolated lists.net_policies direction near ≡ true
+unfolding may_reach
+isolated-out_of_reach lists direction near far none = not_false _ (or_parts _ _ none).0
+
+-- and no rule of a NetworkPolicy matches
+pub unmatched-out_of_reach : (lists : EstateLists) (direction : Direction) (near : PodEnd) (contact : Contact) → may_reach lists direction near contact.far ≡ false → permits lists.net_policies direction near contact ≡ false
+unfolding may_reach
+unmatched-out_of_reach lists direction near contact none = net_quiet direction near contact lists.net_policies (or_parts _ _ (or_parts _ _ none).1).0
+
 pub out_of_reach : (lists : EstateLists) (direction : Direction) (near : PodEnd) (contact : Contact) → may_reach lists direction near contact.far ≡ false → side_allows lists direction near contact ≡ false
 unfolding may_reach side_allows
 out_of_reach lists direction near contact none =
     let parts = or_parts _ _ none in
     let policies = or_parts _ _ parts.1 in
-    let isolated : is_isolated lists.net_policies direction near ≡ true = not_false _ parts.0 in
+    let isolated = isolated-out_of_reach lists direction near contact.far none in
     let below : (if is_isolated lists.net_policies direction near then permits lists.net_policies direction near contact else base_says (base_decider lists.baseline direction near contact)) ≡ false =
-    ap (λ b. if b then permits lists.net_policies direction near contact else base_says (base_decider lists.baseline direction near contact)) isolated ∙ net_quiet direction near contact lists.net_policies policies.0 in
+    ap (λ b. if b then permits lists.net_policies direction near contact else base_says (base_decider lists.baseline direction near contact)) isolated ∙ unmatched-out_of_reach lists direction near contact none in
     admin_says_quiet (admin_decider lists.admin_policies direction near contact) _
     (λ found is. among_quiet contact (admin_places lists.admin_policies direction near) found (admin_quiet direction near contact lists.admin_policies policies.1) (least_is_among admin_precedes (admin_candidates lists.admin_policies direction near contact) found is))
     below

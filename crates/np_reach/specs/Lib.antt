@@ -1,1 +1,3 @@
 pub mod Reach
+pub mod Namespaces
+pub mod Stretches

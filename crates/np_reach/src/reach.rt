@@ -5,6 +5,7 @@ ghost use Rattle.np_reach.specs.Reach as spec;
 ghost use Rattle.np_rules.specs.Ends.{pod_end};
 
 use crate::spoken::{add_chosen, spoken_by};
+use crate::stretches::stretches;
 use np_base::{NoMemory, Seq};
 use np_estate::{Estate, Pod};
 use np_policies::Direction;
@@ -13,8 +14,8 @@ use std::alloc::Global;
 use std::marker::Model;
 
 /// For each of some pods, in a direction, which of these pods its side may let through as the far end of some packet. A
-/// policy is asked once whether it selects a pod, and once whether it speaks of one, not once for each pair of pods.
-/// Contracts see a row for each pod.
+/// policy is asked once whether it selects a pod, and once whether it speaks of one, not once for each pair of pods; and the
+/// second alone of pods of namespaces that it may speak of. Contracts see a row for each pod.
 #[derive(Drop)]
 pub struct Reach {
     rows: Seq<Seq<bool>>,
@@ -47,8 +48,9 @@ impl Reach {
     ) -> Result<Reach, NoMemory>
         ensures { IfOk result (λ made. made ≡ spec.reach_of estate.now direction (map (λ one. pod_end one.now) pods.now)) }
     {
-        let net = spoken_by(alloc, estate.net_policies(), direction, pods)?;
-        let admin = spoken_by(alloc, estate.admin_policies(), direction, pods)?;
+        let stretches = stretches(alloc, pods)?;
+        let net = spoken_by(alloc, estate.net_policies(), direction, &stretches)?;
+        let admin = spoken_by(alloc, estate.admin_policies(), direction, &stretches)?;
         let mut rows = Seq::new(alloc);
         for near in pods {
             let mut chosen = Vec::new(alloc);
@@ -62,11 +64,11 @@ impl Reach {
 
     /// Whether the side of a pod may let another through, both named by their places among the pods. What is not known may
     /// be.
-    pub fn may(&self, near: u32, far: u32) -> bool
+    pub fn may(&self, near: usize, far: usize) -> bool
         ensures { result ≡ spec.may_at self.now near far }
     {
-        match self.rows.items().get(near as usize) {
-            Some(row) => row.items().get(far as usize).copied().unwrap_or(true),
+        match self.rows.items().get(near) {
+            Some(row) => row.items().get(far).copied().unwrap_or(true),
             None => true,
         }
     }

@@ -1,10 +1,12 @@
 //! Policies whose rules may allow.
-ghost use Rattle.std.specs.Prelude.{◌≡◌, Bool, ◌&&◌, ◌||◌};
+ghost use Rattle.std.specs.Prelude.{◌≡◌, Bool, false, ◌&&◌, ◌||◌};
 ghost use Rattle.std.specs.List.{list_any};
 ghost use Rattle.np_policies.specs.declared.direction.Direction.{Direction};
 ghost use Rattle.np_reach.specs.Reach as spec;
+ghost use Rattle.np_reach.specs.Namespaces.{AreOfOneNamespace};
 ghost use Rattle.np_rules.specs.Ends.{End, PodEnd, pod, pod_end};
 
+use crate::concerns::{admin_rule_concerns, net_rule_concerns};
 use np_addr::Family;
 use np_estate::Pod;
 use np_policies::{Action, AdminPolicy, AdminRule, Direction, NetPolicy};
@@ -21,6 +23,12 @@ pub(crate) trait Speaker {
     /// Whether some rule of a direction allows, and speaks of a far end.
     ghost speaks: { Direction → End → Self → Bool };
 
+    /// Whether some rule of a direction allows, and may speak of pods of a pod's namespace.
+    ghost concerns: { Direction → PodEnd → Self → Bool };
+
+    /// Where none may, it speaks of no pod of the namespace.
+    ghost silent_elsewhere: { (policy : Self) (direction : Direction) (one far : PodEnd) → AreOfOneNamespace one far → concerns direction one policy ≡ false → speaks direction (pod far) policy ≡ false };
+
     /// Whether it selects a pod.
     fn selects(&self, near: &Pod) -> bool
         ensures { result ≡ picks self.now (pod_end near.now) };
@@ -28,15 +36,24 @@ pub(crate) trait Speaker {
     /// Whether some rule of a direction allows, and speaks of a pod.
     fn reaches(&self, direction: Direction, far: &Pod) -> bool
         ensures { result ≡ speaks direction (pod (pod_end far.now)) self.now };
+
+    /// Whether some rule of a direction allows, and may speak of pods of a pod's namespace.
+    fn may_reach(&self, direction: Direction, one: &Pod) -> bool
+        ensures { result ≡ concerns direction (pod_end one.now) self.now };
 }
 
 impl Speaker for NetPolicy {
+    ghost use Rattle.np_reach.specs.Namespaces.{net_concerns, net_silent_elsewhere};
     ghost use Rattle.np_reach.specs.Reach.{net_reaches};
     ghost use Rattle.np_rules.specs.Selection.{net_selects};
 
     ghost picks = { net_selects };
 
     ghost speaks = { net_reaches };
+
+    ghost concerns = { net_concerns };
+
+    ghost silent_elsewhere = { net_silent_elsewhere };
 
     fn selects(&self, near: &Pod) -> bool {
         net_policy_selects(self, near)
@@ -52,15 +69,31 @@ impl Speaker for NetPolicy {
             None => false,
         }
     }
+
+    fn may_reach(&self, direction: Direction, one: &Pod) -> bool {
+        match net_rules_of(self, direction) {
+            Some(rules) => rules.iter().any(|rule| net_rule_concerns(
+                self.namespace.as_str(),
+                rule,
+                one,
+            )),
+            None => false,
+        }
+    }
 }
 
 impl Speaker for AdminPolicy {
+    ghost use Rattle.np_reach.specs.Namespaces.{admin_concerns, admin_silent_elsewhere};
     ghost use Rattle.np_reach.specs.Reach.{admin_reaches};
     ghost use Rattle.np_rules.specs.Selection.{subject_selects};
 
     ghost picks = { λ policy near. subject_selects policy.subject near };
 
     ghost speaks = { admin_reaches };
+
+    ghost concerns = { admin_concerns };
+
+    ghost silent_elsewhere = { admin_silent_elsewhere };
 
     fn selects(&self, near: &Pod) -> bool {
         admin_policy_selects(&self.subject, near)
@@ -70,6 +103,12 @@ impl Speaker for AdminPolicy {
         admin_rules_of(self, direction)
             .iter()
             .any(|rule| allows_with(rule, far))
+    }
+
+    fn may_reach(&self, direction: Direction, one: &Pod) -> bool {
+        admin_rules_of(self, direction)
+            .iter()
+            .any(|rule| admin_rule_concerns(rule, one))
     }
 }
 

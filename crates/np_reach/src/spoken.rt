@@ -1,10 +1,12 @@
 //! The far ends that policies speak of.
-ghost use Rattle.std.specs.Prelude.{◌≡◌, ℕ, ◌&&◌, ◌||◌, All, IfOk, OnOk, map};
-ghost use Rattle.std.specs.List.{list_any};
+ghost use Rattle.std.specs.Prelude.{◌≡◌, ℕ, ◌&&◌, ◌||◌, ◌++◌, All, IfOk, OnOk, map};
+ghost use Rattle.std.specs.List.{flat_map, list_any};
 ghost use Rattle.np_reach.specs.Reach.{has_place};
+ghost use Rattle.np_reach.specs.Stretches.{IsStretch};
 ghost use Rattle.np_rules.specs.Ends.{pod, pod_end};
 
 use crate::speaker::Speaker;
+use crate::stretches::Stretch;
 use np_base::{NoMemory, Seq};
 use np_estate::Pod;
 use np_policies::Direction;
@@ -17,20 +19,21 @@ pub(crate) struct Spoken<'a, P: Speaker> {
     pub far: Seq<bool>,
 }
 
-/// The policies in order, each with what its rules of a direction say of each of the pods.
+/// The policies in order, each with what its rules of a direction say of each of the pods of some stretches.
 pub(crate) fn spoken_by<'a, P: Speaker>(
     alloc: Global,
     policies: &'a [P],
     direction: Direction,
-    pods: &[&Pod],
+    stretches: &[Stretch<'_>],
 ) -> Result<Vec<Spoken<'a, P>>, NoMemory>
+    requires { All IsStretch stretches.now }
     ensures policies { IfOk result (λ made. map (λ one. one.policy.now) made.items ≡ policies.now) }
     ensures far { IfOk result (λ made. All (λ one. one.far
-        ≡ map (λ far. P.speaks direction (pod (pod_end far.now)) one.policy.now) pods.now) made.items) }
+        ≡ map (λ far. P.speaks direction (pod (pod_end far.now)) one.policy.now) (flat_map (λ stretch. stretch.pods.now) stretches.now)) made.items) }
 {
     let mut made = Vec::new(alloc);
     for policy in policies {
-        let far = far_ends(alloc, policy, direction, pods)?;
+        let far = far_ends(alloc, policy, direction, stretches)?;
         made.push(Spoken { policy, far })?;
     }
     Ok(made)
@@ -41,15 +44,36 @@ fn far_ends<P: Speaker>(
     alloc: Global,
     policy: &P,
     direction: Direction,
-    pods: &[&Pod],
+    stretches: &[Stretch<'_>],
 ) -> Result<Seq<bool>, NoMemory>
-    ensures { IfOk result (λ made. made ≡ map (λ far. P.speaks direction (pod (pod_end far.now)) policy.now) pods.now) }
+    requires { All IsStretch stretches.now }
+    ensures { IfOk result (λ made. made
+        ≡ map (λ far. P.speaks direction (pod (pod_end far.now)) policy.now) (flat_map (λ stretch. stretch.pods.now) stretches.now)) }
 {
     let mut made = Seq::new(alloc);
-    for far in pods {
-        made.push(policy.reaches(direction, far))?;
+    for stretch in stretches {
+        push_marks(&mut made, policy, direction, stretch)?;
     }
     Ok(made)
+}
+
+// Puts last whether the rules of a policy speak of each of the pods of one namespace. Where they speak of none of the namespace,
+// they are not asked of each.
+fn push_marks<P: Speaker>(
+    made: &mut Seq<bool>,
+    policy: &P,
+    direction: Direction,
+    stretch: &Stretch<'_>,
+) -> Result<(), NoMemory>
+    requires { IsStretch stretch.now }
+    ensures { OnOk result (made.new
+        ≡ made.old ++ map (λ far. P.speaks direction (pod (pod_end far.now)) policy.now) stretch.now.pods.now) }
+{
+    let concerned = policy.may_reach(direction, stretch.one);
+    for far in stretch.pods {
+        made.push(concerned && policy.reaches(direction, far))?;
+    }
+    Ok(())
 }
 
 /// Adds what the policies that select a pod speak of.

@@ -1,8 +1,8 @@
 -- Sets of addresses, and connections at addresses.
-use Rattle.std.proofs.Common.{◌≡◌, ℕ, ◌+◌, ◌-◌, ◌^◌, ◌<◌, List, [], ◌∷◌, Bool, true, false, not, ◌&&◌, ◌||◌, refl, ◌∙◌, ap, arith, if◌then◌else◌}
+use Rattle.std.proofs.Common.{◌≡◌, ℕ, ◌+◌, ◌-◌, ◌^◌, ◌<◌, List, [], ◌∷◌, Bool, true, false, not, ◌&&◌, ◌||◌, refl, sym, ◌∙◌, ap, arith, if◌then◌else◌}
 use Rattle.std.specs.List.{list_any}
 use Rattle.std.proofs.lemmas.Bool.Decides.{nat_tests}
-use Rattle.std.proofs.lemmas.Bool.{and_parts}
+use Rattle.std.proofs.lemmas.Bool.{and_left, and_parts}
 use Rattle.np_addr.specs.Addresses.{IsAddress}
 use Rattle.np_addr.specs.Blocks.{AddressRanges, set_has}
 use Rattle.np_addr.specs.declared.address.Address.{Address}
@@ -110,3 +110,20 @@ admin_at_place rule direction near addresses conns peers ports place within =
     let a = address_of place in
     ap (λ b. b && has_spot conns (spot_of place)) (peers a parts.0)
     ∙ ap (λ b. list_any (λ peer. admin_peer_has peer a) rule.peers && b) (ports a (spot_of place) parts.1)
+
+-- ---- what a rule matches that has no address
+
+-- a rule of a NetworkPolicy without addresses matches nothing
+pub net_nowhere : (namespace : List ℕ) (rule : NetRule) (direction : Direction) (near : End) (addresses : AddressRanges) → ((spot : Which ℕ ℕ) → ranges_have addresses spot ≡ false) → ((a : Address) → IsAddress a → set_has addresses a ≡ none_or_any (λ peer. net_peer_has peer a) rule.peers) → (place : Place) → is_place place ≡ true → net_rule_matches namespace rule (address_contact direction near place) ≡ false
+net_nowhere namespace rule direction near addresses none peers place within =
+    let a = address_of place in
+    and_left _ _ (
+    sym (none_or_any-same (λ peer. net_peer_has peer a) (λ peer. net_peer_matches namespace peer (address a)) (λ peer. net_peer_anywhere namespace peer a) rule.peers)
+    ∙ sym (peers a (place_parts place within).0)
+    ∙ set_has-nothing addresses none a)
+
+-- nor does an admin rule
+pub admin_nowhere : (rule : AdminRule) (direction : Direction) (near : End) (addresses : AddressRanges) → ((spot : Which ℕ ℕ) → ranges_have addresses spot ≡ false) → ((a : Address) → IsAddress a → set_has addresses a ≡ list_any (λ peer. admin_peer_has peer a) rule.peers) → (place : Place) → is_place place ≡ true → admin_rule_matches rule (address_contact direction near place) ≡ false
+admin_nowhere rule direction near addresses none peers place within =
+    let a = address_of place in
+    and_left _ _ (sym (peers a (place_parts place within).0) ∙ set_has-nothing addresses none a)

@@ -12,3 +12,4 @@ pub mod SideLemmas
 pub mod FamilyLemmas
 pub mod LayerRulesLemmas
 pub mod PodSideLemmas
+pub mod OwnPolicies

@@ -17,6 +17,10 @@ pub(crate) trait Addresses {
     /// Whether an address is one of them.
     ghost stands_for: { Self → Address → Bool };
 
+    /// Whether it is of a kind that stands for addresses. What is not stands for none.
+    fn is_of_addresses(&self) -> bool
+        ensures { result ≡ false → (a : Address) → stands_for self.now a ≡ false };
+
     /// The addresses.
     fn addresses(&self, alloc: Global) -> Result<AddrSet, NoMemory>
         ensures { IfOk result (λ set. (a : Address) → IsAddress a → set_has set a ≡ stands_for self.now a) };
@@ -27,6 +31,10 @@ impl Addresses for Cidr {
 
     ghost stands_for = { cidr_has };
 
+    fn is_of_addresses(&self) -> bool {
+        true
+    }
+
     fn addresses(&self, alloc: Global) -> Result<AddrSet, NoMemory> {
         cidr_set(alloc, self)
     }
@@ -36,6 +44,13 @@ impl Addresses for NetPeer {
     ghost use Rattle.np_rules.specs.EveryAddress.{net_peer_has};
 
     ghost stands_for = { net_peer_has };
+
+    fn is_of_addresses(&self) -> bool {
+        match self {
+            NetPeer::Pods { .. } => false,
+            NetPeer::Block { .. } => true,
+        }
+    }
 
     fn addresses(&self, alloc: Global) -> Result<AddrSet, NoMemory> {
         match self {
@@ -49,6 +64,13 @@ impl Addresses for AdminPeer {
     ghost use Rattle.np_rules.specs.EveryAddress.{admin_peer_has};
 
     ghost stands_for = { admin_peer_has };
+
+    fn is_of_addresses(&self) -> bool {
+        match self {
+            AdminPeer::Pods { .. } => false,
+            AdminPeer::Networks { .. } => true,
+        }
+    }
 
     fn addresses(&self, alloc: Global) -> Result<AddrSet, NoMemory> {
         match self {
@@ -70,9 +92,33 @@ pub(crate) fn net_addresses(alloc: Global, peers: &[NetPeer]) -> Result<AddrSet,
     }
 }
 
-/// The addresses that some item stands for. The sets of both halves of the items are joined, so that n items take time
-/// n log n; one item alone, as most rules have, is not joined.
+/// The addresses that some item stands for. Where all are of a kind that stands for none, no set is made.
 pub(crate) fn joined_set<A: Addresses>(alloc: Global, items: &[A]) -> Result<AddrSet, NoMemory>
+    ensures { IfOk result (λ set. (a : Address) → IsAddress a →
+        set_has set a ≡ list_any (λ item. A.stands_for item a) items.now) }
+{
+    if are_of_addresses(items) {
+        joined_by_halves(alloc, items)
+    } else {
+        no_address(alloc)
+    }
+}
+
+// Whether some item is of a kind that stands for addresses.
+fn are_of_addresses<A: Addresses>(items: &[A]) -> bool
+    ensures { result ≡ false → (a : Address) → list_any (λ item. A.stands_for item a) items.now ≡ false }
+{
+    for item in items {
+        if item.is_of_addresses() {
+            return true;
+        }
+    }
+    false
+}
+
+// The same. The sets of both halves of the items are joined, so that n items take time n log n; one item alone, as most rules
+// have, is not joined.
+fn joined_by_halves<A: Addresses>(alloc: Global, items: &[A]) -> Result<AddrSet, NoMemory>
     ensures { IfOk result (λ set. (a : Address) → IsAddress a →
         set_has set a ≡ list_any (λ item. A.stands_for item a) items.now) }
 {
@@ -81,8 +127,8 @@ pub(crate) fn joined_set<A: Addresses>(alloc: Global, items: &[A]) -> Result<Add
         [item] => item.addresses(alloc),
         _ => {
             let (front, back) = items.split_at(items.len() / 2);
-            let first = joined_set(alloc, front)?;
-            let second = joined_set(alloc, back)?;
+            let first = joined_by_halves(alloc, front)?;
+            let second = joined_by_halves(alloc, back)?;
             let joined = join(&first, &second)?;
             Ok(joined)
         }

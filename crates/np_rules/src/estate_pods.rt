@@ -1,6 +1,7 @@
 //! Which pods of an estate a policy selects, and which ones a rule of it speaks of as far ends.
-ghost use Rattle.std.specs.Prelude.{◌≡◌};
+ghost use Rattle.std.specs.Prelude.{◌≡◌, AllPairs};
 ghost use Rattle.std.specs.List.{list_any};
+ghost use Rattle.np_estate.specs.Lawful.{StandsBefore};
 ghost use Rattle.np_rules.specs.Ends.{pod, pod_end};
 ghost use Rattle.np_rules.specs.NetTier.{is_isolated};
 ghost use Rattle.np_rules.specs.Peers.{admin_peer_matches, net_peer_matches};
@@ -8,6 +9,7 @@ ghost use Rattle.np_rules.specs.Rules.{none_or_any};
 ghost use Rattle.np_rules.specs.Selection as spec;
 
 use crate::net_tier::is_isolated;
+use crate::own_policies::own_policies;
 use crate::peers::{admin_peers_match, net_peers_match};
 use crate::selection::{net_selects, subject_selects};
 use crate::views::{EndView, view_of_pod};
@@ -22,11 +24,13 @@ pub fn net_policy_selects(policy: &NetPolicy, pod: &Pod) -> bool
     net_selects(policy, &view_of_pod(pod))
 }
 
-/// Whether some NetworkPolicy isolates a pod.
+/// Whether some NetworkPolicy isolates a pod. Those of the pod's namespace alone are looked at.
 pub fn isolates_pod(policies: &[NetPolicy], direction: Direction, pod: &Pod) -> bool
+    requires { AllPairs StandsBefore policies.now }
     ensures { result ≡ is_isolated policies.now direction (pod_end pod.now) }
 {
-    is_isolated(policies, direction, &view_of_pod(pod))
+    let own = own_policies(policies, pod.namespace.as_str());
+    is_isolated(own, direction, &view_of_pod(pod))
 }
 
 /// Whether the subject of an admin policy or of the baseline selects a pod.

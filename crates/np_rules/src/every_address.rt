@@ -34,6 +34,10 @@ impl FarEnds<AddrConns> for EveryAddress<'_> {
 
     fn admin_set(&self, alloc: Global, rule: &AdminRule) -> Result<AddrConns, NoMemory> {
         let addresses = joined_set(alloc, rule.peers.items())?;
+        if addresses.is_empty() {
+            let nowhere = AddrConns::nothing(alloc)?;
+            return Ok(nowhere);
+        }
         let conns = self.entries_set(alloc, rule.ports.items())?;
         let set = at_addresses(alloc, &addresses, &conns)?;
         Ok(set)
@@ -46,6 +50,10 @@ impl FarEnds<AddrConns> for EveryAddress<'_> {
         rule: &NetRule,
     ) -> Result<AddrConns, NoMemory> {
         let addresses = net_addresses(alloc, rule.peers.items())?;
+        if addresses.is_empty() {
+            let nowhere = AddrConns::nothing(alloc)?;
+            return Ok(nowhere);
+        }
         let conns = self.entries_set(alloc, rule.ports.items())?;
         let set = at_addresses(alloc, &addresses, &conns)?;
         Ok(set)

@@ -1,6 +1,7 @@
 //! The rules of the policies that select a pod.
-ghost use Rattle.std.specs.Prelude.{◌≡◌, ◌++◌, None, map, if◌then◌else◌, IfOk, OnOk};
+ghost use Rattle.std.specs.Prelude.{◌≡◌, ◌++◌, None, map, if◌then◌else◌, AllPairs, IfOk, OnOk};
 ghost use Rattle.std.specs.Option.{option_map};
+ghost use Rattle.np_estate.specs.Lawful.{StandsBefore};
 ghost use Rattle.np_rules.specs.NetTier.{is_isolated};
 ghost use Rattle.np_rules.specs.Places.{admin_places, net_places, net_rules_of};
 ghost use Rattle.np_rules.specs.Selection.{net_selects};
@@ -8,6 +9,7 @@ ghost use Rattle.np_rules.specs.Views.{pod_view};
 
 use crate::admin_tier::admin_rules_for;
 use crate::net_tier::isolating_rules;
+use crate::own_policies::own_policies;
 use crate::views::PodView;
 use np_base::NoMemory;
 use np_policies::{AdminPolicy, AdminRule, Direction, NetPolicy, NetRule};
@@ -37,20 +39,22 @@ pub(crate) fn admin_rules<'a>(
     Ok(rules)
 }
 
-/// The rules of the NetworkPolicies that select a pod, policy by policy.
+/// The rules of the NetworkPolicies that select a pod, policy by policy. Those of the pod's namespace alone are looked at.
 pub(crate) fn net_rules<'a>(
     alloc: Global,
     policies: &'a [NetPolicy],
     direction: Direction,
     pod: &PodView<'_>,
 ) -> Result<NetRules<'a>, NoMemory>
+    requires { AllPairs StandsBefore policies.now }
     ensures rules { IfOk result (λ made. map (λ rule. rule.now) made.rules.items
         ≡ map (λ placed. placed.rule) (net_places policies.now direction (pod_view pod.now))) }
     ensures isolated { IfOk result (λ made. made.isolated ≡ is_isolated policies.now direction (pod_view pod.now)) }
 {
+    let own = own_policies(policies, pod.namespace);
     let mut isolated = false;
     let mut rules = Vec::new(alloc);
-    for policy in policies {
+    for policy in own {
         let here = isolating_rules(policy, direction, pod);
         isolated |= here.is_some();
         push_all(&mut rules, here.unwrap_or(&[]))?;

@@ -16,6 +16,7 @@ mod layers;
 mod near_ends;
 mod net_tier;
 mod one_end;
+mod own_policies;
 mod packet;
 mod peers;
 mod pod_rules;

@@ -12,6 +12,7 @@ pub mod KindVerdicts
 pub mod MemberLemmas
 pub mod PairLemmas
 pub mod PlaceLemmas
+pub mod PassLemmas
 pub mod RangeCounts
 pub mod RangeOneList
 pub mod RangePieces

@@ -1,5 +1,5 @@
 -- The sides of the pods that stand for workloads and for kinds of workloads, and how many rules speak of them.
-use Rattle.std.specs.Prelude.{ℕ, ◌≡◌, ◌+◌, ◌<◌, List, Bool, false, Some, map, length, slice_get}
+use Rattle.std.specs.Prelude.{ℕ, ◌≡◌, ◌+◌, ◌<◌, List, Bool, false, Some, map, length, slice_get, IfSome}
 use Rattle.np_addr.specs.declared.address.Family.{Family}
 use Rattle.np_conns.specs.declared.port_spot.PortSpot.{PortSpot}
 use Rattle.np_estate.specs.declared.lists.EstateLists.{EstateLists}
@@ -47,6 +47,10 @@ sides_of_kinds lists direction = map (first_side lists direction) (folding_of li
 abbrev pub first_end : EstateLists → ℕ → PodEnd
 first_end lists workload = pod_at lists (source_pod (folding_of lists) workload)
 
+-- those of all kinds
+abbrev pub first_ends : EstateLists → List PodEnd
+first_ends lists = map (first_end lists) (folding_of lists).first_of_kinds
+
 -- What is known is right: where the side of a kind may not let another kind through, it allows nothing between their first pods.
 unfoldable pub IsReach : EstateLists → Direction → List (List Bool) → Type 0
 IsReach lists direction reach =
@@ -58,11 +62,11 @@ pub record IsKindReach (lists : EstateLists) (reach : KindReach) : Type 0 where
   pub sent : IsReach lists Egress reach.sent
   pub received : IsReach lists Ingress reach.received
 
--- the sides are those of all kinds, and so is what they let through
+-- the sides are those of all kinds, and what is known of what they let through is right
 pub record AreOfKinds (lists : EstateLists) (rules : KindRules) : Type 0 where
   pub senders : rules.senders.items ≡ sides_of_kinds lists Egress
   pub receivers : rules.receivers.items ≡ sides_of_kinds lists Ingress
-  pub reach : IsKindReach lists rules.reach
+  pub reach : IfSome rules.reach (IsKindReach lists)
 
 -- so they are where there are any
 abbrev pub AreOfKindsIfAny : EstateLists → KindRules → Type 0

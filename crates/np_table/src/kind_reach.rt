@@ -1,9 +1,11 @@
 //! Which kinds of workloads may send anything to which.
-ghost use Rattle.std.specs.Prelude.{◌≡◌, IfOk, false, map, true};
+ghost use Rattle.std.specs.Prelude.{◌≡◌, IfOk, false, map, not, slice_index, true};
 ghost use Rattle.np_addr.specs.declared.address.Family.{Family};
 ghost use Rattle.np_conns.specs.declared.port_spot.PortSpot.{PortSpot};
 ghost use Rattle.np_estate.specs.declared.lists.EstateLists.{EstateLists};
 ghost use Rattle.np_fold.specs.Workloads.{folding_of};
+ghost use Rattle.np_policies.specs.declared.direction.Direction.TheVariants.{Egress, Ingress};
+ghost use Rattle.np_reach.specs.Reach.{reach_of};
 ghost use Rattle.np_rules.specs.Ends.{pod_end};
 ghost use Rattle.np_table.specs.PairRules as spec;
 ghost use Rattle.np_table.specs.Table.{IsWorkload, pair_allows};
@@ -37,7 +39,9 @@ impl KindReach {
 
     /// What the kinds of an estate let through.
     pub fn of(alloc: Global, folded: &Folded) -> Result<KindReach, NoMemory>
-        ensures { IfOk result (spec.IsKindReach folded.now) }
+        ensures sent { IfOk result (λ made. made.sent ≡ reach_of folded.now Egress (spec.first_ends folded.now)) }
+        ensures received { IfOk result (λ made. made.received ≡ reach_of folded.now Ingress (spec.first_ends folded.now)) }
+        ensures right { IfOk result (spec.IsKindReach folded.now) }
     {
         let pods = first_pods(alloc, folded)?;
         let estate = folded.estate();
@@ -52,6 +56,8 @@ impl KindReach {
         requires reach { spec.IsKindReach folded.now self.now }
         requires source { IsWorkload folded.now source }
         requires destination { IsWorkload folded.now destination }
+        ensures known { let kinds = (folding_of folded.now).kinds in
+            result ≡ not (may_pass self.now (slice_index kinds source) (slice_index kinds destination)) }
         ensures silent { result ≡ true → (family : Family) (spot : PortSpot) →
             pair_allows folded.now (folding_of folded.now) source destination family spot ≡ false }
     {
@@ -65,7 +71,7 @@ impl KindReach {
     fn may_pass(&self, near: u32, far: u32) -> bool
         ensures { result ≡ may_pass self.now near far }
     {
-        self.sent.may(near, far) && self.received.may(far, near)
+        self.sent.may(near as usize, far as usize) && self.received.may(far as usize, near as usize)
     }
 }
 

@@ -1,6 +1,6 @@
 //! Estates built from what the examples write down.
-ghost use Rattle.std.specs.Prelude.{◌≡◌, true};
-ghost use Rattle.np_estate.specs.Lawful.{HasAscendingPriorities};
+ghost use Rattle.std.specs.Prelude.{◌≡◌, true, All, AllPairs};
+ghost use Rattle.np_estate.specs.Lawful.{HasAscendingPriorities, StandsBefore};
 
 use crate::written::{
     Pairs, WrittenAdmin, WrittenAdminPeer, WrittenAdminPort, WrittenAdminRule, WrittenBase,
@@ -17,6 +17,7 @@ use np_policies::{
     Subject,
 };
 use std::alloc::Global;
+use std::cmp::Ordering;
 use std::test::Fail;
 
 // What stands for a value.
@@ -106,12 +107,49 @@ fn baseline(alloc: Global, written: Option<&WrittenBase>) -> Result<Option<BaseP
     }
 }
 
-// The estate of lists whose admin policies ascend.
+// The estate of lists whose policies ascend.
 fn in_order(lists: EstateLists) -> Result<Estate, Fail> {
-    if ascend(lists.admin_policies.items()) {
+    if ascend(lists.admin_policies.items()) && stand_in_order(lists.net_policies.items()) {
         Ok(Estate::of(lists))
     } else {
-        Err("admin policies out of order")?
+        Err("policies out of order")?
+    }
+}
+
+// Whether the policies ascend in namespace and name.
+#[tactic(auto, using(crate::proofs::OrderLemmas::all_pairs_first, crate::proofs::OrderLemmas::all_pairs_nothing))]
+fn stand_in_order(policies: &[NetPolicy]) -> bool
+    ensures { result ≡ true → AllPairs StandsBefore policies.now }
+{
+    match policies {
+        [] => true,
+        [first, rest @ ..] => {
+            if !stands_before_all(first, rest) {
+                return false;
+            }
+            stand_in_order(rest)
+        }
+    }
+}
+
+fn stands_before_all(policy: &NetPolicy, others: &[NetPolicy]) -> bool
+    ensures { result ≡ true → All (StandsBefore policy.now) others.now }
+{
+    for other in others {
+        if !stands_before(policy, other) {
+            return false;
+        }
+    }
+    true
+}
+
+fn stands_before(policy: &NetPolicy, other: &NetPolicy) -> bool
+    ensures { result ≡ true → StandsBefore policy.now other.now }
+{
+    match policy.namespace.as_str().cmp(other.namespace.as_str()) {
+        Ordering::Less => true,
+        Ordering::Equal => policy.name.as_str() < other.name.as_str(),
+        Ordering::Greater => false,
     }
 }
 

@@ -76,14 +76,14 @@ fn example_allows(rt: HostRuntime) -> Result<(), Fail> {
         policies: &[
             WrittenPolicy {
                 namespace: "default",
-                name: "leaves",
+                name: "egress",
                 subject: &[("app", "a")],
                 ingress: None,
                 egress: Some(TO_80_AND_ON),
             },
             WrittenPolicy {
                 namespace: "default",
-                name: "arrives",
+                name: "ingress",
                 subject: &[("app", "b")],
                 ingress: Some(TO_90_AT_MOST),
                 egress: None,

@@ -1,4 +1,4 @@
-use Rattle.std.proofs.Common.{◌≡◌, map, take}
+use Rattle.std.proofs.Common.{◌≡◌, flat_map, map, take}
 use Rattle.std.specs.Prelude.{All}
 use Rattle.np_reach.proofs.spoken.spoken_by.Given as goal
 use Rattle.np_rules.specs.Ends.{pod, pod_end}
@@ -7,5 +7,5 @@ use Rattle.np_rules.specs.Ends.{pod, pod_end}
 abbrev pub invariant-loop-policy : goal.invariant-loop-policy
 invariant-loop-policy g l = record {
   policies : map (λ one. one.policy.now) l.made.items ≡ take l.policy-index l.policies;
-  far : All (λ one. one.far ≡ map (λ far. g.P.Speaker.speaks l.direction (pod (pod_end far.now)) one.policy.now) l.pods) l.made.items;
+  far : All (λ one. one.far ≡ map (λ far. g.P.Speaker.speaks l.direction (pod (pod_end far.now)) one.policy.now) (flat_map (λ stretch. stretch.pods.now) l.stretches)) l.made.items;
 }

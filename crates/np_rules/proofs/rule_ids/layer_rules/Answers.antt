@@ -15,7 +15,7 @@ pub returns-clause-isolating : goal.returns-clause-isolating
 returns-clause-isolating c =
     let within : c.args.pod < length c.pods.result.now = rw c.pods.ensures c.requires.pod in
     let seen : pod_view c.view_of_pod-view.result ≡ pod_at c.args.estate.now c.args.pod = pod_seen c.args.estate.now c.args.pod c.pods.result.now c.index-pods-pod.result _ c.pods.ensures within c.index-pods-pod.is c.view_of_pod-view.ensures in
-    subst (λ (policies : List NetPolicy). Pairwise (λ place policy. slice_get policies place ≡ Some policy) c.in_ok-isolating.isolating (filter (isolates c.args.direction (pod_at c.args.estate.now c.args.pod)) policies)) c.net_policies-2.ensures
+    subst (λ (policies : List NetPolicy). Pairwise (λ place policy. slice_get policies place ≡ Some policy) c.in_ok-isolating.isolating (filter (isolates c.args.direction (pod_at c.args.estate.now c.args.pod)) policies)) c.net_policies-2.ensures.value
     (subst (λ (p : PodEnd). Pairwise (λ place policy. slice_get c.net_policies-2.result.now place ≡ Some policy) c.in_ok-isolating.isolating (filter (isolates c.args.direction p) c.net_policies-2.result.now)) seen c.in_ok-isolating.ensures)
 
 pub returns-clause-base : goal.returns-clause-base

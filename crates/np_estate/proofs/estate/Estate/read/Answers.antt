@@ -1,10 +1,10 @@
 use Rattle.std.proofs.Common.{◌∙◌}
-use Rattle.np_estate.proofs.LawfulPolicies.{admin_policies-ascend}
+use Rattle.np_estate.proofs.LawfulPolicies.{admin_policies-ascend, net_policies-ascend}
 use Rattle.np_estate.proofs.LawfulReading.{lists_of-lawful}
 use Rattle.np_estate.proofs.estate.Estate.read.Goals as goal
 
 pub of-requires-2 : goal.of-requires-2
-of-requires-2 c = rw c.in_ok-lists_of.ensures (admin_policies-ascend c.in_ok-items.items)
+of-requires-2 c = rw c.in_ok-lists_of.ensures (record { admin_policies = admin_policies-ascend c.in_ok-items.items; net_policies = net_policies-ascend c.in_ok-items.items })
 
 pub returns-clause-lawful : goal.returns-clause-lawful
 returns-clause-lawful c =

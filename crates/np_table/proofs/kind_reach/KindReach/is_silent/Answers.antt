@@ -1,8 +1,9 @@
-use Rattle.std.proofs.Common.{refl, sym, ◌∙◌}
-use Rattle.np_fold.specs.Workloads.{folding_of}
+use Rattle.std.proofs.Common.{ℕ, not, slice_index, refl, sym, ap, ◌∙◌}
+use Rattle.np_fold.specs.Workloads.{Folding, folding_of}
 use Rattle.np_table.proofs.KindLemmas.{kind-there}
 use Rattle.np_table.proofs.SideLemmas.{not_true, silent-pair}
 use Rattle.np_table.proofs.kind_reach.KindReach.is_silent.Goals as goal
+use Rattle.np_table.specs.steps.PairSides.{may_pass}
 
 pub kind_of-near-requires : goal.kind_of-near-requires
 kind_of-near-requires c = rw c.workloads-workloads.ensures.value (kind-there c.args.folded.now (folding_of c.args.folded.now) c.args.source refl c.requires.source)
@@ -10,10 +11,13 @@ kind_of-near-requires c = rw c.workloads-workloads.ensures.value (kind-there c.a
 pub kind_of-far-requires : goal.kind_of-far-requires
 kind_of-far-requires c = rw c.workloads-workloads.ensures.value (kind-there c.args.folded.now (folding_of c.args.folded.now) c.args.destination refl c.requires.destination)
 
-pub returns : goal.returns
-returns c = record {
-  silent = λ told family spot.
-      silent-pair c.args.folded.now c.workloads-workloads.result.now c.args.self.now c.args.source c.args.destination c.kind_of-near.result c.kind_of-far.result family spot
-      c.workloads-workloads.ensures.value c.requires.reach c.workloads-workloads.ensures.lawful c.requires.source c.requires.destination c.kind_of-near.ensures c.kind_of-far.ensures
-      (sym c.may_pass.ensures ∙ not_true c.may_pass.result told);
-}
+pub returns-clause-known : goal.returns-clause-known
+returns-clause-known c =
+    ap not (c.may_pass.ensures ∙ ap (λ (near : ℕ). may_pass c.args.self.now near c.kind_of-far.result) (c.kind_of-near.ensures ∙ ap (λ (folding : Folding). slice_index folding.kinds c.args.source) c.workloads-workloads.ensures.value)
+    ∙ ap (may_pass c.args.self.now (slice_index (folding_of c.args.folded.now).kinds c.args.source)) (c.kind_of-far.ensures ∙ ap (λ (folding : Folding). slice_index folding.kinds c.args.destination) c.workloads-workloads.ensures.value))
+
+pub returns-clause-silent : goal.returns-clause-silent
+returns-clause-silent c = λ told family spot.
+    silent-pair c.args.folded.now c.workloads-workloads.result.now c.args.self.now c.args.source c.args.destination c.kind_of-near.result c.kind_of-far.result family spot
+    c.workloads-workloads.ensures.value c.requires.reach c.workloads-workloads.ensures.lawful c.requires.source c.requires.destination c.kind_of-near.ensures c.kind_of-far.ensures
+    (sym c.may_pass.ensures ∙ not_true c.may_pass.result told)

@@ -1,0 +1,105 @@
+-- Which namespaces policies may speak of, whatever the labels of their pods are.
+use Rattle.std.specs.Prelude.{◌≡◌, ℕ, List, [], ◌∷◌, Bool, true, false, ◌&&◌, ◌||◌, Some, None, unwrap_or}
+use Rattle.std.proofs.Common.{refl, sym, ap, ◌∙◌}
+use Rattle.std.proofs.lemmas.Bool.{and_left, false≢true, or_from, or_parts}
+use Rattle.std.specs.List.{list_any}
+use Rattle.std.specs.Str.{bytes_eq}
+use Rattle.np_addr.specs.declared.address.Family.{Family}
+use Rattle.np_addr.specs.declared.address.Family.TheVariants.{Four, Six}
+use Rattle.np_labels.specs.Selectors.{meets_selector}
+use Rattle.np_policies.specs.declared.admin_policy.AdminPeer.{AdminPeer}
+use Rattle.np_policies.specs.declared.admin_policy.AdminPeer.TheVariants as admin
+use Rattle.np_policies.specs.declared.admin_policy.AdminPolicy.{AdminPolicy}
+use Rattle.np_policies.specs.declared.admin_policy.AdminRule.{AdminRule}
+use Rattle.np_policies.specs.declared.direction.Direction.{Direction}
+use Rattle.np_policies.specs.declared.network_policy.NetPeer.{NetPeer}
+use Rattle.np_policies.specs.declared.network_policy.NetPeer.TheVariants as net
+use Rattle.np_policies.specs.declared.network_policy.NetPolicy.{NetPolicy}
+use Rattle.np_policies.specs.declared.network_policy.NetRule.{NetRule}
+use Rattle.np_reach.specs.Reach.{admin_reaches, admin_rule_reaches, net_reaches}
+use Rattle.np_rules.specs.Ends.{PodEnd, pod}
+use Rattle.np_rules.specs.Peers.{admin_peer_matches, net_peer_matches}
+use Rattle.np_rules.specs.Places.{admin_rules_of, net_rules_of}
+use Rattle.np_rules.specs.Rules.{none_or_any}
+use Rattle.np_rules.specs.Sides.{is_allow}
+
+-- two pods are of one namespace, as rules see them
+pub record AreOfOneNamespace (one far : PodEnd) : Type 0 where
+  pub name : far.namespace ≡ one.namespace
+  pub labels : far.namespace_labels ≡ one.namespace_labels
+
+-- ---- NetworkPolicies
+
+-- whether a peer of a NetworkPolicy of this namespace may stand for pods of a pod's namespace
+abbrev pub net_peer_concerns : List ℕ → PodEnd → NetPeer → Bool
+net_peer_concerns namespace one (net.Pods None pods) = bytes_eq namespace one.namespace
+net_peer_concerns namespace one (net.Pods (Some namespaces) pods) = meets_selector namespaces one.namespace_labels
+net_peer_concerns namespace one (net.Block cidr excepts) = false
+
+abbrev pub some_net_peer_concerns : List ℕ → PodEnd → List NetPeer → Bool
+some_net_peer_concerns namespace one peers = list_any (net_peer_concerns namespace one) peers
+
+abbrev pub net_rule_concerns : List ℕ → PodEnd → NetRule → Bool
+net_rule_concerns namespace one rule = none_or_any (net_peer_concerns namespace one) rule.peers
+
+abbrev pub net_concerns : Direction → PodEnd → NetPolicy → Bool
+net_concerns direction one policy = list_any (net_rule_concerns policy.namespace one) (unwrap_or (net_rules_of direction policy) [])
+
+-- ---- admin policies
+
+-- whether a peer of an admin rule may stand for pods of a pod's namespace
+abbrev pub admin_peer_concerns : PodEnd → AdminPeer → Bool
+admin_peer_concerns one (admin.Pods namespaces pods) = meets_selector namespaces one.namespace_labels
+admin_peer_concerns one (admin.Networks cidrs) = true
+
+abbrev pub some_admin_peer_concerns : PodEnd → List AdminPeer → Bool
+some_admin_peer_concerns one peers = list_any (admin_peer_concerns one) peers
+
+abbrev pub admin_rule_concerns : PodEnd → AdminRule → Bool
+admin_rule_concerns one rule = is_allow rule.action && some_admin_peer_concerns one rule.peers
+
+abbrev pub admin_concerns : Direction → PodEnd → AdminPolicy → Bool
+admin_concerns direction one policy = list_any (admin_rule_concerns one) (admin_rules_of direction policy)
+
+-- ---- where no rule may speak of pods of a namespace, none speaks of one
+
+-- what fails wherever another test fails passes at no item where that passes at none
+pub quieter : {X : Type 0} (test less : X → Bool) (xs : List X) → ((x : X) → test x ≡ false → less x ≡ false) → list_any test xs ≡ false → list_any less xs ≡ false
+quieter test less [] weaker none = refl
+quieter test less (x ∷ xs) weaker none =
+    let parts = or_parts (test x) (list_any test xs) none in
+    or_from (less x) (list_any less xs) (weaker x parts.0) (quieter test less xs weaker parts.1)
+
+none_quieter : {X : Type 0} (test less : X → Bool) (xs : List X) → ((x : X) → test x ≡ false → less x ≡ false) → none_or_any test xs ≡ false → none_or_any less xs ≡ false
+none_quieter test less [] weaker none = absurd (false≢true (sym none))
+none_quieter test less (x ∷ xs) weaker none = quieter test less (x ∷ xs) weaker none
+
+net_peer_silent : (namespace : List ℕ) (one far : PodEnd) (peer : NetPeer) → AreOfOneNamespace one far → net_peer_concerns namespace one peer ≡ false → net_peer_matches namespace peer (pod far) ≡ false
+net_peer_silent namespace one far (net.Pods None None) same none = refl
+net_peer_silent namespace one far (net.Pods None (Some pods)) same none = and_left _ _ (ap (bytes_eq namespace) same.name ∙ none)
+net_peer_silent namespace one far (net.Pods (Some namespaces) None) same none = ap (meets_selector namespaces) same.labels ∙ none
+net_peer_silent namespace one far (net.Pods (Some namespaces) (Some pods)) same none = and_left _ _ (ap (meets_selector namespaces) same.labels ∙ none)
+net_peer_silent namespace one far (net.Block cidr excepts) same none = refl
+
+pub net_silent_elsewhere : (policy : NetPolicy) (direction : Direction) (one far : PodEnd) → AreOfOneNamespace one far → net_concerns direction one policy ≡ false → net_reaches direction (pod far) policy ≡ false
+net_silent_elsewhere policy direction one far same =
+    quieter (net_rule_concerns policy.namespace one) (λ rule. none_or_any (λ peer. net_peer_matches policy.namespace peer (pod far)) rule.peers) (unwrap_or (net_rules_of direction policy) [])
+    (λ rule. none_quieter (net_peer_concerns policy.namespace one) (λ peer. net_peer_matches policy.namespace peer (pod far)) rule.peers (λ peer. net_peer_silent policy.namespace one far peer same))
+
+admin_peer_silent : (one far : PodEnd) (family : Family) (peer : AdminPeer) → AreOfOneNamespace one far → admin_peer_concerns one peer ≡ false → admin_peer_matches peer (pod far) family ≡ false
+admin_peer_silent one far family (admin.Pods namespaces pods) same none = and_left _ _ (ap (meets_selector namespaces) same.labels ∙ none)
+admin_peer_silent one far family (admin.Networks cidrs) same none = absurd (false≢true (sym none))
+
+admin_rule_silent : (one far : PodEnd) (rule : AdminRule) → AreOfOneNamespace one far → admin_rule_concerns one rule ≡ false → admin_rule_reaches (pod far) rule ≡ false
+admin_rule_silent one far rule same = go (is_allow rule.action)
+  where
+    silent : (family : Family) → list_any (admin_peer_concerns one) rule.peers ≡ false → list_any (λ peer. admin_peer_matches peer (pod far) family) rule.peers ≡ false
+    silent family = quieter (admin_peer_concerns one) (λ peer. admin_peer_matches peer (pod far) family) rule.peers (λ peer. admin_peer_silent one far family peer same)
+
+    go : (b : Bool) → (b && some_admin_peer_concerns one rule.peers) ≡ false → (b && (list_any (λ peer. admin_peer_matches peer (pod far) Four) rule.peers || list_any (λ peer. admin_peer_matches peer (pod far) Six) rule.peers)) ≡ false
+    go true none = or_from _ _ (silent Four none) (silent Six none)
+    go false none = refl
+
+pub admin_silent_elsewhere : (policy : AdminPolicy) (direction : Direction) (one far : PodEnd) → AreOfOneNamespace one far → admin_concerns direction one policy ≡ false → admin_reaches direction (pod far) policy ≡ false
+admin_silent_elsewhere policy direction one far same =
+    quieter (admin_rule_concerns one) (admin_rule_reaches (pod far)) (admin_rules_of direction policy) (λ rule. admin_rule_silent one far rule same)
