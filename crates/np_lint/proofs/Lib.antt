@@ -13,6 +13,7 @@ pub mod PacketLemmas
 pub mod PolicyLemmas
 pub mod PrintLemmas
 pub mod PushLemmas
+pub mod QuietLemmas
 pub mod RuleListLemmas
 pub mod SearchLemmas
 pub mod StayLemmas

@@ -12,7 +12,7 @@ use Rattle.np_lint.specs.Used.{stands_in}
 use Rattle.np_lint.specs.declared.rule_ref.Tier.{Tier}
 use Rattle.np_lint.specs.declared.rule_ref.Tier.TheVariants as tier
 use Rattle.np_lint.specs.declared.used_rules.UsedRules.{UsedRules}
-use Rattle.np_lint.specs.steps.Known.{all_known, flag_at, flags_of, ids_of, is_known, is_met, marks, place_in}
+use Rattle.np_lint.specs.steps.Known.{all_known, are_known, flag_at, flags_of, ids_of, is_known, is_met, marks, place_in}
 use Rattle.np_lint.specs.steps.Search.{AllAreUsed, AreRulesOf, AreUsed, IsSound, Knows, KnowsAll, ref_of, side_decider}
 use Rattle.np_rules.specs.Ends.{Contact}
 use Rattle.np_rules.specs.Layers.{IsAdminPart, IsBasePart, IsLayer, IsSetOf, Pairwise, matches_of, tier_action}
@@ -92,3 +92,10 @@ module _ (side : PodSide) (lawful : IsLawful side.lists) where
       flagged tier.Admin met = met_flagged (flag_at used.admin) rules.admin _ policy place (and_parts _ _ (and_parts _ _ all).0).0 met
       flagged tier.Net met = met_flagged (flag_at used.net) rules.net _ policy place (and_parts _ _ (and_parts _ _ all).0).1 met
       flagged tier.Base met = met_flagged (flag_at used.base) rules.base _ policy place (and_parts _ _ all).1 met
+
+  -- where the admin rules of the side are known, so is the one that stands in what decides
+  pub knows_admin : (rules : LayerRules) → AreRulesOf side rules → (used : UsedRules) → are_known used.admin rules.admin ≡ true → (looks_at : Contact) (policy place : ℕ) → place < rule_count_at side.lists tier.Admin side.direction policy → stands_in side.lists (ref_of side.direction tier.Admin policy place) (side_decider side looks_at) ≡ true → is_known used tier.Admin policy place ≡ true
+  unfolding is_known marks
+  knows_admin rules are used all looks_at policy place valid stands =
+      met_flagged (flag_at used.admin) rules.admin (place_in tier.Admin (mark_of (λ set. has_contact set looks_at) tests)) policy place all
+      (sym (stands_at has_contact (λ _. true) side (λ _ contact. contact) tests lawful is_layer rules are looks_at refl tier.Admin policy place valid) ∙ stands)

@@ -93,20 +93,20 @@ all_known_of side lawful rules are kinds near used answer is all = record {
 abbrev pub KnowsFirst : PodSide → List KindPod → ℕ → Family → UsedRules → ℕ → Type 0
 KnowsFirst side kinds near family used count = (kind : ℕ) (far : KindPod) → kind < count → slice_get kinds kind ≡ Some far → is_asked near kind far ≡ true → KnowsAll is_spot side (with_pod far.pod family) used
 
-pub first_more : (side : PodSide) (kinds : List KindPod) (near : ℕ) (family : Family) (old new : UsedRules) (kind : ℕ) (far : KindPod) (asked : Bool) → slice_get kinds kind ≡ Some far → Grows old new → asked ≡ is_asked near kind far → (asked ≡ true → KnowsAll is_spot side (with_pod far.pod family) new) → KnowsFirst side kinds near family old kind → KnowsFirst side kinds near family new (kind + 1)
-first_more side kinds near family old new kind far asked is grows asks here before =
+pub first_more : (side : PodSide) (kinds : List KindPod) (near : ℕ) (family : Family) (old new : UsedRules) (kind : ℕ) (far : KindPod) → slice_get kinds kind ≡ Some far → Grows old new → (is_asked near kind far ≡ true → KnowsAll is_spot side (with_pod far.pod family) new) → KnowsFirst side kinds near family old kind → KnowsFirst side kinds near family new (kind + 1)
+first_more side kinds near family old new kind far is grows here before =
     below_more (λ k other. is_asked near k other ≡ true → KnowsAll is_spot side (with_pod other.pod family) new) kinds kind far is
     (λ k other low at asked_k. knows_all_grows is_spot side (with_pod other.pod family) old new grows (before k other low at asked_k))
-    (λ asked_here. here (asks ∙ asked_here))
+    here
 
 pub first_all : (side : PodSide) (kinds : List KindPod) (near : ℕ) (family : Family) (used : UsedRules) (count : ℕ) → length kinds ≤ count → KnowsFirst side kinds near family used count → KnowsPods side kinds near family used
 unfolding KnowsPods
 first_all side kinds near family used count all first kind far at asked = first kind far (omega (arith, slice_get_within kinds kind far at)) at asked
 
 -- what a kind is asked for is used
-pub asked_used : (side : PodSide) (kinds : List KindPod) (near : ℕ) (family : Family) (kind : ℕ) (far : KindPod) (asked : Bool) → PodsAreUsed side kinds near family → slice_get kinds kind ≡ Some far → asked ≡ is_asked near kind far → asked ≡ true → AllAreUsed is_spot side (with_pod far.pod family)
+pub asked_used : (side : PodSide) (kinds : List KindPod) (near : ℕ) (family : Family) (kind : ℕ) (far : KindPod) → PodsAreUsed side kinds near family → slice_get kinds kind ≡ Some far → is_asked near kind far ≡ true → AllAreUsed is_spot side (with_pod far.pod family)
 unfolding PodsAreUsed
-asked_used side kinds near family kind far asked used is asks answer = used kind far is (sym asks ∙ answer)
+asked_used side kinds near family kind far used is asked = used kind far is asked
 
 -- ---- families one after another
 

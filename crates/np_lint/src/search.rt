@@ -3,162 +3,212 @@ ghost use Rattle.std.specs.Prelude.{◌≡◌, ◌<◌, ◌≤◌, true, Some, s
 ghost use Rattle.std.specs.List.{Contains};
 ghost use Rattle.np_addr.specs.declared.address.Family.{Family as SpecFamily};
 ghost use Rattle.np_conns.specs.Conns.{is_spot};
-ghost use Rattle.np_estate.specs.Lawful.{IsLawful};
 ghost use Rattle.np_lint.specs.declared.kind_pods.KindPod.{KindPod as SpecPod};
-ghost use Rattle.np_lint.specs.steps.Kinds.{AreKindPods, is_asked};
-ghost use Rattle.np_lint.specs.steps.Search.{AllAreUsed, AreRulesOf, Finds, Grows, IsSound, KnowsAll, KnowsPods, KnowsSide, PodsAreUsed};
+ghost use Rattle.np_lint.specs.steps.Kinds.{is_asked};
+ghost use Rattle.np_lint.specs.steps.Search.{AllAreUsed, AreKinds, Finds, Grows, IsSearch, IsSound, KnowsAll, KnowsPods, KnowsSide, PodsAreUsed, may_tell};
+ghost use Rattle.np_reach.specs.Reach.{reach_of};
 ghost use Rattle.np_rules.specs.EveryAddress.{is_place};
 ghost use Rattle.np_rules.specs.PodSides.{side_of, with_addresses, with_pod};
+ghost use Rattle.np_table.specs.PairRules.{first_ends};
 
 use crate::kind_pods::{KindPod, kind_pods};
-use crate::used_rules::UsedRules;
+use crate::used_rules::{UsedRules, has_each};
 use np_addr::Family;
 use np_base::NoMemory;
 use np_estate::Estate;
 use np_fold::Folded;
 use np_policies::Direction;
+use np_reach::Reach;
 use np_rules::{LayerRules, PodRules, layer_rules};
 use np_steps::Steps;
 use std::alloc::Global;
 use std::sync::ledger::Ledger;
 
-/// The rules of a direction that are used. The rules of each kind of pods are looked at with all addresses as far ends, and
-/// then with each kind, until all of them are known.
+/// The kinds of workloads of a cluster in a direction: the pods that stand for them, and which of them the side of each may
+/// let through at all.
+#[derive(Clone, Copy)]
+pub(crate) struct Kinds<'e, 'p> {
+    pub alloc: Global,
+    pub estate: &'e Estate,
+    pub direction: Direction,
+    pub pods: &'p [KindPod],
+    pub reach: &'e Reach,
+}
+
+/// The side of the pod that stands for a kind, and the rules that speak of that pod.
+#[derive(Clone, Copy)]
+pub(crate) struct Search<'e, 'p, 's> {
+    pub kinds: Kinds<'e, 'p>,
+    pub near: usize,
+    pub side: &'s PodRules<'e>,
+    pub rules: &'s LayerRules,
+}
+
+impl Search<'_, '_, '_> {
+    /// Whether the pod of a kind as the far end may tell of a rule that is not known yet. Of a far end that the side lets
+    /// through in no case, NetworkPolicies and the baseline decide nothing, so that it tells of admin rules alone.
+    fn may_tell(&self, kind: usize, used: &UsedRules) -> bool
+        requires { kind < length self.now.kinds.pods.now }
+        ensures { (far : SpecPod) → slice_get self.now.kinds.pods.now kind ≡ Some far →
+            result ≡ may_tell self.now used.now kind far }
+    {
+        is_asked(self.near, kind, &self.kinds.pods[kind])
+            && (self.kinds.reach.may(self.near, kind)
+                || !has_each(&used.admin, self.rules.admin.items()))
+    }
+}
+
+/// The rules of a direction that are used, by what the first pods of the kinds may let through. The rules of each kind of
+/// pods are looked at with all addresses as far ends, and then with each kind, until all of them are known.
 pub(crate) fn used_rules<L: Ledger>(
     alloc: Global,
     folded: &Folded,
+    reach: &Reach,
     direction: Direction,
     steps: &mut Steps<L>,
 ) -> Result<UsedRules, NoMemory>
+    requires reach { reach.now ≡ reach_of folded.now direction (first_ends folded.now) }
     ensures all { IfOk result (λ used. Finds folded.now direction used) }
     ensures least { steps.old ≤ steps.new }
 {
-    let estate = folded.estate();
-    let kinds = kind_pods(alloc, folded)?;
+    let pods = kind_pods(alloc, folded)?;
+    let kinds = Kinds {
+        alloc,
+        estate: folded.estate(),
+        direction,
+        pods: &pods,
+        reach,
+    };
     let mut used = UsedRules::none(alloc);
-    for near in 0..kinds.len() {
-        search_side(alloc, estate, &kinds, near, direction, &mut used, steps)?;
+    for near in 0..pods.len() {
+        search_side(&kinds, near, &mut used, steps)?;
     }
     Ok(used)
 }
 
 // Looks for the rules of the pod that stands for a kind, unless all are known.
 fn search_side<L: Ledger>(
-    alloc: Global,
-    estate: &Estate,
-    kinds: &[KindPod],
+    kinds: &Kinds<'_, '_>,
     near: usize,
-    direction: Direction,
     used: &mut UsedRules,
     steps: &mut Steps<L>,
 ) -> Result<(), NoMemory>
-    requires lawful { IsLawful estate.now }
-    requires kinds { AreKindPods estate.now kinds.now }
-    requires near { near < length kinds.now }
-    requires sound { IsSound estate.now direction used.old }
-    ensures sound { OnOk result (IsSound estate.now direction used.new) }
+    requires kinds { AreKinds kinds.now }
+    requires near { near < length kinds.now.pods.now }
+    requires sound { IsSound kinds.now.estate.now kinds.now.direction used.old }
+    ensures sound { OnOk result (IsSound kinds.now.estate.now kinds.now.direction used.new) }
     ensures grows { OnOk result (Grows used.old used.new) }
-    ensures finds { OnOk result ((one : SpecPod) → slice_get kinds.now near ≡ Some one →
-        KnowsSide (side_of estate.now one.pod direction) kinds.now near used.new) }
+    ensures finds { OnOk result ((one : SpecPod) → slice_get kinds.now.pods.now near ≡ Some one →
+        KnowsSide (side_of kinds.now.estate.now one.pod kinds.now.direction) kinds.now.pods.now near used.new) }
     ensures least { steps.old ≤ steps.new }
 {
-    let pod = kinds[near].pod;
-    let rules = layer_rules(alloc, estate, pod, direction)?;
+    let pod = kinds.pods[near].pod;
+    let rules = layer_rules(kinds.alloc, kinds.estate, pod, kinds.direction)?;
     if used.has_all(&rules) {
         return Ok(());
     }
-    let side = PodRules::of(alloc, estate, pod, direction)?;
-    search_addresses(alloc, &side, &rules, used, steps)?;
-    search_families(
-        alloc,
-        estate.families(),
-        kinds,
+    let side = PodRules::of(kinds.alloc, kinds.estate, pod, kinds.direction)?;
+    let search = Search {
+        kinds: *kinds,
         near,
-        &side,
-        &rules,
-        used,
-        steps,
-    )
+        side: &side,
+        rules: &rules,
+    };
+    search_addresses(&search, used, steps)?;
+    search_families(&search, kinds.estate.families(), used, steps)
 }
 
 // Looks for the rules of a side with all addresses as far ends.
 fn search_addresses<L: Ledger>(
-    alloc: Global,
-    side: &PodRules<'_>,
-    rules: &LayerRules,
+    search: &Search<'_, '_, '_>,
     used: &mut UsedRules,
     steps: &mut Steps<L>,
 ) -> Result<(), NoMemory>
-    requires lawful { IsLawful side.now.lists }
-    requires rules { AreRulesOf side.now rules.now }
-    requires listed { AllAreUsed is_place side.now with_addresses }
-    requires sound { IsSound side.now.lists side.now.direction used.old }
-    ensures sound { OnOk result (IsSound side.now.lists side.now.direction used.new) }
+    requires search { IsSearch search.now }
+    requires listed { AllAreUsed is_place search.now.side.now with_addresses }
+    requires sound { IsSound search.now.side.now.lists search.now.side.now.direction used.old }
+    ensures sound { OnOk result (IsSound search.now.side.now.lists search.now.side.now.direction used.new) }
     ensures grows { OnOk result (Grows used.old used.new) }
-    ensures finds { OnOk result (KnowsAll is_place side.now with_addresses used.new) }
+    ensures finds { OnOk result (KnowsAll is_place search.now.side.now with_addresses used.new) }
     ensures least { steps.old ≤ steps.new }
 {
-    let layer = side.address_layer(alloc, steps)?;
-    used.note_layer(alloc, layer, rules)
+    let layer = search.side.address_layer(search.kinds.alloc, steps)?;
+    used.note_layer(search.kinds.alloc, layer, search.rules)
 }
 
 // Looks for the rules of a side with the pods of all kinds as far ends, in packets of some families.
 fn search_families<L: Ledger>(
-    alloc: Global,
+    search: &Search<'_, '_, '_>,
     families: &[Family],
-    kinds: &[KindPod],
-    near: usize,
-    side: &PodRules<'_>,
-    rules: &LayerRules,
     used: &mut UsedRules,
     steps: &mut Steps<L>,
 ) -> Result<(), NoMemory>
-    requires lawful { IsLawful side.now.lists }
-    requires kinds { AreKindPods side.now.lists kinds.now }
-    requires rules { AreRulesOf side.now rules.now }
-    requires listed { (family : SpecFamily) → Contains families.now family → PodsAreUsed side.now kinds.now near family }
-    requires sound { IsSound side.now.lists side.now.direction used.old }
-    ensures sound { OnOk result (IsSound side.now.lists side.now.direction used.new) }
+    requires search { IsSearch search.now }
+    requires listed { (family : SpecFamily) → Contains families.now family →
+        PodsAreUsed search.now.side.now search.now.kinds.pods.now search.now.near family }
+    requires sound { IsSound search.now.side.now.lists search.now.side.now.direction used.old }
+    ensures sound { OnOk result (IsSound search.now.side.now.lists search.now.side.now.direction used.new) }
     ensures grows { OnOk result (Grows used.old used.new) }
     ensures finds { OnOk result ((family : SpecFamily) → Contains families.now family →
-        KnowsPods side.now kinds.now near family used.new) }
+        KnowsPods search.now.side.now search.now.kinds.pods.now search.now.near family used.new) }
     ensures least { steps.old ≤ steps.new }
 {
     for family in families {
-        search_pods(alloc, kinds, near, side, rules, *family, used, steps)?;
+        search_pods(search, *family, used, steps)?;
     }
     Ok(())
 }
 
 // Looks for the rules of a side with the pods of all kinds as far ends, until all are known.
 fn search_pods<L: Ledger>(
-    alloc: Global,
-    kinds: &[KindPod],
-    near: usize,
-    side: &PodRules<'_>,
-    rules: &LayerRules,
+    search: &Search<'_, '_, '_>,
     family: Family,
     used: &mut UsedRules,
     steps: &mut Steps<L>,
 ) -> Result<(), NoMemory>
-    requires lawful { IsLawful side.now.lists }
-    requires kinds { AreKindPods side.now.lists kinds.now }
-    requires rules { AreRulesOf side.now rules.now }
-    requires listed { PodsAreUsed side.now kinds.now near family }
-    requires sound { IsSound side.now.lists side.now.direction used.old }
-    ensures sound { OnOk result (IsSound side.now.lists side.now.direction used.new) }
+    requires search { IsSearch search.now }
+    requires listed { PodsAreUsed search.now.side.now search.now.kinds.pods.now search.now.near family }
+    requires sound { IsSound search.now.side.now.lists search.now.side.now.direction used.old }
+    ensures sound { OnOk result (IsSound search.now.side.now.lists search.now.side.now.direction used.new) }
     ensures grows { OnOk result (Grows used.old used.new) }
-    ensures finds { OnOk result (KnowsPods side.now kinds.now near family used.new) }
+    ensures finds { OnOk result (KnowsPods search.now.side.now search.now.kinds.pods.now search.now.near family used.new) }
     ensures least { steps.old ≤ steps.new }
 {
-    for (kind, far) in kinds.iter().enumerate() {
-        if used.has_all(rules) {
+    for kind in 0..search.kinds.pods.len() {
+        if used.has_all(search.rules) {
             return Ok(());
         }
-        let asked = is_asked(near, kind, far);
-        search_pod(alloc, far.pod, asked, side, rules, family, used, steps)?;
+        search_kind(search, kind, family, used, steps)?;
     }
     Ok(())
+}
+
+// Looks for the rules of a side with the pod of a kind as the far end, where it may tell of any.
+fn search_kind<L: Ledger>(
+    search: &Search<'_, '_, '_>,
+    kind: usize,
+    family: Family,
+    used: &mut UsedRules,
+    steps: &mut Steps<L>,
+) -> Result<(), NoMemory>
+    requires search { IsSearch search.now }
+    requires kind { kind < length search.now.kinds.pods.now }
+    requires listed { PodsAreUsed search.now.side.now search.now.kinds.pods.now search.now.near family }
+    requires sound { IsSound search.now.side.now.lists search.now.side.now.direction used.old }
+    ensures sound { OnOk result (IsSound search.now.side.now.lists search.now.side.now.direction used.new) }
+    ensures grows { OnOk result (Grows used.old used.new) }
+    ensures finds { OnOk result ((far : SpecPod) → slice_get search.now.kinds.pods.now kind ≡ Some far →
+        is_asked search.now.near kind far ≡ true → KnowsAll is_spot search.now.side.now (with_pod far.pod family) used.new) }
+    ensures least { steps.old ≤ steps.new }
+{
+    if !search.may_tell(kind, used) {
+        return Ok(());
+    }
+    let far = search.kinds.pods[kind].pod;
+    let layer = search
+        .side
+        .pod_layer(search.kinds.alloc, far, family, steps)?;
+    used.note_layer(search.kinds.alloc, layer, search.rules)
 }
 
 // Whether a kind is asked for with another one, or with itself: it has to have two pods then.
@@ -166,32 +216,4 @@ fn is_asked(near: usize, kind: usize, far: &KindPod) -> bool
     ensures { result ≡ is_asked near kind far.now }
 {
     kind != near || far.is_shared
-}
-
-// Looks for the rules of a side with a pod as the far end, if that is asked for.
-fn search_pod<L: Ledger>(
-    alloc: Global,
-    far: u32,
-    is_asked: bool,
-    side: &PodRules<'_>,
-    rules: &LayerRules,
-    family: Family,
-    used: &mut UsedRules,
-    steps: &mut Steps<L>,
-) -> Result<(), NoMemory>
-    requires lawful { IsLawful side.now.lists }
-    requires rules { AreRulesOf side.now rules.now }
-    requires far { far < length side.now.lists.pods }
-    requires listed { is_asked ≡ true → AllAreUsed is_spot side.now (with_pod far family) }
-    requires sound { IsSound side.now.lists side.now.direction used.old }
-    ensures sound { OnOk result (IsSound side.now.lists side.now.direction used.new) }
-    ensures grows { OnOk result (Grows used.old used.new) }
-    ensures finds { OnOk result (is_asked ≡ true → KnowsAll is_spot side.now (with_pod far family) used.new) }
-    ensures least { steps.old ≤ steps.new }
-{
-    if !is_asked {
-        return Ok(());
-    }
-    let layer = side.pod_layer(alloc, far, family, steps)?;
-    used.note_layer(alloc, layer, rules)
 }

@@ -11,6 +11,7 @@ use np_base::{NoMemory, Seq};
 use np_fold::Folded;
 use np_policies::Direction;
 use np_steps::Steps;
+use np_table::KindReach;
 use std::alloc::Global;
 use std::sync::ledger::Ledger;
 
@@ -28,8 +29,9 @@ pub fn unused_rules<L: Ledger>(
     ensures rules { IfOk result (λ rules. rules ≡ unused_of folded.now) }
     ensures least { steps.old ≤ steps.new }
 {
-    let ingress = used_rules(alloc, folded, Direction::Ingress, steps)?;
-    let egress = used_rules(alloc, folded, Direction::Egress, steps)?;
+    let reach = KindReach::of(alloc, folded)?;
+    let ingress = used_rules(alloc, folded, &reach.received, Direction::Ingress, steps)?;
+    let egress = used_rules(alloc, folded, &reach.sent, Direction::Egress, steps)?;
     let rules = all_rules(alloc, folded.estate())?;
     let unused = keep_unknown(alloc, rules.items(), &ingress, &egress)?;
     Ok(unused)

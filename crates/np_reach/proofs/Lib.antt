@@ -1,3 +1,4 @@
 pub mod MarkLemmas
 pub mod ReachLemmas
+pub mod SpokenLemmas
 pub mod StretchLemmas

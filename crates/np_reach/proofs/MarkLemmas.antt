@@ -4,11 +4,12 @@ use Rattle.std.specs.Prelude.{All}
 use Rattle.std.specs.List.{flat_map, list_any, range_with_len}
 use Rattle.std.specs.Option.{option_map}
 use Rattle.std.proofs.lemmas.List.{append_assoc, map-append, take_more}
-use Rattle.std.proofs.lemmas.List.FromFn.{map-range_with_len_more}
 use Rattle.std.proofs.lemmas.Option.{slice_get-map}
 use Rattle.np_estate.specs.declared.lists.EstateLists.{EstateLists}
 use Rattle.np_policies.specs.declared.direction.Direction.{Direction}
+use Rattle.np_reach.specs.Marks.{IsSpoken, speaks_at}
 use Rattle.np_reach.specs.Reach.{admin_reaches, has_place, may_at, may_reach, net_reaches, reach_of}
+use Rattle.np_reach.specs.declared.spoken.Marks.{Marks}
 use Rattle.np_rules.proofs.PlacesLemmas.{flat_map-next}
 use Rattle.np_rules.specs.Ends.{PodEnd, pod}
 use Rattle.np_rules.specs.NetTier.{is_isolated}
@@ -23,14 +24,6 @@ by_place f g xs same = from f g 0 xs (λ place x at. ap f (let is : 0 + place �
     from {X} {Y} f g n (x ∷ xs) same =
         ap (λ (y : Y). y ∷ map f (range_with_len (n + 1) (length xs))) (ap f (let is : n ≡ n + zero = omega arith in is) ∙ same zero x refl)
         ∙ ap (λ (ys : List Y). g x ∷ ys) (from f g (n + 1) xs (λ place y at. ap f (let is : n + 1 + place ≡ n + suc place = omega arith in is) ∙ same (suc place) y at))
-
--- one place more
-pub place_more : {Y : Type 0} (f : ℕ → Y) (place : ℕ) (made new : List Y) (y : Y) → new ≡ made ++ y ∷ [] → made ≡ map f (range_with_len 0 place) → y ≡ f place → new ≡ map f (range_with_len 0 (place + 1))
-place_more {Y} f place made new y pushed so_far is =
-    pushed
-    ∙ ap (λ (ys : List Y). ys ++ y ∷ []) so_far
-    ∙ ap (λ (last : Y). map f (range_with_len 0 place) ++ last ∷ []) is
-    ∙ sym (map-range_with_len_more f 0 place place (omega arith))
 
 -- one item more
 pub item_more : {X Y : Type 0} (f : X → Y) (xs : List X) (i : ℕ) (x : X) (made new : List Y) (y : Y) → i < length xs → x ≡ get_or xs i x → new ≡ made ++ y ∷ [] → made ≡ map f (take i xs) → y ≡ f x → new ≡ map f (take (i + 1) xs)
@@ -48,9 +41,9 @@ item_behind {X} {Y} f xs i x start made new y within at pushed so_far is =
     ∙ append_assoc start (map f (take i xs)) (y ∷ [])
     ∙ ap (λ (ys : List Y). start ++ ys) (item_more f xs i x (map f (take i xs)) (map f (take i xs) ++ y ∷ []) y within at refl refl is)
 
--- what is said of the pods of one stretch more
-pub marks_more : {S X Y : Type 0} (f : X → Y) (pods_of : S → List X) (stretches : List S) (i : ℕ) (stretch : S) (made new : List Y) → i < length stretches → stretch ≡ get_or stretches i stretch → new ≡ made ++ map f (pods_of stretch) → made ≡ map f (flat_map pods_of (take i stretches)) → new ≡ map f (flat_map pods_of (take (i + 1) stretches))
-marks_more {S} {X} {Y} f pods_of stretches i stretch made new within at pushed so_far =
+-- the rows of one stretch more
+pub rows_more : {S X Y : Type 0} (f : X → Y) (pods_of : S → List X) (stretches : List S) (i : ℕ) (stretch : S) (made new : List Y) → i < length stretches → stretch ≡ get_or stretches i stretch → new ≡ made ++ map f (pods_of stretch) → made ≡ map f (flat_map pods_of (take i stretches)) → new ≡ map f (flat_map pods_of (take (i + 1) stretches))
+rows_more {S} {X} {Y} f pods_of stretches i stretch made new within at pushed so_far =
     pushed
     ∙ ap (λ (ys : List Y). ys ++ map f (pods_of stretch)) so_far
     ∙ sym (ap (map f) (flat_map-next pods_of stretches i stretch within at) ∙ map-append f (flat_map pods_of (take i stretches)) (pods_of stretch))
@@ -69,26 +62,23 @@ pub mark_at : {X : Type 0} (speaks : X → Bool) (xs : List X) (place : ℕ) (x 
 mark_at speaks xs place x at = ap (λ mark. unwrap_or mark false) (slice_get-map speaks xs place ∙ ap (option_map speaks) at)
 
 -- some policy that was picked marks the place of an item exactly where one that would be picked speaks of the item
-pub marked_by : {P X O : Type 0} (policy_of : O → P) (far_of : O → List Bool) (picks : P → Bool) (speaks : P → X → Bool) (policies : List P) (xs : List X) (place : ℕ) (x : X) (made : List O) → map policy_of made ≡ policies → All (λ one. far_of one ≡ map (speaks (policy_of one)) xs) made → slice_get xs place ≡ Some x → list_any (λ one. picks (policy_of one) && has_place (far_of one) place) made ≡ list_any (λ policy. picks policy && speaks policy x) policies
+pub marked_by : {P X O : Type 0} (policy_of : O → P) (far_of : O → List Marks) (picks : P → Bool) (speaks : P → X → Bool) (policies : List P) (xs : List X) (place : ℕ) (x : X) (made : List O) → map policy_of made ≡ policies → All (λ one. IsSpoken (speaks (policy_of one)) xs (far_of one)) made → slice_get xs place ≡ Some x → list_any (λ one. picks (policy_of one) && speaks_at (far_of one) place) made ≡ list_any (λ policy. picks policy && speaks policy x) policies
 marked_by {P} {X} {O} policy_of far_of picks speaks policies xs place x made are far at = go made far ∙ ap (list_any (λ policy. picks policy && speaks policy x)) are
   where
-    go : (made : List O) → All (λ one. far_of one ≡ map (speaks (policy_of one)) xs) made → list_any (λ one. picks (policy_of one) && has_place (far_of one) place) made ≡ list_any (λ policy. picks policy && speaks policy x) (map policy_of made)
+    go : (made : List O) → All (λ one. IsSpoken (speaks (policy_of one)) xs (far_of one)) made → list_any (λ one. picks (policy_of one) && speaks_at (far_of one) place) made ≡ list_any (λ policy. picks policy && speaks policy x) (map policy_of made)
     go [] far = refl
     go (one ∷ made) far =
-        ap (λ b. picks (policy_of one) && b || list_any (λ one. picks (policy_of one) && has_place (far_of one) place) made) (ap (λ marks. has_place marks place) (far 0 one (omega arith)) ∙ mark_at (speaks (policy_of one)) xs place x at)
+        ap (λ b. picks (policy_of one) && b || list_any (λ one. picks (policy_of one) && speaks_at (far_of one) place) made) ((far 0 one (omega arith)).say place x at)
         ∙ ap (λ b. picks (policy_of one) && speaks (policy_of one) x || b) (go made (λ i d within. far (suc i) d (omega arith)))
 
 -- a row of a pod
-pub row_right : {X C : Type 0} (lists : EstateLists) (direction : Direction) (near : PodEnd) (end_of : X → PodEnd) (pods : List X) (isolated : Bool) (marks_of : C → List Bool) (chosen : List C) → isolated ≡ is_isolated lists.net_policies direction near → ((place : ℕ) (x : X) → slice_get pods place ≡ Some x → list_any (λ one. has_place (marks_of one) place) chosen ≡ (list_any (λ policy. net_selects policy near && net_reaches direction (pod (end_of x)) policy) lists.net_policies || list_any (λ policy. subject_selects policy.subject near && admin_reaches direction (pod (end_of x)) policy) lists.admin_policies)) → map (λ place. not isolated || list_any (λ one. has_place (marks_of one) place) chosen) (range_with_len 0 (length pods)) ≡ map (λ far. may_reach lists direction near (pod (end_of far))) pods
+pub row_right : {X C D : Type 0} (lists : EstateLists) (direction : Direction) (near : PodEnd) (end_of : X → PodEnd) (pods : List X) (isolated : Bool) (net_marks : C → List Marks) (admin_marks : D → List Marks) (net : List C) (admin : List D) → isolated ≡ is_isolated lists.net_policies direction near → ((place : ℕ) (x : X) → slice_get pods place ≡ Some x → list_any (λ one. speaks_at (net_marks one) place) net ≡ list_any (λ policy. net_selects policy near && net_reaches direction (pod (end_of x)) policy) lists.net_policies) → ((place : ℕ) (x : X) → slice_get pods place ≡ Some x → list_any (λ one. speaks_at (admin_marks one) place) admin ≡ list_any (λ policy. subject_selects policy.subject near && admin_reaches direction (pod (end_of x)) policy) lists.admin_policies) → map (λ place. not isolated || (list_any (λ one. speaks_at (net_marks one) place) net || list_any (λ one. speaks_at (admin_marks one) place) admin)) (range_with_len 0 (length pods)) ≡ map (λ far. may_reach lists direction near (pod (end_of far))) pods
 unfolding may_reach
-row_right lists direction near end_of pods isolated marks_of chosen isolates speaks =
-    by_place (λ place. not isolated || list_any (λ one. has_place (marks_of one) place) chosen) (λ far. may_reach lists direction near (pod (end_of far))) pods (λ place x at.
-    ap (λ (b : Bool). not b || list_any (λ one. has_place (marks_of one) place) chosen) isolates
-    ∙ ap (λ (b : Bool). not (is_isolated lists.net_policies direction near) || b) (speaks place x at))
-
--- what is chosen of the ones and of the others
-pub both_chosen : (none first both net net' admin admin' : Bool) → none ≡ false → first ≡ (none || net) → both ≡ (first || admin) → net ≡ net' → admin ≡ admin' → both ≡ (net' || admin')
-both_chosen none first both net net' admin admin' nothing one other is is' = rw (other, one, nothing, is, is') refl
+row_right lists direction near end_of pods isolated net_marks admin_marks net admin isolates by_net by_admin =
+    by_place (λ place. not isolated || (list_any (λ one. speaks_at (net_marks one) place) net || list_any (λ one. speaks_at (admin_marks one) place) admin)) (λ far. may_reach lists direction near (pod (end_of far))) pods (λ place x at.
+    ap (λ (b : Bool). not b || (list_any (λ one. speaks_at (net_marks one) place) net || list_any (λ one. speaks_at (admin_marks one) place) admin)) isolates
+    ∙ ap (λ (b : Bool). not (is_isolated lists.net_policies direction near) || (b || list_any (λ one. speaks_at (admin_marks one) place) admin)) (by_net place x at)
+    ∙ ap (λ (b : Bool). not (is_isolated lists.net_policies direction near) || (list_any (λ policy. net_selects policy near && net_reaches direction (pod (end_of x)) policy) lists.net_policies || b)) (by_admin place x at))
 
 -- rows of items by what is seen of them
 pub seen_rows : {X Q : Type 0} (f : Q → Q → Bool) (seen : X → Q) (all xs : List X) → map (λ near. map (λ far. f (seen near) (seen far)) all) xs ≡ map (λ near. map (λ far. f near far) (map seen all)) (map seen xs)

@@ -13,10 +13,10 @@ use Rattle.np_policies.specs.declared.admin_policy.AdminRule.{AdminRule}
 use Rattle.np_policies.specs.declared.direction.Direction.{Direction}
 use Rattle.np_policies.specs.declared.network_policy.NetPolicy.{NetPolicy}
 use Rattle.np_policies.specs.declared.network_policy.NetRule.{NetRule}
-use Rattle.np_reach.specs.Namespaces.{quieter}
 use Rattle.np_reach.specs.Reach.{admin_reaches, admin_rule_reaches, may_reach, net_reaches}
 use Rattle.np_rules.proofs.AdminTierLemmas as admin
 use Rattle.np_rules.proofs.DeciderLemmas.{least_is_among}
+use Rattle.np_rules.proofs.KeptLemmas.{quieter}
 use Rattle.np_rules.proofs.NetTierLemmas as net
 use Rattle.np_rules.proofs.PlacesLemmas.{list_any-numbered}
 use Rattle.np_rules.proofs.SideLemmas.{places-matches}

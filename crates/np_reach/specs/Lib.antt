@@ -1,3 +1,5 @@
 pub mod Reach
+pub mod Marks
 pub mod Namespaces
 pub mod Stretches
+pub mod SidesOf

@@ -1,7 +1,7 @@
 -- Which namespaces policies may speak of, whatever the labels of their pods are.
-use Rattle.std.specs.Prelude.{◌≡◌, ℕ, List, [], ◌∷◌, Bool, true, false, ◌&&◌, ◌||◌, Some, None, unwrap_or}
+use Rattle.std.specs.Prelude.{◌≡◌, ℕ, List, [], Bool, true, false, ◌&&◌, ◌||◌, Some, None, unwrap_or}
 use Rattle.std.proofs.Common.{refl, sym, ap, ◌∙◌}
-use Rattle.std.proofs.lemmas.Bool.{and_left, false≢true, or_from, or_parts}
+use Rattle.std.proofs.lemmas.Bool.{and_left, false≢true, or_from}
 use Rattle.std.specs.List.{list_any}
 use Rattle.std.specs.Str.{bytes_eq}
 use Rattle.np_addr.specs.declared.address.Family.{Family}
@@ -17,10 +17,12 @@ use Rattle.np_policies.specs.declared.network_policy.NetPeer.TheVariants as net
 use Rattle.np_policies.specs.declared.network_policy.NetPolicy.{NetPolicy}
 use Rattle.np_policies.specs.declared.network_policy.NetRule.{NetRule}
 use Rattle.np_reach.specs.Reach.{admin_reaches, admin_rule_reaches, net_reaches}
+use Rattle.np_rules.proofs.KeptLemmas.{none_quieter, quieter}
 use Rattle.np_rules.specs.Ends.{PodEnd, pod}
 use Rattle.np_rules.specs.Peers.{admin_peer_matches, net_peer_matches}
 use Rattle.np_rules.specs.Places.{admin_rules_of, net_rules_of}
 use Rattle.np_rules.specs.Rules.{none_or_any}
+use Rattle.np_rules.specs.Selection.{net_selects, subject_selects}
 use Rattle.np_rules.specs.Sides.{is_allow}
 
 -- two pods are of one namespace, as rules see them
@@ -63,17 +65,6 @@ admin_concerns direction one policy = list_any (admin_rule_concerns one) (admin_
 
 -- ---- where no rule may speak of pods of a namespace, none speaks of one
 
--- what fails wherever another test fails passes at no item where that passes at none
-pub quieter : {X : Type 0} (test less : X → Bool) (xs : List X) → ((x : X) → test x ≡ false → less x ≡ false) → list_any test xs ≡ false → list_any less xs ≡ false
-quieter test less [] weaker none = refl
-quieter test less (x ∷ xs) weaker none =
-    let parts = or_parts (test x) (list_any test xs) none in
-    or_from (less x) (list_any less xs) (weaker x parts.0) (quieter test less xs weaker parts.1)
-
-none_quieter : {X : Type 0} (test less : X → Bool) (xs : List X) → ((x : X) → test x ≡ false → less x ≡ false) → none_or_any test xs ≡ false → none_or_any less xs ≡ false
-none_quieter test less [] weaker none = absurd (false≢true (sym none))
-none_quieter test less (x ∷ xs) weaker none = quieter test less (x ∷ xs) weaker none
-
 net_peer_silent : (namespace : List ℕ) (one far : PodEnd) (peer : NetPeer) → AreOfOneNamespace one far → net_peer_concerns namespace one peer ≡ false → net_peer_matches namespace peer (pod far) ≡ false
 net_peer_silent namespace one far (net.Pods None None) same none = refl
 net_peer_silent namespace one far (net.Pods None (Some pods)) same none = and_left _ _ (ap (bytes_eq namespace) same.name ∙ none)
@@ -103,3 +94,19 @@ admin_rule_silent one far rule same = go (is_allow rule.action)
 pub admin_silent_elsewhere : (policy : AdminPolicy) (direction : Direction) (one far : PodEnd) → AreOfOneNamespace one far → admin_concerns direction one policy ≡ false → admin_reaches direction (pod far) policy ≡ false
 admin_silent_elsewhere policy direction one far same =
     quieter (admin_rule_concerns one) (admin_rule_reaches (pod far)) (admin_rules_of direction policy) (λ rule. admin_rule_silent one far rule same)
+
+-- ---- nor may a policy select a pod of another namespace
+
+-- whether a NetworkPolicy is of a pod's namespace
+abbrev pub is_of_namespace : NetPolicy → PodEnd → Bool
+is_of_namespace policy one = bytes_eq policy.namespace one.namespace
+
+pub net_unpicked_elsewhere : (policy : NetPolicy) (one near : PodEnd) → AreOfOneNamespace one near → is_of_namespace policy one ≡ false → net_selects policy near ≡ false
+net_unpicked_elsewhere policy one near same other = and_left _ _ (ap (bytes_eq policy.namespace) same.name ∙ other)
+
+-- whether an admin policy selects a pod's namespace
+abbrev pub selects_namespace : AdminPolicy → PodEnd → Bool
+selects_namespace policy one = meets_selector policy.subject.namespaces one.namespace_labels
+
+pub admin_unpicked_elsewhere : (policy : AdminPolicy) (one near : PodEnd) → AreOfOneNamespace one near → selects_namespace policy one ≡ false → subject_selects policy.subject near ≡ false
+admin_unpicked_elsewhere policy one near same other = and_left _ _ (ap (meets_selector policy.subject.namespaces) same.labels ∙ other)

@@ -1,14 +1,18 @@
 //! Which pods the side of each of some pods may let through.
-ghost use Rattle.std.specs.Prelude.{◌≡◌, [], ◌||◌, not, IfOk, map};
+ghost use Rattle.std.specs.Prelude.{◌≡◌, ◌≤◌, ◌+◌, ◌++◌, ℕ, [], ◌||◌, not, All, IfOk, OnOk, length, map};
 ghost use Rattle.std.specs.List.{list_any, range_with_len};
-ghost use Rattle.np_reach.specs.Reach as spec;
-ghost use Rattle.np_rules.specs.Ends.{pod_end};
+ghost use Rattle.np_reach.specs.Marks as spec;
+ghost use Rattle.np_reach.specs.Marks.{AreWithin};
+ghost use Rattle.np_reach.specs.Reach.{has_place, may_at, may_reach, reach_of};
+ghost use Rattle.np_reach.specs.SidesOf.{AreSides};
+ghost use Rattle.np_reach.specs.Stretches.{IsStretch};
+ghost use Rattle.np_rules.specs.Ends.{pod, pod_end};
 
-use crate::spoken::{add_chosen, spoken_by};
-use crate::stretches::stretches;
+use crate::spoken::{Marks, Spoken, chosen_of, own_of, spoken_by};
+use crate::stretches::{Stretch, stretches};
 use np_base::{NoMemory, Seq};
 use np_estate::{Estate, Pod};
-use np_policies::Direction;
+use np_policies::{AdminPolicy, Direction, NetPolicy};
 use np_rules::isolates_pod;
 use std::alloc::Global;
 use std::marker::Model;
@@ -46,18 +50,21 @@ impl Reach {
         pods: &[&Pod],
         direction: Direction,
     ) -> Result<Reach, NoMemory>
-        ensures { IfOk result (λ made. made ≡ spec.reach_of estate.now direction (map (λ one. pod_end one.now) pods.now)) }
+        ensures { IfOk result (λ made. made ≡ reach_of estate.now direction (map (λ one. pod_end one.now) pods.now)) }
     {
         let stretches = stretches(alloc, pods)?;
         let net = spoken_by(alloc, estate.net_policies(), direction, &stretches)?;
         let admin = spoken_by(alloc, estate.admin_policies(), direction, &stretches)?;
+        let sides = Sides {
+            estate,
+            direction,
+            pods,
+            net: &net,
+            admin: &admin,
+        };
         let mut rows = Seq::new(alloc);
-        for near in pods {
-            let mut chosen = Vec::new(alloc);
-            add_chosen(&mut chosen, near, &net)?;
-            add_chosen(&mut chosen, near, &admin)?;
-            let isolated = isolates_pod(estate.net_policies(), direction, near);
-            rows.push(row_of(alloc, isolated, &chosen, pods.len())?)?;
+        for stretch in &stretches {
+            sides.push_rows(alloc, stretch, &mut rows)?;
         }
         Ok(Reach { rows })
     }
@@ -65,7 +72,7 @@ impl Reach {
     /// Whether the side of a pod may let another through, both named by their places among the pods. What is not known may
     /// be.
     pub fn may(&self, near: usize, far: usize) -> bool
-        ensures { result ≡ spec.may_at self.now near far }
+        ensures { result ≡ may_at self.now near far }
     {
         match self.rows.items().get(near) {
             Some(row) => row.items().get(far).copied().unwrap_or(true),
@@ -74,46 +81,94 @@ impl Reach {
     }
 }
 
+/// The sides of some pods in a direction, and the policies, each with which of these pods it speaks of.
+#[derive(Clone, Copy)]
+pub(crate) struct Sides<'a> {
+    pub estate: &'a Estate,
+    pub direction: Direction,
+    pub pods: &'a [&'a Pod],
+    pub net: &'a [Spoken<'a, NetPolicy>],
+    pub admin: &'a [Spoken<'a, AdminPolicy>],
+}
+
+impl<'a> Sides<'a> {
+    // Puts last the rows of the pods of a stretch. Policies that may select none of its namespace are not asked for each of them.
+    fn push_rows(
+        &self,
+        alloc: Global,
+        stretch: &Stretch<'_>,
+        rows: &mut Seq<Seq<bool>>,
+    ) -> Result<(), NoMemory>
+        requires sides { AreSides self.now }
+        requires alike { IsStretch stretch.now }
+        ensures { OnOk result (rows.new ≡ rows.old
+            ++ map (λ near. map (λ far. may_reach self.now.estate.now self.now.direction (pod_end near.now) (pod (pod_end far.now)))
+            self.now.pods.now) stretch.now.pods.now) }
+    {
+        let net = own_of(alloc, self.net, stretch.one)?;
+        let admin = own_of(alloc, self.admin, stretch.one)?;
+        for near in stretch.pods {
+            let isolated = isolates_pod(self.estate.net_policies(), self.direction, near);
+            let by_net = chosen_of(alloc, self.net, net.items(), stretch.one, near)?;
+            let by_admin = chosen_of(alloc, self.admin, admin.items(), stretch.one, near)?;
+            rows.push(row_of(alloc, isolated, &by_net, &by_admin, self.pods.len())?)?;
+        }
+        Ok(())
+    }
+}
+
 // For each of so many pods whether it may be let through by a pod that is isolated or not, and is selected by the policies
-// that speak of these.
+// that speak of these. By a pod that is not isolated each is.
 fn row_of(
     alloc: Global,
     isolated: bool,
-    chosen: &[&[bool]],
+    net: &[&[Marks]],
+    admin: &[&[Marks]],
     count: usize,
 ) -> Result<Seq<bool>, NoMemory>
-    ensures { IfOk result (λ made. made
-        ≡ map (λ place. not isolated || list_any (λ far. spec.has_place far.now place) chosen.now) (range_with_len 0 count)) }
+    requires net { All (λ far. AreWithin count far.now) net.now }
+    requires admin { All (λ far. AreWithin count far.now) admin.now }
+    ensures { IfOk result (λ made. made ≡ map (λ place. not isolated || (list_any (λ far. spec.speaks_at far.now place) net.now
+        || list_any (λ far. spec.speaks_at far.now place) admin.now)) (range_with_len 0 count)) }
 {
-    let mut row = Seq::new(alloc);
-    for place in 0..count {
-        row.push(lets_through(isolated, chosen, place))?;
+    let mut row = vec![in alloc; !isolated; count]?;
+    mark_chosen(&mut row, net);
+    mark_chosen(&mut row, admin);
+    Ok(Seq::from_vec(row))
+}
+
+// Marks the pods that some policies speak of.
+fn mark_chosen(row: &mut Vec<bool>, chosen: &[&[Marks]])
+    requires { All (λ far. AreWithin (length row.old.items) far.now) chosen.now }
+    ensures length { length row.new.items ≡ length row.old.items }
+    ensures marked { (place : ℕ) → has_place row.new.items place
+        ≡ (has_place row.old.items place || list_any (λ far. spec.speaks_at far.now place) chosen.now) }
+{
+    for far in chosen {
+        mark_all(row, far);
     }
-    Ok(row)
 }
 
-// Whether the pod at a place is let through: by a pod that is not isolated each is.
-fn lets_through(isolated: bool, chosen: &[&[bool]], place: usize) -> bool
-    ensures { result ≡ (not isolated || list_any (λ far. spec.has_place far.now place) chosen.now) }
+// Marks the pods that a policy speaks of.
+fn mark_all(row: &mut [bool], far: &[Marks])
+    requires { AreWithin (length row.old) far.now }
+    ensures length { length row.new ≡ length row.old }
+    ensures marked { (place : ℕ) → has_place row.new place ≡ (has_place row.old place || spec.speaks_at far.now place) }
 {
-    !isolated || some_has(chosen, place)
+    for marks in far {
+        mark(row, marks);
+    }
 }
 
-// Whether some of the chosen marks a place.
-fn some_has(chosen: &[&[bool]], place: usize) -> bool
-    ensures { result ≡ list_any (λ far. spec.has_place far.now place) chosen.now }
+// Marks those of one stretch.
+fn mark(row: &mut [bool], marks: &Marks)
+    requires { marks.now.from + length marks.now.pods ≤ length row.old }
+    ensures length { length row.new ≡ length row.old }
+    ensures marked { (place : ℕ) → has_place row.new place ≡ (has_place row.old place || spec.marks_at marks.now place) }
 {
-    for marks in chosen {
-        if has_place(marks, place) {
-            return true;
+    for (number, spoken) in marks.pods.items().iter().enumerate() {
+        if *spoken {
+            row[marks.from + number] = true;
         }
     }
-    false
-}
-
-// Whether a place is marked.
-fn has_place(marks: &[bool], place: usize) -> bool
-    ensures { result ≡ spec.has_place marks.now place }
-{
-    marks.get(place).copied().unwrap_or(false)
 }

@@ -20,6 +20,12 @@ pub(crate) trait Speaker {
     /// Whether it selects a pod.
     ghost picks: { Self → PodEnd → Bool };
 
+    /// Whether it may select pods of a pod's namespace.
+    ghost may_pick: { Self → PodEnd → Bool };
+
+    /// Where it may not, it selects no pod of the namespace.
+    ghost unpicked_elsewhere: { (policy : Self) (one near : PodEnd) → AreOfOneNamespace one near → may_pick policy one ≡ false → picks policy near ≡ false };
+
     /// Whether some rule of a direction allows, and speaks of a far end.
     ghost speaks: { Direction → End → Self → Bool };
 
@@ -28,6 +34,10 @@ pub(crate) trait Speaker {
 
     /// Where none may, it speaks of no pod of the namespace.
     ghost silent_elsewhere: { (policy : Self) (direction : Direction) (one far : PodEnd) → AreOfOneNamespace one far → concerns direction one policy ≡ false → speaks direction (pod far) policy ≡ false };
+
+    /// Whether it may select pods of a pod's namespace.
+    fn may_select(&self, one: &Pod) -> bool
+        ensures { result ≡ may_pick self.now (pod_end one.now) };
 
     /// Whether it selects a pod.
     fn selects(&self, near: &Pod) -> bool
@@ -43,17 +53,25 @@ pub(crate) trait Speaker {
 }
 
 impl Speaker for NetPolicy {
-    ghost use Rattle.np_reach.specs.Namespaces.{net_concerns, net_silent_elsewhere};
+    ghost use Rattle.np_reach.specs.Namespaces.{is_of_namespace, net_concerns, net_silent_elsewhere, net_unpicked_elsewhere};
     ghost use Rattle.np_reach.specs.Reach.{net_reaches};
     ghost use Rattle.np_rules.specs.Selection.{net_selects};
 
     ghost picks = { net_selects };
+
+    ghost may_pick = { is_of_namespace };
+
+    ghost unpicked_elsewhere = { net_unpicked_elsewhere };
 
     ghost speaks = { net_reaches };
 
     ghost concerns = { net_concerns };
 
     ghost silent_elsewhere = { net_silent_elsewhere };
+
+    fn may_select(&self, one: &Pod) -> bool {
+        self.namespace.as_str() == one.namespace.as_str()
+    }
 
     fn selects(&self, near: &Pod) -> bool {
         net_policy_selects(self, near)
@@ -83,17 +101,25 @@ impl Speaker for NetPolicy {
 }
 
 impl Speaker for AdminPolicy {
-    ghost use Rattle.np_reach.specs.Namespaces.{admin_concerns, admin_silent_elsewhere};
+    ghost use Rattle.np_reach.specs.Namespaces.{admin_concerns, admin_silent_elsewhere, admin_unpicked_elsewhere, selects_namespace};
     ghost use Rattle.np_reach.specs.Reach.{admin_reaches};
     ghost use Rattle.np_rules.specs.Selection.{subject_selects};
 
     ghost picks = { λ policy near. subject_selects policy.subject near };
+
+    ghost may_pick = { selects_namespace };
+
+    ghost unpicked_elsewhere = { admin_unpicked_elsewhere };
 
     ghost speaks = { admin_reaches };
 
     ghost concerns = { admin_concerns };
 
     ghost silent_elsewhere = { admin_silent_elsewhere };
+
+    fn may_select(&self, one: &Pod) -> bool {
+        self.subject.namespaces.meets(one.namespace_labels.labels())
+    }
 
     fn selects(&self, near: &Pod) -> bool {
         admin_policy_selects(&self.subject, near)

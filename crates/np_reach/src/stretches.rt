@@ -2,16 +2,18 @@
 ghost use Rattle.std.specs.Prelude.{◌≡◌, ◌≤◌, All, IfOk, length, take, true};
 ghost use Rattle.std.specs.List.{flat_map};
 ghost use Rattle.np_reach.specs.Namespaces.{AreOfOneNamespace};
-ghost use Rattle.np_reach.specs.Stretches.{IsStretch};
+ghost use Rattle.np_reach.specs.Stretches.{FollowOneAnother, IsStretch};
 ghost use Rattle.np_rules.specs.Ends.{pod_end};
 
 use np_base::NoMemory;
 use np_estate::Pod;
 use std::alloc::Global;
 
-/// Pods of the namespace of one of them, so that what a policy may say of that namespace is asked once for all.
+/// Pods of the namespace of one of them, so that what a policy may say of that namespace is asked once for all. The first
+/// stands at this place among all pods.
 #[derive(Clone, Copy)]
 pub(crate) struct Stretch<'a> {
+    pub from: usize,
     pub one: &'a Pod,
     pub pods: &'a [&'a Pod],
 }
@@ -24,6 +26,7 @@ pub(crate) fn stretches<'a>(
 ) -> Result<Vec<Stretch<'a>>, NoMemory>
     ensures pods { IfOk result (λ made. flat_map (λ stretch. stretch.pods.now) made.items ≡ pods.now) }
     ensures alike { IfOk result (λ made. All IsStretch made.items) }
+    ensures from { IfOk result (λ made. FollowOneAnother made.items) }
 {
     let mut made = Vec::new(alloc);
     let mut from = 0;
@@ -33,7 +36,11 @@ pub(crate) fn stretches<'a>(
         let one = pods[from];
         let count = 1 + length_alike(one, others);
         let (own, _) = rest.split_at(count);
-        made.push(Stretch { one, pods: own })?;
+        made.push(Stretch {
+            from,
+            one,
+            pods: own,
+        })?;
         from += count;
     }
     Ok(made)

@@ -90,7 +90,7 @@ action_same policy.Deny below = refl
 action_same policy.Pass below = refl
 
 -- the first admin part that has the spot says what the first matching rule says
-admin_same : {S Spot : Type 0} (has : S → Spot → Bool) (in_space : Spot → Bool) (contact_at : Spot → Contact) (spot : Spot) → in_space spot ≡ true → (below : Bool) (parts : List (AdminPart S)) (places : List PlacedAdminRule) → Pairwise (λ part placed. IsAdminPart has in_space contact_at part placed.rule) parts places → admin_allows (find (λ part. has part.set spot) parts) below ≡ admin_says (find (λ placed. admin_rule_matches placed.rule (contact_at spot)) places) below
+pub admin_same : {S Spot : Type 0} (has : S → Spot → Bool) (in_space : Spot → Bool) (contact_at : Spot → Contact) (spot : Spot) → in_space spot ≡ true → (below : Bool) (parts : List (AdminPart S)) (places : List PlacedAdminRule) → Pairwise (λ part placed. IsAdminPart has in_space contact_at part placed.rule) parts places → admin_allows (find (λ part. has part.set spot) parts) below ≡ admin_says (find (λ placed. admin_rule_matches placed.rule (contact_at spot)) places) below
 admin_same has in_space contact_at spot within below [] [] related = refl
 admin_same has in_space contact_at spot within below [] (placed ∷ places) related = absurd related
 admin_same has in_space contact_at spot within below (part ∷ parts) [] related = absurd related
@@ -102,7 +102,7 @@ admin_same has in_space contact_at spot within below (part ∷ parts) (placed �
     go false rest = rest
 
 -- some set has the spot where some rule matches
-net_same : {S Spot : Type 0} (has : S → Spot → Bool) (in_space : Spot → Bool) (contact_at : Spot → Contact) (spot : Spot) → in_space spot ≡ true → (sets : List S) (places : List PlacedNetRule) → Pairwise (λ set placed. IsSetOf has in_space contact_at set (matches_of placed)) sets places → list_any (λ set. has set spot) sets ≡ list_any (placed_net_matches (contact_at spot)) places
+pub net_same : {S Spot : Type 0} (has : S → Spot → Bool) (in_space : Spot → Bool) (contact_at : Spot → Contact) (spot : Spot) → in_space spot ≡ true → (sets : List S) (places : List PlacedNetRule) → Pairwise (λ set placed. IsSetOf has in_space contact_at set (matches_of placed)) sets places → list_any (λ set. has set spot) sets ≡ list_any (placed_net_matches (contact_at spot)) places
 net_same has in_space contact_at spot within [] [] related = refl
 net_same has in_space contact_at spot within [] (placed ∷ places) related = absurd related
 net_same has in_space contact_at spot within (set ∷ sets) [] related = absurd related
@@ -110,7 +110,7 @@ net_same has in_space contact_at spot within (set ∷ sets) (placed ∷ places) 
     ap (λ b. b || list_any (λ s. has s spot) sets) (related.0 spot within) ∙ ap (λ b. placed_net_matches (contact_at spot) placed || b) (net_same has in_space contact_at spot within sets places related.1)
 
 -- the first base part that has the spot says what the first matching rule says
-base_same : {S Spot : Type 0} (has : S → Spot → Bool) (in_space : Spot → Bool) (contact_at : Spot → Contact) (spot : Spot) → in_space spot ≡ true → (parts : List (BasePart S)) (places : List PlacedBaseRule) → Pairwise (λ part placed. IsBasePart has in_space contact_at part placed.rule) parts places → base_allows (find (λ part. has part.set spot) parts) ≡ base_says (find (λ placed. admin_rule_matches placed.rule (contact_at spot)) places)
+pub base_same : {S Spot : Type 0} (has : S → Spot → Bool) (in_space : Spot → Bool) (contact_at : Spot → Contact) (spot : Spot) → in_space spot ≡ true → (parts : List (BasePart S)) (places : List PlacedBaseRule) → Pairwise (λ part placed. IsBasePart has in_space contact_at part placed.rule) parts places → base_allows (find (λ part. has part.set spot) parts) ≡ base_says (find (λ placed. admin_rule_matches placed.rule (contact_at spot)) places)
 base_same has in_space contact_at spot within [] [] related = refl
 base_same has in_space contact_at spot within [] (placed ∷ places) related = absurd related
 base_same has in_space contact_at spot within (part ∷ parts) [] related = absurd related
@@ -121,15 +121,22 @@ base_same has in_space contact_at spot within (part ∷ parts) (placed ∷ place
     go true rest = related.0.allow
     go false rest = rest
 
--- The walk of a layer says at each spot what the side says of what the spot stands for.
-pub walk_is_side : {S Spot : Type 0} (has : S → Spot → Bool) (in_space : Spot → Bool) (contact_at : Spot → Contact) (lists : EstateLists) (direction : Direction) (p : PodEnd) (made : Layer S) → HasAscendingPriorities lists.admin_policies → IsLayer has in_space contact_at lists direction p made → (spot : Spot) → in_space spot ≡ true → walk_allows (λ set. has set spot) made ≡ side_allows lists direction p (contact_at spot)
+-- A layer whose tiers say at a spot what the rules of the side say of what it stands for, says what the side says.
+pub walk_by_tiers : {S Spot : Type 0} (has : S → Spot → Bool) (lists : EstateLists) (direction : Direction) (p : PodEnd) (at : Contact) (made : Layer S) (spot : Spot) → HasAscendingPriorities lists.admin_policies → made.isolated ≡ is_isolated lists.net_policies direction p → list_any (λ set. has set spot) made.net ≡ list_any (placed_net_matches at) (net_places lists.net_policies direction p) → base_allows (find (λ part. has part.set spot) made.base) ≡ base_says (find (λ placed. admin_rule_matches placed.rule at) (base_places lists.baseline direction p)) → ((below : Bool) → admin_allows (find (λ part. has part.set spot) made.admin) below ≡ admin_says (find (λ placed. admin_rule_matches placed.rule at) (admin_places lists.admin_policies direction p)) below) → walk_allows (λ set. has set spot) made ≡ side_allows lists direction p at
 unfolding side_allows
-walk_is_side has in_space contact_at lists direction p made ascending is spot within =
-    let at = contact_at spot in
-    let lower : lower_allows (λ set. has set spot) made ≡ sides.lower_allows lists direction p at = lower_same (is_isolated lists.net_policies direction p) made.isolated is.isolated (net_same has in_space contact_at spot within made.net (net_places lists.net_policies direction p) is.net) (base_same has in_space contact_at spot within made.base (base_places lists.baseline direction p) is.base) in
+walk_by_tiers has lists direction p at made spot ascending isolated net base admin =
+    let lower : lower_allows (λ set. has set spot) made ≡ sides.lower_allows lists direction p at = lower_same (is_isolated lists.net_policies direction p) made.isolated isolated net base in
     ap (admin_allows (find (λ part. has part.set spot) made.admin)) lower
-    ∙ admin_same has in_space contact_at spot within (sides.lower_allows lists direction p at) made.admin (admin_places lists.admin_policies direction p) is.admin
+    ∙ admin (sides.lower_allows lists direction p at)
     ∙ ap (λ decider. admin_says decider (sides.lower_allows lists direction p at)) (sym (decider_is_first lists.admin_policies direction p at ascending))
   where
     lower_same : (isolated made_isolated : Bool) → made_isolated ≡ isolated → {a b c d : Bool} → a ≡ b → c ≡ d → (if made_isolated then a else c) ≡ (if isolated then b else d)
     lower_same isolated made_isolated same {a} {b} {c} {d} first second = ap (λ i. if i then a else c) same ∙ ap (λ x. if isolated then x else c) first ∙ ap (λ x. if isolated then b else x) second
+
+-- The walk of a layer says at each spot what the side says of what the spot stands for.
+pub walk_is_side : {S Spot : Type 0} (has : S → Spot → Bool) (in_space : Spot → Bool) (contact_at : Spot → Contact) (lists : EstateLists) (direction : Direction) (p : PodEnd) (made : Layer S) → HasAscendingPriorities lists.admin_policies → IsLayer has in_space contact_at lists direction p made → (spot : Spot) → in_space spot ≡ true → walk_allows (λ set. has set spot) made ≡ side_allows lists direction p (contact_at spot)
+walk_is_side has in_space contact_at lists direction p made ascending is spot within =
+    walk_by_tiers has lists direction p (contact_at spot) made spot ascending is.isolated
+    (net_same has in_space contact_at spot within made.net (net_places lists.net_policies direction p) is.net)
+    (base_same has in_space contact_at spot within made.base (base_places lists.baseline direction p) is.base)
+    (λ below. admin_same has in_space contact_at spot within below made.admin (admin_places lists.admin_policies direction p) is.admin)

@@ -13,3 +13,4 @@ pub mod FamilyLemmas
 pub mod LayerRulesLemmas
 pub mod PodSideLemmas
 pub mod OwnPolicies
+pub mod KeptLemmas

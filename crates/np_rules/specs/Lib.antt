@@ -14,6 +14,7 @@ pub mod Views
 pub mod Layers
 pub mod OneEnd
 pub mod EveryAddress
+pub mod AddressRules
 pub mod Laws
 pub mod LayerRules
 pub mod PodSides

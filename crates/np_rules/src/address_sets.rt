@@ -17,9 +17,15 @@ pub(crate) trait Addresses {
     /// Whether an address is one of them.
     ghost stands_for: { Self → Address → Bool };
 
-    /// Whether it is of a kind that stands for addresses. What is not stands for none.
+    /// Whether it is of a kind that stands for addresses.
+    ghost is_of: { Self → Bool };
+
+    /// What is not stands for none.
+    ghost none_of_others: { (item : Self) (a : Address) → is_of item ≡ false → stands_for item a ≡ false };
+
+    /// Whether it is of a kind that stands for addresses.
     fn is_of_addresses(&self) -> bool
-        ensures { result ≡ false → (a : Address) → stands_for self.now a ≡ false };
+        ensures { result ≡ is_of self.now };
 
     /// The addresses.
     fn addresses(&self, alloc: Global) -> Result<AddrSet, NoMemory>
@@ -28,8 +34,13 @@ pub(crate) trait Addresses {
 
 impl Addresses for Cidr {
     ghost use Rattle.np_addr.specs.Addresses.{cidr_has};
+    ghost use Rattle.np_rules.specs.AddressRules.{is_cidr, none_of_other_cidrs};
 
     ghost stands_for = { cidr_has };
+
+    ghost is_of = { is_cidr };
+
+    ghost none_of_others = { none_of_other_cidrs };
 
     fn is_of_addresses(&self) -> bool {
         true
@@ -41,9 +52,14 @@ impl Addresses for Cidr {
 }
 
 impl Addresses for NetPeer {
+    ghost use Rattle.np_rules.specs.AddressRules.{is_block, none_of_pods};
     ghost use Rattle.np_rules.specs.EveryAddress.{net_peer_has};
 
     ghost stands_for = { net_peer_has };
+
+    ghost is_of = { is_block };
+
+    ghost none_of_others = { none_of_pods };
 
     fn is_of_addresses(&self) -> bool {
         match self {
@@ -61,9 +77,14 @@ impl Addresses for NetPeer {
 }
 
 impl Addresses for AdminPeer {
+    ghost use Rattle.np_rules.specs.AddressRules.{is_networks, none_of_admin_pods};
     ghost use Rattle.np_rules.specs.EveryAddress.{admin_peer_has};
 
     ghost stands_for = { admin_peer_has };
+
+    ghost is_of = { is_networks };
+
+    ghost none_of_others = { none_of_admin_pods };
 
     fn is_of_addresses(&self) -> bool {
         match self {
@@ -104,16 +125,11 @@ pub(crate) fn joined_set<A: Addresses>(alloc: Global, items: &[A]) -> Result<Add
     }
 }
 
-// Whether some item is of a kind that stands for addresses.
-fn are_of_addresses<A: Addresses>(items: &[A]) -> bool
-    ensures { result ≡ false → (a : Address) → list_any (λ item. A.stands_for item a) items.now ≡ false }
+/// Whether some item is of a kind that stands for addresses.
+pub(crate) fn are_of_addresses<A: Addresses>(items: &[A]) -> bool
+    ensures { result ≡ list_any A.is_of items.now }
 {
-    for item in items {
-        if item.is_of_addresses() {
-            return true;
-        }
-    }
-    false
+    items.iter().any(|item| item.is_of_addresses())
 }
 
 // The same. The sets of both halves of the items are joined, so that n items take time n log n; one item alone, as most rules

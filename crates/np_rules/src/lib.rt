@@ -2,6 +2,7 @@
 //! connections.
 #![tactic(auto)]
 
+mod address_rules;
 mod address_sets;
 mod admin_tier;
 mod base_tier;

@@ -1,9 +1,12 @@
 //! The rules that speak of a pod.
-ghost use Rattle.std.specs.Prelude.{◌≡◌, ◌+◌, ◌≤◌, ◌<◌, length, IfOk, OnOk};
-ghost use Rattle.np_conns.specs.Conns.{is_spot, has_spot};
-ghost use Rattle.np_rules.specs.EveryAddress.{has_place, is_place};
+ghost use Rattle.std.specs.Prelude.{◌≡◌, ◌+◌, ◌-◌, ◌^◌, ◌≤◌, ◌<◌, length, true, IfOk, OnOk};
+ghost use Rattle.np_conns.specs.Conns.{IsConns, is_spot, has_spot};
+ghost use Rattle.np_pieces.specs.Pieces.{Covers};
+ghost use Rattle.np_rules.specs.EveryAddress.{Place, has_place, is_place};
 ghost use Rattle.np_rules.specs.PodSides.{IsSideLayer, SaysVerdicts, near_pod, side_of, side_rule_count, with_addresses, with_pod, with_point, with_stranger};
+ghost use Rattle.np_rules.specs.Sides.{side_allows};
 
+use crate::address_rules::rules_of_addresses;
 use crate::base_tier::base_rules_for;
 use crate::every_address::{AddrConns, EveryAddress};
 use crate::far_ends::FarEnds;
@@ -18,7 +21,7 @@ use np_conns::ConnSet;
 use np_estate::Estate;
 use np_policies::{AdminRule, Direction};
 use np_steps::Steps;
-use np_tiers::Layer;
+use np_tiers::{Layer, verdict_set};
 use std::alloc::Global;
 use std::marker::Model;
 use std::sync::ledger::Ledger;
@@ -153,6 +156,40 @@ impl<'a> PodRules<'a> {
             near: EndView::Pod(view_at(self.estate, self.pod)),
         };
         self.layer(alloc, &ends, steps)
+    }
+
+    /// The protocols and ports that the side allows at each address of both families. All rules are counted, and those that
+    /// match no address are passed over.
+    pub fn address_set<L: Ledger>(
+        &self,
+        alloc: Global,
+        steps: &mut Steps<L>,
+    ) -> Result<AddrConns, NoMemory>
+        ensures members { IfOk result (λ made. (place : Place) → is_place place ≡ true →
+            has_place made place
+            ≡ side_allows self.now.lists self.now.direction (near_pod self.now) (with_addresses self.now place)) }
+        ensures four { IfOk result (λ made. Covers (λ n. n) IsConns 0 (2 ^ 32 - 1) made.first) }
+        ensures six { IfOk result (λ made. Covers (λ n. n) IsConns 0 (2 ^ 128 - 1) made.second) }
+        ensures cost { OnOk result (steps.new ≡ steps.old + side_rule_count self.now) }
+        ensures least { steps.old ≤ steps.new }
+        ensures most { steps.new ≤ steps.old + side_rule_count self.now }
+    {
+        self.count(steps);
+        let near = view_at(self.estate, self.pod);
+        let ends = EveryAddress {
+            direction: self.direction,
+            near: EndView::Pod(view_at(self.estate, self.pod)),
+        };
+        let admin = rules_of_addresses(alloc, &self.admin)?;
+        let net = rules_of_addresses(alloc, &self.net.rules)?;
+        let layer = Layer {
+            admin: admin_parts(alloc, &admin, &ends)?,
+            isolated: self.net.isolated,
+            net: net_sets(alloc, near.namespace, &net, &ends)?,
+            base: base_parts(alloc, self.base, &ends)?,
+        };
+        let set = verdict_set(alloc, &layer)?;
+        Ok(set)
     }
 
     // The rules as sets of what the spots stand for with these far ends.

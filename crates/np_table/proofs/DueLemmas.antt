@@ -8,7 +8,7 @@ use Rattle.np_estate.specs.declared.lists.EstateLists.{EstateLists}
 use Rattle.np_fold.specs.Workloads.{Folding}
 use Rattle.np_table.specs.Kept.{kept_count}
 use Rattle.np_table.specs.declared.kept.KeptConns.{KeptConns}
-use Rattle.np_table.specs.ToCome.{IsOfSameSource, IsPassedTo, due_at, due_from, most_rules, greatest, pair_count, place_count}
+use Rattle.np_table.specs.ToCome.{IsOfSameSource, due_at, due_from, most_rules, greatest, pair_count, place_count}
 
 -- ---- the greatest number
 
@@ -231,22 +231,3 @@ module _ (count place later : ℕ) (same : IsOfSameSource count place later) whe
 pub due_from-over : (lists : EstateLists) (folding : Folding) (place later : ℕ) (kept : List (Option (List KeptConns))) → IsOfSameSource (length folding.workloads) place later → due_from lists folding later kept ≡ due_from lists folding place kept
 unfolding due_from
 due_from-over lists folding place later kept same = over-due (length folding.workloads) place later same folding.kind_count (most_rules lists folding) (folding.kind_count - kept_count kept)
-
--- ---- places that are passed over, of whatever kind
-
-behind-due : (count kinds most unkept place later : ℕ) → pair_count count ≤ place → place ≤ later → due_at count kinds most unkept later ≤ due_at count kinds most unkept place
-behind-due count kinds most unkept place later up more =
-    let further : pair_count count ≤ later = omega (arith, up, more) in
-    let fewer = mul-le-mul_left most (let less : place_count count - later ≤ place_count count - place = omega (arith, more) in less) in
-    omega (arith, due-behind count kinds most unkept place up, due-behind count kinds most unkept later further, fewer)
-
--- no more is due at a later place
-pub due_from-passed : (lists : EstateLists) (folding : Folding) (place later : ℕ) (kept : List (Option (List KeptConns))) → IsPassedTo (length folding.workloads) place later → due_from lists folding later kept ≤ due_from lists folding place kept
-unfolding due_from
-due_from-passed lists folding place later kept passed =
-    elim (cases_lt place (pair_count (length folding.workloads))) [
-      | inl below ↦
-          let same : IsOfSameSource (length folding.workloads) place later = record { up = passed.up; pairs = passed.pairs; behind = λ up. absurd (omega (arith, up, below)) } in
-          omega (arith, due_from-over lists folding place later kept same)
-      | inr up ↦ behind-due (length folding.workloads) folding.kind_count (most_rules lists folding) (folding.kind_count - kept_count kept) place later up passed.up
-    ]

@@ -2,7 +2,6 @@
 use Rattle.std.proofs.Common.{◌≡◌, ◌≢◌, ◌<◌, ◌≤◌, ◌+◌, ◌*◌, ◌-◌, ◌/◌, ◌%◌, ℕ, zero, suc, List, [], ◌∷◌, ◌++◌, Bool, true, false, Option, Some, None, length, map, max, slice_index, arith, refl, sym, ap, subst, ◌∙◌, inl, inr, if◌then◌else◌}
 use Rattle.std.specs.Option.{option_map}
 use Rattle.std.proofs.Math.Nat.{mul-le-mul_left}
-use Rattle.std.proofs.lemmas.Bool.{cases_lt}
 use Rattle.std.proofs.lemmas.Bool.Decides.{eqb_tells}
 use Rattle.std.proofs.lemmas.List.{length-map}
 use Rattle.std.proofs.lemmas.List.FromFn.{get_or-map-range_with_len, length-range_with_len}
@@ -29,7 +28,7 @@ use Rattle.np_table.proofs.PairLemmas.{first_there, in_workloads, pair_allows-al
 use Rattle.np_table.specs.Kept.{IsKept, KeepsAlso, KeepsTheSame, kept_at, kept_count, kept_of, row_with}
 use Rattle.np_table.specs.Rows.{is_nothing, pair_key, pair_rows, row_if, rows_in, rows_of_both}
 use Rattle.np_table.specs.Table.{is_alone, pair_allows, source_pod, table_of}
-use Rattle.np_table.specs.ToCome.{IsOfSameSource, IsPassedTo, most_rules, pair_count, rules_of}
+use Rattle.np_table.specs.ToCome.{IsOfSameSource, most_rules, rules_of}
 use Rattle.np_table.specs.declared.kept.KeptConns.{KeptConns}
 use Rattle.np_table.specs.declared.rows.Row.{Row}
 use Rattle.np_table.specs.declared.rows.RowKey.{RowKey}
@@ -239,14 +238,6 @@ IsKept-same_source lists folding place kept below more is =
 pub IsKept-behind : (lists : EstateLists) (folding : Folding) (place : ℕ) (kept : List (Option (List KeptConns))) → length folding.workloads * length folding.workloads ≤ place → IsKept lists folding (place / length folding.workloads) kept
 unfolding IsKept
 IsKept-behind lists folding place kept up destination conns near far alone is = absurd (source-behind (length folding.workloads) place up near)
-
--- where places are passed over the same is kept
-pub IsKept-passed : (lists : EstateLists) (folding : Folding) (place later : ℕ) (kept : List (Option (List KeptConns))) → IsPassedTo (length folding.workloads) place later → IsKept lists folding (place / length folding.workloads) kept → IsKept lists folding (later / length folding.workloads) kept
-IsKept-passed lists folding place later kept passed is =
-    elim (cases_lt place (pair_count (length folding.workloads))) [
-      | inl below ↦ subst (λ (source : ℕ). IsKept lists folding source kept) (sym (passed.pairs below).1) is
-      | inr up ↦ IsKept-behind lists folding later kept (omega (arith, up, passed.up))
-    ]
 
 -- for a later place of the same source the same is kept
 pub IsKept-over : (lists : EstateLists) (folding : Folding) (place later : ℕ) (kept : List (Option (List KeptConns))) → IsOfSameSource (length folding.workloads) place later → IsKept lists folding (place / length folding.workloads) kept → IsKept lists folding (later / length folding.workloads) kept

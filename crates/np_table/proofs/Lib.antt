@@ -12,7 +12,6 @@ pub mod KindVerdicts
 pub mod MemberLemmas
 pub mod PairLemmas
 pub mod PlaceLemmas
-pub mod PassLemmas
 pub mod RangeCounts
 pub mod RangeOneList
 pub mod RangePieces

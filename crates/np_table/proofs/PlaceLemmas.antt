@@ -146,7 +146,7 @@ module _ (table : Table) where
 
 -- ---- the table of an estate
 
-pub names-are : (lists : EstateLists) (folding : Folding) → length (table_of lists folding).names ≡ length folding.workloads
+names-are : (lists : EstateLists) (folding : Folding) → length (table_of lists folding).names ≡ length folding.workloads
 unfolding table_of
 names-are lists folding = length-map folding.workloads (λ one. one.name)
 

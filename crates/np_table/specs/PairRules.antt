@@ -1,5 +1,5 @@
 -- The sides of the pods that stand for workloads and for kinds of workloads, and how many rules speak of them.
-use Rattle.std.specs.Prelude.{ℕ, ◌≡◌, ◌+◌, ◌<◌, List, Bool, false, Some, map, length, slice_get, IfSome}
+use Rattle.std.specs.Prelude.{ℕ, ◌≡◌, ◌+◌, ◌<◌, List, Bool, false, Some, map, length, slice_get}
 use Rattle.np_addr.specs.declared.address.Family.{Family}
 use Rattle.np_conns.specs.declared.port_spot.PortSpot.{PortSpot}
 use Rattle.np_estate.specs.declared.lists.EstateLists.{EstateLists}
@@ -62,11 +62,11 @@ pub record IsKindReach (lists : EstateLists) (reach : KindReach) : Type 0 where
   pub sent : IsReach lists Egress reach.sent
   pub received : IsReach lists Ingress reach.received
 
--- the sides are those of all kinds, and what is known of what they let through is right
+-- the sides are those of all kinds, and so is what they let through
 pub record AreOfKinds (lists : EstateLists) (rules : KindRules) : Type 0 where
   pub senders : rules.senders.items ≡ sides_of_kinds lists Egress
   pub receivers : rules.receivers.items ≡ sides_of_kinds lists Ingress
-  pub reach : IfSome rules.reach (IsKindReach lists)
+  pub reach : IsKindReach lists rules.reach
 
 -- so they are where there are any
 abbrev pub AreOfKindsIfAny : EstateLists → KindRules → Type 0

@@ -1,5 +1,5 @@
 -- The rows of a table one after another.
-use Rattle.std.specs.Prelude.{ℕ, ◌≡◌, ◌<◌, ◌≤◌, ◌^◌, ◌+◌, ◌-◌, ◌*◌, ◌/◌, ◌%◌, List, [], ◌∷◌, Bool, ◌||◌, ◌==◌, Option, filter, flat_map, length, map, max, nat_lt, if◌then◌else◌}
+use Rattle.std.specs.Prelude.{ℕ, ◌≡◌, ◌<◌, ◌≤◌, ◌^◌, ◌+◌, ◌-◌, ◌*◌, ◌/◌, ◌%◌, List, [], ◌∷◌, ◌==◌, Option, flat_map, length, map, max, nat_lt, if◌then◌else◌}
 use Rattle.std.specs.List.{range_with_len}
 use Rattle.np_estate.specs.declared.lists.EstateLists.{EstateLists}
 use Rattle.np_fold.specs.Workloads.{Folding, folding_of}
@@ -9,7 +9,6 @@ use Rattle.np_rules.specs.Places.{rule_count}
 use Rattle.np_rules.specs.Verdict.{pod_at}
 use Rattle.np_table.specs.Kept.{IsKept, kept_count}
 use Rattle.np_table.specs.Rows.{pair_rows, rows_towards}
-use Rattle.np_table.specs.Said.{is_workload}
 use Rattle.np_table.specs.Table.{Table, number_of_workloads, source_pod}
 use Rattle.np_table.specs.declared.kept.KeptConns.{KeptConns}
 use Rattle.np_table.specs.declared.rows.Row.{Row}
@@ -48,26 +47,11 @@ rows_at table place =
 unfoldable pub rows_from : Table → ℕ → List Row
 rows_from table place = flat_map (rows_at table) (range_with_len place (place_count (length table.names) - place))
 
--- whether a row has a workload at an end
-abbrev pub has_end : ℕ → Row → Bool
-has_end workload row = is_workload workload row.key.source || is_workload workload row.key.destination
-
--- Of two lists of rows, the later has no more rows, and the same ones that have a workload at an end.
-pub record PassesOver (workload : ℕ) (rows later : List Row) : Type 0 where
-  pub same : filter (has_end workload) later ≡ filter (has_end workload) rows
-  pub fewer : length later ≤ length rows
-
 -- a later place is of the same source, where the first is one of the pairs, and else it is the first
 pub record IsOfSameSource (count place later : ℕ) : Type 0 where
   pub up : place ≤ later
   pub pairs : place < pair_count count → (later < pair_count count) × (later / count ≡ place / count)
   pub behind : pair_count count ≤ place → later ≡ place
-
--- a later place is of the same source, where the first is one of the pairs, and it is not behind the last one
-pub record IsPassedTo (count place later : ℕ) : Type 0 where
-  pub up : place ≤ later
-  pub pairs : place < pair_count count → (later < pair_count count) × (later / count ≡ place / count)
-  pub within : later ≤ place_count count
 
 -- ---- rules that are still to be looked at
 

@@ -3,16 +3,17 @@ ghost use Rattle.std.specs.Prelude.{◌≡◌, ◌≤◌, ◌<◌, ◌+◌, ◌*
 ghost use Rattle.np_fold.specs.Workloads.{folding_of};
 ghost use Rattle.np_policies.specs.declared.direction.Direction.{Direction};
 ghost use Rattle.np_table.specs.Kept.{IsKept};
-ghost use Rattle.np_table.specs.PairRules.{AreOfKinds};
+ghost use Rattle.np_table.specs.PairRules.{AreOfKinds, IsKindReach};
 ghost use Rattle.np_table.specs.Rows as table;
 ghost use Rattle.np_table.specs.Table.{estate_table, number_of_workloads};
 ghost use Rattle.np_table.specs.ToCome as spec;
 
 use crate::kept::Kept;
+use crate::kind_reach::KindReach;
 use crate::rows::{AddressRow, Row, RowEnd, RowKey};
 use crate::rows_by_kind::rows_by_kind;
 use crate::rows_of_addresses::rows_by_addresses;
-use crate::rules_by_kind::{KindRules, Wanted};
+use crate::rules_by_kind::KindRules;
 use np_base::{NoMemory, Seq};
 use np_fold::{Folded, Workloads};
 use np_policies::Direction;
@@ -25,13 +26,12 @@ use std::sync::ledger::Ledger;
 /// behind them, for each workload, those of all addresses, ingress and then egress. They are made pair by pair, and never
 /// all of them are held. Which policies select a pod is asked once for each kind of workloads, at the first call of `next`.
 /// The rules are asked once for each source and each kind of destinations, and what they give is kept until the next
-/// source; pairs of kinds between which nothing may pass are passed over. Contracts see the rows, and as `due` an upper bound of the rules that are still to be looked at.
+/// source. Contracts see the rows, and as `due` an upper bound of the rules that are still to be looked at.
 #[derive(Drop)]
 pub struct Rows<'a> {
     alloc: Global,
     folded: &'a Folded,
     rules: KindRules<'a>,
-    wanted: Wanted,
     // The place of the next rows to be made, and the one behind the last.
     place: u64,
     end: u64,
@@ -68,7 +68,6 @@ impl<'a> Rows<'a> {
             alloc,
             folded,
             rules: KindRules::nothing(alloc),
-            wanted: Wanted::AllRows,
             place: 0,
             end,
             kept: Kept::nothing(alloc),
@@ -85,12 +84,12 @@ impl<'a> Rows<'a> {
         ensures most { OnErr result (steps.new ≤ steps.old + self.old.due) }
         ensures least { steps.old ≤ steps.new }
     {
-        self.rules.ask(self.alloc, self.folded, self.wanted)?;
+        self.rules.ask(self.alloc, self.folded)?;
         while self.ready.is_empty() {
             if self.place == self.end {
                 return Ok(None);
             }
-            self.place = pass_over(self.folded, &self.rules, self.place);
+            self.place = pass_over(self.folded, &self.rules.reach, self.place);
             let rows = rows_at(
                 self.alloc,
                 self.folded,
@@ -104,80 +103,6 @@ impl<'a> Rows<'a> {
         }
         Ok(self.ready.pop())
     }
-
-    /// Passes over rows that have not this workload at an end, as far as they stand next. Those that have it are still to come.
-    pub fn pass(&mut self, workload: u32)
-        ensures rows { spec.PassesOver workload self.old.rows self.new.rows }
-        ensures due { self.new.due ≤ self.old.due }
-    {
-        self.wanted = Wanted::RowsOfOne;
-        if self.ready.is_empty() {
-            self.place = pass_place(self.folded, workload, self.place);
-        }
-    }
-}
-
-// Passes over places without rows of the workload, from one on.
-fn pass_place(folded: &Folded, workload: u32, place: u64) -> u64
-    requires place { place ≤ spec.place_count (number_of_workloads folded.now) }
-    requires fits { spec.place_count (number_of_workloads folded.now) < 2 ^ 64 }
-    ensures rows { spec.PassesOver workload (spec.rows_from (estate_table folded.now) place)
-        (spec.rows_from (estate_table folded.now) result) }
-    ensures passed { spec.IsPassedTo (number_of_workloads folded.now) place result }
-{
-    let count = u64::from(folded.workloads().count());
-    if place < count * count {
-        pass_pairs(folded, workload, place)
-    } else {
-        pass_addresses(folded, workload, place)
-    }
-}
-
-// Passes over the destinations from a place on, of the same source, up to the workload, or to the last of them.
-fn pass_pairs(folded: &Folded, workload: u32, place: u64) -> u64
-    requires place { place < spec.pair_count (number_of_workloads folded.now) }
-    requires fits { spec.place_count (number_of_workloads folded.now) < 2 ^ 64 }
-    ensures rows { spec.PassesOver workload (spec.rows_from (estate_table folded.now) place)
-        (spec.rows_from (estate_table folded.now) result) }
-    ensures passed { spec.IsPassedTo (number_of_workloads folded.now) place result }
-{
-    let count = u64::from(folded.workloads().count());
-    let asked = u64::from(workload);
-    let source = place / count;
-    if source == asked {
-        return place;
-    }
-    let mut destination = place % count;
-    while destination + 1 < count {
-        if destination == asked {
-            break;
-        }
-        destination += 1;
-    }
-    source * count + destination
-}
-
-// Passes over the addresses of other workloads from a place behind the pairs on.
-fn pass_addresses(folded: &Folded, workload: u32, place: u64) -> u64
-    requires place { place ≤ spec.place_count (number_of_workloads folded.now) }
-    requires pairs { spec.pair_count (number_of_workloads folded.now) ≤ place }
-    requires fits { spec.place_count (number_of_workloads folded.now) < 2 ^ 64 }
-    ensures rows { spec.PassesOver workload (spec.rows_from (estate_table folded.now) place)
-        (spec.rows_from (estate_table folded.now) result) }
-    ensures passed { spec.IsPassedTo (number_of_workloads folded.now) place result }
-{
-    let count = u64::from(folded.workloads().count());
-    let pairs = count * count;
-    let end = pairs + 2 * count;
-    let asked = u64::from(workload);
-    let mut next = place;
-    while next < end {
-        if (next - pairs) / 2 == asked {
-            break;
-        }
-        next += 1;
-    }
-    next
 }
 
 // Rows with the last one first.
@@ -199,8 +124,8 @@ fn place_count(workloads: &Workloads) -> u64
 }
 
 // Passes over the destinations from a place on to which nothing passes, of the same source, and at most up to the last.
-fn pass_over(folded: &Folded, rules: &KindRules<'_>, place: u64) -> u64
-    requires rules { AreOfKinds folded.now rules.now }
+fn pass_over(folded: &Folded, reach: &KindReach, place: u64) -> u64
+    requires reach { IsKindReach folded.now reach.now }
     requires place { place < spec.place_count (number_of_workloads folded.now) }
     requires fits { spec.place_count (number_of_workloads folded.now) < 2 ^ 64 }
     ensures rows { spec.rows_from (estate_table folded.now) result ≡ spec.rows_from (estate_table folded.now) place }
@@ -213,7 +138,7 @@ fn pass_over(folded: &Folded, rules: &KindRules<'_>, place: u64) -> u64
     let source = place / count;
     let mut destination = place % count;
     while destination + 1 < count {
-        if rules.is_silent(folded, source as u32, destination as u32) {
+        if reach.is_silent(folded, source as u32, destination as u32) {
             destination += 1;
         } else {
             break;

@@ -49,7 +49,7 @@ pub(crate) fn rows_by_kind<L: Ledger>(
     if is_alone(workloads, source, destination) {
         return Ok(Seq::new(alloc));
     }
-    if rules.is_silent(folded, source, destination) {
+    if rules.reach.is_silent(folded, source, destination) {
         return Ok(Seq::new(alloc));
     }
     let kind = workloads.kind_of(destination);

@@ -16,7 +16,6 @@ use np_pieces::Piece;
 use np_policies::Direction;
 use np_rules::{AddrConns, PodRules};
 use np_steps::Steps;
-use np_tiers::verdict_set;
 use std::alloc::Global;
 use std::sync::ledger::Ledger;
 
@@ -67,8 +66,7 @@ fn conns_at<L: Ledger>(
     ensures least { steps.old ≤ steps.new }
     ensures most { steps.new ≤ steps.old + side_rule_count near.now }
 {
-    let layer = near.address_layer(alloc, steps)?;
-    verdict_set(alloc, &layer)
+    near.address_set(alloc, steps)
 }
 
 // The ranges of both families as rows.

@@ -1,10 +1,7 @@
 //! The rules of the pods of each kind of workloads.
-ghost use Rattle.std.specs.Prelude.{◌≡◌, ◌<◌, Some, false, length, map, slice_get, true, IfOk, OnErr, OnOk};
-ghost use Rattle.np_addr.specs.declared.address.Family.{Family};
-ghost use Rattle.np_conns.specs.declared.port_spot.PortSpot.{PortSpot};
-ghost use Rattle.np_fold.specs.Workloads.{folding_of};
+ghost use Rattle.std.specs.Prelude.{◌≡◌, ◌<◌, Some, length, map, slice_get, IfOk, OnErr, OnOk};
 ghost use Rattle.np_table.specs.PairRules as spec;
-ghost use Rattle.np_table.specs.Table.{IsWorkload, pair_allows};
+ghost use Rattle.np_table.specs.Table.{IsWorkload};
 ghost use Rattle.np_table.specs.steps.PairSides.{sides_at};
 
 use crate::kind_reach::KindReach;
@@ -14,21 +11,14 @@ use np_policies::Direction;
 use np_rules::PodRules;
 use std::alloc::Global;
 
-/// Which rows of the table are wanted. What kinds let through at all is worth finding where many pairs are asked.
-#[derive(Clone, Copy, Debug, PartialEq, Eq)]
-pub enum Wanted {
-    AllRows,
-    RowsOfOne,
-}
-
 /// For each kind of workloads, by its number, the rules of the first pod of its first workload, as it sends and as it
-/// receives, and, if that is asked for, which kinds these let through at all. No rule tells pods of one kind apart, so that one
-/// of them stands for all. The lists are empty until the rules are asked for.
+/// receives, and which kinds these let through at all. No rule tells pods of one kind apart, so that one of them stands for
+/// all. All lists are empty until the rules are asked for.
 #[derive(Drop)]
 pub(crate) struct KindRules<'a> {
     pub senders: Vec<PodRules<'a>>,
     pub receivers: Vec<PodRules<'a>>,
-    pub reach: Option<KindReach>,
+    pub reach: KindReach,
 }
 
 impl<'a> KindRules<'a> {
@@ -39,7 +29,7 @@ impl<'a> KindRules<'a> {
         KindRules {
             senders: Vec::new(alloc),
             receivers: Vec::new(alloc),
-            reach: None,
+            reach: KindReach::nothing(alloc),
         }
     }
 
@@ -49,34 +39,16 @@ impl<'a> KindRules<'a> {
     {
         let senders = sides_of_kinds(alloc, folded, Direction::Egress)?;
         let receivers = sides_of_kinds(alloc, folded, Direction::Ingress)?;
+        let reach = KindReach::of(alloc, folded)?;
         Ok(KindRules {
             senders,
             receivers,
-            reach: None,
+            reach,
         })
     }
 
-    /// Asks for the rules of all kinds, unless they are known, and, where all rows are wanted, for what the kinds let through
-    /// at all.
-    pub(crate) fn ask(
-        &mut self,
-        alloc: Global,
-        folded: &'a Folded,
-        wanted: Wanted,
-    ) -> Result<(), NoMemory>
-        requires { spec.AreOfKindsIfAny folded.now self.old }
-        ensures all { OnOk result (spec.AreOfKinds folded.now self.new) }
-        ensures err { OnErr result (spec.AreOfKindsIfAny folded.now self.new) }
-    {
-        self.ask_sides(alloc, folded)?;
-        match wanted {
-            Wanted::AllRows => self.ask_reach(alloc, folded),
-            Wanted::RowsOfOne => Ok(()),
-        }
-    }
-
-    // Asks for the rules of all kinds, unless they are known.
-    fn ask_sides(&mut self, alloc: Global, folded: &'a Folded) -> Result<(), NoMemory>
+    /// Asks for the rules of all kinds, unless they are known.
+    pub(crate) fn ask(&mut self, alloc: Global, folded: &'a Folded) -> Result<(), NoMemory>
         requires { spec.AreOfKindsIfAny folded.now self.old }
         ensures all { OnOk result (spec.AreOfKinds folded.now self.new) }
         ensures err { OnErr result (spec.AreOfKindsIfAny folded.now self.new) }
@@ -85,31 +57,6 @@ impl<'a> KindRules<'a> {
             *self = KindRules::of(alloc, folded)?;
         }
         Ok(())
-    }
-
-    // Asks for what the kinds let through at all, unless that is known.
-    fn ask_reach(&mut self, alloc: Global, folded: &Folded) -> Result<(), NoMemory>
-        requires { spec.AreOfKinds folded.now self.old }
-        ensures { spec.AreOfKinds folded.now self.new }
-    {
-        if self.reach.is_none() {
-            self.reach = Some(KindReach::of(alloc, folded)?);
-        }
-        Ok(())
-    }
-
-    /// Whether it is known that nothing passes from a workload to another.
-    pub(crate) fn is_silent(&self, folded: &Folded, source: u32, destination: u32) -> bool
-        requires rules { spec.AreOfKinds folded.now self.now }
-        requires source { IsWorkload folded.now source }
-        requires destination { IsWorkload folded.now destination }
-        ensures silent { result ≡ true → (family : Family) (spot : PortSpot) →
-            pair_allows folded.now (folding_of folded.now) source destination family spot ≡ false }
-    {
-        match &self.reach {
-            Some(reach) => reach.is_silent(folded, source, destination),
-            None => false,
-        }
     }
 
     /// The rules of a kind in a direction.

@@ -7,9 +7,7 @@ use crate::described::{counts, number_named, numbers_of_pods, relevant, size, wo
 use crate::lists::{List, list_text};
 use crate::question::Question;
 use crate::seen::{blocks, keys, traits};
-use crate::tables::{
-    pair_rows_text, pair_set_text, ranges_text, rows_text, rows_with_text, silence_text,
-};
+use crate::tables::{pair_rows_text, pair_set_text, ranges_text, rows_text, silence_text};
 use np_base::NoMemory;
 use np_estate::Estate;
 use np_fold::Folded;
@@ -107,8 +105,5 @@ fn answer_with<L: Ledger>(
             ranges_text(alloc, folded, workload, direction, steps)
         }
         Question::Rows(calls) => rows_text(alloc, folded, calls, steps),
-        Question::RowsWith(workload, calls) => {
-            rows_with_text(alloc, folded, workload, calls, steps)
-        }
     }
 }

@@ -125,25 +125,6 @@ fn kinds_that_stay_silent(rt: HostRuntime) {
     expect_answers(&rt, rt.alloc(), List::Of(ISOLATED, LETS), WANTED);
 }
 
-// What `x` sends and receives, row by row, where the rows of the others are passed over.
-#[test]
-fn rows_of_one_workload(rt: HostRuntime) {
-    static WANTED: &[(Question, &str)] = &[(
-        Question::RowsWith(1, 40),
-        concat!(
-            "default/x[Pod] => default/z[Pod] (IPv6) : All Connections\n",
-            "default/y[Pod] => default/x[Pod] : TCP 5432\n",
-            "0.0.0.0-255.255.255.255 => default/x[Pod] : No Connections\n",
-            "::-ffff:ffff:ffff:ffff:ffff:ffff:ffff:ffff => default/x[Pod] : No Connections\n",
-            "default/x[Pod] => 0.0.0.0-255.255.255.255 : No Connections\n",
-            "default/x[Pod] => ::-fd00::2 : No Connections\n",
-            "default/x[Pod] => fd00::3 : All Connections\n",
-            "default/x[Pod] => fd00::4-ffff:ffff:ffff:ffff:ffff:ffff:ffff:ffff : No Connections\n",
-        ),
-    )];
-    expect_answers(&rt, rt.alloc(), List::Of(ISOLATED, LETS), WANTED);
-}
-
 // Pods with addresses of both families. Nobody may send to TCP 80 of `b` in IPv6, nor anything to `c` in IPv4.
 static DUAL: &[Pod] = &[
     Pod {

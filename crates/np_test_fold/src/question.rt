@@ -34,6 +34,4 @@ pub enum Question {
     Ranges(u32, Direction),
     /// What so many calls for the rows of the table give, one after another.
     Rows(u32),
-    /// Those with a workload at an end that so many calls give where rows of others are passed over.
-    RowsWith(u32, u32),
 }

@@ -10,7 +10,7 @@ use np_fold::Folded;
 use np_policies::Direction;
 use np_report::{Report, row_text};
 use np_steps::Steps;
-use np_table::{KindReach, Row, RowEnd, Rows, address_rows, pair_rows, pair_set};
+use np_table::{KindReach, Row, Rows, address_rows, pair_rows, pair_set};
 use std::alloc::Global;
 use std::sync::ledger::Ledger;
 
@@ -129,37 +129,6 @@ fn lines<L: Ledger>(
         }
     }
     Ok(text)
-}
-
-/// The rows with a workload at an end that so many calls give where rows of others are passed over, a line each.
-pub fn rows_with_text<L: Ledger>(
-    alloc: Global,
-    folded: &Folded,
-    workload: u32,
-    calls: u32,
-    steps: &mut Steps<L>,
-) -> Result<String, NoMemory>
-    ensures { steps.old ≤ steps.new }
-{
-    let mut rows = Rows::new(alloc, folded);
-    let mut text = String::new(alloc);
-    for _call in 0..calls {
-        rows.pass(workload);
-        if let Some(row) = rows.next(steps)? {
-            text.push_str(line_with(alloc, folded, workload, &row)?.as_str())?;
-        }
-    }
-    Ok(text)
-}
-
-// The line of a row that has the workload at an end, and nothing of another.
-fn line_with(alloc: Global, folded: &Folded, workload: u32, row: &Row) -> Result<String, NoMemory> {
-    let end = RowEnd::Work(workload);
-    if row.key.source == end || row.key.destination == end {
-        line(alloc, folded, row)
-    } else {
-        Ok(String::new(alloc))
-    }
 }
 
 // The line of a row.

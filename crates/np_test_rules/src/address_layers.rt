@@ -3,7 +3,8 @@ ghost use Rattle.std.specs.Prelude.{◌≡◌, ◌<◌, length};
 
 use crate::built::estate;
 use crate::clusters::{
-    BLOCK_WITH_EXCEPTION, LAST_BLOCK_TO_LAST_PORT, NETWORKS_OF_ONE_FAMILY, PASSED_TO_BASELINE,
+    BLOCK_BETWEEN_PODS, BLOCK_WITH_EXCEPTION, LAST_BLOCK_TO_LAST_PORT, NETWORKS_OF_ONE_FAMILY,
+    PASSED_TO_BASELINE,
 };
 use crate::packets::{agrees_with, place_named};
 use crate::written::WrittenEstate;
@@ -12,7 +13,7 @@ use np_base::Cells;
 use np_conns::{ConnSet, read_conns};
 use np_estate::Estate;
 use np_policies::Direction;
-use np_rules::{AddrConns, address_layer};
+use np_rules::{AddrConns, PodRules, address_layer};
 use np_steps::Steps;
 use np_tiers::verdict_set;
 use std::alloc::Global;
@@ -27,7 +28,7 @@ const NONE: &str = "No Connections";
 
 const ALL_BUT_HTTP: &str = "TCP 1-79,81-65535; UDP 1-65535; SCTP 1-65535";
 
-// What the layer of the pod allows, by address.
+// What the pod's side allows, by address. The layer of all its rules has to allow the same.
 fn address_set<L: Ledger>(
     alloc: Global,
     estate: &Estate,
@@ -42,7 +43,12 @@ fn address_set<L: Ledger>(
 {
     let mut steps: Steps<L> = Steps::new(blank);
     let layer = address_layer(alloc, estate, pod, direction, &mut steps)?;
-    Ok(verdict_set(alloc, &layer)?)
+    let rules = PodRules::of(alloc, estate, pod, direction)?;
+    let set = rules.address_set(alloc, &mut steps)?;
+    if !set.same(&verdict_set(alloc, &layer)?) {
+        return Err("the layer allows something else")?;
+    }
+    Ok(set)
 }
 
 fn set_of(
@@ -121,6 +127,27 @@ fn is_same(
     };
     let packets = agrees_with(estate, source, destination, family_of(point), at);
     Ok(packets && at.same(&read_conns(alloc, conns)?))
+}
+
+// Rules of pods alone open nothing to an address.
+#[test]
+fn rules_of_pods_alone_are_of_no_address(rt: HostRuntime) -> Result<(), Fail> {
+    static ROWS: &[Cell] = &[
+        ("0.0.0.0", NONE),
+        ("9.255.255.255", NONE),
+        ("10.0.0.0", "TCP 80"),
+        ("10.255.255.255", "TCP 80"),
+        ("11.0.0.0", NONE),
+        ("::", NONE),
+    ];
+    expect_ranges(
+        &rt,
+        rt.alloc(),
+        &BLOCK_BETWEEN_PODS,
+        Direction::Ingress,
+        (3, 1),
+        ROWS,
+    )
 }
 
 #[test]

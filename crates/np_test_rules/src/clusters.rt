@@ -93,6 +93,36 @@ pub static BLOCK_WITH_EXCEPTION: WrittenEstate = WrittenEstate {
     ..NOTHING
 };
 
+/// The pod `a`, and a policy of ingress of three rules, of which the one in the middle is of a block, and the others are of
+/// pods alone.
+pub static BLOCK_BETWEEN_PODS: WrittenEstate = WrittenEstate {
+    pods: ALONE,
+    policies: &[WrittenPolicy {
+        namespace: "default",
+        name: "p",
+        subject: &[],
+        ingress: Some(&[
+            WrittenRule {
+                peers: &[WrittenPeer::Pods(None, Some(&[]))],
+                ports: &[],
+            },
+            WrittenRule {
+                peers: &[
+                    WrittenPeer::Pods(Some(&[]), None),
+                    WrittenPeer::Block("10.0.0.0/8", &[]),
+                ],
+                ports: &[WrittenPort::Span(Proto::Tcp, 80, 80)],
+            },
+            WrittenRule {
+                peers: &[WrittenPeer::Pods(Some(&[]), None)],
+                ports: &[WrittenPort::Span(Proto::Udp, 53, 53)],
+            },
+        ]),
+        egress: None,
+    }],
+    ..NOTHING
+};
+
 /// The pod `a`, and a policy of ingress to the greatest port from the last block of IPv6.
 pub static LAST_BLOCK_TO_LAST_PORT: WrittenEstate = WrittenEstate {
     pods: ALONE,

@@ -1,9 +1,10 @@
 -- What a search for used rules has found.
-use Rattle.std.specs.Prelude.{◌≡◌, ℕ, ◌<◌, List, Bool, true, Some, slice_get}
+use Rattle.std.specs.Prelude.{◌≡◌, ℕ, ◌<◌, List, Bool, true, ◌&&◌, ◌||◌, not, Some, slice_get}
 use Rattle.std.specs.List.{Contains}
 use Rattle.np_addr.specs.declared.address.Family.{Family}
 use Rattle.np_conns.specs.Conns.{is_spot}
 use Rattle.np_estate.specs.Families.{families_of}
+use Rattle.np_estate.specs.Lawful.{IsLawful}
 use Rattle.np_estate.specs.declared.lists.EstateLists.{EstateLists}
 use Rattle.np_explain.specs.Marks.{admin_rules, base_rules, net_rules}
 use Rattle.np_lint.specs.Rules.{rule_count_at}
@@ -11,19 +12,24 @@ use Rattle.np_lint.specs.Used.{is_used, stands_in}
 use Rattle.np_lint.specs.declared.kind_pods.KindPod.{KindPod}
 use Rattle.np_lint.specs.declared.rule_ref.RuleRef.{RuleRef}
 use Rattle.np_lint.specs.declared.rule_ref.Tier.{Tier}
+use Rattle.np_lint.specs.declared.search.Kinds.{Kinds}
+use Rattle.np_lint.specs.declared.search.Search.{Search}
 use Rattle.np_lint.specs.declared.used_rules.UsedRules.{UsedRules}
-use Rattle.np_lint.specs.steps.Kinds.{is_asked}
-use Rattle.np_lint.specs.steps.Known.{is_known}
+use Rattle.np_lint.specs.steps.Kinds.{AreKindPods, is_asked}
+use Rattle.np_lint.specs.steps.Known.{are_known, is_known}
 use Rattle.np_policies.specs.declared.direction.Direction.{Direction}
 use Rattle.np_policies.specs.declared.direction.Direction.TheVariants.{Ingress, Egress}
+use Rattle.np_reach.specs.Reach.{may_at, may_reach, reach_of}
 use Rattle.np_rules.specs.Deciders.{decider}
 use Rattle.np_rules.specs.Ends.{Contact, pod}
 use Rattle.np_rules.specs.EveryAddress.{is_place}
 use Rattle.np_rules.specs.LayerRules.{NamesAdmin, NamesBase, NamesNet}
 use Rattle.np_rules.specs.Layers.{Pairwise}
 use Rattle.np_rules.specs.PodSides.{PodSide, near_pod, side_of, with_addresses, with_pod}
+use Rattle.np_rules.specs.Verdict.{pod_at}
 use Rattle.np_rules.specs.declared.decider.Decider.{Decider}
 use Rattle.np_rules.specs.declared.rule_ids.LayerRules.{LayerRules}
+use Rattle.np_table.specs.PairRules.{first_ends}
 
 -- ---- rules of one direction
 
@@ -65,6 +71,28 @@ KnowsAll {Spot} in_space side looks_at used = (spot : Spot) → in_space spot �
 -- it is used
 abbrev pub AllAreUsed : {Spot : Type 0} → (Spot → Bool) → PodSide → (PodSide → Spot → Contact) → Type 0
 AllAreUsed {Spot} in_space side looks_at = (spot : Spot) → in_space spot ≡ true → AreUsed side.lists side.direction (side_decider side (looks_at side spot))
+
+-- ---- what a search goes by
+
+-- the pods stand for the kinds of the estate, and it is known what they may let through
+pub record AreKinds (kinds : Kinds) : Type 0 where
+  pub lawful : IsLawful kinds.estate.now
+  pub pods : AreKindPods kinds.estate.now kinds.pods.now
+  pub reach : kinds.reach.now ≡ reach_of kinds.estate.now kinds.direction (first_ends kinds.estate.now)
+
+-- seen from the side of one of them, of which these are the rules
+pub record IsSearchOf (side : PodSide) (pods : List KindPod) (marks : List (List Bool)) (near : ℕ) (ids : LayerRules) : Type 0 where
+  pub lawful : IsLawful side.lists
+  pub kinds : AreKindPods side.lists pods
+  pub rules : AreRulesOf side ids
+  pub reach : (kind : ℕ) (far : KindPod) → slice_get pods kind ≡ Some far → may_at marks near kind ≡ may_reach side.lists side.direction (near_pod side) (pod (pod_at side.lists far.pod))
+
+abbrev pub IsSearch : Search → Type 0
+IsSearch search = IsSearchOf search.side.now search.kinds.pods.now search.kinds.reach.now search.near search.rules.now
+
+-- whether a kind may tell of a rule that is not known: it is asked for, and may be let through, or there are admin rules that are not known
+abbrev pub may_tell : Search → UsedRules → ℕ → KindPod → Bool
+may_tell search used kind far = is_asked search.near kind far && (may_at search.kinds.reach.now search.near kind || not (are_known used.admin search.rules.now.admin))
 
 -- ---- the side of a kind
 

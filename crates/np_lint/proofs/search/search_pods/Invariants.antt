@@ -6,8 +6,8 @@ use Rattle.np_lint.specs.steps.Search.{Grows, IsSound}
 -- the kinds so far
 abbrev pub invariant-loop-kind : goal.invariant-loop-kind
 invariant-loop-kind g l = record {
-  sound : IsSound l.side.lists l.side.direction l.used;
+  sound : IsSound l.search.side.now.lists l.search.side.now.direction l.used;
   grows : Grows l.fn.used l.used;
-  finds : KnowsFirst l.side l.kinds l.near l.family l.used l.kind;
+  finds : KnowsFirst l.search.side.now l.search.kinds.pods.now l.search.near l.family l.used l.kind;
   least : l.fn.steps ≤ l.steps;
 }

@@ -7,6 +7,6 @@ use Rattle.np_lint.specs.steps.Search.{IsSound}
 abbrev pub invariant-loop-near : goal.invariant-loop-near
 invariant-loop-near g l = record {
   sound : IsSound l.fn.folded l.fn.direction l.used;
-  finds : KnowsFirstSides l.fn.folded l.fn.direction l.kinds.items l.used l.near;
+  finds : KnowsFirstSides l.fn.folded l.fn.direction l.kinds.pods.now l.used l.near;
   least : l.fn.steps ≤ l.steps;
 }

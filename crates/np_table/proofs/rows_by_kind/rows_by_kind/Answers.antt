@@ -18,6 +18,9 @@ pub returns-then-is_alone-clause-rows : goal.returns-then-is_alone-clause-rows
 returns-then-is_alone-clause-rows g c =
     c.new.ensures ∙ pair_rows-alone c.args.folded.now (folding_of c.args.folded.now) c.args.source c.args.destination (rw c.workloads-workloads.ensures.value at (sym c.is_alone.ensures ∙ c.if-is_alone.true))
 
+pub is_silent-requires-clause-reach : goal.is_silent-requires-clause-reach
+is_silent-requires-clause-reach g c = c.requires.rules.reach
+
 pub returns-then-is_silent-clause-rows : goal.returns-then-is_silent-clause-rows
 returns-then-is_silent-clause-rows g c =
     c.new-then-is_silent.ensures ∙ silent-rows c.args.folded.now c.args.source c.args.destination (c.is_silent.ensures.silent c.if-is_silent.true)
