@@ -9,6 +9,7 @@ pub mod KnownLemmas
 pub mod LawLemmas
 pub mod NameLemmas
 pub mod NoteLemmas
+pub mod OrderLemmas
 pub mod PacketLemmas
 pub mod PolicyLemmas
 pub mod PrintLemmas

@@ -21,7 +21,7 @@ use Rattle.np_policies.specs.declared.network_policy.NetPolicy.{NetPolicy}
 
 -- ---- lists
 
-numbered_all : {X : Type 0} (P : X → Type 0) (f : ℕ → X) (count : ℕ) → ((n : ℕ) → n < count → P (f n)) → All P (map f (range_with_len 0 count))
+pub numbered_all : {X : Type 0} (P : X → Type 0) (f : ℕ → X) (count : ℕ) → ((n : ℕ) → n < count → P (f n)) → All P (map f (range_with_len 0 count))
 numbered_all P f count each k d within =
     let below : k < count = omega (arith, length-map-range_with_len f 0 count) in
     rw (get_or-map-range_with_len f 0 count k k d below (omega arith)) (each k below)

@@ -1,3 +1,4 @@
+pub mod Order
 pub mod Rules
 pub mod Used
 pub mod Without

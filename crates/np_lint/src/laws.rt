@@ -1,11 +1,12 @@
 //! What follows from the definitions. Each law is the contract of a call that does nothing.
-ghost use Rattle.std.specs.Prelude.{◌≡◌, ◌↔◌};
+ghost use Rattle.std.specs.Prelude.{◌≡◌, ◌↔◌, AllPairs};
 ghost use Rattle.std.specs.List.{Contains};
 ghost use Rattle.np_addr.specs.declared.address.Family.{Family};
 ghost use Rattle.np_conns.specs.declared.port_spot.PortSpot.{PortSpot};
 ghost use Rattle.np_estate.specs.Lawful.{IsLawful};
 ghost use Rattle.np_estate.specs.declared.lists.EstateLists.{EstateLists};
 ghost use Rattle.np_explain.specs.Sides.{packet_between};
+ghost use Rattle.np_lint.specs.Order.{StandsBefore};
 ghost use Rattle.np_lint.specs.Rules.{IsRuleOf};
 ghost use Rattle.np_lint.specs.Used.{IsListedPacket, StandsIn, unused_of};
 ghost use Rattle.np_lint.specs.Without.{without};
@@ -19,6 +20,12 @@ pub fn unused_rules_decide_nothing()
     ensures { (lists : EstateLists) (rule : RuleRef) → Contains (unused_of lists) rule
         ↔ (IsRuleOf lists rule × ((source destination : End) (family : Family) (spot : PortSpot) →
         IsListedPacket lists source destination family spot → StandsIn lists rule source destination family spot → ⊥)) }
+{}
+
+/// The unused rules stand in order, so that none stands twice: by the tier, then by the place of the policy among those of its
+/// tier, then ingress before egress, and then by the place of the rule.
+pub fn unused_rules_stand_in_order()
+    ensures { (lists : EstateLists) → AllPairs StandsBefore (unused_of lists) }
 {}
 
 /// Unused rules change nothing: in the estate without all of them, where policies stay and NetworkPolicies keep their types,

@@ -14,7 +14,9 @@ mod search;
 mod unused;
 mod used_rules;
 
-pub use laws::{unused_rules_change_nothing, unused_rules_decide_nothing};
+pub use laws::{
+    unused_rules_change_nothing, unused_rules_decide_nothing, unused_rules_stand_in_order,
+};
 pub use print::print_rule;
 pub use rule_ref::{RuleRef, Tier};
 pub use unused::unused_rules;
