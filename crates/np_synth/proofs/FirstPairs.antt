@@ -1,5 +1,5 @@
 -- The first pair of numbers that passes a test.
-use Rattle.std.proofs.Common.{◌≡◌, ℕ, zero, suc, ◌+◌, ◌<◌, ◌≤◌, List, Bool, true, false, Option, Some, None, map, flat_map, arith, refl, sym, ap, ◌∙◌, inl, inr}
+use Rattle.std.proofs.Common.{◌≡◌, ℕ, zero, suc, ◌+◌, ◌<◌, ◌≤◌, List, Bool, true, false, Option, Some, None, map, flat_map, arith, refl, sym, ap, ◌∙◌, inl, inr, if◌then◌else◌}
 use Rattle.std.specs.List.{find, range_with_len}
 use Rattle.std.specs.Option.{option_or}
 use Rattle.std.proofs.lemmas.Bool.{cases_eq}
@@ -94,3 +94,80 @@ module _ (test : ℕ → ℕ → Bool) where
   pub first_pair-from_none : (count : ℕ) → first_pair test count ≡ None → (a b : ℕ) → a < count → b < count → test a b ≡ false
   unfolding first_pair
   first_pair-from_none count none a b high below = rows-from_none count 0 count none a b (omega arith) (omega arith) below
+
+  -- ---- what is first where there is one
+
+  -- of pairs of one first number
+  record IsFirstOfRow (a from n b : ℕ) : Type 0 where
+    low : from ≤ b
+    high : b < from + n
+    is : test a b ≡ true
+    before : (y : ℕ) → from ≤ y → y < b → test a y ≡ false
+
+  row-first : (a from n : ℕ) (pair : ℕ × ℕ) → find passes (row a (range_with_len from n)) ≡ Some pair → (pair.0 ≡ a) × IsFirstOfRow a from n pair.1
+  row-first a from zero pair found = absurd (cc)
+  row-first a from (suc n) pair found = by (test a from) refl found (row-first a (from + 1) n pair)
+    where
+      by : (answer : Bool) → test a from ≡ answer → (if answer then Some (a, from) else find passes (row a (range_with_len (from + 1) n))) ≡ Some pair → (find passes (row a (range_with_len (from + 1) n)) ≡ Some pair → (pair.0 ≡ a) × IsFirstOfRow a (from + 1) n pair.1) → (pair.0 ≡ a) × IsFirstOfRow a from (suc n) pair.1
+      by true is here again =
+          let same : (a, from) ≡ pair = cc in
+          let second : from ≡ pair.1 = ap (λ (p : ℕ × ℕ). p.1) same in
+          (sym (ap (λ (p : ℕ × ℕ). p.0) same), record { low = omega (arith, second); high = omega (arith, second); is = ap (test a) (sym second) ∙ is; before = λ y above below. absurd (omega (arith, second, above, below)) })
+      by false is later again =
+          let rest = again later in (
+            rest.0,
+            record {
+              low = omega (arith, rest.1.low);
+              high = omega (arith, rest.1.high);
+              is = rest.1.is;
+              before = λ y above below. elim (cases_eq from y) [
+                | inl here ↦ ap (test a) (sym here) ∙ is
+                | inr apart ↦ rest.1.before y (omega (arith, above, apart)) below
+              ];
+            },
+          )
+
+  -- of all pairs
+  pub record IsFirst (count from n : ℕ) (pair : ℕ × ℕ) : Type 0 where
+    pub low : from ≤ pair.0
+    pub high : pair.0 < from + n
+    pub within : pair.1 < count
+    pub is : test pair.0 pair.1 ≡ true
+    pub earlier : (x y : ℕ) → from ≤ x → x < pair.0 → y < count → test x y ≡ false
+    pub before : (y : ℕ) → y < pair.1 → test pair.0 y ≡ false
+
+  rows-first : (count from n : ℕ) (pair : ℕ × ℕ) → find passes (rows count (range_with_len from n)) ≡ Some pair → IsFirst count from n pair
+  rows-first count from zero pair found = absurd (cc)
+  rows-first count from (suc n) pair found =
+      by (find passes (row from (range_with_len 0 count))) refl (sym (find-append passes (row from (range_with_len 0 count)) (rows count (range_with_len (from + 1) n))) ∙ found) (rows-first count (from + 1) n pair)
+    where
+      by : (here : Option (ℕ × ℕ)) → find passes (row from (range_with_len 0 count)) ≡ here → option_or here (find passes (rows count (range_with_len (from + 1) n))) ≡ Some pair → (find passes (rows count (range_with_len (from + 1) n)) ≡ Some pair → IsFirst count (from + 1) n pair) → IsFirst count from (suc n) pair
+      by (Some one) is same again =
+          let one_is : one ≡ pair = cc in
+          let first = row-first from 0 count one is in
+          let at : pair.0 ≡ from = sym (ap (λ (p : ℕ × ℕ). p.0) one_is) ∙ first.0 in
+          let second : one.1 ≡ pair.1 = ap (λ (p : ℕ × ℕ). p.1) one_is in record {
+            low = omega (arith, at);
+            high = omega (arith, at);
+            within = omega (arith, second, first.1.high);
+            is = ap (λ (k : ℕ). test k pair.1) at ∙ ap (test from) (sym second) ∙ first.1.is;
+            earlier = λ x y low high below. absurd (omega (arith, at, low, high));
+            before = λ y below. ap (λ (k : ℕ). test k y) at ∙ first.1.before y (omega arith) (omega (arith, second, below));
+          }
+      by None is later again =
+          let rest = again later in record {
+            low = omega (arith, rest.low);
+            high = omega (arith, rest.high);
+            within = rest.within;
+            is = rest.is;
+            earlier = λ x y low high below. elim (cases_eq from x) [
+              | inl here ↦ ap (λ (k : ℕ). test k y) (sym here) ∙ row-from_none from 0 count is y (omega arith) (omega (arith, below))
+              | inr apart ↦ rest.earlier x y (omega (arith, low, apart)) high below
+            ];
+            before = rest.before;
+          }
+
+  -- the first pair passes, and none before it
+  pub first_pair-is_first : (count : ℕ) (pair : ℕ × ℕ) → first_pair test count ≡ Some pair → IsFirst count 0 count pair
+  unfolding first_pair
+  first_pair-is_first count pair found = rows-first count 0 count pair found

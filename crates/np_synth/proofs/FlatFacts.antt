@@ -67,7 +67,7 @@ group-rows lists fine a b a_in b_in same =
 
 -- ---- nothing is split
 
-same_sets : (sets : Family → Conns) (families : List Family) → ((family : Family) × (families ≡ family ∷ [])) ⊎ (families ≡ Four ∷ Six ∷ []) → two_differ (map sets families) ≡ false → AllByRecursion (λ family. sets family ≡ sets (first_family families)) families
+pub same_sets : (sets : Family → Conns) (families : List Family) → ((family : Family) × (families ≡ family ∷ [])) ⊎ (families ≡ Four ∷ Six ∷ []) → two_differ (map sets families) ≡ false → AllByRecursion (λ family. sets family ≡ sets (first_family families)) families
 same_sets sets families (inl one) none = subst (λ (fs : List Family). AllByRecursion (λ family. sets family ≡ sets (first_family fs)) fs) (sym one.1) (refl, tt)
 same_sets sets families (inr both) none =
     let two : two_differ (sets Four ∷ sets Six ∷ []) ≡ false = subst (λ (fs : List Family). two_differ (map sets fs) ≡ false) both none in

@@ -1,5 +1,5 @@
 -- Groups, by what selectors see of pods.
-use Rattle.std.proofs.Common.{◌≡◌, ℕ, ◌+◌, ◌<◌, List, [], ◌∷◌, ◌++◌, Bool, true, false, Option, Some, None, map, length, slice_get, slice_index, get_or, refl, sym, ap, ◌∙◌, zero-add}
+use Rattle.std.proofs.Common.{◌≡◌, ℕ, ◌+◌, ◌<◌, List, [], ◌∷◌, ◌++◌, true, false, Option, Some, None, map, length, slice_get, refl, sym, ap, ◌∙◌, zero-add}
 use Rattle.std.specs.Bool.{Decides}
 use Rattle.std.specs.Cmp.{Equal-is}
 use Rattle.std.specs.Cmp.Lexicographic.{bytes_decides}
@@ -15,15 +15,13 @@ use Rattle.np_classes.proofs.Lists.{All-places, map_agree_on, places_more}
 use Rattle.np_classes.proofs.Relations.{class_of_agree, firsts_agree}
 use Rattle.np_classes.specs.Classes.{IsAlike, class_of, firsts, keys_tie, places}
 use Rattle.np_estate.specs.declared.lists.EstateLists.{EstateLists}
-use Rattle.np_estate.specs.declared.pod.Pod.{Pod}
 use Rattle.np_fold.proofs.LabelLemmas.{Decides-listed, labels-from_values, values-from_labels}
 use Rattle.np_fold.proofs.OrderLemmas.{ties-equal}
 use Rattle.np_fold.specs.Order.{compare_traits}
 use Rattle.np_fold.specs.Traits.{label_of}
 use Rattle.np_fold.specs.declared.traits.Traits.{Traits}
 use Rattle.np_labels.specs.Labels.{value_of}
-use Rattle.np_rules.specs.Ends.{PodEnd, pod_end}
-use Rattle.np_rules.specs.Verdict.{pod_or_none}
+use Rattle.np_rules.specs.Ends.{PodEnd}
 use Rattle.np_synth.specs.Groups.{are_together, group_firsts, group_of, have_same_value, look_alike, relevant}
 use Rattle.np_table.specs.PairRules.{first_end}
 use Rattle.np_synth.specs.steps.Seen.{seen, seen_at}

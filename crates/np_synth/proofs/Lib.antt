@@ -14,6 +14,7 @@ pub mod OnePolicy
 pub mod PolicyFacts
 pub mod PortLemmas
 pub mod ReceiverFacts
+pub mod RefusedLemmas
 pub mod SelectLemmas
 pub mod SideFacts
 pub mod SplitLemmas

@@ -4,5 +4,6 @@ pub mod Flat
 pub mod Groups
 pub mod Pairs
 pub mod Ports
+pub mod Refused
 pub mod Selecting
 pub mod steps

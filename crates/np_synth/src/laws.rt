@@ -11,7 +11,9 @@ ghost use Rattle.np_rules.specs.Ends.{pod};
 ghost use Rattle.np_rules.specs.Verdict.{pod_at};
 ghost use Rattle.np_synth.specs.Faults.{flat_fault, is_defined, set_of};
 ghost use Rattle.np_synth.specs.Flat.{flattened, set_from};
-ghost use Rattle.np_synth.specs.Groups.{group_of};
+ghost use Rattle.np_synth.specs.Groups.{are_together, group_of};
+ghost use Rattle.np_synth.specs.Refused.{AreFamiliesAlike, AreTreatedAlike, ComesBefore};
+ghost use Rattle.np_synth.specs.declared.fault.FlatFault.TheVariants.{Alike, Split};
 ghost use Rattle.np_table.specs.Said.{IsInFamily};
 ghost use Rattle.np_table.specs.Table.{between_pods, number_of_workloads, with_address};
 
@@ -37,4 +39,24 @@ pub fn groups_give_the_sets()
     ensures rule { (lists : EstateLists) → flat_fault lists ≡ None → (a b : ℕ) →
         a < number_of_workloads lists → b < number_of_workloads lists → is_defined lists a b ≡ true →
         set_from lists (group_of lists a) (group_of lists b) ≡ Some (set_of lists a b) }
+{}
+
+/// `Split` names two workloads between which the families of the list differ in what passes, and no pair before them, by the
+/// source and then by the destination, does.
+pub fn the_first_split_is_told()
+    ensures differ { (lists : EstateLists) (a b : ℕ) → flat_fault lists ≡ Some (Split a b) → AreFamiliesAlike lists a b → ⊥ }
+    ensures first { (lists : EstateLists) (a b c d : ℕ) → flat_fault lists ≡ Some (Split a b) →
+        c < number_of_workloads lists → d < number_of_workloads lists → ComesBefore c d a b → AreFamiliesAlike lists c d }
+{}
+
+/// `Alike` comes only where no pair is split. It names two workloads that selectors do not tell apart and some packet does, and
+/// no pair before them, by the lesser number and then by the greater, is such.
+pub fn the_first_alike_are_told()
+    ensures nothing_split { (lists : EstateLists) (a b c d : ℕ) → flat_fault lists ≡ Some (Alike a b) →
+        c < number_of_workloads lists → d < number_of_workloads lists → AreFamiliesAlike lists c d }
+    ensures together { (lists : EstateLists) (a b : ℕ) → flat_fault lists ≡ Some (Alike a b) →
+        (a < b) × (are_together lists a b ≡ true) }
+    ensures differ { (lists : EstateLists) (a b : ℕ) → flat_fault lists ≡ Some (Alike a b) → AreTreatedAlike lists a b → ⊥ }
+    ensures first { (lists : EstateLists) (a b c d : ℕ) → flat_fault lists ≡ Some (Alike a b) → d < number_of_workloads lists →
+        c < d → are_together lists c d ≡ true → ComesBefore c d a b → AreTreatedAlike lists c d }
 {}

@@ -17,4 +17,7 @@ mod unlike;
 pub use fault::FlatFault;
 pub use flat::Flat;
 pub use flattening::flatten;
-pub use laws::{flat_policies_give_the_verdicts, groups_give_the_sets};
+pub use laws::{
+    flat_policies_give_the_verdicts, groups_give_the_sets, the_first_alike_are_told,
+    the_first_split_is_told,
+};
