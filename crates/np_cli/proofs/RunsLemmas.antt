@@ -10,7 +10,7 @@ use Rattle.np_cli.specs.Failures.{source_failure, words_failure}
 use Rattle.np_cli.specs.Prints.{Answers}
 use Rattle.np_cli.specs.Runs.{AskedNothing, Cause, IsAccepted, IsReported, Run, ran}
 use Rattle.np_cli.specs.Sinks.{Sunk, IsKept, TookWhole}
-use Rattle.np_cli.specs.Sources.{AreTold, BeganFront, FailedAt, IsUntouched, ReadOnce, Sourced, Unread, is_too_large, total_size}
+use Rattle.np_cli.specs.Sources.{AreTold, BeganFront, FailedAt, IsUntouched, OverLimit, ReadOnce, Sourced, Unread, is_too_large, total_size}
 use Rattle.np_cli.specs.declared.sources.TheConstants.{SIZE_LIMIT}
 use Rattle.np_cli.specs.Words.{names_asked, names_of}
 use Rattle.np_words.specs.declared.job.Job.{Job}
@@ -40,6 +40,15 @@ BeganFront-failed source names name at = record {
   rest = at.later;
   order = at.order ∙ sym (append_assoc at.earlier (name ∷ []) at.later);
   began = at.began;
+}
+
+-- so was the one with which the inputs became too large
+BeganFront-over : (source : Sourced) (names : List (List ℕ)) → OverLimit source names → BeganFront source names
+BeganFront-over source names over = record {
+  front = over.earlier ++ over.name ∷ [];
+  rest = over.later;
+  order = over.order ∙ sym (append_assoc over.earlier (over.name ∷ []) over.later);
+  began = over.began;
 }
 
 -- ---- a report on the bytes that were read is one on those that the source told
@@ -144,7 +153,7 @@ Cause-no_memory run (Err Usage) cause = record {
   front = λ texts told. TookFront-kept run.out (output run.asked texts) cause.kept;
 }
 Cause-no_memory run (Err TooLarge) cause = record {
-  began = cause.over.began;
+  began = BeganFront-over run.source (names_asked run.asked) cause.over;
   front = λ texts told. TookFront-kept run.out (output run.asked texts) cause.kept;
 }
 Cause-no_memory run (Err (Refused fault)) cause = record {

@@ -4,7 +4,7 @@ use Rattle.std.specs.Prelude.{◌⊎◌, Contains}
 use Rattle.std.specs.Option.{option_map}
 use Rattle.std.specs.declared.alloc.Global.{Global}
 use Rattle.std.proofs.lemmas.Bool.{lt-ltb, cases_lt, true≢false}
-use Rattle.std.proofs.lemmas.List.{take_more, take-append-drop, map-append, get_or_read}
+use Rattle.std.proofs.lemmas.List.{get_or_read, length-take-le, map-append, take-append-drop, take_more}
 use Rattle.std.proofs.lemmas.List.Elements.{Contains-append_left, Contains-append_right, Contains-get_or}
 use Rattle.std.proofs.lemmas.List.Sums.{sum_by-append, sum_by_more_le}
 use Rattle.np_io.specs.Counts.{Rose, RosePast, handed_after}
@@ -137,32 +137,47 @@ HandedOut-more old middle new n m out is =
 
 -- ---- why the next input was not read is why all were not
 
+-- a name between those before it and those behind it
+parted : (names : List (List ℕ)) (i : ℕ) (name : List ℕ) → i < length names → name ≡ get_or names i [] → names ≡ take i names ++ (name ∷ drop (i + 1) names)
+parted names i name below here =
+    sym (take-append-drop (i + 1) names)
+    ∙ ap (λ (front : List (List ℕ)). front ++ drop (i + 1) names) (take_more names i [] below ∙ ap (λ (n : List ℕ). take i names ++ n ∷ []) (sym here))
+    ∙ append_assoc (take i names) (name ∷ []) (drop (i + 1) names)
+
 pub Unread-next : (source : Sourced) (holds_now : List ℕ → Option (List ℕ)) (left_now : Option (List ℕ)) (faults_now : List ℕ → ℕ) (handed_now : ℕ) (began_now : Option (List (List ℕ))) (names : List (List ℕ)) (made : List (Vec ℕ Global)) (i room : ℕ) (name : List ℕ) (fault : SourceFault) → holds_now ≡ source.holds → is_some left_now ≡ is_some source.left → faults_now ≡ source.faults_before → i < length names → name ≡ get_or names i name → ((texts : List (List ℕ)) → AreTold source.holds source.left names texts → bytes_of made ≡ take i texts) → room + total_size (bytes_of made) ≡ SIZE_LIMIT → RoseBy (total_size (bytes_of made)) source.handed_before handed_now → HandedOut source.handed_before handed_now (total_size (bytes_of made)) → BeganNext source.began_before began_now (take i names) → BeganNext began_now source.began_after (name ∷ []) → NextUnread (record { holds = holds_now; left = left_now; faults_before = faults_now; faults_after = source.faults_after; handed_before = handed_now; handed_after = source.handed_after; began_before = began_now; began_after = source.began_after }) name room fault → Unread source names fault
 Unread-next source holds_now left_now faults_now handed_now began_now names made i room name (CannotRead named) same_holds same_left same_faults below is so_far counted rose out before after why =
     let at_name : (n : ℕ) → Rose n (source.faults_after name) → (source.faults_before name ≡ n) → Rose (source.faults_before name) (source.faults_after name) = λ n r e. subst (λ (m : ℕ). Rose m (source.faults_after name)) (sym e) r in
     let here : name ≡ get_or names i [] = get_or_read names i name below is [] in
-    let parts : names ≡ take i names ++ (name ∷ drop (i + 1) names) =
-    sym (take-append-drop (i + 1) names)
-    ∙ ap (λ (front : List (List ℕ)). front ++ drop (i + 1) names) (take_more names i [] below ∙ ap (λ (n : List ℕ). take i names ++ n ∷ []) (sym here))
-    ∙ append_assoc (take i names) (name ∷ []) (drop (i + 1) names) in
     let most = out.most in
     let more = why.2 in
     subst (FailedAt source names) (sym why.0) (record {
       earlier = take i names;
       later = drop (i + 1) names;
-      order = parts;
+      order = parted names i name below here;
       began = BeganNext-more source.began_before began_now source.began_after (take i names) (name ∷ []) before after;
       in_room = omega arith;
       rose = at_name (faults_now name) why.1 (ap (λ (f : List ℕ → ℕ). f name) (sym same_faults));
     })
-Unread-next source holds_now left_now faults_now handed_now began_now names made i room name TooLarge same_holds same_left same_faults below is so_far counted rose out before after why = record {
-  past = RosePast-joined (total_size (bytes_of made)) room SIZE_LIMIT source.handed_before handed_now source.handed_after counted rose why.0;
-  unfailed = why.1 ∙ same_faults;
-  began = BeganFront-next source names i (Began-next source.began_before began_now source.began_after names i name below is before after);
-  large = λ texts told.
-      let fewer = AreTold-length source.holds source.left names texts told in
-      is_too_large-told texts made i room (omega arith) (so_far texts told) counted
-      (why.2 (get_or texts i []) (told-next source.holds holds_now source.left left_now names texts i name same_holds same_left below is told));
-}
+Unread-next source holds_now left_now faults_now handed_now began_now names made i room name TooLarge same_holds same_left same_faults below is so_far counted rose out before after why =
+    let here : name ≡ get_or names i [] = get_or_read names i name below is [] in
+    let most = out.most in
+    let more = why.1 in
+    record {
+      earlier = take i names;
+      name = name;
+      later = drop (i + 1) names;
+      order = parted names i name below here;
+      began = BeganNext-more source.began_before began_now source.began_after (take i names) (name ∷ []) before after;
+      past = RosePast-joined (total_size (bytes_of made)) room SIZE_LIMIT source.handed_before handed_now source.handed_after counted rose why.0;
+      most = omega arith;
+      unfailed = why.2 ∙ same_faults;
+      large = λ texts told.
+          let fewer = AreTold-length source.holds source.left names texts told in
+          is_too_large-told texts made i room (omega arith) (so_far texts told) counted
+          (why.3 (get_or texts i []) (told-next source.holds holds_now source.left left_now names texts i name same_holds same_left below is told));
+      fits = λ texts told.
+          let size : total_size (bytes_of made) ≡ total_size (take (length (take i names)) texts) = ap total_size (so_far texts told ∙ ap (λ (n : ℕ). take n texts) (sym (length-take-le i names (omega (arith, below))))) in
+          omega (arith, size, counted);
+    }
 Unread-next source holds_now left_now faults_now handed_now began_now names made i room name NoMemory same_holds same_left same_faults below is so_far counted rose out before after why =
     BeganFront-next source names i (Began-next source.began_before began_now source.began_after names i name below is before after)

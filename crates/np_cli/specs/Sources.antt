@@ -1,5 +1,5 @@
 -- What the inputs of a job tell, how they are read, and why they are not.
-use Rattle.std.specs.Prelude.{◌≡◌, ◌<◌, ◌≤◌, ◌+◌, ◌-◌, ◌^◌, min, ℕ, List, [], ◌∷◌, ◌++◌, Bool, true, Option, length, sum_by, nat_lt}
+use Rattle.std.specs.Prelude.{◌≡◌, ◌<◌, ◌≤◌, ◌+◌, ◌-◌, ◌^◌, min, ℕ, List, [], ◌∷◌, ◌++◌, Bool, true, Option, length, sum_by, nat_lt, take}
 use Rattle.np_io.specs.Counts.{Rose, RosePast}
 use Rattle.np_io.specs.Source.{BeganNext, IsTold}
 use Rattle.np_cli.specs.declared.sources.TheConstants.{SIZE_LIMIT}
@@ -91,12 +91,19 @@ pub record FailedAt (source : Sourced) (names : List (List ℕ)) (name : List �
   pub in_room : InRoom source
   pub rose : Rose (source.faults_before name) (source.faults_after name)
 
--- More bytes were handed out than inputs may have, and no call failed.
+-- More bytes were handed out than inputs may have, but at most one piece more, of 8,192 bytes, and no call failed. The input
+-- with which they became too many was begun last: those before it fit.
 pub record OverLimit (source : Sourced) (names : List (List ℕ)) : Type 0 where
+  pub earlier : List (List ℕ)
+  pub name : List ℕ
+  pub later : List (List ℕ)
+  pub order : names ≡ earlier ++ name ∷ later
+  pub began : Began source (earlier ++ name ∷ [])
   pub past : RosePast SIZE_LIMIT source.handed_before source.handed_after
+  pub most : source.handed_after ≤ source.handed_before + SIZE_LIMIT + 8192
   pub unfailed : source.faults_after ≡ source.faults_before
-  pub began : BeganFront source names
   pub large : (texts : List (List ℕ)) → AreTold source.holds source.left names texts → is_too_large texts ≡ true
+  pub fits : (texts : List (List ℕ)) → AreTold source.holds source.left names texts → total_size (take (length earlier) texts) ≤ SIZE_LIMIT
 
 -- why the inputs of these names were not read to their ends
 abbrev pub Unread : Sourced → List (List ℕ) → SourceFault → Type 0
@@ -109,6 +116,7 @@ abbrev pub NextUnread : Sourced → List ℕ → ℕ → SourceFault → Type 0
 NextUnread source asked room (CannotRead name) = (name ≡ asked) × Rose (source.faults_before asked) (source.faults_after asked)
     × (source.handed_after ≤ source.handed_before + room)
 NextUnread source asked room TooLarge = RosePast room source.handed_before source.handed_after
+    × (source.handed_after ≤ source.handed_before + room + 8192)
     × (source.faults_after ≡ source.faults_before)
     × ((bytes : List ℕ) → IsTold source.holds source.left asked bytes → room < length bytes)
 NextUnread source asked room NoMemory = Unit {0}

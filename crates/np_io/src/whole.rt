@@ -65,7 +65,7 @@ const PIECE: usize = 8192;
 /// is what the name holds where the source tells it. It begins the name once.
 ///
 /// `InputFailed` comes only where the count of faults of the name rose, and `TooLarge` only where more than `room`
-/// bytes were handed out; it comes as soon as that many were. Where the bytes of the name are told and no call
+/// bytes were handed out; it comes as soon as that many were, so that they are at most 8,192 more. Where the bytes of the name are told and no call
 /// failed, `TooLarge` comes exactly where they are more than `room`. After every answer but `InputFailed` the
 /// counts of faults are as before, and after every answer the names hold what they held.
 pub fn read_whole<I: Inputs>(
@@ -89,6 +89,8 @@ pub fn read_whole<I: Inputs>(
 
     ensures too_large { IsErrOf result WholeFault.TooLarge →
         RosePast room (I.handed inputs.old) (I.handed inputs.new) }
+    ensures too_large_most { IsErrOf result WholeFault.TooLarge →
+        I.handed inputs.new ≤ I.handed inputs.old + room + 8192 }
     ensures too_large_told { IsErrOf result WholeFault.TooLarge → (bytes : List ℕ) →
         IsTold (I.holds inputs.old) (I.left inputs.old) name.now bytes → room < length bytes }
     ensures too_large_faults { IsErrOf result WholeFault.TooLarge → I.faults inputs.new ≡ I.faults inputs.old }
