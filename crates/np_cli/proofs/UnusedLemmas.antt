@@ -12,6 +12,7 @@ use Rattle.np_cli.specs.declared.outcome.Ending.{Ending}
 use Rattle.np_cli.specs.declared.status.Status.{Status}
 use Rattle.np_estate.specs.declared.lists.EstateLists.{EstateLists}
 use Rattle.np_lint.proofs.AllowLemmas.{change_nothing}
+use Rattle.np_lint.proofs.OrderLemmas.{unused_in_order}
 use Rattle.np_lint.proofs.LawLemmas.{decide_nothing, unused_is}
 use Rattle.np_lint.specs.Rules.{IsRuleOf}
 use Rattle.np_lint.specs.Used.{unused_of}
@@ -31,5 +32,6 @@ says_what_is_unused run answer outcome cause answered = λ files texts is told d
       lawful = told_by.lawful;
       printed = told_by.took;
       each = decide_nothing told_by.lists;
+      order = unused_in_order told_by.lists;
       together = change_nothing told_by.lists told_by.lawful;
     }

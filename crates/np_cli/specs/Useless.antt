@@ -1,5 +1,5 @@
 -- What a report of `unused` says of the bytes of its inputs.
-use Rattle.std.specs.Prelude.{◌≡◌, ◌↔◌, ℕ, List, Contains, Ok}
+use Rattle.std.specs.Prelude.{◌≡◌, ◌↔◌, ℕ, List, AllPairs, Contains, Ok}
 use Rattle.np_addr.specs.declared.address.Family.{Family}
 use Rattle.np_cli.specs.Inputs.{lists_of}
 use Rattle.np_cli.specs.Sinks.{Sunk, TookWhole}
@@ -8,6 +8,7 @@ use Rattle.np_conns.specs.declared.port_spot.PortSpot.{PortSpot}
 use Rattle.np_estate.specs.Lawful.{IsLawful}
 use Rattle.np_estate.specs.declared.lists.EstateLists.{EstateLists}
 use Rattle.np_explain.specs.Sides.{packet_between}
+use Rattle.np_lint.specs.Order.{StandsBefore}
 use Rattle.np_lint.specs.Rules.{IsRuleOf}
 use Rattle.np_lint.specs.Used.{IsListedPacket, StandsIn, unused_of}
 use Rattle.np_lint.specs.Without.{without}
@@ -26,11 +27,12 @@ ChangeNothing lists rules = (source destination : End) (family : Family) (spot :
     → allows (without lists rules) (packet_between lists source destination family spot) ≡ allows lists (packet_between lists source destination family spot)
 
 -- The bytes of the inputs are those of a lawful estate, the sink took a line for each rule that is unused: these are exactly the rules that decide
--- nothing, and without all of them nothing changes.
+-- nothing, each once and in order, and without all of them nothing changes.
 pub record ListsUnused (out : Sunk) (texts : List (List ℕ)) : Type 0 where
   pub lists : EstateLists
   pub read : lists_of texts ≡ Ok lists
   pub lawful : IsLawful lists
   pub printed : TookWhole out (unused_text lists)
   pub each : (rule : RuleRef) → Contains (unused_of lists) rule ↔ (IsRuleOf lists rule × DecidesNothing lists rule)
+  pub order : AllPairs StandsBefore (unused_of lists)
   pub together : ChangeNothing lists (unused_of lists)
