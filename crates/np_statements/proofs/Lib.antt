@@ -3,6 +3,7 @@ pub mod AmongLemmas
 pub mod AscendLemmas
 pub mod BrokenLemmas
 pub mod ConnsLemmas
+pub mod CountedLemmas
 pub mod CutLemmas
 pub mod EndLemmas
 pub mod FormLemmas

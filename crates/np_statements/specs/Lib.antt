@@ -2,6 +2,7 @@ pub mod Answers
 pub mod AskedLines
 pub mod BrokenLines
 pub mod BrokenText
+pub mod CountedLines
 pub mod Cuts
 pub mod Ends
 pub mod Faults

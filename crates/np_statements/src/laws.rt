@@ -1,5 +1,5 @@
 //! What follows from the definitions. Each law is the contract of a call that does nothing.
-ghost use Rattle.std.specs.Prelude.{◌≡◌, ◌≢◌, ◌<◌, ◌↔◌, ℕ, List, None, Some, Ok, Err, All, length, true};
+ghost use Rattle.std.specs.Prelude.{◌≡◌, ◌≢◌, ◌<◌, ◌↔◌, ℕ, List, [], None, Some, Ok, Err, All, length, true};
 ghost use Rattle.np_addr.specs.Addresses.{IsAddress};
 ghost use Rattle.np_addr.specs.Blocks.{set_has};
 ghost use Rattle.np_addr.specs.declared.address.Address.{Address};
@@ -18,7 +18,8 @@ ghost use Rattle.np_statements.specs.Ends.{ends_of};
 ghost use Rattle.np_statements.specs.FirstBrokenLine.{IsFirstBrokenLine};
 ghost use Rattle.np_statements.specs.FoundEnds.{asked_of, ends_found};
 ghost use Rattle.np_statements.specs.Holding.{LineHolds};
-ghost use Rattle.np_statements.specs.Lines.{statements_of};
+ghost use Rattle.np_statements.specs.CountedLines.{IsLineOf};
+ghost use Rattle.np_statements.specs.Lines.{statement_of, statements_of};
 ghost use Rattle.np_statements.specs.NamedEnds.{NamesAddress, NamesPod};
 ghost use Rattle.np_statements.specs.ReadStatement.{statement_read};
 ghost use Rattle.np_statements.specs.declared.asked_line.AskedLine.{AskedLine};
@@ -67,4 +68,13 @@ pub fn the_first_broken_line_is_found()
     ensures { (lists : EstateLists) (bytes : List ℕ) (lines : List StatementLine) (asked : List AskedLine) (broken : Broken) →
         IsLawful lists → statements_of bytes ≡ Ok lines → ends_found lists lines ≡ Ok asked →
         first_broken lists asked ≡ Some broken → IsFirstBrokenLine lists lines broken }
+{}
+
+/// A statement stands in the line of its number, as a file's lines are counted by its line feeds; and the number of a file that is
+/// refused is that of a line that is no statement.
+pub fn lines_are_counted_by_line_feeds()
+    ensures read { (bytes : List ℕ) (lines : List StatementLine) → statements_of bytes ≡ Ok lines →
+        All (λ line. (text : List ℕ) × IsLineOf bytes line.line text × (statement_of text ≡ Some line.statement)) lines }
+    ensures refused { (bytes : List ℕ) (number : ℕ) → statements_of bytes ≡ Err number →
+        (text : List ℕ) × IsLineOf bytes number text × (text ≢ []) × (statement_of text ≡ None) }
 {}

@@ -21,7 +21,7 @@ pub use checking::first_broken;
 pub use end_fault::EndFault;
 pub use file_fault::FileFault;
 pub use laws::{
-    ends_are_those_of_their_forms, lines_are_read_by_the_grammar,
+    ends_are_those_of_their_forms, lines_are_counted_by_line_feeds, lines_are_read_by_the_grammar,
     lines_ask_what_their_statements_say, nothing_is_broken_where_a_file_holds,
     the_first_broken_line_is_found, unknown_names_are_of_no_workload,
 };
