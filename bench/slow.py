@@ -63,7 +63,6 @@ KNOWN = {(name, command): why for name, commands, why in (
     ("mostNetworks", "list evaluate", "each address of a pod is looked for in each block"),
     ("groupKeys", "list", PAIRS),
     ("groupKeys", "flatten", "each policy names all groups, and each group by all keys"),
-    ("strangerRules", "list", "each workload that a policy selects has all its rules asked about all addresses"),
     ("namedPortRules", "list unused", "each rule has a set of its own of all ports of that name"),
     ("explainPasses", "explain", "each part names all policies that isolate the pod, and the text is held whole"),
     ("exposureKeys", "exposure", PATTERNS),
