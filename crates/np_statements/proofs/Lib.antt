@@ -1,4 +1,5 @@
 pub mod AddressSetLemmas
+pub mod AllPodsLemmas
 pub mod AmongLemmas
 pub mod AscendLemmas
 pub mod BrokenLemmas

@@ -1,3 +1,4 @@
+pub mod AllPods
 pub mod Answers
 pub mod AskedLines
 pub mod BrokenLines

@@ -6,6 +6,7 @@ ghost use Rattle.np_statements.specs.AskedLines.{IsAsked, IsQuestion, IsWellLine
 ghost use Rattle.np_statements.specs.BrokenLines as spec;
 ghost use Rattle.np_statements.specs.BrokenLines.{HasPlaces};
 
+use crate::all_pods::Settled;
 use crate::ascending::Ascending;
 use crate::asked_line::AskedLine;
 use crate::broken::Broken;
@@ -22,7 +23,8 @@ use std::sync::ledger::Ledger;
 /// The first line whose statement does not hold, with the first packet that does not comply, in the order of `check`. `None`
 /// exactly where all hold. `UnknownEnd` comes exactly where a statement names a workload that is not there, with the first such
 /// name by lines, in a line that of the source first; no line is checked then. The ends of a line are kept while it is checked, and
-/// the rules of workloads that were asked for are kept for the lines behind it.
+/// the rules of workloads that were asked for are kept for the lines behind it. Statements of any pod and any pod are asked at once
+/// first, and by themselves only where that finds one that does not hold.
 pub fn first_broken<L: Ledger>(
     alloc: Global,
     folded: &Folded,
@@ -38,7 +40,11 @@ pub fn first_broken<L: Ledger>(
         return Err(EndFault::UnknownEnd { name: name.copy()? });
     }
     let mut checker = Checker::new(alloc, folded);
+    let settled = Settled::of(alloc, folded, &mut checker, statements.items(), steps)?;
     for line in statements.into_vec() {
+        if settled.has(&line.statement) {
+            continue;
+        }
         let asked = asked_of(alloc, folded, line)?;
         let found = broken_of(alloc, &mut checker, asked, steps)?;
         if found.is_some() {
@@ -80,8 +86,8 @@ fn broken_verdict(wanted: Wanted) -> bool
     matches!(wanted, Wanted::Deny)
 }
 
-// The first packet that does not comply. The closures that `check` asks which workloads a statement speaks of are made here.
-fn counter_of<L: Ledger>(
+/// The first packet that does not comply. The closures that `check` asks which workloads a statement speaks of are made here.
+pub(crate) fn counter_of<L: Ledger>(
     alloc: Global,
     checker: &mut Checker<'_>,
     question: Question,

@@ -23,7 +23,7 @@ pub(crate) fn ends_of(alloc: Global, folded: &Folded, form: &EndForm) -> Result<
     ensures { GivesEnds result (spec.ends_of folded.now form.now) }
 {
     match form {
-        EndForm::Pods => Ok(works_alone(alloc, all_works(alloc, folded)?)?),
+        EndForm::Pods => Ok(any_pod(alloc, folded)?),
         EndForm::Addresses => Ok(addresses_alone(alloc, AddrSet::everything(alloc)?)),
         EndForm::Namespace(name) => Ok(works_alone(
             alloc,
@@ -32,6 +32,13 @@ pub(crate) fn ends_of(alloc: Global, folded: &Folded, form: &EndForm) -> Result<
         EndForm::Work(name) => named_alone(alloc, folded, name),
         EndForm::Block(cidr) => Ok(addresses_alone(alloc, cidr_set(alloc, cidr)?)),
     }
+}
+
+/// The ends of `any pod`: all workloads.
+pub(crate) fn any_pod(alloc: Global, folded: &Folded) -> Result<Ends, NoMemory>
+    ensures { IfOk result (λ made. made ≡ spec.works_alone (spec.all_works folded.now)) }
+{
+    works_alone(alloc, all_works(alloc, folded)?)
 }
 
 // Workloads, and no addresses.

@@ -2,6 +2,7 @@
 //! does not hold.
 #![tactic(auto)]
 
+mod all_pods;
 mod ascending;
 mod asked_line;
 mod broken;

@@ -4,6 +4,7 @@ use Rattle.std.proofs.lemmas.Iterator.Adapters.{YieldsList-from_vec}
 use Rattle.std.proofs.lemmas.Iterator.Consumers.{YieldsList-end, YieldsList-turn}
 use Rattle.std.proofs.lemmas.List.{length_push}
 use Rattle.std.proofs.lemmas.Result.{err_from_is_err_and}
+use Rattle.np_statements.proofs.AllPodsLemmas.{settled-left}
 use Rattle.np_statements.proofs.AmongLemmas.{known-line, line_unknown, name_unknown, none_broken, one_broken, one_left}
 use Rattle.np_statements.proofs.FoundLemmas.{at_turn}
 use Rattle.np_estate.specs.declared.lists.EstateLists.{EstateLists}
@@ -16,6 +17,16 @@ pub returns-in-Some-clause-first : goal.returns-in-Some-clause-first
 returns-in-Some-clause-first g c =
     let unknown : ends_found c.args.folded.now c.args.statements ≡ Err c.in-Some.name.now = rw c.items.ensures at c.in-Some.ensures in
     name_unknown c.args.folded.now c.args.statements c.in-Some.name.now unknown ∙ ap Err (sym c.in_ok-copy.ensures)
+
+pub loop-line-preserved-then-has : goal.loop-line-preserved-then-has
+loop-line-preserved-then-has g c =
+    let turn = YieldsList-turn (YieldsList-from_vec c.args.statements (c.into_iter-line-iterator.ensures.into_iter_gives.0 ∙ c.into_vec-line-items.ensures)
+    (c.into_iter-line-iterator.ensures.into_iter_gives.1 ∙ c.into_vec-line-items.result.ok.0 ∙ ap length c.into_vec-line-items.ensures)) c.loop-line.yielded c.loop-line.line-iterator c.loop-line.yielded_by c.next.result c.next.new.self c.in-Some-line.line c.in-Some-line.is c.next.ensures.steps in
+    record {
+      left = settled-left c.args.folded.now c.in_ok-settled.settled c.args.statements _ _ c.in-Some-line.line turn c.loop-line.invariant.left (rw c.items-2.ensures at c.in_ok-settled.ensures.settled) (sym c.has.ensures ∙ c.if-has.true) (length_push c.loop-line.yielded c.in-Some-line.line);
+      same = c.loop-line.invariant.same;
+      least = c.loop-line.invariant.least;
+    }
 
 pub asked_of-requires : goal.asked_of-requires
 asked_of-requires g c =
