@@ -54,7 +54,6 @@ LITTLE = 30000000
 LONG_ANSWER = "the answer is as long as that"
 PAIRS = "the peers are asked about every two workloads"
 PATTERNS = "all rules are asked anew for each pattern of labels that they tell apart"
-LINES = "each line is asked anew of every two workloads that it is about"
 KNOWN = {(name, command): why for name, commands, why in (
     ("longNames", "list", LONG_ANSWER),
     ("samePorts", "list", LONG_ANSWER),
@@ -66,7 +65,6 @@ KNOWN = {(name, command): why for name, commands, why in (
     ("namedPortRules", "list unused", "each rule has a set of its own of all ports of that name"),
     ("explainPasses", "explain", "each part names all policies that isolate the pod, and the text is held whole"),
     ("exposureKeys", "exposure", PATTERNS),
-    ("statementsOfAllPods", "check", LINES),
 ) for command in commands.split()}
 
 
