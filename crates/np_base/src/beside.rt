@@ -84,7 +84,10 @@ impl<A: Cells, B: Cells> Cells for Beside<A, B> {
         first && second
     }
 
-    ghost members_in_space = { λ set spot well. in_space_by_side _ _ _ _ (λ x. A.members_in_space set.first x well.0) (λ y. B.members_in_space set.second y well.1) spot };
+    ghost members_in_space = { λ set spot well.
+        in_space_by_side _ _ _ _ (λ x. A.members_in_space set.first x well.0) (λ y. B.members_in_space set.second y well.1) spot };
 
-    ghost equal_by_members = { λ a b well_a well_b. equal_by_sides A.has B.has a b (A.equal_by_members a.first b.first well_a.0 well_b.0) (B.equal_by_members a.second b.second well_a.1 well_b.1) };
+    ghost equal_by_members = { λ a b well_a well_b.
+        equal_by_sides A.has B.has a b (A.equal_by_members a.first b.first well_a.0 well_b.0)
+        (B.equal_by_members a.second b.second well_a.1 well_b.1) };
 }

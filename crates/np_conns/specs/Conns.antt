@@ -37,7 +37,7 @@ has_spot conns spot = holds (λ port. port) (ranges_of conns spot.proto) spot.po
 abbrev pub AscendsInPorts : List (Range ℕ) → Type 0
 AscendsInPorts ranges = IsAscending (λ port. port) 1 65535 ranges
 
--- so it is for each protocol
+-- the ranges of each protocol's ports ascend, with a gap between neighbours
 pub record IsConns (conns : Conns) : Type 0 where
   pub tcp : AscendsInPorts conns.tcp
   pub udp : AscendsInPorts conns.udp

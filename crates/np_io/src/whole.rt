@@ -65,9 +65,9 @@ const PIECE: usize = 8192;
 /// is what the name holds where the source tells it. It begins the name once.
 ///
 /// `InputFailed` comes only where the count of faults of the name rose, and `TooLarge` only where more than `room`
-/// bytes were handed out; it comes as soon as that many were, so that they are at most 8,192 more. Where the bytes of the name are told and no call
-/// failed, `TooLarge` comes exactly where they are more than `room`. After every answer but `InputFailed` the
-/// counts of faults are as before, and after every answer the names hold what they held.
+/// bytes were handed out; it comes as soon as that many were, so that they are at most 8,192 more. Where the bytes of
+/// the name are told and no call failed, `TooLarge` comes exactly where they are more than `room`. After every answer
+/// but `InputFailed` the counts of faults are as before, and after every answer the names hold what they held.
 pub fn read_whole<I: Inputs>(
     alloc: Global,
     inputs: &mut I,

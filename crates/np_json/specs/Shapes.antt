@@ -1,4 +1,5 @@
--- Shapes of members: a JSON value is read as an output, or refused with the flaw that stands first.
+-- Shapes of members: a JSON value is read as an output, or refused with the flaw that stands first: first by the lines
+-- of the shape and, in a list, by its items, whatever the order of the members in the text.
 use Rattle.std.specs.Prelude.{◌≡◌, ℕ, ◌+◌, ◌==◌, List, [], ◌∷◌, count_by, Bool, if◌then◌else◌, is_none, is_some, Option, Some, None, Result, Ok, Err, ⊤}
 use Rattle.serde_json.specs.Data.{Data, Items, no_items, item}
 use Rattle.serde_json.specs.Find.{as_array, as_object}

@@ -163,7 +163,10 @@ impl<P: Point, S: Cells> Cells for Pieces<P, S> {
         are_empty(self.pieces())
     }
 
-    ghost members_in_space = { λ values place well held. has_spot-in_space P.number_of S.IsWell S.has S.in_space P.LOW P.HIGH S.members_in_space values place well held };
+    ghost members_in_space = { λ values place well held.
+        has_spot-in_space P.number_of S.IsWell S.has S.in_space P.LOW P.HIGH S.members_in_space values place well held };
 
-    ghost equal_by_members = { λ a b well_a well_b alike. same_spots_same_pieces P.number_of P.point_of S.IsWell S.has P.LOW P.HIGH P.number_of_point P.point_of_number S.equal_by_members a b well_a well_b alike };
+    ghost equal_by_members = { λ a b well_a well_b alike.
+        same_spots_same_pieces P.number_of P.point_of S.IsWell S.has P.LOW P.HIGH P.number_of_point P.point_of_number
+        S.equal_by_members a b well_a well_b alike };
 }

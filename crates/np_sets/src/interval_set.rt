@@ -160,5 +160,6 @@ impl<P: Point> Cells for IntervalSet<P> {
 
     ghost members_in_space = { λ set spot well held. holds-between P.number_of P.LOW P.HIGH set (P.number_of spot) well held };
 
-    ghost equal_by_members = { λ a b well_a well_b alike. same_points_same_ranges P.number_of P.point_of P.LOW P.HIGH P.number_of_point P.point_of_number a b well_a well_b alike };
+    ghost equal_by_members = { λ a b well_a well_b alike.
+        same_points_same_ranges P.number_of P.point_of P.LOW P.HIGH P.number_of_point P.point_of_number a b well_a well_b alike };
 }
