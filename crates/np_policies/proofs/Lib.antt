@@ -1,5 +1,9 @@
+pub mod AdminMeant
 pub mod BlockLemmas
 pub mod KindLemmas
+pub mod KindReads
+pub mod MemberReads
+pub mod NetworkMeant
 pub mod PeersMeaning
 pub mod PortsMeaning
 pub mod ReadLemmas

@@ -29,7 +29,7 @@ is_some-optional : {A : Type 0} (shape : Data → Read A) (member : Option Data)
 is_some-optional shape member None is = ap is_some is
 is_some-optional shape member (Some output) is = ap is_some is.there
 
-not_there : (member : Option Data) → is_some member ≡ false → member ≡ None
+pub not_there : (member : Option Data) → is_some member ≡ false → member ≡ None
 not_there None is = refl
 not_there (Some found) is = cc
 
@@ -64,7 +64,7 @@ of_text : (found : Option (List ℕ)) (block : Cidr) → option_and_then cidr_of
 of_text None block is = cc
 of_text (Some s) block is = is
 
-blocks_of-each_item : (place : ℕ) (items : Items) (outputs : List Cidr) → each_item cidr place items ≡ Ok outputs → blocks_of items ≡ map Some outputs
+pub blocks_of-each_item : (place : ℕ) (items : Items) (outputs : List Cidr) → each_item cidr place items ≡ Ok outputs → blocks_of items ≡ map Some outputs
 blocks_of-each_item place no_items [] is = refl
 blocks_of-each_item place no_items (output ∷ outputs) is = cc
 blocks_of-each_item place (item value items) outputs is =

@@ -68,7 +68,7 @@ proto-output value read is =
     by None is = cc
     by (Some other) is = cc
 
-protocol-output : (value : Data) (read : Proto) → protocol value ≡ Ok read → read ≡ protocol_of value
+pub protocol-output : (value : Data) (read : Proto) → protocol value ≡ Ok read → read ≡ protocol_of value
 unfolding protocol
 protocol-output value read is =
     let named = bind-output (optional (codes "protocol") proto value) (λ found. Ok (unwrap_or found Tcp)) read is in

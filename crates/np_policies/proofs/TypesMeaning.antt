@@ -1,5 +1,5 @@
 -- The directions of a NetworkPolicy that was read are the types of its spec.
-use Rattle.std.proofs.Common.{◌≡◌, ℕ, List, [], ◌∷◌, length, Bool, true, false, cond, ◌==◌, is_some, Option, Some, None, unwrap_or, codes, Ok, refl, sym, ap, subst, ◌∙◌, arith}
+use Rattle.std.proofs.Common.{◌≡◌, ℕ, List, [], ◌∷◌, length, Bool, true, false, cond, ◌==◌, is_some, Option, Some, None, unwrap_or, codes, Ok, refl, sym, subst, ◌∙◌, arith}
 use Rattle.std.proofs.lemmas.Bool.Decides.{nat_tests}
 use Rattle.std.specs.Cmp.Lexicographic.{bytes_decides}
 use Rattle.std.specs.Prelude.{IfSome}
@@ -7,17 +7,16 @@ use Rattle.std.specs.Str.{bytes_eq}
 use Rattle.serde_json.specs.Data.{Data, object, Items, no_items, item, no_members}
 use Rattle.serde_json.specs.Find.{as_str}
 use Rattle.np_json.specs.Members.{member_of}
-use Rattle.np_json.specs.Meta.{namespaced_name, type_meta}
+use Rattle.np_json.specs.Meta.{namespaced_name}
 use Rattle.np_json.specs.Scalars.{of_type, text}
-use Rattle.np_json.specs.Shapes.{Read, each_item, listed, must_be_object, optional, refuse, required, under}
-use Rattle.np_json.specs.declared.fault.FaultKind.TheVariants.{ForeignPolicy}
+use Rattle.np_json.specs.Shapes.{Read, each_item, listed, must_be_object, optional, refuse_if, required, under}
 use Rattle.np_json.specs.declared.meta.NamespacedName.{NamespacedName}
-use Rattle.np_json.specs.declared.path.Step.TheVariants.{Field}
-use Rattle.np_policies.proofs.ReadLemmas.{bind-output, then-output, under-output, optional-output, listed-output, each_item-output, list_any-each_item, of_type-output, IsOptional}
-use Rattle.np_policies.specs.AdminPolicies.{admin_policy, base_policy}
+use Rattle.np_labels.specs.declared.selector.Selector.{Selector}
+use Rattle.np_policies.proofs.KindReads.{net-read}
+use Rattle.np_policies.proofs.ReadLemmas.{bind-output, then-output, optional-output, listed-output, each_item-output, list_any-each_item, of_type-output, IsOptional}
 use Rattle.np_policies.specs.NetworkPolicies.{direction_named, empty_spec, has_direction, is_same, net_policy, net_policy_by, net_rule, net_rules, net_spec, policy_type, rules_if}
-use Rattle.np_policies.specs.Policies.{kind_of, policy_by, policy_of}
-use Rattle.np_policies.specs.PolicyMeaning.{has_egress, has_ingress, is_empty, spec_of}
+use Rattle.np_policies.specs.Policies.{policy_of}
+use Rattle.np_policies.specs.PolicyMeaning.{has_egress, has_ingress, is_empty, object_at, spec_of}
 use Rattle.np_policies.specs.SelectorMeaning.{is_text, items_at}
 use Rattle.np_policies.specs.Selectors.{everything, selector}
 use Rattle.np_policies.specs.declared.direction.Direction.{Direction}
@@ -26,30 +25,6 @@ use Rattle.np_policies.specs.declared.net_policy_shape.NetSpec.{NetSpec}
 use Rattle.np_policies.specs.declared.network_policy.NetPolicy.{NetPolicy}
 use Rattle.np_policies.specs.declared.network_policy.NetRule.{NetRule}
 use Rattle.np_policies.specs.declared.policy.Policy.TheVariants as policy
-use Rattle.np_policies.specs.declared.policy_shape.PolicyKind.{PolicyKind}
-use Rattle.np_policies.specs.declared.policy_shape.PolicyKind.TheVariants.{Net, Admin, Base, Foreign, NoPolicy}
-
--- an object that was read as a NetworkPolicy was read by its shape
-by_kind-output : (kind : PolicyKind) (value : Data) (read : NetPolicy) → policy_by kind value ≡ Ok (Some (policy.Net read)) → net_policy value ≡ Ok read
-unfolding policy_by
-by_kind-output Net value read is =
-    let one = bind-output (net_policy value) (λ one. Ok (Some (policy.Net one))) (Some (policy.Net read)) is in
-    let same : one.first ≡ read = let after = one.after in cc in
-    one.here ∙ ap Ok same
-by_kind-output Admin value read is =
-    let one = bind-output (admin_policy value) (λ one. Ok (Some (policy.Admin one))) (Some (policy.Net read)) is in
-    let after = one.after in cc
-by_kind-output Base value read is =
-    let one = bind-output (base_policy value) (λ one. Ok (Some (policy.Base one))) (Some (policy.Net read)) is in
-    let after = one.after in cc
-by_kind-output Foreign value read is = let none = under-output (Field (codes "kind")) (refuse ForeignPolicy) (Some (policy.Net read)) is in cc
-by_kind-output NoPolicy value read is = cc
-
-net_policy-output : (value : Data) (read : NetPolicy) → policy_of value ≡ Ok (Some (policy.Net read)) → net_policy value ≡ Ok read
-unfolding policy_of
-net_policy-output value read is =
-    let meta = bind-output (type_meta value) (λ meta. policy_by (kind_of meta) value) (Some (policy.Net read)) is in
-    by_kind-output (kind_of meta.first) value read meta.after
 
 -- a type that was read is the text of its item
 named_ingress : (one other : Bool) (read : Direction) → cond one (Some Ingress) (cond other (Some Egress) None) ≡ Some read → is_same read Ingress ≡ one
@@ -95,12 +70,19 @@ none-each_item shape (item value items) outputs is =
     let each = each_item-output shape 0 value items outputs is in
     rw each.are (grind (arith, nat_tests))
 
--- what a spec that was read says of the two directions
+-- what a spec that was read says of its pods and of the two directions
 record IsSpecOf (value : Data) (spec : NetSpec) : Type 0 where
+  pub subject : selector (object_at (codes "podSelector") value) ≡ Ok spec.subject
   pub ingress : has_direction spec Ingress ≡ has_ingress value
   pub egress : has_direction spec Egress ≡ has_egress value
   pub ingress_rules : net_rules Ingress value ≡ Ok spec.ingress
   pub egress_rules : net_rules Egress value ≡ Ok spec.egress
+
+-- a selector that is missing is that which all pods meet
+selected : (member : Option Data) (found : Option Selector) → IsOptional selector member found → selector (unwrap_or member (object no_members)) ≡ Ok (unwrap_or found everything)
+unfolding selector must_be_object refuse_if optional listed under
+selected member None is = rw is refl
+selected member (Some read) is = rw is.there is.read
 
 net_spec-output : (value : Data) (spec : NetSpec) → net_spec value ≡ Ok spec → IsSpecOf value spec
 unfolding net_spec net_rules
@@ -118,6 +100,7 @@ net_spec-output value spec is =
     let lists_ingress = list_any-each_item policy_type (λ listed. is_same listed Ingress) (λ d. is_text d (codes "Ingress")) ingress_alike 0 (items_at (codes "policyTypes") value) types.first items in
     let lists_egress = list_any-each_item policy_type (λ listed. is_same listed Egress) (λ d. is_text d (codes "Egress")) egress_alike 0 (items_at (codes "policyTypes") value) types.first items in
     subst (IsSpecOf value) made (record {
+      subject = selected (member_of (codes "podSelector") value) pods.first (optional-output selector (codes "podSelector") value pods.first pods.here);
       ingress = rw (none, lists_ingress) refl;
       egress = rw (none, no_rule, lists_egress) refl;
       ingress_rules = ingress.here;
@@ -125,8 +108,8 @@ net_spec-output value spec is =
     })
 
 empty_spec-is : IsSpecOf (object no_members) empty_spec
-unfolding net_rules listed under
-empty_spec-is = record { ingress = refl; egress = refl; ingress_rules = refl; egress_rules = refl }
+unfolding selector must_be_object refuse_if optional net_rules listed under
+empty_spec-is = record { subject = refl; ingress = refl; egress = refl; ingress_rules = refl; egress_rules = refl }
 
 spec_or_empty : (member : Option Data) (spec : Option NetSpec) → IsOptional net_spec member spec → IsSpecOf (unwrap_or member (object no_members)) (unwrap_or spec empty_spec)
 spec_or_empty member None is = subst (λ (found : Option Data). IsSpecOf (unwrap_or found (object no_members)) empty_spec) (sym is) empty_spec-is
@@ -140,8 +123,9 @@ read_if : (has : Bool) (rules : List NetRule) (read : Read (List NetRule)) → r
 read_if true rules read is = is
 read_if false rules read is = tt
 
--- what a policy that was read has of the two directions
+-- what a policy that was read has of its pods and of the two directions
 pub record IsPolicyOf (spec : Data) (read : NetPolicy) : Type 0 where
+  pub subject : selector (object_at (codes "podSelector") spec) ≡ Ok read.subject
   pub ingress : is_some read.ingress ≡ has_ingress spec
   pub egress : is_some read.egress ≡ has_egress spec
   pub ingress_rules : IfSome read.ingress (λ rules. net_rules Ingress spec ≡ Ok rules)
@@ -150,6 +134,7 @@ pub record IsPolicyOf (spec : Data) (read : NetPolicy) : Type 0 where
 net_policy_by-is : (value : Data) (meta : NamespacedName) (spec : NetSpec) → IsSpecOf value spec → IsPolicyOf value (net_policy_by meta spec)
 unfolding net_policy_by
 net_policy_by-is value meta spec is = record {
+  subject = is.subject;
   ingress = there_if (has_direction spec Ingress) spec.ingress ∙ is.ingress;
   egress = there_if (has_direction spec Egress) spec.egress ∙ is.egress;
   ingress_rules = read_if (has_direction spec Ingress) spec.ingress (net_rules Ingress value) is.ingress_rules;
@@ -167,4 +152,4 @@ by_shape value read is =
 
 -- the directions of a policy that was read are the types of its spec
 pub types-meant : (value : Data) (read : NetPolicy) → policy_of value ≡ Ok (Some (policy.Net read)) → IsPolicyOf (spec_of value) read
-types-meant value read is = by_shape value read (net_policy-output value read is)
+types-meant value read is = by_shape value read (net-read value read is).1

@@ -1,3 +1,4 @@
+pub mod AdminMeaning
 pub mod AdminPolicies
 pub mod Blocks
 pub mod NetworkPolicies

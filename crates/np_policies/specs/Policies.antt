@@ -19,11 +19,12 @@ use Rattle.np_policies.specs.declared.policy_shape.PolicyKind.TheVariants.{Net, 
 abbrev pub is_of : List ℕ → List ℕ → TypeMeta → Bool
 is_of version kind meta = bytes_eq meta.api_version version && bytes_eq meta.kind kind
 
--- whether a kind is a network policy of any sort
+-- whether a kind is a network policy of any sort: its name ends in `NetworkPolicy`, whatever project it is of
 abbrev pub is_network_policy : List ℕ → Bool
 is_network_policy kind = ends_with nat_eq kind (codes "NetworkPolicy")
 
--- which policy an object is, by its version and kind
+-- Which policy an object is, by its version and kind. One of another project, as a CiliumNetworkPolicy, or of another
+-- version is foreign.
 abbrev pub kind_of : TypeMeta → PolicyKind
 kind_of meta =
     if is_of (codes "networking.k8s.io/v1") (codes "NetworkPolicy") meta then Net
@@ -32,7 +33,7 @@ kind_of meta =
     else if is_network_policy meta.kind then Foreign
     else NoPolicy
 
--- the policy of that kind
+-- the policy of that kind; inputs with a foreign one are refused
 unfoldable pub policy_by : PolicyKind → Data → Read (Option Policy)
 policy_by Net value = do
   net ← net_policy value

@@ -1,6 +1,6 @@
 -- What the members of a NetworkPolicy in JSON say (Kubernetes API reference, NetworkPolicySpec, NetworkPolicyPeer, IPBlock
 -- and NetworkPolicyPort).
-use Rattle.std.specs.Prelude.{◌≡◌, ℕ, ℤ, List, [], ◌∷◌, map, Bool, true, false, not, if◌then◌else◌, Option, Some, None, option_and_then, unwrap_or, codes, Ok, ⊤}
+use Rattle.std.specs.Prelude.{◌≡◌, ℕ, ℤ, List, [], ◌∷◌, map, Bool, true, false, not, if◌then◌else◌, Option, Some, None, option_and_then, unwrap_or, codes, Ok, ⊤, IfSome}
 use Rattle.serde_json.specs.Data.{Data, object, Items, no_items, item, no_members}
 use Rattle.serde_json.specs.Find.{as_str}
 use Rattle.np_addr.specs.AddressGrammar.{cidr_of}
@@ -10,7 +10,41 @@ use Rattle.np_conns.specs.declared.proto.Proto.{Proto}
 use Rattle.np_conns.specs.declared.proto.Proto.TheVariants.{Tcp}
 use Rattle.np_json.specs.Members.{as_whole, member_of}
 use Rattle.np_json.specs.Shapes.{Read}
+use Rattle.np_policies.specs.NetworkPolicies.{net_peer}
+use Rattle.np_policies.specs.Ports.{net_port}
 use Rattle.np_policies.specs.SelectorMeaning.{any_item, is_text, items_at, text_at}
+use Rattle.np_policies.specs.Selectors.{selector}
+use Rattle.np_policies.specs.declared.network_policy.NetPolicy.{NetPolicy}
+use Rattle.np_policies.specs.declared.network_policy.NetRule.{NetRule}
+
+-- ---- members
+
+-- the version and the kind of an object
+abbrev pub IsOfKind : List ℕ → List ℕ → Data → Type 0
+IsOfKind version kind value = (text_at (codes "apiVersion") value ≡ version) × (text_at (codes "kind") value ≡ kind)
+
+-- the object of a member, and one without members where it is missing
+abbrev pub object_at : List ℕ → Data → Data
+object_at name value = unwrap_or (member_of name value) (object no_members)
+
+-- the items are each what the relation says of the output at its place, in order, and there are as many
+abbrev pub AreEach : {A : Type 0} → (Data → A → Type 0) → Items → List A → Type 0
+AreEach Is no_items [] = ⊤
+AreEach Is no_items (output ∷ outputs) = ⊥
+AreEach Is (item value items) [] = ⊥
+AreEach Is (item value items) (output ∷ outputs) = Is value output × AreEach Is items outputs
+
+-- what a shape reads of each item, in order
+abbrev pub AreReadOf : {A : Type 0} → (Data → Read A) → Items → List A → Type 0
+AreReadOf shape = AreEach (λ value output. shape value ≡ Ok output)
+
+-- the namespace that `metadata` names, and `default` where that is missing or empty
+abbrev pub named_or_default : List ℕ → List ℕ
+named_or_default [] = codes "default"
+named_or_default (byte ∷ bytes) = byte ∷ bytes
+
+abbrev pub namespace_in : Data → List ℕ
+namespace_in metadata = named_or_default (text_at (codes "namespace") metadata)
 
 -- ---- types
 
@@ -66,3 +100,19 @@ protocol_of entry = unwrap_or (proto_named (text_at (codes "protocol") entry)) T
 -- the whole number of a member, if it is one
 abbrev pub number_at : List ℕ → Data → Option ℤ
 number_at name entry = option_and_then as_whole (member_of name entry)
+
+-- ---- policies
+
+-- an entry of `ingress` or `egress`: each entry of a member as a peer, and each of `ports` as a port entry, in order
+abbrev pub IsNetRule : List ℕ → Data → NetRule → Type 0
+IsNetRule peers value rule = AreReadOf net_peer (items_at peers value) rule.peers × AreReadOf net_port (items_at (codes "ports") value) rule.ports
+
+-- A NetworkPolicy: its namespace and its name, the pods that `podSelector` selects, which are all where it is missing, and
+-- the rules of each direction that it has, in order
+pub record IsNetPolicyOf (value : Data) (policy : NetPolicy) : Type 0 where
+  pub kind : IsOfKind (codes "networking.k8s.io/v1") (codes "NetworkPolicy") value
+  pub namespace : namespace_in (object_at (codes "metadata") value) ≡ policy.namespace
+  pub name : text_at (codes "name") (object_at (codes "metadata") value) ≡ policy.name
+  pub subject : selector (object_at (codes "podSelector") (spec_of value)) ≡ Ok policy.subject
+  pub ingress : IfSome policy.ingress (λ rules. AreEach (IsNetRule (codes "from")) (items_at (codes "ingress") (spec_of value)) rules)
+  pub egress : IfSome policy.egress (λ rules. AreEach (IsNetRule (codes "to")) (items_at (codes "egress") (spec_of value)) rules)

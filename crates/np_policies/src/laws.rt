@@ -9,20 +9,23 @@ ghost use Rattle.np_json.specs.declared.meta.TypeMeta.{TypeMeta};
 ghost use Rattle.np_labels.specs.Selectors.{meets_selector};
 ghost use Rattle.np_labels.specs.declared.pair.Pair.{Pair};
 ghost use Rattle.np_labels.specs.declared.selector.Selector.{Selector};
+ghost use Rattle.np_policies.specs.AdminMeaning.{IsAdminPolicyOf, IsBasePolicyOf};
 ghost use Rattle.np_policies.specs.NetworkPolicies.{net_peer, net_rules};
 ghost use Rattle.np_policies.specs.Policies.{is_network_policy, policy_of};
-ghost use Rattle.np_policies.specs.PolicyMeaning.{has_egress, has_ingress, number_at, protocol_of, spec_of, IsBlockOf, IsReadOf};
+ghost use Rattle.np_policies.specs.PolicyMeaning.{has_egress, has_ingress, number_at, protocol_of, spec_of, IsBlockOf, IsNetPolicyOf, IsReadOf};
 ghost use Rattle.np_policies.specs.Ports.{net_port};
 ghost use Rattle.np_policies.specs.SelectorMeaning.{meets_members};
 ghost use Rattle.np_policies.specs.Selectors.{everything, selector};
 ghost use Rattle.np_policies.specs.WellFormed.{is_well_cidr, is_well_policy};
+ghost use Rattle.np_policies.specs.declared.admin_policy.AdminPolicy.{AdminPolicy};
+ghost use Rattle.np_policies.specs.declared.admin_policy.BasePolicy.{BasePolicy};
 ghost use Rattle.np_policies.specs.declared.direction.Direction.TheVariants.{Ingress, Egress};
 ghost use Rattle.np_policies.specs.declared.network_policy.NetPeer.TheVariants.{Pods, Block};
 ghost use Rattle.np_policies.specs.declared.network_policy.NetPolicy.{NetPolicy};
 ghost use Rattle.np_policies.specs.declared.network_policy.NetPort.{NetPort};
 ghost use Rattle.np_policies.specs.declared.network_policy.NetPort.TheVariants.{Span, Named};
 ghost use Rattle.np_policies.specs.declared.policy.Policy.{Policy};
-ghost use Rattle.np_policies.specs.declared.policy.Policy.TheVariants.{Net};
+ghost use Rattle.np_policies.specs.declared.policy.Policy.TheVariants.{Net, Admin, Base};
 
 /// Labels meet a selector that was read exactly where they have every entry of its `matchLabels` and meet every
 /// expression of its `matchExpressions`.
@@ -84,6 +87,25 @@ pub fn port_entries_mean_their_members()
         read ≡ Span (protocol_of value) first last }
     ensures name { (value : Data) (read : NetPort) (name : List ℕ) → net_port value ≡ Ok read →
         member_of (codes "port") value ≡ Some (string name) → read ≡ Named (protocol_of value) name }
+{}
+
+/// A NetworkPolicy that was read has the namespace and the name of its metadata, the pods that its `podSelector` selects as
+/// its subject, and the rules of `ingress` and `egress` in order, each with the peers of `from` or `to` and its `ports`.
+pub fn network_policies_mean_their_members()
+    ensures { (value : Data) (read : NetPolicy) → policy_of value ≡ Ok (Some (Net read)) → IsNetPolicyOf value read }
+{}
+
+/// An AdminNetworkPolicy that was read has the name and the priority of its members, the pods that its `subject` selects
+/// as its subject, and the rules of its `ingress` and `egress` in order, each with its action, its peers and its ports.
+pub fn admin_policies_mean_their_members()
+    ensures { (value : Data) (read : AdminPolicy) → policy_of value ≡ Ok (Some (Admin read)) →
+        IsAdminPolicyOf value read }
+{}
+
+/// A BaselineAdminNetworkPolicy that was read is named `default`, and has the pods that its `subject` selects as its
+/// subject, and the rules of its `ingress` and `egress` in order, each with its action, its peers and its ports.
+pub fn baseline_policies_mean_their_members()
+    ensures { (value : Data) (read : BasePolicy) → policy_of value ≡ Ok (Some (Base read)) → IsBasePolicyOf value read }
 {}
 
 /// An item is no policy exactly where it is an object whose kind does not end in `NetworkPolicy`.
