@@ -8,6 +8,7 @@ pub mod GapLemmas
 pub mod GrammarLemmas
 pub mod GroupLemmas
 pub mod Ipv4Lemmas
+pub mod NumberLemmas
 pub mod NumeralLemmas
 pub mod OnePrefixList
 pub mod Pairs

@@ -7,6 +7,7 @@ pub mod Groups
 pub mod Ipv4Grammar
 pub mod Ipv6Grammar
 pub mod Laws
+pub mod Numbers
 pub mod Numeral
 pub mod Pieces
 pub mod Prefixes

@@ -58,7 +58,7 @@ pub(crate) fn free_bits(width: u8, length: u8) -> u8
 }
 
 // Whether the number is one of those of the block that begins at `base`, in which `free` bits are free.
-fn covers(base: u128, free: u8, number: u128) -> bool
+pub(crate) fn covers(base: u128, free: u8, number: u128) -> bool
     requires { free ≤ 128 }
     ensures { result ≡ (nat_le base number && nat_lt number (base + 2 ^ free)) }
 {

@@ -2,6 +2,7 @@
 #![tactic(auto)]
 
 mod address;
+mod addresses;
 mod block;
 mod cidr;
 mod groups;
@@ -15,6 +16,7 @@ mod print;
 mod read;
 
 pub use address::{Address, Family, family_of};
+pub use addresses::Addresses;
 pub use block::{AddrSet, BlockFault, block_set, cidr_set, first_bad_except};
 pub use cidr::{Cidr, cidr_has};
 pub use laws::{

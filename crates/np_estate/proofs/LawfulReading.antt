@@ -50,7 +50,7 @@ ingresses_from-ascend number (one ∷ items) = by (ingress one) (ingresses_from-
 
 -- ---- namespaces
 
-pods_have_namespace_labels : (items : List Item) → All (HasNamespaceLabels items) (pods_of items)
+pub pods_have_namespace_labels : (items : List Item) → All (HasNamespaceLabels items) (pods_of items)
 pods_have_namespace_labels items =
     All-from_recursion (HasNamespaceLabels items) (pods_of items) (all-pods_from items (λ one. ⊤) (HasNamespaceLabels items) (λ one pod of _. of.labels) 0 items (any items))
   where

@@ -43,11 +43,11 @@ setting labels owner = record { namespace_labels = labels; owner = owner }
 abbrev pub setting_of : List Item → Item → Option Owner → Option Setting
 setting_of items one owner = option_and_then (λ name. option_map (setting (namespace_labels items name.namespace)) owner) (name_of one)
 
--- the same, if the item gives a pod
+-- what the rest of the list says of the pod of an item, if the item gives one
 abbrev pub setting_if : Bool → List Item → Item → Option Owner → Option Setting
 setting_if makes items one owner = if gives_end makes one then setting_of items one owner else None
 
--- the same for the item at a place
+-- what the rest of the list says of the pod of the item at a place, if the item gives one
 abbrev pub setting_at : List Item → ℕ → Item → Option Setting
 setting_at items place one = setting_if (makes_pod items place) items one (top_owner items place)
 

@@ -98,13 +98,23 @@ pub record IsFew (lists : EstateLists) : Type 0 where
 
 -- What holds of every estate that is read.
 pub record IsLawful (lists : EstateLists) : Type 0 where
+  -- no list has more items than are read
   pub few : IsFew lists
+  -- No two listed pods have one namespace and one name. A pod made from a template may have those of another pod.
   pub pods_apart : AllPairs ArePodsApart (filter (λ pod. pod.listed) lists.pods)
+  -- pods of one namespace have the same labels of it
   pub namespaces_agree : AllPairs AgreeOnNamespace lists.pods
+  -- among these labels is the name of the namespace
   pub namespaces_named : All SaysItsNamespace lists.pods
+  -- NetworkPolicies stand in the order of their namespaces and names, no two with the same
   pub net_policies_ascend : AllPairs StandsBefore lists.net_policies
+  -- admin policies stand in the order of their priorities, no two with the same
   pub admin_policies_ascend : HasAscendingPriorities lists.admin_policies
+  -- no two admin policies have one name
   pub admin_policies_apart : AllPairs AreNamesApart lists.admin_policies
+  -- no two Services have one namespace and one name
   pub services_apart : AllPairs AreServicesApart lists.services
+  -- Ingresses stand in the order of their items
   pub ingresses_ascend : AllPairs IsEarlierItem lists.ingresses
+  -- names, labels, selectors, ports and blocks are well formed
   pub well : IsTrue (is_well lists)

@@ -30,6 +30,7 @@ listed_labels items name = labels_in (option_and_then (slice_get items) (place_o
 abbrev pub name_label : List ℕ → Pair
 name_label name = record { key = codes "kubernetes.io/metadata.name"; value = name }
 
--- the labels of a namespace: those of its object, and its name, whatever its object says of that
+-- The labels of a namespace: those of its object, and its name, whatever its object says of that. One whose object is
+-- not listed has no label but its name, and no note says so.
 abbrev pub namespace_labels : List Item → List ℕ → List Pair
 namespace_labels items name = labels_of (listed_labels items name ++ (name_label name ∷ []))

@@ -57,7 +57,8 @@ or_cycle (Some name) = Err (OwnerCycle name)
 abbrev pub have_no_cycle : List Item → Reading ⊤
 have_no_cycle items = or_cycle (first_in_cycle items)
 
--- the estate of inputs, or the first refusal
+-- The estate of inputs, or the first refusal: that of the items, else of two items of one name, else of two admin
+-- policies of one priority, else of a controller in its own chain of owners.
 unfoldable pub estate_of : List (List ℕ) → Reading EstateLists
 estate_of texts = do
   items ← or_refused (items_of texts)

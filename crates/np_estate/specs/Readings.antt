@@ -1,4 +1,5 @@
--- Readings: what inputs are read as, or the refusal that stands first.
+-- Readings: what inputs are read as, or the refusal that stands first: first by the lines of `estate_of`. It is never
+-- `NoMemory`.
 use Rattle.std.specs.Prelude.{◌≡◌, Result, Ok, Err, ⊤}
 use Rattle.np_estate.specs.declared.refusal.Refusal.{Refusal}
 use Rattle.np_estate.specs.declared.refusal.Refusal.TheVariants.{NoMemory}

@@ -10,7 +10,7 @@ use Rattle.np_owners.specs.declared.fault.ChainsFault.TheVariants as chains
 use Rattle.np_owners.specs.declared.fault.PlacesFault.{PlacesFault}
 use Rattle.np_owners.specs.declared.fault.PlacesFault.TheVariants as places
 
--- the refusal for which items are not read
+-- the refusal for which items are not read; `NoMemory` is for code alone, since no reading gives it
 abbrev pub items_refusal : ItemsFault → Refusal
 items_refusal (items.NotJson input) = NotJson input
 items_refusal (items.NotAList input) = NotAList input

@@ -9,6 +9,7 @@ ghost use Rattle.np_objects.specs.declared.object.Object.TheVariants as object;
 use crate::placed_ingress::PlacedIngress;
 use crate::pod::Pod;
 use crate::setting::Setting;
+use np_addr::Addresses;
 use np_base::{NoMemory, Seq, Text};
 use np_items::Item;
 use np_objects::{ControllerItem, Object, PodItem, ServiceItem};
@@ -187,7 +188,7 @@ fn made_pod(alloc: Global, controller: ControllerItem, setting: Setting) -> Opti
         name: controller.name,
         labels: template.labels,
         ports: template.ports,
-        addresses: Seq::new(alloc),
+        addresses: Addresses::nothing(alloc),
         owner: setting.owner,
         listed: false,
     })

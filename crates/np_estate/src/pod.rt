@@ -1,6 +1,6 @@
 //! Pods as ends of connections.
 
-use np_addr::Address;
+use np_addr::Addresses;
 use np_base::{Seq, Text};
 use np_labels::{Labels, SharedLabels};
 use np_objects::NamedPort;
@@ -17,7 +17,7 @@ pub struct Pod {
     pub labels: Labels,
     /// The container ports that have a name, in order.
     pub ports: Seq<NamedPort>,
-    pub addresses: Seq<Address>,
+    pub addresses: Addresses,
     /// The top owner.
     pub owner: Owner,
     /// Whether the pod itself is listed. One that is not is made from a controller's template.

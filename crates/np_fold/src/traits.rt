@@ -4,12 +4,11 @@ ghost use Rattle.std.specs.Cmp.Lexicographic.{slice_cmp};
 ghost use Rattle.std.specs.List.{filter_map};
 ghost use Rattle.std.specs.List.Sorted.{IsStrictlySortedBy};
 ghost use Rattle.std.specs.Ordering.{nat_cmp};
-ghost use Rattle.np_fold.specs.Alike.{is_in};
 ghost use Rattle.np_fold.specs.Traits as spec;
 ghost use Rattle.np_labels.specs.Labels.{HasAscendingKeys};
 ghost use Rattle.np_labels.specs.Selectors.{is_listed};
 
-use np_addr::{Address, Cidr, cidr_has};
+use np_addr::{Addresses, Cidr};
 use np_base::{NoMemory, Seq, Text, TryCopy};
 use np_estate::Pod;
 use np_labels::Pair;
@@ -47,7 +46,7 @@ impl Traits {
             owner: pod.owner.try_copy(alloc)?,
             labels: labels_of(alloc, pod.labels.pairs(), keys)?,
             ports: pod.ports.try_copy(alloc)?,
-            blocks: blocks_of(alloc, pod.addresses.items(), cidrs)?,
+            blocks: blocks_of(alloc, &pod.addresses, cidrs)?,
         })
     }
 
@@ -96,21 +95,14 @@ fn is_listed(keys: &[Text], key: &Text) -> bool
 }
 
 // The places of the blocks that some address is in, in ascending order.
-fn blocks_of(alloc: Global, addresses: &[Address], cidrs: &[Cidr]) -> Result<Seq<u64>, NoMemory>
+fn blocks_of(alloc: Global, addresses: &Addresses, cidrs: &[Cidr]) -> Result<Seq<u64>, NoMemory>
     ensures { IfOk result (λ made. made ≡ spec.blocks_of cidrs.now addresses.now) }
 {
     let mut blocks = Seq::new(alloc);
     for (place, cidr) in cidrs.iter().enumerate() {
-        if is_in(addresses, cidr) {
+        if addresses.some_in(cidr) {
             blocks.push(place as u64)?;
         }
     }
     Ok(blocks)
-}
-
-// Whether some address is in a block.
-fn is_in(addresses: &[Address], cidr: &Cidr) -> bool
-    ensures { result ≡ is_in addresses.now cidr.now }
-{
-    addresses.iter().any(|address| cidr_has(cidr, *address))
 }

@@ -10,7 +10,8 @@ use Rattle.np_json.specs.declared.field.Field.TheVariants.{Missing, Wrong, Given
 use Rattle.np_items.specs.Readings.{Reading, ◌>>=◌}
 use Rattle.np_items.specs.declared.fault.ItemsFault.TheVariants.{NotJson, NotAList}
 
--- the JSON value of a text in UTF-8, where it is one within the nesting that is read
+-- The JSON value of a text in UTF-8, where it is one within the nesting that is read. Where an object has a member
+-- twice, the last one counts.
 unfoldable pub json_of : List ℕ → Option Data
 json_of text = if is_utf8 text then read text else None
 
@@ -22,7 +23,7 @@ or_not_json input (Some value) = Ok value
 abbrev pub value_of : ℕ → List ℕ → Reading Data
 value_of input text = or_not_json input (json_of text)
 
--- whether a kind is that of a list
+-- whether a kind is that of a list: its name ends in `List`, whatever project it is of
 abbrev pub is_list_kind : List ℕ → Bool
 is_list_kind kind = ends_with nat_eq kind (codes "List")
 

@@ -17,7 +17,7 @@ abbrev pub numbered : {A : Type 0} → ℕ → Read A → Reading A
 numbered number (Ok output) = Ok output
 numbered number (Err flaw) = Err (Bad (record { item = number; path = flaw.path; kind = flaw.kind }))
 
--- the rule that an item is no list, whatever its version
+-- the rule that an item is no list, whatever its version: an item of any kind that ends in `List` is refused
 unfoldable pub must_be_no_list : ℕ → Data → Reading ⊤
 must_be_no_list number value = do
   type ← numbered number (type_meta value)

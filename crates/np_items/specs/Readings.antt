@@ -1,4 +1,5 @@
--- Readings: what inputs are read as, or the fault that stands first.
+-- Readings: what inputs are read as, or the fault that stands first: that of the first input that has one, else that of
+-- too many items, else that of the first item that has one. It is never `NoMemory`.
 use Rattle.std.specs.Prelude.{◌≡◌, Result, Ok, Err, ⊤}
 use Rattle.np_items.specs.declared.fault.ItemsFault.{ItemsFault}
 use Rattle.np_items.specs.declared.fault.ItemsFault.TheVariants.{NoMemory}

@@ -17,7 +17,7 @@ pub enum ItemsFault {
     NestedList { item: u64 },
     /// An item has this fault first.
     Bad(Fault),
-    /// The system refused memory.
+    /// The system refused memory. No definition of what inputs are read as gives this.
     NoMemory,
 }
 

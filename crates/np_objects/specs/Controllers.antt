@@ -37,7 +37,8 @@ replicated_spec value = do
   pods ← optional (codes "template") template value
   Ok (record { none_wanted = is_zero replicas; template = pods })
 
--- the spec of a controller of which the template alone is read
+-- The spec of a controller of which the template alone is read: a DaemonSet, or a Job, which wants pods even where it
+-- is complete or suspended.
 unfoldable pub template_spec : Data → Read ControllerSpec
 template_spec value = do
   must_be_object value
@@ -51,7 +52,7 @@ job_template value = do
   spec ← optional (codes "spec") template_spec value
   Ok (unwrap_or spec no_spec)
 
--- the spec of a controller of jobs
+-- the spec of a controller of jobs, which wants pods even where it is suspended
 unfoldable pub cron_job_spec : Data → Read ControllerSpec
 cron_job_spec value = do
   must_be_object value

@@ -44,7 +44,8 @@ batch_kind name =
 abbrev pub networking_kind : List ℕ → Option ObjectKind
 networking_kind name = if bytes_eq name (codes "Ingress") then Some kind.Ingress else None
 
--- the kind of an object by its API version and the name of its kind
+-- The kind of an object by its API version and the name of its kind. A kind in another version, as a Deployment of
+-- `apps/v1beta1`, is none of them: it is skipped, and counted with the objects of other kinds.
 abbrev pub kind_of : List ℕ → List ℕ → Option ObjectKind
 kind_of version name =
     if bytes_eq version (codes "v1") then core_kind name

@@ -10,7 +10,8 @@ use Rattle.np_objects.specs.declared.owner_reference.Dependent.{Dependent}
 use Rattle.np_objects.specs.declared.owner_reference.Dependent.TheVariants.{Pod, Controller}
 use Rattle.np_objects.specs.declared.owner_reference.OwnerReference.{OwnerReference}
 
--- an owner reference, whether it counts or not
+-- An owner reference, whether it counts or not. Owners are known by kind and name, whatever their API group: neither
+-- `apiVersion` nor `uid` is read.
 unfoldable pub owner_reference : Data → Read OwnerReference
 owner_reference value = do
   must_be_object value

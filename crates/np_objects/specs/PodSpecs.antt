@@ -15,7 +15,8 @@ container value = do
   ports ← listed (codes "ports") container_port value
   Ok (filter_map (λ port. port) ports)
 
--- the spec of a pod: the ports of its containers, one container after another
+-- The spec of a pod: the ports of its `containers`, one container after another. `initContainers` are not read, so the
+-- named ports of a sidecar (an init container that restarts) are none of the pod's.
 unfoldable pub pod_spec : Data → Read PodSpec
 pod_spec value = do
   must_be_object value

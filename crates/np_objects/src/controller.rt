@@ -79,7 +79,8 @@ pub struct ControllerItem {
     pub name: Text,
     /// That of the first of its owner references that controls it and is of a kind of controllers.
     pub owner: Option<OwnerRef>,
-    /// Whether `spec.replicas` is 0.
+    /// Whether `spec.replicas` is 0. It is false of a DaemonSet, a Job and a CronJob, even where a Job is complete or
+    /// suspended.
     pub none_wanted: bool,
     pub template: Option<Template>,
 }

@@ -13,7 +13,8 @@ use std::alloc::Global;
 /// What is read of the spec of a controller.
 #[derive(Drop)]
 pub(crate) struct ControllerSpec {
-    /// Whether no pods are wanted.
+    /// Whether `spec.replicas` is 0. It is false of a DaemonSet, a Job and a CronJob, even where a Job is complete or
+    /// suspended.
     pub(crate) none_wanted: bool,
     pub(crate) template: Option<Template>,
 }

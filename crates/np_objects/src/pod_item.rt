@@ -8,7 +8,7 @@ use crate::owner_ref::OwnerRef;
 use crate::owner_reference::{Dependent, OwnerReferenceShape, owner_of};
 use crate::pod_spec::{PodSpec, PodSpecShape};
 use crate::pod_status::{PodStatus, PodStatusShape};
-use np_addr::Address;
+use np_addr::Addresses;
 use np_base::{Seq, Text};
 use np_json::{NamespacedName, NamespacedNameShape, Shape, ShapeFault, listed, optional, required};
 use np_labels::Labels;
@@ -26,7 +26,7 @@ pub struct PodItem {
     /// The container ports that have a name, in order.
     pub ports: Seq<NamedPort>,
     /// `status.podIP`, then those of `status.podIPs`, each value once.
-    pub addresses: Seq<Address>,
+    pub addresses: Addresses,
     /// Whether it is on the network of its node: `spec.hostNetwork`.
     pub host_network: bool,
     /// Whether its phase is `Succeeded` or `Failed`.

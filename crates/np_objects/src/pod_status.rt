@@ -6,8 +6,8 @@ ghost use Rattle.np_objects.specs.Lists as lists;
 
 use crate::distinct_addresses::distinct;
 use crate::lists::or_refuse;
-use np_addr::{Address, read_address};
-use np_base::{Seq, Text};
+use np_addr::{Address, Addresses, read_address};
+use np_base::Text;
 use np_json::{AnyText, FaultKind, Shape, ShapeFault, listed, must_be_object, of_type, optional};
 use serde_json::Value;
 use std::alloc::Global;
@@ -18,7 +18,7 @@ pub(crate) struct PodStatus {
     /// Whether all its containers have ended for good.
     pub(crate) finished: bool,
     /// Each address once.
-    pub(crate) addresses: Seq<Address>,
+    pub(crate) addresses: Addresses,
 }
 
 impl PodStatus {
@@ -30,7 +30,7 @@ impl PodStatus {
     {
         PodStatus {
             finished: false,
-            addresses: Seq::new(alloc),
+            addresses: Addresses::nothing(alloc),
         }
     }
 }
@@ -112,7 +112,7 @@ impl Shape for PodStatusShape {
         let others = listed(alloc, value, "podIPs", &PodIpShape)?;
         Ok(PodStatus {
             finished: is_finished(&phase),
-            addresses: distinct(alloc, first.flatten(), others)?,
+            addresses: Addresses::of(alloc, distinct(alloc, first.flatten(), others)?)?,
         })
     }
 }

@@ -17,7 +17,8 @@ abbrev pub is_pod : Item → Bool
 is_pod (item.Object object) = is_pod_object object
 is_pod (item.Policy policy) = false
 
--- whether some listed pod, one that is left out too, has the item at a place in its chain of owners
+-- Whether some listed pod has the item at a place in its chain of owners. A pod that is left out of the estate counts
+-- too, so no pod is made for a CronJob between two runs where one of its Jobs and a finished pod of that are listed.
 abbrev pub has_pods : List Item → ℕ → Bool
 has_pods items place = is_over_some (ups items) (map is_pod items) place
 
@@ -25,13 +26,14 @@ abbrev pub wants_pods_object : Object → Bool
 wants_pods_object (object.Controller controller) = is_some controller.template && not controller.none_wanted
 wants_pods_object _ = false
 
--- whether an item is a controller that has a template and wants pods
+-- whether an item is a controller that has a template and wants pods: only one whose `replicas` is 0 wants none
 abbrev pub wants_pods : Item → Bool
 wants_pods (item.Object object) = wants_pods_object object
 wants_pods (item.Policy policy) = false
 
 -- Whether the item at a place is a controller that makes pods of which none is listed: it has a template and wants
--- pods, its own owner is not listed, and no pod has it in its chain of owners.
+-- pods, its own owner is not listed, and no pod has it in its chain of owners. The template then stands for one pod,
+-- whatever `replicas` says, so a workload of this pod alone has no row to itself.
 abbrev pub makes_pod : List Item → ℕ → Bool
 makes_pod items place =
     option_map_or (λ one. wants_pods one && is_none (owner_place items one)) (slice_get items place) false && not (has_pods items place)

@@ -29,7 +29,7 @@ owner_of (item.Policy policy) = None
 
 -- ---- chains
 
--- the place of the listed controller of an owner's kind and name in a namespace
+-- the place of the listed controller of an owner's kind and name in a namespace, whatever API group the owner is of
 abbrev pub controller_place : List Item → List ℕ → OwnerRef → Option ℕ
 controller_place items namespace owner =
     if is_controller_kind owner.kind then place_of items (record { kind = owner.kind; namespace = namespace; name = owner.name }) else None

@@ -9,6 +9,7 @@ pub mod OneEndLemmas
 pub mod AddressLemmas
 pub mod DeciderLemmas
 pub mod SideLemmas
+pub mod BlockPeers
 pub mod FamilyLemmas
 pub mod LayerRulesLemmas
 pub mod PodSideLemmas

@@ -19,7 +19,8 @@ pub record PodEnd : Type 0 where
   pub ports : List NamedPort
   pub addresses : List Address
 
--- an end of a connection
+-- An end of a connection. An address is taken as no pod's, even where a listed pod has it: no side of a pod speaks for
+-- it, and no pod selector matches it.
 pub data End : Type 0 where
   pod : PodEnd → End
   address : Address → End

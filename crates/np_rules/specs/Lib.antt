@@ -3,6 +3,7 @@ pub mod BaseTier
 pub mod Deciders
 pub mod Ends
 pub mod NetTier
+pub mod BlockFamilies
 pub mod Peers
 pub mod Places
 pub mod PortEntries

@@ -24,7 +24,8 @@ pods_match namespace (Some namespaces) None p = meets_selector namespaces p.name
 pods_match namespace (Some namespaces) (Some pods) p = meets_selector namespaces p.namespace_labels && meets_selector pods p.labels
 
 -- A peer of a NetworkPolicy of this namespace. A pod selector alone stands for pods of that namespace, and a block for
--- addresses alone.
+-- addresses alone: it never matches a pod, whatever addresses the pod has. An implementation that matches pods by
+-- blocks too permits more than this model.
 abbrev pub net_peer_matches : List ℕ → NetPeer → End → Bool
 net_peer_matches namespace (net.Pods namespaces pods) (pod p) = pods_match namespace namespaces pods p
 net_peer_matches namespace (net.Pods namespaces pods) (address a) = false

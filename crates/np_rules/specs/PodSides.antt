@@ -44,7 +44,7 @@ side_rule_count side = rule_count side.lists side.direction (near_pod side)
 abbrev pub with_pod : ℕ → Family → PodSide → PortSpot → Contact
 with_pod peer family side = contact side.direction (pod (near_pod side)) (pod (pod_at side.lists peer)) family
 
--- an address
+-- an address, which is taken as no pod's, even where a listed pod has it
 abbrev pub with_point : Address → PodSide → PortSpot → Contact
 with_point a side = contact side.direction (pod (near_pod side)) (address a) (family_of a)
 

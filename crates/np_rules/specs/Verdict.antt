@@ -17,7 +17,9 @@ abbrev pub end_allows : EstateLists → Direction → End → Contact → Bool
 end_allows lists direction (pod p) contact = side_allows lists direction p contact
 end_allows lists direction (address a) contact = true
 
--- A packet is allowed where the egress side of its source and the ingress side of its destination allow it.
+-- A packet is allowed where the egress side of its source and the ingress side of its destination allow it. Two
+-- exceptions of Kubernetes are not in this model: traffic between a pod and itself, and between a pod and its node, is
+-- allowed there whatever the policies say.
 unfoldable pub allows : EstateLists → Packet → Bool
 allows lists packet =
     end_allows lists Egress packet.source (contact_of Egress packet)
@@ -51,4 +53,9 @@ IsEndOf lists (placed.Pod place) = place < length lists.pods
 IsEndOf lists (placed.At a) = Unit {0}
 
 abbrev pub packet_of : EstateLists → PlacedPacket → Packet
-packet_of lists packet = record { source = end_of lists packet.source; destination = end_of lists packet.destination; family = packet.family; spot = record { proto = packet.proto; port = packet.port } }
+packet_of lists packet = record {
+  source = end_of lists packet.source;
+  destination = end_of lists packet.destination;
+  family = packet.family;
+  spot = record { proto = packet.proto; port = packet.port };
+}

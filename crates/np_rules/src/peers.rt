@@ -1,16 +1,17 @@
 //! Which ends a peer stands for.
-ghost use Rattle.std.specs.Prelude.{◌≡◌, ◌&&◌, not};
+ghost use Rattle.std.specs.Prelude.{◌≡◌, ◌&&◌, [], not, unwrap_or};
 ghost use Rattle.std.specs.Option.{option_copied};
 ghost use Rattle.std.specs.List.{list_any};
 ghost use Rattle.np_addr.specs.Addresses.{cidr_has};
 ghost use Rattle.np_addr.specs.Blocks.{block_has};
 ghost use Rattle.np_estate.specs.Families.{is_of};
+ghost use Rattle.np_rules.specs.BlockFamilies.{is_block_of, some_inside};
 ghost use Rattle.np_rules.specs.Peers as spec;
 ghost use Rattle.np_rules.specs.Rules.{none_or_any};
 ghost use Rattle.np_rules.specs.Views.{pod_view, end_view};
 
 use crate::views::{EndView, PodView};
-use np_addr::{Address, Cidr, Family, cidr_has, family_of};
+use np_addr::{Address, Addresses, Cidr, Family, cidr_has};
 use np_labels::Selector;
 use np_policies::{AdminPeer, NetPeer};
 
@@ -100,9 +101,29 @@ fn admin_peer_matches(peer: &AdminPeer, far: &EndView<'_>, family: Family) -> bo
     }
 }
 
-// Whether some of the addresses is of the family and in some of the blocks.
-fn some_address_in(cidrs: &[Cidr], addresses: &[Address], family: Family) -> bool
-    ensures { result ≡ list_any (λ a. is_of family a && spec.in_some cidrs.now a) addresses.now }
+// Whether some of the addresses is of the family and in some of the blocks. Without a list there is none.
+fn some_address_in(cidrs: &[Cidr], addresses: Option<&Addresses>, family: Family) -> bool
+    ensures { result ≡ list_any (λ a. is_of family a && spec.in_some cidrs.now a) (unwrap_or (option_copied addresses.entry) []) }
 {
-    addresses.iter().any(|address| family_of(*address) == family && in_some(cidrs, address))
+    match addresses {
+        Some(addresses) => some_inside(cidrs, addresses, family),
+        None => false,
+    }
+}
+
+// Whether some block of the family has some of the addresses. Each block is looked up by halves.
+fn some_inside(cidrs: &[Cidr], addresses: &Addresses, family: Family) -> bool
+    ensures { result ≡ some_inside family cidrs.now addresses.now }
+{
+    cidrs.iter().any(|cidr| is_block_of(family, cidr) && addresses.some_in(cidr))
+}
+
+// Whether the addresses of a block are of the family.
+fn is_block_of(family: Family, cidr: &Cidr) -> bool
+    ensures { result ≡ is_block_of family cidr.now }
+{
+    match cidr {
+        Cidr::Four { .. } => family == Family::Four,
+        Cidr::Six { .. } => family == Family::Six,
+    }
 }

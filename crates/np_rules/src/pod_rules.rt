@@ -3,7 +3,8 @@ ghost use Rattle.std.specs.Prelude.{◌≡◌, ◌+◌, ◌-◌, ◌^◌, ◌≤
 ghost use Rattle.np_conns.specs.Conns.{IsConns, is_spot, has_spot};
 ghost use Rattle.np_pieces.specs.Pieces.{Covers};
 ghost use Rattle.np_rules.specs.EveryAddress.{Place, has_place, is_place};
-ghost use Rattle.np_rules.specs.PodSides.{IsSideLayer, SaysVerdicts, near_pod, side_of, side_rule_count, with_addresses, with_pod, with_point, with_stranger};
+ghost use Rattle.np_rules.specs.PodSides.{IsSideLayer, SaysVerdicts, near_pod, side_of, side_rule_count};
+ghost use Rattle.np_rules.specs.PodSides.{with_addresses, with_pod, with_point, with_stranger};
 ghost use Rattle.np_rules.specs.Sides.{side_allows};
 
 use crate::address_rules::rules_of_addresses;
@@ -46,7 +47,8 @@ impl<'a> Model for PodRules<'a> {
 
     ghost view = { λ r. side_of r.estate.now r.pod r.direction };
 
-    ghost invariant = { λ r. KeepsRules (side_of r.estate.now r.pod r.direction) (map (λ rule. rule.now) r.admin.items) r.net.isolated (map (λ rule. rule.now) r.net.rules.items) r.base.now };
+    ghost invariant = { λ r. KeepsRules (side_of r.estate.now r.pod r.direction) (map (λ rule. rule.now) r.admin.items)
+        r.net.isolated (map (λ rule. rule.now) r.net.rules.items) r.base.now };
 }
 
 impl<'a> PodRules<'a> {

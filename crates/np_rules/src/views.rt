@@ -4,7 +4,7 @@ ghost use Rattle.np_rules.specs.Ends.{pod_end, stranger_end};
 ghost use Rattle.np_rules.specs.Views as spec;
 
 use crate::stranger::Stranger;
-use np_addr::{Address, Family};
+use np_addr::{Address, Addresses, Family};
 use np_conns::PortSpot;
 use np_estate::Pod;
 use np_labels::Labels;
@@ -17,7 +17,8 @@ pub(crate) struct PodView<'a> {
     pub namespace_labels: &'a Labels,
     pub labels: &'a Labels,
     pub ports: &'a [NamedPort],
-    pub addresses: &'a [Address],
+    // None of a pod that nobody has written yet.
+    pub addresses: Option<&'a Addresses>,
 }
 
 /// A pod of an estate.
@@ -29,7 +30,7 @@ pub(crate) fn view_of_pod(pod: &Pod) -> PodView<'_>
         namespace_labels: pod.namespace_labels.labels(),
         labels: &pod.labels,
         ports: pod.ports.items(),
-        addresses: pod.addresses.items(),
+        addresses: Some(&pod.addresses),
     }
 }
 
@@ -45,7 +46,7 @@ pub(crate) fn view_of_stranger(stranger: &Stranger) -> PodView<'_>
         namespace_labels: &stranger.namespace,
         labels: &stranger.labels,
         ports: &[],
-        addresses: &[],
+        addresses: None,
     }
 }
 

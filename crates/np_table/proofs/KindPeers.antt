@@ -3,14 +3,10 @@ use Rattle.std.proofs.Common.{◌≡◌, ℕ, List, [], ◌∷◌, ◌++◌, Boo
 use Rattle.std.specs.List.{AllByRecursion, list_any}
 use Rattle.np_addr.specs.Addresses.{cidr_has}
 use Rattle.np_addr.specs.declared.address.Address.{Address}
-use Rattle.np_addr.specs.declared.address.Address.TheVariants as at
 use Rattle.np_addr.specs.declared.address.Family.{Family}
-use Rattle.np_addr.specs.declared.address.Family.TheVariants as of
 use Rattle.np_addr.specs.declared.cidr.Cidr.{Cidr}
-use Rattle.np_addr.specs.declared.cidr.Cidr.TheVariants as block
 use Rattle.np_conns.specs.Conns.{same_proto}
 use Rattle.np_conns.specs.declared.port_spot.PortSpot.{PortSpot}
-use Rattle.np_estate.specs.Families.{is_of, same_family}
 use Rattle.np_fold.specs.Alike.{is_in}
 use Rattle.np_fold.specs.Blocks.{cidrs_of_peer}
 use Rattle.np_fold.specs.Keys.{keys_of_admin_peer, keys_of_net_peer, keys_of_optional, keys_of_selector}
@@ -26,6 +22,8 @@ use Rattle.np_policies.specs.declared.network_policy.NetPeer.{NetPeer}
 use Rattle.np_policies.specs.declared.network_policy.NetPeer.TheVariants as net
 use Rattle.np_policies.specs.declared.network_policy.NetPort.{NetPort}
 use Rattle.np_policies.specs.declared.network_policy.NetPort.TheVariants as net_port
+use Rattle.np_rules.proofs.BlockPeers.{by_blocks}
+use Rattle.np_rules.specs.BlockFamilies.{some_inside}
 use Rattle.np_rules.specs.Ends.{End, PodEnd, pod, address}
 use Rattle.np_rules.specs.Peers.{admin_peer_matches, in_some, net_peer_matches, pods_match}
 use Rattle.np_rules.specs.PortEntries.{admin_entry_matches, has_named, net_entry_matches}
@@ -78,63 +76,6 @@ net_peer-same namespace peer (pod p) (address b) same agree = absurd same
 net_peer-same namespace peer (address a) (pod q) same agree = absurd same
 
 -- ---- peers of admin rules
-
--- whether the block is one of addresses of the family
-abbrev is_block_of : Family → Cidr → Bool
-is_block_of family (block.Four base len) = same_family of.Four family
-is_block_of family (block.Six base len) = same_family of.Six family
-
-and_false : (x y : Bool) → (x && false) ≡ (y && false)
-and_false true true = refl
-and_false true false = refl
-and_false false true = refl
-and_false false false = refl
-
--- an address in a block has the family of the block
-block_family : (family : Family) (cidr : Cidr) (a : Address) → (is_block_of family cidr && cidr_has cidr a) ≡ (is_of family a && cidr_has cidr a)
-block_family family (block.Four base len) (at.Four n) = refl
-block_family family (block.Six base len) (at.Six n) = refl
-block_family family (block.Four base len) (at.Six n) = and_false (same_family of.Four family) (same_family of.Six family)
-block_family family (block.Six base len) (at.Four n) = and_false (same_family of.Six family) (same_family of.Four family)
-
--- one block more, and one address more
-shared : (u h hs t r rs : Bool) → (t && h) ≡ (u && h) → ((u && (h || hs)) || ((t && r) || rs)) ≡ ((t && (h || r)) || ((u && hs) || rs))
-shared true true hs true r rs is = grind arith
-shared true true hs false r rs is = grind arith
-shared false true hs true r rs is = grind arith
-shared false true hs false r rs is = grind arith
-shared true false hs true r rs is = grind arith
-shared true false hs false r rs is = grind arith
-shared false false hs true r rs is = grind arith
-shared false false hs false r rs is = grind arith
-
--- whether some block of the family has some of the addresses
-abbrev some_inside : Family → List Cidr → List Address → Bool
-some_inside family cidrs addresses = list_any (λ cidr. is_block_of family cidr && is_in addresses cidr) cidrs
-
-inside_none : (family : Family) (cidrs : List Cidr) → some_inside family cidrs [] ≡ false
-inside_none family [] = refl
-inside_none family (cidr ∷ cidrs) = by (is_block_of family cidr) (inside_none family cidrs)
-  where
-    by : (b : Bool) → some_inside family cidrs [] ≡ false → ((b && false) || some_inside family cidrs []) ≡ false
-    by true rest = rest
-    by false rest = rest
-
-inside_more : (family : Family) (a : Address) (addresses : List Address) (cidrs : List Cidr) → ((is_of family a && in_some cidrs a) || some_inside family cidrs addresses) ≡ some_inside family cidrs (a ∷ addresses)
-inside_more family a addresses [] = by (is_of family a)
-  where
-    by : (b : Bool) → ((b && false) || false) ≡ false
-    by true = refl
-    by false = refl
-inside_more family a addresses (cidr ∷ cidrs) =
-    shared (is_of family a) (cidr_has cidr a) (in_some cidrs a) (is_block_of family cidr) (is_in addresses cidr) (some_inside family cidrs addresses) (block_family family cidr a)
-    ∙ ap (λ b. (is_block_of family cidr && (cidr_has cidr a || is_in addresses cidr)) || b) (inside_more family a addresses cidrs)
-
--- address by address, and block by block
-by_blocks : (family : Family) (cidrs : List Cidr) (addresses : List Address) → list_any (λ a. is_of family a && in_some cidrs a) addresses ≡ some_inside family cidrs addresses
-by_blocks family cidrs [] = sym (inside_none family cidrs)
-by_blocks family cidrs (a ∷ addresses) =
-    ap (λ b. (is_of family a && in_some cidrs a) || b) (by_blocks family cidrs addresses) ∙ inside_more family a addresses cidrs
 
 inside-same : (family : Family) (one other : List Address) (cidrs : List Cidr) → AllByRecursion (λ cidr. is_in one cidr ≡ is_in other cidr) cidrs → some_inside family cidrs one ≡ some_inside family cidrs other
 inside-same family one other [] agree = refl

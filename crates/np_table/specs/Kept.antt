@@ -38,7 +38,8 @@ pub record KeepsAlso (old new : List (Option (List KeptConns))) (kind : ℕ) (co
   pub one : kept_at new kind ≡ Some conns
   pub others : (other : ℕ) → other ≢ kind → kept_at new other ≡ kept_at old other
 
--- What is kept for a kind are the rows from the source to each workload of the kind, but for their ends. A workload of one pod with itself has no rows.
+-- What is kept for a kind are the rows from the source to each workload of the kind, but for their ends. A workload of
+-- one pod with itself has no rows.
 unfoldable pub IsKept : EstateLists → Folding → ℕ → List (Option (List KeptConns)) → Type 0
 IsKept lists folding source kept =
     (destination : ℕ) (conns : List KeptConns) → source < length folding.workloads → destination < length folding.workloads → is_alone folding source destination ≡ false

@@ -23,9 +23,10 @@ pub record Stretch : Type 0 where
 abbrev pub is_within : ℕ → Stretch → Bool
 is_within n stretch = nat_le stretch.lo n && nat_le n stretch.hi
 
--- ---- the right list
+-- ---- the right list: the fewest stretches of a space such that the same passes at all numbers of each
 
--- A stretch begins at a number and is not empty, at each of its numbers its connections pass and no others, and they are not those of the stretch before it.
+-- A stretch begins at a number and is not empty, at each of its numbers its connections pass and no others, and they
+-- are not those of the stretch before it.
 pub record IsNext (passes : ℕ → PortSpot → Bool) (from : ℕ) (before : Option Conns) (stretch : Stretch) : Type 0 where
   pub start : stretch.lo ≡ from
   pub filled : stretch.lo ≤ stretch.hi
@@ -37,7 +38,7 @@ abbrev pub AreRight : (ℕ → PortSpot → Bool) → ℕ → ℕ → Option Con
 AreRight passes from to before [] = from ≡ to
 AreRight passes from to before (stretch ∷ stretches) = IsNext passes from before stretch × AreRight passes (stretch.hi + 1) to (Some stretch.conns) stretches
 
--- the stretches are the right list of a space
+-- The stretches are the right list of a space: they cover it in ascending order without gaps, and neighbours differ.
 abbrev pub IsRight : (ℕ → PortSpot → Bool) → ℕ → ℕ → List Stretch → Type 0
 IsRight passes low high stretches = AreRight passes low (high + 1) None stretches
 
@@ -53,7 +54,8 @@ are_same_conns a b = pointwise are_same_range a.tcp b.tcp && pointwise are_same_
 abbrev pub stretch_at : (ℕ → PortSpot → Bool) → ℕ → Stretch
 stretch_at passes n = record { lo = n; hi = n; conns = conns_of (passes n) }
 
--- On through so many more numbers: the last stretch grows where the same connections pass, and a new one begins where they change.
+-- On through so many more numbers: the last stretch grows where the same connections pass, and a new one begins where
+-- they change.
 abbrev pub walk_on : (ℕ → PortSpot → Bool) → Stretch → ℕ → List Stretch
 walk_on passes last zero = last ∷ []
 walk_on passes last (suc count) =
@@ -61,7 +63,8 @@ walk_on passes last (suc count) =
     then walk_on passes (record last { hi = last.hi + 1 }) count
     else last ∷ walk_on passes (stretch_at passes (last.hi + 1)) count
 
--- from the least number of a space to the greatest
+-- From the least number of a space to the greatest: the fewest stretches, in ascending order and without gaps, such
+-- that the same connections pass at all numbers of each. It is the right list of the space.
 unfoldable pub walk : (ℕ → PortSpot → Bool) → ℕ → ℕ → List Stretch
 walk passes low high = walk_on passes (stretch_at passes low) (high - low)
 

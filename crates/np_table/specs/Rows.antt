@@ -68,13 +68,14 @@ four_of stretch = span.Four (record { lo = stretch.lo; hi = stretch.hi })
 abbrev pub six_of : Stretch → AddressSpan
 six_of stretch = span.Six (record { lo = stretch.lo; hi = stretch.hi })
 
--- by a test of addresses the right list of all of IPv4, and then that of IPv6
+-- By a test of addresses the fewest ranges of all of IPv4 such that the same passes at each address of one, and then
+-- those of IPv6. Both families are there, whatever families the pods have.
 abbrev pub rows_of_addresses : (Family → ℕ → PortSpot → Bool) → List AddressRow
 rows_of_addresses passes =
     map (address_row four_of) (walk (passes family.Four) 0 (2 ^ 32 - 1))
     ++ map (address_row six_of) (walk (passes family.Six) 0 (2 ^ 128 - 1))
 
--- what passes between a workload and all addresses in a direction
+-- what passes between a workload and all addresses in a direction, ranges with which nothing passes among them
 unfoldable pub address_rows : Table → ℕ → Direction → List AddressRow
 address_rows table workload direction = rows_of_addresses (table.addresses workload direction)
 
@@ -86,6 +87,8 @@ key_of workload Egress addresses = record { source = Work workload; destination 
 abbrev pub row_of : ℕ → Direction → AddressRow → Row
 row_of workload direction row = record { key = key_of workload direction (Span row.span); family = None; conns = row.conns }
 
+-- The rows of a workload and all addresses in a direction. A range with which nothing passes has a row too, of
+-- `No Connections`; a pair of workloads between which nothing passes has none.
 abbrev pub rows_towards : Table → ℕ → Direction → List Row
 rows_towards table workload direction = map (row_of workload direction) (address_rows table workload direction)
 

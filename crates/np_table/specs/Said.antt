@@ -40,7 +40,7 @@ is_workload number Controller = false
 abbrev pub is_between : ℕ → ℕ → Row → Bool
 is_between source destination row = is_workload source row.key.source && is_workload destination row.key.destination
 
--- those rows of a list that are
+-- the rows of a list that are from one workload to another
 abbrev pub rows_between : ℕ → ℕ → List Row → List Row
 rows_between source destination rows = filter (is_between source destination) rows
 
@@ -76,7 +76,7 @@ abbrev pub is_of_address : ℕ → Direction → Family → ℕ → Row → Bool
 is_of_address workload Ingress family number row = is_address family number row.key.source && is_workload workload row.key.destination
 is_of_address workload Egress family number row = is_workload workload row.key.source && is_address family number row.key.destination
 
--- those rows of a list that are
+-- the rows of a list that are of the address and the workload
 abbrev pub rows_of_address : ℕ → Direction → Family → ℕ → List Row → List Row
 rows_of_address workload direction family number rows = filter (is_of_address workload direction family number) rows
 

@@ -22,7 +22,7 @@ number_of_workloads lists = length (folding_of lists).workloads
 abbrev pub IsWorkload : EstateLists → ℕ → Type 0
 IsWorkload lists number = number < number_of_workloads lists
 
--- whether a workload of one pod meets itself
+-- whether a workload of one pod meets itself; a template stands for one pod, whatever its `replicas` says
 abbrev pub is_alone : Folding → ℕ → ℕ → Bool
 is_alone folding source destination = source == destination && length (members_of folding source) == 1
 
@@ -39,7 +39,8 @@ abbrev pub between_pods : EstateLists → ℕ → ℕ → Family → PortSpot �
 between_pods lists source destination family spot =
     allows lists (record { source = pod (pod_at lists source); destination = pod (pod_at lists destination); family = family; spot = spot })
 
--- whether they are between two workloads, named by their numbers; a workload of one pod sends itself nothing
+-- Whether packets of a family between two workloads, named by their numbers, are allowed; a workload of one pod sends
+-- itself nothing.
 unfoldable pub pair_allows : EstateLists → Folding → ℕ → ℕ → Family → PortSpot → Bool
 pair_allows lists folding source destination family spot =
     not (is_alone folding source destination)
@@ -52,7 +53,8 @@ abbrev pub address_of : Family → ℕ → Address
 address_of family.Four number = address.Four number
 address_of family.Six number = address.Six number
 
--- a packet from an address, or to one
+-- Whether a packet from an address to an end, or from the end to it, is allowed. The address is taken as no pod's, even
+-- where a listed pod has it.
 abbrev pub with_address : EstateLists → Direction → End → Family → ℕ → PortSpot → Bool
 with_address lists Ingress near family number spot = allows lists (record { source = address (address_of family number); destination = near; family = family; spot = spot })
 with_address lists Egress near family number spot = allows lists (record { source = near; destination = address (address_of family number); family = family; spot = spot })
@@ -64,7 +66,8 @@ address_allows lists folding workload direction family number spot =
 
 -- ---- all of it
 
--- The names of the workloads in their order, the families of the list, and what is allowed between two workloads in a family, and between a workload and an address in a direction.
+-- The names of the workloads in their order, the families of the list, and what is allowed between two workloads in a
+-- family, and between a workload and an address in a direction.
 pub record Table : Type 0 where
   pub names : List (List ℕ)
   pub families : List Family

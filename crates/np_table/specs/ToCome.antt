@@ -18,7 +18,7 @@ pub record RowsToCome : Type 0 where
   pub rows : List Row
   pub due : ℕ
 
--- ---- steps from row to row: first the pairs of workloads, by source and then by destination, and then for each workload its addresses in the direction of ingress and in that of egress
+-- ---- steps from row to row: the pairs, by source and then by destination, and then each workload's addresses
 
 abbrev pub pair_count : ℕ → ℕ
 pair_count count = count * count
@@ -72,7 +72,9 @@ most_rules lists folding = greatest (map (λ workload. max (rules_of lists foldi
 abbrev pub due_for_kinds : EstateLists → Folding → List (Option (List KeptConns)) → ℕ
 due_for_kinds lists folding kept = 4 * most_rules lists folding * (folding.kind_count - kept_count kept)
 
--- With so many workloads and kinds, and rules at most that speak of one: among the pairs, four times the most for each kind and each source that has not begun, the same for each kind for which nothing is kept of the source at hand, and the most for each workload and direction; and behind the pairs the most for each place that is left.
+-- With so many workloads and kinds, and rules at most that speak of one: among the pairs, four times the most for each
+-- kind and each source that has not begun, the same for each kind for which nothing is kept of the source at hand, and
+-- the most for each workload and direction; and behind the pairs the most for each place that is left.
 unfoldable pub due_at : ℕ → ℕ → ℕ → ℕ → ℕ → ℕ
 due_at count kinds most unkept place =
     if nat_lt place (pair_count count) then most * (4 * (kinds * (count - 1 - place / count) + unkept) + 2 * count)

@@ -1,5 +1,6 @@
 //! The rows of the table, one after another.
-ghost use Rattle.std.specs.Prelude.{◌≡◌, ◌≤◌, ◌<◌, ◌+◌, ◌*◌, ◌/◌, ◌^◌, ◌∷◌, [], IfOk, OnErr, OnOk, MatchOption, length, map, reverse};
+ghost use Rattle.std.specs.Prelude.{◌≡◌, ◌≤◌, ◌<◌, ◌+◌, ◌*◌, ◌/◌, ◌^◌, ◌∷◌, []};
+ghost use Rattle.std.specs.Prelude.{IfOk, OnErr, OnOk, MatchOption, length, map, reverse};
 ghost use Rattle.np_fold.specs.Workloads.{folding_of};
 ghost use Rattle.np_policies.specs.declared.direction.Direction.{Direction};
 ghost use Rattle.np_table.specs.Kept.{IsKept};
@@ -50,7 +51,10 @@ impl<'a> Model for Rows<'a> {
 
     ghost Value = { RowsToCome };
 
-    ghost view = { λ r. record { rows = reverse r.ready.items ++ rows_from (estate_table r.folded.now) r.place; due = due_from r.folded.now (folding_of r.folded.now) r.place r.kept } };
+    ghost view = { λ r. record {
+      rows = reverse r.ready.items ++ rows_from (estate_table r.folded.now) r.place;
+      due = due_from r.folded.now (folding_of r.folded.now) r.place r.kept;
+    } };
 
     ghost invariant = { λ r. IsUnderWay r.folded.now r.place r.end r.kept × AreOfKindsIfAny r.folded.now r.rules };
 }

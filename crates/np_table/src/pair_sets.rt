@@ -1,5 +1,6 @@
 //! What passes between two pods, and so between two workloads.
-ghost use Rattle.std.specs.Prelude.{◌≡◌, ◌≢◌, ◌≤◌, ◌<◌, ◌+◌, ℕ, None, Some, Contains, length, true, if◌then◌else◌, IfOk, IfSome};
+ghost use Rattle.std.specs.Prelude.{◌≡◌, ◌≢◌, ◌≤◌, ◌<◌, ◌+◌, ℕ, if◌then◌else◌};
+ghost use Rattle.std.specs.Prelude.{None, Some, Contains, length, true, IfOk, IfSome};
 ghost use Rattle.np_conns.specs.Conns.{IsConns, has_spot, is_spot};
 ghost use Rattle.np_conns.specs.declared.port_spot.PortSpot.{PortSpot};
 ghost use Rattle.np_estate.specs.Lawful.{IsLawful};

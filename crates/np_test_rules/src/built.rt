@@ -7,7 +7,7 @@ use crate::written::{
     WrittenEstate, WrittenNamedPort, WrittenPeer, WrittenPod, WrittenPolicy, WrittenPort,
     WrittenRule,
 };
-use np_addr::{Address, Cidr, read_address, read_cidr};
+use np_addr::{Address, Addresses, Cidr, read_address, read_cidr};
 use np_base::{Point, PortNum, Seq, Text};
 use np_estate::{Estate, EstateLists, Notes, Owner, Pod};
 use np_labels::{Labels, Pair, Selector, SharedLabels};
@@ -190,7 +190,7 @@ impl Written for WrittenPod {
             name: Text::of(alloc, self.name)?,
             labels: labels(alloc, self.labels)?,
             ports: all_of(alloc, self.ports)?,
-            addresses: addresses(alloc, self.addresses)?,
+            addresses: Addresses::of(alloc, addresses(alloc, self.addresses)?)?,
             owner,
             listed: true,
         })

@@ -3,9 +3,10 @@ ghost use Rattle.std.specs.Prelude.{All, IfOk};
 ghost use Rattle.np_addr.specs.Addresses.{IsCidr};
 
 use np_addr::{
-    AddrSet, Address, BlockFault, Cidr, block_set, cidr_has, family_of, print_address,
+    AddrSet, Address, Addresses, BlockFault, Cidr, block_set, cidr_has, family_of, print_address,
     read_address, read_cidr,
 };
+use np_base::Seq;
 use std::alloc::Global;
 use std::test::Fail;
 
@@ -262,6 +263,39 @@ fn answer(alloc: Global, row: &Without) -> Result<&'static str, Fail> {
 fn blocks_without_parts(rt: HostRuntime) -> Result<(), Fail> {
     for row in WITHOUT {
         assert_eq!(rt; answer(rt.alloc(), row)?, row.3, "{row:?}");
+    }
+    Ok(())
+}
+
+// Each block, with whether one of the addresses 10.0.1.5, fd00::1, 10.0.0.1 and 192.168.7.9 is in it.
+static LOOKED_UP: &[(&str, bool)] = &[
+    ("0.0.0.0/0", true),
+    ("10.0.0.0/24", true),
+    ("10.0.0.0/32", false),
+    ("10.0.0.1/32", true),
+    ("10.0.0.2/31", false),
+    ("10.0.1.4/31", true),
+    ("10.0.2.0/23", false),
+    ("192.168.7.8/30", true),
+    ("192.168.7.10/31", false),
+    ("224.0.0.0/4", false),
+    ("::/0", true),
+    ("fd00::/127", true),
+    ("fd00::2/127", false),
+    ("fe80::/10", false),
+];
+
+#[test]
+fn blocks_are_looked_up_in_addresses(rt: HostRuntime) -> Result<(), Fail> {
+    let alloc = rt.alloc();
+    let mut listed = Seq::new(alloc);
+    for text in ["10.0.1.5", "fd00::1", "10.0.0.1", "192.168.7.9"] {
+        listed.push(read_address(text)?)?;
+    }
+    let addresses = Addresses::of(alloc, listed)?;
+    for (text, expected) in LOOKED_UP {
+        let cidr = read_cidr(text)?;
+        assert_eq!(rt; addresses.some_in(&cidr), *expected, "{text}");
     }
     Ok(())
 }
