@@ -9,9 +9,11 @@ pub mod FoundLemmas
 pub mod HeadlineLemmas
 pub mod ListingLemmas
 pub mod PromisesLemmas
+pub mod PuttingLemmas
 pub mod RowsLemmas
 pub mod RunsLemmas
 pub mod SampleLemmas
+pub mod ShownLemmas
 pub mod SourcesLemmas
 pub mod UnusedLemmas
 pub mod WroteLemmas

@@ -1,2 +1,3 @@
 -- What only the steps of the proofs speak of.
 pub mod Explaining
+pub mod Putting

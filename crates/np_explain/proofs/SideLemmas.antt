@@ -130,13 +130,13 @@ net_policy_within {S} {side} names place ids d policies are same there =
     slice_get_within policies (get_or ids place d).policy rule.0.policy (net_at names place ids d policies are same rule.0 rule.1).policy
 
 -- the NetworkPolicies that isolate the pod are there, and these are their names
-pub isolating_within : {S : Type 0} {side : PodSide} {layer : Layer S} {rules : LayerRules} (names : KeepsNames side layer rules) (places : List ℕ) (policies : List NetPolicy) → places ≡ rules.isolating → policies ≡ side.lists.net_policies → All (λ place. place < length policies) places
-isolating_within {S} {side} {layer} {rules} names places policies are same =
-    rw (are, same) (all-within side.lists.net_policies rules.isolating (filter (isolates side.direction (near_pod side)) side.lists.net_policies) names.isolating)
+pub isolating_within : (side : PodSide) (isolating places : List ℕ) (policies : List NetPolicy) → Pairwise (λ place policy. slice_get side.lists.net_policies place ≡ Some policy) isolating (filter (isolates side.direction (near_pod side)) side.lists.net_policies) → places ≡ isolating → policies ≡ side.lists.net_policies → All (λ place. place < length policies) places
+isolating_within side isolating places policies named are same =
+    rw (are, same) (all-within side.lists.net_policies isolating (filter (isolates side.direction (near_pod side)) side.lists.net_policies) named)
 
-pub isolating_named : {S : Type 0} {side : PodSide} {layer : Layer S} {rules : LayerRules} (names : KeepsNames side layer rules) (places : List ℕ) (policies : List NetPolicy) → places ≡ rules.isolating → policies ≡ side.lists.net_policies → map (policy_name_at policies) places ≡ isolating_names side.lists.net_policies side.direction (near_pod side)
-isolating_named {S} {side} {layer} {rules} names places policies are same =
-    rw (are, same) (names-at side.lists.net_policies rules.isolating (filter (isolates side.direction (near_pod side)) side.lists.net_policies) names.isolating)
+pub isolating_named : (side : PodSide) (isolating places : List ℕ) (policies : List NetPolicy) → Pairwise (λ place policy. slice_get side.lists.net_policies place ≡ Some policy) isolating (filter (isolates side.direction (near_pod side)) side.lists.net_policies) → places ≡ isolating → policies ≡ side.lists.net_policies → map (policy_name_at policies) places ≡ isolating_names side.lists.net_policies side.direction (near_pod side)
+isolating_named side isolating places policies named are same =
+    rw (are, same) (names-at side.lists.net_policies isolating (filter (isolates side.direction (near_pod side)) side.lists.net_policies) named)
 
 -- the name of a rule of the baseline
 pub base_name : (policy : List ℕ) (id : RuleId) (placed : PlacedBaseRule) → policy ≡ codes "default" → NamesBase id placed → record { policy = policy; place = id.place } ≡ base_rule_name placed

@@ -82,3 +82,8 @@ pub record KeepsNames {S : Type 0} (side : PodSide) (layer : Layer S) (rules : L
   pub net : Pairwise (NamesNet side.lists.net_policies) rules.net (net_rules side)
   pub isolating : Pairwise (λ place policy. slice_get side.lists.net_policies place ≡ Some policy) rules.isolating (filter (isolates side.direction (near_pod side)) side.lists.net_policies)
   pub base : Pairwise NamesBase rules.base (base_rules side)
+
+-- so they are, and the names that are held are those of the NetworkPolicies that isolate the pod
+pub record KeepsSide {S : Type 0} (side : PodSide) (layer : Layer S) (rules : LayerRules) (held : List (List ℕ)) : Type 0 where
+  pub names : KeepsNames side layer rules
+  pub isolating : held ≡ isolating_names side.lists.net_policies side.direction (near_pod side)

@@ -33,7 +33,7 @@ pub fn print_decider(
             format!(in alloc; "Allow by NetworkPolicy {rule}{pass}")?
         }
         Decider::Isolated { pass, policies } => {
-            let policies = names_text(alloc, policies.items())?;
+            let policies = names_text(alloc, policies.names())?;
             let pass = pass_text(alloc, direction, pass)?;
             format!(in alloc; "Deny since isolated by NetworkPolicy {policies}{pass}")?
         }

@@ -72,7 +72,7 @@ fn same_decider(one: &Decider, other: &Decider) -> bool
                 pass: passed,
                 policies: others,
             },
-        ) => same_pass(pass, passed) && policies.items() == others.items(),
+        ) => same_pass(pass, passed) && policies.names() == others.names(),
         (
             Decider::Base { pass, rule, allow },
             Decider::Base {

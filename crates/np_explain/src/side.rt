@@ -4,24 +4,25 @@ ghost use Rattle.std.specs.List.{slice_get};
 ghost use Rattle.np_estate.specs.Lawful.{IsFew};
 ghost use Rattle.np_explain.specs.Marks.{IsMarkOf, IsPassOf, SaysActions, admin_rules, base_rules, mark_decider, net_rules, pass_name};
 ghost use Rattle.np_policies.specs.declared.admin_policy.Action.{Action as PolicyAction};
-ghost use Rattle.np_rules.specs.Deciders.{admin_rule_name, base_rule_name, isolating_names, net_rule_name};
+ghost use Rattle.np_rules.specs.Deciders.{admin_rule_name, base_rule_name, net_rule_name};
 ghost use Rattle.np_rules.specs.Layers.{tier_action};
 ghost use Rattle.np_rules.specs.Places.{PlacedAdminRule, PlacedBaseRule, PlacedNetRule};
-ghost use Rattle.np_rules.specs.PodSides.{near_pod, side_of};
+ghost use Rattle.np_rules.specs.PodSides.{side_of};
 ghost use Rattle.np_rules.specs.Sides.{is_allow};
 
 use crate::rule_names::{admin_rule_name, net_policy_names, net_rule_name};
-use np_base::{NoMemory, Seq, Text};
+use np_base::{NoMemory, Text};
 use np_conns::ConnSet;
 use np_estate::Estate;
 use np_policies::Direction;
-use np_rules::{Decider, LayerRules, RuleName, layer_rules};
+use np_rules::{Decider, LayerRules, PolicyNames, RuleName, layer_rules};
 use np_tiers::{Action, Layer, Mark};
 use std::alloc::Global;
 use std::marker::Model;
 
-/// The rules that speak of a pod in a direction: what they say, by its layer, and how they are named. Contracts see the
-/// estate's lists, the pod's place among its pods, and the direction.
+/// The rules that speak of a pod in a direction: what they say, by its layer, and how they are named. The names of the
+/// NetworkPolicies that isolate the pod are held once, whatever number of deciders have them. Contracts see the estate's lists,
+/// the pod's place among its pods, and the direction.
 #[derive(Drop)]
 pub(crate) struct Side<'a> {
     estate: &'a Estate,
@@ -29,17 +30,18 @@ pub(crate) struct Side<'a> {
     direction: Direction,
     layer: &'a Layer<ConnSet>,
     rules: LayerRules,
+    isolating: PolicyNames,
 }
 
 impl<'a> Model for Side<'a> {
-    ghost use Rattle.np_explain.specs.Marks.{KeepsNames};
+    ghost use Rattle.np_explain.specs.Marks.{KeepsSide};
     ghost use Rattle.np_rules.specs.PodSides.{PodSide, side_of};
 
     ghost Value = { PodSide };
 
     ghost view = { λ s. side_of s.estate.now s.pod s.direction };
 
-    ghost invariant = { λ s. KeepsNames (side_of s.estate.now s.pod s.direction) s.layer.now s.rules };
+    ghost invariant = { λ s. KeepsSide (side_of s.estate.now s.pod s.direction) s.layer.now s.rules s.isolating };
 }
 
 impl<'a> Side<'a> {
@@ -57,12 +59,15 @@ impl<'a> Side<'a> {
         ensures { IfOk result (λ made. made ≡ side_of estate.now pod direction) }
     {
         let rules = layer_rules(alloc, estate, pod, direction)?;
+        let names = net_policy_names(alloc, estate.net_policies(), rules.isolating.items())?;
+        let isolating = PolicyNames::of(alloc, names)?;
         Ok(Side {
             estate,
             pod,
             direction,
             layer,
             rules,
+            isolating,
         })
     }
 
@@ -83,7 +88,7 @@ impl<'a> Side<'a> {
                 Ok(Decider::Net { pass, rule })
             }
             Mark::Isolated { pass } => {
-                let policies = self.isolating(alloc)?;
+                let policies = self.isolating.share()?;
                 let pass = self.pass_rule(pass)?;
                 Ok(Decider::Isolated { pass, policies })
             }
@@ -138,18 +143,6 @@ impl<'a> Side<'a> {
     {
         let id = self.rules.net.items()[place as usize];
         net_rule_name(alloc, self.estate.net_policies(), id)
-    }
-
-    // The names of the NetworkPolicies that isolate the pod.
-    fn isolating(&self, alloc: Global) -> Result<Seq<Text>, NoMemory>
-        ensures { IfOk result (λ names. names
-            ≡ isolating_names self.now.lists.net_policies self.now.direction (near_pod self.now)) }
-    {
-        net_policy_names(
-            alloc,
-            self.estate.net_policies(),
-            self.rules.isolating.items(),
-        )
     }
 
     // The name of a rule of the baseline.

@@ -1,6 +1,7 @@
 //! What decides a packet at one of its ends.
 
-use np_base::{Seq, Text};
+use crate::policy_names::PolicyNames;
+use np_base::Text;
 
 /// A rule, by the name of its policy and its place among the policy's rules of the direction, from 0. A NetworkPolicy is
 /// named `namespace/name`.
@@ -28,7 +29,7 @@ pub enum Decider {
     /// These NetworkPolicies isolate the pod, and no rule of them matches.
     Isolated {
         pass: Option<RuleName>,
-        policies: Seq<Text>,
+        policies: PolicyNames,
     },
     /// A rule of the BaselineAdminNetworkPolicy.
     Base {

@@ -3,7 +3,8 @@
 ghost use Rattle.std.specs.Prelude.{◌≡◌, ◌+◌, ◌≤◌, ◌<◌, length, IfOk, OnOk};
 ghost use Rattle.np_conns.specs.Conns.{is_spot, has_spot};
 ghost use Rattle.np_rules.specs.EveryAddress.{has_place, is_place};
-ghost use Rattle.np_rules.specs.PodSides.{IsSideLayer, SaysVerdicts, side_of, side_rule_count, with_addresses, with_pod, with_point, with_stranger};
+ghost use Rattle.np_rules.specs.PodSides.{IsSideLayer, SaysVerdicts, side_of, side_rule_count};
+ghost use Rattle.np_rules.specs.PodSides.{with_addresses, with_pod, with_point, with_stranger};
 
 use crate::every_address::AddrConns;
 use crate::pod_rules::PodRules;

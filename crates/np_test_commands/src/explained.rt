@@ -2,15 +2,16 @@
 
 use crate::asked::{Question, expect_answers};
 use np_addr::Family;
-use np_base::NoMemory;
+use np_base::{NoMemory, Seq, Text};
 use np_conns::print_conns;
 use np_explain::{explain, print_decider};
 use np_fold::Folded;
 use np_policies::Direction;
-use np_rules::End;
+use np_rules::{Decider, End, PolicyNames};
 use np_steps::Steps;
 use std::alloc::Global;
 use std::sync::ledger::Ledger;
+use std::test::Fail;
 
 /// What decides between two pods at a side.
 pub fn explained_text<L: Ledger>(
@@ -90,4 +91,24 @@ fn each_tier_decides(rt: HostRuntime) {
         ),
     ];
     expect_answers(&rt, rt.alloc(), ITEMS, WANTED);
+}
+
+// A decider that holds a list of names of which another one is held.
+#[test]
+fn names_are_shared(rt: HostRuntime) -> Result<(), Fail> {
+    static WANTED: &str = "Deny since isolated by NetworkPolicy shop/open, shop/shut";
+    let alloc = rt.alloc();
+    let mut names = Seq::new(alloc);
+    names.push(Text::of(alloc, "shop/open")?)?;
+    names.push(Text::of(alloc, "shop/shut")?)?;
+    let names = PolicyNames::of(alloc, names)?;
+    let policies = names.share()?;
+    assert!(rt; policies.names() == names.names());
+    let decider = Decider::Isolated {
+        pass: None,
+        policies,
+    };
+    let text = print_decider(alloc, Direction::Ingress, &decider)?;
+    assert_eq!(rt; text.as_str(), WANTED);
+    Ok(())
 }

@@ -1,11 +1,18 @@
--- Ends that are there.
-use Rattle.std.specs.Prelude.{◌≡◌, ◌<◌, length, false}
+-- Ends that are there, and lines of the text of what decides between them.
+use Rattle.std.specs.Prelude.{◌≡◌, ◌<◌, ℕ, List, ◌++◌, length, codes, false, Option}
+use Rattle.np_addr.specs.declared.address.Family.{Family}
 use Rattle.np_cli.specs.declared.commands.explain.AskedEnd.{AskedEnd}
 use Rattle.np_cli.specs.declared.commands.explain.AskedEnd.TheVariants.{At, Work}
 use Rattle.np_cli.specs.declared.commands.explain.Ends.{Ends}
+use Rattle.np_cli.specs.declared.commands.explain.Shown.{Shown}
+use Rattle.np_conns.specs.Conns.{has_spot}
+use Rattle.np_conns.specs.ConnsText.{conns_text}
 use Rattle.np_estate.specs.declared.lists.EstateLists.{EstateLists}
+use Rattle.np_explain.specs.DeciderText.{direction_text}
 use Rattle.np_explain.specs.Sides.{are_one_pod}
 use Rattle.np_fold.specs.Workloads.{Folding, members_of}
+use Rattle.np_policies.specs.declared.direction.Direction.{Direction}
+use Rattle.np_report.specs.RowText.{mark_text}
 use Rattle.np_rules.specs.Verdict.{IsEndOf}
 use Rattle.np_table.specs.Table.{IsWorkload}
 
@@ -24,3 +31,13 @@ pub record AreEnds (lists : EstateLists) (ends : Ends) : Type 0 where
   pub source : IsEndOf lists ends.source
   pub destination : IsEndOf lists ends.destination
   pub apart : are_one_pod ends.source ends.destination ≡ false
+
+-- ---- lines of the text
+
+-- `egress of end`, where a mark may follow
+abbrev pub head_line : Direction → List ℕ → Option Family → List ℕ
+head_line direction name mark = direction_text direction ++ codes " of " ++ name ++ mark_text mark ++ codes "\n"
+
+-- `from => to : connections`, where a mark may follow the ends
+abbrev pub row_line : List ℕ → List ℕ → Shown → List ℕ
+row_line from to one = from ++ codes " => " ++ to ++ mark_text one.mark ++ codes " : " ++ conns_text (has_spot one.made.conns) ++ codes "\n"

@@ -1,10 +1,12 @@
 //! `explain`: what decides between two ends.
-ghost use Rattle.std.specs.Prelude.{◌≡◌, ◌≤◌, ◌++◌, IfOk, None, OnOk, Some, flat_map, if◌then◌else◌, string_bytes};
+ghost use Rattle.std.specs.Prelude.{◌≡◌, ◌≤◌, IfOk, None, Some, if◌then◌else◌, string_bytes};
 ghost use Rattle.np_cli.specs.Inputs.{Gives};
 ghost use Rattle.np_cli.specs.Prints.{Wrote};
 ghost use Rattle.np_cli.specs.Sinks.{sunk};
+ghost use Rattle.np_cli.specs.Written.{Writes};
 ghost use Rattle.np_cli.specs.commands.Explain as spec;
-ghost use Rattle.np_cli.specs.steps.Explaining.{AreEnds, HasPods, IsAsked};
+ghost use Rattle.np_cli.specs.steps.Explaining.{AreEnds, HasPods, IsAsked, head_line, row_line};
+ghost use Rattle.np_cli.specs.steps.Putting.{Puts};
 ghost use Rattle.np_estate.specs.Lawful.{IsLawful};
 ghost use Rattle.np_explain.specs.Explanations.{explanation_of};
 ghost use Rattle.np_explain.specs.Sides.{IsFamilyOf};
@@ -13,13 +15,14 @@ ghost use Rattle.np_fold.specs.Workloads.{folding_of};
 use crate::commands::ends::{end_text, family_asked, mark_text, workload_of};
 use crate::failure::Failure;
 use crate::fault::Fault;
+use crate::write_fault::WriteFault;
 use np_addr::{Address, Family};
 use np_base::{NoMemory, Seq, Text};
 use np_conns::print_conns;
 use np_estate::Estate;
 use np_explain::{Explanation, Part, explain_sides, print_decider, same_sides};
 use np_fold::{Folded, Workloads};
-use np_io::{Sink, write_whole};
+use np_io::{Gathered, Sink};
 use np_policies::Direction;
 use np_rules::End;
 use np_steps::Steps;
@@ -51,7 +54,7 @@ struct Shown {
 /// Writes what decides between two ends: for each side what decides, with all that it decides, and then the row of what passes.
 /// It is written once, or for each family where both ends are pods and either side has other parts in the list's two families.
 /// `UnknownEnd` comes exactly where a word names no workload, with the first such word, and `SameEnd` exactly where both name
-/// one workload of one pod.
+/// one workload of one pod, before the first byte is written.
 #[tactic(auto, unfolding(crate::specs::commands::Explain::explain_reply))]
 pub(super) fn explain<O: Sink, L: Ledger>(
     alloc: Global,
@@ -68,8 +71,7 @@ pub(super) fn explain<O: Sink, L: Ledger>(
     let shown = explanations(alloc, folded.estate(), &ends, steps)?;
     let from = end_text(alloc, from)?;
     let to = end_text(alloc, to)?;
-    let text = explain_text(alloc, &from, &to, shown.items())?;
-    write_whole(out, text.as_bytes())?;
+    write_shown(alloc, &from, &to, shown.items(), out)?;
     Ok(())
 }
 
@@ -224,90 +226,117 @@ fn of_both(alloc: Global, four: Explanation, six: Explanation) -> Result<Seq<Sho
 
 // ---- text
 
-// The text of what is shown.
+// Writes what is shown. Lines are gathered, so that many of them are one call of the sink, and no more of the text is held.
 #[tactic(auto, unfolding(crate::specs::commands::Explain::explain_text))]
-fn explain_text(alloc: Global, from: &Text, to: &Text, shown: &[Shown]) -> Result<String, NoMemory>
-    ensures { IfOk result (λ text. string_bytes text ≡ spec.explain_text from.now to.now shown.now) }
-{
-    let mut text = String::new(alloc);
-    for one in shown {
-        push_shown(alloc, &mut text, from, to, one)?;
-    }
-    Ok(text)
-}
-
-// Appends both sides of an explanation, and the row of what passes.
-#[tactic(auto, unfolding(crate::specs::commands::Explain::shown_text))]
-fn push_shown(
+fn write_shown<O: Sink>(
     alloc: Global,
-    text: &mut String,
     from: &Text,
     to: &Text,
-    one: &Shown,
-) -> Result<(), NoMemory>
-    ensures { OnOk result (string_bytes text.new ≡ string_bytes text.old ++ spec.shown_text from.now to.now one.now) }
+    shown: &[Shown],
+    out: &mut O,
+) -> Result<(), WriteFault>
+    ensures { Writes (sunk O.taken O.faults out.old out.new) (spec.explain_text from.now to.now shown.now) result }
 {
-    let Shown { mark, made } = one;
-    push_side(
-        alloc,
-        text,
-        Direction::Egress,
-        from,
-        *mark,
-        made.egress.items(),
-    )?;
-    push_side(
-        alloc,
-        text,
-        Direction::Ingress,
-        to,
-        *mark,
-        made.ingress.items(),
-    )?;
-    let mark = mark_text(*mark);
-    let conns = print_conns(alloc, &made.conns)?;
-    let row = format!(in alloc; "{from} => {to}{mark} : {conns}\n")?;
-    text.push_str(row.as_str())?;
+    let mut gathered = Gathered::new(alloc)?;
+    for one in shown {
+        put_shown(alloc, &mut gathered, out, from, to, one)?;
+    }
+    gathered.finish(out)?;
     Ok(())
 }
 
-// Appends what decides at a side, under the name of its end.
-#[tactic(auto, unfolding(crate::specs::commands::Explain::side_text))]
-fn push_side(
+// Puts both sides of an explanation, and the row of what passes.
+fn put_shown<O: Sink>(
     alloc: Global,
-    text: &mut String,
+    gathered: &mut Gathered,
+    out: &mut O,
+    from: &Text,
+    to: &Text,
+    one: &Shown,
+) -> Result<(), WriteFault>
+    ensures { Puts (sunk O.taken O.faults out.old out.new) gathered.old gathered.new
+        (spec.shown_text from.now to.now one.now)
+        result }
+{
+    let Shown { mark, made } = one;
+    let (sent, received) = (&made.egress, &made.ingress);
+    put_side(
+        alloc,
+        gathered,
+        out,
+        Direction::Egress,
+        from,
+        *mark,
+        sent.items(),
+    )?;
+    put_side(
+        alloc,
+        gathered,
+        out,
+        Direction::Ingress,
+        to,
+        *mark,
+        received.items(),
+    )?;
+    let row = row_line(alloc, from, to, one)?;
+    gathered.put(out, row.as_bytes())?;
+    Ok(())
+}
+
+// Puts what decides at a side, under the name of its end.
+fn put_side<O: Sink>(
+    alloc: Global,
+    gathered: &mut Gathered,
+    out: &mut O,
     direction: Direction,
     name: &Text,
     mark: Option<Family>,
     parts: &[Part],
-) -> Result<(), NoMemory>
-    ensures { OnOk result (string_bytes text.new ≡ string_bytes text.old ++ spec.side_text direction name.now mark parts.now) }
+) -> Result<(), WriteFault>
+    ensures { Puts (sunk O.taken O.faults out.old out.new) gathered.old gathered.new
+        (spec.side_text direction name.now mark parts.now)
+        result }
+{
+    let head = head_line(alloc, direction, name, mark)?;
+    gathered.put(out, head.as_bytes())?;
+    for part in parts {
+        let line = part_line(alloc, direction, part)?;
+        gathered.put(out, line.as_bytes())?;
+    }
+    Ok(())
+}
+
+// `egress of end`, where a mark may follow.
+fn head_line(
+    alloc: Global,
+    direction: Direction,
+    name: &Text,
+    mark: Option<Family>,
+) -> Result<String, NoMemory>
+    ensures { IfOk result (λ line. string_bytes line ≡ head_line direction name.now mark) }
 {
     let side = match direction {
         Direction::Egress => "egress",
         Direction::Ingress => "ingress",
     };
     let mark = mark_text(mark);
-    let head = format!(in alloc; "{side} of {name}{mark}\n")?;
-    text.push_str(head.as_str())?;
-    push_parts(alloc, text, direction, parts)
+    Ok(format!(in alloc; "{side} of {name}{mark}\n")?)
 }
 
-// Appends a line for each part.
-fn push_parts(
-    alloc: Global,
-    text: &mut String,
-    direction: Direction,
-    parts: &[Part],
-) -> Result<(), NoMemory>
-    ensures { OnOk result (string_bytes text.new
-        ≡ string_bytes text.old ++ flat_map (spec.part_line direction) parts.now) }
+// `connections : decider`.
+fn part_line(alloc: Global, direction: Direction, part: &Part) -> Result<String, NoMemory>
+    ensures { IfOk result (λ line. string_bytes line ≡ spec.part_line direction part.now) }
 {
-    for part in parts {
-        let conns = print_conns(alloc, &part.conns)?;
-        let decider = print_decider(alloc, direction, &part.decider)?;
-        let line = format!(in alloc; "{conns} : {decider}\n")?;
-        text.push_str(line.as_str())?;
-    }
-    Ok(())
+    let conns = print_conns(alloc, &part.conns)?;
+    let decider = print_decider(alloc, direction, &part.decider)?;
+    Ok(format!(in alloc; "{conns} : {decider}\n")?)
+}
+
+// `from => to : connections`, where a mark may follow the ends.
+fn row_line(alloc: Global, from: &Text, to: &Text, one: &Shown) -> Result<String, NoMemory>
+    ensures { IfOk result (λ line. string_bytes line ≡ row_line from.now to.now one.now) }
+{
+    let mark = mark_text(one.mark);
+    let conns = print_conns(alloc, &one.made.conns)?;
+    Ok(format!(in alloc; "{from} => {to}{mark} : {conns}\n")?)
 }
