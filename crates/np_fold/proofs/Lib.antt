@@ -1,6 +1,7 @@
 pub mod AlikeLemmas
 pub mod BlockLemmas
 pub mod FoldLemmas
+pub mod InForceLemmas
 pub mod LabelLemmas
 pub mod MemberLemmas
 pub mod NumberLemmas

@@ -22,7 +22,8 @@ use mathlib.Core.Bool.{beq}
 abbrev pub is_in : List Address → Cidr → Bool
 is_in addresses cidr = list_any (cidr_has cidr) addresses
 
--- two pods have the same namespace, the same values of the keys that selectors name, the same named ports, and addresses in the same blocks
+-- Two pods have the same namespace, the same values of the keys that selectors name, the same named ports, and
+-- addresses in the same blocks.
 pub record IsSameKind (lists : EstateLists) (a b : Pod) : Type 0 where
   pub namespace : a.namespace ≡ b.namespace
   pub labels : (key : List ℕ) → is_listed (keys_of_estate lists) key ≡ true → value_of a.labels key ≡ value_of b.labels key
@@ -50,7 +51,9 @@ have_same_value a b key = option_eq bytes_eq (value_of a.labels key) (value_of b
 abbrev pub are_both_in : Pod → Pod → Cidr → Bool
 are_both_in a b cidr = beq (is_in a.addresses cidr) (is_in b.addresses cidr)
 
--- whether two pods are of one kind
+-- Whether two pods are of one kind: they are of one namespace, have the same value of each label key that a selector of
+-- any policy or Service names, the same named ports in the same order, and addresses in the same blocks of `networks`
+-- peers. No rule of a lawful estate can tell such pods apart; two that no rule tells apart may still be of two kinds.
 unfoldable pub are_same_kind : EstateLists → Pod → Pod → Bool
 are_same_kind lists a b =
     bytes_eq a.namespace b.namespace
@@ -58,6 +61,6 @@ are_same_kind lists a b =
     && pointwise are_same_port a.ports b.ports
     && list_all (are_both_in a b) (cidrs_of_estate lists)
 
--- whether two pods are alike
+-- whether two pods are alike: of one kind, and with top owners of one kind and one name
 unfoldable pub are_alike : EstateLists → Pod → Pod → Bool
 are_alike lists a b = are_same_kind lists a b && are_same_owner a.owner b.owner

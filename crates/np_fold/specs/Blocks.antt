@@ -22,7 +22,7 @@ cidrs_of_admin_policy policy = flat_map cidrs_of_rule policy.ingress ++ flat_map
 abbrev pub cidrs_of_base_policy : BasePolicy → List Cidr
 cidrs_of_base_policy policy = flat_map cidrs_of_rule policy.ingress ++ flat_map cidrs_of_rule policy.egress
 
--- those of a baseline that may be missing
+-- the blocks of a baseline that may be missing
 abbrev pub cidrs_of_baseline : Option BasePolicy → List Cidr
 cidrs_of_baseline None = []
 cidrs_of_baseline (Some policy) = cidrs_of_base_policy policy

@@ -23,7 +23,7 @@ use Rattle.np_policies.specs.declared.network_policy.NetRule.{NetRule}
 abbrev pub keys_of_selector : Selector → List (List ℕ)
 keys_of_selector selector = map (λ requirement. requirement.key) selector.requirements
 
--- those of a selector that may be missing
+-- the keys of a selector that may be missing
 abbrev pub keys_of_optional : Option Selector → List (List ℕ)
 keys_of_optional None = []
 keys_of_optional (Some selector) = keys_of_selector selector
@@ -37,7 +37,7 @@ keys_of_net_peer (net.Block cidr excepts) = []
 abbrev pub keys_of_net_rule : NetRule → List (List ℕ)
 keys_of_net_rule rule = flat_map keys_of_net_peer rule.peers
 
--- those of a direction that may be missing
+-- the keys of a direction that may be missing
 abbrev pub keys_of_net_direction : Option (List NetRule) → List (List ℕ)
 keys_of_net_direction None = []
 keys_of_net_direction (Some rules) = flat_map keys_of_net_rule rules
@@ -63,7 +63,7 @@ keys_of_admin_policy policy = keys_of_subject policy.subject ++ flat_map keys_of
 abbrev pub keys_of_base_policy : BasePolicy → List (List ℕ)
 keys_of_base_policy policy = keys_of_subject policy.subject ++ flat_map keys_of_admin_rule policy.ingress ++ flat_map keys_of_admin_rule policy.egress
 
--- those of a baseline that may be missing
+-- the keys of a baseline that may be missing
 abbrev pub keys_of_baseline : Option BasePolicy → List (List ℕ)
 keys_of_baseline None = []
 keys_of_baseline (Some policy) = keys_of_base_policy policy
@@ -75,7 +75,9 @@ keys_of_service service = keys_of_optional service.selector
 
 -- the keys that a selector of some policy or service names
 abbrev pub keys_of_estate : EstateLists → List (List ℕ)
-keys_of_estate lists = flat_map keys_of_net_policy lists.net_policies ++ flat_map keys_of_admin_policy lists.admin_policies ++ keys_of_baseline lists.baseline ++ flat_map keys_of_service lists.services
+keys_of_estate lists =
+    flat_map keys_of_net_policy lists.net_policies ++ flat_map keys_of_admin_policy lists.admin_policies
+    ++ keys_of_baseline lists.baseline ++ flat_map keys_of_service lists.services
 
 -- keys in ascending order, and more of them, each put in at its place
 abbrev pub with_keys : List (List ℕ) → List (List ℕ) → List (List ℕ)

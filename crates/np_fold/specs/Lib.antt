@@ -1,6 +1,7 @@
 pub mod Alike
 pub mod Blocks
 pub mod Faults
+pub mod InForce
 pub mod Keys
 pub mod Order
 pub mod Traits

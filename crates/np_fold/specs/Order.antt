@@ -1,4 +1,4 @@
--- The order of traits.
+-- The order of traits, which are what rules see of a pod: namespace, owner, labels, named ports and blocks.
 use Rattle.std.specs.Prelude.{ℕ, List}
 use Rattle.std.specs.Cmp.{IsTotalOrder, nat_cmp_total, on_total, then_total}
 use Rattle.std.specs.Cmp.Lexicographic.{slice_cmp, lists_total, nat_list_cmp_total}
@@ -35,7 +35,13 @@ compare_labels a b = ordering_then (compare_texts a.key b.key) (compare_texts a.
 
 -- field by field: a list goes by its first difference
 abbrev pub compare_traits : Traits → Traits → Ordering
-compare_traits = then_cmp (then_cmp (then_cmp (then_cmp (on (λ traits. traits.namespace) compare_texts) (on (λ traits. traits.owner) compare_owners)) (on (λ traits. traits.labels) (slice_cmp compare_labels))) (on (λ traits. traits.ports) (slice_cmp compare_ports))) (on (λ traits. traits.blocks) (slice_cmp nat_cmp))
+compare_traits =
+    then_cmp (then_cmp (then_cmp (then_cmp
+    (on (λ traits. traits.namespace) compare_texts)
+    (on (λ traits. traits.owner) compare_owners))
+    (on (λ traits. traits.labels) (slice_cmp compare_labels)))
+    (on (λ traits. traits.ports) (slice_cmp compare_ports)))
+    (on (λ traits. traits.blocks) (slice_cmp nat_cmp))
 
 -- ---- these orders are total
 
@@ -43,7 +49,9 @@ owners_total : IsTotalOrder compare_owners
 owners_total = then_total (on_total (λ (o : Owner). o.kind) nat_list_cmp_total) (on_total (λ (o : Owner). o.name) nat_list_cmp_total)
 
 ports_total : IsTotalOrder compare_ports
-ports_total = then_total (then_total (on_total (λ (p : NamedPort). p.name) nat_list_cmp_total) (on_total (λ (p : NamedPort). rank p.proto) nat_cmp_total)) (on_total (λ (p : NamedPort). p.number) nat_cmp_total)
+ports_total =
+    then_total (then_total (on_total (λ (p : NamedPort). p.name) nat_list_cmp_total) (on_total (λ (p : NamedPort). rank p.proto) nat_cmp_total))
+    (on_total (λ (p : NamedPort). p.number) nat_cmp_total)
 
 labels_total : IsTotalOrder compare_labels
 labels_total = then_total (on_total (λ (l : Label). l.key) nat_list_cmp_total) (on_total (λ (l : Label). l.value) nat_list_cmp_total)

@@ -19,7 +19,9 @@ pub record Workload : Type 0 where
   pub name : List ℕ
   pub members : List ℕ
 
--- The workloads in the order of their names, the number of each pod's workload, the number of each workload's kind, how many kinds there are, the first workload of each, and the keys of labels that selectors name, in ascending order.
+-- The workloads in the order of their names, the number of each pod's workload, the number of each workload's kind, how
+-- many kinds there are, the first workload of each, and the keys of labels that selectors name, in ascending order. A
+-- kind is that of `are_same_kind`, and no kind of Kubernetes objects.
 pub record Folding : Type 0 where
   pub workloads : List Workload
   pub numbers : List ℕ
@@ -52,11 +54,12 @@ pods_like lists place = members (pods_alike lists) (length lists.pods) place
 abbrev pub owner_name : Pod → List ℕ
 owner_name pod = pod.namespace ++ codes "/" ++ pod.owner.name ++ codes "[" ++ pod.owner.kind ++ codes "]"
 
--- the same of the pod at a place
+-- the name of the top owner of the pod at a place
 abbrev pub owner_name_at : EstateLists → ℕ → List ℕ
 owner_name_at lists place = option_map_or owner_name (slice_get lists.pods place) []
 
--- those of the first pods: where several workloads have one owner, a number follows its name
+-- The names of the top owners of the first pods. Where several workloads have one owner, `#` and a number follow its
+-- name, from 1 in the order in which their first pods stand in the inputs.
 abbrev pub owner_names : EstateLists → List (List ℕ)
 owner_names lists = map (owner_name_at lists) (first_pods lists)
 
@@ -71,7 +74,8 @@ first_of lists one = slice_index (first_pods lists) one.place
 abbrev pub workload : EstateLists → Named → Workload
 workload lists one = record { name = one.name; members = pods_like lists (first_of lists one) }
 
--- the workloads in the byte order of their names, which gives them their numbers, from 0
+-- The workloads in the byte order of their names, in which one that ends in `#10` stands before one that ends in `#2`.
+-- This order gives them their numbers, from 0.
 unfoldable pub workloads_of : EstateLists → List Workload
 workloads_of lists = map (workload lists) (named_first_pods lists)
 
@@ -112,4 +116,11 @@ number_named folding name = position (λ one. bytes_eq one.name name) folding.wo
 
 -- the folding of an estate; kinds are numbered from 0 by the first workload of each
 unfoldable pub folding_of : EstateLists → Folding
-folding_of lists = record { workloads = workloads_of lists; numbers = map (number_of lists) (places (length lists.pods)); kinds = map (class_of (kinds_alike lists) (workload_count lists)) (places (workload_count lists)); kind_count = length (firsts (kinds_alike lists) (workload_count lists)); first_of_kinds = firsts (kinds_alike lists) (workload_count lists); relevant = with_keys [] (keys_of_estate lists) }
+folding_of lists = record {
+  workloads = workloads_of lists;
+  numbers = map (number_of lists) (places (length lists.pods));
+  kinds = map (class_of (kinds_alike lists) (workload_count lists)) (places (workload_count lists));
+  kind_count = length (firsts (kinds_alike lists) (workload_count lists));
+  first_of_kinds = firsts (kinds_alike lists) (workload_count lists);
+  relevant = with_keys [] (keys_of_estate lists);
+}

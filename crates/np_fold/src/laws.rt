@@ -9,6 +9,7 @@ ghost use Rattle.np_estate.specs.declared.pod.Pod.{Pod};
 ghost use Rattle.np_estate.specs.Lawful.{is_well_pod};
 ghost use Rattle.np_fold.specs.Alike.{Alike, IsSameKind, are_alike, are_same_kind};
 ghost use Rattle.np_fold.specs.Blocks.{cidrs_of_estate};
+ghost use Rattle.np_fold.specs.InForce.{IsNamed};
 ghost use Rattle.np_fold.specs.Keys.{keys_of_estate};
 ghost use Rattle.np_fold.specs.Order.{compare_traits};
 ghost use Rattle.np_fold.specs.Traits.{traits_of, with_owner};
@@ -32,6 +33,12 @@ pub fn other_traits_tell_kinds_apart()
         → ((key : List ℕ) → is_listed keys key ≡ is_listed (keys_of_estate lists) key) → (a b : Pod) (owner : Owner)
         → (with_owner owner (traits_of keys (cidrs_of_estate lists) a) ≡ with_owner owner (traits_of keys (cidrs_of_estate lists) b))
         ↔ IsSameKind lists a b }
+{}
+
+/// Labels tell pods apart by no key but those that a selector in force names: that of a Service, of the pods that a policy
+/// is for, or of a peer of a policy's rule.
+pub fn each_key_is_named_by_a_selector()
+    ensures { (lists : EstateLists) (key : List ℕ) → is_listed (keys_of_estate lists) key ≡ true → IsNamed lists key }
 {}
 
 /// Traits tie in their order exactly where they are equal.

@@ -45,7 +45,14 @@ impl Model for Workloads {
 
     ghost Value = { Folding };
 
-    ghost view = { λ w. record { workloads = map workload_of_entry w.by_name.entries; numbers = w.numbers; kinds = w.kinds.numbers; kind_count = length w.kinds.firsts; first_of_kinds = w.kinds.firsts; relevant = w.relevant } };
+    ghost view = { λ w. record {
+      workloads = map workload_of_entry w.by_name.entries;
+      numbers = w.numbers;
+      kinds = w.kinds.numbers;
+      kind_count = length w.kinds.firsts;
+      first_of_kinds = w.kinds.firsts;
+      relevant = w.relevant;
+    } };
 
     // Numbers of workloads and of kinds fit.
     ghost invariant = { λ w. (length w.by_name.entries < 2 ^ 32) × (length w.kinds.firsts < 2 ^ 32) };

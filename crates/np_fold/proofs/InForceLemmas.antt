@@ -1,0 +1,145 @@
+-- A key that is among those of the estate is one that a selector in force names.
+use Rattle.std.proofs.Common.{◌≡◌, ℕ, suc, List, [], ◌∷◌, ◌++◌, Option, Some, None, true, inl, inr, refl, sym, ap, ◌∙◌, arith}
+use Rattle.std.specs.Prelude.{◌⊎◌, Contains}
+use Rattle.std.specs.List.{flat_map}
+use Rattle.std.specs.Str.{bytes_eq}
+use Rattle.std.proofs.lemmas.Bool.{false≢true, or_cases}
+use Rattle.std.proofs.lemmas.List.Folds.{list_any-append}
+use Rattle.np_estate.specs.declared.lists.EstateLists.{EstateLists}
+use Rattle.np_fold.specs.InForce as force
+use Rattle.np_fold.specs.InForce.{IsInForce, IsNamed, IsOfAdmin, IsOfAdminPeer, IsOfAdminRules, IsOfNetDirection, IsOfNetPeer, IsOfNetPolicy, IsOfNetRule}
+use Rattle.np_fold.specs.Keys.{keys_of_admin_peer, keys_of_admin_policy, keys_of_admin_rule, keys_of_baseline, keys_of_estate, keys_of_net_direction, keys_of_net_peer, keys_of_net_policy, keys_of_net_rule, keys_of_optional, keys_of_selector, keys_of_service, keys_of_subject}
+use Rattle.np_labels.specs.Selectors.{is_listed}
+use Rattle.np_labels.specs.declared.selector.Selector.{Selector}
+use Rattle.np_policies.specs.declared.admin_policy.AdminPeer.{AdminPeer}
+use Rattle.np_policies.specs.declared.admin_policy.AdminPeer.TheVariants as admin
+use Rattle.np_policies.specs.declared.admin_policy.AdminRule.{AdminRule}
+use Rattle.np_policies.specs.declared.admin_policy.BasePolicy.{BasePolicy}
+use Rattle.np_policies.specs.declared.admin_policy.Subject.{Subject}
+use Rattle.np_policies.specs.declared.network_policy.NetPeer.{NetPeer}
+use Rattle.np_policies.specs.declared.network_policy.NetPeer.TheVariants as net
+use Rattle.np_policies.specs.declared.network_policy.NetPolicy.{NetPolicy}
+use Rattle.np_policies.specs.declared.network_policy.NetRule.{NetRule}
+
+-- what one of two lists has, or one of the lists that are made of the items of a list
+halves : (key : List ℕ) (xs ys : List (List ℕ)) → is_listed (xs ++ ys) key ≡ true → (is_listed xs key ≡ true) ⊎ (is_listed ys key ≡ true)
+halves key xs ys is = or_cases (is_listed xs key) (is_listed ys key) (sym (list_any-append (λ listed. bytes_eq listed key) xs ys) ∙ is)
+
+record Where {X : Type 0} (keys_of : X → List (List ℕ)) (xs : List X) (key : List ℕ) : Type 0 where
+  item : X
+  listed : Contains xs item
+  has : is_listed (keys_of item) key ≡ true
+
+somewhere : {X : Type 0} (keys_of : X → List (List ℕ)) (key : List ℕ) (xs : List X) → is_listed (flat_map keys_of xs) key ≡ true → Where keys_of xs key
+somewhere keys_of key [] is = absurd (false≢true is)
+somewhere {X} keys_of key (x ∷ xs) is = go (somewhere keys_of key xs) (halves key (keys_of x) (flat_map keys_of xs) is)
+  where
+    go : (is_listed (flat_map keys_of xs) key ≡ true → Where keys_of xs key) → (is_listed (keys_of x) key ≡ true) ⊎ (is_listed (flat_map keys_of xs) key ≡ true) → Where keys_of (x ∷ xs) key
+    go further (inl here) = record { item = x; listed = (0, omega arith, refl); has = here }
+    go further (inr later) =
+        let found = further later in
+        record { item = found.item; listed = (suc found.listed.0, (let inside = found.listed.1 in omega (arith, inside)), found.listed.2); has = found.has }
+
+module _ (key : List ℕ) where
+  -- a selector of some kind has a requirement of the key
+  record Found (Is : Selector → Type 0) : Type 0 where
+    selector : Selector
+    is : Is selector
+    names : is_listed (keys_of_selector selector) key ≡ true
+
+  again : {Is Are : Selector → Type 0} → ((selector : Selector) → Is selector → Are selector) → Found Is → Found Are
+  again more found = record { selector = found.selector; is = more found.selector found.is; names = found.names }
+
+  optional : (given : Option Selector) → is_listed (keys_of_optional given) key ≡ true → Found (λ selector. given ≡ Some selector)
+  optional None is = absurd (false≢true is)
+  optional (Some selector) is = record { selector = selector; is = refl; names = is }
+
+  net_peer : (peer : NetPeer) → is_listed (keys_of_net_peer peer) key ≡ true → Found (λ selector. IsOfNetPeer selector peer)
+  net_peer (net.Pods namespaces pods) is = go (halves key (keys_of_optional namespaces) (keys_of_optional pods) is)
+    where
+      go : (is_listed (keys_of_optional namespaces) key ≡ true) ⊎ (is_listed (keys_of_optional pods) key ≡ true) → Found (λ selector. IsOfNetPeer selector (net.Pods namespaces pods))
+      go (inl one) = again (λ selector given. force.IsOfNetPeer.namespaces pods (ap (λ (some : Option Selector). net.Pods some pods) given)) (optional namespaces one)
+      go (inr other) = again (λ selector given. force.IsOfNetPeer.pods namespaces (ap (λ (some : Option Selector). net.Pods namespaces some) given)) (optional pods other)
+  net_peer (net.Block cidr excepts) is = absurd (false≢true is)
+
+  net_rule : (rule : NetRule) → is_listed (keys_of_net_rule rule) key ≡ true → Found (λ selector. IsOfNetRule selector rule)
+  net_rule rule is =
+      let found = somewhere keys_of_net_peer key rule.peers is in
+      again (λ selector has. record { peer = found.item; listed = found.listed; has = has }) (net_peer found.item found.has)
+
+  net_direction : (direction : Option (List NetRule)) → is_listed (keys_of_net_direction direction) key ≡ true → Found (λ selector. IsOfNetDirection selector direction)
+  net_direction None is = absurd (false≢true is)
+  net_direction (Some rules) is =
+      let found = somewhere keys_of_net_rule key rules is in
+      again (λ selector has. record { rules = rules; there = refl; rule = found.item; listed = found.listed; has = has }) (net_rule found.item found.has)
+
+  net_policy : (policy : NetPolicy) → is_listed (keys_of_net_policy policy) key ≡ true → Found (λ selector. IsOfNetPolicy selector policy)
+  net_policy policy is = go (halves key (keys_of_selector policy.subject ++ keys_of_net_direction policy.ingress) (keys_of_net_direction policy.egress) is)
+    where
+      first : (is_listed (keys_of_selector policy.subject) key ≡ true) ⊎ (is_listed (keys_of_net_direction policy.ingress) key ≡ true) → Found (λ selector. IsOfNetPolicy selector policy)
+      first (inl one) = record { selector = policy.subject; is = force.IsOfNetPolicy.subject refl; names = one }
+      first (inr other) = again (λ selector has. force.IsOfNetPolicy.ingress has) (net_direction policy.ingress other)
+
+      go : (is_listed (keys_of_selector policy.subject ++ keys_of_net_direction policy.ingress) key ≡ true) ⊎ (is_listed (keys_of_net_direction policy.egress) key ≡ true) → Found (λ selector. IsOfNetPolicy selector policy)
+      go (inl one) = first (halves key (keys_of_selector policy.subject) (keys_of_net_direction policy.ingress) one)
+      go (inr other) = again (λ selector has. force.IsOfNetPolicy.egress has) (net_direction policy.egress other)
+
+  admin_peer : (peer : AdminPeer) → is_listed (keys_of_admin_peer peer) key ≡ true → Found (λ selector. IsOfAdminPeer selector peer)
+  admin_peer (admin.Pods namespaces pods) is = go (halves key (keys_of_selector namespaces) (keys_of_selector pods) is)
+    where
+      go : (is_listed (keys_of_selector namespaces) key ≡ true) ⊎ (is_listed (keys_of_selector pods) key ≡ true) → Found (λ selector. IsOfAdminPeer selector (admin.Pods namespaces pods))
+      go (inl one) = record { selector = namespaces; is = force.IsOfAdminPeer.namespaces pods refl; names = one }
+      go (inr other) = record { selector = pods; is = force.IsOfAdminPeer.pods namespaces refl; names = other }
+  admin_peer (admin.Networks cidrs) is = absurd (false≢true is)
+
+  admin_rules : (rules : List AdminRule) → is_listed (flat_map keys_of_admin_rule rules) key ≡ true → Found (λ selector. IsOfAdminRules selector rules)
+  admin_rules rules is =
+      let found = somewhere keys_of_admin_rule key rules is in
+      let inner = somewhere keys_of_admin_peer key found.item.peers found.has in
+      again (λ selector has. record { rule = found.item; listed = found.listed; peer = inner.item; listed_peer = inner.listed; has = has }) (admin_peer inner.item inner.has)
+
+  admin_policy : (subject : Subject) (ingress egress : List AdminRule) → is_listed (keys_of_subject subject ++ flat_map keys_of_admin_rule ingress ++ flat_map keys_of_admin_rule egress) key ≡ true → Found (λ selector. IsOfAdmin selector subject ingress egress)
+  admin_policy subject ingress egress is = go (halves key (keys_of_subject subject ++ flat_map keys_of_admin_rule ingress) (flat_map keys_of_admin_rule egress) is)
+    where
+      of_subject : (is_listed (keys_of_selector subject.namespaces) key ≡ true) ⊎ (is_listed (keys_of_selector subject.pods) key ≡ true) → Found (λ selector. IsOfAdmin selector subject ingress egress)
+      of_subject (inl one) = record { selector = subject.namespaces; is = force.IsOfAdmin.namespaces refl; names = one }
+      of_subject (inr other) = record { selector = subject.pods; is = force.IsOfAdmin.pods refl; names = other }
+
+      first : (is_listed (keys_of_subject subject) key ≡ true) ⊎ (is_listed (flat_map keys_of_admin_rule ingress) key ≡ true) → Found (λ selector. IsOfAdmin selector subject ingress egress)
+      first (inl one) = of_subject (halves key (keys_of_selector subject.namespaces) (keys_of_selector subject.pods) one)
+      first (inr other) = again (λ selector has. force.IsOfAdmin.ingress_rule has) (admin_rules ingress other)
+
+      go : (is_listed (keys_of_subject subject ++ flat_map keys_of_admin_rule ingress) key ≡ true) ⊎ (is_listed (flat_map keys_of_admin_rule egress) key ≡ true) → Found (λ selector. IsOfAdmin selector subject ingress egress)
+      go (inl one) = first (halves key (keys_of_subject subject) (flat_map keys_of_admin_rule ingress) one)
+      go (inr other) = again (λ selector has. force.IsOfAdmin.egress_rule has) (admin_rules egress other)
+
+  base_policy : (baseline : Option BasePolicy) → is_listed (keys_of_baseline baseline) key ≡ true → Found (λ selector. (policy : BasePolicy) × (baseline ≡ Some policy) × IsOfAdmin selector policy.subject policy.ingress policy.egress)
+  base_policy None is = absurd (false≢true is)
+  base_policy (Some policy) is = again (λ selector has. (policy, refl, has)) (admin_policy policy.subject policy.ingress policy.egress is)
+
+  pub named-somewhere : (lists : EstateLists) → is_listed (keys_of_estate lists) key ≡ true → IsNamed lists key
+  named-somewhere lists is = done (last (halves key (flat_map keys_of_net_policy lists.net_policies ++ flat_map keys_of_admin_policy lists.admin_policies ++ keys_of_baseline lists.baseline) (flat_map keys_of_service lists.services) is))
+    where
+      done : Found (λ selector. IsInForce lists selector) → IsNamed lists key
+      done found = record { selector = found.selector; in_force = found.is; names = found.names }
+
+      of_net : Where keys_of_net_policy lists.net_policies key → Found (λ selector. IsInForce lists selector)
+      of_net found = again (λ selector has. force.IsInForce.of_net_policy found.item found.listed has) (net_policy found.item found.has)
+
+      of_admin : Where keys_of_admin_policy lists.admin_policies key → Found (λ selector. IsInForce lists selector)
+      of_admin found = again (λ selector has. force.IsInForce.of_admin_policy found.item found.listed has) (admin_policy found.item.subject found.item.ingress found.item.egress found.has)
+
+      of_service : Where keys_of_service lists.services key → Found (λ selector. IsInForce lists selector)
+      of_service found = again (λ selector given. force.IsInForce.of_service found.item found.listed given) (optional found.item.selector found.has)
+
+      first : (is_listed (flat_map keys_of_net_policy lists.net_policies) key ≡ true) ⊎ (is_listed (flat_map keys_of_admin_policy lists.admin_policies) key ≡ true) → Found (λ selector. IsInForce lists selector)
+      first (inl one) = of_net (somewhere keys_of_net_policy key lists.net_policies one)
+      first (inr other) = of_admin (somewhere keys_of_admin_policy key lists.admin_policies other)
+
+      second : (is_listed (flat_map keys_of_net_policy lists.net_policies ++ flat_map keys_of_admin_policy lists.admin_policies) key ≡ true) ⊎ (is_listed (keys_of_baseline lists.baseline) key ≡ true) → Found (λ selector. IsInForce lists selector)
+      second (inl one) = first (halves key (flat_map keys_of_net_policy lists.net_policies) (flat_map keys_of_admin_policy lists.admin_policies) one)
+      second (inr other) = again (λ selector of. force.IsInForce.of_baseline of.0 of.1 of.2) (base_policy lists.baseline other)
+
+      last : (is_listed (flat_map keys_of_net_policy lists.net_policies ++ flat_map keys_of_admin_policy lists.admin_policies ++ keys_of_baseline lists.baseline) key ≡ true) ⊎ (is_listed (flat_map keys_of_service lists.services) key ≡ true) → Found (λ selector. IsInForce lists selector)
+      last (inl one) = second (halves key (flat_map keys_of_net_policy lists.net_policies ++ flat_map keys_of_admin_policy lists.admin_policies) (keys_of_baseline lists.baseline) one)
+      last (inr other) = of_service (somewhere keys_of_service key lists.services other)
