@@ -8,7 +8,7 @@ tools/architecture.py --check    says nothing where it stands there exactly so; 
 A crate's layer is 0 where it stands on no crate of the project, and else one more than the highest layer among the crates that it
 stands on. A crate's sentence is the first one of the comment at the head of its src/lib.rt (src/main.rt for the program). Beside
 it stand the crates and libraries that it uses directly, without those that another one of these uses already, directly or not. What
-the program does not stand on are the tests and what they share: they stand apart, in no layer.
+the program does not stand on are laws, tests and what these share: they stand apart, in no layer.
 """
 import re
 import sys
@@ -99,7 +99,7 @@ def picture():
         lines += ["", f"**Layer {number}**"]
         for name in layers[number]:
             lines += item(uses, name)
-    lines += ["", "**Tests, and what they share**"]
+    lines += ["", "**Laws and tests, and what they share**"]
     for name in uses:
         if name not in program:
             lines += item(uses, name)

@@ -1,0 +1,163 @@
+-- An object that was read is of the version and the kind that it names.
+use Rattle.std.proofs.Common.{◌≡◌, ℕ, List, Bool, true, false, Ok, refl, sym, subst, ◌∙◌}
+use Rattle.std.specs.Prelude.{IfOk, codes}
+use Rattle.std.specs.Cmp.Lexicographic.{bytes_decides}
+use Rattle.std.specs.Str.{bytes_eq}
+use Rattle.serde_json.specs.Data.{Data}
+use Rattle.np_json.specs.Meta.{type_meta}
+use Rattle.np_json.specs.Scalars.{text}
+use Rattle.np_json.specs.Shapes.{must_be_object, required}
+use Rattle.np_json.specs.declared.meta.TypeMeta.{TypeMeta}
+use Rattle.np_meaning.proofs.ControllerMeant.{controller-meant}
+use Rattle.np_meaning.proofs.Outputs.{text-output, text_at-required}
+use Rattle.np_meaning.specs.KindMeaning.{version_of, IsOfItsKind, Names}
+use Rattle.np_objects.specs.ControllerKinds.{kind_name}
+use Rattle.np_objects.specs.Controllers.{controller}
+use Rattle.np_objects.specs.Ingresses.{ingress}
+use Rattle.np_objects.specs.Namespaces.{namespace}
+use Rattle.np_objects.specs.Objects.{kind_of, object_by, object_of}
+use Rattle.np_objects.specs.Pods.{pod}
+use Rattle.np_objects.specs.Services.{service}
+use Rattle.np_objects.specs.declared.controller.ControllerItem.{ControllerItem}
+use Rattle.np_objects.specs.declared.controller.ControllerKind.{ControllerKind}
+use Rattle.np_objects.specs.declared.controller.ControllerKind.TheVariants.{Deployment, ReplicaSet, StatefulSet, DaemonSet, ReplicationController, Job, CronJob}
+use Rattle.np_objects.specs.declared.object.Object.{Object}
+use Rattle.np_objects.specs.declared.object.Object.TheVariants as object
+use Rattle.np_policies.proofs.ReadLemmas.{bind-output, then-output}
+
+-- the type of an object is what its members say
+type-meant : (value : Data) (meta : TypeMeta) → type_meta value ≡ Ok meta → Names meta.api_version meta.kind value
+unfolding type_meta
+type-meant value meta is =
+    let past = then-output (must_be_object value) _ meta is in
+    let version = bind-output (required (codes "apiVersion") text value) _ meta past in
+    let kind = bind-output (required (codes "kind") text value) _ meta version.after in
+    subst (λ read. IfOk read (λ (meta : TypeMeta). Names meta.api_version meta.kind value)) kind.after
+    (text_at-required text text-output (codes "apiVersion") value version.first version.here, text_at-required text text-output (codes "kind") value kind.first kind.here)
+
+-- what the members say where their texts are these
+called : (version kind one other : List ℕ) (value : Data) → Names version kind value → bytes_eq version one ≡ true → bytes_eq kind other ≡ true → Names one other value
+called version kind one other value names first second = (names.0 ∙ (bytes_decides version one).0 first, names.1 ∙ (bytes_decides kind other).0 second)
+
+-- a controller that was read is of the kind by which it was read
+controlled : (kind : ControllerKind) (item : ControllerItem) (value : Data) → Names (version_of kind) (kind_name kind) value → controller kind value ≡ Ok item → IsOfItsKind value (object.Controller item)
+controlled kind item value names is =
+    let same = (controller-meant kind value item is).kind in
+    subst (λ (kind : ControllerKind). Names (version_of kind) (kind_name kind) value × (controller kind value ≡ Ok item)) (sym same) (names, is)
+
+module _ (value : Data) (meta : TypeMeta) (names : Names meta.api_version meta.kind value) (read : Object) (is : object_by (kind_of meta.api_version meta.kind) value ≡ Ok read) where
+  -- the kinds of `v1`
+  as_service : bytes_eq meta.api_version (codes "v1") ≡ true → bytes_eq meta.kind (codes "Pod") ≡ false → bytes_eq meta.kind (codes "Namespace") ≡ false → bytes_eq meta.kind (codes "ReplicationController") ≡ false → (here : Bool) → bytes_eq meta.kind (codes "Service") ≡ here → IsOfItsKind value read
+  unfolding object_by
+  as_service core no_pod no_namespace no_replication_controller true kind =
+      let one = bind-output (service value) _ read (rw (core, no_pod, no_namespace, no_replication_controller, kind) at is) in
+      subst (λ read. IfOk read (IsOfItsKind value)) one.after (called meta.api_version meta.kind (codes "v1") (codes "Service") value names core kind, one.here)
+  as_service core no_pod no_namespace no_replication_controller false kind =
+      subst (λ read. IfOk read (IsOfItsKind value)) (rw (core, no_pod, no_namespace, no_replication_controller, kind) at is) tt
+
+  as_replication_controller : bytes_eq meta.api_version (codes "v1") ≡ true → bytes_eq meta.kind (codes "Pod") ≡ false → bytes_eq meta.kind (codes "Namespace") ≡ false → (here : Bool) → bytes_eq meta.kind (codes "ReplicationController") ≡ here → IsOfItsKind value read
+  unfolding object_by
+  as_replication_controller core no_pod no_namespace true kind =
+      let one = bind-output (controller ReplicationController value) _ read (rw (core, no_pod, no_namespace, kind) at is) in
+      subst (λ read. IfOk read (IsOfItsKind value)) one.after (controlled ReplicationController one.first value (called meta.api_version meta.kind (codes "v1") (codes "ReplicationController") value names core kind) one.here)
+  as_replication_controller core no_pod no_namespace false kind =
+      as_service core no_pod no_namespace kind (bytes_eq meta.kind (codes "Service")) refl
+
+  as_namespace : bytes_eq meta.api_version (codes "v1") ≡ true → bytes_eq meta.kind (codes "Pod") ≡ false → (here : Bool) → bytes_eq meta.kind (codes "Namespace") ≡ here → IsOfItsKind value read
+  unfolding object_by
+  as_namespace core no_pod true kind =
+      let one = bind-output (namespace value) _ read (rw (core, no_pod, kind) at is) in
+      subst (λ read. IfOk read (IsOfItsKind value)) one.after (called meta.api_version meta.kind (codes "v1") (codes "Namespace") value names core kind, one.here)
+  as_namespace core no_pod false kind =
+      as_replication_controller core no_pod kind (bytes_eq meta.kind (codes "ReplicationController")) refl
+
+  as_pod : bytes_eq meta.api_version (codes "v1") ≡ true → (here : Bool) → bytes_eq meta.kind (codes "Pod") ≡ here → IsOfItsKind value read
+  unfolding object_by
+  as_pod core true kind =
+      let one = bind-output (pod value) _ read (rw (core, kind) at is) in
+      subst (λ read. IfOk read (IsOfItsKind value)) one.after (called meta.api_version meta.kind (codes "v1") (codes "Pod") value names core kind, one.here)
+  as_pod core false kind =
+      as_namespace core kind (bytes_eq meta.kind (codes "Namespace")) refl
+
+  -- the kinds of `apps/v1`
+  as_daemon_set : bytes_eq meta.api_version (codes "v1") ≡ false → bytes_eq meta.api_version (codes "apps/v1") ≡ true → bytes_eq meta.kind (codes "Deployment") ≡ false → bytes_eq meta.kind (codes "ReplicaSet") ≡ false → bytes_eq meta.kind (codes "StatefulSet") ≡ false → (here : Bool) → bytes_eq meta.kind (codes "DaemonSet") ≡ here → IsOfItsKind value read
+  unfolding object_by
+  as_daemon_set not_core apps no_deployment no_replica_set no_stateful_set true kind =
+      let one = bind-output (controller DaemonSet value) _ read (rw (not_core, apps, no_deployment, no_replica_set, no_stateful_set, kind) at is) in
+      subst (λ read. IfOk read (IsOfItsKind value)) one.after (controlled DaemonSet one.first value (called meta.api_version meta.kind (codes "apps/v1") (codes "DaemonSet") value names apps kind) one.here)
+  as_daemon_set not_core apps no_deployment no_replica_set no_stateful_set false kind =
+      subst (λ read. IfOk read (IsOfItsKind value)) (rw (not_core, apps, no_deployment, no_replica_set, no_stateful_set, kind) at is) tt
+
+  as_stateful_set : bytes_eq meta.api_version (codes "v1") ≡ false → bytes_eq meta.api_version (codes "apps/v1") ≡ true → bytes_eq meta.kind (codes "Deployment") ≡ false → bytes_eq meta.kind (codes "ReplicaSet") ≡ false → (here : Bool) → bytes_eq meta.kind (codes "StatefulSet") ≡ here → IsOfItsKind value read
+  unfolding object_by
+  as_stateful_set not_core apps no_deployment no_replica_set true kind =
+      let one = bind-output (controller StatefulSet value) _ read (rw (not_core, apps, no_deployment, no_replica_set, kind) at is) in
+      subst (λ read. IfOk read (IsOfItsKind value)) one.after (controlled StatefulSet one.first value (called meta.api_version meta.kind (codes "apps/v1") (codes "StatefulSet") value names apps kind) one.here)
+  as_stateful_set not_core apps no_deployment no_replica_set false kind =
+      as_daemon_set not_core apps no_deployment no_replica_set kind (bytes_eq meta.kind (codes "DaemonSet")) refl
+
+  as_replica_set : bytes_eq meta.api_version (codes "v1") ≡ false → bytes_eq meta.api_version (codes "apps/v1") ≡ true → bytes_eq meta.kind (codes "Deployment") ≡ false → (here : Bool) → bytes_eq meta.kind (codes "ReplicaSet") ≡ here → IsOfItsKind value read
+  unfolding object_by
+  as_replica_set not_core apps no_deployment true kind =
+      let one = bind-output (controller ReplicaSet value) _ read (rw (not_core, apps, no_deployment, kind) at is) in
+      subst (λ read. IfOk read (IsOfItsKind value)) one.after (controlled ReplicaSet one.first value (called meta.api_version meta.kind (codes "apps/v1") (codes "ReplicaSet") value names apps kind) one.here)
+  as_replica_set not_core apps no_deployment false kind =
+      as_stateful_set not_core apps no_deployment kind (bytes_eq meta.kind (codes "StatefulSet")) refl
+
+  as_deployment : bytes_eq meta.api_version (codes "v1") ≡ false → bytes_eq meta.api_version (codes "apps/v1") ≡ true → (here : Bool) → bytes_eq meta.kind (codes "Deployment") ≡ here → IsOfItsKind value read
+  unfolding object_by
+  as_deployment not_core apps true kind =
+      let one = bind-output (controller Deployment value) _ read (rw (not_core, apps, kind) at is) in
+      subst (λ read. IfOk read (IsOfItsKind value)) one.after (controlled Deployment one.first value (called meta.api_version meta.kind (codes "apps/v1") (codes "Deployment") value names apps kind) one.here)
+  as_deployment not_core apps false kind =
+      as_replica_set not_core apps kind (bytes_eq meta.kind (codes "ReplicaSet")) refl
+
+  -- the kinds of `batch/v1`
+  as_cron_job : bytes_eq meta.api_version (codes "v1") ≡ false → bytes_eq meta.api_version (codes "apps/v1") ≡ false → bytes_eq meta.api_version (codes "batch/v1") ≡ true → bytes_eq meta.kind (codes "Job") ≡ false → (here : Bool) → bytes_eq meta.kind (codes "CronJob") ≡ here → IsOfItsKind value read
+  unfolding object_by
+  as_cron_job not_core not_apps batch no_job true kind =
+      let one = bind-output (controller CronJob value) _ read (rw (not_core, not_apps, batch, no_job, kind) at is) in
+      subst (λ read. IfOk read (IsOfItsKind value)) one.after (controlled CronJob one.first value (called meta.api_version meta.kind (codes "batch/v1") (codes "CronJob") value names batch kind) one.here)
+  as_cron_job not_core not_apps batch no_job false kind =
+      subst (λ read. IfOk read (IsOfItsKind value)) (rw (not_core, not_apps, batch, no_job, kind) at is) tt
+
+  as_job : bytes_eq meta.api_version (codes "v1") ≡ false → bytes_eq meta.api_version (codes "apps/v1") ≡ false → bytes_eq meta.api_version (codes "batch/v1") ≡ true → (here : Bool) → bytes_eq meta.kind (codes "Job") ≡ here → IsOfItsKind value read
+  unfolding object_by
+  as_job not_core not_apps batch true kind =
+      let one = bind-output (controller Job value) _ read (rw (not_core, not_apps, batch, kind) at is) in
+      subst (λ read. IfOk read (IsOfItsKind value)) one.after (controlled Job one.first value (called meta.api_version meta.kind (codes "batch/v1") (codes "Job") value names batch kind) one.here)
+  as_job not_core not_apps batch false kind =
+      as_cron_job not_core not_apps batch kind (bytes_eq meta.kind (codes "CronJob")) refl
+
+  -- the kinds of `networking.k8s.io/v1`
+  as_ingress : bytes_eq meta.api_version (codes "v1") ≡ false → bytes_eq meta.api_version (codes "apps/v1") ≡ false → bytes_eq meta.api_version (codes "batch/v1") ≡ false → bytes_eq meta.api_version (codes "networking.k8s.io/v1") ≡ true → (here : Bool) → bytes_eq meta.kind (codes "Ingress") ≡ here → IsOfItsKind value read
+  unfolding object_by
+  as_ingress not_core not_apps not_batch networking true kind =
+      let one = bind-output (ingress value) _ read (rw (not_core, not_apps, not_batch, networking, kind) at is) in
+      subst (λ read. IfOk read (IsOfItsKind value)) one.after (called meta.api_version meta.kind (codes "networking.k8s.io/v1") (codes "Ingress") value names networking kind, one.here)
+  as_ingress not_core not_apps not_batch networking false kind =
+      subst (λ read. IfOk read (IsOfItsKind value)) (rw (not_core, not_apps, not_batch, networking, kind) at is) tt
+
+  -- the versions
+  of_networking : bytes_eq meta.api_version (codes "v1") ≡ false → bytes_eq meta.api_version (codes "apps/v1") ≡ false → bytes_eq meta.api_version (codes "batch/v1") ≡ false → (here : Bool) → bytes_eq meta.api_version (codes "networking.k8s.io/v1") ≡ here → IsOfItsKind value read
+  unfolding object_by
+  of_networking not_core not_apps not_batch true networking = as_ingress not_core not_apps not_batch networking (bytes_eq meta.kind (codes "Ingress")) refl
+  of_networking not_core not_apps not_batch false version = subst (λ read. IfOk read (IsOfItsKind value)) (rw (not_core, not_apps, not_batch, version) at is) tt
+
+  of_batch : bytes_eq meta.api_version (codes "v1") ≡ false → bytes_eq meta.api_version (codes "apps/v1") ≡ false → (here : Bool) → bytes_eq meta.api_version (codes "batch/v1") ≡ here → IsOfItsKind value read
+  of_batch not_core not_apps true batch = as_job not_core not_apps batch (bytes_eq meta.kind (codes "Job")) refl
+  of_batch not_core not_apps false version = of_networking not_core not_apps version (bytes_eq meta.api_version (codes "networking.k8s.io/v1")) refl
+
+  of_apps : bytes_eq meta.api_version (codes "v1") ≡ false → (here : Bool) → bytes_eq meta.api_version (codes "apps/v1") ≡ here → IsOfItsKind value read
+  of_apps not_core true apps = as_deployment not_core apps (bytes_eq meta.kind (codes "Deployment")) refl
+  of_apps not_core false version = of_batch not_core version (bytes_eq meta.api_version (codes "batch/v1")) refl
+
+  pub of_core : (here : Bool) → bytes_eq meta.api_version (codes "v1") ≡ here → IsOfItsKind value read
+  of_core true core = as_pod core (bytes_eq meta.kind (codes "Pod")) refl
+  of_core false version = of_apps version (bytes_eq meta.api_version (codes "apps/v1")) refl
+
+pub object-meant : (value : Data) (read : Object) → object_of value ≡ Ok read → IsOfItsKind value read
+unfolding object_of
+object-meant value read is =
+    let meta = bind-output (type_meta value) _ read is in
+    of_core value meta.first (type-meant value meta.first meta.here) read meta.after (bytes_eq meta.first.api_version (codes "v1")) refl

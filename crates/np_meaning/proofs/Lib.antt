@@ -1,0 +1,9 @@
+pub mod ControllerMeant
+pub mod EachPodLemmas
+pub mod IngressMeant
+pub mod KindMeant
+pub mod MetaMeant
+pub mod NumberingLemmas
+pub mod Outputs
+pub mod PodMeant
+pub mod ServiceMeant

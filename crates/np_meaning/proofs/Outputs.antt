@@ -1,0 +1,157 @@
+-- What follows from a shape having read an output.
+use Rattle.std.proofs.Common.{◌≡◌, ℕ, ℤ, pos, negsuc, ◌+◌, List, [], ◌∷◌, Bool, true, false, not, cond, ◌&&◌, nat_le, Option, Some, None, unwrap_or, Ok, Err, refl, ap, subst, ◌∙◌}
+use Rattle.serde_json.specs.Data.{Data, object, Items, no_items, item, no_members}
+use Rattle.serde_json.specs.Find.{as_array, as_bool, as_str}
+use Rattle.np_json.specs.Members.{as_whole, member_of}
+use Rattle.np_json.specs.Scalars.{flag, name, of_type, port, port_number, text, whole, word}
+use Rattle.np_json.specs.Shapes.{Read, ◌>>=◌, ◌>>◌, each_item, given, list_by, listed, optional, read_member, refuse, refuse_if, required, under}
+use Rattle.np_json.specs.Words.{is_name, is_word}
+use Rattle.np_json.specs.declared.fault.FaultKind.TheVariants.{BadField, BadName, BadPort}
+use Rattle.np_json.specs.declared.path.Step.TheVariants.{Field, Item}
+use Rattle.np_policies.proofs.ReadLemmas.{bind-output, then-output, under-output}
+use Rattle.np_meaning.specs.EachPod.{AreEach}
+use Rattle.np_meaning.specs.ObjectMeaning.{each_of, is_true_at, list_at, number_at, part, text_at}
+
+-- what a definition of a reading gives
+abbrev pub OutputOf : {A : Type 0} → (Data → Read A) → Type 0
+OutputOf {A} read = A
+
+-- a required member was read as the output
+pub required-output : {A : Type 0} (shape : Data → Read A) (name : List ℕ) (value : Data) (output : A) → required name shape value ≡ Ok output → shape (part name value) ≡ Ok output
+unfolding required
+required-output shape name value output is = by (member_of name value) (under-output (Field name) (read_member (refuse BadField) shape (member_of name value)) output is)
+  where
+    by : (member : Option Data) → read_member (refuse BadField) shape member ≡ Ok output → shape (unwrap_or member (object no_members)) ≡ Ok output
+    by None is = cc
+    by (Some found) is = is
+
+-- what `given` gave
+abbrev IsGiven : {A : Type 0} → Read A → Option A → Type 0
+IsGiven read None = ⊥
+IsGiven read (Some output) = read ≡ Ok output
+
+given-output : {A : Type 0} (read : Read A) (output : Option A) → given read ≡ Ok output → IsGiven read output
+given-output (Ok other) None is = cc
+given-output (Ok other) (Some output) is = let same : other ≡ output = cc in ap Ok same
+given-output (Err flaw) output is = cc
+
+-- a member that may be missing is, or was read as its output
+abbrev pub IsOptional : {A : Type 0} → (Data → Read A) → Option Data → Option A → Type 0
+IsOptional shape None None = Unit {0}
+IsOptional shape None (Some output) = ⊥
+IsOptional shape (Some found) None = ⊥
+IsOptional shape (Some found) (Some output) = shape found ≡ Ok output
+
+pub optional-output : {A : Type 0} (shape : Data → Read A) (name : List ℕ) (value : Data) (output : Option A) → optional name shape value ≡ Ok output → IsOptional shape (member_of name value) output
+unfolding optional
+optional-output shape name value output is = by (member_of name value) output (under-output (Field name) (read_member (Ok None) (λ found. given (shape found)) (member_of name value)) output is)
+  where
+    by : (member : Option Data) (output : Option _) → read_member (Ok None) (λ found. given (shape found)) member ≡ Ok output → IsOptional shape member output
+    by None None is = tt
+    by None (Some other) is = cc
+    by (Some found) None is = given-output (shape found) None is
+    by (Some found) (Some output) is = given-output (shape found) (Some output) is
+
+-- ---- lists
+
+-- the items of a list were each read, in order
+abbrev pub AreReadOf : {A : Type 0} → (Data → Read A) → List Data → List A → Type 0
+AreReadOf shape = AreEach (λ value output. shape value ≡ Ok output)
+
+each_item-output : {A : Type 0} (shape : Data → Read A) (place : ℕ) (items : Items) (outputs : List A) → each_item shape place items ≡ Ok outputs → AreReadOf shape (each_of items) outputs
+each_item-output shape place no_items [] is = tt
+each_item-output shape place no_items (output ∷ outputs) is = cc
+each_item-output shape place (item value items) outputs is =
+    let first = bind-output (under (Item place) (shape value)) (λ output. each_item shape (place + 1) items >>= λ more. Ok (output ∷ more)) outputs is in
+    let second = bind-output (each_item shape (place + 1) items) (λ more. Ok (first.first ∷ more)) outputs first.after in
+    let are : first.first ∷ second.first ≡ outputs = let after = second.after in cc in
+    subst (AreReadOf shape (value ∷ each_of items)) are (under-output (Item place) (shape value) first.first first.here, each_item-output shape (place + 1) items second.first second.here)
+
+pub listed-output : {A : Type 0} (shape : Data → Read A) (name : List ℕ) (value : Data) (outputs : List A) → listed name shape value ≡ Ok outputs → AreReadOf shape (list_at name value) outputs
+unfolding listed
+listed-output shape name value outputs is = each_item-output shape 0 _ outputs (by (member_of name value) (under-output (Field name) (read_member (Ok []) (λ found. list_by shape (as_array found)) (member_of name value)) outputs is))
+  where
+    by_items : (found : Option Items) → list_by shape found ≡ Ok outputs → each_item shape 0 (unwrap_or found no_items) ≡ Ok outputs
+    by_items None is = cc
+    by_items (Some items) is = is
+
+    by : (member : Option Data) → read_member (Ok []) (λ found. list_by shape (as_array found)) member ≡ Ok outputs → each_item shape 0 (unwrap_or (as_array (unwrap_or member (object no_members))) no_items) ≡ Ok outputs
+    by None is = is
+    by (Some found) is = by_items (as_array found) is
+
+-- what was read of each is so of each
+pub AreEach-weaker : {A : Type 0} (Is Has : Data → A → Type 0) → ((value : Data) (output : A) → Is value output → Has value output) → (values : List Data) (outputs : List A) → AreEach Is values outputs → AreEach Has values outputs
+AreEach-weaker Is Has so [] [] are = tt
+AreEach-weaker Is Has so [] (output ∷ outputs) are = are
+AreEach-weaker Is Has so (value ∷ values) [] are = are
+AreEach-weaker Is Has so (value ∷ values) (output ∷ outputs) are = (so value output are.0, AreEach-weaker Is Has so values outputs are.1)
+
+pub each-output : {A : Type 0} (shape : Data → Read A) (Has : Data → A → Type 0) → ((value : Data) (output : A) → shape value ≡ Ok output → Has value output) → (name : List ℕ) (value : Data) (outputs : List A) → listed name shape value ≡ Ok outputs → AreEach Has (list_at name value) outputs
+each-output shape Has so name value outputs is = AreEach-weaker (λ d output. shape d ≡ Ok output) Has so (list_at name value) outputs (listed-output shape name value outputs is)
+
+-- ---- scalars
+
+pub of_type-output : {A : Type 0} (found : Option A) (output : A) → of_type found ≡ Ok output → found ≡ Some output
+of_type-output None output is = cc
+of_type-output (Some other) output is = cc
+
+pub text-output : (value : Data) (s : List ℕ) → text value ≡ Ok s → as_str value ≡ Some s
+text-output value s is = of_type-output (as_str value) s is
+
+pub name-output : (value : Data) (s : List ℕ) → name value ≡ Ok s → as_str value ≡ Some s
+unfolding name
+name-output value s is =
+    let read = bind-output (text value) (λ s. refuse_if (not (is_name s)) BadName >> Ok s) s is in
+    let same : Ok read.first ≡ Ok s = then-output (refuse_if (not (is_name read.first)) BadName) (Ok read.first) s read.after in
+    let first : read.first ≡ s = cc in
+    text-output value read.first read.here ∙ ap Some first
+
+pub word-output : (value : Data) (s : List ℕ) → word value ≡ Ok s → as_str value ≡ Some s
+unfolding word
+word-output value s is =
+    let read = bind-output (text value) (λ s. refuse_if (not (is_word s)) BadField >> Ok s) s is in
+    let same : Ok read.first ≡ Ok s = then-output (refuse_if (not (is_word read.first)) BadField) (Ok read.first) s read.after in
+    let first : read.first ≡ s = cc in
+    text-output value read.first read.here ∙ ap Some first
+
+pub port_number-output : (n : ℤ) (m : ℕ) → port_number n ≡ Ok m → n ≡ pos m
+port_number-output (pos n) m is = by (nat_le 1 n && nat_le n 65535) is
+  where
+    by : (b : Bool) → cond b (Ok n) (refuse BadPort) ≡ Ok m → pos n ≡ pos m
+    by true is = let same : n ≡ m = cc in ap pos same
+    by false is = cc
+port_number-output (negsuc n) m is = cc
+
+pub port-output : (value : Data) (n : ℕ) → port value ≡ Ok n → as_whole value ≡ Some (pos n)
+unfolding port
+port-output value n is =
+    let read = bind-output (whole value) port_number n is in
+    of_type-output (as_whole value) read.first read.here ∙ ap Some (port_number-output read.first n read.after)
+
+-- the text of a required member
+pub text_at-required : (shape : Data → Read (List ℕ)) → ((value : Data) (s : List ℕ) → shape value ≡ Ok s → as_str value ≡ Some s) → (name : List ℕ) (value : Data) (s : List ℕ) → required name shape value ≡ Ok s → text_at name value ≡ s
+text_at-required shape reads name value s is = rw (reads (part name value) s (required-output shape name value s is)) refl
+
+-- the number of a required member
+pub number_at-required : (name : List ℕ) (value : Data) (n : ℕ) → required name port value ≡ Ok n → number_at name value ≡ Some (pos n)
+number_at-required name value n is = port-output (part name value) n (required-output port name value n is)
+
+-- the text of a member that may be missing
+pub text_at-optional : (name : List ℕ) (value : Data) (found : Option (List ℕ)) → optional name text value ≡ Ok found → text_at name value ≡ unwrap_or found []
+text_at-optional name value found is = by (member_of name value) found (optional-output text name value found is)
+  where
+    by : (member : Option Data) (found : Option (List ℕ)) → IsOptional text member found → unwrap_or (as_str (unwrap_or member (object no_members))) [] ≡ unwrap_or found []
+    by None None is = refl
+    by None (Some s) is = absurd is
+    by (Some one) None is = absurd is
+    by (Some one) (Some s) is = rw (text-output one s is) refl
+
+-- the flag of a member that may be missing
+pub is_true_at-optional : (name : List ℕ) (value : Data) (found : Option Bool) → optional name flag value ≡ Ok found → unwrap_or found false ≡ is_true_at name value
+is_true_at-optional name value found is = by (member_of name value) found (optional-output flag name value found is)
+  where
+    by : (member : Option Data) (found : Option Bool) → IsOptional flag member found → unwrap_or found false ≡ unwrap_or (as_bool (unwrap_or member (object no_members))) false
+    by None None is = refl
+    by None (Some b) is = absurd is
+    by (Some one) None is = absurd is
+    by (Some one) (Some b) is = rw (of_type-output (as_bool one) b is) refl

@@ -1,0 +1,37 @@
+-- Which version and kind make an object what it is read as.
+use Rattle.std.specs.Prelude.{◌≡◌, ℕ, List, codes, Ok, ⊤}
+use Rattle.serde_json.specs.Data.{Data}
+use Rattle.np_meaning.specs.ObjectMeaning.{text_at}
+use Rattle.np_objects.specs.ControllerKinds.{kind_name}
+use Rattle.np_objects.specs.Controllers.{controller}
+use Rattle.np_objects.specs.Ingresses.{ingress}
+use Rattle.np_objects.specs.Namespaces.{namespace}
+use Rattle.np_objects.specs.Pods.{pod}
+use Rattle.np_objects.specs.Services.{service}
+use Rattle.np_objects.specs.declared.controller.ControllerKind.{ControllerKind}
+use Rattle.np_objects.specs.declared.controller.ControllerKind.TheVariants.{Deployment, ReplicaSet, StatefulSet, DaemonSet, ReplicationController, Job, CronJob}
+use Rattle.np_objects.specs.declared.object.Object.{Object}
+use Rattle.np_objects.specs.declared.object.Object.TheVariants as object
+
+-- the version that is read of a kind of controllers
+abbrev pub version_of : ControllerKind → List ℕ
+version_of ReplicationController = codes "v1"
+version_of Deployment = codes "apps/v1"
+version_of ReplicaSet = codes "apps/v1"
+version_of StatefulSet = codes "apps/v1"
+version_of DaemonSet = codes "apps/v1"
+version_of Job = codes "batch/v1"
+version_of CronJob = codes "batch/v1"
+
+-- the version and the kind that an object names
+abbrev pub Names : List ℕ → List ℕ → Data → Type 0
+Names version kind value = (text_at (codes "apiVersion") value ≡ version) × (text_at (codes "kind") value ≡ kind)
+
+-- what is read as an object of a kind names that kind, in the version that is read
+abbrev pub IsOfItsKind : Data → Object → Type 0
+IsOfItsKind value (object.Pod read) = Names (codes "v1") (codes "Pod") value × (pod value ≡ Ok read)
+IsOfItsKind value (object.Namespace read) = Names (codes "v1") (codes "Namespace") value × (namespace value ≡ Ok read)
+IsOfItsKind value (object.Controller read) = Names (version_of read.kind) (kind_name read.kind) value × (controller read.kind value ≡ Ok read)
+IsOfItsKind value (object.Service read) = Names (codes "v1") (codes "Service") value × (service value ≡ Ok read)
+IsOfItsKind value (object.Ingress read) = Names (codes "networking.k8s.io/v1") (codes "Ingress") value × (ingress value ≡ Ok read)
+IsOfItsKind value object.Other = ⊤
