@@ -42,7 +42,8 @@ number_of_address (Six n) = n
 
 -- ---- packets between two ends
 
--- The families of the packets that a statement speaks of: between workloads those of the list, and with an address its own. It speaks of no packet of a workload of one pod with itself, nor of any between two addresses.
+-- The families of the packets that a statement speaks of: between workloads those of the list, and with an address its
+-- own. It speaks of no packet of a workload of one pod with itself, nor of any between two addresses.
 abbrev pub families_between : EstateLists → PlaceEnd → PlaceEnd → List Family
 families_between lists (Work a) (Work b) = if is_alone (folding_of lists) a b then [] else families_of lists.pods
 families_between lists (Work a) (At address) = family_of address ∷ []

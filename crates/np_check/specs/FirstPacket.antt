@@ -25,11 +25,15 @@ pub record IsBroken (lists : EstateLists) (question : Question) (packet : Counte
   pub spot : is_spot packet.spot ≡ true
   pub broken : breaks question.wanted question.conns (allows_between lists packet.source packet.destination packet.family) packet.spot ≡ true
 
--- Such a packet, and no other one comes before it: none is from an earlier source; from the same source none goes to an earlier destination; between the same ends none is of an earlier family; in the same family none is of an earlier protocol; and in the same protocol none is to a lower port.
+-- Such a packet, and no other one comes before it: none is from an earlier source; from the same source none goes to an
+-- earlier destination; between the same ends none is of an earlier family; in the same family none is of an earlier
+-- protocol; and in the same protocol none is to a lower port.
 pub record IsFirstBroken (lists : EstateLists) (question : Question) (first : Counter) : Type 0 where
   pub own : IsBroken lists question first
   pub by_source : (other : Counter) → IsBroken lists question other → comes_before other.source first.source ≡ false
   pub by_destination : (other : Counter) → IsBroken lists question other → other.source ≡ first.source → comes_before other.destination first.destination ≡ false
   pub by_family : (other : Counter) → IsBroken lists question other → other.source ≡ first.source → other.destination ≡ first.destination → family_before other.family first.family ≡ false
-  pub by_proto : (other : Counter) → IsBroken lists question other → other.source ≡ first.source → other.destination ≡ first.destination → other.family ≡ first.family → proto_before other.spot.proto first.spot.proto ≡ false
-  pub by_port : (other : Counter) → IsBroken lists question other → other.source ≡ first.source → other.destination ≡ first.destination → other.family ≡ first.family → other.spot.proto ≡ first.spot.proto → first.spot.port ≤ other.spot.port
+  pub by_proto : (other : Counter) → IsBroken lists question other → other.source ≡ first.source → other.destination ≡ first.destination → other.family ≡ first.family
+      → proto_before other.spot.proto first.spot.proto ≡ false
+  pub by_port : (other : Counter) → IsBroken lists question other → other.source ≡ first.source → other.destination ≡ first.destination → other.family ≡ first.family
+      → other.spot.proto ≡ first.spot.proto → first.spot.port ≤ other.spot.port

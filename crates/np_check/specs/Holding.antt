@@ -30,8 +30,12 @@ HasAddress ends address = IsAddress address × (set_has ends.block address ≡ t
 abbrev pub SpeaksOf : Question → PortSpot → Type 0
 SpeaksOf question spot = (is_spot spot ≡ true) × (has_spot question.conns spot ≡ true)
 
--- Every packet from a pod or an address of the source to a pod or an address of the destination complies: between every two different pods in each family of the list, and with every address in its own family.
+-- Every packet from a pod or an address of the source to a pod or an address of the destination complies: between every
+-- two different pods in each family of the list, and with every address in its own family.
 pub record Holds (lists : EstateLists) (question : Question) : Type 0 where
-  pub pods : (p q : ℕ) (family : Family) (spot : PortSpot) → IsOf lists p question.source → IsOf lists q question.destination → p ≢ q → Contains (families_of lists.pods) family → SpeaksOf question spot → complies question.wanted (between_pods lists p q family spot) ≡ true
-  pub to_addresses : (p : ℕ) (address : Address) (spot : PortSpot) → IsOf lists p question.source → HasAddress question.destination address → SpeaksOf question spot → complies question.wanted (with_address lists Egress (pod (pod_at lists p)) (family_of address) (number_of_address address) spot) ≡ true
-  pub from_addresses : (address : Address) (q : ℕ) (spot : PortSpot) → HasAddress question.source address → IsOf lists q question.destination → SpeaksOf question spot → complies question.wanted (with_address lists Ingress (pod (pod_at lists q)) (family_of address) (number_of_address address) spot) ≡ true
+  pub pods : (p q : ℕ) (family : Family) (spot : PortSpot) → IsOf lists p question.source → IsOf lists q question.destination → p ≢ q → Contains (families_of lists.pods) family
+      → SpeaksOf question spot → complies question.wanted (between_pods lists p q family spot) ≡ true
+  pub to_addresses : (p : ℕ) (address : Address) (spot : PortSpot) → IsOf lists p question.source → HasAddress question.destination address → SpeaksOf question spot
+      → complies question.wanted (with_address lists Egress (pod (pod_at lists p)) (family_of address) (number_of_address address) spot) ≡ true
+  pub from_addresses : (address : Address) (q : ℕ) (spot : PortSpot) → HasAddress question.source address → IsOf lists q question.destination → SpeaksOf question spot
+      → complies question.wanted (with_address lists Ingress (pod (pod_at lists q)) (family_of address) (number_of_address address) spot) ≡ true

@@ -61,7 +61,8 @@ impl<'a> Model for Checker<'a> {
     ghost use Rattle.std.specs.Prelude.{IfSome};
     ghost use Rattle.np_table.specs.PairRules.{IsKindReach};
 
-    ghost invariant = { λ c. AreKnown c.folded.now Egress c.senders × AreKnown c.folded.now Ingress c.receivers × IfSome c.reach (IsKindReach c.folded.now) };
+    ghost invariant = { λ c. AreKnown c.folded.now Egress c.senders × AreKnown c.folded.now Ingress c.receivers
+        × IfSome c.reach (IsKindReach c.folded.now) };
 }
 
 impl<'a> Checker<'a> {

@@ -38,7 +38,7 @@ reply (Check statement files) texts lists = check_reply (statement_bytes texts) 
 reply (Flatten files) texts lists = flatten_reply lists
 reply (Sample n) texts lists = Ok (sample_summary lists)
 
--- the same on what the bytes are read as
+-- what a job prints by the bytes that it read and what they are read as, or why it refuses that
 abbrev pub reply_in : Job → List (List ℕ) → Result EstateLists Fault → Result (List ℕ) Fault
 reply_in job texts (Ok lists) = reply job texts lists
 reply_in job texts (Err fault) = Err fault
@@ -60,7 +60,8 @@ no_notes = record { left_out = record { host = 0; finished = 0; skipped = 0; una
 abbrev pub other_notes : EstateLists → ReportNotes
 other_notes lists = record { left_out = lists.notes; routes = [] }
 
--- what is said of a job's report: what was left out of it, and of `list` the backends of ingresses that lead nowhere; of `sample` nothing
+-- What is said of a job's report: what was left out of it, and of `list` the backends of ingresses that lead nowhere;
+-- of `sample` nothing.
 unfoldable pub report_notes : Job → EstateLists → ReportNotes
 report_notes (ListJob format report controller focus side files) lists = record { left_out = lists.notes; routes = notes_of_routes lists }
 report_notes (Explain from to files) lists = other_notes lists
@@ -100,7 +101,8 @@ IsLawfulIn (Err fault) = Unit {0}
 
 -- ---- by the bytes alone
 
--- the fault that stands first, if there is one
+-- The fault that stands first, if there is one: that of the inputs, else that there are too many workloads, else that
+-- of the command: of its statements, of the ends that it names, or of what it finds.
 unfoldable pub refusal : Job → List (List ℕ) → Option Fault
 refusal job texts = fault_in (reply_in job texts (objects_of job texts))
 

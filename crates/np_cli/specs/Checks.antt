@@ -14,15 +14,16 @@ use Rattle.np_statements.specs.declared.asked_line.AskedLine.{AskedLine}
 use Rattle.np_statements.specs.declared.broken.Broken.{Broken}
 use Rattle.np_statements.specs.declared.statement_line.StatementLine.{StatementLine}
 
--- The bytes behind those of the statement file are those of a lawful estate, the lines of the file are these statements, and this is what they ask of the estate.
+-- The bytes behind those of the statement file are those of a lawful estate, the lines of the file are these
+-- statements, and this is what they ask of the estate.
 pub record IsAskedOf (texts : List (List ℕ)) (lists : EstateLists) (lines : List StatementLine) (asked : List AskedLine) : Type 0 where
   pub read : lists_of (drop 1 texts) ≡ Ok lists
   pub lawful : IsLawful lists
   pub lines_are : statements_of (statement_bytes texts) ≡ Ok lines
   pub asked_is : ends_found lists lines ≡ Ok asked
 
--- The sink took how many statements there are, and each of them holds: for every two different pods that its ends name, in each family of the
--- list, and for every pod and every address that they name.
+-- The sink took how many statements there are, and each of them holds: for every two different pods that its ends name,
+-- in each family of the list, and for every pod and every address that they name.
 pub record ChecksAll (out : Sunk) (texts : List (List ℕ)) : Type 0 where
   pub lists : EstateLists
   pub lines : List StatementLine
@@ -31,8 +32,8 @@ pub record ChecksAll (out : Sunk) (texts : List (List ℕ)) : Type 0 where
   pub printed : TookWhole out (finding lists (length asked) None)
   pub hold : All (LineHolds lists) lines
 
--- The sink took the number of a line and a packet: all statements of earlier lines hold, that of the line does not, and of all packets that
--- break it this is the first.
+-- The sink took the number of a line and a packet: all statements of earlier lines hold, that of the line does not, and
+-- of all packets that break it this is the first.
 pub record FindsBroken (out : Sunk) (texts : List (List ℕ)) : Type 0 where
   pub lists : EstateLists
   pub lines : List StatementLine

@@ -28,7 +28,8 @@ IsOf lists (Work number) (end.Pod place) = (place < length lists.pods) × (numbe
 IsOf lists (Work number) (end.At address) = ⊥
 IsOf lists (At address) one = one ≡ end.At address
 
--- there are packets of the family between two ends: between pods those of the list's families, and else those of the address's, of the source's where both are addresses
+-- There are packets of the family between two ends: between pods those of the list's families, and else those of the
+-- address's, of the source's where both are addresses.
 abbrev pub IsFamilyBetween : EstateLists → End → End → Family → Type 0
 IsFamilyBetween lists (end.Pod p) (end.Pod q) family = Contains (families_of lists.pods) family
 IsFamilyBetween lists (end.Pod p) (end.At address) family = family ≡ family_of address

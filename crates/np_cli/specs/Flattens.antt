@@ -30,8 +30,8 @@ SameAddresses one other = (p : ℕ) (direction : Direction) (family : Family) (n
     → IsInFamily family number → is_spot spot ≡ true
     → with_address other direction (pod (pod_at one p)) family number spot ≡ with_address one direction (pod (pod_at one p)) family number spot
 
--- The bytes of the inputs are those of a lawful estate, the sink took its flat policies, and these, without any other policy, give all verdicts of
--- the estate. The text is read as the estate that has these policies and nothing else.
+-- The bytes of the inputs are those of a lawful estate, the sink took its flat policies, and these, without any other
+-- policy, give all verdicts of the estate. The text is read as the estate that has these policies and nothing else.
 pub record FlattensAll (out : Sunk) (texts : List (List ℕ)) : Type 0 where
   pub lists : EstateLists
   pub read : lists_of texts ≡ Ok lists

@@ -14,7 +14,7 @@ use Rattle.np_cli.specs.declared.fault.Fault.TheVariants.{Inputs, TooManyWorkloa
 unfoldable pub small_estate : EstateLists → Result EstateLists Fault
 small_estate lists = if nat_le (workload_count lists) MOST_WORKLOADS then Ok lists else Err (TooManyWorkloads (workload_count lists))
 
--- so for what is read
+-- the estate that is read, unless it has too many workloads or there is none
 abbrev pub small_reading : Reading EstateLists → Result EstateLists Fault
 small_reading (Ok lists) = small_estate lists
 small_reading (Err refusal) = Err (Inputs refusal)

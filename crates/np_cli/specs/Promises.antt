@@ -55,7 +55,8 @@ abbrev pub RefusesMore : Run → Sunk → Status → Type 0
 RefusesMore run err answer = run.source.handed_before + SIZE_LIMIT < run.source.handed_after
     → ((answer ≡ status.Refused) × IsKept run.out × Said err (message (Err failure.TooLarge))) ⊎ (answer ≡ status.NoMemory)
 
--- Inputs with a fault are refused for the one that stands first, and nothing is written to the sink of the report.
+-- Inputs with a fault are refused for the one that stands first, which is that of `refusal`, and nothing is written to
+-- the sink of the report.
 abbrev pub RefusesFaults : Run → Sunk → Status → Type 0
 RefusesFaults run err answer = (job : Job) (texts : List (List ℕ)) (fault : Fault) → run.asked ≡ Some job → Tells run texts → is_too_large texts ≡ false → refusal job texts ≡ Some fault
     → NoInputFailed run
@@ -83,7 +84,8 @@ abbrev pub SaysWhatDecides : Run → Status → Type 0
 SaysWhatDecides run answer = (from to : EndWord) (files texts : List (List ℕ))
     → run.asked ≡ Some (ExplainJob from to files) → Tells run texts → answer ≡ status.Done → ExplainsAll run.out from to texts
 
--- Where `exposure` is done on inputs that the source tells, its report says exactly what pods that nobody has written yet are allowed.
+-- Where `exposure` is done on inputs that the source tells, its report says exactly what pods that nobody has written
+-- yet are allowed.
 abbrev pub SaysExposures : Run → Status → Type 0
 SaysExposures run answer = (workload : Option (List ℕ)) (format : Format) (files texts : List (List ℕ))
     → run.asked ≡ Some (ExposureJob workload format files) → Tells run texts → answer ≡ status.Done → ExposesAll run.out workload format texts
@@ -112,6 +114,8 @@ SaysCounts run answer = (n : ℕ) → n ≤ 1000 → run.asked ≡ Some (SampleJ
     → IsAccepted (SampleJob n) [] × (answer ≡ status.Done → CountsAll run.out n) × (answer ≢ status.Refused)
 
 -- All that is promised of a run that ended with this status, where so many rules were looked at before it and after it.
+-- Nothing here ties the status NoMemory to memory that is short: a program that reads nothing, writes no report, says
+-- `error: out of memory` and always answers NoMemory keeps every promise. That this one does otherwise is only tested.
 pub record Promises (run : Run) (err : Sunk) (steps_before steps_after : ℕ) (answer : Status) : Type 0 where
   pub ends : Ends run err answer
   -- what a report says of the bytes of the inputs
@@ -132,5 +136,6 @@ pub record Promises (run : Run) (err : Sunk) (steps_before steps_after : ℕ) (a
   pub device : BlamesDevice run answer
   -- which inputs were begun: those of the job in their order, each once, up to the last one
   pub names : BeganFront run.source (names_asked run.asked)
-  -- how many rules were looked at: for a table at most four times as many for each pair of workloads, and six times for each workload, as speak of one of them in a direction
+  -- how many rules were looked at: for a table at most four times as many for each pair of workloads, and six times for
+  -- each workload, as speak of one of them in a direction
   pub counted : Counted run steps_before steps_after

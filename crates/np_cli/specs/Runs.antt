@@ -85,7 +85,8 @@ pub record StoppedWriting (run : Run) : Type 0 where
   pub accepted : (texts : List (List ℕ)) → Tells run texts → IsAccepted job texts
   pub front : (texts : List (List ℕ)) → Tells run texts → TookFront run.out.before run.out.after (output run.asked texts)
 
--- Memory was refused, at any time.
+-- Memory was refused, at any time. No field says that it was: this holds of every run that began the first of its
+-- inputs in their order, and of whose text the sink took a front.
 pub record LackedMemory (run : Run) : Type 0 where
   pub began : BeganFront run.source (names_asked run.asked)
   pub front : (texts : List (List ℕ)) → Tells run texts → TookFront run.out.before run.out.after (output run.asked texts)

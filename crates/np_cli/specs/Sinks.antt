@@ -11,11 +11,11 @@ pub record Sunk : Type 0 where
   pub faults_before : ℕ
   pub faults_after : ℕ
 
--- the same, by what contracts see of a sink
+-- the record of a call, by what contracts see of a sink before it and after it
 abbrev pub sunk : {O : Type 0} → (O → Option (List ℕ)) → (O → ℕ) → O → O → Sunk
 sunk taken faults old new = record { before = taken old; after = taken new; faults_before = faults old; faults_after = faults new }
 
--- the sink took nothing
+-- the sink took nothing, and no call on it failed
 pub record IsKept (sink : Sunk) : Type 0 where
   pub taken : sink.after ≡ sink.before
   pub faults : sink.faults_after ≡ sink.faults_before

@@ -35,7 +35,7 @@ pub record Sourced : Type 0 where
   pub began_before : Option (List (List ℕ))
   pub began_after : Option (List (List ℕ))
 
--- the same, by what contracts see of a source
+-- the record of a call, by what contracts see of a source before it and after it
 abbrev pub sourced : {I : Type 0} → (I → List ℕ → Option (List ℕ)) → (I → Option (List ℕ)) → (I → List ℕ → ℕ) → (I → ℕ) → (I → Option (List (List ℕ))) → I → I → Sourced
 sourced holds left faults handed began old new = record {
   holds = holds old;

@@ -26,8 +26,8 @@ abbrev pub ChangeNothing : EstateLists → List RuleRef → Type 0
 ChangeNothing lists rules = (source destination : End) (family : Family) (spot : PortSpot) → IsListedPacket lists source destination family spot
     → allows (without lists rules) (packet_between lists source destination family spot) ≡ allows lists (packet_between lists source destination family spot)
 
--- The bytes of the inputs are those of a lawful estate, the sink took a line for each rule that is unused: these are exactly the rules that decide
--- nothing, each once and in order, and without all of them nothing changes.
+-- The bytes of the inputs are those of a lawful estate, the sink took a line for each rule that is unused: these are
+-- exactly the rules that decide nothing, each once and in order, and without all of them nothing changes.
 pub record ListsUnused (out : Sunk) (texts : List (List ℕ)) : Type 0 where
   pub lists : EstateLists
   pub read : lists_of texts ≡ Ok lists

@@ -27,7 +27,8 @@ abbrev pub statement_bytes : List (List ℕ) → List ℕ
 statement_bytes [] = []
 statement_bytes (text ∷ texts) = text
 
--- the bytes that hold the objects: of `check` those behind the statement file, and of `sample`, which reads none, those of the sample itself
+-- The bytes that hold the objects: of `check` those behind the statement file, and of `sample`, which reads none, those
+-- of the sample itself.
 abbrev pub object_texts : Job → List (List ℕ) → List (List ℕ)
 object_texts (ListJob format report controller focus side files) texts = texts
 object_texts (Explain from to files) texts = texts

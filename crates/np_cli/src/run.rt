@@ -29,9 +29,10 @@ use std::sync::ledger::Ledger;
 ///
 /// The rules that it looks at are counted.
 ///
-/// The inputs are begun in the order of the words, each once, and none where the words ask for nothing. Nothing goes to `out`
-/// before all of them are read and accepted, and nothing where anything is refused. Where `out` fails or memory is short, the
-/// bytes that `out` took are a front of the report. A failure of `err` changes nothing else.
+/// The inputs are begun in the order of the words, each once, and none where the words ask for nothing. Nothing goes to
+/// `out` where anything is refused. The report is written after the last read, though no clause speaks of that order.
+/// Where `out` fails or memory is short, the bytes that `out` took are a front of the report. A failure of `err`
+/// changes nothing else.
 pub fn np_main<I: Inputs, O: Sink, E: Sink, L: Ledger>(
     alloc: Global,
     words: &[String],

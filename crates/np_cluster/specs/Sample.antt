@@ -5,7 +5,7 @@ use Rattle.serde_json.specs.Data.{Data, string}
 use Rattle.serde_json.specs.Written.{compact_text}
 use Rattle.np_cluster.specs.Objects.{admin_policy, list_with, namespace, namespace_count, net_policy, object_with, pod}
 
--- its objects, where it has n pods
+-- the objects of the sample cluster, where it has n pods
 abbrev pub sample_objects : ℕ → List Data
 sample_objects n =
     map namespace (range_with_len 0 namespace_count) ++ map pod (range_with_len 0 n)

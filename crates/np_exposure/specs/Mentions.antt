@@ -29,7 +29,7 @@ abbrev pub of_optional : Side → Option Selector → List SidedRequirement
 of_optional side None = []
 of_optional side (Some selector) = of_selector side selector
 
--- that the namespace is the one of this name
+-- the requirement that the namespace is the one of this name
 abbrev pub named : List ℕ → SidedRequirement
 named namespace = record { side = Namespace; requirement = label_requirement (codes "kubernetes.io/metadata.name", namespace) }
 

@@ -110,7 +110,8 @@ fn add_baseline(
     near: &Pod,
 ) -> Result<(), NoMemory>
     ensures { OnOk result (made.new.items ≡ made.old.items
-        ++ flat_map (λ placed. spec.of_admin_rule placed.rule) (places.base_places (option_copied baseline.entry) direction (pod_end near.now))) }
+        ++ flat_map (λ placed. spec.of_admin_rule placed.rule)
+        (places.base_places (option_copied baseline.entry) direction (pod_end near.now))) }
 {
     match baseline {
         Some(policy) => add_base_policy(made, policy, direction, near),
@@ -126,7 +127,8 @@ fn add_base_policy(
     near: &Pod,
 ) -> Result<(), NoMemory>
     ensures { OnOk result (made.new.items ≡ made.old.items
-        ++ (if selection.subject_selects policy.now.subject (pod_end near.now) then flat_map spec.of_admin_rule (places.base_rules_of direction policy.now) else [])) }
+        ++ (if selection.subject_selects policy.now.subject (pod_end near.now)
+        then flat_map spec.of_admin_rule (places.base_rules_of direction policy.now) else [])) }
 {
     if subject_selects(&policy.subject, near) {
         add_admin_rules(made, base_rules_of(policy, direction))?;

@@ -18,7 +18,8 @@ pub(crate) struct Pending<'a> {
 impl<'a> Pending<'a> {
     // The rows of the requirement, with those of the other case.
     fn joined(self, others: Vec<OpenRow<'a>>) -> Result<Vec<OpenRow<'a>>, NoMemory>
-        ensures { IfOk result (λ made. IsJoinedBy self.entry.asked.now self.entry.wanted self.entry.rows.items others.entry.items made.items) }
+        ensures { IfOk result (λ made.
+            IsJoinedBy self.entry.asked.now self.entry.wanted self.entry.rows.items others.entry.items made.items) }
     {
         if self.wanted {
             joined(self.asked, self.rows, others)

@@ -40,11 +40,11 @@ IsRuleOf lists rule = rule.place < rule_count_at lists rule.tier rule.direction 
 
 -- ---- all of them
 
--- so many rules of a policy in a direction, by their places
+-- the first rules of a policy in a direction, as many as `count` says, by their places
 abbrev pub rules_from : Tier → ℕ → Direction → ℕ → List RuleRef
 rules_from tier policy direction count = map (λ place. record { tier = tier; policy = policy; direction = direction; place = place }) (range_with_len 0 count)
 
--- those of a policy: ingress before egress
+-- the rules of a policy: ingress before egress
 abbrev pub rules_of_policy : EstateLists → Tier → ℕ → List RuleRef
 rules_of_policy lists tier policy = rules_from tier policy Ingress (rule_count_at lists tier Ingress policy) ++ rules_from tier policy Egress (rule_count_at lists tier Egress policy)
 
@@ -53,7 +53,7 @@ policy_count lists Admin = length lists.admin_policies
 policy_count lists Net = length lists.net_policies
 policy_count lists Base = 1
 
--- those of a tier: policy by policy
+-- the rules of a tier: policy by policy
 abbrev pub rules_of_tier : EstateLists → Tier → List RuleRef
 rules_of_tier lists tier = flat_map (rules_of_policy lists tier) (range_with_len 0 (policy_count lists tier))
 

@@ -75,7 +75,8 @@ six_ends count = map (λ number. At (Six number)) (range_with_len 0 count)
 unfoldable pub listed_ends : EstateLists → List End
 listed_ends lists = pod_ends (length lists.pods) ++ four_ends (2 ^ 32) ++ six_ends (2 ^ 128)
 
--- The families of the packets between two ends: that of the end that is an address, and of the source where both are; between pods those of the estate.
+-- The families of the packets between two ends: that of the end that is an address, and of the source where both are;
+-- between pods those of the estate.
 abbrev pub families_between : EstateLists → End → End → List Family
 families_between lists (At a) destination = family_of a ∷ []
 families_between lists (Pod p) (At a) = family_of a ∷ []

@@ -39,14 +39,24 @@ abbrev pub without_places : {X : Type 0} → (ℕ → Bool) → List X → List 
 without_places gone items = map (λ numbered. numbered.1) (filter (λ numbered. not (gone numbered.0)) (enumerate_from 0 items))
 
 abbrev pub admin_without : List RuleRef → ℕ × AdminPolicy → AdminPolicy
-admin_without rules numbered = record numbered.1 { ingress = without_places (goes rules Admin numbered.0 Ingress) numbered.1.ingress; egress = without_places (goes rules Admin numbered.0 Egress) numbered.1.egress }
+admin_without rules numbered = record numbered.1 {
+  ingress = without_places (goes rules Admin numbered.0 Ingress) numbered.1.ingress;
+  egress = without_places (goes rules Admin numbered.0 Egress) numbered.1.egress;
+}
 
 abbrev pub net_without : List RuleRef → ℕ × NetPolicy → NetPolicy
-net_without rules numbered = record numbered.1 { ingress = option_map (without_places (goes rules Net numbered.0 Ingress)) numbered.1.ingress; egress = option_map (without_places (goes rules Net numbered.0 Egress)) numbered.1.egress }
+net_without rules numbered = record numbered.1 {
+  ingress = option_map (without_places (goes rules Net numbered.0 Ingress)) numbered.1.ingress;
+  egress = option_map (without_places (goes rules Net numbered.0 Egress)) numbered.1.egress;
+}
 
 abbrev pub base_without : List RuleRef → BasePolicy → BasePolicy
 base_without rules policy = record policy { ingress = without_places (goes rules Base 0 Ingress) policy.ingress; egress = without_places (goes rules Base 0 Egress) policy.egress }
 
 -- the estate without these rules
 unfoldable pub without : EstateLists → List RuleRef → EstateLists
-without lists rules = record lists { net_policies = map (net_without rules) (enumerate_from 0 lists.net_policies); admin_policies = map (admin_without rules) (enumerate_from 0 lists.admin_policies); baseline = option_map (base_without rules) lists.baseline }
+without lists rules = record lists {
+  net_policies = map (net_without rules) (enumerate_from 0 lists.net_policies);
+  admin_policies = map (admin_without rules) (enumerate_from 0 lists.admin_policies);
+  baseline = option_map (base_without rules) lists.baseline;
+}

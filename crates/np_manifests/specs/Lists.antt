@@ -15,10 +15,10 @@ abbrev pub list_data : List NetPolicy → Data
 list_data policies = object_with (
     (codes "apiVersion", string (codes "v1")) ∷ (codes "items", list_with (map policy policies)) ∷ (codes "kind", string (codes "List")) ∷ [])
 
--- its text
+-- the text of the List of these policies
 unfoldable pub list_text : List NetPolicy → List ℕ
 list_text policies = compact_text (list_data policies)
 
--- its text, and a line feed
+-- the text of the List of these policies, and a line feed
 abbrev pub list_line : List NetPolicy → List ℕ
 list_line policies = list_text policies ++ codes "\n"

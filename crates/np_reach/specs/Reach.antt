@@ -29,7 +29,8 @@ admin_rule_reaches far rule =
 abbrev pub admin_reaches : Direction → End → AdminPolicy → Bool
 admin_reaches direction far policy = list_any (admin_rule_reaches far) (admin_rules_of direction policy)
 
--- The side of a pod may let a far end through where no NetworkPolicy isolates the pod, or where a policy that selects it has a rule that allows and speaks of the far end.
+-- The side of a pod may let a far end through where no NetworkPolicy isolates the pod, or where a policy that selects
+-- it has a rule that allows and speaks of the far end.
 unfoldable pub may_reach : EstateLists → Direction → PodEnd → End → Bool
 may_reach lists direction near far =
     not (is_isolated lists.net_policies direction near)

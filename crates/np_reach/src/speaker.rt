@@ -24,7 +24,8 @@ pub(crate) trait Speaker {
     ghost may_pick: { Self → PodEnd → Bool };
 
     /// Where it may not, it selects no pod of the namespace.
-    ghost unpicked_elsewhere: { (policy : Self) (one near : PodEnd) → AreOfOneNamespace one near → may_pick policy one ≡ false → picks policy near ≡ false };
+    ghost unpicked_elsewhere: { (policy : Self) (one near : PodEnd) → AreOfOneNamespace one near
+        → may_pick policy one ≡ false → picks policy near ≡ false };
 
     /// Whether some rule of a direction allows, and speaks of a far end.
     ghost speaks: { Direction → End → Self → Bool };
@@ -33,7 +34,8 @@ pub(crate) trait Speaker {
     ghost concerns: { Direction → PodEnd → Self → Bool };
 
     /// Where none may, it speaks of no pod of the namespace.
-    ghost silent_elsewhere: { (policy : Self) (direction : Direction) (one far : PodEnd) → AreOfOneNamespace one far → concerns direction one policy ≡ false → speaks direction (pod far) policy ≡ false };
+    ghost silent_elsewhere: { (policy : Self) (direction : Direction) (one far : PodEnd) → AreOfOneNamespace one far
+        → concerns direction one policy ≡ false → speaks direction (pod far) policy ≡ false };
 
     /// Whether it may select pods of a pod's namespace.
     fn may_select(&self, one: &Pod) -> bool

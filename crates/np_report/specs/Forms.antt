@@ -20,7 +20,7 @@ text_line row = row.source ++ codes " => " ++ row.destination ++ codes " : " ++ 
 abbrev pub text_form : Form
 text_form = record { row = λ came row. text_line row; end = λ came. [] }
 
--- ---- comma-separated values under a header row, which stands even where there is no row, as the default writer of `csv` writes them
+-- ---- comma-separated values under a header row, even of no rows, as the default writer of `csv` writes them
 
 abbrev pub csv_header : List ℕ
 csv_header = csv_row default_writer (codes "source" ∷ codes "destination" ∷ codes "connections" ∷ [])

@@ -37,7 +37,8 @@ pub record IsKey (key : RowKey) : Type 0 where
   pub source : IsEnd key.source
   pub destination : IsEnd key.destination
 
--- A closure that takes and gives so may be called on every key whose numbers are within their types, and answers there whether the query keeps it.
+-- A closure that takes and gives so may be called on every key whose numbers are within their types, and answers there
+-- whether the query keeps it.
 pub record Tells (takes : Bor RowKey → Type 0) (gives : Bor RowKey → Bool → Type 0) (query : Query) : Type 0 where
   pub taken : (key : Bor RowKey) → IsKey key.now → takes key
   pub given : (key : Bor RowKey) (answer : Bool) → IsKey key.now → gives key answer → answer ≡ keeps query key.now

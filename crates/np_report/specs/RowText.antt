@@ -28,7 +28,7 @@ ends_text family range =
     if range.lo == range.hi then address_text (address_of family range.lo)
     else address_text (address_of family range.lo) ++ codes "-" ++ address_text (address_of family range.hi)
 
--- the right list of blocks of a range
+-- the fewest blocks that have the addresses of a range and no other, in ascending order
 abbrev pub blocks_of : AddressSpan → List Cidr
 blocks_of (span.Four range) = range_prefixes Four range
 blocks_of (span.Six range) = range_prefixes Six range
@@ -57,7 +57,7 @@ mark_text (Some Six) = codes " (IPv6)"
 abbrev pub names_of : Folding → List (List ℕ)
 names_of folding = map (λ one. one.name) folding.workloads
 
--- its ends, where a mark may follow the destination, and the text of the spans of its connections
+-- the ends of a row, where a mark may follow the destination, and the text of the spans of its connections
 unfoldable pub row_text : List (List ℕ) → Report → Row → RowText
 row_text names report row = record {
   source = end_text names report row.key.source;

@@ -18,11 +18,11 @@ use Rattle.np_words.specs.declared.report.Report.{Report}
 
 -- ---- the text
 
--- those of some rows that a query asks for, in their order
+-- the rows that a query asks for among some, in their order
 abbrev pub shown : Query → List Row → List Row
 shown query rows = filter (λ row. keeps query row.key) rows
 
--- those of a cluster
+-- the rows of a cluster that a query asks for
 abbrev pub shown_rows : ClusterTable → Query → List Row
 shown_rows cluster query = shown query (cluster_rows cluster)
 

@@ -28,7 +28,7 @@ use Rattle.np_objects.specs.declared.service.PortName.TheVariants.{Number, Named
 use Rattle.np_objects.specs.declared.service.ServiceItem.{ServiceItem}
 use Rattle.np_objects.specs.declared.service.ServicePort.{ServicePort}
 use Rattle.np_policies.specs.declared.direction.Direction.TheVariants.{Ingress}
-use Rattle.np_routes.specs.Controllers.{any_controller, anyone_may_send, ingress_reaches, may_send}
+use Rattle.np_routes.specs.Controllers.{any_controller, unlabelled_may_send, ingress_reaches, may_send}
 use Rattle.np_routes.specs.Routes.{Route, is_in_namespace, is_routed, leads_to, routes_in, routes_of_backend, routes_of_ingress, routes_through}
 use Rattle.np_routes.specs.Services.{is_backend_port, is_pod_port, is_service, is_target, service_named, serves}
 use Rattle.np_rules.proofs.DeciderLemmas.{decider_says}
@@ -164,7 +164,7 @@ one_workload-alike lists p q lawful p_in q_in same =
 
 -- ---- what may be sent
 
-anyone-same : (lists : EstateLists) (p q : PodEnd) (spot : PortSpot) → AreOneKind lists (pod p) (pod q) → anyone_may_send lists p spot ≡ anyone_may_send lists q spot
+anyone-same : (lists : EstateLists) (p q : PodEnd) (spot : PortSpot) → AreOneKind lists (pod p) (pod q) → unlabelled_may_send lists p spot ≡ unlabelled_may_send lists q spot
 anyone-same lists p q spot kind =
     let anyone : End = pod (stranger_end any_controller) in
     let at : PodEnd → Contact = λ near. contact Ingress (pod near) anyone Four spot in

@@ -31,7 +31,7 @@ ingress_key workload = record { source = Controller; destination = Work workload
 unfoldable pub ingress_row : ClusterTable → ℕ → List Row
 ingress_row cluster workload = row_if (ingress_key workload) None (conns_of (cluster.ingresses workload))
 
--- those of all workloads in their order
+-- the rows of all workloads in their order, from the controller of ingresses
 unfoldable pub all_ingress_rows : ClusterTable → List Row
 all_ingress_rows cluster = flat_map (ingress_row cluster) (workloads cluster.table)
 
@@ -50,7 +50,7 @@ is_ingress_controller (Span addresses) = false
 abbrev pub is_from_controller : ℕ → Row → Bool
 is_from_controller workload row = is_ingress_controller row.key.source && is_workload workload row.key.destination
 
--- those rows of a list that are
+-- the rows of a list that are from the controller of ingresses to a workload
 abbrev pub rows_from_controller : ℕ → List Row → List Row
 rows_from_controller workload rows = filter (is_from_controller workload) rows
 

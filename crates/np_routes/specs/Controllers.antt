@@ -23,9 +23,11 @@ use Rattle.np_table.specs.Table.{between_pods, source_pod}
 abbrev pub any_controller : Stranger
 any_controller = record { namespace = record { key = codes "kubernetes.io/metadata.name"; value = [] } ∷ []; labels = [] }
 
--- whether the pod's own side allows what comes from it; it has no address, so the family changes nothing
-abbrev pub anyone_may_send : EstateLists → PodEnd → PortSpot → Bool
-anyone_may_send lists p spot = side_allows lists Ingress p (contact Ingress (pod p) (pod (stranger_end any_controller)) Four spot)
+-- Whether the pod's own side allows what comes from a pod without labels, in a namespace named "". That pod stands for
+-- a controller of which nothing is known. A controller that policies name, by labels or by namespace, is asked about
+-- only where `--controller` names it. The pod has no address, so the family changes nothing.
+abbrev pub unlabelled_may_send : EstateLists → PodEnd → PortSpot → Bool
+unlabelled_may_send lists p spot = side_allows lists Ingress p (contact Ingress (pod p) (pod (stranger_end any_controller)) Four spot)
 
 -- ---- a controller that is a pod
 
@@ -37,7 +39,7 @@ pod_may_send lists sender receiver spot = list_any (λ family. between_pods list
 
 -- whether the controller may send it: the pod at a place, or one that is not known
 abbrev pub may_send : EstateLists → Option ℕ → ℕ → PortSpot → Bool
-may_send lists None receiver spot = anyone_may_send lists (pod_at lists receiver) spot
+may_send lists None receiver spot = unlabelled_may_send lists (pod_at lists receiver) spot
 may_send lists (Some sender) receiver spot = pod_may_send lists sender receiver spot
 
 -- Whether a TCP port of the pod at a place is reached through ingresses: a route leads to it, and the controller may send to it.

@@ -25,7 +25,7 @@ service_flaw named service =
     else (if not (list_any (is_backend_port named) service.ports) then Some NoPort
     else (if service.headless then Some Headless else None))
 
--- so it is where the service is listed
+-- the first flaw of a backend that names a port of a service, which may not be listed
 abbrev pub listed_flaw : PortName → Option ServiceItem → Option RouteFlaw
 listed_flaw named None = Some NoService
 listed_flaw named (Some service) = service_flaw named service
@@ -41,11 +41,11 @@ backend_flaw services namespace backend.Resource = Some Resource
 abbrev pub note_of : List ServiceItem → PlacedIngress → ℕ × Backend → Option RouteNote
 note_of services placed numbered = option_map (λ flaw. record { item = placed.item; backend = numbered.0; flaw = flaw }) (backend_flaw services placed.ingress.namespace numbered.1)
 
--- those of an ingress, whose backends are numbered from 1
+-- the notes of an ingress, whose backends are numbered from 1
 abbrev pub notes_of_ingress : List ServiceItem → PlacedIngress → List RouteNote
 notes_of_ingress services placed = flat_map (λ numbered. option_to_list (note_of services placed numbered)) (enumerate_from 1 placed.ingress.backends)
 
--- those of all ingresses
+-- the notes of all ingresses
 unfoldable pub notes_of_routes : EstateLists → List RouteNote
 notes_of_routes lists = flat_map (notes_of_ingress lists.services) lists.ingresses
 

@@ -30,7 +30,7 @@ abbrev pub routes_through : PortName → Option ServiceItem → List Route
 routes_through named None = []
 routes_through named (Some service) = map (λ port. record { service = service; port = port }) (filter (is_backend_port named) service.ports)
 
--- those of a backend of an ingress of a namespace
+-- the routes of a backend of an ingress of a namespace
 abbrev pub routes_of_backend : List ServiceItem → List ℕ → Backend → List Route
 routes_of_backend services namespace (backend.Service name port) = routes_through port (service_named services namespace name)
 routes_of_backend services namespace backend.Resource = []
@@ -42,7 +42,7 @@ routes_of_ingress services ingress = flat_map (routes_of_backend services ingres
 abbrev pub is_in_namespace : List ℕ → PlacedIngress → Bool
 is_in_namespace namespace placed = bytes_eq placed.ingress.namespace namespace
 
--- those of all ingresses of a namespace
+-- the routes of all ingresses of a namespace
 unfoldable pub routes_in : EstateLists → List ℕ → List Route
 routes_in lists namespace = flat_map (λ placed. routes_of_ingress lists.services placed.ingress) (filter (is_in_namespace namespace) lists.ingresses)
 
@@ -52,7 +52,8 @@ is_routed lists p spot = same_proto spot.proto Tcp && list_any (leads_to p spot.
 
 -- ---- the same in words
 
--- An ingress of the pod's namespace has a backend that names a listed service and one of its TCP ports; the service serves the pod, and the port leads to the number there.
+-- An ingress of the pod's namespace has a backend that names a listed service and one of its TCP ports; the service
+-- serves the pod, and the port leads to the number there.
 pub record LeadsTo (lists : EstateLists) (p : PodEnd) (number : ℕ) : Type 0 where
   pub placed : PlacedIngress
   pub name : List ℕ

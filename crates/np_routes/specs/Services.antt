@@ -47,6 +47,7 @@ abbrev pub is_pod_port : PortName → PodEnd → ℕ → Bool
 is_pod_port (Number own) p number = own == number
 is_pod_port (Named name) p number = has_named name (record { proto = Tcp; port = number }) (pod p)
 
--- Whether a TCP port of a service leads to a port of a pod that it serves: to the target at the pod, and where the service is headless to the port itself.
+-- Whether a TCP port of a service leads to a port of a pod that it serves: to the target at the pod, and where the
+-- service is headless to the port itself.
 abbrev pub is_target : ServiceItem → ServicePort → PodEnd → ℕ → Bool
 is_target service port p number = if service.headless then port.port == number else is_pod_port port.target p number

@@ -39,7 +39,10 @@ impl<'a> Model for ClusterRows<'a> {
 
     ghost use Rattle.np_routes.specs.steps.IngressRows.{IsAtWorkload, due_left, ingress_due, ingress_rows_from, rows_left};
 
-    ghost view = { λ r. record { rows = rows_left r.rows ++ ingress_rows_from (cluster_table r.routes.lists r.routes.controller) r.workload; due = due_left r.rows + ingress_due r.routes.lists r.workload } };
+    ghost view = { λ r. record {
+      rows = rows_left r.rows ++ ingress_rows_from (cluster_table r.routes.lists r.routes.controller) r.workload;
+      due = due_left r.rows + ingress_due r.routes.lists r.workload;
+    } };
 
     ghost invariant = { λ r. IsAtWorkload r.routes r.workload r.count };
 }

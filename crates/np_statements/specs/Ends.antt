@@ -29,11 +29,11 @@ is_in_namespace lists name work =
 abbrev pub no_address : AddressRanges
 no_address = record { first = []; second = [] }
 
--- those of both families
+-- the addresses of both families
 abbrev pub every_address : AddressRanges
 every_address = record { first = record { lo = 0; hi = 2 ^ 32 - 1 } ∷ []; second = record { lo = 0; hi = 2 ^ 128 - 1 } ∷ [] }
 
--- those of a block: from its first one on, as many as there are bits free behind its length
+-- the addresses of a block: all that begin with its first bits, as many as its length says
 abbrev pub addresses_in : Cidr → AddressRanges
 addresses_in (Four base len) = record { first = record { lo = base; hi = base + 2 ^ (32 - len) - 1 } ∷ []; second = [] }
 addresses_in (Six base len) = record { first = []; second = record { lo = base; hi = base + 2 ^ (128 - len) - 1 } ∷ [] }

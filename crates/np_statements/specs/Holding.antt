@@ -29,11 +29,15 @@ IsNamedAddress form address = IsAddress address × NamesAddress form address
 abbrev pub IsAtPort : StatementText → PortSpot → Type 0
 IsAtPort statement spot = (is_spot spot ≡ true) × (has_spot statement.conns spot ≡ true)
 
--- Every packet from what its source names to what its destination names complies: between every two different pods in each family of the list, and with every address in its own family.
+-- Every packet from what its source names to what its destination names complies: between every two different pods in
+-- each family of the list, and with every address in its own family.
 pub record StatementHolds (lists : EstateLists) (statement : StatementText) : Type 0 where
-  pub pods : (p q : ℕ) (family : Family) (spot : PortSpot) → IsNamedPod lists statement.source p → IsNamedPod lists statement.destination q → p ≢ q → Contains (families_of lists.pods) family → IsAtPort statement spot → complies statement.wanted (between_pods lists p q family spot) ≡ true
-  pub to_addresses : (p : ℕ) (address : Address) (spot : PortSpot) → IsNamedPod lists statement.source p → IsNamedAddress statement.destination address → IsAtPort statement spot → complies statement.wanted (with_address lists Egress (pod (pod_at lists p)) (family_of address) (number_of_address address) spot) ≡ true
-  pub from_addresses : (address : Address) (q : ℕ) (spot : PortSpot) → IsNamedAddress statement.source address → IsNamedPod lists statement.destination q → IsAtPort statement spot → complies statement.wanted (with_address lists Ingress (pod (pod_at lists q)) (family_of address) (number_of_address address) spot) ≡ true
+  pub pods : (p q : ℕ) (family : Family) (spot : PortSpot) → IsNamedPod lists statement.source p → IsNamedPod lists statement.destination q → p ≢ q
+      → Contains (families_of lists.pods) family → IsAtPort statement spot → complies statement.wanted (between_pods lists p q family spot) ≡ true
+  pub to_addresses : (p : ℕ) (address : Address) (spot : PortSpot) → IsNamedPod lists statement.source p → IsNamedAddress statement.destination address → IsAtPort statement spot
+      → complies statement.wanted (with_address lists Egress (pod (pod_at lists p)) (family_of address) (number_of_address address) spot) ≡ true
+  pub from_addresses : (address : Address) (q : ℕ) (spot : PortSpot) → IsNamedAddress statement.source address → IsNamedPod lists statement.destination q → IsAtPort statement spot
+      → complies statement.wanted (with_address lists Ingress (pod (pod_at lists q)) (family_of address) (number_of_address address) spot) ≡ true
 
 -- the statement of a line holds
 abbrev pub LineHolds : EstateLists → StatementLine → Type 0

@@ -12,7 +12,7 @@ unfoldable pub choices : ℕ → ℕ → List (List (Range ℕ))
 choices first zero = [] ∷ []
 choices first (suc count) = let above = choices (first + 1) count in above ++ map (onto_runs first) above
 
--- those of all ports, which are 1 to 65535
+-- the runs of every choice among all ports, which are 1 to 65535
 unfoldable pub all_runs : List (List (Range ℕ))
 all_runs = choices 1 65535
 

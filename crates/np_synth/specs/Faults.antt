@@ -37,7 +37,7 @@ abbrev pub first_family : List Family → Family
 first_family [] = Four
 first_family (family ∷ families) = family
 
--- that of the list
+-- the first family of the list
 abbrev pub family_of_list : EstateLists → Family
 family_of_list lists = first_family (families_of lists.pods)
 
@@ -76,7 +76,8 @@ are_same_span (span.Six one) (span.Four other) = false
 abbrev pub are_same_row : AddressRow → AddressRow → Bool
 are_same_row one other = are_same_span one.span other.span && are_same_conns one.conns other.conns
 
--- whether two workloads differ in what passes at some address in a direction: the right list of ranges tells it
+-- Whether two workloads differ in what passes at some address in a direction: they do where their rows of addresses
+-- differ, which are the fewest ranges such that the same passes at each address of one.
 abbrev pub differ_towards : EstateLists → ℕ → ℕ → Direction → Bool
 differ_towards lists a b direction = not (pointwise are_same_row (address_rows (estate_table lists) a direction) (address_rows (estate_table lists) b direction))
 

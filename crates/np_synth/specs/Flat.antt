@@ -43,7 +43,8 @@ rule_if peers conns = if is_nothing conns then [] else record { peers = peers; p
 abbrev pub group_peer : EstateLists → ℕ → NetPeer
 group_peer lists group = Pods (Some (namespace_named (group_namespace lists group))) (Some (group_selector lists group))
 
--- The first workload of a group to which what passes from another is defined. Where no two workloads of a group differ, the same passes to each such one.
+-- The first workload of a group to which what passes from another is defined. Where no two workloads of a group differ,
+-- the same passes to each such one.
 abbrev pub receiver_in : EstateLists → ℕ → ℕ → Option ℕ
 receiver_in lists source group = find (λ workload. group_of lists workload == group && is_defined lists source workload) (places (number_of_workloads lists))
 
@@ -59,7 +60,7 @@ rules_of_set peer (Some set) = rule_if (peer ∷ []) set
 abbrev pub rules_from_group : EstateLists → ℕ → ℕ → List NetRule
 rules_from_group lists group sender = rules_of_set (group_peer lists sender) (set_from lists sender group)
 
--- those of all groups
+-- the rules of a group for what all groups may send to it
 abbrev pub rules_from_groups : EstateLists → ℕ → List NetRule
 rules_from_groups lists group = flat_map (rules_from_group lists group) (places (group_count lists))
 

@@ -27,7 +27,8 @@ abbrev pub PassTheSame : EstateLists → ℕ → ℕ → ℕ → ℕ → Type 0
 PassTheSame lists a b c d =
     (spot : PortSpot) → is_spot spot ≡ true → pair_allows lists (folding_of lists) a b (family_of_list lists) spot ≡ pair_allows lists (folding_of lists) c d (family_of_list lists) spot
 
--- No packet tells two workloads apart: they may send the same to every third one, and receive the same of it; the same passes from either to the other, and within each that has two pods; and they have the same rows with addresses.
+-- No packet tells two workloads apart: they may send the same to every third one, and receive the same of it; the same
+-- passes from either to the other, and within each that has two pods; and they have the same rows with addresses.
 pub record AreTreatedAlike (lists : EstateLists) (a b : ℕ) : Type 0 where
   pub sends : (third : ℕ) → third < number_of_workloads lists → third ≢ a → third ≢ b → PassTheSame lists a third b third
   pub receives : (third : ℕ) → third < number_of_workloads lists → third ≢ a → third ≢ b → PassTheSame lists third a third b

@@ -95,7 +95,8 @@ fn pass_otherwise<L: Ledger>(
 ) -> Result<bool, NoMemory>
     requires pair { AreTwo sides.now pair.0 pair.1 }
     requires other { AreTwo sides.now other.0 other.1 }
-    ensures answer { IfOk result (λ answer. answer ≡ not (are_same_conns (spec.set_of sides.now pair.0 pair.1) (spec.set_of sides.now other.0 other.1))) }
+    ensures answer { IfOk result (λ answer.
+        answer ≡ not (are_same_conns (spec.set_of sides.now pair.0 pair.1) (spec.set_of sides.now other.0 other.1))) }
     ensures least { steps.old ≤ steps.new }
 {
     let set = sides.between(pair.0, pair.1, steps)?;

@@ -25,13 +25,14 @@ abbrev pub asked_of : EstateLists → Result (List StatementLine) Fault → Resu
 asked_of lists (Ok statements) = name_fault (ends_found lists statements)
 asked_of lists (Err fault) = Err fault
 
--- what the lines of a file ask of an estate, or the fault that stands first: a line that is no statement before a name that is unknown
+-- What the lines of a file ask of an estate, or the fault that stands first: a line that is no statement before a name
+-- that is unknown.
 unfoldable pub asked_in : List ℕ → EstateLists → Result (List AskedLine) Fault
 asked_in bytes lists = asked_of lists (line_fault (statements_of bytes))
 
 -- ---- what is found
 
--- that so many statements hold, or how the first one is broken that does not
+-- the line that so many statements hold, or that of how the first one is broken that does not
 abbrev pub finding : EstateLists → ℕ → Option Broken → List ℕ
 finding lists count None = codes "holds: " ++ decimal count ++ codes "\n"
 finding lists count (Some broken) = broken_text lists broken ++ codes "\n"

@@ -26,15 +26,15 @@ abbrev pub pod_word : Pod → List ℕ
 pod_word pod = pod.namespace ++ (codes "/" ++ pod.name)
 
 -- whether a pod is the listed one that a word names; one that a template makes is none
-abbrev pub is_named : List ℕ → Pod → Bool
-is_named name pod = pod.listed && bytes_eq name (pod_word pod)
+abbrev pub is_listed_as : List ℕ → Pod → Bool
+is_listed_as name pod = pod.listed && bytes_eq name (pod_word pod)
 
 -- the end that a word names: an address, or the listed pod of that name
 abbrev pub end_named : EstateLists → EndWord → Option End
 end_named lists (word.At address) = Some (end.At address)
-end_named lists (word.Named name) = option_map end.Pod (position (is_named name) lists.pods)
+end_named lists (word.Named name) = option_map end.Pod (position (is_listed_as name) lists.pods)
 
--- the same, or the fault that there is none
+-- the end that a word names, or the fault that there is none
 unfoldable pub known_end : EstateLists → EndWord → Result End Fault
 known_end lists word = or_unknown (end_text word) (λ one. one) (end_named lists word)
 

@@ -55,7 +55,7 @@ ends_between folding from source destination =
     if are_one folding source destination then Err (SameEnd from)
     else Ok (record { source = source_end folding source; destination = destination_end folding source destination })
 
--- both are known; the fault of the source stands first
+-- what stands for both ends where both are known, else a fault: that of the source first
 abbrev pub known_ends : Folding → List ℕ → Result AskedEnd Fault → Result AskedEnd Fault → Result Ends Fault
 known_ends folding from (Err fault) destination = Err fault
 known_ends folding from (Ok source) (Err fault) = Err fault

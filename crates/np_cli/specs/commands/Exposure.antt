@@ -29,7 +29,7 @@ use Rattle.np_words.specs.declared.format.Format.{Format}
 abbrev pub both_sides : ℕ → List ShownSide
 both_sides workload = record { workload = workload; direction = Ingress } ∷ record { workload = workload; direction = Egress } ∷ []
 
--- those of all workloads in their order, or of the one of a name
+-- both directions of all workloads in their order, or of the one of a name
 unfoldable pub sides_shown : Option (List ℕ) → EstateLists → Result (List ShownSide) Fault
 sides_shown None lists = Ok (flat_map both_sides (range_with_len 0 (number_of_workloads lists)))
 sides_shown (Some name) lists = or_unknown name both_sides (number_named (folding_of lists) name)
@@ -71,7 +71,7 @@ row_text name Egress row = record { source = name; destination = peer_text row.r
 unfoldable pub side_rows : EstateLists → ShownSide → List RowText
 side_rows lists shown = map (row_text (name_of (folding_of lists) shown.workload) shown.direction) (rows_of (pod_side lists shown))
 
--- those of some sides, in a format
+-- the text of the rows of some sides, in a format
 unfoldable pub exposure_text : Format → EstateLists → List ShownSide → List ℕ
 exposure_text format lists sides = report_text format (flat_map (side_rows lists) sides)
 

@@ -92,7 +92,7 @@ fn end_of(alloc: Global, estate: &Estate, word: &EndWord) -> Result<End, Failure
 // The place of the listed pod that a word names.
 fn pod_named(pods: &[Pod], name: &str) -> Option<u32>
     requires { length pods.now < 2 ^ 32 }
-    ensures place { result ≡ position (spec.is_named name.now) pods.now }
+    ensures place { result ≡ position (spec.is_listed_as name.now) pods.now }
     ensures within { IfSome result (λ place. place < length pods.now) }
 {
     match place_named(pods, name) {
@@ -102,7 +102,7 @@ fn pod_named(pods: &[Pod], name: &str) -> Option<u32>
 }
 
 fn place_named(pods: &[Pod], name: &str) -> Option<usize>
-    ensures place { result ≡ position (spec.is_named name.now) pods.now }
+    ensures place { result ≡ position (spec.is_listed_as name.now) pods.now }
     ensures within { IfSome result (λ place. place < length pods.now) }
 {
     pods.iter().position(|pod| is_named(pod, name))
@@ -110,7 +110,7 @@ fn place_named(pods: &[Pod], name: &str) -> Option<usize>
 
 // Whether a pod is the listed one that a word names.
 fn is_named(pod: &Pod, name: &str) -> bool
-    ensures { result ≡ spec.is_named name.now pod.now }
+    ensures { result ≡ spec.is_listed_as name.now pod.now }
 {
     pod.listed && is_word_of(pod, name)
 }

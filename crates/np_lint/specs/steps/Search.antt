@@ -42,15 +42,18 @@ Grows old new = (tier : Tier) (policy place : ℕ) → is_known old tier policy 
 
 -- the rules of the estate that are known are used
 unfoldable pub IsSound : EstateLists → Direction → UsedRules → Type 0
-IsSound lists direction used = (tier : Tier) (policy place : ℕ) → place < rule_count_at lists tier direction policy → is_known used tier policy place ≡ true → is_used lists (ref_of direction tier policy place) ≡ true
+IsSound lists direction used = (tier : Tier) (policy place : ℕ)
+    → place < rule_count_at lists tier direction policy → is_known used tier policy place ≡ true → is_used lists (ref_of direction tier policy place) ≡ true
 
 -- the rules of the estate that stand in a decider are known
 unfoldable pub Knows : EstateLists → Direction → UsedRules → Decider → Type 0
-Knows lists direction used decides = (tier : Tier) (policy place : ℕ) → place < rule_count_at lists tier direction policy → stands_in lists (ref_of direction tier policy place) decides ≡ true → is_known used tier policy place ≡ true
+Knows lists direction used decides = (tier : Tier) (policy place : ℕ)
+    → place < rule_count_at lists tier direction policy → stands_in lists (ref_of direction tier policy place) decides ≡ true → is_known used tier policy place ≡ true
 
 -- they are used
 unfoldable pub AreUsed : EstateLists → Direction → Decider → Type 0
-AreUsed lists direction decides = (tier : Tier) (policy place : ℕ) → place < rule_count_at lists tier direction policy → stands_in lists (ref_of direction tier policy place) decides ≡ true → is_used lists (ref_of direction tier policy place) ≡ true
+AreUsed lists direction decides = (tier : Tier) (policy place : ℕ)
+    → place < rule_count_at lists tier direction policy → stands_in lists (ref_of direction tier policy place) decides ≡ true → is_used lists (ref_of direction tier policy place) ≡ true
 
 -- ---- one side
 
@@ -90,7 +93,8 @@ pub record IsSearchOf (side : PodSide) (pods : List KindPod) (marks : List (List
 abbrev pub IsSearch : Search → Type 0
 IsSearch search = IsSearchOf search.side.now search.kinds.pods.now search.kinds.reach.now search.near search.rules.now
 
--- whether a kind may tell of a rule that is not known: it is asked for, and may be let through, or there are admin rules that are not known
+-- Whether a kind may tell of a rule that is not known: it is asked for, and may be let through, or there are admin
+-- rules that are not known.
 abbrev pub may_tell : Search → UsedRules → ℕ → KindPod → Bool
 may_tell search used kind far = is_asked search.near kind far && (may_at search.kinds.reach.now search.near kind || not (are_known used.admin search.rules.now.admin))
 
