@@ -59,11 +59,9 @@ KNOWN = {(name, command): why for name, commands, why in (
     ("samePorts", "list", LONG_ANSWER),
     ("ignored", "list", "the JSON is held whole, and an object of one member takes more than 500 bytes of memory"),
     ("mostBlocks", "list evaluate", "the JSON and the policies are held whole, at 50 bytes of memory for each byte"),
-    ("mostNetworks", "list evaluate", "each address of a pod is looked for in each block"),
     ("groupKeys", "list", PAIRS),
     ("groupKeys", "flatten", "each policy names all groups, and each group by all keys"),
     ("namedPortRules", "list unused", "each rule has a set of its own of all ports of that name"),
-    ("explainPasses", "explain", "each part names all policies that isolate the pod, and the text is held whole"),
     ("exposureKeys", "exposure", PATTERNS),
 ) for command in commands.split()}
 
