@@ -9,10 +9,10 @@ use Rattle.np_json.specs.Scalars.{whole}
 use Rattle.np_json.specs.Shapes.{Read, must_be_object, optional, required, listed}
 use Rattle.np_labels.specs.declared.pair.Pair.{Pair}
 use Rattle.np_meaning.proofs.MetaMeant.{IsOwn, labels-meant, namespaced_name-meant}
-use Rattle.np_meaning.proofs.Outputs.{OutputOf, IsOptional, of_type-output, optional-output, required-output}
+use Rattle.np_meaning.proofs.Outputs.{OutputOf, IsOptional, optional-output}
 use Rattle.np_meaning.proofs.PodMeant.{pod_spec-meant}
 use Rattle.np_meaning.specs.ControllerMeaning.{has_replicas, is_nought, template_in, IsControllerOf, IsTemplateIn, IsTemplateOf}
-use Rattle.np_meaning.specs.ObjectMeaning.{metadata_of, number_at, part, spec_of, AreLabelsOf}
+use Rattle.np_meaning.specs.ObjectMeaning.{metadata_of, number_at, AreLabelsOf}
 use Rattle.np_objects.specs.Controllers.{controller, controller_metadata, controller_spec, cron_job_spec, is_zero, job_template, no_spec, replicated_spec, template_spec}
 use Rattle.np_objects.specs.Labels.{label_map}
 use Rattle.np_objects.specs.Owners.{owner_reference}
@@ -22,7 +22,9 @@ use Rattle.np_objects.specs.declared.controller.ControllerItem.{ControllerItem}
 use Rattle.np_objects.specs.declared.controller.ControllerKind.{ControllerKind}
 use Rattle.np_objects.specs.declared.controller.ControllerKind.TheVariants.{Deployment, ReplicaSet, StatefulSet, DaemonSet, ReplicationController, Job, CronJob}
 use Rattle.np_objects.specs.declared.controller.Template.{Template}
-use Rattle.np_policies.proofs.ReadLemmas.{bind-output, then-output}
+use Rattle.np_policies.proofs.ReadLemmas.{bind-output, then-output, of_type-output}
+use Rattle.np_policies.specs.PolicyMeaning.{object_at, spec_of}
+use Rattle.np_policies.proofs.MemberReads.{object_at-output}
 
 -- what the metadata and the spec of a controller are read as
 abbrev Metadata : Type 0
@@ -55,7 +57,7 @@ template-meant value read is =
     let past = then-output (must_be_object value) _ read is in
     let labels = bind-output (optional (codes "metadata") template_metadata value) _ read past in
     let spec = bind-output (required (codes "spec") pod_spec value) _ read labels.after in
-    let said = pod_spec-meant (part (codes "spec") value) spec.first (required-output pod_spec (codes "spec") value spec.first spec.here) in
+    let said = pod_spec-meant (object_at (codes "spec") value) spec.first (object_at-output pod_spec (codes "spec") value spec.first spec.here) in
     subst (λ read. IfOk read (IsTemplateOf value)) spec.after (record { labels = template_labels-meant value labels.first labels.here; ports = said.ports; host_network = said.host_network })
 
 template_in-meant : (value : Data) (found : Option Template) → optional (codes "template") template value ≡ Ok found → IsTemplateIn (member_of (codes "template") value) found
@@ -174,7 +176,7 @@ unfolding controller
 controller-meant kind value read is =
     let metadata = bind-output (required (codes "metadata") controller_metadata value) _ read is in
     let spec = bind-output (optional (codes "spec") (controller_spec kind) value) _ read metadata.after in
-    let own = metadata-meant (part (codes "metadata") value) metadata.first (required-output controller_metadata (codes "metadata") value metadata.first metadata.here) in
+    let own = metadata-meant (object_at (codes "metadata") value) metadata.first (object_at-output controller_metadata (codes "metadata") value metadata.first metadata.here) in
     let says = or_none (controller_spec kind) (λ value. has_replicas kind && is_nought (number_at (codes "replicas") value)) (template_in kind) (no-replicas kind) (no-template kind) (spec-meant kind) (member_of (codes "spec") value) spec.first (optional-output (controller_spec kind) (codes "spec") value spec.first spec.here) in
     subst (λ read. IfOk read (IsControllerOf kind value)) spec.after (record {
       kind = refl;

@@ -9,17 +9,19 @@ use Rattle.np_json.specs.Scalars.{port, text}
 use Rattle.np_json.specs.Shapes.{has_one_of, listed, must_be_object, optional, refuse_if, required}
 use Rattle.np_json.specs.declared.fault.FaultKind.TheVariants.{BadField}
 use Rattle.np_meaning.proofs.MetaMeant.{namespaced_name-meant}
-use Rattle.np_meaning.proofs.Outputs.{optional-output, required-output, each-output, number_at-required, text-output, text_at-required, IsOptional}
+use Rattle.np_meaning.proofs.Outputs.{optional-output, each-output, number_at-required, text_at-required, IsOptional, text-output}
 use Rattle.np_policies.proofs.ReadLemmas.{bind-output, then-output}
 use Rattle.np_meaning.proofs.PodMeant.{AreEach-append, AreEach-flat_map}
 use Rattle.np_objects.specs.Ingresses.{backend, backend_port, backend_service, http, ingress, ingress_item, ingress_spec, is_named, is_numbered, is_one, number_or_name, path, rule}
 use Rattle.np_meaning.specs.EachPod.{AreEach}
-use Rattle.np_meaning.specs.ObjectMeaning.{backends_in, list_at, part, text_at, IsBackend, IsBackendPort, IsIngressOf}
+use Rattle.np_meaning.specs.ObjectMeaning.{backends_in, list_at, text_at, IsBackend, IsBackendPort, IsIngressOf}
 use Rattle.np_objects.specs.declared.ingress.Backend.{Backend}
 use Rattle.np_objects.specs.declared.ingress.Backend.TheVariants.{Service, Resource}
 use Rattle.np_objects.specs.declared.ingress.IngressItem.{IngressItem}
 use Rattle.np_objects.specs.declared.service.PortName.{PortName}
 use Rattle.np_objects.specs.declared.service.PortName.TheVariants.{Number, Named}
+use Rattle.np_policies.specs.PolicyMeaning.{object_at}
+use Rattle.np_policies.proofs.MemberReads.{object_at-output}
 
 -- ---- backends
 
@@ -42,7 +44,7 @@ backend_port-meant value read is =
 
 -- a service as a backend
 abbrev IsServiceBackend : Data → Backend → Type 0
-IsServiceBackend value (Service name port) = (text_at (codes "name") value ≡ name) × IsBackendPort (part (codes "port") value) port
+IsServiceBackend value (Service name port) = (text_at (codes "name") value ≡ name) × IsBackendPort (object_at (codes "port") value) port
 IsServiceBackend value Resource = ⊥
 
 backend_service-meant : (value : Data) (read : Backend) → backend_service value ≡ Ok read → IsServiceBackend value read
@@ -52,7 +54,7 @@ backend_service-meant value read is =
     let name = bind-output (required (codes "name") text value) _ read past in
     let port = bind-output (required (codes "port") backend_port value) (λ port. Ok (Service name.first port)) read name.after in
     let made : Service name.first port.first ≡ read = let after = port.after in cc in
-    subst (IsServiceBackend value) made (text_at-required text text-output (codes "name") value name.first name.here, backend_port-meant (part (codes "port") value) port.first (required-output backend_port (codes "port") value port.first port.here))
+    subst (IsServiceBackend value) made (text_at-required text text-output (codes "name") value name.first name.here, backend_port-meant (object_at (codes "port") value) port.first (object_at-output backend_port (codes "port") value port.first port.here))
 
 backend-meant : (value : Data) (read : Backend) → backend value ≡ Ok read → IsBackend value read
 unfolding backend
@@ -75,15 +77,15 @@ backend-meant value read is =
 
 -- ---- rules
 
-path-meant : (value : Data) (read : Backend) → path value ≡ Ok read → IsBackend (part (codes "backend") value) read
+path-meant : (value : Data) (read : Backend) → path value ≡ Ok read → IsBackend (object_at (codes "backend") value) read
 unfolding path
 path-meant value read is =
     let past = then-output (must_be_object value) (required (codes "backend") backend value) read is in
-    backend-meant (part (codes "backend") value) read (required-output backend (codes "backend") value read past)
+    backend-meant (object_at (codes "backend") value) read (object_at-output backend (codes "backend") value read past)
 
 -- the backends of the paths of a rule
 abbrev paths_of : Data → List Data
-paths_of value = map (part (codes "backend")) (list_at (codes "paths") value)
+paths_of value = map (object_at (codes "backend")) (list_at (codes "paths") value)
 
 AreEach-map : (f : Data → Data) (values : List Data) (reads : List Backend) → AreEach (λ value read. IsBackend (f value) read) values reads → AreEach IsBackend (map f values) reads
 AreEach-map f [] [] are = tt
@@ -95,15 +97,15 @@ http-meant : (value : Data) (reads : List Backend) → http value ≡ Ok reads �
 unfolding http
 http-meant value reads is =
     let past = then-output (must_be_object value) (listed (codes "paths") path value) reads is in
-    AreEach-map (part (codes "backend")) (list_at (codes "paths") value) reads (each-output path (λ d read. IsBackend (part (codes "backend") d) read) path-meant (codes "paths") value reads past)
+    AreEach-map (object_at (codes "backend")) (list_at (codes "paths") value) reads (each-output path (λ d read. IsBackend (object_at (codes "backend") d) read) path-meant (codes "paths") value reads past)
 
-rule-meant : (value : Data) (reads : List Backend) → rule value ≡ Ok reads → AreEach IsBackend (paths_of (part (codes "http") value)) reads
+rule-meant : (value : Data) (reads : List Backend) → rule value ≡ Ok reads → AreEach IsBackend (paths_of (object_at (codes "http") value)) reads
 unfolding rule
 rule-meant value reads is =
     let past = then-output (must_be_object value) _ reads is in
     let found = bind-output (optional (codes "http") http value) (λ found. Ok (unwrap_or found [])) reads past in
     let made : unwrap_or found.first [] ≡ reads = let after = found.after in cc in
-    subst (AreEach IsBackend (paths_of (part (codes "http") value))) made (by (member_of (codes "http") value) found.first (optional-output http (codes "http") value found.first found.here))
+    subst (AreEach IsBackend (paths_of (object_at (codes "http") value))) made (by (member_of (codes "http") value) found.first (optional-output http (codes "http") value found.first found.here))
   where
     by : (member : Option Data) (found : Option (List Backend)) → IsOptional http member found → AreEach IsBackend (paths_of (unwrap_or member (object no_members))) (unwrap_or found [])
     by None None said = tt
@@ -121,9 +123,9 @@ ingress_spec-meant value reads is =
     let rules = bind-output (listed (codes "rules") rule value) (λ rules. Ok (option_to_list first.first ++ flat_map (λ backends. backends) rules)) reads first.after in
     let made : option_to_list first.first ++ flat_map (λ backends. backends) rules.first ≡ reads = let after = rules.after in cc in
     subst (AreEach IsBackend (backends_in value)) made
-    (AreEach-append IsBackend (option_to_list (member_of (codes "defaultBackend") value)) (flat_map (λ d. paths_of (part (codes "http") d)) (list_at (codes "rules") value)) (option_to_list first.first) (flat_map (λ backends. backends) rules.first)
+    (AreEach-append IsBackend (option_to_list (member_of (codes "defaultBackend") value)) (flat_map (λ d. paths_of (object_at (codes "http") d)) (list_at (codes "rules") value)) (option_to_list first.first) (flat_map (λ backends. backends) rules.first)
     (by (member_of (codes "defaultBackend") value) first.first (optional-output backend (codes "defaultBackend") value first.first first.here))
-    (AreEach-flat_map IsBackend (λ d. paths_of (part (codes "http") d)) (list_at (codes "rules") value) rules.first (each-output rule (λ d reads. AreEach IsBackend (paths_of (part (codes "http") d)) reads) rule-meant (codes "rules") value rules.first rules.here)))
+    (AreEach-flat_map IsBackend (λ d. paths_of (object_at (codes "http") d)) (list_at (codes "rules") value) rules.first (each-output rule (λ d reads. AreEach IsBackend (paths_of (object_at (codes "http") d)) reads) rule-meant (codes "rules") value rules.first rules.here)))
   where
     by : (member : Option Data) (found : Option Backend) → IsOptional backend member found → AreEach IsBackend (option_to_list member) (option_to_list found)
     by None None said = tt
@@ -137,7 +139,7 @@ ingress-meant value read is =
     let own = bind-output (required (codes "metadata") namespaced_name value) _ read is in
     let spec = bind-output (optional (codes "spec") ingress_spec value) (λ backends. Ok (ingress_item own.first (unwrap_or backends []))) read own.after in
     let made : ingress_item own.first (unwrap_or spec.first []) ≡ read = let after = spec.after in cc in
-    let names = namespaced_name-meant (part (codes "metadata") value) own.first (required-output namespaced_name (codes "metadata") value own.first own.here) in
+    let names = namespaced_name-meant (object_at (codes "metadata") value) own.first (object_at-output namespaced_name (codes "metadata") value own.first own.here) in
     subst (IsIngressOf value) made (record {
       names = (names.namespace, names.name);
       backends = by (member_of (codes "spec") value) spec.first (optional-output ingress_spec (codes "spec") value spec.first spec.here);

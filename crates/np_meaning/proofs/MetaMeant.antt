@@ -16,10 +16,11 @@ use Rattle.np_json.specs.declared.meta.NamespacedName.{NamespacedName}
 use Rattle.np_labels.proofs.PairLists.{value_of-labels_of}
 use Rattle.np_labels.specs.Labels.{labels_of, value_of}
 use Rattle.np_labels.specs.declared.pair.Pair.{Pair}
-use Rattle.np_meaning.proofs.Outputs.{optional-output, of_type-output, name-output, text-output, text_at-required, IsOptional}
-use Rattle.np_policies.proofs.ReadLemmas.{bind-output, then-output}
+use Rattle.np_meaning.proofs.Outputs.{optional-output, text_at-required, IsOptional, text-output}
+use Rattle.np_policies.proofs.ReadLemmas.{bind-output, then-output, of_type-output}
 use Rattle.np_objects.specs.Labels.{label_map, pair_of}
 use Rattle.np_meaning.specs.ObjectMeaning.{last_text, named_or_default, text_at, AreLabelsOf}
+use Rattle.np_policies.proofs.MemberReads.{name-output}
 
 -- ---- names
 

@@ -1,29 +1,21 @@
 -- What follows from a shape having read an output.
-use Rattle.std.proofs.Common.{◌≡◌, ℕ, ℤ, pos, negsuc, ◌+◌, List, [], ◌∷◌, Bool, true, false, not, cond, ◌&&◌, nat_le, Option, Some, None, unwrap_or, Ok, Err, refl, ap, subst, ◌∙◌}
+use Rattle.std.proofs.Common.{◌≡◌, ℕ, ℤ, pos, negsuc, ◌+◌, List, [], ◌∷◌, Bool, true, false, cond, ◌&&◌, nat_le, Option, Some, None, unwrap_or, Ok, Err, refl, ap, subst, ◌∙◌}
 use Rattle.serde_json.specs.Data.{Data, object, Items, no_items, item, no_members}
 use Rattle.serde_json.specs.Find.{as_array, as_bool, as_str}
 use Rattle.np_json.specs.Members.{as_whole, member_of}
-use Rattle.np_json.specs.Scalars.{flag, name, of_type, port, port_number, text, whole, word}
-use Rattle.np_json.specs.Shapes.{Read, ◌>>=◌, ◌>>◌, each_item, given, list_by, listed, optional, read_member, refuse, refuse_if, required, under}
-use Rattle.np_json.specs.Words.{is_name, is_word}
-use Rattle.np_json.specs.declared.fault.FaultKind.TheVariants.{BadField, BadName, BadPort}
+use Rattle.np_json.specs.Scalars.{flag, name, port, port_number, text, whole}
+use Rattle.np_json.specs.Shapes.{Read, ◌>>=◌, each_item, given, list_by, listed, optional, read_member, refuse, required, under}
+use Rattle.np_json.specs.declared.fault.FaultKind.TheVariants.{BadPort}
 use Rattle.np_json.specs.declared.path.Step.TheVariants.{Field, Item}
-use Rattle.np_policies.proofs.ReadLemmas.{bind-output, then-output, under-output}
+use Rattle.np_policies.proofs.ReadLemmas.{bind-output, under-output, of_type-output}
 use Rattle.np_meaning.specs.EachPod.{AreEach}
-use Rattle.np_meaning.specs.ObjectMeaning.{each_of, is_true_at, list_at, number_at, part, text_at}
+use Rattle.np_meaning.specs.ObjectMeaning.{each_of, is_true_at, list_at, number_at, text_at}
+use Rattle.np_policies.specs.PolicyMeaning.{object_at}
+use Rattle.np_policies.proofs.MemberReads.{object_at-output}
 
 -- what a definition of a reading gives
 abbrev pub OutputOf : {A : Type 0} → (Data → Read A) → Type 0
 OutputOf {A} read = A
-
--- a required member was read as the output
-pub required-output : {A : Type 0} (shape : Data → Read A) (name : List ℕ) (value : Data) (output : A) → required name shape value ≡ Ok output → shape (part name value) ≡ Ok output
-unfolding required
-required-output shape name value output is = by (member_of name value) (under-output (Field name) (read_member (refuse BadField) shape (member_of name value)) output is)
-  where
-    by : (member : Option Data) → read_member (refuse BadField) shape member ≡ Ok output → shape (unwrap_or member (object no_members)) ≡ Ok output
-    by None is = cc
-    by (Some found) is = is
 
 -- what `given` gave
 abbrev IsGiven : {A : Type 0} → Read A → Option A → Type 0
@@ -91,28 +83,8 @@ each-output shape Has so name value outputs is = AreEach-weaker (λ d output. sh
 
 -- ---- scalars
 
-pub of_type-output : {A : Type 0} (found : Option A) (output : A) → of_type found ≡ Ok output → found ≡ Some output
-of_type-output None output is = cc
-of_type-output (Some other) output is = cc
-
 pub text-output : (value : Data) (s : List ℕ) → text value ≡ Ok s → as_str value ≡ Some s
 text-output value s is = of_type-output (as_str value) s is
-
-pub name-output : (value : Data) (s : List ℕ) → name value ≡ Ok s → as_str value ≡ Some s
-unfolding name
-name-output value s is =
-    let read = bind-output (text value) (λ s. refuse_if (not (is_name s)) BadName >> Ok s) s is in
-    let same : Ok read.first ≡ Ok s = then-output (refuse_if (not (is_name read.first)) BadName) (Ok read.first) s read.after in
-    let first : read.first ≡ s = cc in
-    text-output value read.first read.here ∙ ap Some first
-
-pub word-output : (value : Data) (s : List ℕ) → word value ≡ Ok s → as_str value ≡ Some s
-unfolding word
-word-output value s is =
-    let read = bind-output (text value) (λ s. refuse_if (not (is_word s)) BadField >> Ok s) s is in
-    let same : Ok read.first ≡ Ok s = then-output (refuse_if (not (is_word read.first)) BadField) (Ok read.first) s read.after in
-    let first : read.first ≡ s = cc in
-    text-output value read.first read.here ∙ ap Some first
 
 pub port_number-output : (n : ℤ) (m : ℕ) → port_number n ≡ Ok m → n ≡ pos m
 port_number-output (pos n) m is = by (nat_le 1 n && nat_le n 65535) is
@@ -130,11 +102,11 @@ port-output value n is =
 
 -- the text of a required member
 pub text_at-required : (shape : Data → Read (List ℕ)) → ((value : Data) (s : List ℕ) → shape value ≡ Ok s → as_str value ≡ Some s) → (name : List ℕ) (value : Data) (s : List ℕ) → required name shape value ≡ Ok s → text_at name value ≡ s
-text_at-required shape reads name value s is = rw (reads (part name value) s (required-output shape name value s is)) refl
+text_at-required shape reads name value s is = rw (reads (object_at name value) s (object_at-output shape name value s is)) refl
 
 -- the number of a required member
 pub number_at-required : (name : List ℕ) (value : Data) (n : ℕ) → required name port value ≡ Ok n → number_at name value ≡ Some (pos n)
-number_at-required name value n is = port-output (part name value) n (required-output port name value n is)
+number_at-required name value n is = port-output (object_at name value) n (object_at-output port name value n is)
 
 -- the text of a member that may be missing
 pub text_at-optional : (name : List ℕ) (value : Data) (found : Option (List ℕ)) → optional name text value ≡ Ok found → text_at name value ≡ unwrap_or found []

@@ -19,13 +19,13 @@ use Rattle.np_json.specs.Scalars.{flag, name, port, text, word}
 use Rattle.np_json.specs.Shapes.{given, listed, must_be_object, optional, required}
 use Rattle.np_json.specs.declared.fault.FaultKind.TheVariants.{BadAddress, BadProtocol}
 use Rattle.np_meaning.proofs.MetaMeant.{labels-meant, namespaced_name-meant, IsOwn}
-use Rattle.np_meaning.proofs.Outputs.{OutputOf, optional-output, required-output, each-output, name-output, text-output, word-output, number_at-required, is_true_at-optional, text_at-optional, text_at-required, IsOptional}
-use Rattle.np_policies.proofs.ReadLemmas.{bind-output, then-output}
+use Rattle.np_meaning.proofs.Outputs.{OutputOf, optional-output, each-output, number_at-required, is_true_at-optional, text_at-optional, text_at-required, IsOptional, text-output}
+use Rattle.np_policies.proofs.ReadLemmas.{bind-output, then-output, word-output}
 use Rattle.np_objects.specs.Labels.{label_map}
 use Rattle.np_objects.specs.Lists.{or_refuse, unless_empty}
 use Rattle.np_objects.specs.Namespaces.{namespace, namespace_metadata}
 use Rattle.np_meaning.specs.EachPod.{AreEach}
-use Rattle.np_meaning.specs.ObjectMeaning.{has_name, is_address, is_final, is_text_empty, list_at, is_true_at, named_ports, number_at, part, protocol_of, says_address, text_at, AreLabelsOf, IsContainerPort, IsNamespaceOf, IsPodOf}
+use Rattle.np_meaning.specs.ObjectMeaning.{has_name, is_address, is_final, is_text_empty, list_at, is_true_at, named_ports, number_at, protocol_of, says_address, text_at, AreLabelsOf, IsContainerPort, IsNamespaceOf, IsPodOf}
 use Rattle.np_objects.specs.Owners.{owner_reference}
 use Rattle.np_objects.specs.PodSpecs.{container, pod_spec}
 use Rattle.np_objects.specs.Pods.{pod, pod_item, pod_metadata}
@@ -34,6 +34,8 @@ use Rattle.np_objects.specs.Statuses.{address, address_by, distinct, has_address
 use Rattle.np_objects.specs.declared.named_port.NamedPort.{NamedPort}
 use Rattle.np_objects.specs.declared.namespace.NamespaceItem.{NamespaceItem}
 use Rattle.np_objects.specs.declared.pod_item.PodItem.{PodItem}
+use Rattle.np_policies.specs.PolicyMeaning.{object_at}
+use Rattle.np_policies.proofs.MemberReads.{object_at-output, name-output}
 
 -- what the members of a pod are read as, each for itself
 abbrev PodMetadata : Type 0
@@ -259,7 +261,7 @@ pod_status-meant value status is =
     by None = refl
     by (Some s) = refl
 
-status-meant : (value : Data) (found : Option PodStatus) → optional (codes "status") pod_status value ≡ Ok found → IsStatus (part (codes "status") value) (unwrap_or found no_status)
+status-meant : (value : Data) (found : Option PodStatus) → optional (codes "status") pod_status value ≡ Ok found → IsStatus (object_at (codes "status") value) (unwrap_or found no_status)
 status-meant value found is = by (member_of (codes "status") value) found (optional-output pod_status (codes "status") value found is)
   where
     by : (member : Option Data) (found : Option PodStatus) → IsOptional pod_status member found → IsStatus (unwrap_or member (object no_members)) (unwrap_or found no_status)
@@ -289,8 +291,8 @@ pod-meant value read is =
     let spec = bind-output (required (codes "spec") pod_spec value) _ read metadata.after in
     let status = bind-output (optional (codes "status") pod_status value) (λ status. Ok (pod_item metadata.first spec.first (unwrap_or status no_status))) read spec.after in
     let made : pod_item metadata.first spec.first (unwrap_or status.first no_status) ≡ read = let after = status.after in cc in
-    let first = pod_metadata-meant (part (codes "metadata") value) metadata.first (required-output pod_metadata (codes "metadata") value metadata.first metadata.here) in
-    let second = pod_spec-meant (part (codes "spec") value) spec.first (required-output pod_spec (codes "spec") value spec.first spec.here) in
+    let first = pod_metadata-meant (object_at (codes "metadata") value) metadata.first (object_at-output pod_metadata (codes "metadata") value metadata.first metadata.here) in
+    let second = pod_spec-meant (object_at (codes "spec") value) spec.first (object_at-output pod_spec (codes "spec") value spec.first spec.here) in
     let third = status-meant value status.first status.here in
     let own = first.own in
     subst (IsPodOf value) made (record {
@@ -314,5 +316,5 @@ namespace_metadata-meant value read is =
 pub namespace-meant : (value : Data) (read : NamespaceItem) → namespace value ≡ Ok read → IsNamespaceOf value read
 unfolding namespace
 namespace-meant value read is =
-    let both = namespace_metadata-meant (part (codes "metadata") value) read (required-output namespace_metadata (codes "metadata") value read is) in
+    let both = namespace_metadata-meant (object_at (codes "metadata") value) read (object_at-output namespace_metadata (codes "metadata") value read is) in
     record { name = both.0; labels = both.1 }

@@ -16,18 +16,20 @@ use Rattle.np_labels.specs.Selectors.{allows, label_requirement, meets_requireme
 use Rattle.np_labels.specs.declared.op.Op.TheVariants.{OneOf}
 use Rattle.np_labels.specs.declared.pair.Pair.{Pair}
 use Rattle.np_meaning.proofs.MetaMeant.{labels-output, namespaced_name-meant, pairs-member}
-use Rattle.np_meaning.proofs.Outputs.{OutputOf, optional-output, required-output, each-output, number_at-required, port_number-output, text_at-optional, IsOptional}
+use Rattle.np_meaning.proofs.Outputs.{OutputOf, optional-output, each-output, number_at-required, port_number-output, text_at-optional, IsOptional}
 use Rattle.np_policies.proofs.ReadLemmas.{bind-output, then-output}
 use Rattle.np_meaning.proofs.PodMeant.{port_name-meant, port_name-output, protocol-meant, IsTextOr}
 use Rattle.np_objects.specs.Controllers.{is_zero}
 use Rattle.np_meaning.specs.EachPod.{AreEach}
-use Rattle.np_meaning.specs.ObjectMeaning.{entries_at, have_entries, is_text_of, list_at, number_at, part, target_at, text_at, IsServiceOf, IsServicePort, IsServiceSelector}
+use Rattle.np_meaning.specs.ObjectMeaning.{entries_at, have_entries, is_text_of, list_at, number_at, target_at, text_at, IsServiceOf, IsServicePort, IsServiceSelector}
 use Rattle.np_objects.specs.Ports.{port_name, protocol}
 use Rattle.np_objects.specs.Services.{by_name, by_number, is_text, selector_of, service, service_item, service_port, service_spec, target_by, target_port}
 use Rattle.np_objects.specs.declared.service.PortName.{PortName}
 use Rattle.np_objects.specs.declared.service.PortName.TheVariants.{Number, Named}
 use Rattle.np_objects.specs.declared.service.ServiceItem.{ServiceItem}
 use Rattle.np_objects.specs.declared.service.ServicePort.{ServicePort}
+use Rattle.np_policies.specs.PolicyMeaning.{object_at}
+use Rattle.np_policies.proofs.MemberReads.{object_at-output}
 
 -- what the spec of a service is read as
 abbrev ServiceSpec : Type 0
@@ -167,8 +169,8 @@ service-meant value read is =
     let own = bind-output (required (codes "metadata") namespaced_name value) _ read is in
     let spec = bind-output (required (codes "spec") service_spec value) (λ spec. Ok (service_item own.first spec)) read own.after in
     let made : service_item own.first spec.first ≡ read = let after = spec.after in cc in
-    let names = namespaced_name-meant (part (codes "metadata") value) own.first (required-output namespaced_name (codes "metadata") value own.first own.here) in
-    let parts = service_spec-meant (part (codes "spec") value) spec.first (required-output service_spec (codes "spec") value spec.first spec.here) in
+    let names = namespaced_name-meant (object_at (codes "metadata") value) own.first (object_at-output namespaced_name (codes "metadata") value own.first own.here) in
+    let parts = service_spec-meant (object_at (codes "spec") value) spec.first (object_at-output service_spec (codes "spec") value spec.first spec.here) in
     subst (IsServiceOf value) made (record {
       names = (names.namespace, names.name);
       selector = parts.selector;

@@ -43,13 +43,15 @@ pub record IsListedPod (one : PodItem) (end : Pod) : Type 0 where
 
 -- a controller and its template, unless the pods of that are on the network of their node
 abbrev pub templated : Item → Option (ControllerItem × Template)
-templated (item.Object (object.Controller controller)) = option_and_then (λ template. if template.host_network then None else Some (controller, template)) controller.template
+templated (item.Object (object.Controller controller)) =
+    option_and_then (λ template. if template.host_network then None else Some (controller, template)) controller.template
 templated other = None
 
 -- those of the controllers that stand for pods, where the first item stands at a place
 abbrev pub templates_from : List Item → ℕ → List Item → List (ControllerItem × Template)
 templates_from items place [] = []
-templates_from items place (one ∷ rest) = option_to_list (if makes_pod items place then templated one else None) ++ templates_from items (place + 1) rest
+templates_from items place (one ∷ rest) =
+    option_to_list (if makes_pod items place then templated one else None) ++ templates_from items (place + 1) rest
 
 pub record IsMadePod (made : ControllerItem × Template) (end : Pod) : Type 0 where
   pub namespace : end.namespace ≡ made.0.namespace

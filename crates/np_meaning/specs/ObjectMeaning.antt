@@ -3,7 +3,7 @@
 use Rattle.std.specs.Prelude.{◌≡◌, ℕ, ℤ, pos, negsuc, zero, suc, List, [], ◌∷◌, ◌++◌, filter, map, option_to_list, Bool, true, false, not, ◌&&◌, ◌||◌, if◌then◌else◌, is_some, Option, Some, None, option_map, unwrap_or, codes}
 use Rattle.std.specs.List.{flat_map, list_any}
 use Rattle.std.specs.Str.{bytes_eq}
-use Rattle.serde_json.specs.Data.{Data, object, Items, no_items, item, Members, no_members, member}
+use Rattle.serde_json.specs.Data.{Data, Items, no_items, item, Members, no_members, member}
 use Rattle.serde_json.specs.Find.{as_str, as_bool, as_array, as_object}
 use Rattle.np_addr.specs.AddressGrammar.{address_of}
 use Rattle.np_addr.specs.declared.address.Address.{Address}
@@ -27,24 +27,21 @@ use Rattle.np_objects.specs.declared.service.PortName.TheVariants.{Number, Named
 use Rattle.np_objects.specs.declared.service.ServiceItem.{ServiceItem}
 use Rattle.np_objects.specs.declared.service.ServicePort.{ServicePort}
 use Rattle.np_meaning.specs.EachPod.{AreEach}
+use Rattle.np_policies.specs.PolicyMeaning.{object_at, spec_of}
 
 -- ---- members
 
--- a member, and an object without members where it is missing
-abbrev pub part : List ℕ → Data → Data
-part name value = unwrap_or (member_of name value) (object no_members)
-
 -- the text of a member, and the empty text where there is none
 abbrev pub text_at : List ℕ → Data → List ℕ
-text_at name value = unwrap_or (as_str (part name value)) []
+text_at name value = unwrap_or (as_str (object_at name value)) []
 
 -- whether a member is `true`
 abbrev pub is_true_at : List ℕ → Data → Bool
-is_true_at name value = unwrap_or (as_bool (part name value)) false
+is_true_at name value = unwrap_or (as_bool (object_at name value)) false
 
 -- the whole number of a member, if it is one
 abbrev pub number_at : List ℕ → Data → Option ℤ
-number_at name value = as_whole (part name value)
+number_at name value = as_whole (object_at name value)
 
 abbrev pub each_of : Items → List Data
 each_of no_items = []
@@ -52,17 +49,14 @@ each_of (item value items) = value ∷ each_of items
 
 -- the items of a member, and none where it is missing
 abbrev pub list_at : List ℕ → Data → List Data
-list_at name value = each_of (unwrap_or (as_array (part name value)) no_items)
+list_at name value = each_of (unwrap_or (as_array (object_at name value)) no_items)
 
 -- the entries of a member, and none where it is missing
 abbrev pub entries_at : List ℕ → Data → Members
-entries_at name value = unwrap_or (as_object (part name value)) no_members
+entries_at name value = unwrap_or (as_object (object_at name value)) no_members
 
 abbrev pub metadata_of : Data → Data
-metadata_of value = part (codes "metadata") value
-
-abbrev pub spec_of : Data → Data
-spec_of value = part (codes "spec") value
+metadata_of value = object_at (codes "metadata") value
 
 -- the namespace that the metadata names, and `default` where that is missing or empty
 abbrev pub named_or_default : List ℕ → List ℕ
@@ -71,14 +65,17 @@ named_or_default (byte ∷ bytes) = byte ∷ bytes
 
 -- the namespace and the name of an object
 abbrev pub IsNamed : Data → List ℕ → List ℕ → Type 0
-IsNamed value namespace name = (named_or_default (text_at (codes "namespace") (metadata_of value)) ≡ namespace) × (text_at (codes "name") (metadata_of value) ≡ name)
+IsNamed value namespace name =
+    (named_or_default (text_at (codes "namespace") (metadata_of value)) ≡ namespace)
+    × (text_at (codes "name") (metadata_of value) ≡ name)
 
 -- ---- labels
 
 -- the text of the last entry of a name
 abbrev pub last_text : Members → List ℕ → Option (List ℕ)
 last_text no_members key = None
-last_text (member name value members) key = if is_some (last_text members key) then last_text members key else if bytes_eq name key then as_str value else None
+last_text (member name value members) key =
+    if is_some (last_text members key) then last_text members key else if bytes_eq name key then as_str value else None
 
 -- the labels have the value of each key that `labels` has, and no other
 abbrev pub AreLabelsOf : Data → List Pair → Type 0
@@ -115,7 +112,9 @@ is_address (byte ∷ bytes) address = unwrap_or (option_map (λ other. is_same o
 
 -- whether `podIP` or an item of `podIPs` is an address
 abbrev pub says_address : Data → Address → Bool
-says_address status address = is_address (text_at (codes "podIP") status) address || list_any (λ value. is_address (text_at (codes "ip") value) address) (list_at (codes "podIPs") status)
+says_address status address =
+    is_address (text_at (codes "podIP") status) address
+    || list_any (λ value. is_address (text_at (codes "ip") value) address) (list_at (codes "podIPs") status)
 
 -- whether the phase is one that a pod does not leave
 abbrev pub is_final : List ℕ → Bool
@@ -125,9 +124,9 @@ pub record IsPodOf (value : Data) (pod : PodItem) : Type 0 where
   pub names : IsNamed value pod.namespace pod.name
   pub labels : AreLabelsOf (metadata_of value) pod.labels
   pub ports : AreEach IsContainerPort (named_ports (spec_of value)) pod.ports
-  pub addresses : (address : Address) → has_address pod.addresses address ≡ says_address (part (codes "status") value) address
+  pub addresses : (address : Address) → has_address pod.addresses address ≡ says_address (object_at (codes "status") value) address
   pub host_network : pod.host_network ≡ is_true_at (codes "hostNetwork") (spec_of value)
-  pub finished : pod.finished ≡ is_final (text_at (codes "phase") (part (codes "status") value))
+  pub finished : pod.finished ≡ is_final (text_at (codes "phase") (object_at (codes "status") value))
 
 -- ---- namespaces
 
@@ -154,7 +153,8 @@ have_entries labels (member key value members) = is_text_of (value_of labels key
 -- a selector is met by the labels that have all of `selector`; there is none where that is missing or empty
 abbrev pub IsServiceSelector : Members → Option Selector → Type 0
 IsServiceSelector entries None = are_no_entries entries ≡ true
-IsServiceSelector entries (Some selector) = (are_no_entries entries ≡ false) × ((labels : List Pair) → meets_selector selector labels ≡ have_entries labels entries)
+IsServiceSelector entries (Some selector) =
+    (are_no_entries entries ≡ false) × ((labels : List Pair) → meets_selector selector labels ≡ have_entries labels entries)
 
 -- the port of the pods: the same where no `targetPort` is named, which the number 0 and the empty text do not
 abbrev pub target_at : Option ℤ → List ℕ → ℕ → PortName
@@ -186,14 +186,16 @@ IsBackendPort value (Named name) = text_at (codes "name") value ≡ name
 
 -- a port of the service of that name, or a resource where there is no service
 abbrev pub IsBackend : Data → Backend → Type 0
-IsBackend value (Service name port) = (text_at (codes "name") (part (codes "service") value) ≡ name) × IsBackendPort (part (codes "port") (part (codes "service") value)) port
+IsBackend value (Service name port) =
+    (text_at (codes "name") (object_at (codes "service") value) ≡ name)
+    × IsBackendPort (object_at (codes "port") (object_at (codes "service") value)) port
 IsBackend value Resource = member_of (codes "service") value ≡ None
 
 -- the default backend, where there is one, and those of the paths of the rules, in order
 abbrev pub backends_in : Data → List Data
 backends_in spec =
     option_to_list (member_of (codes "defaultBackend") spec)
-    ++ flat_map (λ rule. map (part (codes "backend")) (list_at (codes "paths") (part (codes "http") rule))) (list_at (codes "rules") spec)
+    ++ flat_map (λ rule. map (object_at (codes "backend")) (list_at (codes "paths") (object_at (codes "http") rule))) (list_at (codes "rules") spec)
 
 pub record IsIngressOf (value : Data) (ingress : IngressItem) : Type 0 where
   pub names : IsNamed value ingress.namespace ingress.name
