@@ -9,16 +9,16 @@ WIDTH = 120
 
 # The parts, each with the files at its top, of which the definitions stand in it that the contract reaches.
 PARTS = [
-    ("What the words ask for", ["np_words/specs/CommandLines.antt"]),
-    ("What sources and sinks tell", ["np_io/src/inputs.rt", "np_io/src/sink.rt", "np_cli/specs/Sources.antt", "np_cli/specs/Sinks.antt"]),
-    ("What `list` says: the headline", ["np_cli/specs/Headline.antt"]),
-    ("What `explain` says", ["np_cli/specs/Explains.antt"]),
-    ("What `exposure` says", ["np_cli/specs/Exposes.antt"]),
-    ("What `evaluate` says", ["np_cli/specs/commands/Evaluate.antt"]),
-    ("What `unused` says", ["np_cli/specs/Useless.antt"]),
-    ("What `check` says", ["np_cli/specs/Checks.antt"]),
-    ("What `flatten` says", ["np_cli/specs/Flattens.antt"]),
-    ("What `sample` says", ["np_cli/specs/Samples.antt"]),
+    ("What the words ask for", ["np_args/specs/CommandLines.antt"]),
+    ("What sources and sinks tell", ["np_io/src/inputs.rt", "np_io/src/sink.rt", "np_cli/specs/Sources.antt", "np_command/specs/Sinks.antt"]),
+    ("What `list` says: the headline", ["np_command_list/specs/Promise.antt"]),
+    ("What `explain` says", ["np_command_explain/specs/Promise.antt"]),
+    ("What `exposure` says", ["np_command_exposure/specs/Promise.antt"]),
+    ("What `evaluate` says", ["np_command_evaluate/specs/Report.antt"]),
+    ("What `unused` says", ["np_command_unused/specs/Promise.antt"]),
+    ("What `check` says", ["np_command_check/specs/Promise.antt"]),
+    ("What `flatten` says", ["np_command_flatten/specs/Promise.antt"]),
+    ("What `sample` says", ["np_command_sample/specs/Promise.antt"]),
     ("What is promised of every run", ["np_cli/src/run.rt"]),
 ]
 PROMISES = "np_cli/specs/Promises.antt"
@@ -112,7 +112,7 @@ class Document:
 
     @staticmethod
     def meant(module, source):
-        """What a renamed name is, as `List` of np_words Job."""
+        """What a renamed name is, as `List` of np_args Job."""
         crate, *place = module.removeprefix("Rattle.").split(".")
         if "declared" in place:
             place = place[place.index("declared") + 1:]

@@ -4,11 +4,11 @@
 ghost use Rattle.std.specs.Prelude.{◌≡◌, ◌<◌, ℕ};
 ghost use Rattle.np_cli.specs.Promises.{Promises};
 ghost use Rattle.np_cli.specs.Runs.{ran};
-ghost use Rattle.np_cli.specs.Sinks.{sunk};
+ghost use Rattle.np_command.specs.Sinks.{sunk};
 ghost use Rattle.np_cli.specs.Sources.{sourced};
-ghost use Rattle.np_cli.specs.Statuses.{code_of};
-ghost use Rattle.np_cli.specs.declared.status.Status.{Status as SpecStatus};
-ghost use Rattle.np_words.specs.CommandLines.{asked_by};
+ghost use Rattle.np_command.specs.Statuses.{code_of};
+ghost use Rattle.np_command.specs.declared.status.Status.{Status as SpecStatus};
+ghost use Rattle.np_args.specs.CommandLines.{asked_by};
 
 use np_cli::{Status, np_main};
 use np_io::{Inputs, RealInputs, RealSink, Sink};

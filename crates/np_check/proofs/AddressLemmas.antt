@@ -14,16 +14,16 @@ use Rattle.np_check.specs.Counters.{addresses_in, addresses_of, breaks, counter_
 use Rattle.np_check.specs.Firsts.{first_of, first_spot}
 use Rattle.np_check.specs.steps.Broken.{broken_at, earlier, first_broken_of}
 use Rattle.np_check.specs.declared.addresses.Broken.{Broken}
-use Rattle.np_check.specs.declared.counter.Counter.{Counter}
-use Rattle.np_check.specs.declared.counter.PlaceEnd.{PlaceEnd}
-use Rattle.np_check.specs.declared.counter.PlaceEnd.TheVariants.{At, Work}
+use Rattle.np_check.specs.declared.counterexample.Counterexample.{Counterexample}
+use Rattle.np_check.specs.declared.counterexample.PlaceEnd.{PlaceEnd}
+use Rattle.np_check.specs.declared.counterexample.PlaceEnd.TheVariants.{At, Work}
 use Rattle.np_check.specs.declared.statement_text.Wanted.{Wanted}
 use Rattle.np_conns.specs.Conns.{Conns}
 use Rattle.np_conns.specs.declared.port_spot.PortSpot.{PortSpot}
-use Rattle.np_estate.specs.declared.lists.EstateLists.{EstateLists}
+use Rattle.np_model.specs.declared.lists.EstateLists.{EstateLists}
 use Rattle.np_fold.specs.Workloads.{folding_of}
-use Rattle.np_policies.specs.declared.direction.Direction.{Direction}
-use Rattle.np_policies.specs.declared.direction.Direction.TheVariants.{Egress, Ingress}
+use Rattle.np_model.specs.declared.direction.Direction.{Direction}
+use Rattle.np_model.specs.declared.direction.Direction.TheVariants.{Egress, Ingress}
 use Rattle.np_table.specs.Rows.{address_rows, rows_of_addresses}
 use Rattle.np_table.specs.Table.{address_allows, estate_table, table_of}
 
@@ -55,10 +55,10 @@ map_map : {X Y Z : Type 0} (to : Y → Z) (from : X → Y) (found : Option X) �
 map_map to from None = refl
 map_map to from (Some x) = refl
 
-abbrev pub counter_to : ℕ → Broken → Counter
+abbrev pub counter_to : ℕ → Broken → Counterexample
 counter_to work broken = counter_at (At broken.address) (Work work) (family_of broken.address) broken.spot
 
-abbrev pub counter_by : ℕ → Broken → Counter
+abbrev pub counter_by : ℕ → Broken → Counterexample
 counter_by work broken = counter_at (Work work) (At broken.address) (family_of broken.address) broken.spot
 
 abbrev broken_by : Address → PortSpot → Broken
@@ -94,17 +94,17 @@ all_by lists wanted conns work block found is =
 
 -- ---- what is found is from its source
 
-none_some : (counter : Counter) → None ≡ Some counter → ⊥
+none_some : (counter : Counterexample) → None ≡ Some counter → ⊥
 none_some counter same = cc
 
-same_counter : (one other : Counter) → Some one ≡ Some other → one ≡ other
+same_counter : (one other : Counterexample) → Some one ≡ Some other → one ≡ other
 same_counter one other same = cc
 
-source_at : (source destination : PlaceEnd) (family : Family) (found : Option PortSpot) (counter : Counter) → option_map (counter_at source destination family) found ≡ Some counter → counter.source ≡ source
+source_at : (source destination : PlaceEnd) (family : Family) (found : Option PortSpot) (counter : Counterexample) → option_map (counter_at source destination family) found ≡ Some counter → counter.source ≡ source
 source_at source destination family None counter is = absurd (none_some counter is)
-source_at source destination family (Some spot) counter is = sym (ap (λ (c : Counter). c.source) (same_counter (counter_at source destination family spot) counter is))
+source_at source destination family (Some spot) counter is = sym (ap (λ (c : Counterexample). c.source) (same_counter (counter_at source destination family spot) counter is))
 
-source_in : (lists : EstateLists) (wanted : Wanted) (conns : Conns) (source destination : PlaceEnd) (families : List Family) (counter : Counter) → first_of (counter_in lists wanted conns source destination) families ≡ Some counter → counter.source ≡ source
+source_in : (lists : EstateLists) (wanted : Wanted) (conns : Conns) (source destination : PlaceEnd) (families : List Family) (counter : Counterexample) → first_of (counter_in lists wanted conns source destination) families ≡ Some counter → counter.source ≡ source
 source_in lists wanted conns source destination [] counter is = absurd (none_some counter is)
 source_in lists wanted conns source destination (family ∷ families) counter is =
     elim (from_either (counter_in lists wanted conns source destination family) (first_of (counter_in lists wanted conns source destination) families) counter is) [
@@ -112,11 +112,11 @@ source_in lists wanted conns source destination (family ∷ families) counter is
       | inr later ↦ source_in lists wanted conns source destination families counter later
     ]
 
-source_of : (lists : EstateLists) (wanted : Wanted) (conns : Conns) (source destination : PlaceEnd) (counter : Counter) → counter_between lists wanted conns source destination ≡ Some counter → counter.source ≡ source
+source_of : (lists : EstateLists) (wanted : Wanted) (conns : Conns) (source destination : PlaceEnd) (counter : Counterexample) → counter_between lists wanted conns source destination ≡ Some counter → counter.source ≡ source
 unfolding counter_between
 source_of lists wanted conns source destination counter is = source_in lists wanted conns source destination (families_between lists source destination) counter is
 
-source_of_all : (lists : EstateLists) (wanted : Wanted) (conns : Conns) (source : PlaceEnd) (works : List ℕ) (counter : Counter) → first_of (λ work. counter_between lists wanted conns source (Work work)) works ≡ Some counter → counter.source ≡ source
+source_of_all : (lists : EstateLists) (wanted : Wanted) (conns : Conns) (source : PlaceEnd) (works : List ℕ) (counter : Counterexample) → first_of (λ work. counter_between lists wanted conns source (Work work)) works ≡ Some counter → counter.source ≡ source
 source_of_all lists wanted conns source [] counter is = absurd (none_some counter is)
 source_of_all lists wanted conns source (work ∷ works) counter is =
     elim (from_either (counter_between lists wanted conns source (Work work)) (first_of (λ work. counter_between lists wanted conns source (Work work)) works) counter is) [
@@ -136,13 +136,13 @@ to_more lists wanted conns works i address within =
     ∙ sym (first_of-append gives (take i works) (get_or works i 0 ∷ []))
     ∙ ap (first_of gives) (sym (take_more works i 0 within))
 
-pub one_work_more : (lists : EstateLists) (wanted : Wanted) (conns : Conns) (block : AddressRanges) (works : List ℕ) (i : ℕ) (first found : Option Counter) → i < length works → first ≡ first_of (λ address. first_of (λ work. counter_between lists wanted conns (At address) (Work work)) (take i works)) (addresses_of block) → found ≡ first_of (λ address. counter_between lists wanted conns (At address) (Work (get_or works i 0))) (addresses_of block) → earlier first found ≡ first_of (λ address. first_of (λ work. counter_between lists wanted conns (At address) (Work work)) (take (i + 1) works)) (addresses_of block)
+pub one_work_more : (lists : EstateLists) (wanted : Wanted) (conns : Conns) (block : AddressRanges) (works : List ℕ) (i : ℕ) (first found : Option Counterexample) → i < length works → first ≡ first_of (λ address. first_of (λ work. counter_between lists wanted conns (At address) (Work work)) (take i works)) (addresses_of block) → found ≡ first_of (λ address. counter_between lists wanted conns (At address) (Work (get_or works i 0))) (addresses_of block) → earlier first found ≡ first_of (λ address. first_of (λ work. counter_between lists wanted conns (At address) (Work work)) (take (i + 1) works)) (addresses_of block)
 one_work_more lists wanted conns block works i first found within first_is found_is =
     let before = λ (address : Address). first_of (λ work. counter_between lists wanted conns (At address) (Work work)) (take i works) in
     let own = λ (address : Address). counter_between lists wanted conns (At address) (Work (get_or works i 0)) in
     let after = λ (address : Address). first_of (λ work. counter_between lists wanted conns (At address) (Work work)) (take (i + 1) works) in
     let both = λ (address : Address). option_or (before address) (own address) in
-    ap (λ (one : Option Counter). earlier one found) first_is
-    ∙ ap (λ (other : Option Counter). earlier (first_of before (addresses_of block)) other) found_is
+    ap (λ (one : Option Counterexample). earlier one found) first_is
+    ∙ ap (λ (other : Option Counterexample). earlier (first_of before (addresses_of block)) other) found_is
     ∙ sym (merge before own (addresses_of block) (λ address counter is. source_of_all lists wanted conns (At address) (take i works) counter is) (λ address counter is. source_of lists wanted conns (At address) (Work (get_or works i 0)) counter is) (addresses-ascend block))
     ∙ first_of-same both after (addresses_of block) (λ address. to_more lists wanted conns works i address within)

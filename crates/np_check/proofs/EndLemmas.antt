@@ -24,7 +24,7 @@ use Rattle.np_check.specs.declared.statement_text.Wanted.TheVariants.{Allow, Den
 use Rattle.np_conns.specs.ConnsText.{conns_text, is_whole, joined, part, part_text, spans_of, text_of_runs}
 use Rattle.np_conns.specs.declared.port_spot.PortSpot.{PortSpot}
 use Rattle.np_conns.specs.declared.proto.Proto.TheVariants.{Sctp, Tcp, Udp}
-use Rattle.np_json.specs.Words.{has_slash, is_name, is_word, is_word_byte}
+use Rattle.np_model.specs.Words.{has_slash, is_name, is_word, is_word_byte}
 
 -- ---- the marks
 

@@ -17,20 +17,20 @@ use Rattle.np_check.specs.Counters.{addresses_of, breaks, complies, counter_at, 
 use Rattle.np_check.specs.Firsts.{first_of, first_spot}
 use Rattle.np_check.specs.Holding.{HasAddress, Holds}
 use Rattle.np_check.specs.Numbers.{ascends_from, is_among}
-use Rattle.np_check.specs.declared.counter.Counter.{Counter}
-use Rattle.np_check.specs.declared.counter.PlaceEnd.{PlaceEnd}
-use Rattle.np_check.specs.declared.counter.PlaceEnd.TheVariants.{At, Work}
+use Rattle.np_check.specs.declared.counterexample.Counterexample.{Counterexample}
+use Rattle.np_check.specs.declared.counterexample.PlaceEnd.{PlaceEnd}
+use Rattle.np_check.specs.declared.counterexample.PlaceEnd.TheVariants.{At, Work}
 use Rattle.np_check.specs.declared.question.Ends.{Ends}
 use Rattle.np_check.specs.declared.question.Question.{Question}
 use Rattle.np_check.specs.declared.statement_text.Wanted.{Wanted}
 use Rattle.np_conns.specs.Conns.{Conns, has_spot, is_spot}
 use Rattle.np_conns.specs.declared.port_spot.PortSpot.{PortSpot}
-use Rattle.np_estate.specs.Families.{families_of}
-use Rattle.np_estate.specs.Lawful.{IsLawful}
-use Rattle.np_estate.specs.declared.lists.EstateLists.{EstateLists}
+use Rattle.np_model.specs.Families.{families_of}
+use Rattle.np_model.specs.Lawful.{IsLawful}
+use Rattle.np_model.specs.declared.lists.EstateLists.{EstateLists}
 use Rattle.np_fold.specs.Workloads.{Workload, folding_of, first_of as first_named, members_of, named_first_pods, number_of, pods_alike, workload, workloads_of}
 use Rattle.np_names.specs.declared.named.Named.{Named}
-use Rattle.np_policies.specs.declared.direction.Direction.TheVariants.{Egress, Ingress}
+use Rattle.np_model.specs.declared.direction.Direction.TheVariants.{Egress, Ingress}
 use Rattle.np_table.proofs.MemberLemmas.{destination-member, member-number, members-some, members-within, not-alone, own-member, source-member}
 use Rattle.np_table.proofs.PairLemmas.{between_pods-pair_allows, pair_allows-between, with_address-address_allows}
 use Rattle.np_table.specs.Table.{IsWorkload, address_allows, destination_pod, is_alone, pair_allows, source_pod}
@@ -42,8 +42,8 @@ unfolding counter_from
 from_parts lists wanted conns ends source =
     let gives = counter_between lists wanted conns (Work source) in
     first_of-append gives (map Work ends.works) (map At (addresses_of ends.block))
-    ∙ ap (λ (first : Option Counter). option_or first (first_of gives (map At (addresses_of ends.block)))) (first_of-map gives Work ends.works)
-    ∙ ap (λ (rest : Option Counter). option_or (first_of (λ (work : ℕ). gives (Work work)) ends.works) rest) (first_of-map gives At (addresses_of ends.block))
+    ∙ ap (λ (first : Option Counterexample). option_or first (first_of gives (map At (addresses_of ends.block)))) (first_of-map gives Work ends.works)
+    ∙ ap (λ (rest : Option Counterexample). option_or (first_of (λ (work : ℕ). gives (Work work)) ends.works) rest) (first_of-map gives At (addresses_of ends.block))
 
 -- ---- between two ends
 

@@ -10,14 +10,14 @@ use Rattle.np_check.specs.FirstPacket.{IsBroken, IsFirstBroken}
 use Rattle.np_check.specs.Firsts.{first_of_ports, first_of_proto, first_spot}
 use Rattle.np_check.specs.Numbers.{is_ascending}
 use Rattle.np_check.specs.Order.{comes_before, family_before, proto_before}
-use Rattle.np_check.specs.declared.counter.Counter.{Counter}
-use Rattle.np_check.specs.declared.counter.PlaceEnd.{PlaceEnd}
+use Rattle.np_check.specs.declared.counterexample.Counterexample.{Counterexample}
+use Rattle.np_check.specs.declared.counterexample.PlaceEnd.{PlaceEnd}
 use Rattle.np_check.specs.declared.question.Question.{Question}
 use Rattle.np_conns.specs.Conns.{is_spot}
 use Rattle.np_conns.specs.declared.port_spot.PortSpot.{PortSpot}
 use Rattle.np_conns.specs.declared.proto.Proto.{Proto}
 use Rattle.np_conns.specs.declared.proto.Proto.TheVariants.{Tcp, Udp, Sctp}
-use Rattle.np_estate.specs.declared.lists.EstateLists.{EstateLists}
+use Rattle.np_model.specs.declared.lists.EstateLists.{EstateLists}
 
 -- ---- where nothing is found no packet is broken
 
@@ -27,22 +27,22 @@ at_odds b yes_it no_it = true≢false (sym yes_it ∙ no_it)
 spot_none : (passes : PortSpot → Bool) (spot : PortSpot) → first_spot passes ≡ None → is_spot spot ≡ true → passes spot ≡ true → ⊥
 spot_none passes spot none is does = at_odds (passes spot) does (no_spot passes spot none is)
 
-in_none : (lists : EstateLists) (question : Question) (packet : Counter) → IsBroken lists question packet → counter_in lists question.wanted question.conns packet.source packet.destination packet.family ≡ None → ⊥
+in_none : (lists : EstateLists) (question : Question) (packet : Counterexample) → IsBroken lists question packet → counter_in lists question.wanted question.conns packet.source packet.destination packet.family ≡ None → ⊥
 in_none lists question packet is none =
     spot_none (breaks question.wanted question.conns (allows_between lists packet.source packet.destination packet.family)) packet.spot
     (none_map (counter_at packet.source packet.destination packet.family) (first_spot (breaks question.wanted question.conns (allows_between lists packet.source packet.destination packet.family))) none) is.spot is.broken
 
-between_none : (lists : EstateLists) (question : Question) (packet : Counter) → IsBroken lists question packet → counter_between lists question.wanted question.conns packet.source packet.destination ≡ None → ⊥
+between_none : (lists : EstateLists) (question : Question) (packet : Counterexample) → IsBroken lists question packet → counter_between lists question.wanted question.conns packet.source packet.destination ≡ None → ⊥
 unfolding counter_between
 between_none lists question packet is none =
     in_none lists question packet is (none_at (counter_in lists question.wanted question.conns packet.source packet.destination) (families_between lists packet.source packet.destination) packet.family none is.listed)
 
-from_none : (lists : EstateLists) (question : Question) (packet : Counter) → IsBroken lists question packet → counter_from lists question.wanted question.conns question.destination packet.source ≡ None → ⊥
+from_none : (lists : EstateLists) (question : Question) (packet : Counterexample) → IsBroken lists question packet → counter_from lists question.wanted question.conns question.destination packet.source ≡ None → ⊥
 unfolding counter_from
 from_none lists question packet is none =
     between_none lists question packet is (none_of_in (counter_between lists question.wanted question.conns packet.source) (places_of question.destination) packet.destination none (in_places question.destination packet.destination is.to))
 
-pub nothing_broken : (lists : EstateLists) (question : Question) (packet : Counter) → counter_of lists question ≡ None → IsBroken lists question packet → ⊥
+pub nothing_broken : (lists : EstateLists) (question : Question) (packet : Counterexample) → counter_of lists question ≡ None → IsBroken lists question packet → ⊥
 unfolding counter_of
 nothing_broken lists question packet none is =
     from_none lists question packet is (none_of_in (counter_from lists question.wanted question.conns question.destination) (places_of question.source) packet.source none (in_places question.source packet.source is.from))
@@ -103,14 +103,14 @@ spot_first passes spot found =
 not_before : {X : Type 0} (before : X → X → Bool) (one first : X) → (before one first ≡ true → ⊥) → before one first ≡ false
 not_before before one first never = elim (cases_Bool (before one first)) [ inl earlier ↦ absurd (never earlier) | inr later ↦ later ]
 
-moved : (lists : EstateLists) (question : Question) (other : Counter) (source destination : PlaceEnd) (family : Family) → other.source ≡ source → other.destination ≡ destination → other.family ≡ family → breaks question.wanted question.conns (allows_between lists other.source other.destination other.family) other.spot ≡ true → breaks question.wanted question.conns (allows_between lists source destination family) other.spot ≡ true
+moved : (lists : EstateLists) (question : Question) (other : Counterexample) (source destination : PlaceEnd) (family : Family) → other.source ≡ source → other.destination ≡ destination → other.family ≡ family → breaks question.wanted question.conns (allows_between lists other.source other.destination other.family) other.spot ≡ true → breaks question.wanted question.conns (allows_between lists source destination family) other.spot ≡ true
 moved lists question other source destination family same same' same'' does =
     sym (ap (λ (end : PlaceEnd). breaks question.wanted question.conns (allows_between lists end other.destination other.family) other.spot) same
     ∙ ap (λ (end : PlaceEnd). breaks question.wanted question.conns (allows_between lists source end other.family) other.spot) same'
     ∙ ap (λ (one : Family). breaks question.wanted question.conns (allows_between lists source destination one) other.spot) same'')
     ∙ does
 
-pub first_broken : (lists : EstateLists) (question : Question) (first : Counter) → is_ascending question.source.works ≡ true → is_ascending question.destination.works ≡ true → counter_of lists question ≡ Some first → IsFirstBroken lists question first
+pub first_broken : (lists : EstateLists) (question : Question) (first : Counterexample) → is_ascending question.source.works ≡ true → is_ascending question.destination.works ≡ true → counter_of lists question ≡ Some first → IsFirstBroken lists question first
 unfolding counter_of counter_from counter_between
 first_broken lists question first sources destinations found =
     let wanted = question.wanted in
@@ -120,9 +120,9 @@ first_broken lists question first sources destinations found =
     let f = found_of family_before (counter_in lists wanted conns s.item d.item) (families_between lists s.item d.item) first strict_families (between_sorted lists s.item d.item) d.found in
     let (spot, spot_found, is) = some_map (counter_at s.item d.item f.item) (first_spot (breaks wanted conns (allows_between lists s.item d.item f.item))) first f.found in
     let p = spot_first (breaks wanted conns (allows_between lists s.item d.item f.item)) spot spot_found in
-    let source_is : first.source ≡ s.item = ap (λ (c : Counter). c.source) is in
-    let destination_is : first.destination ≡ d.item = ap (λ (c : Counter). c.destination) is in
-    let family_is : first.family ≡ f.item = ap (λ (c : Counter). c.family) is in
+    let source_is : first.source ≡ s.item = ap (λ (c : Counterexample). c.source) is in
+    let destination_is : first.destination ≡ d.item = ap (λ (c : Counterexample). c.destination) is in
+    let family_is : first.family ≡ f.item = ap (λ (c : Counterexample). c.family) is in
     let own : IsBroken lists question (counter_at s.item d.item f.item spot) = record {
       from = places_are question.source s.item s.one;
       to = places_are question.destination d.item d.one;

@@ -11,7 +11,7 @@ use Rattle.np_check.proofs.SpotLemmas.{breaks-same}
 use Rattle.np_check.specs.Counters.{addresses_of, breaks, complies, counter_at, counter_between, counter_from, counter_in, families_between}
 use Rattle.np_check.specs.Firsts.{first_of, first_of_ports, first_of_proto, first_spot}
 use Rattle.np_check.specs.steps.Pairs.{AreSettled, has_pair, is_deny, kind_of}
-use Rattle.np_check.specs.declared.counter.PlaceEnd.TheVariants.{At, Work}
+use Rattle.np_check.specs.declared.counterexample.PlaceEnd.TheVariants.{At, Work}
 use Rattle.np_check.specs.declared.question.Ends.{Ends}
 use Rattle.np_check.specs.declared.statement_text.Wanted.{Wanted}
 use Rattle.np_check.specs.declared.statement_text.Wanted.TheVariants.{Allow, Deny}
@@ -19,11 +19,11 @@ use Rattle.np_conns.specs.Conns.{Conns, has_spot}
 use Rattle.np_conns.specs.declared.port_spot.PortSpot.{PortSpot}
 use Rattle.np_conns.specs.declared.proto.Proto.{Proto}
 use Rattle.np_conns.specs.declared.proto.Proto.TheVariants.{Tcp, Udp, Sctp}
-use Rattle.np_estate.specs.Families.{families_of}
-use Rattle.np_estate.specs.Lawful.{IsLawful}
-use Rattle.np_estate.specs.declared.lists.EstateLists.{EstateLists}
+use Rattle.np_model.specs.Families.{families_of}
+use Rattle.np_model.specs.Lawful.{IsLawful}
+use Rattle.np_model.specs.declared.lists.EstateLists.{EstateLists}
 use Rattle.np_fold.specs.Workloads.{folding_of, members_of}
-use Rattle.np_policies.specs.declared.direction.Direction.TheVariants.{Egress, Ingress}
+use Rattle.np_model.specs.declared.direction.Direction.TheVariants.{Egress, Ingress}
 use Rattle.np_rules.specs.PodSides.{PodSide}
 use Rattle.np_table.proofs.KindLemmas.{kinds-by}
 use Rattle.np_table.proofs.PairLemmas.{pair_allows-firsts, pair_allows-kinds}

@@ -5,13 +5,13 @@ use Rattle.np_addr.specs.declared.address.Address.{Address}
 use Rattle.np_check.proofs.FirstLemmas.{first_of-append, first_of-map, first_of-none, first_of-same, or_none}
 use Rattle.np_check.specs.Counters.{addresses_of, counter_between, counter_from, counter_of}
 use Rattle.np_check.specs.Firsts.{first_of}
-use Rattle.np_check.specs.declared.counter.Counter.{Counter}
-use Rattle.np_check.specs.declared.counter.PlaceEnd.TheVariants.{At, Work}
+use Rattle.np_check.specs.declared.counterexample.Counterexample.{Counterexample}
+use Rattle.np_check.specs.declared.counterexample.PlaceEnd.TheVariants.{At, Work}
 use Rattle.np_check.specs.declared.question.Ends.{Ends}
 use Rattle.np_check.specs.declared.question.Question.{Question}
 use Rattle.np_check.specs.declared.statement_text.Wanted.{Wanted}
 use Rattle.np_conns.specs.Conns.{Conns}
-use Rattle.np_estate.specs.declared.lists.EstateLists.{EstateLists}
+use Rattle.np_model.specs.declared.lists.EstateLists.{EstateLists}
 
 -- no packet of two addresses is spoken of
 between_addresses : (lists : EstateLists) (wanted : Wanted) (conns : Conns) (address other : Address) → counter_between lists wanted conns (At address) (At other) ≡ None
@@ -23,7 +23,7 @@ unfolding counter_from
 from-address lists wanted conns ends address =
     let gives = counter_between lists wanted conns (At address) in
     first_of-append gives (map Work ends.works) (map At (addresses_of ends.block))
-    ∙ ap (λ (rest : Option Counter). option_or (first_of gives (map Work ends.works)) rest)
+    ∙ ap (λ (rest : Option Counterexample). option_or (first_of gives (map Work ends.works)) rest)
     (first_of-map gives At (addresses_of ends.block) ∙ first_of-none (λ (other : Address). gives (At other)) (addresses_of ends.block) (between_addresses lists wanted conns address))
     ∙ or_none (first_of gives (map Work ends.works))
     ∙ first_of-map gives Work ends.works
@@ -33,7 +33,7 @@ unfolding counter_of
 of-question lists question =
     let gives = counter_from lists question.wanted question.conns question.destination in
     first_of-append gives (map Work question.source.works) (map At (addresses_of question.source.block))
-    ∙ ap (λ (first : Option Counter). option_or first (first_of gives (map At (addresses_of question.source.block)))) (first_of-map gives Work question.source.works)
-    ∙ ap (λ (rest : Option Counter). option_or (first_of (λ (source : ℕ). gives (Work source)) question.source.works) rest)
+    ∙ ap (λ (first : Option Counterexample). option_or first (first_of gives (map At (addresses_of question.source.block)))) (first_of-map gives Work question.source.works)
+    ∙ ap (λ (rest : Option Counterexample). option_or (first_of (λ (source : ℕ). gives (Work source)) question.source.works) rest)
     (first_of-map gives At (addresses_of question.source.block)
     ∙ first_of-same (λ (address : Address). gives (At address)) (λ (address : Address). first_of (λ (work : ℕ). counter_between lists question.wanted question.conns (At address) (Work work)) question.destination.works) (addresses_of question.source.block) (from-address lists question.wanted question.conns question.destination))

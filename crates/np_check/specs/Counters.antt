@@ -7,19 +7,19 @@ use Rattle.np_addr.specs.declared.address.Address.{Address}
 use Rattle.np_addr.specs.declared.address.Address.TheVariants.{Four, Six}
 use Rattle.np_addr.specs.declared.address.Family.{Family}
 use Rattle.np_check.specs.Firsts.{first_of, first_spot}
-use Rattle.np_check.specs.declared.counter.Counter.{Counter}
-use Rattle.np_check.specs.declared.counter.PlaceEnd.{PlaceEnd}
-use Rattle.np_check.specs.declared.counter.PlaceEnd.TheVariants.{At, Work}
+use Rattle.np_check.specs.declared.counterexample.Counterexample.{Counterexample}
+use Rattle.np_check.specs.declared.counterexample.PlaceEnd.{PlaceEnd}
+use Rattle.np_check.specs.declared.counterexample.PlaceEnd.TheVariants.{At, Work}
 use Rattle.np_check.specs.declared.question.Ends.{Ends}
 use Rattle.np_check.specs.declared.question.Question.{Question}
 use Rattle.np_check.specs.declared.statement_text.Wanted.{Wanted}
 use Rattle.np_check.specs.declared.statement_text.Wanted.TheVariants.{Allow, Deny}
 use Rattle.np_conns.specs.Conns.{Conns, has_spot}
 use Rattle.np_conns.specs.declared.port_spot.PortSpot.{PortSpot}
-use Rattle.np_estate.specs.Families.{families_of}
-use Rattle.np_estate.specs.declared.lists.EstateLists.{EstateLists}
+use Rattle.np_model.specs.Families.{families_of}
+use Rattle.np_model.specs.declared.lists.EstateLists.{EstateLists}
 use Rattle.np_fold.specs.Workloads.{folding_of}
-use Rattle.np_policies.specs.declared.direction.Direction.TheVariants.{Egress, Ingress}
+use Rattle.np_model.specs.declared.direction.Direction.TheVariants.{Egress, Ingress}
 use Rattle.np_table.specs.Table.{address_allows, is_alone, pair_allows}
 
 -- ---- ends
@@ -68,25 +68,25 @@ breaks wanted conns allowed spot = has_spot conns spot && not (complies wanted (
 
 -- ---- the first that breaks it
 
-abbrev pub counter_at : PlaceEnd → PlaceEnd → Family → PortSpot → Counter
+abbrev pub counter_at : PlaceEnd → PlaceEnd → Family → PortSpot → Counterexample
 counter_at source destination family spot = record { source = source; destination = destination; family = family; spot = spot }
 
 -- between two ends in a family, by protocol and port
-abbrev pub counter_in : EstateLists → Wanted → Conns → PlaceEnd → PlaceEnd → Family → Option Counter
+abbrev pub counter_in : EstateLists → Wanted → Conns → PlaceEnd → PlaceEnd → Family → Option Counterexample
 counter_in lists wanted conns source destination family =
     option_map (counter_at source destination family)
     (first_spot (breaks wanted conns (allows_between lists source destination family)))
 
 -- between two ends, by family: IPv4 before IPv6
-unfoldable pub counter_between : EstateLists → Wanted → Conns → PlaceEnd → PlaceEnd → Option Counter
+unfoldable pub counter_between : EstateLists → Wanted → Conns → PlaceEnd → PlaceEnd → Option Counterexample
 counter_between lists wanted conns source destination =
     first_of (counter_in lists wanted conns source destination) (families_between lists source destination)
 
 -- from an end, by destination
-unfoldable pub counter_from : EstateLists → Wanted → Conns → Ends → PlaceEnd → Option Counter
+unfoldable pub counter_from : EstateLists → Wanted → Conns → Ends → PlaceEnd → Option Counterexample
 counter_from lists wanted conns destinations source = first_of (counter_between lists wanted conns source) (places_of destinations)
 
 -- of all, by source
-unfoldable pub counter_of : EstateLists → Question → Option Counter
+unfoldable pub counter_of : EstateLists → Question → Option Counterexample
 counter_of lists question =
     first_of (counter_from lists question.wanted question.conns question.destination) (places_of question.source)

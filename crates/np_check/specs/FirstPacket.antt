@@ -4,13 +4,13 @@ use Rattle.np_check.specs.Counters.{allows_between, breaks, families_between}
 use Rattle.np_check.specs.Holding.{HasAddress}
 use Rattle.np_check.specs.Numbers.{is_among}
 use Rattle.np_check.specs.Order.{comes_before, family_before, proto_before}
-use Rattle.np_check.specs.declared.counter.Counter.{Counter}
-use Rattle.np_check.specs.declared.counter.PlaceEnd.{PlaceEnd}
-use Rattle.np_check.specs.declared.counter.PlaceEnd.TheVariants.{At, Work}
+use Rattle.np_check.specs.declared.counterexample.Counterexample.{Counterexample}
+use Rattle.np_check.specs.declared.counterexample.PlaceEnd.{PlaceEnd}
+use Rattle.np_check.specs.declared.counterexample.PlaceEnd.TheVariants.{At, Work}
 use Rattle.np_check.specs.declared.question.Ends.{Ends}
 use Rattle.np_check.specs.declared.question.Question.{Question}
 use Rattle.np_conns.specs.Conns.{is_spot}
-use Rattle.np_estate.specs.declared.lists.EstateLists.{EstateLists}
+use Rattle.np_model.specs.declared.lists.EstateLists.{EstateLists}
 
 -- the end is one of a side
 abbrev pub IsEndOf : Ends → PlaceEnd → Type 0
@@ -18,7 +18,7 @@ IsEndOf ends (Work work) = is_among ends.works work ≡ true
 IsEndOf ends (At address) = HasAddress ends address
 
 -- the statement speaks of the packet, and the packet does not comply
-pub record IsBroken (lists : EstateLists) (question : Question) (packet : Counter) : Type 0 where
+pub record IsBroken (lists : EstateLists) (question : Question) (packet : Counterexample) : Type 0 where
   pub from : IsEndOf question.source packet.source
   pub to : IsEndOf question.destination packet.destination
   pub listed : Contains (families_between lists packet.source packet.destination) packet.family
@@ -28,12 +28,12 @@ pub record IsBroken (lists : EstateLists) (question : Question) (packet : Counte
 -- Such a packet, and no other one comes before it: none is from an earlier source; from the same source none goes to an
 -- earlier destination; between the same ends none is of an earlier family; in the same family none is of an earlier
 -- protocol; and in the same protocol none is to a lower port.
-pub record IsFirstBroken (lists : EstateLists) (question : Question) (first : Counter) : Type 0 where
+pub record IsFirstBroken (lists : EstateLists) (question : Question) (first : Counterexample) : Type 0 where
   pub own : IsBroken lists question first
-  pub by_source : (other : Counter) → IsBroken lists question other → comes_before other.source first.source ≡ false
-  pub by_destination : (other : Counter) → IsBroken lists question other → other.source ≡ first.source → comes_before other.destination first.destination ≡ false
-  pub by_family : (other : Counter) → IsBroken lists question other → other.source ≡ first.source → other.destination ≡ first.destination → family_before other.family first.family ≡ false
-  pub by_proto : (other : Counter) → IsBroken lists question other → other.source ≡ first.source → other.destination ≡ first.destination → other.family ≡ first.family
+  pub by_source : (other : Counterexample) → IsBroken lists question other → comes_before other.source first.source ≡ false
+  pub by_destination : (other : Counterexample) → IsBroken lists question other → other.source ≡ first.source → comes_before other.destination first.destination ≡ false
+  pub by_family : (other : Counterexample) → IsBroken lists question other → other.source ≡ first.source → other.destination ≡ first.destination → family_before other.family first.family ≡ false
+  pub by_proto : (other : Counterexample) → IsBroken lists question other → other.source ≡ first.source → other.destination ≡ first.destination → other.family ≡ first.family
       → proto_before other.spot.proto first.spot.proto ≡ false
-  pub by_port : (other : Counter) → IsBroken lists question other → other.source ≡ first.source → other.destination ≡ first.destination → other.family ≡ first.family
+  pub by_port : (other : Counterexample) → IsBroken lists question other → other.source ≡ first.source → other.destination ≡ first.destination → other.family ≡ first.family
       → other.spot.proto ≡ first.spot.proto → first.spot.port ≤ other.spot.port

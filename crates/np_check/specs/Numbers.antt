@@ -16,7 +16,7 @@ abbrev pub is_among : List ℕ → ℕ → Bool
 is_among numbers number = list_any (λ one. one == number) numbers
 
 -- A closure that takes and gives so may be called on every number below 2^32, and answers there whether it is one of these.
-pub record Tells (takes : ℕ → Type 0) (gives : ℕ → Bool → Type 0) (numbers : List ℕ) : Type 0 where
+pub record DecidesMembers (takes : ℕ → Type 0) (gives : ℕ → Bool → Type 0) (numbers : List ℕ) : Type 0 where
   pub taken : (number : ℕ) → number < 2 ^ 32 → takes number
   pub given : (number : ℕ) (answer : Bool) → number < 2 ^ 32 → gives number answer → answer ≡ is_among numbers number
 

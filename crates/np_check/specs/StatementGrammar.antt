@@ -8,7 +8,7 @@ use Rattle.np_check.specs.declared.statement_text.Wanted.{Wanted}
 use Rattle.np_check.specs.declared.statement_text.Wanted.TheVariants.{Allow, Deny}
 use Rattle.np_conns.specs.Conns.{IsConns, has_spot}
 use Rattle.np_conns.specs.ConnsText.{conns_text}
-use Rattle.np_json.specs.Words.{has_slash, is_name}
+use Rattle.np_model.specs.Words.{has_slash, is_name}
 
 -- ---- ends
 

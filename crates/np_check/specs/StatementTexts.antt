@@ -9,7 +9,7 @@ use Rattle.np_check.specs.declared.statement_text.EndForm.TheVariants.{Pods, Add
 use Rattle.np_check.specs.declared.statement_text.StatementText.{StatementText}
 use Rattle.np_conns.specs.Conns.{IsConns, has_spot}
 use Rattle.np_conns.specs.ConnsText.{conns_text}
-use Rattle.np_json.specs.Words.{is_name}
+use Rattle.np_model.specs.Words.{is_name}
 
 abbrev pub end_text : EndForm → List ℕ
 end_text Pods = codes "any pod"

@@ -7,19 +7,19 @@ ghost use Rattle.np_base.specs.Ranges.{holds, IsAscending};
 ghost use Rattle.np_check.specs.Counters.{addresses_of, counter_between};
 ghost use Rattle.np_check.specs.Firsts.{first_of};
 ghost use Rattle.np_check.specs.steps.Broken as spec;
-ghost use Rattle.np_check.specs.declared.counter.PlaceEnd.TheVariants.{At, Work};
+ghost use Rattle.np_check.specs.declared.counterexample.PlaceEnd.TheVariants.{At, Work};
 ghost use Rattle.np_conns.specs.declared.port_spot.PortSpot.{PortSpot};
 ghost use Rattle.np_table.specs.Rows.{rows_of_addresses};
 ghost use Rattle.np_table.specs.Table.{IsWorkload};
 
 use crate::asked::Asked;
 use crate::checker::Checker;
-use crate::counter::{Counter, PlaceEnd};
+use crate::counterexample::{Counterexample, PlaceEnd};
 use crate::order::comes_before;
 use np_addr::{AddrSet, Address, family_of};
 use np_base::{Cells, NoMemory, Point, Range, later};
 use np_conns::PortSpot;
-use np_policies::Direction;
+use np_model::Direction;
 use np_steps::Steps;
 use np_table::{AddressRow, AddressSpan};
 use std::sync::ledger::Ledger;
@@ -31,7 +31,7 @@ pub(crate) fn first_to_addresses<L: Ledger>(
     source: u32,
     block: &AddrSet,
     steps: &mut Steps<L>,
-) -> Result<Option<Counter>, NoMemory>
+) -> Result<Option<Counterexample>, NoMemory>
     requires { IsWorkload checker.old source }
     ensures counter { IfOk result (λ made. made ≡ first_of
         (λ address. counter_between checker.old asked.now.wanted asked.now.conns.now (Work source) (At address))
@@ -46,7 +46,7 @@ pub(crate) fn first_to_addresses<L: Ledger>(
     let Some(broken) = first_broken(asked, rows.items(), block)? else {
         return Ok(None);
     };
-    Ok(Some(Counter {
+    Ok(Some(Counterexample {
         source: PlaceEnd::Work(source),
         destination: PlaceEnd::At(broken.address),
         family: family_of(broken.address),
@@ -62,7 +62,7 @@ pub(crate) fn first_from_addresses<L: Ledger>(
     block: &AddrSet,
     destinations: &[u32],
     steps: &mut Steps<L>,
-) -> Result<Option<Counter>, NoMemory>
+) -> Result<Option<Counterexample>, NoMemory>
     requires { All (IsWorkload checker.old) destinations.now }
     ensures counter { IfOk result (λ made. made ≡ first_of
         (λ address. first_of
@@ -89,7 +89,7 @@ fn first_from<L: Ledger>(
     block: &AddrSet,
     destination: u32,
     steps: &mut Steps<L>,
-) -> Result<Option<Counter>, NoMemory>
+) -> Result<Option<Counterexample>, NoMemory>
     requires destination { IsWorkload checker.old destination }
     requires block { IsAddressSet block.now }
     ensures counter { IfOk result (λ made. made ≡ first_of
@@ -102,7 +102,7 @@ fn first_from<L: Ledger>(
     let Some(broken) = first_broken(asked, rows.items(), block)? else {
         return Ok(None);
     };
-    Ok(Some(Counter {
+    Ok(Some(Counterexample {
         source: PlaceEnd::At(broken.address),
         destination: PlaceEnd::Work(destination),
         family: family_of(broken.address),
@@ -111,7 +111,7 @@ fn first_from<L: Ledger>(
 }
 
 // Of two packets the one whose source comes first; where both have one source, the first of the two.
-fn earlier(first: Option<Counter>, found: Option<Counter>) -> Option<Counter>
+fn earlier(first: Option<Counterexample>, found: Option<Counterexample>) -> Option<Counterexample>
     ensures { result ≡ spec.earlier first found }
 {
     match found {
@@ -124,7 +124,7 @@ fn earlier(first: Option<Counter>, found: Option<Counter>) -> Option<Counter>
 }
 
 // The same of two that are there.
-fn earlier_of(kept: Counter, counter: Counter) -> Counter
+fn earlier_of(kept: Counterexample, counter: Counterexample) -> Counterexample
     ensures { result ≡ spec.earlier_of kept counter }
 {
     if comes_before(&counter.source, &kept.source) {

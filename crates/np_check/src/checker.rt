@@ -5,7 +5,7 @@ ghost use Rattle.np_addr.specs.declared.address.Family.{Family as SpecFamily};
 ghost use Rattle.np_check.specs.Counters.{counter_of};
 ghost use Rattle.np_check.specs.steps.Known.{AreKnown};
 ghost use Rattle.np_conns.specs.declared.port_spot.PortSpot.{PortSpot};
-ghost use Rattle.np_estate.specs.Lawful.{IsLawful};
+ghost use Rattle.np_model.specs.Lawful.{IsLawful};
 ghost use Rattle.np_fold.specs.Workloads.{folding_of};
 ghost use Rattle.np_table.specs.PairRules.{first_side};
 ghost use Rattle.np_table.specs.Right.{conns_of};
@@ -15,13 +15,13 @@ ghost use Rattle.np_table.specs.Table.{IsWorkload, estate_table, is_alone, pair_
 use crate::addresses::first_from_addresses;
 use crate::asked::Asked;
 use crate::checking::first_from_works;
-use crate::counter::Counter;
+use crate::counterexample::Counterexample;
 use crate::statement::Statement;
 use np_addr::Family;
 use np_base::{NoMemory, Seq};
 use np_conns::ConnSet;
 use np_fold::Folded;
-use np_policies::Direction;
+use np_model::Direction;
 use np_rules::PodRules;
 use np_steps::Steps;
 use np_table::{AddressRow, KindReach, rows_by_addresses, set_between};
@@ -49,12 +49,12 @@ pub struct Checker<'a> {
 }
 
 impl<'a> Model for Checker<'a> {
-    ghost use Rattle.np_estate.specs.declared.lists.EstateLists.{EstateLists};
+    ghost use Rattle.np_model.specs.declared.lists.EstateLists.{EstateLists};
 
     ghost Value = { EstateLists };
 
     ghost use Rattle.np_check.specs.steps.Known.{AreKnown};
-    ghost use Rattle.np_policies.specs.declared.direction.Direction.TheVariants.{Egress, Ingress};
+    ghost use Rattle.np_model.specs.declared.direction.Direction.TheVariants.{Egress, Ingress};
 
     ghost view = { λ c. c.folded.now };
 
@@ -89,7 +89,7 @@ impl<'a> Checker<'a> {
         &mut self,
         statement: &Statement,
         steps: &mut Steps<L>,
-    ) -> Result<Option<Counter>, NoMemory>
+    ) -> Result<Option<Counterexample>, NoMemory>
         requires sources { All (IsWorkload self.old) statement.now.question.source.works }
         requires destinations { All (IsWorkload self.old) statement.now.question.destination.works }
         ensures counter { IfOk result (λ made. made ≡ counter_of self.old statement.now.question) }

@@ -3,13 +3,13 @@ ghost use Rattle.std.specs.Prelude.{◌≡◌, ◌≤◌, All, IfOk};
 ghost use Rattle.np_check.specs.Counters.{counter_from};
 ghost use Rattle.np_check.specs.Firsts.{first_of};
 ghost use Rattle.np_check.specs.steps.Pairs.{AreSettled};
-ghost use Rattle.np_check.specs.declared.counter.PlaceEnd.TheVariants.{Work};
+ghost use Rattle.np_check.specs.declared.counterexample.PlaceEnd.TheVariants.{Work};
 ghost use Rattle.np_table.specs.Table.{IsWorkload};
 
 use crate::addresses::first_to_addresses;
 use crate::asked::Asked;
 use crate::checker::Checker;
-use crate::counter::Counter;
+use crate::counterexample::Counterexample;
 use crate::pairs::{Settled, first_to_works};
 use crate::question::Ends;
 use np_base::NoMemory;
@@ -25,7 +25,7 @@ pub(crate) fn first_from_works<L: Ledger>(
     destinations: &[u32],
     ends: &Ends,
     steps: &mut Steps<L>,
-) -> Result<Option<Counter>, NoMemory>
+) -> Result<Option<Counterexample>, NoMemory>
     requires sources { All (IsWorkload checker.old) sources.now }
     requires destinations { All (IsWorkload checker.old) destinations.now }
     requires ends { ends.now.works ≡ destinations.now }
@@ -61,7 +61,7 @@ fn first_from_work<L: Ledger>(
     ends: &Ends,
     settled: &mut Settled,
     steps: &mut Steps<L>,
-) -> Result<Option<Counter>, NoMemory>
+) -> Result<Option<Counterexample>, NoMemory>
     requires source { IsWorkload checker.old source }
     requires destinations { All (IsWorkload checker.old) destinations.now }
     requires ends { ends.now.works ≡ destinations.now }

@@ -6,11 +6,11 @@ ghost use Rattle.np_check.specs.Holding.{Holds};
 ghost use Rattle.np_check.specs.Numbers.{is_ascending};
 ghost use Rattle.np_check.specs.StatementGrammar.{IsStatementText};
 ghost use Rattle.np_check.specs.StatementTexts.{IsWellStatement, statement_text};
-ghost use Rattle.np_check.specs.declared.counter.Counter.{Counter};
+ghost use Rattle.np_check.specs.declared.counterexample.Counterexample.{Counterexample};
 ghost use Rattle.np_check.specs.declared.question.Question.{Question};
 ghost use Rattle.np_check.specs.declared.statement_text.StatementText.{StatementText};
-ghost use Rattle.np_estate.specs.Lawful.{IsLawful};
-ghost use Rattle.np_estate.specs.declared.lists.EstateLists.{EstateLists};
+ghost use Rattle.np_model.specs.Lawful.{IsLawful};
+ghost use Rattle.np_model.specs.declared.lists.EstateLists.{EstateLists};
 ghost use Rattle.np_table.specs.Table.{IsWorkload};
 
 /// A line is the text of one statement at most.
@@ -34,9 +34,9 @@ pub fn nothing_is_found_where_a_statement_holds()
 
 /// What `check` finds breaks the statement, and no packet that does comes before it; and where it finds nothing, none does.
 pub fn the_first_packet_is_found()
-    ensures first { (lists : EstateLists) (question : Question) (packet : Counter) →
+    ensures first { (lists : EstateLists) (question : Question) (packet : Counterexample) →
         is_ascending question.source.works ≡ true → is_ascending question.destination.works ≡ true →
         counter_of lists question ≡ Some packet → IsFirstBroken lists question packet }
-    ensures none { (lists : EstateLists) (question : Question) (packet : Counter) →
+    ensures none { (lists : EstateLists) (question : Question) (packet : Counterexample) →
         counter_of lists question ≡ None → IsBroken lists question packet → ⊥ }
 {}

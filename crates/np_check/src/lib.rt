@@ -5,7 +5,7 @@ mod addresses;
 mod asked;
 mod checker;
 mod checking;
-mod counter;
+mod counterexample;
 mod laws;
 mod order;
 mod pairs;
@@ -15,7 +15,7 @@ mod statement;
 mod statement_text;
 
 pub use checker::Checker;
-pub use counter::{Counter, PlaceEnd};
+pub use counterexample::{Counterexample, PlaceEnd};
 pub use laws::{
     nothing_is_found_where_a_statement_holds, one_statement_of_a_line,
     text_of_a_statement_reads_again, the_first_packet_is_found,

@@ -2,7 +2,7 @@
 ghost use Rattle.std.specs.Prelude.{◌≡◌};
 ghost use Rattle.np_check.specs.Order as spec;
 
-use crate::counter::PlaceEnd;
+use crate::counterexample::PlaceEnd;
 use np_addr::Address;
 use np_base::Point;
 

@@ -3,13 +3,13 @@ ghost use Rattle.std.specs.Prelude.{◌≡◌, ◌≤◌, ◌<◌, false, All, I
 ghost use Rattle.np_check.specs.Counters.{counter_between, counter_in};
 ghost use Rattle.np_check.specs.Firsts.{first_of};
 ghost use Rattle.np_check.specs.steps.Pairs.{AreSettled};
-ghost use Rattle.np_check.specs.declared.counter.PlaceEnd.TheVariants.{Work};
+ghost use Rattle.np_check.specs.declared.counterexample.PlaceEnd.TheVariants.{Work};
 ghost use Rattle.np_fold.specs.Workloads.{folding_of};
 ghost use Rattle.np_table.specs.Table.{IsWorkload, is_alone};
 
 use crate::asked::Asked;
 use crate::checker::Checker;
-use crate::counter::{Counter, PlaceEnd};
+use crate::counterexample::{Counterexample, PlaceEnd};
 use np_addr::Family;
 use np_base::NoMemory;
 use np_fold::Workloads;
@@ -30,7 +30,7 @@ pub(crate) fn first_to_works<L: Ledger>(
     destinations: &[u32],
     settled: &mut Settled,
     steps: &mut Steps<L>,
-) -> Result<Option<Counter>, NoMemory>
+) -> Result<Option<Counterexample>, NoMemory>
     requires source { IsWorkload checker.old source }
     requires destinations { All (IsWorkload checker.old) destinations.now }
     requires settled { AreSettled checker.old asked.now.wanted asked.now.conns.now settled.old.keys }
@@ -59,7 +59,7 @@ fn first_to_work<L: Ledger>(
     destination: u32,
     settled: &mut Settled,
     steps: &mut Steps<L>,
-) -> Result<Option<Counter>, NoMemory>
+) -> Result<Option<Counterexample>, NoMemory>
     requires source { IsWorkload checker.old source }
     requires destination { IsWorkload checker.old destination }
     requires settled { AreSettled checker.old asked.now.wanted asked.now.conns.now settled.old.keys }
@@ -92,7 +92,7 @@ fn first_between<L: Ledger>(
     source: u32,
     destination: u32,
     steps: &mut Steps<L>,
-) -> Result<Option<Counter>, NoMemory>
+) -> Result<Option<Counterexample>, NoMemory>
     requires source { IsWorkload checker.old source }
     requires destination { IsWorkload checker.old destination }
     ensures counter { IfOk result (λ made. made
@@ -129,7 +129,7 @@ fn first_in<L: Ledger>(
     destination: u32,
     family: Family,
     steps: &mut Steps<L>,
-) -> Result<Option<Counter>, NoMemory>
+) -> Result<Option<Counterexample>, NoMemory>
     requires source { IsWorkload checker.old source }
     requires destination { IsWorkload checker.old destination }
     requires apart { is_alone (folding_of checker.old) source destination ≡ false }
@@ -142,7 +142,7 @@ fn first_in<L: Ledger>(
     let Some(spot) = asked.first_broken(&passes)? else {
         return Ok(None);
     };
-    Ok(Some(Counter {
+    Ok(Some(Counterexample {
         source: PlaceEnd::Work(source),
         destination: PlaceEnd::Work(destination),
         family,

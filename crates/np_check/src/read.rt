@@ -16,7 +16,7 @@ use crate::statement_text::{EndForm, StatementFault, StatementText, Wanted};
 use np_addr::read_cidr;
 use np_base::Text;
 use np_conns::{ConnSet, ConnsFault, read_conns};
-use np_json::is_name;
+use np_model::is_name;
 use std::alloc::Global;
 
 /// Reads the line of a statement: `allow` or `deny`, a space, ends, ` => `, ends, ` : `, and connections as

@@ -1,6 +1,6 @@
 //! A statement, with its ends found.
 ghost use Rattle.std.specs.Prelude.{◌≡◌, ◌<◌, ◌^◌, ℕ, List, true, All, IfOk};
-ghost use Rattle.np_check.specs.Numbers.{IsOneSided, Tells, is_ascending};
+ghost use Rattle.np_check.specs.Numbers.{IsOneSided, DecidesMembers, is_ascending};
 
 use crate::question::{Ends, Question};
 use crate::statement_text::Wanted;
@@ -23,8 +23,8 @@ pub struct Statement {
     to: IsDestination,
     ghost sources: { is_ascending question.source.works ≡ true },
     ghost destinations: { is_ascending question.destination.works ≡ true },
-    ghost told_from: { Tells (IsSource.pre from) (IsSource.post from) question.source.works },
-    ghost told_to: { Tells (IsDestination.pre to) (IsDestination.post to) question.destination.works },
+    ghost told_from: { DecidesMembers (IsSource.pre from) (IsSource.post from) question.source.works },
+    ghost told_to: { DecidesMembers (IsDestination.pre to) (IsDestination.post to) question.destination.works },
 }
 
 impl Statement {
@@ -41,8 +41,8 @@ impl Statement {
     ) -> Statement
         requires sources { is_ascending source.works ≡ true }
         requires destinations { is_ascending destination.works ≡ true }
-        requires from { Tells (IsSource.pre from) (IsSource.post from) source.works }
-        requires to { Tells (IsDestination.pre to) (IsDestination.post to) destination.works }
+        requires from { DecidesMembers (IsSource.pre from) (IsSource.post from) source.works }
+        requires to { DecidesMembers (IsDestination.pre to) (IsDestination.post to) destination.works }
         requires one_side { IsOneSided source.block destination.block }
         ensures { result.question ≡ record { wanted = wanted; source = source; destination = destination; conns = conns } }
     {
@@ -82,7 +82,7 @@ fn told_numbers<F: Fn(u32) -> bool>(
     tell: F,
 ) -> Result<Vec<u32>, NoMemory>
     requires { (number : ℕ) → number < 2 ^ 32 → F.pre tell number }
-    ensures { (works : List ℕ) → Tells (F.pre tell) (F.post tell) works → is_ascending works ≡ true →
+    ensures { (works : List ℕ) → DecidesMembers (F.pre tell) (F.post tell) works → is_ascending works ≡ true →
         All (λ work. work < count) works → IfOk result (λ made. made.items ≡ works) }
 {
     let mut told = Vec::new(alloc);

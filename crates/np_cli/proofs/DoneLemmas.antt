@@ -2,24 +2,25 @@
 use Rattle.std.proofs.Common.{◌≡◌, ℕ, List, Option, None, Some, Result, Ok, Err, refl, subst, ap, ◌∙◌}
 use Rattle.np_cli.proofs.PromisesLemmas.{one_job}
 use Rattle.np_cli.proofs.RunsLemmas.{output-fits}
-use Rattle.np_cli.specs.Answers.{IsLawfulIn, ending, ending_in, ending_of, fault_in, objects_of, output, refusal, reply, reply_in, text_in, text_of}
-use Rattle.np_cli.specs.Runs.{Cause, Run, Tells}
-use Rattle.np_cli.specs.Sinks.{Sunk, TookWhole}
+use Rattle.np_cli.specs.Answers.{IsLawfulIn, ending, ending_in, ending_of, objects_of, output, refusal, reply, reply_in, text_of}
+use Rattle.np_command.specs.Prints.{fault_in, text_in}
+use Rattle.np_cli.specs.Runs.{Cause, Run, KnowsBytes}
+use Rattle.np_command.specs.Sinks.{SinkTrace, TookWhole}
 use Rattle.np_cli.specs.Statuses.{status_of}
-use Rattle.np_cli.specs.declared.failure.Failure.{Failure}
-use Rattle.np_cli.specs.declared.failure.Failure.TheVariants.{Usage, TooLarge, Refused, CannotRead, CannotWrite, NoMemory}
-use Rattle.np_cli.specs.declared.fault.Fault.{Fault}
+use Rattle.np_command.specs.declared.failure.Failure.{Failure}
+use Rattle.np_command.specs.declared.failure.Failure.TheVariants.{Usage, TooLarge, Refused, CannotRead, CannotWrite, NoMemory}
+use Rattle.np_command.specs.declared.fault.Fault.{Fault}
 use Rattle.np_cli.specs.declared.notes.ReportNotes.{ReportNotes}
 use Rattle.np_cli.specs.declared.outcome.Ending.{Ending}
 use Rattle.np_cli.specs.declared.outcome.Ending.TheVariants.{Done, Violated}
-use Rattle.np_cli.specs.declared.status.Status.{Status}
-use Rattle.np_cli.specs.declared.status.Status.TheVariants as status
-use Rattle.np_estate.specs.Lawful.{IsLawful}
-use Rattle.np_estate.specs.declared.lists.EstateLists.{EstateLists}
-use Rattle.np_words.specs.declared.job.Job.{Job}
+use Rattle.np_command.specs.declared.status.Status.{Status}
+use Rattle.np_command.specs.declared.status.Status.TheVariants as status
+use Rattle.np_model.specs.Lawful.{IsLawful}
+use Rattle.np_model.specs.declared.lists.EstateLists.{EstateLists}
+use Rattle.np_args.specs.declared.job.Job.{Job}
 
 -- the bytes are those of a lawful estate, the job's reply on it is no fault, the sink took its text, and the report ends so
-pub record IsWritten (out : Sunk) (job : Job) (texts : List (List ℕ)) (ends : Ending) : Type 0 where
+pub record IsWritten (out : SinkTrace) (job : Job) (texts : List (List ℕ)) (ends : Ending) : Type 0 where
   pub lists : EstateLists
   pub read : objects_of job texts ≡ Ok lists
   pub lawful : IsLawful lists
@@ -27,13 +28,13 @@ pub record IsWritten (out : Sunk) (job : Job) (texts : List (List ℕ)) (ends : 
   pub took : TookWhole out (text_in (reply job texts lists))
   pub ended : ends ≡ ending job texts lists
 
-written-read : (out : Sunk) (job : Job) (texts : List (List ℕ)) (ends : Ending) (reads : Result EstateLists Fault) → objects_of job texts ≡ reads → IsLawfulIn reads
+written-read : (out : SinkTrace) (job : Job) (texts : List (List ℕ)) (ends : Ending) (reads : Result EstateLists Fault) → objects_of job texts ≡ reads → IsLawfulIn reads
     → fault_in (reply_in job texts reads) ≡ None → TookWhole out (text_in (reply_in job texts reads)) → ends ≡ ending_in job texts reads → IsWritten out job texts ends
 written-read out job texts ends (Err fault) read lawful no_fault took ended = cc
 written-read out job texts ends (Ok lists) read lawful no_fault took ended =
     record { lists = lists; read = read; lawful = lawful; no_fault = no_fault; took = took; ended = ended }
 
-written-told : (run : Run) (ends : Ending) (job : Job) (texts : List (List ℕ)) → Cause run (Ok ends) → run.asked ≡ Some job → Tells run texts → IsWritten run.out job texts ends
+written-told : (run : Run) (ends : Ending) (job : Job) (texts : List (List ℕ)) → Cause run (Ok ends) → run.asked ≡ Some job → KnowsBytes run texts → IsWritten run.out job texts ends
 unfolding refusal text_of ending_of
 written-told run ends job texts cause is told =
     let same : cause.job ≡ job = one_job run.asked job cause.job is cause.asked in
@@ -48,7 +49,7 @@ written-told run ends job texts cause is told =
 
 -- a run that is done ends with notes
 pub done-told : (run : Run) (answer : Status) (outcome : Result Ending Failure) (job : Job) (texts : List (List ℕ)) → Cause run outcome → answer ≡ status_of outcome
-    → run.asked ≡ Some job → Tells run texts → answer ≡ status.Done → (notes : ReportNotes) × IsWritten run.out job texts (Done notes)
+    → run.asked ≡ Some job → KnowsBytes run texts → answer ≡ status.Done → (notes : ReportNotes) × IsWritten run.out job texts (Done notes)
 done-told run answer (Ok (Done notes)) job texts cause answered is told done = (notes, written-told run (Done notes) job texts cause is told)
 done-told run answer (Ok Violated) job texts cause answered is told done = cc
 done-told run answer (Err Usage) job texts cause answered is told done = cc
@@ -60,7 +61,7 @@ done-told run answer (Err NoMemory) job texts cause answered is told done = cc
 
 -- and one that is violated ends so
 pub violated-told : (run : Run) (answer : Status) (outcome : Result Ending Failure) (job : Job) (texts : List (List ℕ)) → Cause run outcome → answer ≡ status_of outcome
-    → run.asked ≡ Some job → Tells run texts → answer ≡ status.Violated → IsWritten run.out job texts Violated
+    → run.asked ≡ Some job → KnowsBytes run texts → answer ≡ status.Violated → IsWritten run.out job texts Violated
 violated-told run answer (Ok (Done notes)) job texts cause answered is told violated = cc
 violated-told run answer (Ok Violated) job texts cause answered is told violated = written-told run Violated job texts cause is told
 violated-told run answer (Err Usage) job texts cause answered is told violated = cc

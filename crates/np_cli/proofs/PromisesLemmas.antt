@@ -7,20 +7,20 @@ use Rattle.np_cli.specs.Answers.{ending_of, refusal}
 use Rattle.np_cli.specs.Messages.{message}
 use Rattle.np_cli.specs.Promises.{IsStill, Completes, RefusesTooLarge, RefusesMore, RefusesFaults, BlamesDevice, BlamesWords}
 use Rattle.np_cli.specs.Runs.{Run, Cause}
-use Rattle.np_cli.specs.Sinks.{Sunk, Said}
-use Rattle.np_cli.specs.Sources.{BeganFront, FailedAt, Sourced}
+use Rattle.np_command.specs.Sinks.{SinkTrace, Said}
+use Rattle.np_cli.specs.Sources.{BeganFront, FailedAt, SourceTrace}
 use Rattle.np_cli.specs.Statuses.{ending_status, status_of}
 use Rattle.np_cli.specs.Words.{names_asked}
 use Rattle.np_cli.proofs.RunsLemmas.{Cause-no_memory}
 use Rattle.np_cli.proofs.SourcesLemmas.{Contains-middle}
-use Rattle.np_cli.specs.declared.fault.Fault.{Fault}
-use Rattle.np_words.specs.declared.job.Job.{Job}
-use Rattle.np_cli.specs.declared.failure.Failure.{Failure}
-use Rattle.np_cli.specs.declared.failure.Failure.TheVariants.{Usage, TooLarge, Refused, CannotRead, CannotWrite, NoMemory}
+use Rattle.np_command.specs.declared.fault.Fault.{Fault}
+use Rattle.np_args.specs.declared.job.Job.{Job}
+use Rattle.np_command.specs.declared.failure.Failure.{Failure}
+use Rattle.np_command.specs.declared.failure.Failure.TheVariants.{Usage, TooLarge, Refused, CannotRead, CannotWrite, NoMemory}
 use Rattle.np_cli.specs.declared.outcome.Ending.{Ending}
 use Rattle.np_cli.specs.declared.outcome.Ending.TheVariants.{Done, Violated}
-use Rattle.np_cli.specs.declared.status.Status.{Status}
-use Rattle.np_cli.specs.declared.status.Status.TheVariants as status
+use Rattle.np_command.specs.declared.status.Status.{Status}
+use Rattle.np_command.specs.declared.status.Status.TheVariants as status
 
 still_or_rose : (old new : ℕ) → IsStill old new → Rose old new → ⊥
 still_or_rose old new still rose = elim rose [ inl more ↦ omega (arith, still.no_more) | inr end ↦ omega (arith, still.below_end) ]
@@ -47,10 +47,10 @@ one_fault : (found : Option Fault) (fault other : Fault) → found ≡ Some faul
 one_fault found fault other is is_other = cc
 
 -- the name of which a call failed is among those that are asked for
-among : (source : Sourced) (names : List (List ℕ)) (name : List ℕ) → FailedAt source names name → Contains names name
+among : (source : SourceTrace) (names : List (List ℕ)) (name : List ℕ) → FailedAt source names name → Contains names name
 among source names name at = subst (λ (ns : List (List ℕ)). Contains ns name) (sym at.order) (Contains-middle at.earlier name at.later)
 
-pub completes : (run : Run) (err : Sunk) (answer : Status) (outcome : Result Ending Failure) → Cause run outcome → Said err (message outcome) → answer ≡ status_of outcome → Completes run err answer
+pub completes : (run : Run) (err : SinkTrace) (answer : Status) (outcome : Result Ending Failure) → Cause run outcome → Said err (message outcome) → answer ≡ status_of outcome → Completes run err answer
 completes run err answer (Ok ends) cause said answered = λ job texts is told accepted inputs sink.
     let reported = cause.told texts told in
     let same : ends ≡ ending_of job texts = subst (λ (j : Job). ends ≡ ending_of j texts) (one_job run.asked job cause.job is cause.asked) reported.ended in
@@ -65,7 +65,7 @@ completes run err answer (Err CannotWrite) cause said answered = λ job texts is
     absurd (still_or_rose _ _ sink cause.rose)
 completes run err answer (Err NoMemory) cause said answered = λ job texts is told accepted inputs sink. inr answered
 
-pub refuses_too_large : (run : Run) (err : Sunk) (answer : Status) (outcome : Result Ending Failure) → Cause run outcome → Said err (message outcome) → answer ≡ status_of outcome → RefusesTooLarge run err answer
+pub refuses_too_large : (run : Run) (err : SinkTrace) (answer : Status) (outcome : Result Ending Failure) → Cause run outcome → Said err (message outcome) → answer ≡ status_of outcome → RefusesTooLarge run err answer
 refuses_too_large run err answer (Ok ends) cause said answered = λ job texts is told large inputs.
     absurd (both_ways _ (cause.told texts told).accepted.fits large)
 refuses_too_large run err answer (Err Usage) cause said answered = λ job texts is told large inputs. asks run.asked job is cause.asked
@@ -79,7 +79,7 @@ refuses_too_large run err answer (Err CannotWrite) cause said answered = λ job 
 refuses_too_large run err answer (Err NoMemory) cause said answered = λ job texts is told large inputs. inr answered
 
 -- where more bytes were handed out than inputs may have, no other outcome has its cause
-pub refuses_more : (run : Run) (err : Sunk) (answer : Status) (outcome : Result Ending Failure) → Cause run outcome → Said err (message outcome) → answer ≡ status_of outcome → RefusesMore run err answer
+pub refuses_more : (run : Run) (err : SinkTrace) (answer : Status) (outcome : Result Ending Failure) → Cause run outcome → Said err (message outcome) → answer ≡ status_of outcome → RefusesMore run err answer
 refuses_more run err answer (Ok ends) cause said answered = λ more. absurd (omega (arith, more, cause.read.in_room))
 refuses_more run err answer (Err Usage) cause said answered = λ more. absurd (omega (arith, more, cause.source.handed))
 refuses_more run err answer (Err TooLarge) cause said answered = λ more. inl (answered, cause.kept, said)
@@ -88,7 +88,7 @@ refuses_more run err answer (Err (CannotRead name)) cause said answered = λ mor
 refuses_more run err answer (Err CannotWrite) cause said answered = λ more. absurd (omega (arith, more, cause.read.in_room))
 refuses_more run err answer (Err NoMemory) cause said answered = λ more. inr answered
 
-pub refuses_faults : (run : Run) (err : Sunk) (answer : Status) (outcome : Result Ending Failure) → Cause run outcome → Said err (message outcome) → answer ≡ status_of outcome → RefusesFaults run err answer
+pub refuses_faults : (run : Run) (err : SinkTrace) (answer : Status) (outcome : Result Ending Failure) → Cause run outcome → Said err (message outcome) → answer ≡ status_of outcome → RefusesFaults run err answer
 refuses_faults run err answer (Ok ends) cause said answered = λ job texts fault is told fits found inputs.
     no_fault (refusal job texts) fault (subst (λ (j : Job). refusal j texts ≡ None) (one_job run.asked job cause.job is cause.asked) (cause.told texts told).accepted.no_fault) found
 refuses_faults run err answer (Err Usage) cause said answered = λ job texts fault is told fits found inputs. asks run.asked job is cause.asked

@@ -3,38 +3,41 @@ use Rattle.std.proofs.Common.{◌≡◌, ℕ, ◌≤◌, List, [], ◌∷◌, �
 use Rattle.std.specs.Prelude.{◌⊎◌}
 use Rattle.std.proofs.lemmas.Bool.{le-ltb}
 use Rattle.np_io.specs.Taken.{TookFront}
-use Rattle.np_io.proofs.TakenLemmas.{TookFront-none, TookFront-all}
+use Rattle.np_io.proofs.TakenLemmas.{TookFront-all}
 use Rattle.np_cli.proofs.SourcesLemmas.{BeganNext-none}
-use Rattle.np_cli.specs.Answers.{ending_of, fault_in, objects_of, output, refusal, reply_in, text_in, text_of}
-use Rattle.np_cli.specs.Failures.{source_failure, words_failure}
+use Rattle.np_cli.specs.Answers.{ending_of, objects_of, output, refusal, reply_in, text_of}
+use Rattle.np_command.specs.Prints.{fault_in, text_in}
+use Rattle.np_cli.specs.Failures.{source_failure}
+use Rattle.np_command.specs.Failures.{words_failure}
 use Rattle.np_cli.specs.Prints.{Answers}
 use Rattle.np_cli.specs.Runs.{AskedNothing, Cause, IsAccepted, IsReported, Run, ran}
-use Rattle.np_cli.specs.Sinks.{Sunk, IsKept, TookWhole}
-use Rattle.np_cli.specs.Sources.{AreTold, BeganFront, FailedAt, IsUntouched, OverLimit, ReadOnce, Sourced, Unread, is_too_large, total_size}
+use Rattle.np_command.specs.Sinks.{SinkTrace, IsKept, TookWhole}
+use Rattle.np_cli.specs.Sources.{AreTold, BeganFront, FailedAt, IsUntouched, OverLimit, ReadOnce, SourceTrace, Unread, is_too_large, total_size}
 use Rattle.np_cli.specs.declared.sources.TheConstants.{SIZE_LIMIT}
 use Rattle.np_cli.specs.Words.{names_asked, names_of}
-use Rattle.np_words.specs.declared.job.Job.{Job}
-use Rattle.np_cli.specs.declared.failure.Failure.{Failure}
-use Rattle.np_cli.specs.declared.failure.Failure.TheVariants.{Usage, TooLarge, Refused, CannotRead, CannotWrite, NoMemory}
-use Rattle.np_cli.specs.declared.fault.Fault.{Fault}
+use Rattle.np_args.specs.declared.job.Job.{Job}
+use Rattle.np_command.specs.declared.failure.Failure.{Failure}
+use Rattle.np_command.specs.declared.failure.Failure.TheVariants.{Usage, TooLarge, Refused, CannotRead, CannotWrite, NoMemory}
+use Rattle.np_command.specs.declared.fault.Fault.{Fault}
 use Rattle.np_cli.specs.declared.sources.SourceFault.{SourceFault}
 use Rattle.np_cli.specs.declared.sources.SourceFault.TheVariants as unread
 use Rattle.np_cli.specs.declared.outcome.Ending.{Ending}
-use Rattle.np_words.specs.declared.words_fault.WordsFault.{WordsFault}
-use Rattle.np_words.specs.declared.words_fault.WordsFault.TheVariants as words
+use Rattle.np_args.specs.declared.words_fault.WordsFault.{WordsFault}
+use Rattle.np_args.specs.declared.words_fault.WordsFault.TheVariants as words
+use Rattle.np_command.proofs.SinkLemmas.{TookFront-kept}
 
 -- ---- names that were begun
 
 -- where all inputs were read, all names were begun
-BeganFront-all : (source : Sourced) (names : List (List ℕ)) → ReadOnce source names → BeganFront source names
+BeganFront-all : (source : SourceTrace) (names : List (List ℕ)) → ReadOnce source names → BeganFront source names
 BeganFront-all source names once = record { front = names; rest = []; order = sym (append-nil names); began = once.began }
 
 -- where nothing was touched, none was
-BeganFront-none : (source : Sourced) (names : List (List ℕ)) → IsUntouched source → BeganFront source names
+BeganFront-none : (source : SourceTrace) (names : List (List ℕ)) → IsUntouched source → BeganFront source names
 BeganFront-none source names untouched = record { front = []; rest = names; order = refl; began = BeganNext-none source.began_before source.began_after untouched.began }
 
 -- the name of which a call failed was begun last
-BeganFront-failed : (source : Sourced) (names : List (List ℕ)) (name : List ℕ) → FailedAt source names name → BeganFront source names
+BeganFront-failed : (source : SourceTrace) (names : List (List ℕ)) (name : List ℕ) → FailedAt source names name → BeganFront source names
 BeganFront-failed source names name at = record {
   front = at.earlier ++ name ∷ [];
   rest = at.later;
@@ -43,7 +46,7 @@ BeganFront-failed source names name at = record {
 }
 
 -- so was the one with which the inputs became too large
-BeganFront-over : (source : Sourced) (names : List (List ℕ)) → OverLimit source names → BeganFront source names
+BeganFront-over : (source : SourceTrace) (names : List (List ℕ)) → OverLimit source names → BeganFront source names
 BeganFront-over source names over = record {
   front = over.earlier ++ over.name ∷ [];
   rest = over.later;
@@ -69,7 +72,7 @@ text-is : (job : Job) (texts : List (List ℕ)) (reply : Result (List ℕ) Fault
 unfolding text_of
 text-is job texts reply fits is = output-fits job texts fits ∙ ap text_in is
 
-pub Cause-from_answers : (job : Job) (source : Sourced) (out : Sunk) (texts : List (List ℕ)) (outcome : Result Ending Failure) → ((told : List (List ℕ)) → AreTold source.holds source.left (names_of job) told → texts ≡ told) → total_size texts ≤ SIZE_LIMIT → ReadOnce source (names_of job) → Answers job texts out outcome → Cause (ran (Some job) source out) outcome
+pub Cause-from_answers : (job : Job) (source : SourceTrace) (out : SinkTrace) (texts : List (List ℕ)) (outcome : Result Ending Failure) → ((told : List (List ℕ)) → AreTold source.holds source.left (names_of job) told → texts ≡ told) → total_size texts ≤ SIZE_LIMIT → ReadOnce source (names_of job) → Answers job texts out outcome → Cause (ran (Some job) source out) outcome
 unfolding ending_of
 Cause-from_answers job source out texts (Ok ends) read size once answers =
     let fits = fits_limit texts size in
@@ -112,12 +115,8 @@ Cause-from_answers job source out texts (Err (CannotRead name)) read size once a
 
 -- ---- words and inputs that are not read
 
--- a sink that took nothing took a front of any text
-pub TookFront-kept : (out : Sunk) (bytes : List ℕ) → IsKept out → TookFront out.before out.after bytes
-TookFront-kept out bytes kept = subst (λ (after : Option (List ℕ)). TookFront out.before after bytes) (sym kept.taken) (TookFront-none out.before bytes)
-
 -- the words ask for nothing, or want memory
-pub Cause-words : (asked : Option Job) (source : Sourced) (out : Sunk) (fault : WordsFault) → (fault ≡ words.Usage → asked ≡ None) → IsUntouched source → IsKept out → Cause (ran asked source out) (Err (words_failure fault))
+pub Cause-words : (asked : Option Job) (source : SourceTrace) (out : SinkTrace) (fault : WordsFault) → (fault ≡ words.Usage → asked ≡ None) → IsUntouched source → IsKept out → Cause (ran asked source out) (Err (words_failure fault))
 Cause-words asked source out words.Usage nothing untouched kept = record { asked = nothing refl; source = untouched; kept = kept }
 Cause-words asked source out words.NoMemory nothing untouched kept = record {
   began = BeganFront-none source (names_asked asked) untouched;
@@ -125,17 +124,17 @@ Cause-words asked source out words.NoMemory nothing untouched kept = record {
 }
 
 -- memory is refused before anything is read
-pub Cause-unbegun : (job : Job) (source : Sourced) (out : Sunk) → IsUntouched source → IsKept out → Cause (ran (Some job) source out) (Err NoMemory)
+pub Cause-unbegun : (job : Job) (source : SourceTrace) (out : SinkTrace) → IsUntouched source → IsKept out → Cause (ran (Some job) source out) (Err NoMemory)
 Cause-unbegun job source out untouched kept = record { began = BeganFront-none source (names_of job) untouched; front = λ texts told. TookFront-kept out (output (Some job) texts) kept }
 
 -- the inputs are not read
-pub Cause-unread : (job : Job) (source : Sourced) (out : Sunk) (fault : SourceFault) → IsKept out → Unread source (names_of job) fault → Cause (ran (Some job) source out) (Err (source_failure fault))
+pub Cause-unread : (job : Job) (source : SourceTrace) (out : SinkTrace) (fault : SourceFault) → IsKept out → Unread source (names_of job) fault → Cause (ran (Some job) source out) (Err (source_failure fault))
 Cause-unread job source out (unread.CannotRead name) kept why = record { at = why; kept = kept }
 Cause-unread job source out unread.TooLarge kept why = record { asked = refl; over = why; kept = kept }
 Cause-unread job source out unread.NoMemory kept why = record { began = why; front = λ texts told. TookFront-kept out (output (Some job) texts) kept }
 
 -- words that ask for a job do not ask for nothing
-pub Cause-asked : (job : Job) (source : Sourced) (out : Sunk) (outcome : Result Ending Failure) → Cause (ran (Some job) source out) outcome → outcome ≡ Err Usage → ⊥
+pub Cause-asked : (job : Job) (source : SourceTrace) (out : SinkTrace) (outcome : Result Ending Failure) → Cause (ran (Some job) source out) outcome → outcome ≡ Err Usage → ⊥
 Cause-asked job source out outcome cause usage =
     let why : AskedNothing (ran (Some job) source out) = subst (Cause (ran (Some job) source out)) usage cause in
     let nothing : Some job ≡ None = why.asked in cc

@@ -9,7 +9,7 @@ use Rattle.std.proofs.lemmas.List.Elements.{Contains-append_left, Contains-appen
 use Rattle.std.proofs.lemmas.List.Sums.{sum_by-append, sum_by_more_le}
 use Rattle.np_io.specs.Counts.{Rose, RosePast, handed_after}
 use Rattle.np_io.specs.Source.{BeganNext, IsTold}
-use Rattle.np_cli.specs.Sources.{AreTold, BeganFront, FailedAt, HandedOut, Sourced, Unread, NextUnread, total_size, is_too_large}
+use Rattle.np_cli.specs.Sources.{AreTold, BeganFront, FailedAt, HandedOut, SourceTrace, Unread, NextUnread, total_size, is_too_large}
 use Rattle.np_cli.specs.declared.sources.TheConstants.{SIZE_LIMIT}
 use Rattle.np_cli.specs.declared.sources.SourceFault.{SourceFault}
 use Rattle.np_cli.specs.declared.sources.SourceFault.TheVariants.{CannotRead, TooLarge, NoMemory}
@@ -116,7 +116,7 @@ Began-next old middle new names i name below is before after =
     subst (BeganNext old new) front (BeganNext-more old middle new (take i names) (name ∷ []) before after)
 
 -- so a front of the names was begun
-pub BeganFront-next : (source : Sourced) (names : List (List ℕ)) (i : ℕ) → BeganNext source.began_before source.began_after (take (i + 1) names) → BeganFront source names
+pub BeganFront-next : (source : SourceTrace) (names : List (List ℕ)) (i : ℕ) → BeganNext source.began_before source.began_after (take (i + 1) names) → BeganFront source names
 BeganFront-next source names i began = record { front = take (i + 1) names; rest = drop (i + 1) names; order = sym (take-append-drop (i + 1) names); began = began }
 
 -- a name between others is one of them
@@ -144,7 +144,7 @@ parted names i name below here =
     ∙ ap (λ (front : List (List ℕ)). front ++ drop (i + 1) names) (take_more names i [] below ∙ ap (λ (n : List ℕ). take i names ++ n ∷ []) (sym here))
     ∙ append_assoc (take i names) (name ∷ []) (drop (i + 1) names)
 
-pub Unread-next : (source : Sourced) (holds_now : List ℕ → Option (List ℕ)) (left_now : Option (List ℕ)) (faults_now : List ℕ → ℕ) (handed_now : ℕ) (began_now : Option (List (List ℕ))) (names : List (List ℕ)) (made : List (Vec ℕ Global)) (i room : ℕ) (name : List ℕ) (fault : SourceFault) → holds_now ≡ source.holds → is_some left_now ≡ is_some source.left → faults_now ≡ source.faults_before → i < length names → name ≡ get_or names i name → ((texts : List (List ℕ)) → AreTold source.holds source.left names texts → bytes_of made ≡ take i texts) → room + total_size (bytes_of made) ≡ SIZE_LIMIT → RoseBy (total_size (bytes_of made)) source.handed_before handed_now → HandedOut source.handed_before handed_now (total_size (bytes_of made)) → BeganNext source.began_before began_now (take i names) → BeganNext began_now source.began_after (name ∷ []) → NextUnread (record { holds = holds_now; left = left_now; faults_before = faults_now; faults_after = source.faults_after; handed_before = handed_now; handed_after = source.handed_after; began_before = began_now; began_after = source.began_after }) name room fault → Unread source names fault
+pub Unread-next : (source : SourceTrace) (holds_now : List ℕ → Option (List ℕ)) (left_now : Option (List ℕ)) (faults_now : List ℕ → ℕ) (handed_now : ℕ) (began_now : Option (List (List ℕ))) (names : List (List ℕ)) (made : List (Vec ℕ Global)) (i room : ℕ) (name : List ℕ) (fault : SourceFault) → holds_now ≡ source.holds → is_some left_now ≡ is_some source.left → faults_now ≡ source.faults_before → i < length names → name ≡ get_or names i name → ((texts : List (List ℕ)) → AreTold source.holds source.left names texts → bytes_of made ≡ take i texts) → room + total_size (bytes_of made) ≡ SIZE_LIMIT → RoseBy (total_size (bytes_of made)) source.handed_before handed_now → HandedOut source.handed_before handed_now (total_size (bytes_of made)) → BeganNext source.began_before began_now (take i names) → BeganNext began_now source.began_after (name ∷ []) → NextUnread (record { holds = holds_now; left = left_now; faults_before = faults_now; faults_after = source.faults_after; handed_before = handed_now; handed_after = source.handed_after; began_before = began_now; began_after = source.began_after }) name room fault → Unread source names fault
 Unread-next source holds_now left_now faults_now handed_now began_now names made i room name (CannotRead named) same_holds same_left same_faults below is so_far counted rose out before after why =
     let at_name : (n : ℕ) → Rose n (source.faults_after name) → (source.faults_before name ≡ n) → Rose (source.faults_before name) (source.faults_after name) = λ n r e. subst (λ (m : ℕ). Rose m (source.faults_after name)) (sym e) r in
     let here : name ≡ get_or names i [] = get_or_read names i name below is [] in

@@ -1,25 +1,27 @@
 -- What a job prints for its inputs, or why it refuses them.
 use Rattle.std.specs.Prelude.{ℕ, List, [], Bool, true, false, Option, Some, None, Result, Ok, Err, if◌then◌else◌}
-use Rattle.np_estate.specs.Lawful.{IsLawful}
-use Rattle.np_estate.specs.declared.lists.EstateLists.{EstateLists}
-use Rattle.np_cli.specs.Inputs.{lists_of}
+use Rattle.np_model.specs.Lawful.{IsLawful}
+use Rattle.np_model.specs.declared.lists.EstateLists.{EstateLists}
+use Rattle.np_command.specs.Inputs.{lists_of}
 use Rattle.np_cli.specs.Sources.{is_too_large}
-use Rattle.np_cli.specs.Words.{object_texts, statement_bytes}
-use Rattle.np_cli.specs.commands.Check.{all_hold, check_reply}
-use Rattle.np_cli.specs.commands.Evaluate.{evaluate_reply}
-use Rattle.np_cli.specs.commands.Explain.{explain_reply}
-use Rattle.np_cli.specs.commands.Exposure.{exposure_reply}
-use Rattle.np_cli.specs.commands.Flatten.{flatten_reply}
-use Rattle.np_cli.specs.commands.List.{list_reply}
-use Rattle.np_cli.specs.commands.Sample.{HasFewRows, sample_summary}
-use Rattle.np_cli.specs.commands.Unused.{unused_text}
-use Rattle.np_cli.specs.declared.fault.Fault.{Fault}
+use Rattle.np_cli.specs.Words.{object_texts}
+use Rattle.np_command_check.specs.Report.{statement_bytes}
+use Rattle.np_command_check.specs.Report.{all_hold, check_reply}
+use Rattle.np_command_evaluate.specs.Report.{evaluate_reply}
+use Rattle.np_command_explain.specs.Report.{explain_reply}
+use Rattle.np_command_exposure.specs.Report.{exposure_reply}
+use Rattle.np_command_flatten.specs.Report.{flatten_reply}
+use Rattle.np_command_list.specs.Report.{list_reply}
+use Rattle.np_command_sample.specs.Report.{HasFewRows, sample_summary}
+use Rattle.np_command_unused.specs.Report.{unused_text}
+use Rattle.np_command.specs.declared.fault.Fault.{Fault}
 use Rattle.np_cli.specs.declared.notes.ReportNotes.{ReportNotes}
 use Rattle.np_cli.specs.declared.outcome.Ending.{Ending}
 use Rattle.np_cli.specs.declared.outcome.Ending.TheVariants.{Done, Violated}
 use Rattle.np_routes.specs.RouteNotes.{notes_of_routes}
-use Rattle.np_words.specs.declared.job.Job.{Job}
-use Rattle.np_words.specs.declared.job.Job.TheVariants.{Check, Evaluate, Explain, Exposure, Flatten, List as ListJob, Sample, Unused}
+use Rattle.np_args.specs.declared.job.Job.{Job}
+use Rattle.np_args.specs.declared.job.Job.TheVariants.{Check, Evaluate, Explain, Exposure, Flatten, List as ListJob, Sample, Unused}
+use Rattle.np_command.specs.Prints.{fault_in, text_in}
 
 -- what the bytes of a job say, or why they are refused
 abbrev pub objects_of : Job → List (List ℕ) → Result EstateLists Fault
@@ -42,14 +44,6 @@ reply (Sample n) texts lists = Ok (sample_summary lists)
 abbrev pub reply_in : Job → List (List ℕ) → Result EstateLists Fault → Result (List ℕ) Fault
 reply_in job texts (Ok lists) = reply job texts lists
 reply_in job texts (Err fault) = Err fault
-
-abbrev pub fault_in : Result (List ℕ) Fault → Option Fault
-fault_in (Ok text) = None
-fault_in (Err fault) = Some fault
-
-abbrev pub text_in : Result (List ℕ) Fault → List ℕ
-text_in (Ok text) = text
-text_in (Err fault) = []
 
 -- ---- how the report ends
 

@@ -1,21 +1,12 @@
 -- How many rules a job looks at.
-use Rattle.std.specs.Prelude.{◌≡◌, ℕ, ◌+◌, ◌*◌, ◌≤◌, List, length, Option, Some, None, Result, Ok, Err}
+use Rattle.std.specs.Prelude.{◌≡◌, ℕ, ◌+◌, ◌≤◌, List, Option, Some, None, Result, Ok, Err}
 use Rattle.np_cli.specs.Answers.{objects_of}
-use Rattle.np_cli.specs.Runs.{Run, Tells}
-use Rattle.np_cli.specs.declared.fault.Fault.{Fault}
-use Rattle.np_words.specs.declared.job.Job.{Job}
-use Rattle.np_words.specs.declared.job.Job.TheVariants.{Check, Evaluate, Explain, Exposure, Flatten, List as ListJob, Sample, Unused}
-use Rattle.np_estate.specs.declared.lists.EstateLists.{EstateLists}
-use Rattle.np_fold.specs.Workloads.{folding_of}
-use Rattle.np_table.specs.ToCome.{most_rules}
-
--- with so many workloads, of each of which so many rules speak in a direction at most
-abbrev pub table_steps : ℕ → ℕ → ℕ
-table_steps count most = (4 * count * count + 6 * count) * most
-
--- for the table of an estate
-unfoldable pub list_steps : EstateLists → ℕ
-list_steps lists = table_steps (length (folding_of lists).workloads) (most_rules lists (folding_of lists))
+use Rattle.np_cli.specs.Runs.{Run, KnowsBytes}
+use Rattle.np_command.specs.declared.fault.Fault.{Fault}
+use Rattle.np_args.specs.declared.job.Job.{Job}
+use Rattle.np_args.specs.declared.job.Job.TheVariants.{Check, Evaluate, Explain, Exposure, Flatten, List as ListJob, Sample, Unused}
+use Rattle.np_model.specs.declared.lists.EstateLists.{EstateLists}
+use Rattle.np_command.specs.TableSteps.{list_steps}
 
 -- for a job on what its inputs say: for the two that make all rows of a table; no number is stated for the others
 unfoldable pub reply_steps : Job → EstateLists → Option ℕ
@@ -45,4 +36,4 @@ RoseAtMost None before after = Unit {0}
 -- The count never falls, and where the source tells the bytes of a job's inputs, it rises by so many at most.
 pub record Counted (run : Run) (before after : ℕ) : Type 0 where
   pub least : before ≤ after
-  pub most : (job : Job) (texts : List (List ℕ)) → run.asked ≡ Some job → Tells run texts → RoseAtMost (most_steps job texts) before after
+  pub most : (job : Job) (texts : List (List ℕ)) → run.asked ≡ Some job → KnowsBytes run texts → RoseAtMost (most_steps job texts) before after

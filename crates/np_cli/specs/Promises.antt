@@ -2,31 +2,31 @@
 use Rattle.std.specs.Prelude.{◌≡◌, ◌≢◌, ℕ, ◌+◌, ◌^◌, ◌<◌, ◌≤◌, ◌⊎◌, List, [], true, false, None, Option, Some, Contains, Ok, Err}
 use Rattle.np_io.specs.Counts.{Rose}
 use Rattle.np_cli.specs.Answers.{ending_of, output, refusal}
-use Rattle.np_cli.specs.Checks.{ChecksAll, FindsBroken}
+use Rattle.np_command_check.specs.Promise.{ChecksAll, FindsBroken}
 use Rattle.np_cli.specs.Counts.{Counted}
-use Rattle.np_cli.specs.Explains.{ExplainsAll}
-use Rattle.np_cli.specs.Exposes.{ExposesAll}
-use Rattle.np_cli.specs.Flattens.{FlattensAll}
-use Rattle.np_cli.specs.Headline.{SaysAll}
+use Rattle.np_command_explain.specs.Promise.{ExplainsAll}
+use Rattle.np_command_exposure.specs.Promise.{ExposesAll}
+use Rattle.np_command_flatten.specs.Promise.{FlattensAll}
+use Rattle.np_command_list.specs.Promise.{SaysAll}
 use Rattle.np_cli.specs.Messages.{message}
-use Rattle.np_cli.specs.Runs.{Run, Tells, IsAccepted, Ends}
-use Rattle.np_cli.specs.Samples.{CountsAll}
-use Rattle.np_cli.specs.Sinks.{Sunk, IsKept, TookWhole, Said}
+use Rattle.np_cli.specs.Runs.{Run, KnowsBytes, IsAccepted, Ends}
+use Rattle.np_command_sample.specs.Promise.{CountsAll}
+use Rattle.np_command.specs.Sinks.{SinkTrace, IsKept, TookWhole, Said}
 use Rattle.np_cli.specs.Sources.{BeganFront, is_too_large}
 use Rattle.np_cli.specs.Statuses.{ending_status}
-use Rattle.np_cli.specs.Useless.{ListsUnused}
+use Rattle.np_command_unused.specs.Promise.{ListsUnused}
 use Rattle.np_cli.specs.Words.{names_asked}
-use Rattle.np_cli.specs.declared.failure.Failure.TheVariants as failure
-use Rattle.np_cli.specs.declared.fault.Fault.{Fault}
+use Rattle.np_command.specs.declared.failure.Failure.TheVariants as failure
+use Rattle.np_command.specs.declared.fault.Fault.{Fault}
 use Rattle.np_cli.specs.declared.sources.TheConstants.{SIZE_LIMIT}
-use Rattle.np_cli.specs.declared.status.Status.{Status}
-use Rattle.np_cli.specs.declared.status.Status.TheVariants as status
-use Rattle.np_words.specs.declared.end_word.EndWord.{EndWord}
-use Rattle.np_words.specs.declared.focus_side.FocusSide.{FocusSide}
-use Rattle.np_words.specs.declared.format.Format.{Format}
-use Rattle.np_words.specs.declared.job.Job.{Job}
-use Rattle.np_words.specs.declared.job.Job.TheVariants.{Check as CheckJob, Explain as ExplainJob, Exposure as ExposureJob, Flatten as FlattenJob, List as ListJob, Sample as SampleJob, Unused as UnusedJob}
-use Rattle.np_words.specs.declared.report.Report.{Report}
+use Rattle.np_command.specs.declared.status.Status.{Status}
+use Rattle.np_command.specs.declared.status.Status.TheVariants as status
+use Rattle.np_args.specs.declared.end_word.EndWord.{EndWord}
+use Rattle.np_args.specs.declared.focus_side.FocusSide.{FocusSide}
+use Rattle.np_args.specs.declared.format.Format.{Format}
+use Rattle.np_args.specs.declared.job.Job.{Job}
+use Rattle.np_args.specs.declared.job.Job.TheVariants.{Check as CheckJob, Explain as ExplainJob, Exposure as ExposureJob, Flatten as FlattenJob, List as ListJob, Sample as SampleJob, Unused as UnusedJob}
+use Rattle.np_args.specs.declared.report.Report.{Report}
 
 -- a count did not rise, and does not stand at its end
 pub record IsStill (old new : ℕ) : Type 0 where
@@ -39,26 +39,26 @@ NoInputFailed run = (name : List ℕ) → Contains (names_asked run.asked) name 
 
 -- Accepted inputs that the source tells, with no failing call, are answered with the whole text, with the status of how it
 -- ends and with what is then said, or for want of memory.
-abbrev pub Completes : Run → Sunk → Status → Type 0
-Completes run err answer = (job : Job) (texts : List (List ℕ)) → run.asked ≡ Some job → Tells run texts → IsAccepted job texts
+abbrev pub Completes : Run → SinkTrace → Status → Type 0
+Completes run err answer = (job : Job) (texts : List (List ℕ)) → run.asked ≡ Some job → KnowsBytes run texts → IsAccepted job texts
     → NoInputFailed run → IsStill run.out.faults_before run.out.faults_after
     → ((answer ≡ ending_status (ending_of job texts)) × TookWhole run.out (output run.asked texts) × Said err (message (Ok (ending_of job texts)))) ⊎ (answer ≡ status.NoMemory)
 
 -- Inputs with too many bytes are refused for that, and nothing is written to the sink of the report.
-abbrev pub RefusesTooLarge : Run → Sunk → Status → Type 0
-RefusesTooLarge run err answer = (job : Job) (texts : List (List ℕ)) → run.asked ≡ Some job → Tells run texts → is_too_large texts ≡ true
+abbrev pub RefusesTooLarge : Run → SinkTrace → Status → Type 0
+RefusesTooLarge run err answer = (job : Job) (texts : List (List ℕ)) → run.asked ≡ Some job → KnowsBytes run texts → is_too_large texts ≡ true
     → NoInputFailed run
     → ((answer ≡ status.Refused) × IsKept run.out × Said err (message (Err failure.TooLarge))) ⊎ (answer ≡ status.NoMemory)
 
 -- Where more bytes were handed out than inputs may have, there is no other answer, whatever the source tells.
-abbrev pub RefusesMore : Run → Sunk → Status → Type 0
+abbrev pub RefusesMore : Run → SinkTrace → Status → Type 0
 RefusesMore run err answer = run.source.handed_before + SIZE_LIMIT < run.source.handed_after
     → ((answer ≡ status.Refused) × IsKept run.out × Said err (message (Err failure.TooLarge))) ⊎ (answer ≡ status.NoMemory)
 
 -- Inputs with a fault are refused for the one that stands first, which is that of `refusal`, and nothing is written to
 -- the sink of the report.
-abbrev pub RefusesFaults : Run → Sunk → Status → Type 0
-RefusesFaults run err answer = (job : Job) (texts : List (List ℕ)) (fault : Fault) → run.asked ≡ Some job → Tells run texts → is_too_large texts ≡ false → refusal job texts ≡ Some fault
+abbrev pub RefusesFaults : Run → SinkTrace → Status → Type 0
+RefusesFaults run err answer = (job : Job) (texts : List (List ℕ)) (fault : Fault) → run.asked ≡ Some job → KnowsBytes run texts → is_too_large texts ≡ false → refusal job texts ≡ Some fault
     → NoInputFailed run
     → ((answer ≡ status.Refused) × IsKept run.out × Said err (message (Err (failure.Refused fault)))) ⊎ (answer ≡ status.NoMemory)
 
@@ -76,36 +76,36 @@ BlamesWords asked answer = (answer ≡ status.Usage → asked ≡ None) × (aske
 -- Where `list` is done on inputs that the source tells, its report says exactly what the model allows.
 abbrev pub SaysWhatPasses : Run → Status → Type 0
 SaysWhatPasses run answer = (format : Format) (report : Report) (controller focus : Option (List ℕ)) (side : FocusSide) (files texts : List (List ℕ))
-    → run.asked ≡ Some (ListJob format report controller focus side files) → Tells run texts → answer ≡ status.Done
+    → run.asked ≡ Some (ListJob format report controller focus side files) → KnowsBytes run texts → answer ≡ status.Done
     → SaysAll run.out format report controller focus side texts
 
 -- Where `explain` is done on inputs that the source tells, its report names what decides.
 abbrev pub SaysWhatDecides : Run → Status → Type 0
 SaysWhatDecides run answer = (from to : EndWord) (files texts : List (List ℕ))
-    → run.asked ≡ Some (ExplainJob from to files) → Tells run texts → answer ≡ status.Done → ExplainsAll run.out from to texts
+    → run.asked ≡ Some (ExplainJob from to files) → KnowsBytes run texts → answer ≡ status.Done → ExplainsAll run.out from to texts
 
 -- Where `exposure` is done on inputs that the source tells, its report says exactly what pods that nobody has written
 -- yet are allowed.
 abbrev pub SaysExposures : Run → Status → Type 0
 SaysExposures run answer = (workload : Option (List ℕ)) (format : Format) (files texts : List (List ℕ))
-    → run.asked ≡ Some (ExposureJob workload format files) → Tells run texts → answer ≡ status.Done → ExposesAll run.out workload format texts
+    → run.asked ≡ Some (ExposureJob workload format files) → KnowsBytes run texts → answer ≡ status.Done → ExposesAll run.out workload format texts
 
 -- Where `unused` is done on inputs that the source tells, its report lists exactly the rules without which no verdict changes.
 abbrev pub SaysWhatIsUnused : Run → Status → Type 0
 SaysWhatIsUnused run answer = (files texts : List (List ℕ))
-    → run.asked ≡ Some (UnusedJob files) → Tells run texts → answer ≡ status.Done → ListsUnused run.out texts
+    → run.asked ≡ Some (UnusedJob files) → KnowsBytes run texts → answer ≡ status.Done → ListsUnused run.out texts
 
 -- Where `check` is done on inputs that the source tells, all its statements hold, and where it ends with a violated statement, its
 -- report has the first one that does not hold, and the first packet that breaks it.
 abbrev pub SaysWhatHolds : Run → Status → Type 0
 SaysWhatHolds run answer = (statement : List ℕ) (files texts : List (List ℕ))
-    → run.asked ≡ Some (CheckJob statement files) → Tells run texts
+    → run.asked ≡ Some (CheckJob statement files) → KnowsBytes run texts
     → (answer ≡ status.Done → ChecksAll run.out texts) × (answer ≡ status.Violated → FindsBroken run.out texts)
 
 -- Where `flatten` is done on inputs that the source tells, its report has the policies of one tier that give all verdicts.
 abbrev pub SaysFlatPolicies : Run → Status → Type 0
 SaysFlatPolicies run answer = (files texts : List (List ℕ))
-    → run.asked ≡ Some (FlattenJob files) → Tells run texts → answer ≡ status.Done → FlattensAll run.out texts
+    → run.asked ≡ Some (FlattenJob files) → KnowsBytes run texts → answer ≡ status.Done → FlattensAll run.out texts
 
 -- A sample is accepted by its words alone; where `sample` is done, its report counts the rows of the table of the sample; and it is
 -- refused for nothing but words.
@@ -116,7 +116,7 @@ SaysCounts run answer = (n : ℕ) → n ≤ 1000 → run.asked ≡ Some (SampleJ
 -- All that is promised of a run that ended with this status, where so many rules were looked at before it and after it.
 -- Nothing here ties the status NoMemory to memory that is short: a program that reads nothing, writes no report, says
 -- `error: out of memory` and always answers NoMemory keeps every promise. That this one does otherwise is only tested.
-pub record Promises (run : Run) (err : Sunk) (steps_before steps_after : ℕ) (answer : Status) : Type 0 where
+pub record Promises (run : Run) (err : SinkTrace) (steps_before steps_after : ℕ) (answer : Status) : Type 0 where
   pub ends : Ends run err answer
   -- what a report says of the bytes of the inputs
   pub says : SaysWhatPasses run answer

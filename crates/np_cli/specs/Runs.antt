@@ -4,29 +4,29 @@ use Rattle.np_io.specs.Counts.{Rose}
 use Rattle.np_io.specs.Taken.{TookFront}
 use Rattle.np_cli.specs.Answers.{IsLawfulIn, ending_of, objects_of, output, refusal}
 use Rattle.np_cli.specs.Messages.{message}
-use Rattle.np_cli.specs.Sinks.{Sunk, IsKept, TookWhole, Said}
-use Rattle.np_cli.specs.Sources.{Sourced, AreTold, BeganFront, FailedAt, IsUntouched, OverLimit, ReadOnce, is_too_large}
+use Rattle.np_command.specs.Sinks.{SinkTrace, IsKept, TookWhole, Said}
+use Rattle.np_cli.specs.Sources.{SourceTrace, AreTold, BeganFront, FailedAt, IsUntouched, OverLimit, ReadOnce, is_too_large}
 use Rattle.np_cli.specs.Statuses.{status_of}
 use Rattle.np_cli.specs.Words.{names_asked, names_of}
-use Rattle.np_cli.specs.declared.failure.Failure.{Failure}
-use Rattle.np_cli.specs.declared.failure.Failure.TheVariants.{Usage, CannotRead, TooLarge, Refused, CannotWrite, NoMemory}
-use Rattle.np_cli.specs.declared.fault.Fault.{Fault}
+use Rattle.np_command.specs.declared.failure.Failure.{Failure}
+use Rattle.np_command.specs.declared.failure.Failure.TheVariants.{Usage, CannotRead, TooLarge, Refused, CannotWrite, NoMemory}
+use Rattle.np_command.specs.declared.fault.Fault.{Fault}
 use Rattle.np_cli.specs.declared.outcome.Ending.{Ending}
-use Rattle.np_cli.specs.declared.status.Status.{Status}
-use Rattle.np_words.specs.declared.job.Job.{Job}
+use Rattle.np_command.specs.declared.status.Status.{Status}
+use Rattle.np_args.specs.declared.job.Job.{Job}
 
 -- a run: what the words ask for, and what it did to the source and to the sink of the report
 pub record Run : Type 0 where
   pub asked : Option Job
-  pub source : Sourced
-  pub out : Sunk
+  pub source : SourceTrace
+  pub out : SinkTrace
 
-abbrev pub ran : Option Job → Sourced → Sunk → Run
+abbrev pub ran : Option Job → SourceTrace → SinkTrace → Run
 ran asked source out = record { asked = asked; source = source; out = out }
 
 -- the inputs that the words ask for tell these bytes
-abbrev pub Tells : Run → List (List ℕ) → Type 0
-Tells run texts = AreTold run.source.holds run.source.left (names_asked run.asked) texts
+abbrev pub KnowsBytes : Run → List (List ℕ) → Type 0
+KnowsBytes run texts = AreTold run.source.holds run.source.left (names_asked run.asked) texts
 
 -- the inputs are not too large, and have no fault
 pub record IsAccepted (job : Job) (texts : List (List ℕ)) : Type 0 where
@@ -48,7 +48,7 @@ pub record Reported (run : Run) (ends : Ending) : Type 0 where
   pub asked : run.asked ≡ Some job
   pub read : ReadOnce run.source (names_of job)
   pub unfailed : run.out.faults_after ≡ run.out.faults_before
-  pub told : (texts : List (List ℕ)) → Tells run texts → IsReported run job ends texts
+  pub told : (texts : List (List ℕ)) → KnowsBytes run texts → IsReported run job ends texts
 
 -- The words ask for nothing, and nothing was touched.
 pub record AskedNothing (run : Run) : Type 0 where
@@ -68,8 +68,8 @@ pub record RefusedFor (run : Run) (fault : Fault) : Type 0 where
   pub asked : run.asked ≡ Some job
   pub read : ReadOnce run.source (names_of job)
   pub kept : IsKept run.out
-  pub fits : (texts : List (List ℕ)) → Tells run texts → is_too_large texts ≡ false
-  pub found : (texts : List (List ℕ)) → Tells run texts → refusal job texts ≡ Some fault
+  pub fits : (texts : List (List ℕ)) → KnowsBytes run texts → is_too_large texts ≡ false
+  pub found : (texts : List (List ℕ)) → KnowsBytes run texts → refusal job texts ≡ Some fault
 
 -- A call for the input of this name failed.
 pub record StoppedReading (run : Run) (name : List ℕ) : Type 0 where
@@ -82,14 +82,14 @@ pub record StoppedWriting (run : Run) : Type 0 where
   pub asked : run.asked ≡ Some job
   pub read : ReadOnce run.source (names_of job)
   pub rose : Rose run.out.faults_before run.out.faults_after
-  pub accepted : (texts : List (List ℕ)) → Tells run texts → IsAccepted job texts
-  pub front : (texts : List (List ℕ)) → Tells run texts → TookFront run.out.before run.out.after (output run.asked texts)
+  pub accepted : (texts : List (List ℕ)) → KnowsBytes run texts → IsAccepted job texts
+  pub front : (texts : List (List ℕ)) → KnowsBytes run texts → TookFront run.out.before run.out.after (output run.asked texts)
 
 -- Memory was refused, at any time. No field says that it was: this holds of every run that began the first of its
 -- inputs in their order, and of whose text the sink took a front.
 pub record LackedMemory (run : Run) : Type 0 where
   pub began : BeganFront run.source (names_asked run.asked)
-  pub front : (texts : List (List ℕ)) → Tells run texts → TookFront run.out.before run.out.after (output run.asked texts)
+  pub front : (texts : List (List ℕ)) → KnowsBytes run texts → TookFront run.out.before run.out.after (output run.asked texts)
 
 -- Why a run may end so.
 abbrev pub Cause : Run → Result Ending Failure → Type 0
@@ -102,7 +102,7 @@ Cause run (Err CannotWrite) = StoppedWriting run
 Cause run (Err NoMemory) = LackedMemory run
 
 -- Some outcome has its cause, was said on the error sink, and gives the status.
-pub record Ends (run : Run) (err : Sunk) (status : Status) : Type 0 where
+pub record Ends (run : Run) (err : SinkTrace) (status : Status) : Type 0 where
   pub outcome : Result Ending Failure
   pub cause : Cause run outcome
   pub said : Said err (message outcome)

@@ -25,7 +25,7 @@ AreTold holds left (name ∷ names) [] = ⊥
 -- ---- what a call did to a source
 
 -- what a source tells, and its counts and the names begun before a call and after it
-pub record Sourced : Type 0 where
+pub record SourceTrace : Type 0 where
   pub holds : List ℕ → Option (List ℕ)
   pub left : Option (List ℕ)
   pub faults_before : List ℕ → ℕ
@@ -36,7 +36,7 @@ pub record Sourced : Type 0 where
   pub began_after : Option (List (List ℕ))
 
 -- the record of a call, by what contracts see of a source before it and after it
-abbrev pub sourced : {I : Type 0} → (I → List ℕ → Option (List ℕ)) → (I → Option (List ℕ)) → (I → List ℕ → ℕ) → (I → ℕ) → (I → Option (List (List ℕ))) → I → I → Sourced
+abbrev pub sourced : {I : Type 0} → (I → List ℕ → Option (List ℕ)) → (I → Option (List ℕ)) → (I → List ℕ → ℕ) → (I → ℕ) → (I → Option (List (List ℕ))) → I → I → SourceTrace
 sourced holds left faults handed began old new = record {
   holds = holds old;
   left = left old;
@@ -49,18 +49,18 @@ sourced holds left faults handed began old new = record {
 }
 
 -- these names were begun one after another, and no other, where it is told which were
-abbrev pub Began : Sourced → List (List ℕ) → Type 0
+abbrev pub Began : SourceTrace → List (List ℕ) → Type 0
 Began source names = BeganNext source.began_before source.began_after names
 
 -- names of a list were begun in their order, each once, from the first on: no other name, and none behind the last one
-pub record BeganFront (source : Sourced) (names : List (List ℕ)) : Type 0 where
+pub record BeganFront (source : SourceTrace) (names : List (List ℕ)) : Type 0 where
   pub front : List (List ℕ)
   pub rest : List (List ℕ)
   pub order : names ≡ front ++ rest
   pub began : Began source front
 
 -- no call was made
-pub record IsUntouched (source : Sourced) : Type 0 where
+pub record IsUntouched (source : SourceTrace) : Type 0 where
   pub faults : source.faults_after ≡ source.faults_before
   pub handed : source.handed_after ≡ source.handed_before
   pub began : source.began_after ≡ source.began_before
@@ -71,19 +71,19 @@ pub record HandedOut (old new count : ℕ) : Type 0 where
   pub most : new ≤ old + count
 
 -- no more bytes were handed out than inputs may have
-abbrev pub InRoom : Sourced → Type 0
+abbrev pub InRoom : SourceTrace → Type 0
 InRoom source = source.handed_after ≤ source.handed_before + SIZE_LIMIT
 
 -- The inputs of these names were read, each once and in its turn: no call failed, no other name was begun, and the bytes
 -- that were handed out are those of the texts.
-pub record ReadOnce (source : Sourced) (names : List (List ℕ)) : Type 0 where
+pub record ReadOnce (source : SourceTrace) (names : List (List ℕ)) : Type 0 where
   pub unfailed : source.faults_after ≡ source.faults_before
   pub began : Began source names
   pub in_room : InRoom source
   pub handed : (texts : List (List ℕ)) → AreTold source.holds source.left names texts → HandedOut source.handed_before source.handed_after (total_size texts)
 
 -- The reading of the inputs of these names ended at this one, since a call for it failed. It was begun last.
-pub record FailedAt (source : Sourced) (names : List (List ℕ)) (name : List ℕ) : Type 0 where
+pub record FailedAt (source : SourceTrace) (names : List (List ℕ)) (name : List ℕ) : Type 0 where
   pub earlier : List (List ℕ)
   pub later : List (List ℕ)
   pub order : names ≡ earlier ++ name ∷ later
@@ -93,7 +93,7 @@ pub record FailedAt (source : Sourced) (names : List (List ℕ)) (name : List �
 
 -- More bytes were handed out than inputs may have, but at most one piece more, of 8,192 bytes, and no call failed. The input
 -- with which they became too many was begun last: those before it fit.
-pub record OverLimit (source : Sourced) (names : List (List ℕ)) : Type 0 where
+pub record OverLimit (source : SourceTrace) (names : List (List ℕ)) : Type 0 where
   pub earlier : List (List ℕ)
   pub name : List ℕ
   pub later : List (List ℕ)
@@ -106,13 +106,13 @@ pub record OverLimit (source : Sourced) (names : List (List ℕ)) : Type 0 where
   pub fits : (texts : List (List ℕ)) → AreTold source.holds source.left names texts → total_size (take (length earlier) texts) ≤ SIZE_LIMIT
 
 -- why the inputs of these names were not read to their ends
-abbrev pub Unread : Sourced → List (List ℕ) → SourceFault → Type 0
+abbrev pub Unread : SourceTrace → List (List ℕ) → SourceFault → Type 0
 Unread source names (CannotRead name) = FailedAt source names name
 Unread source names TooLarge = OverLimit source names
 Unread source names NoMemory = BeganFront source names
 
 -- why the next input was not read to its end, with room for so many bytes
-abbrev pub NextUnread : Sourced → List ℕ → ℕ → SourceFault → Type 0
+abbrev pub NextUnread : SourceTrace → List ℕ → ℕ → SourceFault → Type 0
 NextUnread source asked room (CannotRead name) = (name ≡ asked) × Rose (source.faults_before asked) (source.faults_after asked)
     × (source.handed_after ≤ source.handed_before + room)
 NextUnread source asked room TooLarge = RosePast room source.handed_before source.handed_after

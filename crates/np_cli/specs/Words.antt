@@ -1,8 +1,8 @@
 -- The names that a command line asks for, and which of their bytes are read for objects.
 use Rattle.std.specs.Prelude.{ℕ, List, [], ◌∷◌, Option, Some, None, drop}
-use Rattle.np_cluster.specs.Sample.{sample_text}
-use Rattle.np_words.specs.declared.job.Job.{Job}
-use Rattle.np_words.specs.declared.job.Job.TheVariants.{Check, Evaluate, Explain, Exposure, Flatten, List as ListJob, Sample, Unused}
+use Rattle.np_sample.specs.Sample.{sample_text}
+use Rattle.np_args.specs.declared.job.Job.{Job}
+use Rattle.np_args.specs.declared.job.Job.TheVariants.{Check, Evaluate, Explain, Exposure, Flatten, List as ListJob, Sample, Unused}
 
 -- the names that a job reads, in order: of `check` the statement file stands first
 abbrev pub names_of : Job → List (List ℕ)
@@ -21,11 +21,6 @@ names_asked None = []
 names_asked (Some job) = names_of job
 
 -- ---- by the bytes of all of them
-
--- the bytes of a statement file, which stand first
-abbrev pub statement_bytes : List (List ℕ) → List ℕ
-statement_bytes [] = []
-statement_bytes (text ∷ texts) = text
 
 -- The bytes that hold the objects: of `check` those behind the statement file, and of `sample`, which reads none, those
 -- of the sample itself.

@@ -1,16 +1,16 @@
 //! What a job reads, and which of its bytes hold the objects.
 ghost use Rattle.std.specs.Prelude.{◌≡◌, ◌++◌, IfOk, OnOk, map};
 ghost use Rattle.np_cli.specs.Answers.{objects_of};
-ghost use Rattle.np_cli.specs.Inputs.{Gives};
+ghost use Rattle.np_command.specs.Inputs.{Gives};
 ghost use Rattle.np_cli.specs.Words as spec;
-ghost use Rattle.np_words.specs.Jobs.{IsWell};
+ghost use Rattle.np_args.specs.Jobs.{IsWell};
 
-use crate::failure::Failure;
 use crate::folded::read_folded;
+use np_args::Job;
 use np_base::{NoMemory, Seq, Text};
-use np_cluster::sample;
+use np_command::Failure;
 use np_fold::Folded;
-use np_words::Job;
+use np_sample::sample;
 use std::alloc::Global;
 
 /// The names that a job reads, in order: its files, and before them the statement file of `check`. `sample` reads none.

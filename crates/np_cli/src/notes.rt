@@ -3,7 +3,7 @@ ghost use Rattle.std.specs.Prelude.{◌≡◌, IfOk, string_bytes};
 ghost use Rattle.np_cli.specs.Messages as spec;
 
 use np_base::{NoMemory, Seq};
-use np_estate::Notes;
+use np_model::Notes;
 use np_routes::RouteNote;
 use std::alloc::Global;
 use std::fmt;

@@ -3,10 +3,9 @@ ghost use Rattle.std.specs.Prelude.{◌≡◌, IfOk, string_bytes};
 ghost use Rattle.np_cli.specs.Messages as messages;
 ghost use Rattle.np_cli.specs.Statuses as statuses;
 
-use crate::failure::Failure;
 use crate::notes::ReportNotes;
-use crate::status::Status;
 use np_base::NoMemory;
+use np_command::{Failure, Status};
 use std::alloc::Global;
 
 /// How a report that was written whole ends.

@@ -6,21 +6,20 @@ ghost use Rattle.np_cli.specs.Messages as messages;
 ghost use Rattle.np_cli.specs.Prints.{Answers};
 ghost use Rattle.np_cli.specs.Promises.{Promises};
 ghost use Rattle.np_cli.specs.Runs.{Cause, ran};
-ghost use Rattle.np_cli.specs.Sinks.{Said, sunk};
+ghost use Rattle.np_command.specs.Sinks.{Said, sunk};
 ghost use Rattle.np_cli.specs.Sources.{sourced};
-ghost use Rattle.np_words.specs.CommandLines.{asked_by};
-ghost use Rattle.np_words.specs.Jobs.{IsWell};
+ghost use Rattle.np_args.specs.CommandLines.{asked_by};
+ghost use Rattle.np_args.specs.Jobs.{IsWell};
 
 use crate::commands::{reply, report_notes};
-use crate::failure::Failure;
 use crate::job_texts::{names_of, read_objects};
 use crate::outcome::{Ending, Outcome, message, status_of};
 use crate::sources::read_all;
-use crate::status::Status;
+use np_args::{Job, read_words};
 use np_base::NoMemory;
+use np_command::{Failure, Status};
 use np_io::{Inputs, Sink, write_whole};
 use np_steps::Steps;
-use np_words::{Job, read_words};
 use std::alloc::Global;
 use std::sync::ledger::Ledger;
 

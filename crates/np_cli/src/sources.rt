@@ -5,6 +5,7 @@ ghost use Rattle.np_io.specs.Source.{BeganNext, IsTold};
 ghost use Rattle.np_cli.specs.Sources.{AreTold, ReadOnce, Unread, NextUnread, NamesInput, sourced, total_size};
 
 use np_base::{NoMemory, Text};
+use np_command::Failure;
 use np_io::{Inputs, WholeFault, read_whole};
 use std::alloc::{AllocFailed, Global};
 
@@ -29,6 +30,21 @@ impl<T: Drop> From<AllocFailed<T>> for SourceFault {
 
     fn from(_error: AllocFailed<T>) -> SourceFault {
         SourceFault::NoMemory
+    }
+}
+
+impl From<SourceFault> for Failure {
+    ghost use Rattle.std.specs.Prelude.{◌≡◌};
+    ghost use Rattle.np_cli.specs.Failures.{source_failure};
+
+    ghost from_gives = { λ fault failure. failure ≡ source_failure fault };
+
+    fn from(fault: SourceFault) -> Failure {
+        match fault {
+            SourceFault::CannotRead(name) => Failure::CannotRead(name),
+            SourceFault::TooLarge => Failure::TooLarge,
+            SourceFault::NoMemory => Failure::NoMemory,
+        }
     }
 }
 

@@ -13,7 +13,7 @@ use Rattle.np_conns.specs.Conns.{Conns, IsConns, has_spot, is_spot}
 use Rattle.np_conns.specs.ConnsText.{spans_of}
 use Rattle.np_conns.specs.declared.port_spot.PortSpot.{PortSpot}
 use Rattle.np_conns.specs.declared.proto.Proto.TheVariants.{Tcp, Udp, Sctp}
-use Rattle.np_estate.specs.declared.lists.EstateLists.{EstateLists}
+use Rattle.np_model.specs.declared.lists.EstateLists.{EstateLists}
 use Rattle.np_explain.proofs.OneListLemmas.{both_say, one_part}
 use Rattle.np_explain.proofs.RightPartsLemmas.{conns_of-has, conns_of-well, made_are_right}
 use Rattle.np_explain.proofs.SameDecider.{same_decider-Decides}
@@ -23,7 +23,7 @@ use Rattle.np_explain.specs.RightParts.{conns_of, parts_of, same_decider}
 use Rattle.np_explain.specs.Sides.{decider_at, decider_between, packet_between}
 use Rattle.np_explain.specs.declared.explanation.Explanation.{Explanation}
 use Rattle.np_explain.specs.declared.part.Part.{Part}
-use Rattle.np_policies.specs.declared.direction.Direction.TheVariants.{Ingress, Egress}
+use Rattle.np_model.specs.declared.direction.Direction.TheVariants.{Ingress, Egress}
 use Rattle.np_rules.specs.Deciders.{decider_allows}
 use Rattle.np_rules.specs.declared.decider.Decider.{Decider}
 use Rattle.np_rules.specs.declared.decider.Decider.TheVariants.{NoSide}

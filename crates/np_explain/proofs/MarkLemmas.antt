@@ -3,7 +3,7 @@ use Rattle.std.proofs.Common.{◌≡◌, ◌≢◌, ◌⊎◌, ℕ, ◌<◌, ◌
 use Rattle.std.specs.List.{slice_get}
 use Rattle.std.specs.Option.{option_map}
 use Rattle.std.proofs.lemmas.Option.{slice_get_cases}
-use Rattle.np_estate.specs.Lawful.{IsLawful}
+use Rattle.np_model.specs.Lawful.{IsLawful}
 use Rattle.np_explain.specs.Marks.{IsMarkOf, IsPassOf, admin_rules, base_rules, mark_decider, net_rules, pass_name}
 use Rattle.np_explain.proofs.PlaceLemmas.{at_place, place_told}
 use Rattle.np_explain.proofs.RuleLemmas.{admin_names_apart, base_names_apart, net_names_apart}

@@ -10,11 +10,11 @@ use Rattle.std.proofs.lemmas.List.{append_cancel_left}
 use Rattle.std.proofs.lemmas.List.Elements.{All-nil, recursion_from_All}
 use Rattle.std.proofs.lemmas.Slice.Eq.{bytes_eq-Decides}
 use Rattle.np_addr.proofs.Pairs.{AllPairs-head, AllPairs-nil, AllPairs-tail}
-use Rattle.np_estate.specs.Lawful.{AreNamesApart, StandsBefore, comes_before}
-use Rattle.np_policies.specs.declared.admin_policy.AdminPolicy.{AdminPolicy}
-use Rattle.np_policies.specs.declared.admin_policy.BasePolicy.{BasePolicy}
-use Rattle.np_policies.specs.declared.direction.Direction.{Direction}
-use Rattle.np_policies.specs.declared.network_policy.NetPolicy.{NetPolicy}
+use Rattle.np_model.specs.Lawful.{AreNamesApart, StandsBefore, comes_before}
+use Rattle.np_model.specs.declared.admin_policy.AdminPolicy.{AdminPolicy}
+use Rattle.np_model.specs.declared.admin_policy.BasePolicy.{BasePolicy}
+use Rattle.np_model.specs.declared.direction.Direction.{Direction}
+use Rattle.np_model.specs.declared.network_policy.NetPolicy.{NetPolicy}
 use Rattle.np_rules.specs.Deciders.{admin_rule_name, base_rule_name, net_decider, net_precedes, net_rule_name}
 use Rattle.np_rules.specs.Ends.{Contact, PodEnd}
 use Rattle.np_rules.specs.NetTier.{placed_net_matches}

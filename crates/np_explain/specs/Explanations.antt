@@ -6,13 +6,13 @@ use Rattle.np_addr.specs.declared.address.Family.{Family}
 use Rattle.np_base.specs.declared.range.Range.{Range}
 use Rattle.np_conns.specs.Conns.{Conns, has_spot, is_spot}
 use Rattle.np_conns.specs.declared.port_spot.PortSpot.{PortSpot}
-use Rattle.np_estate.specs.declared.lists.EstateLists.{EstateLists}
+use Rattle.np_model.specs.declared.lists.EstateLists.{EstateLists}
 use Rattle.np_explain.specs.Parts.{AreRightParts}
 use Rattle.np_explain.specs.RightParts.{conns_of, parts_of, same_decider}
 use Rattle.np_explain.specs.Sides.{decider_between, packet_between}
 use Rattle.np_explain.specs.declared.explanation.Explanation.{Explanation}
 use Rattle.np_explain.specs.declared.part.Part.{Part}
-use Rattle.np_policies.specs.declared.direction.Direction.TheVariants.{Ingress, Egress}
+use Rattle.np_model.specs.declared.direction.Direction.TheVariants.{Ingress, Egress}
 use Rattle.np_rules.specs.Deciders.{decider_allows}
 use Rattle.np_rules.specs.Verdict.{allows}
 use Rattle.np_rules.specs.declared.packet.End.{End}

@@ -4,7 +4,7 @@ use Rattle.std.specs.List.{slice_get}
 use Rattle.std.specs.Option.{option_map, option_map_or}
 use Rattle.np_conns.specs.Conns.{Conns}
 use Rattle.np_explain.specs.declared.part.Part.{Part}
-use Rattle.np_policies.specs.declared.network_policy.NetPolicy.{NetPolicy}
+use Rattle.np_model.specs.declared.network_policy.NetPolicy.{NetPolicy}
 use Rattle.np_rules.specs.Deciders.{admin_rule_name, base_rule_name, isolating_names, net_policy_name, net_rule_name}
 use Rattle.np_rules.specs.LayerRules.{NamesAdmin, NamesBase, NamesNet}
 use Rattle.np_rules.specs.Layers.{Pairwise, tier_action}

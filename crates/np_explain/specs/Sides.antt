@@ -3,9 +3,9 @@ use Rattle.std.specs.Prelude.{◌≡◌, Bool, true, false, ◌==◌}
 use Rattle.np_addr.specs.Addresses.{family_of}
 use Rattle.np_addr.specs.declared.address.Family.{Family}
 use Rattle.np_conns.specs.declared.port_spot.PortSpot.{PortSpot}
-use Rattle.np_estate.specs.declared.lists.EstateLists.{EstateLists}
-use Rattle.np_policies.specs.declared.direction.Direction.{Direction}
-use Rattle.np_policies.specs.declared.direction.Direction.TheVariants.{Ingress, Egress}
+use Rattle.np_model.specs.declared.lists.EstateLists.{EstateLists}
+use Rattle.np_model.specs.declared.direction.Direction.{Direction}
+use Rattle.np_model.specs.declared.direction.Direction.TheVariants.{Ingress, Egress}
 use Rattle.np_rules.specs.Deciders.{decider}
 use Rattle.np_rules.specs.Ends.{Contact, End, Packet, address, contact, contact_of, pod}
 use Rattle.np_rules.specs.PodSides.{PodSide, near_pod}

@@ -1,7 +1,7 @@
 //! What decides every packet between two ends.
 ghost use Rattle.std.specs.Prelude.{◌≡◌, ◌+◌, ◌≤◌, ◌<◌, false, length, map, All, IfOk, OnOk};
 ghost use Rattle.np_conns.specs.Conns.{has_spot, is_spot};
-ghost use Rattle.np_estate.specs.Lawful.{IsLawful};
+ghost use Rattle.np_model.specs.Lawful.{IsLawful};
 ghost use Rattle.np_explain.specs.Marks.{IsMarkOf, named_part};
 ghost use Rattle.np_explain.specs.Parts.{AreRightParts};
 ghost use Rattle.np_explain.specs.RightParts.{parts_of};
@@ -16,8 +16,7 @@ use crate::side::Side;
 use np_addr::Family;
 use np_base::{Cells, NoMemory, Seq};
 use np_conns::ConnSet;
-use np_estate::Estate;
-use np_policies::Direction;
+use np_model::{Direction, Estate};
 use np_rules::{Decider, End, pod_layer, point_layer};
 use np_steps::Steps;
 use np_tiers::{Layer, Marked, carve};

@@ -2,7 +2,7 @@
 ghost use Rattle.std.specs.Prelude.{◌≡◌, ◌≤◌, false, true, IfOk};
 ghost use Rattle.np_conns.specs.Conns.{IsConns, has_spot, is_spot};
 ghost use Rattle.np_conns.specs.declared.port_spot.PortSpot.{PortSpot};
-ghost use Rattle.np_estate.specs.Lawful.{IsLawful};
+ghost use Rattle.np_model.specs.Lawful.{IsLawful};
 ghost use Rattle.np_explain.specs.Explanations as spec;
 ghost use Rattle.np_explain.specs.Sides.{IsFamilyOf, are_one_pod};
 ghost use Rattle.np_rules.specs.Deciders.{decider_allows};
@@ -13,8 +13,7 @@ use crate::part::Part;
 use np_addr::Family;
 use np_base::{Cells, NoMemory, Seq};
 use np_conns::ConnSet;
-use np_estate::Estate;
-use np_policies::Direction;
+use np_model::{Direction, Estate};
 use np_rules::{Decider, End};
 use np_steps::Steps;
 use std::alloc::Global;

@@ -3,15 +3,15 @@ ghost use Rattle.std.specs.Prelude.{◌≡◌, ◌↔◌, ◌&&◌, IsTrue, List
 ghost use Rattle.np_addr.specs.declared.address.Family.{Family};
 ghost use Rattle.np_conns.specs.Conns.{has_spot, is_spot};
 ghost use Rattle.np_conns.specs.declared.port_spot.PortSpot.{PortSpot};
-ghost use Rattle.np_estate.specs.declared.lists.EstateLists.{EstateLists};
+ghost use Rattle.np_model.specs.declared.lists.EstateLists.{EstateLists};
 ghost use Rattle.np_explain.specs.Explanations.{IsRightFor, explanation_of, same_sides};
 ghost use Rattle.np_explain.specs.Parts.{AreRightParts};
 ghost use Rattle.np_explain.specs.RightParts.{parts_of};
 ghost use Rattle.np_explain.specs.Sides.{decider_at, decider_between, end_at, is_address, packet_between};
 ghost use Rattle.np_explain.specs.declared.explanation.Explanation.{Explanation};
 ghost use Rattle.np_explain.specs.declared.part.Part.{Part};
-ghost use Rattle.np_policies.specs.declared.direction.Direction.{Direction};
-ghost use Rattle.np_policies.specs.declared.direction.Direction.TheVariants.{Ingress, Egress};
+ghost use Rattle.np_model.specs.declared.direction.Direction.{Direction};
+ghost use Rattle.np_model.specs.declared.direction.Direction.TheVariants.{Ingress, Egress};
 ghost use Rattle.np_rules.specs.Deciders.{decider, decider_allows};
 ghost use Rattle.np_rules.specs.Ends.{Contact, End as RuleEnd, Packet, contact_of};
 ghost use Rattle.np_rules.specs.Verdict.{allows, end_allows};

@@ -3,7 +3,7 @@ ghost use Rattle.std.specs.Prelude.{◌≡◌, IfOk, string_bytes};
 ghost use Rattle.np_explain.specs.DeciderText as spec;
 
 use np_base::{NoMemory, Text};
-use np_policies::Direction;
+use np_model::Direction;
 use np_rules::{Decider, RuleName};
 use std::alloc::Global;
 

@@ -6,7 +6,7 @@ ghost use Rattle.np_rules.specs.LayerRules.{NamesAdmin, NamesNet};
 ghost use Rattle.np_rules.specs.Places.{PlacedAdminRule, PlacedNetRule};
 
 use np_base::{NoMemory, Seq, Text};
-use np_policies::{AdminPolicy, NetPolicy};
+use np_model::{AdminPolicy, NetPolicy};
 use np_rules::{RuleId, RuleName};
 use std::alloc::Global;
 

@@ -1,9 +1,9 @@
 //! A pod's side: what decides where the walk of its layer ends.
 ghost use Rattle.std.specs.Prelude.{◌≡◌, ◌<◌, length, IfOk, Some};
 ghost use Rattle.std.specs.List.{slice_get};
-ghost use Rattle.np_estate.specs.Lawful.{IsFew};
+ghost use Rattle.np_model.specs.Lawful.{IsFew};
 ghost use Rattle.np_explain.specs.Marks.{IsMarkOf, IsPassOf, SaysActions, admin_rules, base_rules, mark_decider, net_rules, pass_name};
-ghost use Rattle.np_policies.specs.declared.admin_policy.Action.{Action as PolicyAction};
+ghost use Rattle.np_model.specs.declared.admin_policy.Action.{Action as PolicyAction};
 ghost use Rattle.np_rules.specs.Deciders.{admin_rule_name, base_rule_name, net_rule_name};
 ghost use Rattle.np_rules.specs.Layers.{tier_action};
 ghost use Rattle.np_rules.specs.Places.{PlacedAdminRule, PlacedBaseRule, PlacedNetRule};
@@ -13,8 +13,7 @@ ghost use Rattle.np_rules.specs.Sides.{is_allow};
 use crate::rule_names::{admin_rule_name, net_policy_names, net_rule_name};
 use np_base::{NoMemory, Text};
 use np_conns::ConnSet;
-use np_estate::Estate;
-use np_policies::Direction;
+use np_model::{Direction, Estate};
 use np_rules::{Decider, LayerRules, PolicyNames, RuleName, layer_rules};
 use np_tiers::{Action, Layer, Mark};
 use std::alloc::Global;

@@ -6,7 +6,7 @@ use Rattle.std.specs.Str.{bytes_eq}
 use Rattle.np_addr.specs.declared.address.Family.TheVariants.{Four}
 use Rattle.np_conns.specs.Conns.{same_proto}
 use Rattle.np_conns.specs.declared.port_spot.PortSpot.{PortSpot}
-use Rattle.np_estate.specs.declared.lists.EstateLists.{EstateLists}
+use Rattle.np_model.specs.declared.lists.EstateLists.{EstateLists}
 use Rattle.np_exposure.proofs.ListLemmas.{All-each, All-parts, filter-same, find-same, list_any-same, none_or_any-same}
 use Rattle.np_exposure.specs.Mentions.{mentions}
 use Rattle.np_exposure.specs.Strangers.{exposes}
@@ -16,18 +16,18 @@ use Rattle.np_labels.specs.Selectors.{allows, is_listed, meets_requirement, meet
 use Rattle.np_labels.specs.declared.pair.Pair.{Pair}
 use Rattle.np_labels.specs.declared.requirement.Requirement.{Requirement}
 use Rattle.np_labels.specs.declared.selector.Selector.{Selector}
-use Rattle.np_policies.specs.declared.admin_policy.AdminPolicy.{AdminPolicy}
-use Rattle.np_policies.specs.declared.admin_policy.AdminPort.{AdminPort}
-use Rattle.np_policies.specs.declared.admin_policy.AdminPort.TheVariants as admin_port
-use Rattle.np_policies.specs.declared.admin_policy.AdminRule.{AdminRule}
-use Rattle.np_policies.specs.declared.admin_policy.BasePolicy.{BasePolicy}
-use Rattle.np_policies.specs.declared.admin_policy.Subject.{Subject}
-use Rattle.np_policies.specs.declared.direction.Direction.{Direction}
-use Rattle.np_policies.specs.declared.direction.Direction.TheVariants.{Ingress, Egress}
-use Rattle.np_policies.specs.declared.network_policy.NetPolicy.{NetPolicy}
-use Rattle.np_policies.specs.declared.network_policy.NetPort.{NetPort}
-use Rattle.np_policies.specs.declared.network_policy.NetPort.TheVariants as net_port
-use Rattle.np_policies.specs.declared.network_policy.NetRule.{NetRule}
+use Rattle.np_model.specs.declared.admin_policy.AdminPolicy.{AdminPolicy}
+use Rattle.np_model.specs.declared.admin_policy.AdminPort.{AdminPort}
+use Rattle.np_model.specs.declared.admin_policy.AdminPort.TheVariants as admin_port
+use Rattle.np_model.specs.declared.admin_policy.AdminRule.{AdminRule}
+use Rattle.np_model.specs.declared.admin_policy.BasePolicy.{BasePolicy}
+use Rattle.np_model.specs.declared.admin_policy.Subject.{Subject}
+use Rattle.np_model.specs.declared.direction.Direction.{Direction}
+use Rattle.np_model.specs.declared.direction.Direction.TheVariants.{Ingress, Egress}
+use Rattle.np_model.specs.declared.network_policy.NetPolicy.{NetPolicy}
+use Rattle.np_model.specs.declared.network_policy.NetPort.{NetPort}
+use Rattle.np_model.specs.declared.network_policy.NetPort.TheVariants as net_port
+use Rattle.np_model.specs.declared.network_policy.NetRule.{NetRule}
 use Rattle.np_rules.specs.AdminTier.{admin_decider, admin_precedes, least_by}
 use Rattle.np_rules.specs.BaseTier.{base_decider}
 use Rattle.np_rules.specs.Ends.{Contact, PodEnd, contact, destination_of, pod, stranger_end}

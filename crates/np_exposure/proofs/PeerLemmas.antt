@@ -8,13 +8,12 @@ use Rattle.np_exposure.specs.PeerText.{are_well, asked_text, peer_text, requirem
 use Rattle.np_exposure.specs.declared.side.Side.{Side}
 use Rattle.np_exposure.specs.declared.side.Side.TheVariants.{Namespace, Pod}
 use Rattle.np_exposure.specs.declared.sided_requirement.SidedRequirement.{SidedRequirement}
-use Rattle.np_json.specs.Words.{is_word, is_word_byte}
+use Rattle.np_model.specs.Words.{is_word, is_word_byte, is_key}
 use Rattle.np_labels.specs.Values.{is_ascending}
 use Rattle.np_labels.specs.WellFormed.{fits, is_well_requirement}
 use Rattle.np_labels.specs.declared.op.Op.{Op}
 use Rattle.np_labels.specs.declared.op.Op.TheVariants.{OneOf, NoneOf, Present, Absent}
-use Rattle.np_policies.specs.Selectors.{is_key}
-use Rattle.np_policies.specs.WellFormed.{is_worded}
+use Rattle.np_model.specs.WellPolicies.{is_worded}
 
 -- words that end at a byte that is none of a word are equal, and so is what follows
 cut : (w w' : List ℕ) (c c' : ℕ) (t t' : List ℕ) → is_word w ≡ true → is_word w' ≡ true → is_word_byte c ≡ false → is_word_byte c' ≡ false → w ++ c ∷ t ≡ w' ++ c' ∷ t' → (w ≡ w') × (c ≡ c') × (t ≡ t')

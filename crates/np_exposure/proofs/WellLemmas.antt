@@ -3,7 +3,7 @@ use Rattle.std.proofs.Common.{◌≡◌, ℕ, List, [], ◌∷◌, ◌++◌, len
 use Rattle.std.specs.List.{list_all, list_any}
 use Rattle.std.specs.Option.{option_map_or}
 use Rattle.std.proofs.lemmas.Bool.{and_parts, and_from}
-use Rattle.np_estate.specs.Lawful.{is_well}
+use Rattle.np_model.specs.Lawful.{is_well}
 use Rattle.np_exposure.proofs.MentionLemmas.{admin_mentions, base_mentions, net_mentions, of_admin_policy, of_net_policy}
 use Rattle.np_exposure.specs.Mentions.{is_same, mentions, named, of_admin_peer, of_admin_rule, of_namespaces, of_net_peer, of_net_rule, of_optional, of_placed, of_selector, requirements, with_more}
 use Rattle.np_exposure.specs.PeerText.{are_well}
@@ -13,22 +13,22 @@ use Rattle.np_exposure.specs.declared.exposure_row.ExposureRow.{ExposureRow}
 use Rattle.np_exposure.specs.declared.side.Side.{Side}
 use Rattle.np_exposure.specs.declared.side.Side.TheVariants.{Namespace, Pod}
 use Rattle.np_exposure.specs.declared.sided_requirement.SidedRequirement.{SidedRequirement}
-use Rattle.np_json.specs.Words.{has_slash, is_name, is_word}
+use Rattle.np_model.specs.Words.{has_slash, is_name, is_word}
 use Rattle.np_labels.specs.WellFormed as labels
 use Rattle.np_labels.specs.declared.requirement.Requirement.{Requirement}
 use Rattle.np_labels.specs.declared.selector.Selector.{Selector}
-use Rattle.np_policies.specs.WellFormed.{if_there, is_well_admin_peer, is_well_admin_policy, is_well_admin_rule, is_well_base_policy, is_well_base_rule, is_well_net_peer, is_well_net_policy, is_well_net_rule, is_well_selector, is_worded}
-use Rattle.np_policies.specs.declared.admin_policy.AdminPeer.{AdminPeer}
-use Rattle.np_policies.specs.declared.admin_policy.AdminPeer.TheVariants as admin
-use Rattle.np_policies.specs.declared.admin_policy.AdminPolicy.{AdminPolicy}
-use Rattle.np_policies.specs.declared.admin_policy.AdminRule.{AdminRule}
-use Rattle.np_policies.specs.declared.admin_policy.BasePolicy.{BasePolicy}
-use Rattle.np_policies.specs.declared.direction.Direction.{Direction}
-use Rattle.np_policies.specs.declared.direction.Direction.TheVariants.{Ingress, Egress}
-use Rattle.np_policies.specs.declared.network_policy.NetPeer.{NetPeer}
-use Rattle.np_policies.specs.declared.network_policy.NetPeer.TheVariants as net
-use Rattle.np_policies.specs.declared.network_policy.NetPolicy.{NetPolicy}
-use Rattle.np_policies.specs.declared.network_policy.NetRule.{NetRule}
+use Rattle.np_model.specs.WellPolicies.{if_there, is_well_admin_peer, is_well_admin_policy, is_well_admin_rule, is_well_base_policy, is_well_base_rule, is_well_net_peer, is_well_net_policy, is_well_net_rule, is_well_selector, is_worded}
+use Rattle.np_model.specs.declared.admin_policy.AdminPeer.{AdminPeer}
+use Rattle.np_model.specs.declared.admin_policy.AdminPeer.TheVariants as admin
+use Rattle.np_model.specs.declared.admin_policy.AdminPolicy.{AdminPolicy}
+use Rattle.np_model.specs.declared.admin_policy.AdminRule.{AdminRule}
+use Rattle.np_model.specs.declared.admin_policy.BasePolicy.{BasePolicy}
+use Rattle.np_model.specs.declared.direction.Direction.{Direction}
+use Rattle.np_model.specs.declared.direction.Direction.TheVariants.{Ingress, Egress}
+use Rattle.np_model.specs.declared.network_policy.NetPeer.{NetPeer}
+use Rattle.np_model.specs.declared.network_policy.NetPeer.TheVariants as net
+use Rattle.np_model.specs.declared.network_policy.NetPolicy.{NetPolicy}
+use Rattle.np_model.specs.declared.network_policy.NetRule.{NetRule}
 use Rattle.np_rules.specs.Ends.{PodEnd}
 use Rattle.np_rules.specs.Places.{admin_places, admin_rules_of, base_places, base_rules_of, net_places, net_rules_of}
 use Rattle.np_rules.specs.PodSides.{PodSide, near_pod}

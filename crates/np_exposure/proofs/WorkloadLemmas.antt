@@ -3,9 +3,9 @@ use Rattle.std.proofs.Common.{◌≡◌, ◌<◌, ℕ, List, [], ◌∷◌, AllP
 use Rattle.std.proofs.lemmas.Bool.{cases_order}
 use Rattle.std.proofs.lemmas.Option.{get_or_from_slice_get, slice_get-get_or, slice_get_within}
 use Rattle.np_conns.specs.declared.port_spot.PortSpot.{PortSpot}
-use Rattle.np_estate.specs.Lawful.{AgreeOnNamespace, IsLawful}
-use Rattle.np_estate.specs.declared.lists.EstateLists.{EstateLists}
-use Rattle.np_estate.specs.declared.pod.Pod.{Pod}
+use Rattle.np_model.specs.Lawful.{AgreeOnNamespace, IsLawful}
+use Rattle.np_model.specs.declared.lists.EstateLists.{EstateLists}
+use Rattle.np_model.specs.declared.pod.Pod.{Pod}
 use Rattle.np_exposure.proofs.AlikePodLemmas.{AgreeOn, All-from_listed, AreAlikePods, exposes-agree, mentions-agree}
 use Rattle.np_exposure.proofs.RowLemmas.{conns_of-agrees}
 use Rattle.np_exposure.specs.Choices.{can_be_assumed, choices_left, first_stranger}
@@ -18,7 +18,7 @@ use Rattle.np_fold.proofs.WorkloadLemmas.{one_workload}
 use Rattle.np_fold.specs.Alike.{IsSameKind}
 use Rattle.np_fold.specs.Keys.{keys_of_estate}
 use Rattle.np_fold.specs.Workloads.{number_of}
-use Rattle.np_policies.specs.declared.direction.Direction.{Direction}
+use Rattle.np_model.specs.declared.direction.Direction.{Direction}
 use Rattle.np_rules.specs.Ends.{PodEnd, pod_end}
 use Rattle.np_rules.specs.PodSides.{PodSide, side_of}
 use Rattle.np_rules.specs.Verdict.{pod_at, pod_or_none}

@@ -7,7 +7,7 @@ use Rattle.np_exposure.specs.declared.sided_requirement.SidedRequirement.{SidedR
 use Rattle.np_labels.specs.WellFormed.{is_well_requirement}
 use Rattle.np_labels.specs.declared.op.Op.{Op}
 use Rattle.np_labels.specs.declared.op.Op.TheVariants.{OneOf, NoneOf, Present, Absent}
-use Rattle.np_policies.specs.WellFormed.{is_worded}
+use Rattle.np_model.specs.WellPolicies.{is_worded}
 
 abbrev pub side_text : Side → List ℕ
 side_text Namespace = codes "namespace"

@@ -10,10 +10,10 @@ ghost use Rattle.np_rules.specs.Selection as selection;
 use crate::side::Side;
 use crate::sided_requirement::SidedRequirement;
 use np_base::{NoMemory, Text};
-use np_estate::{Estate, Pod};
 use np_labels::{Requirement, Selector};
-use np_policies::{
-    AdminPeer, AdminPolicy, AdminRule, BasePolicy, Direction, NetPeer, NetPolicy, NetRule, Subject,
+use np_model::{
+    AdminPeer, AdminPolicy, AdminRule, BasePolicy, Direction, Estate, NetPeer, NetPolicy, NetRule,
+    Pod, Subject,
 };
 use std::alloc::Global;
 

@@ -9,8 +9,7 @@ use crate::mentions::mentions;
 use crate::side::Side;
 use crate::sided_requirement::SidedRequirement;
 use np_base::{NoMemory, Text};
-use np_estate::Estate;
-use np_policies::Direction;
+use np_model::{Direction, Estate};
 use std::alloc::Global;
 
 /// How many patterns of labels the requirements may tell apart that the rules mention that speak of a pod in a direction:

@@ -11,8 +11,8 @@ use Rattle.std.proofs.lemmas.List.Elements.{All-from_recursion, recursion_from_A
 use Rattle.std.proofs.lemmas.Option.{same_Some, slice_get-get_or, slice_get-map}
 use Rattle.np_classes.specs.Classes.{IsAlike, keys_tie, of_both}
 use Rattle.np_addr.specs.declared.cidr.Cidr.{Cidr}
-use Rattle.np_estate.specs.declared.lists.EstateLists.{EstateLists}
-use Rattle.np_estate.specs.declared.pod.Pod.{Pod}
+use Rattle.np_model.specs.declared.lists.EstateLists.{EstateLists}
+use Rattle.np_model.specs.declared.pod.Pod.{Pod}
 use Rattle.np_fold.specs.Alike.{Alike, IsSameKind, are_alike, are_both_in, are_same_kind, are_same_owner, are_same_port, have_same_value, is_in}
 use Rattle.np_fold.specs.Blocks.{cidrs_of_estate}
 use Rattle.np_fold.specs.Keys.{keys_of_estate}
@@ -27,8 +27,8 @@ use Rattle.np_fold.proofs.OrderLemmas.{protos, ties-equal}
 use Rattle.np_fold.proofs.TraitLemmas.{traits-alike, traits-same_kind}
 use Rattle.np_labels.specs.Labels.{value_of}
 use Rattle.np_labels.specs.Selectors.{is_listed}
-use Rattle.np_objects.specs.declared.named_port.NamedPort.{NamedPort}
-use Rattle.np_owners.specs.declared.owner.Owner.{Owner}
+use Rattle.np_model.specs.declared.named_port.NamedPort.{NamedPort}
+use Rattle.np_model.specs.declared.owner.Owner.{Owner}
 
 -- ---- what a question decides
 

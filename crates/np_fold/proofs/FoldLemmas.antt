@@ -7,8 +7,8 @@ use Rattle.std.proofs.lemmas.Simd.{map-map}
 use Rattle.std.specs.Option.{option_and_then, option_map, option_map_or}
 use Rattle.np_addr.specs.declared.cidr.Cidr.{Cidr}
 use Rattle.np_classes.specs.Classes.{class_of, firsts, keys_tie, places}
-use Rattle.np_estate.specs.declared.lists.EstateLists.{EstateLists}
-use Rattle.np_estate.specs.declared.pod.Pod.{Pod}
+use Rattle.np_model.specs.declared.lists.EstateLists.{EstateLists}
+use Rattle.np_model.specs.declared.pod.Pod.{Pod}
 use Rattle.np_fold.specs.Blocks.{cidrs_of_estate}
 use Rattle.np_fold.specs.steps.Folded.{HaveSame, classes_of_pods, first_kinds, kind_at, kind_traits, kinds_of_workloads, nobody, number_among}
 use Rattle.np_fold.specs.Keys.{keys_of_estate}

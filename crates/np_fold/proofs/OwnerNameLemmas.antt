@@ -4,10 +4,10 @@ use Rattle.std.specs.Prelude.{codes}
 use Rattle.std.specs.List.{list_all, list_any}
 use Rattle.std.proofs.lemmas.Bool.{and_parts, eqb-true, false_from_ne_true, not-true, or_from, or_parts, true≢false}
 use Rattle.std.proofs.lemmas.List.{same_from_push}
-use Rattle.np_estate.specs.Lawful.{is_well_pod}
-use Rattle.np_estate.specs.declared.pod.Pod.{Pod}
+use Rattle.np_model.specs.Lawful.{is_well_pod}
+use Rattle.np_model.specs.declared.pod.Pod.{Pod}
 use Rattle.np_fold.specs.Workloads.{owner_name}
-use Rattle.np_json.specs.Words.{is_name, is_word_byte}
+use Rattle.np_model.specs.Words.{is_name, is_word_byte}
 
 -- ---- texts without a byte
 

@@ -17,8 +17,8 @@ use Rattle.std.proofs.lemmas.Option.{none-some, same_Some, slice_get-get_or, sli
 use Rattle.np_classes.specs.Classes.{class_of, firsts, is_first, members, places}
 use Rattle.np_classes.proofs.Lists.{All-places, any_place}
 use Rattle.np_classes.proofs.Relations.{alike_in_class, same_class}
-use Rattle.np_estate.specs.declared.lists.EstateLists.{EstateLists}
-use Rattle.np_estate.specs.declared.pod.Pod.{Pod}
+use Rattle.np_model.specs.declared.lists.EstateLists.{EstateLists}
+use Rattle.np_model.specs.declared.pod.Pod.{Pod}
 use Rattle.np_fold.specs.Alike.{Alike, IsSameKind, are_alike, are_same_kind}
 use Rattle.np_fold.specs.Workloads.{Workload, first_of, first_pod, first_pods, folding_of, has_member, kinds_alike, members_of, named_first_pods, number_of, owner_names, pods_alike, pods_like, workload, workload_count, workloads_of}
 use Rattle.np_fold.proofs.AlikeLemmas.{alike_decide, alike-is, kinds_decide, kinds-are, slice_get-some}

@@ -8,8 +8,8 @@ use Rattle.np_conns.specs.declared.proto.Proto.{Proto}
 use Rattle.np_conns.specs.declared.proto.Proto.TheVariants.{Tcp, Udp, Sctp}
 use Rattle.np_fold.specs.declared.traits.Label.{Label}
 use Rattle.np_fold.specs.declared.traits.Traits.{Traits}
-use Rattle.np_objects.specs.declared.named_port.NamedPort.{NamedPort}
-use Rattle.np_owners.specs.declared.owner.Owner.{Owner}
+use Rattle.np_model.specs.declared.named_port.NamedPort.{NamedPort}
+use Rattle.np_model.specs.declared.owner.Owner.{Owner}
 
 -- by their bytes
 abbrev pub compare_texts : List ℕ → List ℕ → Ordering

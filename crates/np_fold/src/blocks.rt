@@ -6,8 +6,7 @@ ghost use Rattle.np_fold.specs.Blocks as spec;
 
 use np_addr::Cidr;
 use np_base::{NoMemory, Seq};
-use np_estate::Estate;
-use np_policies::{AdminPeer, AdminPolicy, AdminRule, BasePolicy};
+use np_model::{AdminPeer, AdminPolicy, AdminRule, BasePolicy, Estate};
 use std::alloc::Global;
 
 /// The blocks of all `networks` peers, in the order of the policies and of their rules (network-policy-api reference,

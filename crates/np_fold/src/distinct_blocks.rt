@@ -6,7 +6,7 @@ ghost use Rattle.np_fold.specs.steps.Folded as folded;
 use crate::blocks::listed_cidrs;
 use np_addr::{Address, Cidr};
 use np_base::{NoMemory, Seq};
-use np_estate::Estate;
+use np_model::Estate;
 use std::alloc::Global;
 use std::collections::BTreeSet;
 

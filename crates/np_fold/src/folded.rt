@@ -1,12 +1,12 @@
 //! An estate with its workloads.
 ghost use Rattle.std.specs.Prelude.{◌≡◌, ◌<◌, ◌≤◌, ℕ, Err, IfOk, OnOk};
-ghost use Rattle.np_estate.specs.Lawful.{IsLawful};
+ghost use Rattle.np_model.specs.Lawful.{IsLawful};
 ghost use Rattle.np_fold.specs.Workloads as spec;
 ghost use Rattle.np_fold.specs.declared.fold_fault.FoldFault.TheVariants.{TooManyWorkloads};
 
 use crate::fold_fault::FoldFault;
 use crate::workloads::{MOST_WORKLOADS, Workloads};
-use np_estate::Estate;
+use np_model::Estate;
 use std::alloc::Global;
 use std::marker::Model;
 
@@ -20,11 +20,11 @@ pub struct Folded {
 
 impl Model for Folded {
     ghost use Rattle.std.specs.Prelude.{◌≡◌};
-    ghost use Rattle.np_estate.specs.declared.lists.EstateLists.{EstateLists};
+    ghost use Rattle.np_model.specs.declared.lists.EstateLists.{EstateLists};
 
     ghost Value = { EstateLists };
 
-    ghost use Rattle.np_estate.specs.Lawful.{IsLawful};
+    ghost use Rattle.np_model.specs.Lawful.{IsLawful};
     ghost use Rattle.np_fold.specs.Workloads.{folding_of};
 
     ghost view = { λ f. f.estate };

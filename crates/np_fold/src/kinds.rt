@@ -14,9 +14,8 @@ use crate::traits::Traits;
 use np_addr::Cidr;
 use np_base::{NoMemory, Seq, Text};
 use np_classes::Classes;
-use np_estate::{Estate, Pod};
+use np_model::{Estate, Owner, Pod};
 use np_names::Named;
-use np_owners::Owner;
 use std::alloc::Global;
 
 /// The kinds of the workloads of an estate, in the order of their names: classes of first pods that are alike but for

@@ -4,9 +4,9 @@ ghost use Rattle.std.specs.Cmp.Lexicographic.{slice_cmp};
 ghost use Rattle.std.specs.List.Sorted.{IsStrictlySortedBy};
 ghost use Rattle.std.specs.Ordering.{nat_cmp};
 ghost use Rattle.std.specs.declared.cmp.Ordering.TheVariants.{Equal};
-ghost use Rattle.np_estate.specs.declared.lists.EstateLists.{EstateLists};
-ghost use Rattle.np_estate.specs.declared.pod.Pod.{Pod};
-ghost use Rattle.np_estate.specs.Lawful.{is_well_pod};
+ghost use Rattle.np_model.specs.declared.lists.EstateLists.{EstateLists};
+ghost use Rattle.np_model.specs.declared.pod.Pod.{Pod};
+ghost use Rattle.np_model.specs.Lawful.{is_well_pod};
 ghost use Rattle.np_fold.specs.Alike.{Alike, IsSameKind, are_alike, are_same_kind};
 ghost use Rattle.np_fold.specs.Blocks.{cidrs_of_estate};
 ghost use Rattle.np_fold.specs.InForce.{IsNamed};
@@ -17,7 +17,7 @@ ghost use Rattle.np_fold.specs.Workloads.{Workload, first_pod, folding_of, has_m
 ghost use Rattle.np_fold.specs.declared.traits.Traits.{Traits};
 ghost use Rattle.np_classes.specs.Classes.{class_of};
 ghost use Rattle.np_labels.specs.Selectors.{is_listed};
-ghost use Rattle.np_owners.specs.declared.owner.Owner.{Owner};
+ghost use Rattle.np_model.specs.declared.owner.Owner.{Owner};
 
 /// Two pods have equal traits exactly where they are alike: by any keys that are those that selectors name, in
 /// whatever order, and by the blocks of all `networks` peers.

@@ -5,8 +5,7 @@ ghost use Rattle.np_fold.specs.Order as spec;
 
 use crate::traits::Traits;
 use np_conns::Proto;
-use np_objects::NamedPort;
-use np_owners::Owner;
+use np_model::{NamedPort, Owner};
 use std::cmp::Ordering;
 
 impl PartialEq for Traits {

@@ -3,7 +3,7 @@ ghost use Rattle.std.specs.Prelude.{◌≡◌, ◌<◌, ◌^◌, All, IfOk, leng
 ghost use Rattle.np_fold.specs.Workloads as spec;
 
 use np_base::{NoMemory, Seq, Text};
-use np_estate::{Estate, Pod};
+use np_model::{Estate, Pod};
 use np_names::{Named, all_by_name};
 use std::alloc::Global;
 

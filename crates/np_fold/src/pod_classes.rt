@@ -13,7 +13,7 @@ use crate::traits::Traits;
 use np_addr::Cidr;
 use np_base::{NoMemory, Text};
 use np_classes::Classes;
-use np_estate::Estate;
+use np_model::Estate;
 use std::alloc::Global;
 
 /// The classes of the pods of an estate that are alike, by the keys that its selectors name and the blocks that it lists.

@@ -9,11 +9,10 @@ ghost use Rattle.np_labels.specs.Selectors.{is_listed};
 ghost use Rattle.np_fold.specs.Keys as spec;
 
 use np_base::{NoMemory, Seq, Text};
-use np_estate::Estate;
 use np_labels::Selector;
-use np_objects::ServiceItem;
-use np_policies::{
-    AdminPeer, AdminPolicy, AdminRule, BasePolicy, NetPeer, NetPolicy, NetRule, Subject,
+use np_model::{
+    AdminPeer, AdminPolicy, AdminRule, BasePolicy, Estate, NetPeer, NetPolicy, NetRule,
+    ServiceItem, Subject,
 };
 use std::alloc::Global;
 use std::collections::BTreeSet;

@@ -10,10 +10,8 @@ ghost use Rattle.np_labels.specs.Selectors.{is_listed};
 
 use np_addr::{Addresses, Cidr};
 use np_base::{NoMemory, Seq, Text, TryCopy};
-use np_estate::Pod;
 use np_labels::Pair;
-use np_objects::NamedPort;
-use np_owners::Owner;
+use np_model::{NamedPort, Owner, Pod};
 use std::alloc::Global;
 
 /// A label that rules see. Labels are ordered by their keys, and those of one key by their values.

@@ -18,7 +18,7 @@ use indexmap::IndexMap;
 use np_addr::Cidr;
 use np_base::{NoMemory, Seq, Text};
 use np_classes::Classes;
-use np_estate::Estate;
+use np_model::Estate;
 use std::alloc::Global;
 use std::marker::Model;
 

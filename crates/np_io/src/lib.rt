@@ -2,8 +2,8 @@
 //! with counts of its failures, and the calls that read a whole input and write whole bytes.
 #![tactic(auto)]
 
+mod buffered_sink;
 mod counts;
-mod gathered;
 mod inputs;
 mod mem_inputs;
 mod mem_sink;
@@ -12,7 +12,7 @@ mod real_sink;
 mod sink;
 mod whole;
 
-pub use gathered::Gathered;
+pub use buffered_sink::BufferedSink;
 pub use inputs::{InputFailed, Inputs};
 pub use mem_inputs::MemInputs;
 pub use mem_sink::MemSink;

@@ -7,4 +7,3 @@ pub mod Meta
 pub mod Paths
 pub mod Scalars
 pub mod Shapes
-pub mod Words

@@ -5,7 +5,7 @@ use Rattle.serde_json.specs.Data.{Data}
 use Rattle.serde_json.specs.Find.{as_str, as_bool}
 use Rattle.np_json.specs.Members.{as_whole, as_pairs}
 use Rattle.np_json.specs.Shapes.{Read, ◌>>=◌, ◌>>◌, refuse, refuse_if}
-use Rattle.np_json.specs.Words.{is_word, is_name}
+use Rattle.np_model.specs.Words.{is_word, is_name, is_label}
 use Rattle.np_json.specs.declared.fault.FaultKind.TheVariants.{BadField, BadName, BadPort}
 
 -- a value of the type that is asked for, else BadField
@@ -46,10 +46,6 @@ unfoldable pub port : Data → Read ℕ
 port value = do
   n ← whole value
   port_number n
-
--- whether a pair may be a label: a key that is a word and not empty, and a value that is a word
-abbrev pub is_label : List ℕ × List ℕ → Bool
-is_label pair = not (length pair.0 == 0) && is_word pair.0 && is_word pair.1
 
 -- an object from texts to texts that are labels, else BadField
 unfoldable pub labels : Data → Read (List (List ℕ × List ℕ))

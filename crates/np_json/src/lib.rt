@@ -11,7 +11,6 @@ mod pairs;
 mod path;
 mod scalars;
 mod shape;
-mod words;
 
 pub use fault::{Fault, FaultKind, ReadFault};
 pub use field::{
@@ -27,4 +26,3 @@ pub use shape::{
     Shape, has_member, has_one_of, listed, must_be_object, optional, read_item, refuse_if,
     refuse_member_if, required,
 };
-pub use words::{is_name, is_word};

@@ -7,8 +7,8 @@ use crate::fault::FaultKind;
 use crate::flaw::ShapeFault;
 use crate::scalars::{AnyText, Name, of_type};
 use crate::shape::{Shape, must_be_object, optional, refuse_if, required};
-use crate::words::is_name;
 use np_base::{NoMemory, Text};
+use np_model::is_name;
 use serde_json::Value;
 use std::alloc::Global;
 

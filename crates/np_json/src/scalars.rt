@@ -2,15 +2,16 @@
 ghost use Rattle.std.specs.Prelude.{◌≡◌};
 ghost use Rattle.std.specs.List.{list_all};
 ghost use Rattle.serde_json.specs.View.{view};
-ghost use Rattle.np_json.specs.Scalars.{of_type, is_label, port_number};
+ghost use Rattle.np_model.specs.Words.{is_label};
+ghost use Rattle.np_json.specs.Scalars.{of_type, port_number};
 ghost use Rattle.np_json.specs.Shapes.{Gives};
 
 use crate::fault::FaultKind;
 use crate::flaw::{ShapeFault, refuse};
 use crate::pairs::pairs;
 use crate::shape::{Shape, refuse_if};
-use crate::words::{is_name, is_word};
 use np_base::{PortNum, Seq, Text};
+use np_model::{is_name, is_word};
 use serde_json::Value;
 use std::alloc::Global;
 

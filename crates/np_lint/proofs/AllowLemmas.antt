@@ -4,8 +4,8 @@ use Rattle.std.specs.List.{Contains}
 use Rattle.std.proofs.lemmas.Bool.{and_parts, eqb-true, false≢true}
 use Rattle.np_addr.specs.declared.address.Family.{Family}
 use Rattle.np_conns.specs.declared.port_spot.PortSpot.{PortSpot}
-use Rattle.np_estate.specs.Lawful.{IsLawful}
-use Rattle.np_estate.specs.declared.lists.EstateLists.{EstateLists}
+use Rattle.np_model.specs.Lawful.{IsLawful}
+use Rattle.np_model.specs.declared.lists.EstateLists.{EstateLists}
 use Rattle.np_explain.specs.Sides.{decider_between, packet_between}
 use Rattle.np_lint.proofs.ChangeLemmas.{Stays, side_same}
 use Rattle.np_lint.proofs.LawLemmas.{stands_by_name, unused_is}
@@ -17,8 +17,8 @@ use Rattle.np_lint.specs.declared.rule_ref.RuleRef.{RuleRef}
 use Rattle.np_lint.specs.declared.rule_ref.Tier.{Tier}
 use Rattle.np_lint.specs.declared.rule_ref.Tier.TheVariants.{Admin, Net, Base}
 use Rattle.np_lint.specs.steps.Search.{ref_of}
-use Rattle.np_policies.specs.declared.direction.Direction.{Direction}
-use Rattle.np_policies.specs.declared.direction.Direction.TheVariants.{Ingress, Egress}
+use Rattle.np_model.specs.declared.direction.Direction.{Direction}
+use Rattle.np_model.specs.declared.direction.Direction.TheVariants.{Ingress, Egress}
 use Rattle.np_rules.specs.Ends.{contact_of}
 use Rattle.np_rules.specs.Verdict.{allows, end_allows, end_of, pod_at}
 use Rattle.np_rules.specs.declared.packet.End.{End}

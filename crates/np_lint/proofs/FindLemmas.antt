@@ -12,9 +12,9 @@ use Rattle.np_addr.specs.declared.address.Family.{Family}
 use Rattle.np_base.specs.declared.beside.Which.TheVariants.{First, Second}
 use Rattle.np_conns.specs.Conns.{is_spot}
 use Rattle.np_conns.specs.declared.port_spot.PortSpot.{PortSpot}
-use Rattle.np_estate.specs.Families.{families_of}
-use Rattle.np_estate.specs.Lawful.{IsLawful}
-use Rattle.np_estate.specs.declared.lists.EstateLists.{EstateLists}
+use Rattle.np_model.specs.Families.{families_of}
+use Rattle.np_model.specs.Lawful.{IsLawful}
+use Rattle.np_model.specs.declared.lists.EstateLists.{EstateLists}
 use Rattle.np_explain.specs.Sides.{are_one_pod, decider_near}
 use Rattle.np_lint.proofs.KindPodLemmas.{StandsFor, kind_pod, own_kind}
 use Rattle.np_lint.proofs.PacketLemmas.{near_used, used_near}
@@ -26,10 +26,10 @@ use Rattle.np_lint.specs.declared.used_rules.UsedRules.{UsedRules}
 use Rattle.np_lint.specs.steps.Kinds.{AreKindPods, is_asked, pod_kind}
 use Rattle.np_lint.specs.steps.Known.{is_known}
 use Rattle.np_lint.specs.steps.Search.{AllAreUsed, AreUsed, Finds, IsSound, Knows, KnowsPods, KnowsSide, KnowsSides, PodsAreUsed, ref_of}
-use Rattle.np_policies.specs.declared.direction.Direction.{Direction}
+use Rattle.np_model.specs.declared.direction.Direction.{Direction}
 use Rattle.np_rules.proofs.AddressLemmas.{place_parts}
 use Rattle.np_rules.specs.Ends.{address, pod}
-use Rattle.np_rules.specs.EveryAddress.{Place, address_of, is_place, spot_of}
+use Rattle.np_rules.specs.EveryAddress.{AddressSpot, address_of, is_place, spot_of}
 use Rattle.np_rules.specs.PodSides.{side_of, with_addresses}
 use Rattle.np_rules.specs.Verdict.{pod_at}
 use Rattle.np_rules.specs.declared.packet.End.{End}
@@ -91,7 +91,7 @@ module _ (lists : EstateLists) (lawful : IsLawful lists) (kinds : List KindPod) 
 
   -- ---- what is used is found
 
-  place_of : (a : Address) → IsAddress a → (spot : PortSpot) → is_spot spot ≡ true → (place : Place) × (is_place place ≡ true) × (address_of place ≡ a) × (spot_of place ≡ spot)
+  place_of : (a : Address) → IsAddress a → (spot : PortSpot) → is_spot spot ≡ true → (place : AddressSpot) × (is_place place ≡ true) × (address_of place ≡ a) × (spot_of place ≡ spot)
   place_of (Four n) below spot inside = (First (record { point = n; spot = spot }), and_from _ _ (between n (2 ^ 32 - 1) (omega arith)) inside, refl, refl)
     where
       between : (m last : ℕ) → m < last + 1 → is_between 0 last m ≡ true

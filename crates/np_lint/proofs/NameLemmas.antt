@@ -7,8 +7,8 @@ use Rattle.std.specs.Str.{bytes_eq}
 use Rattle.std.proofs.lemmas.Bool.{and_parts, eqb-true, false≢true}
 use Rattle.std.proofs.lemmas.Option.{slice_get-map}
 use Rattle.std.proofs.lemmas.Slice.Eq.{bytes_eq-Decides}
-use Rattle.np_estate.specs.Lawful.{IsLawful}
-use Rattle.np_estate.specs.declared.lists.EstateLists.{EstateLists}
+use Rattle.np_model.specs.Lawful.{IsLawful}
+use Rattle.np_model.specs.declared.lists.EstateLists.{EstateLists}
 use Rattle.np_explain.proofs.PlaceLemmas.{at_place}
 use Rattle.np_explain.specs.Marks.{IsMarkOf, admin_rules, base_rules, mark_decider, net_rules, pass_name}
 use Rattle.np_explain.specs.RightParts.{same_rule}
@@ -19,9 +19,9 @@ use Rattle.np_lint.specs.declared.rule_ref.Tier.{Tier}
 use Rattle.np_lint.specs.declared.rule_ref.Tier.TheVariants as tier
 use Rattle.np_lint.specs.steps.Known.{ids_of, is_id, is_met, place_in}
 use Rattle.np_lint.specs.steps.Search.{AreRulesOf}
-use Rattle.np_policies.specs.declared.admin_policy.AdminPolicy.{AdminPolicy}
-use Rattle.np_policies.specs.declared.direction.Direction.{Direction}
-use Rattle.np_policies.specs.declared.network_policy.NetPolicy.{NetPolicy}
+use Rattle.np_model.specs.declared.admin_policy.AdminPolicy.{AdminPolicy}
+use Rattle.np_model.specs.declared.direction.Direction.{Direction}
+use Rattle.np_model.specs.declared.network_policy.NetPolicy.{NetPolicy}
 use Rattle.np_rules.specs.Deciders.{admin_rule_name, base_rule_name, net_policy_name, net_rule_name}
 use Rattle.np_rules.specs.LayerRules.{NamesAdmin, NamesBase, NamesNet}
 use Rattle.np_rules.specs.Layers.{Pairwise}

@@ -2,7 +2,7 @@
 use Rattle.std.proofs.Common.{◌≡◌, ◌⊎◌, ℕ, ◌<◌, List, [], ◌∷◌, Bool, true, false, map, refl, sym, ap, ◌∙◌, inl, inr}
 use Rattle.std.specs.Option.{option_map_or}
 use Rattle.std.proofs.lemmas.Bool.{and_parts}
-use Rattle.np_estate.specs.Lawful.{IsLawful}
+use Rattle.np_model.specs.Lawful.{IsLawful}
 use Rattle.np_explain.specs.Marks.{IsMarkOf, admin_rules, base_rules, mark_decider, net_rules}
 use Rattle.np_explain.specs.RightParts.{same_rule}
 use Rattle.np_lint.proofs.NameLemmas.{mark_rule, met_flagged, met_named}

@@ -6,9 +6,9 @@ use Rattle.std.proofs.lemmas.List.Elements.{filter_more}
 use Rattle.std.proofs.lemmas.Option.{get_or_from_slice_get, same_Some, slice_get-get_or, slice_get_within}
 use Rattle.np_addr.specs.declared.address.Family.{Family}
 use Rattle.np_conns.specs.Conns.{is_spot}
-use Rattle.np_estate.specs.Families.{families_of}
-use Rattle.np_estate.specs.Lawful.{IsLawful}
-use Rattle.np_estate.specs.declared.lists.EstateLists.{EstateLists}
+use Rattle.np_model.specs.Families.{families_of}
+use Rattle.np_model.specs.Lawful.{IsLawful}
+use Rattle.np_model.specs.declared.lists.EstateLists.{EstateLists}
 use Rattle.np_lint.proofs.SearchLemmas.{knows_side}
 use Rattle.np_lint.specs.declared.kind_pods.KindPod.{KindPod}
 use Rattle.np_lint.specs.declared.rule_ref.Tier.{Tier}
@@ -16,7 +16,7 @@ use Rattle.np_lint.specs.declared.used_rules.UsedRules.{UsedRules}
 use Rattle.np_lint.specs.steps.Kinds.{is_asked}
 use Rattle.np_lint.specs.steps.Known.{all_known, is_known}
 use Rattle.np_lint.specs.steps.Search.{AllAreUsed, AreRulesOf, Grows, IsSound, Knows, KnowsAll, KnowsPods, KnowsSide, KnowsSides, PodsAreUsed}
-use Rattle.np_policies.specs.declared.direction.Direction.{Direction}
+use Rattle.np_model.specs.declared.direction.Direction.{Direction}
 use Rattle.np_rules.specs.Ends.{Contact}
 use Rattle.np_rules.specs.EveryAddress.{is_place}
 use Rattle.np_rules.specs.PodSides.{PodSide, side_of, with_addresses, with_pod}

@@ -4,19 +4,19 @@ use Rattle.std.specs.List.{enumerate_from, flat_map, slice_get}
 use Rattle.std.specs.Option.{option_map, option_map_or}
 use Rattle.std.proofs.lemmas.List.{map-append}
 use Rattle.std.proofs.lemmas.List.Elements.{All-append, All-cons, All-nil, filter-append}
-use Rattle.np_estate.specs.Lawful.{HasAscendingPriorities, ascends}
+use Rattle.np_model.specs.Lawful.{HasAscendingPriorities, ascends}
 use Rattle.np_lint.proofs.StayLemmas.{StandsFrom, stands_first, stands_rest}
 use Rattle.np_lint.specs.Rules.{admin_count, base_count, net_count}
 use Rattle.np_lint.specs.Without.{admin_without, base_without, goes, net_without, without_places}
 use Rattle.np_lint.specs.declared.rule_ref.RuleRef.{RuleRef}
 use Rattle.np_lint.specs.declared.rule_ref.Tier.TheVariants.{Admin, Net, Base}
-use Rattle.np_policies.specs.declared.admin_policy.AdminPolicy.{AdminPolicy}
-use Rattle.np_policies.specs.declared.admin_policy.AdminRule.{AdminRule}
-use Rattle.np_policies.specs.declared.admin_policy.BasePolicy.{BasePolicy}
-use Rattle.np_policies.specs.declared.direction.Direction.{Direction}
-use Rattle.np_policies.specs.declared.direction.Direction.TheVariants.{Ingress, Egress}
-use Rattle.np_policies.specs.declared.network_policy.NetPolicy.{NetPolicy}
-use Rattle.np_policies.specs.declared.network_policy.NetRule.{NetRule}
+use Rattle.np_model.specs.declared.admin_policy.AdminPolicy.{AdminPolicy}
+use Rattle.np_model.specs.declared.admin_policy.AdminRule.{AdminRule}
+use Rattle.np_model.specs.declared.admin_policy.BasePolicy.{BasePolicy}
+use Rattle.np_model.specs.declared.direction.Direction.{Direction}
+use Rattle.np_model.specs.declared.direction.Direction.TheVariants.{Ingress, Egress}
+use Rattle.np_model.specs.declared.network_policy.NetPolicy.{NetPolicy}
+use Rattle.np_model.specs.declared.network_policy.NetRule.{NetRule}
 use Rattle.np_rules.proofs.PlacesLemmas.{map-numbered}
 use Rattle.np_rules.specs.Ends.{PodEnd}
 use Rattle.np_rules.specs.NetTier.{is_isolated, isolates}

@@ -1,13 +1,12 @@
 //! All rules of an estate.
 ghost use Rattle.std.specs.Prelude.{◌≡◌, ◌+◌, ◌≤◌, ◌++◌, IfOk, OnOk};
 ghost use Rattle.std.specs.List.{flat_map, range_with_len};
-ghost use Rattle.np_estate.specs.Lawful.{IsFew};
+ghost use Rattle.np_model.specs.Lawful.{IsFew};
 ghost use Rattle.np_lint.specs.Rules as spec;
 
 use crate::rule_ref::{RuleRef, Tier};
 use np_base::{NoMemory, Seq};
-use np_estate::Estate;
-use np_policies::{AdminPolicy, BasePolicy, Direction, NetPolicy};
+use np_model::{AdminPolicy, BasePolicy, Direction, Estate, NetPolicy};
 use std::alloc::Global;
 
 /// All rules of an estate: those of the admin policies, of the NetworkPolicies and of the baseline, policy by policy, in

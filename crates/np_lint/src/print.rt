@@ -1,12 +1,11 @@
 //! The text of a rule.
 ghost use Rattle.std.specs.Prelude.{◌≡◌, ◌<◌, IfOk};
-ghost use Rattle.np_explain.specs.DeciderText.{direction_text};
 ghost use Rattle.np_lint.specs.Rules.{IsRuleOf, policy_name_at, rule_count_at, rule_text, tier_text};
 
 use crate::rule_ref::{RuleRef, Tier};
 use np_base::{NoMemory, Text};
-use np_estate::Estate;
-use np_policies::Direction;
+use np_model::Estate;
+use np_rules::direction_text;
 use std::alloc::Global;
 
 /// A rule, as it is printed, with `ingress` or `egress` for `d` and its place for `n`: `AdminNetworkPolicy name d[n]`,
@@ -30,15 +29,6 @@ fn tier_text(tier: Tier) -> &'static str
         Tier::Admin => "AdminNetworkPolicy",
         Tier::Net => "NetworkPolicy",
         Tier::Base => "BaselineAdminNetworkPolicy",
-    }
-}
-
-fn direction_text(direction: Direction) -> &'static str
-    ensures { result.now ≡ direction_text direction }
-{
-    match direction {
-        Direction::Ingress => "ingress",
-        Direction::Egress => "egress",
     }
 }
 

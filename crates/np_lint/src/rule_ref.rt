@@ -1,6 +1,6 @@
 //! A rule of an estate, by its place.
 
-use np_policies::Direction;
+use np_model::Direction;
 
 /// The kinds of policies.
 #[derive(Clone, Copy, Debug, PartialEq, Eq)]

@@ -9,7 +9,7 @@ use crate::search::used_rules;
 use crate::used_rules::UsedRules;
 use np_base::{NoMemory, Seq};
 use np_fold::Folded;
-use np_policies::Direction;
+use np_model::Direction;
 use np_steps::Steps;
 use np_table::KindReach;
 use std::alloc::Global;

@@ -5,19 +5,19 @@ use Rattle.std.specs.Option.{option_and_then, option_map_or}
 use Rattle.std.specs.Prelude.{AllPairs, IsPermutation}
 use Rattle.np_chains.proofs.Walks.{chain_none}
 use Rattle.np_chains.specs.Chains.{owns_itself, places, up}
-use Rattle.np_estate.specs.Ends.{pods_from, pods_of}
-use Rattle.np_estate.specs.LeftOut.{count_left_out, is_for, is_left_out, left_out}
-use Rattle.np_estate.specs.Listed.{admin_policies_of, admin_policy, base_policy, baseline_of, first_equal, first_of, ingresses_from, ingresses_of, net_policies_of, net_policy, ranks_of, service, services_of, with_admin, with_rank}
-use Rattle.np_estate.specs.Reading.{estate_of, lists_of, notes_of}
-use Rattle.np_estate.specs.declared.notes.Notes.{Notes}
-use Rattle.np_estate.proofs.OnceLemmas.{net_policies-once}
+use Rattle.np_reading.specs.Ends.{pods_from, pods_of}
+use Rattle.np_reading.specs.LeftOut.{count_left_out, is_for, is_left_out, left_out}
+use Rattle.np_reading.specs.Listed.{admin_policies_of, admin_policy, base_policy, baseline_of, first_equal, first_of, ingresses_from, ingresses_of, net_policies_of, net_policy, ranks_of, service, services_of, with_admin, with_rank}
+use Rattle.np_reading.specs.Reading.{estate_of, lists_of, notes_of}
+use Rattle.np_model.specs.declared.notes.Notes.{Notes}
+use Rattle.np_reading.proofs.OnceLemmas.{net_policies-once}
 use Rattle.np_items.specs.Inputs.{json_of}
 use Rattle.np_items.specs.Items.{items_of}
 use Rattle.np_items.specs.declared.item.Item.{Item}
 use Rattle.np_owners.specs.MadePods.{makes_pod}
 use Rattle.np_owners.specs.Names.{first_repeat}
 use Rattle.np_owners.specs.Owners.{first_in_cycle, owner_place, ups}
-use Rattle.np_policies.specs.declared.network_policy.NetPolicy.{NetPolicy}
+use Rattle.np_model.specs.declared.network_policy.NetPolicy.{NetPolicy}
 use Rattle.np_manifests.specs.Estates.{AreApart, estate_with, net_item, net_items}
 use Rattle.np_manifests.specs.Lists.{list_data}
 use Rattle.np_manifests.specs.Printable.{is_printable}

@@ -24,28 +24,27 @@ use Rattle.np_conns.specs.Conns.{Conns, IsRun}
 use Rattle.np_conns.specs.ConnsText.{is_whole}
 use Rattle.np_conns.specs.declared.proto.Proto.{Proto}
 use Rattle.np_conns.specs.declared.proto.Proto.TheVariants.{Tcp, Udp, Sctp}
-use Rattle.np_estate.proofs.LawfulLists.{AllLater, AllPairs-from_later, list_all-from_all}
-use Rattle.np_estate.specs.Reading.{estate_of}
-use Rattle.np_estate.specs.Lawful.{IsLawful, is_well, is_well_pod}
-use Rattle.np_estate.specs.declared.lists.EstateLists.{EstateLists}
-use Rattle.np_estate.specs.declared.pod.Pod.{Pod}
+use Rattle.np_reading.proofs.LawfulLists.{AllLater, AllPairs-from_later, list_all-from_all}
+use Rattle.np_reading.specs.Reading.{estate_of}
+use Rattle.np_model.specs.Lawful.{IsLawful, is_well, is_well_pod}
+use Rattle.np_model.specs.declared.lists.EstateLists.{EstateLists}
+use Rattle.np_model.specs.declared.pod.Pod.{Pod}
 use Rattle.np_fold.proofs.WorkloadLemmas.{workloads-count}
 use Rattle.np_fold.specs.Keys.{keys_of_estate}
 use Rattle.np_fold.specs.Workloads.{folding_of, pods_alike}
 use Rattle.np_items.specs.Inputs.{json_of}
-use Rattle.np_json.specs.Words.{has_slash, is_name, is_word, is_word_byte}
+use Rattle.np_model.specs.Words.{has_slash, is_name, is_word, is_word_byte, is_key}
 use Rattle.np_labels.proofs.Distinct.{list_all-distinct}
 use Rattle.np_labels.specs.Labels.{value_of}
 use Rattle.np_labels.specs.WellFormed as labels
 use Rattle.np_labels.specs.declared.pair.Pair.{Pair}
-use Rattle.np_objects.specs.WellFormed.{is_well_label, is_well_labels, is_well_ports}
-use Rattle.np_policies.specs.Selectors.{is_key}
-use Rattle.np_policies.specs.WellFormed.{is_well_selector, is_worded}
-use Rattle.np_policies.specs.declared.direction.Direction.{Direction}
-use Rattle.np_policies.specs.declared.direction.Direction.TheVariants.{Ingress, Egress}
-use Rattle.np_policies.specs.declared.network_policy.NetPeer.{NetPeer}
-use Rattle.np_policies.specs.declared.network_policy.NetPeer.TheVariants.{Block}
-use Rattle.np_policies.specs.declared.network_policy.NetRule.{NetRule}
+use Rattle.np_model.specs.WellObjects.{is_well_label, is_well_labels, is_well_ports}
+use Rattle.np_model.specs.WellPolicies.{is_well_selector, is_worded}
+use Rattle.np_model.specs.declared.direction.Direction.{Direction}
+use Rattle.np_model.specs.declared.direction.Direction.TheVariants.{Ingress, Egress}
+use Rattle.np_model.specs.declared.network_policy.NetPeer.{NetPeer}
+use Rattle.np_model.specs.declared.network_policy.NetPeer.TheVariants.{Block}
+use Rattle.np_model.specs.declared.network_policy.NetRule.{NetRule}
 use Rattle.np_rules.specs.Verdict.{pod_or_none}
 use Rattle.np_synth.proofs.AddressVerdicts.{IsWellSpan, rows-well}
 use Rattle.np_synth.proofs.KindGroups.{in_count}

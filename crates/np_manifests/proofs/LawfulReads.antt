@@ -5,11 +5,11 @@ use Rattle.std.proofs.lemmas.List.Elements.{All-from_recursion}
 use Rattle.std.specs.List.{AllByRecursion}
 use Rattle.std.specs.Prelude.{nat_le}
 use Rattle.serde_json.specs.Data.{Data}
-use Rattle.np_estate.specs.Lawful.{IsLawful}
-use Rattle.np_estate.specs.Reading.{estate_of, or_refused}
-use Rattle.np_estate.specs.declared.lists.EstateLists.{EstateLists}
-use Rattle.np_estate.proofs.LawfulReading.{lists_of-lawful}
-use Rattle.np_estate.proofs.ReadingLemmas.{estate_of-passed}
+use Rattle.np_model.specs.Lawful.{IsLawful}
+use Rattle.np_reading.specs.Reading.{estate_of, or_refused}
+use Rattle.np_model.specs.declared.lists.EstateLists.{EstateLists}
+use Rattle.np_reading.proofs.LawfulReading.{lists_of-lawful}
+use Rattle.np_reading.proofs.ReadingLemmas.{estate_of-passed}
 use Rattle.np_items.specs.Inputs.{all_values}
 use Rattle.np_items.specs.Items.{each_item, item_of, items_of, must_be_few, must_be_no_list, numbered, policy_or_object}
 use Rattle.np_items.specs.Readings.{Reading, ◌>>=◌, ◌>>◌}

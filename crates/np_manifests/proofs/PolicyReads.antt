@@ -7,15 +7,15 @@ use Rattle.np_items.specs.Items.{item_of, must_be_no_list}
 use Rattle.np_json.specs.Meta.{namespace, namespaced_name, type_meta}
 use Rattle.np_json.specs.Scalars.{name}
 use Rattle.np_json.specs.Shapes.{must_be_object, refuse_if, required, under}
-use Rattle.np_json.specs.Words.{has_slash, is_name, is_word}
+use Rattle.np_model.specs.Words.{has_slash, is_name, is_word}
 use Rattle.np_policies.specs.NetworkPolicies.{net_policy, net_policy_by, net_rule, net_rules, net_spec, policy_type}
 use Rattle.np_policies.specs.Policies.{policy_by, policy_of}
 use Rattle.np_policies.specs.Selectors.{selector}
-use Rattle.np_policies.specs.WellFormed.{is_well_selector}
-use Rattle.np_policies.specs.declared.direction.Direction.{Direction}
-use Rattle.np_policies.specs.declared.direction.Direction.TheVariants.{Ingress, Egress}
-use Rattle.np_policies.specs.declared.network_policy.NetPolicy.{NetPolicy}
-use Rattle.np_policies.specs.declared.network_policy.NetRule.{NetRule}
+use Rattle.np_model.specs.WellPolicies.{is_well_selector}
+use Rattle.np_model.specs.declared.direction.Direction.{Direction}
+use Rattle.np_model.specs.declared.direction.Direction.TheVariants.{Ingress, Egress}
+use Rattle.np_model.specs.declared.network_policy.NetPolicy.{NetPolicy}
+use Rattle.np_model.specs.declared.network_policy.NetRule.{NetRule}
 use Rattle.np_manifests.specs.Estates.{net_item}
 use Rattle.np_manifests.specs.Manifests as manifests
 use Rattle.np_manifests.specs.Printable.{are_printable_rules, is_printable, is_printable_rule}

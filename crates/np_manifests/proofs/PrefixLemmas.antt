@@ -14,7 +14,7 @@ use Rattle.np_addr.specs.declared.cidr.Cidr.{Cidr}
 use Rattle.np_addr.specs.declared.cidr.Cidr.TheVariants.{Four, Six}
 use Rattle.np_base.specs.Ranges.{IsAscending, holds, is_within}
 use Rattle.np_base.specs.declared.range.Range.{Range}
-use Rattle.np_policies.specs.WellFormed.{is_well_cidr}
+use Rattle.np_model.specs.WellPolicies.{is_well_cidr}
 use Rattle.np_manifests.specs.Printable.{is_printable_block}
 
 -- ---- numbers of ascending ranges

@@ -11,22 +11,21 @@ use Rattle.np_conns.proofs.OneText.{all-append}
 use Rattle.np_conns.specs.ConnsText.{proto_name}
 use Rattle.np_conns.specs.declared.proto.Proto.{Proto}
 use Rattle.np_conns.specs.declared.proto.Proto.TheVariants.{Tcp, Udp, Sctp}
-use Rattle.np_json.specs.Words.{is_name, is_word}
+use Rattle.np_model.specs.Words.{is_name, is_word, is_key}
 use Rattle.np_labels.specs.WellFormed as well
 use Rattle.np_labels.specs.declared.op.Op.{Op}
 use Rattle.np_labels.specs.declared.op.Op.TheVariants.{OneOf, NoneOf, Present, Absent}
 use Rattle.np_labels.specs.declared.requirement.Requirement.{Requirement}
 use Rattle.np_labels.specs.declared.selector.Selector.{Selector}
-use Rattle.np_policies.specs.Selectors.{is_key}
-use Rattle.np_policies.specs.WellFormed.{if_there, is_well_selector, is_worded}
-use Rattle.np_policies.specs.declared.direction.Direction.{Direction}
-use Rattle.np_policies.specs.declared.direction.Direction.TheVariants.{Ingress, Egress}
-use Rattle.np_policies.specs.declared.network_policy.NetPeer.{NetPeer}
-use Rattle.np_policies.specs.declared.network_policy.NetPeer.TheVariants.{Pods, Block}
-use Rattle.np_policies.specs.declared.network_policy.NetPolicy.{NetPolicy}
-use Rattle.np_policies.specs.declared.network_policy.NetPort.{NetPort}
-use Rattle.np_policies.specs.declared.network_policy.NetPort.TheVariants.{Span, Named}
-use Rattle.np_policies.specs.declared.network_policy.NetRule.{NetRule}
+use Rattle.np_model.specs.WellPolicies.{if_there, is_well_selector, is_worded}
+use Rattle.np_model.specs.declared.direction.Direction.{Direction}
+use Rattle.np_model.specs.declared.direction.Direction.TheVariants.{Ingress, Egress}
+use Rattle.np_model.specs.declared.network_policy.NetPeer.{NetPeer}
+use Rattle.np_model.specs.declared.network_policy.NetPeer.TheVariants.{Pods, Block}
+use Rattle.np_model.specs.declared.network_policy.NetPolicy.{NetPolicy}
+use Rattle.np_model.specs.declared.network_policy.NetPort.{NetPort}
+use Rattle.np_model.specs.declared.network_policy.NetPort.TheVariants.{Span, Named}
+use Rattle.np_model.specs.declared.network_policy.NetRule.{NetRule}
 use Rattle.np_manifests.specs.Manifests as manifests
 use Rattle.np_manifests.specs.Members.{if_given, if_some, list_with}
 use Rattle.np_manifests.specs.Printable.{are_printable_rules, is_printable, is_printable_block, is_printable_peer, is_printable_port, is_printable_rule}

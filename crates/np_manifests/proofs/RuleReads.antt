@@ -14,20 +14,20 @@ use Rattle.np_conns.specs.declared.proto.Proto.TheVariants.{Tcp, Udp, Sctp}
 use Rattle.np_json.specs.Members.{member_of}
 use Rattle.np_json.specs.Scalars.{port}
 use Rattle.np_json.specs.Shapes.{listed, must_be_object, optional, refuse_if, required, under}
-use Rattle.np_json.specs.Words.{is_word}
+use Rattle.np_model.specs.Words.{is_word, is_key}
 use Rattle.np_labels.specs.declared.selector.Selector.{Selector}
 use Rattle.np_policies.specs.Blocks.{cidr, ip_block}
 use Rattle.np_policies.specs.NetworkPolicies.{net_peer, net_rule}
 use Rattle.np_policies.specs.Ports.{end_port, net_port, port_name, port_value, proto, protocol}
-use Rattle.np_policies.specs.Selectors.{is_key, selector}
-use Rattle.np_policies.specs.WellFormed.{is_well_cidr, is_well_selector}
-use Rattle.np_policies.specs.declared.direction.Direction.{Direction}
-use Rattle.np_policies.specs.declared.direction.Direction.TheVariants.{Ingress, Egress}
-use Rattle.np_policies.specs.declared.network_policy.NetPeer.{NetPeer}
-use Rattle.np_policies.specs.declared.network_policy.NetPeer.TheVariants.{Pods, Block}
-use Rattle.np_policies.specs.declared.network_policy.NetPort.{NetPort}
-use Rattle.np_policies.specs.declared.network_policy.NetPort.TheVariants.{Span, Named}
-use Rattle.np_policies.specs.declared.network_policy.NetRule.{NetRule}
+use Rattle.np_policies.specs.Selectors.{selector}
+use Rattle.np_model.specs.WellPolicies.{is_well_cidr, is_well_selector}
+use Rattle.np_model.specs.declared.direction.Direction.{Direction}
+use Rattle.np_model.specs.declared.direction.Direction.TheVariants.{Ingress, Egress}
+use Rattle.np_model.specs.declared.network_policy.NetPeer.{NetPeer}
+use Rattle.np_model.specs.declared.network_policy.NetPeer.TheVariants.{Pods, Block}
+use Rattle.np_model.specs.declared.network_policy.NetPort.{NetPort}
+use Rattle.np_model.specs.declared.network_policy.NetPort.TheVariants.{Span, Named}
+use Rattle.np_model.specs.declared.network_policy.NetRule.{NetRule}
 use Rattle.np_manifests.specs.Manifests as manifests
 use Rattle.np_manifests.specs.Members.{if_some, object_with}
 use Rattle.np_manifests.specs.Printable.{is_printable_block, is_printable_peer, is_printable_port, is_printable_rule}

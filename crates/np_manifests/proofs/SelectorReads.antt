@@ -10,7 +10,7 @@ use Rattle.serde_json.specs.Data.{Data, string}
 use Rattle.np_json.specs.Members.{member_of}
 use Rattle.np_json.specs.Scalars.{labels, text, word}
 use Rattle.np_json.specs.Shapes.{listed, must_be_object, refuse_if, required}
-use Rattle.np_json.specs.Words.{is_word}
+use Rattle.np_model.specs.Words.{is_word, is_key}
 use Rattle.np_labels.specs.Selectors.{requirement_of}
 use Rattle.np_labels.specs.Values.{is_ascending}
 use Rattle.np_labels.specs.WellFormed as well
@@ -18,8 +18,8 @@ use Rattle.np_labels.specs.declared.op.Op.{Op}
 use Rattle.np_labels.specs.declared.op.Op.TheVariants.{OneOf, NoneOf, Present, Absent}
 use Rattle.np_labels.specs.declared.requirement.Requirement.{Requirement}
 use Rattle.np_labels.specs.declared.selector.Selector.{Selector}
-use Rattle.np_policies.specs.Selectors.{expression, fitting, is_key, key, op_named, selector}
-use Rattle.np_policies.specs.WellFormed.{is_well_selector, is_worded}
+use Rattle.np_policies.specs.Selectors.{expression, fitting, key, op_named, selector}
+use Rattle.np_model.specs.WellPolicies.{is_well_selector, is_worded}
 use Rattle.np_manifests.specs.Manifests as manifests
 use Rattle.np_manifests.specs.Members.{if_some, object_with}
 use Rattle.np_manifests.proofs.OrderLemmas.{above-before, insert-last}

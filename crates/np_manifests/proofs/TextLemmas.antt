@@ -14,7 +14,7 @@ use Rattle.np_addr.specs.Blocks.{base_of, bits_of}
 use Rattle.np_addr.specs.declared.address.Address.{Address}
 use Rattle.np_addr.specs.declared.address.Address.TheVariants.{Four, Six}
 use Rattle.np_addr.specs.declared.cidr.Cidr.{Cidr}
-use Rattle.np_json.specs.Words.{has_slash, is_name, is_word, is_word_byte}
+use Rattle.np_model.specs.Words.{has_slash, is_name, is_word, is_word_byte}
 
 -- ---- words
 

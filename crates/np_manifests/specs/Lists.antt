@@ -2,7 +2,7 @@
 use Rattle.std.specs.Prelude.{ℕ, List, [], ◌∷◌, ◌++◌, codes, map}
 use Rattle.serde_json.specs.Data.{Data, string}
 use Rattle.serde_json.specs.Written.{compact_text}
-use Rattle.np_policies.specs.declared.network_policy.NetPolicy.{NetPolicy}
+use Rattle.np_model.specs.declared.network_policy.NetPolicy.{NetPolicy}
 use Rattle.np_manifests.specs.Manifests.{policy}
 use Rattle.np_manifests.specs.Members.{list_with, object_with}
 

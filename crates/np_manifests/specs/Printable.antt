@@ -5,15 +5,14 @@ use Rattle.std.specs.List.{list_all}
 use Rattle.np_addr.specs.Blocks.{first_bad_except}
 use Rattle.np_addr.specs.declared.cidr.Cidr.{Cidr}
 use Rattle.np_addr.specs.declared.cidr.Cidr.TheVariants.{Four, Six}
-use Rattle.np_json.specs.Words.{is_name}
-use Rattle.np_policies.specs.Selectors.{is_key}
-use Rattle.np_policies.specs.WellFormed.{if_there, is_well_cidr, is_well_selector}
-use Rattle.np_policies.specs.declared.network_policy.NetPeer.{NetPeer}
-use Rattle.np_policies.specs.declared.network_policy.NetPeer.TheVariants.{Pods, Block}
-use Rattle.np_policies.specs.declared.network_policy.NetPolicy.{NetPolicy}
-use Rattle.np_policies.specs.declared.network_policy.NetPort.{NetPort}
-use Rattle.np_policies.specs.declared.network_policy.NetPort.TheVariants.{Span, Named}
-use Rattle.np_policies.specs.declared.network_policy.NetRule.{NetRule}
+use Rattle.np_model.specs.Words.{is_name, is_key}
+use Rattle.np_model.specs.WellPolicies.{if_there, is_well_cidr, is_well_selector}
+use Rattle.np_model.specs.declared.network_policy.NetPeer.{NetPeer}
+use Rattle.np_model.specs.declared.network_policy.NetPeer.TheVariants.{Pods, Block}
+use Rattle.np_model.specs.declared.network_policy.NetPolicy.{NetPolicy}
+use Rattle.np_model.specs.declared.network_policy.NetPort.{NetPort}
+use Rattle.np_model.specs.declared.network_policy.NetPort.TheVariants.{Span, Named}
+use Rattle.np_model.specs.declared.network_policy.NetRule.{NetRule}
 
 -- ports from 1 to 65535, of which the last is not below the first, or a name
 abbrev pub is_printable_port : NetPort → Bool

@@ -9,7 +9,7 @@ use crate::members::{put_given, put_some};
 use np_addr::Cidr;
 use np_base::NoMemory;
 use np_labels::Selector;
-use np_policies::NetPeer;
+use np_model::NetPeer;
 use serde_json::{Map, Value, json, put};
 use std::alloc::Global;
 

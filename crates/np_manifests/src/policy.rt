@@ -9,7 +9,7 @@ use crate::manifest::Manifest;
 use crate::members::put_given;
 use crate::rule::rules_value;
 use np_base::{NoMemory, Seq};
-use np_policies::{Direction, NetPolicy, NetRule};
+use np_model::{Direction, NetPolicy, NetRule};
 use serde_json::{Map, Value, json, put};
 use std::alloc::{AllocError, Global};
 

@@ -7,7 +7,7 @@ ghost use Rattle.np_manifests.specs.Manifests as manifests;
 use crate::manifest::Manifest;
 use np_base::{NoMemory, PortNum};
 use np_conns::Proto;
-use np_policies::NetPort;
+use np_model::NetPort;
 use serde_json::{Value, json};
 use std::alloc::Global;
 

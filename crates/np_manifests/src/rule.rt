@@ -7,7 +7,7 @@ ghost use Rattle.np_policies.specs.NetworkPolicies.{peers_member};
 use crate::manifest::each_value;
 use crate::members::put_some;
 use np_base::NoMemory;
-use np_policies::{Direction, NetRule};
+use np_model::{Direction, NetRule};
 use serde_json::{Map, Value};
 use std::alloc::Global;
 

@@ -11,15 +11,15 @@ use Rattle.std.proofs.lemmas.List.Folds.{find_at}
 use Rattle.std.proofs.lemmas.List.Quantifiers.{position-Some}
 use Rattle.std.proofs.lemmas.Option.{option_and_then_some, slice_get-get_or, slice_get-map, slice_get_past}
 use Rattle.np_chains.specs.Chains.{chain, last_of, top, up}
-use Rattle.np_estate.proofs.LawfulNamespaces.{value_of-namespace_labels, HasNamespaceLabels}
-use Rattle.np_estate.proofs.LawfulReading.{pods_have_namespace_labels}
-use Rattle.np_estate.proofs.ReadingLemmas.{estate_of-passed}
+use Rattle.np_reading.proofs.LawfulNamespaces.{value_of-namespace_labels, HasNamespaceLabels}
+use Rattle.np_reading.proofs.LawfulReading.{pods_have_namespace_labels}
+use Rattle.np_reading.proofs.ReadingLemmas.{estate_of-passed}
 use Rattle.np_meaning.specs.EachPod.{namespace_named, pod, takes_part, templated, templates_from, AreEach, HoldsEachPod, IsListedPod, IsMadePod, SaysNamespace}
-use Rattle.np_estate.specs.Ends.{end_of, is_on_host, made_pod, pod_at_item, pods_from, pods_of, setting, setting_of}
-use Rattle.np_estate.specs.Namespaces.{labels_in, listed_labels, name_label, namespace_labels, namespace_name}
-use Rattle.np_estate.specs.Reading.{estate_of}
-use Rattle.np_estate.specs.declared.lists.EstateLists.{EstateLists}
-use Rattle.np_estate.specs.declared.pod.Pod.{Pod}
+use Rattle.np_reading.specs.Ends.{end_of, is_on_host, made_pod, pod_at_item, pods_from, pods_of, context, context_of}
+use Rattle.np_reading.specs.Namespaces.{labels_in, listed_labels, name_label, namespace_labels, namespace_name}
+use Rattle.np_reading.specs.Reading.{estate_of}
+use Rattle.np_model.specs.declared.lists.EstateLists.{EstateLists}
+use Rattle.np_model.specs.declared.pod.Pod.{Pod}
 use Rattle.np_items.specs.Items.{items_of}
 use Rattle.np_items.specs.declared.item.Item.{Item}
 use Rattle.np_items.specs.declared.item.Item.TheVariants as item
@@ -39,7 +39,7 @@ use Rattle.np_owners.specs.MadePods.{makes_pod}
 use Rattle.np_owners.specs.Names.{is_named, name_of, place_of, same_name}
 use Rattle.np_owners.specs.Owners.{controller_place, last_owner, owner_of, owner_or_itself, owner_place, place_in_namespace, top_owner, ups}
 use Rattle.np_owners.specs.declared.object_name.ObjectName.{ObjectName}
-use Rattle.np_owners.specs.declared.owner.Owner.{Owner}
+use Rattle.np_model.specs.declared.owner.Owner.{Owner}
 use Rattle.np_policies.specs.declared.policy.Policy.TheVariants as policy
 
 -- ---- an item with a name has a top owner
@@ -120,7 +120,7 @@ module _ (items : List Item) (place : ℕ) where
   pod-fits : (one : PodItem) → slice_get items place ≡ Some (item.Object (object.Pod one)) → Fits (taken (Some one)) (cond (makes_pod items place) None None) (pod_at_item items place (item.Object (object.Pod one)))
   pod-fits one at =
       let owner = top_owner-there items place (item.Object (object.Pod one)) at (itself one.owner) in
-      let given : Option Owner → Option Pod = λ top. option_and_then (end_of (item.Object (object.Pod one))) (cond (not (one.host_network || one.finished)) (setting_of items (item.Object (object.Pod one)) top) None) in
+      let given : Option Owner → Option Pod = λ top. option_and_then (end_of (item.Object (object.Pod one))) (cond (not (one.host_network || one.finished)) (context_of items (item.Object (object.Pod one)) top) None) in
       subst (λ (top : Option Owner). Fits (taken (Some one)) (cond (makes_pod items place) None None) (given top)) (sym owner.1)
       (by (namespace_labels items one.namespace) owner.0 one.host_network one.finished (makes_pod items place))
     where
@@ -128,7 +128,7 @@ module _ (items : List Item) (place : ℕ) where
       itself None = refl
       itself (Some owner) = refl
 
-      by : (around : List Pair) (top : Owner) (host finished makes : Bool) → Fits (cond (not host && not finished) (Some one) None) (cond makes None None) (option_and_then (end_of (item.Object (object.Pod one))) (cond (not (host || finished)) (Some (setting around top)) None))
+      by : (around : List Pair) (top : Owner) (host finished makes : Bool) → Fits (cond (not host && not finished) (Some one) None) (cond makes None None) (option_and_then (end_of (item.Object (object.Pod one))) (cond (not (host || finished)) (Some (context around top)) None))
       by around top true finished makes = nothing makes
       by around top false true makes = nothing makes
       by around top false false true = (record { namespace = refl; name = refl; labels = refl; ports = refl; addresses = refl }, refl)
@@ -137,7 +137,7 @@ module _ (items : List Item) (place : ℕ) where
   controller-fits : (one : ControllerItem) → slice_get items place ≡ Some (item.Object (object.Controller one)) → Fits None (cond (makes_pod items place) (templated (item.Object (object.Controller one))) None) (pod_at_item items place (item.Object (object.Controller one)))
   controller-fits one at =
       let owner = top_owner-there items place (item.Object (object.Controller one)) at (itself one.owner) in
-      let given : Option Owner → Option Pod = λ top. option_and_then (end_of (item.Object (object.Controller one))) (cond (makes_pod items place && not (is_on_host one)) (setting_of items (item.Object (object.Controller one)) top) None) in
+      let given : Option Owner → Option Pod = λ top. option_and_then (end_of (item.Object (object.Controller one))) (cond (makes_pod items place && not (is_on_host one)) (context_of items (item.Object (object.Controller one)) top) None) in
       subst (λ (top : Option Owner). Fits None (cond (makes_pod items place) (templated (item.Object (object.Controller one))) None) (given top)) (sym owner.1)
       (by (namespace_labels items one.namespace) owner.0 (makes_pod items place) one.template)
     where
@@ -145,12 +145,12 @@ module _ (items : List Item) (place : ℕ) where
       itself None = refl
       itself (Some owner) = refl
 
-      on_host : (around : List Pair) (top : Owner) (template : Template) (host : Bool) → Fits None (cond host None (Some (one, template))) (option_and_then (λ around. Some (made_pod one around template)) (cond (not host) (Some (setting around top)) None))
+      on_host : (around : List Pair) (top : Owner) (template : Template) (host : Bool) → Fits None (cond host None (Some (one, template))) (option_and_then (λ around. Some (made_pod one around template)) (cond (not host) (Some (context around top)) None))
       on_host around top template true = tt
       on_host around top template false = (record { namespace = refl; name = refl; labels = refl; ports = refl; addresses = refl }, refl)
 
       by : (around : List Pair) (top : Owner) (makes : Bool) (template : Option Template) → Fits None (cond makes (option_and_then (λ template. cond template.host_network None (Some (one, template))) template) None)
-          (option_and_then (λ around. option_map (made_pod one around) template) (cond (makes && not (option_map_or (λ template. template.host_network) template false)) (Some (setting around top)) None))
+          (option_and_then (λ around. option_map (made_pod one around) template) (cond (makes && not (option_map_or (λ template. template.host_network) template false)) (Some (context around top)) None))
       by around top false template = tt
       by around top true None = tt
       by around top true (Some template) = on_host around top template template.host_network

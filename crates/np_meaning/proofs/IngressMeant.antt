@@ -15,11 +15,11 @@ use Rattle.np_meaning.proofs.PodMeant.{AreEach-append, AreEach-flat_map}
 use Rattle.np_objects.specs.Ingresses.{backend, backend_port, backend_service, http, ingress, ingress_item, ingress_spec, is_named, is_numbered, is_one, number_or_name, path, rule}
 use Rattle.np_meaning.specs.EachPod.{AreEach}
 use Rattle.np_meaning.specs.ObjectMeaning.{backends_in, list_at, text_at, IsBackend, IsBackendPort, IsIngressOf}
-use Rattle.np_objects.specs.declared.ingress.Backend.{Backend}
-use Rattle.np_objects.specs.declared.ingress.Backend.TheVariants.{Service, Resource}
-use Rattle.np_objects.specs.declared.ingress.IngressItem.{IngressItem}
-use Rattle.np_objects.specs.declared.service.PortName.{PortName}
-use Rattle.np_objects.specs.declared.service.PortName.TheVariants.{Number, Named}
+use Rattle.np_model.specs.declared.ingress.Backend.{Backend}
+use Rattle.np_model.specs.declared.ingress.Backend.TheVariants.{Service, Resource}
+use Rattle.np_model.specs.declared.ingress.IngressItem.{IngressItem}
+use Rattle.np_model.specs.declared.service.PortName.{PortName}
+use Rattle.np_model.specs.declared.service.PortName.TheVariants.{Number, Named}
 use Rattle.np_policies.specs.PolicyMeaning.{object_at}
 use Rattle.np_policies.proofs.MemberReads.{object_at-output}
 

@@ -8,9 +8,9 @@ use Rattle.serde_json.specs.Data.{Data, object, Members, no_members, member}
 use Rattle.serde_json.specs.Find.{as_object, as_str}
 use Rattle.np_json.specs.Members.{as_pairs, member_of, pairs_of_members}
 use Rattle.np_json.specs.Meta as meta
-use Rattle.np_json.specs.Scalars.{is_label, labels, name, of_type, text}
+use Rattle.np_model.specs.Words.{is_label, is_name}
+use Rattle.np_json.specs.Scalars.{labels, name, of_type, text}
 use Rattle.np_json.specs.Shapes.{◌>>◌, must_be_object, optional, refuse_if, required}
-use Rattle.np_json.specs.Words.{is_name}
 use Rattle.np_json.specs.declared.fault.FaultKind.TheVariants.{BadField, BadName}
 use Rattle.np_json.specs.declared.meta.NamespacedName.{NamespacedName}
 use Rattle.np_labels.proofs.PairLists.{value_of-labels_of}

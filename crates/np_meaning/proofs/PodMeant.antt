@@ -31,7 +31,7 @@ use Rattle.np_objects.specs.PodSpecs.{container, pod_spec}
 use Rattle.np_objects.specs.Pods.{pod, pod_item, pod_metadata}
 use Rattle.np_objects.specs.Ports.{container_port, if_named, port_name, protocol}
 use Rattle.np_objects.specs.Statuses.{address, address_by, distinct, has_address, is_finished, is_same, kept_with, no_status, pod_ip, pod_status}
-use Rattle.np_objects.specs.declared.named_port.NamedPort.{NamedPort}
+use Rattle.np_model.specs.declared.named_port.NamedPort.{NamedPort}
 use Rattle.np_objects.specs.declared.namespace.NamespaceItem.{NamespaceItem}
 use Rattle.np_objects.specs.declared.pod_item.PodItem.{PodItem}
 use Rattle.np_policies.specs.PolicyMeaning.{object_at}

@@ -24,10 +24,10 @@ use Rattle.np_meaning.specs.EachPod.{AreEach}
 use Rattle.np_meaning.specs.ObjectMeaning.{entries_at, have_entries, is_text_of, list_at, number_at, target_at, text_at, IsServiceOf, IsServicePort, IsServiceSelector}
 use Rattle.np_objects.specs.Ports.{port_name, protocol}
 use Rattle.np_objects.specs.Services.{by_name, by_number, is_text, selector_of, service, service_item, service_port, service_spec, target_by, target_port}
-use Rattle.np_objects.specs.declared.service.PortName.{PortName}
-use Rattle.np_objects.specs.declared.service.PortName.TheVariants.{Number, Named}
-use Rattle.np_objects.specs.declared.service.ServiceItem.{ServiceItem}
-use Rattle.np_objects.specs.declared.service.ServicePort.{ServicePort}
+use Rattle.np_model.specs.declared.service.PortName.{PortName}
+use Rattle.np_model.specs.declared.service.PortName.TheVariants.{Number, Named}
+use Rattle.np_model.specs.declared.service.ServiceItem.{ServiceItem}
+use Rattle.np_model.specs.declared.service.ServicePort.{ServicePort}
 use Rattle.np_policies.specs.PolicyMeaning.{object_at}
 use Rattle.np_policies.proofs.MemberReads.{object_at-output}
 

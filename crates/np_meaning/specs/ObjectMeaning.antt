@@ -16,16 +16,16 @@ use Rattle.np_labels.specs.Selectors.{meets_selector}
 use Rattle.np_labels.specs.declared.pair.Pair.{Pair}
 use Rattle.np_labels.specs.declared.selector.Selector.{Selector}
 use Rattle.np_objects.specs.Statuses.{has_address, is_same}
-use Rattle.np_objects.specs.declared.ingress.Backend.{Backend}
-use Rattle.np_objects.specs.declared.ingress.Backend.TheVariants.{Service, Resource}
-use Rattle.np_objects.specs.declared.ingress.IngressItem.{IngressItem}
-use Rattle.np_objects.specs.declared.named_port.NamedPort.{NamedPort}
+use Rattle.np_model.specs.declared.ingress.Backend.{Backend}
+use Rattle.np_model.specs.declared.ingress.Backend.TheVariants.{Service, Resource}
+use Rattle.np_model.specs.declared.ingress.IngressItem.{IngressItem}
+use Rattle.np_model.specs.declared.named_port.NamedPort.{NamedPort}
 use Rattle.np_objects.specs.declared.namespace.NamespaceItem.{NamespaceItem}
 use Rattle.np_objects.specs.declared.pod_item.PodItem.{PodItem}
-use Rattle.np_objects.specs.declared.service.PortName.{PortName}
-use Rattle.np_objects.specs.declared.service.PortName.TheVariants.{Number, Named}
-use Rattle.np_objects.specs.declared.service.ServiceItem.{ServiceItem}
-use Rattle.np_objects.specs.declared.service.ServicePort.{ServicePort}
+use Rattle.np_model.specs.declared.service.PortName.{PortName}
+use Rattle.np_model.specs.declared.service.PortName.TheVariants.{Number, Named}
+use Rattle.np_model.specs.declared.service.ServiceItem.{ServiceItem}
+use Rattle.np_model.specs.declared.service.ServicePort.{ServicePort}
 use Rattle.np_meaning.specs.EachPod.{AreEach}
 use Rattle.np_policies.specs.PolicyMeaning.{object_at, spec_of}
 

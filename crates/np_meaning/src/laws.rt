@@ -1,8 +1,8 @@
 //! What follows from the definitions of what is read.
 ghost use Rattle.std.specs.Prelude.{◌≡◌, ◌<◌, ℕ, List, Ok, length};
 ghost use Rattle.serde_json.specs.Data.{Data};
-ghost use Rattle.np_estate.specs.Reading.{estate_of};
-ghost use Rattle.np_estate.specs.declared.lists.EstateLists.{EstateLists};
+ghost use Rattle.np_reading.specs.Reading.{estate_of};
+ghost use Rattle.np_model.specs.declared.lists.EstateLists.{EstateLists};
 ghost use Rattle.np_items.specs.Items.{items_of};
 ghost use Rattle.np_items.specs.declared.item.Item.{Item};
 ghost use Rattle.np_meaning.specs.ControllerMeaning.{IsControllerOf};
@@ -19,11 +19,11 @@ ghost use Rattle.np_objects.specs.Pods.{pod};
 ghost use Rattle.np_objects.specs.Services.{service};
 ghost use Rattle.np_objects.specs.declared.controller.ControllerItem.{ControllerItem};
 ghost use Rattle.np_objects.specs.declared.controller.ControllerKind.{ControllerKind};
-ghost use Rattle.np_objects.specs.declared.ingress.IngressItem.{IngressItem};
+ghost use Rattle.np_model.specs.declared.ingress.IngressItem.{IngressItem};
 ghost use Rattle.np_objects.specs.declared.namespace.NamespaceItem.{NamespaceItem};
 ghost use Rattle.np_objects.specs.declared.object.Object.{Object};
 ghost use Rattle.np_objects.specs.declared.pod_item.PodItem.{PodItem};
-ghost use Rattle.np_objects.specs.declared.service.ServiceItem.{ServiceItem};
+ghost use Rattle.np_model.specs.declared.service.ServiceItem.{ServiceItem};
 
 /// An object that was read as one of a kind names that kind, in the version that is read of it, and was read by the
 /// definition of that kind.

@@ -6,16 +6,16 @@ use Rattle.serde_json.specs.Data.{Data, Items, no_items, item}
 use Rattle.serde_json.specs.Find.{as_array}
 use Rattle.np_json.specs.Members.{member_of}
 use Rattle.np_json.specs.Meta as meta
-use Rattle.np_json.specs.Scalars.{name, word, labels, is_label}
+use Rattle.np_model.specs.Words.{is_label, is_word, is_name}
+use Rattle.np_json.specs.Scalars.{name, word, labels}
 use Rattle.np_json.specs.Shapes.{Read, ◌>>=◌, ◌>>◌, each_item, given, list_by, listed, optional, read_member, refuse, refuse_if, required, under}
-use Rattle.np_json.specs.Words.{is_word, is_name}
 use Rattle.np_json.specs.declared.fault.FaultKind.{FaultKind}
 use Rattle.np_json.specs.declared.fault.FaultKind.TheVariants.{BadField, BadName}
 use Rattle.np_json.specs.declared.flaw.Flaw.{Flaw}
 use Rattle.np_json.specs.declared.meta.NamespacedName.{NamespacedName}
 use Rattle.np_json.specs.declared.path.Step.{Step}
 use Rattle.np_json.specs.declared.path.Step.TheVariants.{Item, Field}
-use Rattle.np_objects.specs.WellFormed.{option_all}
+use Rattle.np_model.specs.WellObjects.{option_all}
 
 -- what is read, if anything is, passes the test
 pub record ReadsOnly {A : Type 0} (passes : A → Bool) (read : Read A) : Type 0 where

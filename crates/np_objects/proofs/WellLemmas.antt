@@ -13,9 +13,9 @@ use Rattle.np_conns.specs.declared.proto.Proto.{Proto}
 use Rattle.np_conns.specs.declared.proto.Proto.TheVariants.{Tcp}
 use Rattle.np_json.specs.Meta.{namespaced_name}
 use Rattle.np_json.specs.Members.{as_whole}
-use Rattle.np_json.specs.Scalars.{text, name, whole, port, labels, is_label}
+use Rattle.np_model.specs.Words.{is_label, is_word, is_name}
+use Rattle.np_json.specs.Scalars.{text, name, whole, port, labels}
 use Rattle.np_json.specs.Shapes.{Read, GivesItem, must_be_object, optional, required}
-use Rattle.np_json.specs.Words.{is_word, is_name}
 use Rattle.np_json.specs.declared.fault.ReadFault.{ReadFault}
 use Rattle.np_labels.specs.Selectors.{label_requirement}
 use Rattle.np_labels.specs.Labels.{with_pair}
@@ -32,7 +32,8 @@ use Rattle.np_objects.specs.Pods.{pod, pod_metadata}
 use Rattle.np_objects.specs.Ports.{port_name, protocol, container_port, if_named}
 use Rattle.np_objects.specs.Services.{service, service_spec, service_port, target_port, target_by, by_number, by_name, selector_of, is_text}
 use Rattle.np_objects.specs.Templates.{template, template_metadata}
-use Rattle.np_objects.specs.WellFormed.{option_all, is_whole_word, is_well_label, is_well_labels, is_well_requirement, is_well_selector, is_well_owner, is_well_port, is_well_ports, is_well_pod, is_well_namespace, is_well_template, is_well_controller, is_well_target, is_well_service_port, is_well_service, is_well_ingress, is_well_object, IsWellObject}
+use Rattle.np_model.specs.WellObjects.{option_all, is_whole_word, is_well_label, is_well_labels, is_well_requirement, is_well_selector, is_well_port, is_well_ports, is_well_target, is_well_service_port, is_well_service, is_well_ingress}
+use Rattle.np_objects.specs.WellFormed.{is_well_owner, is_well_pod, is_well_namespace, is_well_template, is_well_controller, is_well_object, IsWellObject}
 use Rattle.np_objects.specs.declared.controller.ControllerKind.{ControllerKind}
 use Rattle.np_objects.specs.declared.controller.ControllerKind.TheVariants.{Deployment, ReplicaSet, StatefulSet, DaemonSet, ReplicationController, Job, CronJob}
 use Rattle.np_objects.specs.declared.controller_spec.ControllerSpec.{ControllerSpec}
@@ -46,7 +47,7 @@ use Rattle.np_objects.specs.declared.owner_reference.Dependent.TheVariants as de
 use Rattle.np_objects.specs.declared.owner_reference.OwnerReference.{OwnerReference}
 use Rattle.np_objects.specs.declared.pod_item.PodMetadata.{PodMetadata}
 use Rattle.np_objects.specs.declared.pod_spec.PodSpec.{PodSpec}
-use Rattle.np_objects.specs.declared.service.PortName.TheVariants.{Number, Named}
+use Rattle.np_model.specs.declared.service.PortName.TheVariants.{Number, Named}
 use Rattle.np_objects.specs.declared.service_spec.ServiceSpec.{ServiceSpec}
 use Rattle.np_objects.proofs.ReadLemmas.{ReadsOnly, ReadsOnly-Ok, ReadsOnly-bind, ReadsOnly-after, ReadsOnly-then, ReadsOnly-required, ReadsOnly-optional, ReadsOnly-listed, ReadsOnly-name, ReadsOnly-word, ReadsOnly-labels, ReadsOnly-namespaced_name, is_well_own, unwrapped}
 

@@ -12,11 +12,11 @@ use Rattle.np_json.specs.declared.field.Field.{Field}
 use Rattle.np_json.specs.declared.field.Field.TheVariants.{Missing, Wrong, Given}
 use Rattle.np_json.specs.declared.meta.NamespacedName.{NamespacedName}
 use Rattle.np_objects.specs.Controllers.{is_zero}
-use Rattle.np_objects.specs.declared.ingress.Backend.{Backend}
-use Rattle.np_objects.specs.declared.ingress.Backend.TheVariants.{Service, Resource}
-use Rattle.np_objects.specs.declared.ingress.IngressItem.{IngressItem}
-use Rattle.np_objects.specs.declared.service.PortName.{PortName}
-use Rattle.np_objects.specs.declared.service.PortName.TheVariants.{Number, Named}
+use Rattle.np_model.specs.declared.ingress.Backend.{Backend}
+use Rattle.np_model.specs.declared.ingress.Backend.TheVariants.{Service, Resource}
+use Rattle.np_model.specs.declared.ingress.IngressItem.{IngressItem}
+use Rattle.np_model.specs.declared.service.PortName.{PortName}
+use Rattle.np_model.specs.declared.service.PortName.TheVariants.{Number, Named}
 
 -- whether there is a number; the number 0 counts as missing
 abbrev pub is_numbered : Field ℤ → Bool

@@ -9,7 +9,7 @@ use Rattle.np_json.specs.Scalars.{text, word, port}
 use Rattle.np_json.specs.Shapes.{Read, ◌>>=◌, ◌>>◌, must_be_object, optional, required}
 use Rattle.np_json.specs.declared.fault.FaultKind.TheVariants.{BadProtocol}
 use Rattle.np_objects.specs.Lists.{unless_empty, or_refuse}
-use Rattle.np_objects.specs.declared.named_port.NamedPort.{NamedPort}
+use Rattle.np_model.specs.declared.named_port.NamedPort.{NamedPort}
 
 -- the name of a protocol
 unfoldable pub protocol : Data → Read Proto

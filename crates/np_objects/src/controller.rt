@@ -4,10 +4,10 @@ ghost use Rattle.std.specs.List.{list_any};
 ghost use Rattle.std.specs.Str.{bytes_eq};
 ghost use Rattle.np_objects.specs.ControllerKinds.{kind_name, is_controller_kind};
 
-use crate::named_port::NamedPort;
 use crate::owner_ref::OwnerRef;
 use np_base::{Seq, Text};
 use np_labels::Labels;
+use np_model::NamedPort;
 
 /// The kinds of controllers (Kubernetes API reference, Workload Resources).
 #[derive(Clone, Copy, Debug, PartialEq, Eq)]

@@ -5,14 +5,13 @@ ghost use Rattle.np_json.specs.Members.{text_of, whole_of};
 ghost use Rattle.np_json.specs.Shapes.{Gives};
 ghost use Rattle.np_objects.specs.Ingresses as ingresses;
 
-use crate::ingress::{Backend, IngressItem};
 use crate::lists::{joined, put_first};
-use crate::service::PortName;
 use np_base::Seq;
 use np_json::{
     AnyText, FaultKind, Field, NamespacedName, NamespacedNameShape, Port, Shape, ShapeFault,
     has_one_of, listed, must_be_object, optional, refuse_if, required, text_field, whole_field,
 };
+use np_model::{Backend, IngressItem, PortName};
 use serde_json::Value;
 use std::alloc::Global;
 

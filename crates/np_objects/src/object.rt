@@ -1,10 +1,9 @@
 //! An object of any kind.
 
 use crate::controller::ControllerItem;
-use crate::ingress::IngressItem;
 use crate::namespace::NamespaceItem;
 use crate::pod_item::PodItem;
-use crate::service::ServiceItem;
+use np_model::{IngressItem, ServiceItem};
 
 /// An object of a list.
 #[derive(Debug, Drop)]

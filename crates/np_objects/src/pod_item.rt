@@ -3,7 +3,6 @@ ghost use Rattle.std.specs.Prelude.{◌≡◌};
 ghost use Rattle.np_objects.specs.Pods as pods;
 
 use crate::label_map::{LabelsShape, no_labels};
-use crate::named_port::NamedPort;
 use crate::owner_ref::OwnerRef;
 use crate::owner_reference::{Dependent, OwnerReferenceShape, owner_of};
 use crate::pod_spec::{PodSpec, PodSpecShape};
@@ -12,6 +11,7 @@ use np_addr::Addresses;
 use np_base::{Seq, Text};
 use np_json::{NamespacedName, NamespacedNameShape, Shape, ShapeFault, listed, optional, required};
 use np_labels::Labels;
+use np_model::NamedPort;
 use serde_json::Value;
 use std::alloc::Global;
 

@@ -1,10 +1,10 @@
 //! Specs of pods.
 
 use crate::lists::{joined, somes};
-use crate::named_port::NamedPort;
 use crate::port_shapes::ContainerPortShape;
 use np_base::Seq;
 use np_json::{Flag, Shape, ShapeFault, listed, must_be_object, optional};
+use np_model::NamedPort;
 use serde_json::Value;
 use std::alloc::Global;
 

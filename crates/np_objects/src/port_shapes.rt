@@ -3,12 +3,12 @@ ghost use Rattle.std.specs.Prelude.{◌≡◌};
 ghost use Rattle.np_objects.specs.Ports as ports;
 
 use crate::lists::{or_refuse, unless_empty};
-use crate::named_port::NamedPort;
 use np_base::{PortNum, Text};
 use np_conns::Proto;
 use np_json::{
     FaultKind, Port, Shape, ShapeFault, Word, must_be_object, of_type, optional, required,
 };
+use np_model::NamedPort;
 use serde_json::Value;
 use std::alloc::Global;
 

@@ -6,13 +6,13 @@ ghost use Rattle.np_objects.specs.Services as services;
 
 use crate::controller_spec::is_zero;
 use crate::port_shapes::{PortNameShape, ProtocolShape};
-use crate::service::{PortName, ServiceItem, ServicePort};
 use crate::service_spec::{ServiceSpec, ServiceSpecShape};
 use np_conns::Proto;
 use np_json::{
     NamespacedName, NamespacedNameShape, Port, Shape, ShapeFault, must_be_object, optional,
     port_of, required,
 };
+use np_model::{PortName, ServiceItem, ServicePort};
 use serde_json::Value;
 use std::alloc::Global;
 

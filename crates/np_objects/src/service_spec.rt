@@ -2,11 +2,11 @@
 ghost use Rattle.std.specs.Prelude.{◌≡◌, IfOk};
 ghost use Rattle.np_objects.specs.Services as services;
 
-use crate::service::ServicePort;
 use crate::service_shapes::ServicePortShape;
 use np_base::{NoMemory, Seq, Text};
 use np_json::{AnyText, LabelMap, Shape, ShapeFault, listed, must_be_object, optional};
 use np_labels::Selector;
+use np_model::ServicePort;
 use serde_json::Value;
 use std::alloc::Global;
 

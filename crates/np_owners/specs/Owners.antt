@@ -13,7 +13,7 @@ use Rattle.np_owners.specs.Names.{name_of, place_of}
 use Rattle.np_owners.specs.declared.fault.ChainsFault.{ChainsFault}
 use Rattle.np_owners.specs.declared.fault.ChainsFault.TheVariants.{OwnerCycle, NoMemory}
 use Rattle.np_owners.specs.declared.object_name.ObjectName.{ObjectName}
-use Rattle.np_owners.specs.declared.owner.Owner.{Owner}
+use Rattle.np_model.specs.declared.owner.Owner.{Owner}
 
 -- ---- owners that items name
 

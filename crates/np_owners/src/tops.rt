@@ -3,11 +3,11 @@ ghost use Rattle.std.specs.Prelude.{◌≡◌, IfOk};
 ghost use Rattle.np_owners.specs.Owners as owners;
 
 use crate::object_name::name_of;
-use crate::owner::Owner;
 use crate::owner_refs::owner_of;
 use np_base::NoMemory;
 use np_chains::Chains;
 use np_items::Item;
+use np_model::Owner;
 use std::alloc::Global;
 
 /// The top owner of each item: the last one that its chain of owners reaches, listed or not, or it itself where it has

@@ -7,7 +7,7 @@ use Rattle.serde_json.specs.Find.{as_str}
 use Rattle.np_json.specs.Members.{as_whole, member_of}
 use Rattle.np_json.specs.Scalars.{name, port, port_number, text, whole}
 use Rattle.np_json.specs.Shapes.{Read, ◌>>=◌, ◌>>◌, has_member, has_one_of, listed, must_be_object, refuse, refuse_if, refuse_member_if, required}
-use Rattle.np_json.specs.Words.{is_word}
+use Rattle.np_model.specs.Words.{is_word}
 use Rattle.np_json.specs.declared.fault.FaultKind.TheVariants.{BadField, BadPort, BadPriority, BaselineName, DomainPeer, EmptyPeers, NodePeer, PeerShape}
 use Rattle.np_policies.proofs.KindReads.{admin-read, base-read}
 use Rattle.np_policies.proofs.MemberReads.{object_at-output, found-output, required-some, AreEach-listed, number_at-output, name-output}
@@ -23,20 +23,20 @@ use Rattle.np_policies.specs.PolicyMeaning.{blocks_of, number_at, object_at, spe
 use Rattle.np_policies.specs.Ports.{admin_port, admin_port_member, named_port, one_port, port_name, port_range, protocol}
 use Rattle.np_policies.specs.SelectorMeaning.{items_at, text_at}
 use Rattle.np_policies.specs.Selectors.{everything, selector}
-use Rattle.np_policies.specs.declared.admin_policy.Action.{Action}
-use Rattle.np_policies.specs.declared.admin_policy.Action.TheVariants.{Allow, Deny, Pass}
-use Rattle.np_policies.specs.declared.admin_policy.AdminPeer.{AdminPeer}
-use Rattle.np_policies.specs.declared.admin_policy.AdminPeer.TheVariants as peer
-use Rattle.np_policies.specs.declared.admin_policy.AdminPolicy.{AdminPolicy}
-use Rattle.np_policies.specs.declared.admin_policy.AdminPort.{AdminPort}
-use Rattle.np_policies.specs.declared.admin_policy.AdminPort.TheVariants.{Span, Named}
-use Rattle.np_policies.specs.declared.admin_policy.AdminRule.{AdminRule}
-use Rattle.np_policies.specs.declared.admin_policy.BasePolicy.{BasePolicy}
-use Rattle.np_policies.specs.declared.admin_policy.Subject.{Subject}
+use Rattle.np_model.specs.declared.admin_policy.Action.{Action}
+use Rattle.np_model.specs.declared.admin_policy.Action.TheVariants.{Allow, Deny, Pass}
+use Rattle.np_model.specs.declared.admin_policy.AdminPeer.{AdminPeer}
+use Rattle.np_model.specs.declared.admin_policy.AdminPeer.TheVariants as peer
+use Rattle.np_model.specs.declared.admin_policy.AdminPolicy.{AdminPolicy}
+use Rattle.np_model.specs.declared.admin_policy.AdminPort.{AdminPort}
+use Rattle.np_model.specs.declared.admin_policy.AdminPort.TheVariants.{Span, Named}
+use Rattle.np_model.specs.declared.admin_policy.AdminRule.{AdminRule}
+use Rattle.np_model.specs.declared.admin_policy.BasePolicy.{BasePolicy}
+use Rattle.np_model.specs.declared.admin_policy.Subject.{Subject}
 use Rattle.np_policies.specs.declared.admin_policy_shape.AdminSpec.{AdminSpec}
 use Rattle.np_policies.specs.declared.admin_rule_shape.Tier.{Tier}
 use Rattle.np_policies.specs.declared.admin_rule_shape.Tier.TheVariants as tier
-use Rattle.np_policies.specs.declared.direction.Direction.TheVariants.{Ingress, Egress}
+use Rattle.np_model.specs.declared.direction.Direction.TheVariants.{Ingress, Egress}
 use Rattle.np_policies.specs.declared.policy.Policy.TheVariants as policy
 
 -- ---- subjects and peers

@@ -8,7 +8,7 @@ use Rattle.np_json.specs.Members.{member_of}
 use Rattle.np_json.specs.Meta.{namespace, namespaced_name, or_default}
 use Rattle.np_json.specs.Scalars.{name, text}
 use Rattle.np_json.specs.Shapes.{◌>>◌, listed, must_be_object, optional, refuse_if, required}
-use Rattle.np_json.specs.Words.{is_name}
+use Rattle.np_model.specs.Words.{is_name}
 use Rattle.np_json.specs.declared.fault.FaultKind.TheVariants.{BadName}
 use Rattle.np_json.specs.declared.meta.NamespacedName.{NamespacedName}
 use Rattle.np_policies.proofs.KindReads.{net-read}
@@ -20,10 +20,10 @@ use Rattle.np_policies.specs.Policies.{policy_of}
 use Rattle.np_policies.specs.PolicyMeaning.{named_or_default, namespace_in, object_at, spec_of, AreEach, IsNetPolicyOf, IsNetRule}
 use Rattle.np_policies.specs.Ports.{net_port}
 use Rattle.np_policies.specs.SelectorMeaning.{items_at, text_at}
-use Rattle.np_policies.specs.declared.direction.Direction.{Direction}
-use Rattle.np_policies.specs.declared.direction.Direction.TheVariants.{Ingress, Egress}
-use Rattle.np_policies.specs.declared.network_policy.NetPolicy.{NetPolicy}
-use Rattle.np_policies.specs.declared.network_policy.NetRule.{NetRule}
+use Rattle.np_model.specs.declared.direction.Direction.{Direction}
+use Rattle.np_model.specs.declared.direction.Direction.TheVariants.{Ingress, Egress}
+use Rattle.np_model.specs.declared.network_policy.NetPolicy.{NetPolicy}
+use Rattle.np_model.specs.declared.network_policy.NetRule.{NetRule}
 use Rattle.np_policies.specs.declared.policy.Policy.TheVariants as policy
 
 -- ---- names

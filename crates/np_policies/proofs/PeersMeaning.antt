@@ -18,8 +18,8 @@ use Rattle.np_policies.specs.PolicyMeaning.{blocks_of, IsBlockOf, IsReadOf}
 use Rattle.np_policies.specs.SelectorMeaning.{items_at, text_at}
 use Rattle.np_policies.specs.Selectors.{selector}
 use Rattle.np_policies.specs.declared.ip_block_shape.IpBlock.{IpBlock}
-use Rattle.np_policies.specs.declared.network_policy.NetPeer.{NetPeer}
-use Rattle.np_policies.specs.declared.network_policy.NetPeer.TheVariants.{Pods, Block}
+use Rattle.np_model.specs.declared.network_policy.NetPeer.{NetPeer}
+use Rattle.np_model.specs.declared.network_policy.NetPeer.TheVariants.{Pods, Block}
 
 IsReadOf-optional : {A : Type 0} (shape : Data → Read A) (member : Option Data) (output : Option A) → IsOptional shape member output → IsReadOf shape member output
 IsReadOf-optional shape member None is = subst (λ (found : Option Data). IsReadOf shape found None) (sym is) tt

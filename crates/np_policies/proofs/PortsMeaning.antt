@@ -8,15 +8,15 @@ use Rattle.np_conns.specs.declared.proto.Proto.TheVariants.{Tcp}
 use Rattle.np_json.specs.Members.{as_whole, member_of}
 use Rattle.np_json.specs.Scalars.{port, port_number, text, whole}
 use Rattle.np_json.specs.Shapes.{Read, ◌>>◌, must_be_object, optional, refuse, refuse_if}
-use Rattle.np_json.specs.Words.{is_word}
+use Rattle.np_model.specs.Words.{is_word}
 use Rattle.np_json.specs.declared.fault.FaultKind.TheVariants.{BadField, BadPort}
 use Rattle.np_policies.proofs.ReadLemmas.{bind-output, then-output, optional-output, of_type-output, IsOptional}
 use Rattle.np_policies.specs.PolicyMeaning.{number_at, protocol_of}
 use Rattle.np_policies.specs.Ports.{end_port, may_end, net_port, net_port_by, number_of, port_name, port_value, port_value_by, proto, proto_by, protocol}
 use Rattle.np_policies.specs.declared.net_port_shape.PortValue.{PortValue}
 use Rattle.np_policies.specs.declared.net_port_shape.PortValue.TheVariants.{Number, Name}
-use Rattle.np_policies.specs.declared.network_policy.NetPort.{NetPort}
-use Rattle.np_policies.specs.declared.network_policy.NetPort.TheVariants.{Span, Named}
+use Rattle.np_model.specs.declared.network_policy.NetPort.{NetPort}
+use Rattle.np_model.specs.declared.network_policy.NetPort.TheVariants.{Span, Named}
 
 -- a number that was read as a port is the port
 port_number-output : (n m : ℕ) → port_number (pos n) ≡ Ok m → m ≡ n

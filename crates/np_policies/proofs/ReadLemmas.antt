@@ -6,7 +6,7 @@ use Rattle.serde_json.specs.Find.{as_array, as_str}
 use Rattle.np_json.specs.Members.{member_of}
 use Rattle.np_json.specs.Scalars.{of_type, text, word}
 use Rattle.np_json.specs.Shapes.{Read, ◌>>=◌, ◌>>◌, each_item, given, list_by, listed, optional, read_member, refuse, refuse_if, required, under}
-use Rattle.np_json.specs.Words.{is_word}
+use Rattle.np_model.specs.Words.{is_word}
 use Rattle.np_json.specs.declared.fault.FaultKind.TheVariants.{BadField}
 use Rattle.np_json.specs.declared.path.Step.{Step}
 use Rattle.np_json.specs.declared.path.Step.TheVariants.{Field, Item}

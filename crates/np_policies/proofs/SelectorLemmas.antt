@@ -6,7 +6,8 @@ use Rattle.std.specs.Str.{bytes_eq}
 use Rattle.serde_json.specs.Data.{Data, Members, no_members, member}
 use Rattle.serde_json.specs.Find.{as_str, as_object}
 use Rattle.np_json.specs.Members.{as_pairs, member_of, pairs_of_members}
-use Rattle.np_json.specs.Scalars.{is_label, labels, of_type, text, word}
+use Rattle.np_model.specs.Words.{is_label, is_key}
+use Rattle.np_json.specs.Scalars.{labels, of_type, text, word}
 use Rattle.np_json.specs.Shapes.{◌>>◌, listed, must_be_object, optional, refuse, refuse_if, required}
 use Rattle.np_json.specs.declared.fault.FaultKind.TheVariants.{BadField, BadSelector}
 use Rattle.np_labels.specs.Labels.{value_of}
@@ -21,7 +22,7 @@ use Rattle.np_labels.specs.declared.selector.Selector.{Selector}
 pub use Rattle.np_labels.proofs.Distinct.{is_listed-distinct}
 use Rattle.np_policies.proofs.ReadLemmas.{bind-output, then-output, optional-output, listed-output, list_all-each_item, list_any-each_item, of_type-output, word-output, text_at-output, IsOptional}
 use Rattle.np_policies.specs.SelectorMeaning.{any_item, has_entries, has_text, is_among, is_text, items_at, meets_expression, meets_members, meets_operator}
-use Rattle.np_policies.specs.Selectors.{expression, fitting, has_other, is_key, key, op_named, selector}
+use Rattle.np_policies.specs.Selectors.{expression, fitting, has_other, key, op_named, selector}
 
 or_false : (b : Bool) → (b || false) ≡ b
 or_false true = refl

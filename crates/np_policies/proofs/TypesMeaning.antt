@@ -19,11 +19,11 @@ use Rattle.np_policies.specs.Policies.{policy_of}
 use Rattle.np_policies.specs.PolicyMeaning.{has_egress, has_ingress, is_empty, object_at, spec_of}
 use Rattle.np_policies.specs.SelectorMeaning.{is_text, items_at}
 use Rattle.np_policies.specs.Selectors.{everything, selector}
-use Rattle.np_policies.specs.declared.direction.Direction.{Direction}
-use Rattle.np_policies.specs.declared.direction.Direction.TheVariants.{Ingress, Egress}
+use Rattle.np_model.specs.declared.direction.Direction.{Direction}
+use Rattle.np_model.specs.declared.direction.Direction.TheVariants.{Ingress, Egress}
 use Rattle.np_policies.specs.declared.net_policy_shape.NetSpec.{NetSpec}
-use Rattle.np_policies.specs.declared.network_policy.NetPolicy.{NetPolicy}
-use Rattle.np_policies.specs.declared.network_policy.NetRule.{NetRule}
+use Rattle.np_model.specs.declared.network_policy.NetPolicy.{NetPolicy}
+use Rattle.np_model.specs.declared.network_policy.NetRule.{NetRule}
 use Rattle.np_policies.specs.declared.policy.Policy.TheVariants as policy
 
 -- a type that was read is the text of its item

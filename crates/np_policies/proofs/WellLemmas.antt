@@ -11,9 +11,9 @@ use Rattle.np_addr.specs.declared.cidr.Cidr.{Cidr}
 use Rattle.np_addr.specs.declared.cidr.Cidr.TheVariants.{Four, Six}
 use Rattle.np_conns.specs.declared.proto.Proto.{Proto}
 use Rattle.np_json.specs.Members.{as_pairs, as_whole}
-use Rattle.np_json.specs.Scalars.{is_label, labels, of_type, port, port_number, text, word}
+use Rattle.np_model.specs.Words.{is_label, is_word, is_key}
+use Rattle.np_json.specs.Scalars.{labels, of_type, port, port_number, text, word}
 use Rattle.np_json.specs.Shapes.{Read, ◌>>◌, has_member, has_one_of, listed, must_be_object, optional, refuse, refuse_if, refuse_member_if, required, under}
-use Rattle.np_json.specs.Words.{is_word}
 use Rattle.np_json.specs.declared.fault.FaultKind.{FaultKind}
 use Rattle.np_json.specs.declared.fault.FaultKind.TheVariants.{BadField, BadPort, BadSelector}
 use Rattle.np_labels.proofs.Distinct.{is_empty-distinct, list_all-distinct}
@@ -28,14 +28,14 @@ use Rattle.np_policies.proofs.ReadLemmas.{bind-output, then-output, required-out
 use Rattle.np_policies.specs.Blocks.{cidr, ip_block, refuse_except}
 use Rattle.np_policies.specs.Ports.{admin_port, admin_port_member, end_port, may_end, named_port, net_port, net_port_by, number_of, one_port, port_name, port_range, port_value, port_value_by, protocol}
 use Rattle.np_policies.specs.SelectorMeaning.{all_items, items_at}
-use Rattle.np_policies.specs.Selectors.{expression, fitting, has_other, is_key, key, op_named, selector}
-use Rattle.np_policies.specs.WellFormed.{if_there, is_well_admin_port, is_well_block, is_well_cidr, is_well_net_port, is_well_selector, is_worded}
-use Rattle.np_policies.specs.declared.admin_policy.AdminPort.{AdminPort}
-use Rattle.np_policies.specs.declared.admin_policy.AdminPort.TheVariants as admin
+use Rattle.np_policies.specs.Selectors.{expression, fitting, has_other, key, op_named, selector}
+use Rattle.np_model.specs.WellPolicies.{if_there, is_well_admin_port, is_well_block, is_well_cidr, is_well_net_port, is_well_selector, is_worded}
+use Rattle.np_model.specs.declared.admin_policy.AdminPort.{AdminPort}
+use Rattle.np_model.specs.declared.admin_policy.AdminPort.TheVariants as admin
 use Rattle.np_policies.specs.declared.ip_block_shape.IpBlock.{IpBlock}
 use Rattle.np_policies.specs.declared.net_port_shape.PortValue.{PortValue}
 use Rattle.np_policies.specs.declared.net_port_shape.PortValue.TheVariants.{Number, Name}
-use Rattle.np_policies.specs.declared.network_policy.NetPort.{NetPort}
+use Rattle.np_model.specs.declared.network_policy.NetPort.{NetPort}
 
 -- ---- tests
 

@@ -5,7 +5,7 @@ use Rattle.serde_json.specs.Data.{Data}
 use Rattle.np_json.specs.Meta.{namespace, namespaced_name, or_default}
 use Rattle.np_json.specs.Scalars as scalars
 use Rattle.np_json.specs.Shapes.{◌>>◌, listed, must_be_object, optional, refuse_if, required}
-use Rattle.np_json.specs.Words.{is_name}
+use Rattle.np_model.specs.Words.{is_name}
 use Rattle.np_json.specs.declared.fault.FaultKind.TheVariants.{BadName, PeerShape}
 use Rattle.np_json.specs.declared.meta.NamespacedName.{NamespacedName}
 use Rattle.np_labels.specs.declared.selector.Selector.{Selector}
@@ -15,14 +15,14 @@ use Rattle.np_policies.specs.Blocks.{ip_block}
 use Rattle.np_policies.specs.NetworkPolicies.{empty_spec, has_direction, is_misshapen, net_peer, net_peer_by, net_policy, net_policy_by, net_rule, net_rules, net_spec, peers_member, policy_type, rules_if, rules_member}
 use Rattle.np_policies.specs.Ports.{net_port}
 use Rattle.np_policies.specs.Selectors.{everything, selector}
-use Rattle.np_policies.specs.WellFormed.{if_there, is_well_block, is_well_net_peer, is_well_net_policy, is_well_net_port, is_well_net_rule, is_well_selector}
-use Rattle.np_policies.specs.declared.direction.Direction.{Direction}
-use Rattle.np_policies.specs.declared.direction.Direction.TheVariants.{Ingress, Egress}
+use Rattle.np_model.specs.WellPolicies.{if_there, is_well_block, is_well_net_peer, is_well_net_policy, is_well_net_port, is_well_net_rule, is_well_selector}
+use Rattle.np_model.specs.declared.direction.Direction.{Direction}
+use Rattle.np_model.specs.declared.direction.Direction.TheVariants.{Ingress, Egress}
 use Rattle.np_policies.specs.declared.ip_block_shape.IpBlock.{IpBlock}
 use Rattle.np_policies.specs.declared.net_policy_shape.NetSpec.{NetSpec}
-use Rattle.np_policies.specs.declared.network_policy.NetPeer.{NetPeer}
-use Rattle.np_policies.specs.declared.network_policy.NetPolicy.{NetPolicy}
-use Rattle.np_policies.specs.declared.network_policy.NetRule.{NetRule}
+use Rattle.np_model.specs.declared.network_policy.NetPeer.{NetPeer}
+use Rattle.np_model.specs.declared.network_policy.NetPolicy.{NetPolicy}
+use Rattle.np_model.specs.declared.network_policy.NetRule.{NetRule}
 
 -- ---- names
 

@@ -10,7 +10,8 @@ use Rattle.np_policies.proofs.ReadLemmas.{bind-output, under-output}
 use Rattle.np_policies.specs.AdminPolicies.{admin_policy, base_policy}
 use Rattle.np_policies.specs.NetworkPolicies.{net_policy}
 use Rattle.np_policies.specs.Policies.{kind_of, policy_by, policy_of}
-use Rattle.np_policies.specs.WellFormed.{if_there, is_well_policy}
+use Rattle.np_model.specs.WellPolicies.{if_there}
+use Rattle.np_policies.specs.WellFormed.{is_well_policy}
 use Rattle.np_policies.specs.declared.policy.Policy.{Policy}
 use Rattle.np_policies.specs.declared.policy.Policy.TheVariants as policy
 use Rattle.np_policies.specs.declared.policy_shape.PolicyKind.{PolicyKind}

@@ -12,14 +12,14 @@ use Rattle.np_labels.specs.declared.selector.Selector.{Selector}
 use Rattle.np_policies.specs.Blocks.{ip_block}
 use Rattle.np_policies.specs.Ports.{net_port}
 use Rattle.np_policies.specs.Selectors.{selector, everything}
-use Rattle.np_policies.specs.declared.direction.Direction.{Direction}
-use Rattle.np_policies.specs.declared.direction.Direction.TheVariants.{Ingress, Egress}
+use Rattle.np_model.specs.declared.direction.Direction.{Direction}
+use Rattle.np_model.specs.declared.direction.Direction.TheVariants.{Ingress, Egress}
 use Rattle.np_policies.specs.declared.ip_block_shape.IpBlock.{IpBlock}
 use Rattle.np_policies.specs.declared.net_policy_shape.NetSpec.{NetSpec}
-use Rattle.np_policies.specs.declared.network_policy.NetPeer.{NetPeer}
-use Rattle.np_policies.specs.declared.network_policy.NetPeer.TheVariants.{Pods, Block}
-use Rattle.np_policies.specs.declared.network_policy.NetPolicy.{NetPolicy}
-use Rattle.np_policies.specs.declared.network_policy.NetRule.{NetRule}
+use Rattle.np_model.specs.declared.network_policy.NetPeer.{NetPeer}
+use Rattle.np_model.specs.declared.network_policy.NetPeer.TheVariants.{Pods, Block}
+use Rattle.np_model.specs.declared.network_policy.NetPolicy.{NetPolicy}
+use Rattle.np_model.specs.declared.network_policy.NetRule.{NetRule}
 
 -- the member of a rule that lists the other ends
 abbrev pub peers_member : Direction → List ℕ

@@ -14,8 +14,8 @@ use Rattle.np_policies.specs.NetworkPolicies.{net_peer}
 use Rattle.np_policies.specs.Ports.{net_port}
 use Rattle.np_policies.specs.SelectorMeaning.{any_item, is_text, items_at, text_at}
 use Rattle.np_policies.specs.Selectors.{selector}
-use Rattle.np_policies.specs.declared.network_policy.NetPolicy.{NetPolicy}
-use Rattle.np_policies.specs.declared.network_policy.NetRule.{NetRule}
+use Rattle.np_model.specs.declared.network_policy.NetPolicy.{NetPolicy}
+use Rattle.np_model.specs.declared.network_policy.NetRule.{NetRule}
 
 -- ---- members
 

@@ -8,14 +8,14 @@ use Rattle.np_conns.specs.declared.proto.Proto.TheVariants.{Tcp}
 use Rattle.np_json.specs.Members.{as_whole}
 use Rattle.np_json.specs.Scalars.{text, port, port_number}
 use Rattle.np_json.specs.Shapes.{Read, ◌>>=◌, ◌>>◌, has_member, has_one_of, must_be_object, optional, refuse, refuse_if, refuse_member_if, required}
-use Rattle.np_json.specs.Words.{is_word}
+use Rattle.np_model.specs.Words.{is_word}
 use Rattle.np_json.specs.declared.fault.FaultKind.TheVariants.{BadField, BadPort, BadProtocol}
-use Rattle.np_policies.specs.declared.admin_policy.AdminPort.{AdminPort}
-use Rattle.np_policies.specs.declared.admin_policy.AdminPort.TheVariants as admin
+use Rattle.np_model.specs.declared.admin_policy.AdminPort.{AdminPort}
+use Rattle.np_model.specs.declared.admin_policy.AdminPort.TheVariants as admin
 use Rattle.np_policies.specs.declared.net_port_shape.PortValue.{PortValue}
 use Rattle.np_policies.specs.declared.net_port_shape.PortValue.TheVariants.{Number, Name}
-use Rattle.np_policies.specs.declared.network_policy.NetPort.{NetPort}
-use Rattle.np_policies.specs.declared.network_policy.NetPort.TheVariants as net
+use Rattle.np_model.specs.declared.network_policy.NetPort.{NetPort}
+use Rattle.np_model.specs.declared.network_policy.NetPort.TheVariants as net
 
 -- a protocol that is known, else BadProtocol
 abbrev pub proto_by : Option Proto → Read Proto

@@ -6,7 +6,7 @@ use Rattle.serde_json.specs.Find.{as_object}
 use Rattle.np_json.specs.Members.{unless_null}
 use Rattle.np_json.specs.Scalars.{text, word, labels}
 use Rattle.np_json.specs.Shapes.{Read, ◌>>=◌, ◌>>◌, listed, must_be_object, optional, refuse, refuse_if, required}
-use Rattle.np_json.specs.Words.{is_word}
+use Rattle.np_model.specs.Words.{is_key, is_word}
 use Rattle.np_json.specs.declared.fault.FaultKind.TheVariants.{BadField, BadSelector}
 use Rattle.np_labels.specs.Selectors.{label_requirement, requirement_of}
 use Rattle.np_labels.specs.WellFormed.{fits}
@@ -14,10 +14,6 @@ use Rattle.np_labels.specs.declared.op.Op.{Op}
 use Rattle.np_labels.specs.declared.op.Op.TheVariants.{OneOf, NoneOf, Present, Absent}
 use Rattle.np_labels.specs.declared.requirement.Requirement.{Requirement}
 use Rattle.np_labels.specs.declared.selector.Selector.{Selector}
-
--- a text that may be the key of a label
-abbrev pub is_key : List ℕ → Bool
-is_key s = not (length s == 0) && is_word s
 
 -- the key of an expression: a word that is not empty, else BadField
 unfoldable pub key : Data → Read (List ℕ)

@@ -3,8 +3,6 @@ ghost use Rattle.serde_json.specs.View.{view};
 ghost use Rattle.np_json.specs.Shapes.{Gives};
 ghost use Rattle.np_policies.specs.AdminPolicies as shapes;
 
-use crate::admin_policy::{AdminPeer, Subject};
-use crate::direction::Direction;
 use crate::ip_block_shape::CidrText;
 use crate::net_rule_shape::peers_member;
 use crate::subject_shape::{SubjectShape, pods_member};
@@ -13,6 +11,7 @@ use np_json::{
     FaultKind, Shape, ShapeFault, has_member, has_one_of, listed, must_be_object, refuse_if,
     refuse_member_if,
 };
+use np_model::{AdminPeer, Direction, Subject};
 use serde_json::Value;
 use std::alloc::Global;
 

@@ -2,14 +2,13 @@
 ghost use Rattle.np_json.specs.Shapes.{Gives};
 ghost use Rattle.np_policies.specs.AdminPolicies as shapes;
 
-use crate::admin_policy::{AdminPolicy, AdminRule, BasePolicy, Subject};
 use crate::admin_rule_shape::{Tier, admin_rules};
-use crate::direction::Direction;
 use crate::subject_shape::SubjectShape;
 use np_base::{Seq, Text};
 use np_json::{
     FaultKind, Name, Shape, ShapeFault, must_be_object, of_type, refuse, refuse_member_if, required,
 };
+use np_model::{AdminPolicy, AdminRule, BasePolicy, Direction, Subject};
 use serde_json::Value;
 use std::alloc::Global;
 

@@ -3,12 +3,12 @@ ghost use Rattle.serde_json.specs.View.{view};
 ghost use Rattle.np_json.specs.Shapes.{Gives};
 ghost use Rattle.np_policies.specs.Ports as shapes;
 
-use crate::admin_policy::AdminPort;
 use crate::port_members::{PortName, protocol};
 use np_json::{
     FaultKind, Port, Shape, ShapeFault, has_member, has_one_of, must_be_object, refuse_if,
     refuse_member_if, required,
 };
+use np_model::AdminPort;
 use serde_json::Value;
 use std::alloc::Global;
 

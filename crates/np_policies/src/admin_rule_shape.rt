@@ -5,12 +5,11 @@ ghost use Rattle.np_json.specs.Shapes.{Gives};
 ghost use Rattle.np_policies.specs.AdminPolicies as shapes;
 
 use crate::admin_peer_shape::admin_peers;
-use crate::admin_policy::{Action, AdminRule};
 use crate::admin_port_shape::AdminPortShape;
-use crate::direction::Direction;
 use crate::net_rule_shape::rules_member;
 use np_base::Seq;
 use np_json::{FaultKind, Shape, ShapeFault, listed, must_be_object, of_type, refuse, required};
+use np_model::{Action, AdminRule, Direction};
 use serde_json::Value;
 use std::alloc::Global;
 

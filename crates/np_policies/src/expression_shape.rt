@@ -2,14 +2,16 @@
 ghost use Rattle.std.specs.Prelude.{◌≡◌};
 ghost use Rattle.np_json.specs.Shapes.{Gives};
 ghost use Rattle.np_labels.specs.WellFormed as labels;
+ghost use Rattle.np_model.specs.Words.{is_key};
 ghost use Rattle.np_policies.specs.Selectors as shapes;
 
 use np_base::Text;
 use np_json::{
-    AnyText, FaultKind, Shape, ShapeFault, Word, is_word, listed, must_be_object, of_type, refuse,
+    AnyText, FaultKind, Shape, ShapeFault, Word, listed, must_be_object, of_type, refuse,
     refuse_if, required,
 };
 use np_labels::{Op, Requirement};
+use np_model::is_word;
 use serde_json::Value;
 use std::alloc::Global;
 
@@ -55,7 +57,7 @@ impl Shape for Key {
 }
 
 fn is_key(text: &str) -> bool
-    ensures { result ≡ shapes.is_key text.now }
+    ensures { result ≡ is_key text.now }
 {
     !text.is_empty() && is_word(text)
 }

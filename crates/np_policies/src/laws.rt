@@ -16,14 +16,15 @@ ghost use Rattle.np_policies.specs.PolicyMeaning.{has_egress, has_ingress, numbe
 ghost use Rattle.np_policies.specs.Ports.{net_port};
 ghost use Rattle.np_policies.specs.SelectorMeaning.{meets_members};
 ghost use Rattle.np_policies.specs.Selectors.{everything, selector};
-ghost use Rattle.np_policies.specs.WellFormed.{is_well_cidr, is_well_policy};
-ghost use Rattle.np_policies.specs.declared.admin_policy.AdminPolicy.{AdminPolicy};
-ghost use Rattle.np_policies.specs.declared.admin_policy.BasePolicy.{BasePolicy};
-ghost use Rattle.np_policies.specs.declared.direction.Direction.TheVariants.{Ingress, Egress};
-ghost use Rattle.np_policies.specs.declared.network_policy.NetPeer.TheVariants.{Pods, Block};
-ghost use Rattle.np_policies.specs.declared.network_policy.NetPolicy.{NetPolicy};
-ghost use Rattle.np_policies.specs.declared.network_policy.NetPort.{NetPort};
-ghost use Rattle.np_policies.specs.declared.network_policy.NetPort.TheVariants.{Span, Named};
+ghost use Rattle.np_model.specs.WellPolicies.{is_well_cidr};
+ghost use Rattle.np_policies.specs.WellFormed.{is_well_policy};
+ghost use Rattle.np_model.specs.declared.admin_policy.AdminPolicy.{AdminPolicy};
+ghost use Rattle.np_model.specs.declared.admin_policy.BasePolicy.{BasePolicy};
+ghost use Rattle.np_model.specs.declared.direction.Direction.TheVariants.{Ingress, Egress};
+ghost use Rattle.np_model.specs.declared.network_policy.NetPeer.TheVariants.{Pods, Block};
+ghost use Rattle.np_model.specs.declared.network_policy.NetPolicy.{NetPolicy};
+ghost use Rattle.np_model.specs.declared.network_policy.NetPort.{NetPort};
+ghost use Rattle.np_model.specs.declared.network_policy.NetPort.TheVariants.{Span, Named};
 ghost use Rattle.np_policies.specs.declared.policy.Policy.{Policy};
 ghost use Rattle.np_policies.specs.declared.policy.Policy.TheVariants.{Net, Admin, Base};
 

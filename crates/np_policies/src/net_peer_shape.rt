@@ -4,10 +4,10 @@ ghost use Rattle.serde_json.specs.View.{view};
 ghost use Rattle.np_policies.specs.NetworkPolicies as shapes;
 
 use crate::ip_block_shape::{IpBlock, IpBlockShape};
-use crate::network_policy::NetPeer;
 use crate::selector_shape::SelectorShape;
 use np_json::{FaultKind, Shape, ShapeFault, has_member, must_be_object, optional, refuse_if};
 use np_labels::Selector;
+use np_model::NetPeer;
 use serde_json::Value;
 use std::alloc::Global;
 

@@ -3,9 +3,7 @@ ghost use Rattle.std.specs.Prelude.{◌≡◌, unwrap_or};
 ghost use Rattle.std.specs.List.{list_any};
 ghost use Rattle.np_policies.specs.NetworkPolicies as shapes;
 
-use crate::direction::Direction;
 use crate::net_rule_shape::net_rules;
-use crate::network_policy::{NetPolicy, NetRule};
 use crate::selector_shape::{SelectorShape, everything, or_everything};
 use np_base::Seq;
 use np_json::{
@@ -13,6 +11,7 @@ use np_json::{
     optional, required,
 };
 use np_labels::Selector;
+use np_model::{Direction, NetPolicy, NetRule};
 use serde_json::Value;
 use std::alloc::Global;
 

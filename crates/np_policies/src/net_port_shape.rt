@@ -2,11 +2,11 @@
 ghost use Rattle.std.specs.Prelude.{◌≡◌, Some, unwrap_or};
 ghost use Rattle.np_policies.specs.Ports as shapes;
 
-use crate::network_policy::NetPort;
 use crate::port_members::{PortName, protocol};
 use np_base::{PortNum, Text};
 use np_conns::Proto;
 use np_json::{FaultKind, Port, Shape, ShapeFault, must_be_object, optional, port_of, refuse_if};
+use np_model::NetPort;
 use serde_json::Value;
 use std::alloc::Global;
 

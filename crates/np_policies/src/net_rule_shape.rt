@@ -4,12 +4,11 @@ ghost use Rattle.serde_json.specs.View.{view};
 ghost use Rattle.np_json.specs.Shapes.{Gives};
 ghost use Rattle.np_policies.specs.NetworkPolicies as shapes;
 
-use crate::direction::Direction;
 use crate::net_peer_shape::NetPeerShape;
 use crate::net_port_shape::NetPortShape;
-use crate::network_policy::NetRule;
 use np_base::Seq;
 use np_json::{Shape, ShapeFault, listed, must_be_object};
+use np_model::{Direction, NetRule};
 use serde_json::Value;
 use std::alloc::Global;
 

@@ -1,7 +1,6 @@
 //! A policy of any of the three kinds.
 
-use crate::admin_policy::{AdminPolicy, BasePolicy};
-use crate::network_policy::NetPolicy;
+use np_model::{AdminPolicy, BasePolicy, NetPolicy};
 
 /// A policy of any of the three kinds that are read.
 #[derive(Debug, Drop)]

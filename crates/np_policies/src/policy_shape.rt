@@ -4,7 +4,8 @@ ghost use Rattle.serde_json.specs.View.{view};
 ghost use Rattle.np_json.specs.Shapes.{Gives, GivesItem};
 ghost use Rattle.np_policies.specs.Policies as shapes;
 ghost use Rattle.np_policies.specs.Policies.{policy_of};
-ghost use Rattle.np_policies.specs.WellFormed.{if_there, is_well_policy};
+ghost use Rattle.np_model.specs.WellPolicies.{if_there};
+ghost use Rattle.np_policies.specs.WellFormed.{is_well_policy};
 
 use crate::admin_policy_shape::{AdminPolicyShape, BasePolicyShape};
 use crate::net_policy_shape::NetPolicyShape;

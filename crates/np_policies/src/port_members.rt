@@ -6,7 +6,8 @@ ghost use Rattle.np_policies.specs.Ports as shapes;
 
 use np_base::Text;
 use np_conns::Proto;
-use np_json::{FaultKind, Shape, ShapeFault, is_word, of_type, optional, refuse, refuse_if};
+use np_json::{FaultKind, Shape, ShapeFault, of_type, optional, refuse, refuse_if};
+use np_model::is_word;
 use serde_json::Value;
 use std::alloc::Global;
 

@@ -3,12 +3,12 @@ ghost use Rattle.serde_json.specs.View.{view};
 ghost use Rattle.np_json.specs.Shapes.{Gives};
 ghost use Rattle.np_policies.specs.AdminPolicies as shapes;
 
-use crate::admin_policy::Subject;
 use crate::selector_shape::{SelectorShape, everything};
 use np_json::{
     FaultKind, Shape, ShapeFault, has_member, has_one_of, must_be_object, refuse_if, required,
 };
 use np_labels::Selector;
+use np_model::Subject;
 use serde_json::Value;
 use std::alloc::Global;
 

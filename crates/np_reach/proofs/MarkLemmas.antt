@@ -5,8 +5,8 @@ use Rattle.std.specs.List.{flat_map, list_any, range_with_len}
 use Rattle.std.specs.Option.{option_map}
 use Rattle.std.proofs.lemmas.List.{append_assoc, map-append, take_more}
 use Rattle.std.proofs.lemmas.Option.{slice_get-map}
-use Rattle.np_estate.specs.declared.lists.EstateLists.{EstateLists}
-use Rattle.np_policies.specs.declared.direction.Direction.{Direction}
+use Rattle.np_model.specs.declared.lists.EstateLists.{EstateLists}
+use Rattle.np_model.specs.declared.direction.Direction.{Direction}
 use Rattle.np_reach.specs.Marks.{IsSpoken, speaks_at}
 use Rattle.np_reach.specs.Reach.{admin_reaches, has_place, may_at, may_reach, net_reaches, reach_of}
 use Rattle.np_reach.specs.declared.spoken.Marks.{Marks}

@@ -7,15 +7,15 @@ use Rattle.std.specs.Str.{bytes_eq}
 use Rattle.np_addr.specs.declared.address.Family.{Family}
 use Rattle.np_addr.specs.declared.address.Family.TheVariants.{Four, Six}
 use Rattle.np_labels.specs.Selectors.{meets_selector}
-use Rattle.np_policies.specs.declared.admin_policy.AdminPeer.{AdminPeer}
-use Rattle.np_policies.specs.declared.admin_policy.AdminPeer.TheVariants as admin
-use Rattle.np_policies.specs.declared.admin_policy.AdminPolicy.{AdminPolicy}
-use Rattle.np_policies.specs.declared.admin_policy.AdminRule.{AdminRule}
-use Rattle.np_policies.specs.declared.direction.Direction.{Direction}
-use Rattle.np_policies.specs.declared.network_policy.NetPeer.{NetPeer}
-use Rattle.np_policies.specs.declared.network_policy.NetPeer.TheVariants as net
-use Rattle.np_policies.specs.declared.network_policy.NetPolicy.{NetPolicy}
-use Rattle.np_policies.specs.declared.network_policy.NetRule.{NetRule}
+use Rattle.np_model.specs.declared.admin_policy.AdminPeer.{AdminPeer}
+use Rattle.np_model.specs.declared.admin_policy.AdminPeer.TheVariants as admin
+use Rattle.np_model.specs.declared.admin_policy.AdminPolicy.{AdminPolicy}
+use Rattle.np_model.specs.declared.admin_policy.AdminRule.{AdminRule}
+use Rattle.np_model.specs.declared.direction.Direction.{Direction}
+use Rattle.np_model.specs.declared.network_policy.NetPeer.{NetPeer}
+use Rattle.np_model.specs.declared.network_policy.NetPeer.TheVariants as net
+use Rattle.np_model.specs.declared.network_policy.NetPolicy.{NetPolicy}
+use Rattle.np_model.specs.declared.network_policy.NetRule.{NetRule}
 use Rattle.np_reach.specs.Reach.{admin_reaches, admin_rule_reaches, net_reaches}
 use Rattle.np_rules.proofs.KeptLemmas.{none_quieter, quieter}
 use Rattle.np_rules.specs.Ends.{PodEnd, pod}

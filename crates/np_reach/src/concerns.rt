@@ -3,8 +3,7 @@ ghost use Rattle.std.specs.Prelude.{◌≡◌};
 ghost use Rattle.np_reach.specs.Namespaces as spec;
 ghost use Rattle.np_rules.specs.Ends.{pod_end};
 
-use np_estate::Pod;
-use np_policies::{Action, AdminPeer, AdminRule, NetPeer, NetRule};
+use np_model::{Action, AdminPeer, AdminRule, NetPeer, NetRule, Pod};
 
 /// Whether a rule of a NetworkPolicy of this namespace may speak of pods of a pod's namespace.
 pub(crate) fn net_rule_concerns(namespace: &str, rule: &NetRule, one: &Pod) -> bool

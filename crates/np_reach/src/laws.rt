@@ -1,7 +1,7 @@
 //! What follows from the definitions. Each law is the contract of a call that does nothing.
 ghost use Rattle.std.specs.Prelude.{◌≡◌, false};
-ghost use Rattle.np_estate.specs.declared.lists.EstateLists.{EstateLists};
-ghost use Rattle.np_policies.specs.declared.direction.Direction.{Direction};
+ghost use Rattle.np_model.specs.declared.lists.EstateLists.{EstateLists};
+ghost use Rattle.np_model.specs.declared.direction.Direction.{Direction};
 ghost use Rattle.np_reach.specs.Reach.{may_reach};
 ghost use Rattle.np_rules.specs.Ends.{Contact, PodEnd};
 ghost use Rattle.np_rules.specs.Sides.{side_allows};

@@ -1,15 +1,14 @@
 //! Policies whose rules may allow.
 ghost use Rattle.std.specs.Prelude.{◌≡◌, Bool, false, ◌&&◌, ◌||◌};
 ghost use Rattle.std.specs.List.{list_any};
-ghost use Rattle.np_policies.specs.declared.direction.Direction.{Direction};
+ghost use Rattle.np_model.specs.declared.direction.Direction.{Direction};
 ghost use Rattle.np_reach.specs.Reach as spec;
 ghost use Rattle.np_reach.specs.Namespaces.{AreOfOneNamespace};
 ghost use Rattle.np_rules.specs.Ends.{End, PodEnd, pod, pod_end};
 
 use crate::concerns::{admin_rule_concerns, net_rule_concerns};
 use np_addr::Family;
-use np_estate::Pod;
-use np_policies::{Action, AdminPolicy, AdminRule, Direction, NetPolicy};
+use np_model::{Action, AdminPolicy, AdminRule, Direction, NetPolicy, Pod};
 use np_rules::{
     admin_policy_selects, admin_rule_reaches, admin_rules_of, net_policy_selects, net_rule_reaches,
     net_rules_of,

@@ -9,8 +9,7 @@ ghost use Rattle.np_rules.specs.Ends.{pod, pod_end};
 use crate::speaker::Speaker;
 use crate::stretches::Stretch;
 use np_base::{NoMemory, Seq};
-use np_estate::Pod;
-use np_policies::Direction;
+use np_model::{Direction, Pod};
 use std::alloc::Global;
 
 /// Which of the pods of a stretch are spoken of. The first of them stands at this place among all pods.

@@ -6,7 +6,7 @@ ghost use Rattle.np_reach.specs.Stretches.{FollowOneAnother, IsStretch};
 ghost use Rattle.np_rules.specs.Ends.{pod_end};
 
 use np_base::NoMemory;
-use np_estate::Pod;
+use np_model::Pod;
 use std::alloc::Global;
 
 /// Pods of the namespace of one of them, so that what a policy may say of that namespace is asked once for all. The first

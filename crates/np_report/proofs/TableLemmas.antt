@@ -4,9 +4,9 @@ use Rattle.std.specs.List.{flat_map, range_with_len}
 use Rattle.np_addr.specs.declared.address.Family.{Family}
 use Rattle.np_addr.specs.declared.address.Family.TheVariants.{Four, Six}
 use Rattle.np_conns.specs.Conns.{Conns}
-use Rattle.np_estate.specs.Families.{same_family}
-use Rattle.np_policies.specs.declared.direction.Direction.{Direction}
-use Rattle.np_policies.specs.declared.direction.Direction.TheVariants.{Egress, Ingress}
+use Rattle.np_model.specs.Families.{same_family}
+use Rattle.np_model.specs.declared.direction.Direction.{Direction}
+use Rattle.np_model.specs.declared.direction.Direction.TheVariants.{Egress, Ingress}
 use Rattle.np_report.specs.TableText.{AreSameTables, SayTheSame, is_shown, list_text, shown, texts_of}
 use Rattle.np_report.specs.Forms.{report_text}
 use Rattle.np_report.specs.declared.query.Query.{Query}
@@ -18,8 +18,8 @@ use Rattle.np_table.specs.Rows.{address_row, address_rows, all_address_rows, all
 use Rattle.np_table.specs.Table.{Table}
 use Rattle.np_table.specs.declared.rows.Row.{Row}
 use Rattle.np_table.specs.declared.rows.RowKey.{RowKey}
-use Rattle.np_words.specs.declared.format.Format.{Format}
-use Rattle.np_words.specs.declared.report.Report.{Report}
+use Rattle.np_args.specs.declared.format.Format.{Format}
+use Rattle.np_args.specs.declared.report.Report.{Report}
 
 -- lists that are joined for each number of a range are those of another function that agrees there
 flat_map-agrees : {Y : Type 0} (f g : ℕ → List Y) (from count : ℕ) → ((n : ℕ) → from ≤ n → n < from + count → f n ≡ g n) → flat_map f (range_with_len from count) ≡ flat_map g (range_with_len from count)

@@ -8,8 +8,8 @@ use Rattle.np_table.specs.declared.rows.AddressSpan.TheVariants as span
 use Rattle.np_table.specs.declared.rows.RowEnd.{RowEnd}
 use Rattle.np_table.specs.declared.rows.RowEnd.TheVariants.{Controller, Span, Work}
 use Rattle.np_table.specs.declared.rows.RowKey.{RowKey}
-use Rattle.np_words.specs.declared.focus_side.FocusSide.{FocusSide}
-use Rattle.np_words.specs.declared.focus_side.FocusSide.TheVariants.{Destination, Either, Source}
+use Rattle.np_args.specs.declared.focus_side.FocusSide.{FocusSide}
+use Rattle.np_args.specs.declared.focus_side.FocusSide.TheVariants.{Destination, Either, Source}
 
 -- ---- what a query keeps
 
@@ -39,6 +39,6 @@ pub record IsKey (key : RowKey) : Type 0 where
 
 -- A closure that takes and gives so may be called on every key whose numbers are within their types, and answers there
 -- whether the query keeps it.
-pub record Tells (takes : Bor RowKey → Type 0) (gives : Bor RowKey → Bool → Type 0) (query : Query) : Type 0 where
+pub record DecidesRows (takes : Bor RowKey → Type 0) (gives : Bor RowKey → Bool → Type 0) (query : Query) : Type 0 where
   pub taken : (key : Bor RowKey) → IsKey key.now → takes key
   pub given : (key : Bor RowKey) (answer : Bool) → IsKey key.now → gives key answer → answer ≡ keeps query key.now

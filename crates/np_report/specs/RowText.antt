@@ -17,8 +17,8 @@ use Rattle.np_table.specs.declared.rows.AddressSpan.TheVariants as span
 use Rattle.np_table.specs.declared.rows.Row.{Row}
 use Rattle.np_table.specs.declared.rows.RowEnd.{RowEnd}
 use Rattle.np_table.specs.declared.rows.RowEnd.TheVariants.{Work, Span, Controller}
-use Rattle.np_words.specs.declared.report.Report.{Report}
-use Rattle.np_words.specs.declared.report.Report.TheVariants.{One, Two}
+use Rattle.np_args.specs.declared.report.Report.{Report}
+use Rattle.np_args.specs.declared.report.Report.TheVariants.{One, Two}
 
 -- ---- ranges of addresses
 
@@ -48,10 +48,10 @@ end_text names report (Span addresses) = span_text report addresses
 end_text names report Controller = codes "{ingress-controller}"
 
 -- the mark of a row that is of one family of two
-abbrev pub mark_text : Option Family → List ℕ
-mark_text None = []
-mark_text (Some Four) = codes " (IPv4)"
-mark_text (Some Six) = codes " (IPv6)"
+abbrev pub family_suffix : Option Family → List ℕ
+family_suffix None = []
+family_suffix (Some Four) = codes " (IPv4)"
+family_suffix (Some Six) = codes " (IPv6)"
 
 -- the names of the workloads of a folding
 abbrev pub names_of : Folding → List (List ℕ)
@@ -61,6 +61,6 @@ names_of folding = map (λ one. one.name) folding.workloads
 unfoldable pub row_text : List (List ℕ) → Report → Row → RowText
 row_text names report row = record {
   source = end_text names report row.key.source;
-  destination = end_text names report row.key.destination ++ mark_text row.family;
+  destination = end_text names report row.key.destination ++ family_suffix row.family;
   connections = conns_text (has_spot row.conns);
 }

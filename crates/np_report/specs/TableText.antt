@@ -2,8 +2,8 @@
 use Rattle.std.specs.Prelude.{◌≡◌, ℕ, ◌<◌, ◌^◌, List, [], ◌∷◌, Bool, true, filter, length, map}
 use Rattle.np_addr.specs.Addresses.{width_of}
 use Rattle.np_addr.specs.declared.address.Family.{Family}
-use Rattle.np_estate.specs.Families.{same_family}
-use Rattle.np_policies.specs.declared.direction.Direction.{Direction}
+use Rattle.np_model.specs.Families.{same_family}
+use Rattle.np_model.specs.declared.direction.Direction.{Direction}
 use Rattle.np_report.specs.Forms.{Form, report_text, text_to_come}
 use Rattle.np_report.specs.Keeps.{keeps}
 use Rattle.np_report.specs.RowText.{row_text}
@@ -13,8 +13,8 @@ use Rattle.np_routes.specs.ClusterTable.{ClusterTable, cluster_rows}
 use Rattle.np_table.specs.Said.{AllowSamePorts}
 use Rattle.np_table.specs.Table.{Table}
 use Rattle.np_table.specs.declared.rows.Row.{Row}
-use Rattle.np_words.specs.declared.format.Format.{Format}
-use Rattle.np_words.specs.declared.report.Report.{Report}
+use Rattle.np_args.specs.declared.format.Format.{Format}
+use Rattle.np_args.specs.declared.report.Report.{Report}
 
 -- ---- the text
 

@@ -1,6 +1,6 @@
 //! A query, and what answers for it.
 ghost use Rattle.std.specs.Prelude.{◌≡◌, ◌≤◌};
-ghost use Rattle.np_report.specs.Keeps.{IsEnd, Tells, keeps};
+ghost use Rattle.np_report.specs.Keeps.{IsEnd, DecidesRows, keeps};
 
 use crate::query::Query;
 use np_base::{Point, Range};
@@ -12,13 +12,13 @@ use np_table::{AddressSpan, RowEnd, RowKey};
 pub struct Focus {
     pub query: Query,
     keep: Box<dyn Fn(&RowKey) -> bool>,
-    ghost told: { Tells (pre keep) (post keep) query },
+    ghost told: { DecidesRows (pre keep) (post keep) query },
 }
 
 impl Focus {
     /// A query with a closure that answers, of every key whose numbers are within their types, whether the query keeps it.
     pub fn new(query: Query, keep: Box<dyn Fn(&RowKey) -> bool>) -> Focus
-        requires { Tells (pre keep) (post keep) query }
+        requires { DecidesRows (pre keep) (post keep) query }
         ensures { result.query ≡ query }
     {
         Focus { query, keep }
@@ -34,7 +34,7 @@ impl Focus {
     }
 }
 
-// Tells that the numbers of an end are within their types, as each number tells of itself where it is read.
+// DecidesRows that the numbers of an end are within their types, as each number tells of itself where it is read.
 fn look_at(end: &RowEnd)
     ensures { IsEnd end.now }
 {

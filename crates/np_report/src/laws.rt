@@ -3,8 +3,8 @@ ghost use Rattle.std.specs.Prelude.{◌≡◌};
 ghost use Rattle.np_report.specs.TableText.{SayTheSame, list_text};
 ghost use Rattle.np_report.specs.declared.query.Query.{Query};
 ghost use Rattle.np_routes.specs.ClusterTable.{ClusterTable};
-ghost use Rattle.np_words.specs.declared.format.Format.{Format};
-ghost use Rattle.np_words.specs.declared.report.Report.{Report};
+ghost use Rattle.np_args.specs.declared.format.Format.{Format};
+ghost use Rattle.np_args.specs.declared.report.Report.{Report};
 
 /// Tables of clusters with the same names and families, where the same passes, have one text for each query, format and
 /// report, whatever they were made of.

@@ -2,8 +2,8 @@
 ghost use Rattle.std.specs.Prelude.{◌≡◌};
 ghost use Rattle.np_report.specs.Keeps as spec;
 
+use np_args::FocusSide;
 use np_table::{RowEnd, RowKey};
-use np_words::FocusSide;
 
 /// Which rows of a table are asked for.
 #[derive(Clone, Copy, Debug, PartialEq, Eq)]

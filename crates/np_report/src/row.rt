@@ -4,11 +4,11 @@ ghost use Rattle.np_report.specs.RowText as spec;
 
 use crate::spans::span_text;
 use np_addr::Family;
+use np_args::Report;
 use np_base::{NoMemory, Text};
 use np_conns::print_conns;
 use np_fold::Workloads;
 use np_table::{Row, RowEnd};
-use np_words::Report;
 use std::alloc::Global;
 
 /// The three texts of a row of a report.
@@ -66,14 +66,21 @@ fn name_of(workloads: &Workloads, number: u32) -> &str
     }
 }
 
-// A text with the mark of a family behind it, where there is one.
+// A text with the suffix of a family behind it, where there is one.
 fn marked(alloc: Global, text: Text, family: Option<Family>) -> Result<Text, NoMemory>
-    ensures { IfOk result (λ made. made ≡ text ++ spec.mark_text family) }
+    ensures { IfOk result (λ made. made ≡ text ++ spec.family_suffix family) }
 {
-    let mark = match family {
+    let suffix = family_suffix(family);
+    Ok(Text::from_string(format!(in alloc; "{text}{suffix}")?))
+}
+
+/// What follows an end where a line speaks of one family alone: ` (IPv4)`, ` (IPv6)`, or nothing where it speaks of both.
+pub fn family_suffix(family: Option<Family>) -> &'static str
+    ensures { result.now ≡ spec.family_suffix family }
+{
+    match family {
         Some(Family::Four) => " (IPv4)",
         Some(Family::Six) => " (IPv6)",
-        None => return Ok(text),
-    };
-    Ok(Text::from_string(format!(in alloc; "{text}{mark}")?))
+        None => "",
+    }
 }

@@ -6,10 +6,10 @@ ghost use Rattle.np_addr.specs.Prefixes.{prefixes_of};
 ghost use Rattle.np_report.specs.RowText as spec;
 
 use np_addr::{AddrSet, Address, Cidr, prefixes, print_address, print_cidr};
+use np_args::Report;
 use np_base::{Beside, NoMemory, Point, Range, Text};
 use np_sets::{Cells, IntervalSet};
 use np_table::AddressSpan;
-use np_words::Report;
 use std::alloc::Global;
 
 // The text of a range, as the report says: by its ends, or by its blocks.

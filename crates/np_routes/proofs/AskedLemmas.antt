@@ -9,8 +9,8 @@ use Rattle.std.specs.List.{list_any, slice_get}
 use Rattle.std.specs.Option.{option_map}
 use Rattle.np_conns.specs.Conns.{same_proto}
 use Rattle.np_conns.specs.declared.proto.Proto.TheVariants.{Tcp}
-use Rattle.np_objects.specs.declared.service.PortName.{PortName}
-use Rattle.np_objects.specs.declared.service.ServiceItem.{ServiceItem}
+use Rattle.np_model.specs.declared.service.PortName.{PortName}
+use Rattle.np_model.specs.declared.service.ServiceItem.{ServiceItem}
 use Rattle.np_routes.proofs.AnyLemmas.{and-or, and_false, list_any-none, list_any-or, list_any-set}
 use Rattle.np_routes.proofs.PortSetLemmas.{own-added, own-none}
 use Rattle.np_routes.proofs.TargetLemmas.{through-served, through-unserved}

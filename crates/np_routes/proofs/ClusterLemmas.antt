@@ -10,11 +10,11 @@ use Rattle.np_base.specs.declared.range.Range.{Range}
 use Rattle.np_conns.specs.Conns.{Conns, has_spot, is_spot, ranges_of}
 use Rattle.np_conns.specs.declared.port_spot.PortSpot.{PortSpot}
 use Rattle.np_conns.specs.declared.proto.Proto.TheVariants.{Tcp, Udp, Sctp}
-use Rattle.np_estate.specs.Lawful.{IsLawful}
-use Rattle.np_estate.specs.declared.lists.EstateLists.{EstateLists}
+use Rattle.np_model.specs.Lawful.{IsLawful}
+use Rattle.np_model.specs.declared.lists.EstateLists.{EstateLists}
 use Rattle.np_fold.specs.Workloads.{Folding, Workload, folding_of, number_of}
-use Rattle.np_policies.specs.declared.direction.Direction.{Direction}
-use Rattle.np_policies.specs.declared.direction.Direction.TheVariants.{Ingress, Egress}
+use Rattle.np_model.specs.declared.direction.Direction.{Direction}
+use Rattle.np_model.specs.declared.direction.Direction.TheVariants.{Ingress, Egress}
 use Rattle.np_routes.proofs.ReachedLemmas.{number-workload, reaches-allows}
 use Rattle.np_routes.specs.ClusterTable.{ClusterTable, all_ingress_rows, cluster_rows, cluster_table, ingress_key, ingress_row, is_from_controller, is_ingress_controller, rows_from_controller}
 use Rattle.np_routes.specs.Controllers.{ingress_allows, ingress_reaches, is_controller, sender_of}

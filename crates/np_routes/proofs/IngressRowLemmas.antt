@@ -6,9 +6,9 @@ use Rattle.std.specs.Option.{option_to_list}
 use Rattle.std.proofs.lemmas.Bool.{false_from_ne_true, true≢false}
 use Rattle.np_conns.specs.Conns.{Conns, IsConns, has_spot}
 use Rattle.np_conns.specs.declared.port_spot.PortSpot.{PortSpot}
-use Rattle.np_estate.specs.declared.lists.EstateLists.{EstateLists}
+use Rattle.np_model.specs.declared.lists.EstateLists.{EstateLists}
 use Rattle.np_fold.specs.Workloads.{folding_of}
-use Rattle.np_policies.specs.declared.direction.Direction.TheVariants.{Egress, Ingress}
+use Rattle.np_model.specs.declared.direction.Direction.TheVariants.{Egress, Ingress}
 use Rattle.np_routes.proofs.ClusterLemmas.{cluster-names, has_spot-nothing}
 use Rattle.np_routes.specs.ClusterTable.{ClusterTable, all_ingress_rows, cluster_rows, cluster_table, ingress_key, ingress_row}
 use Rattle.np_routes.specs.Controllers.{ingress_allows, ingress_steps}

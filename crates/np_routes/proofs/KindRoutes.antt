@@ -10,24 +10,24 @@ use Rattle.np_addr.specs.declared.address.Family.TheVariants.{Four}
 use Rattle.np_conns.specs.Conns.{same_proto}
 use Rattle.np_conns.specs.declared.port_spot.PortSpot.{PortSpot}
 use Rattle.np_conns.specs.declared.proto.Proto.TheVariants.{Tcp}
-use Rattle.np_estate.specs.Families.{families_of}
-use Rattle.np_estate.specs.Lawful.{AgreeOnNamespace, IsLawful}
-use Rattle.np_estate.specs.declared.lists.EstateLists.{EstateLists}
-use Rattle.np_estate.specs.declared.pod.Pod.{Pod}
+use Rattle.np_model.specs.Families.{families_of}
+use Rattle.np_model.specs.Lawful.{AgreeOnNamespace, IsLawful}
+use Rattle.np_model.specs.declared.lists.EstateLists.{EstateLists}
+use Rattle.np_model.specs.declared.pod.Pod.{Pod}
 use Rattle.np_fold.proofs.WorkloadLemmas.{one_workload}
 use Rattle.np_fold.specs.Alike.{IsSameKind}
 use Rattle.np_fold.specs.Keys.{keys_of_admin_policy, keys_of_baseline, keys_of_estate, keys_of_net_policy, keys_of_optional, keys_of_service}
 use Rattle.np_fold.specs.Workloads.{number_of}
 use Rattle.np_labels.specs.Selectors.{meets_selector}
 use Rattle.np_labels.specs.declared.selector.Selector.{Selector}
-use Rattle.np_objects.specs.declared.ingress.Backend.{Backend}
-use Rattle.np_objects.specs.declared.ingress.Backend.TheVariants as backend
-use Rattle.np_objects.specs.declared.named_port.NamedPort.{NamedPort}
-use Rattle.np_objects.specs.declared.service.PortName.{PortName}
-use Rattle.np_objects.specs.declared.service.PortName.TheVariants.{Number, Named}
-use Rattle.np_objects.specs.declared.service.ServiceItem.{ServiceItem}
-use Rattle.np_objects.specs.declared.service.ServicePort.{ServicePort}
-use Rattle.np_policies.specs.declared.direction.Direction.TheVariants.{Ingress}
+use Rattle.np_model.specs.declared.ingress.Backend.{Backend}
+use Rattle.np_model.specs.declared.ingress.Backend.TheVariants as backend
+use Rattle.np_model.specs.declared.named_port.NamedPort.{NamedPort}
+use Rattle.np_model.specs.declared.service.PortName.{PortName}
+use Rattle.np_model.specs.declared.service.PortName.TheVariants.{Number, Named}
+use Rattle.np_model.specs.declared.service.ServiceItem.{ServiceItem}
+use Rattle.np_model.specs.declared.service.ServicePort.{ServicePort}
+use Rattle.np_model.specs.declared.direction.Direction.TheVariants.{Ingress}
 use Rattle.np_routes.specs.Controllers.{any_controller, unlabelled_may_send, ingress_reaches, may_send}
 use Rattle.np_routes.specs.Routes.{Route, is_in_namespace, is_routed, leads_to, routes_in, routes_of_backend, routes_of_ingress, routes_through}
 use Rattle.np_routes.specs.Services.{is_backend_port, is_pod_port, is_service, is_target, service_named, serves}

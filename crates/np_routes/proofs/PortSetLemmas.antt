@@ -10,9 +10,9 @@ use Rattle.std.specs.Str.{bytes_eq}
 use Rattle.std.proofs.lemmas.Map.Text.{is_eq-slice_cmp}
 use Rattle.np_conns.specs.Conns.{same_proto}
 use Rattle.np_conns.specs.declared.proto.Proto.TheVariants.{Tcp}
-use Rattle.np_objects.specs.declared.service.PortName.{PortName}
-use Rattle.np_objects.specs.declared.service.PortName.TheVariants.{Number, Named}
-use Rattle.np_objects.specs.declared.service.ServicePort.{ServicePort}
+use Rattle.np_model.specs.declared.service.PortName.{PortName}
+use Rattle.np_model.specs.declared.service.PortName.TheVariants.{Number, Named}
+use Rattle.np_model.specs.declared.service.ServicePort.{ServicePort}
 use Rattle.np_routes.proofs.AnyLemmas.{bytes-swap, list_any-none, list_any-or, list_any-same, nat-swap, or-last, or-swap, or_false}
 use Rattle.np_routes.specs.Services.{is_named_by, is_pod_port}
 use Rattle.np_routes.specs.declared.port_set.PortSet.{PortSet}

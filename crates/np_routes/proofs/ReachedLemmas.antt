@@ -9,13 +9,13 @@ use Rattle.np_addr.specs.declared.address.Family.{Family}
 use Rattle.np_addr.specs.declared.address.Family.TheVariants.{Four, Six}
 use Rattle.np_conns.specs.Conns.{Conns, IsConns, has_spot, is_spot}
 use Rattle.np_conns.specs.declared.port_spot.PortSpot.{PortSpot}
-use Rattle.np_estate.specs.Families.{families_of, has_family, or_four}
-use Rattle.np_estate.specs.Lawful.{IsLawful}
-use Rattle.np_estate.specs.declared.lists.EstateLists.{EstateLists}
-use Rattle.np_estate.specs.declared.pod.Pod.{Pod}
+use Rattle.np_model.specs.Families.{families_of, has_family, or_four}
+use Rattle.np_model.specs.Lawful.{IsLawful}
+use Rattle.np_model.specs.declared.lists.EstateLists.{EstateLists}
+use Rattle.np_model.specs.declared.pod.Pod.{Pod}
 use Rattle.np_fold.proofs.WorkloadLemmas.{number-in_workloads}
 use Rattle.np_fold.specs.Workloads.{folding_of, members_of, number_of}
-use Rattle.np_policies.specs.declared.direction.Direction.TheVariants.{Egress, Ingress}
+use Rattle.np_model.specs.declared.direction.Direction.TheVariants.{Egress, Ingress}
 use Rattle.np_routes.proofs.KindRoutes.{one_workload-alike, reaches-same}
 use Rattle.np_routes.specs.Controllers.{ingress_allows, ingress_reaches, ingress_steps, is_controller, may_send, sender_of}
 use Rattle.np_routes.specs.Routes.{is_routed}

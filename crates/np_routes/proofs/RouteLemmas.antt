@@ -9,13 +9,13 @@ use Rattle.np_conns.specs.Conns.{same_proto}
 use Rattle.np_conns.specs.declared.port_spot.PortSpot.{PortSpot}
 use Rattle.np_conns.specs.declared.proto.Proto.{Proto}
 use Rattle.np_conns.specs.declared.proto.Proto.TheVariants.{Tcp, Udp, Sctp}
-use Rattle.np_estate.specs.declared.lists.EstateLists.{EstateLists}
-use Rattle.np_estate.specs.declared.placed_ingress.PlacedIngress.{PlacedIngress}
-use Rattle.np_objects.specs.declared.ingress.Backend.{Backend}
-use Rattle.np_objects.specs.declared.ingress.Backend.TheVariants as backend
-use Rattle.np_objects.specs.declared.service.PortName.{PortName}
-use Rattle.np_objects.specs.declared.service.ServiceItem.{ServiceItem}
-use Rattle.np_objects.specs.declared.service.ServicePort.{ServicePort}
+use Rattle.np_model.specs.declared.lists.EstateLists.{EstateLists}
+use Rattle.np_model.specs.declared.placed_ingress.PlacedIngress.{PlacedIngress}
+use Rattle.np_model.specs.declared.ingress.Backend.{Backend}
+use Rattle.np_model.specs.declared.ingress.Backend.TheVariants as backend
+use Rattle.np_model.specs.declared.service.PortName.{PortName}
+use Rattle.np_model.specs.declared.service.ServiceItem.{ServiceItem}
+use Rattle.np_model.specs.declared.service.ServicePort.{ServicePort}
 use Rattle.np_routes.specs.Routes.{LeadsTo, is_in_namespace, is_routed, leads_to, routes_in, routes_of_backend, routes_of_ingress, routes_through}
 use Rattle.np_routes.specs.Services.{is_backend_port, is_target, service_named, serves}
 use Rattle.np_rules.specs.Ends.{PodEnd}

@@ -10,11 +10,11 @@ use Rattle.np_conns.specs.Conns.{same_proto}
 use Rattle.np_conns.specs.declared.proto.Proto.{Proto}
 use Rattle.np_conns.specs.declared.proto.Proto.TheVariants.{Tcp, Udp, Sctp}
 use Rattle.np_labels.specs.Selectors.{meets_selector}
-use Rattle.np_objects.specs.declared.named_port.NamedPort.{NamedPort}
-use Rattle.np_objects.specs.declared.service.PortName.{PortName}
-use Rattle.np_objects.specs.declared.service.PortName.TheVariants.{Number, Named}
-use Rattle.np_objects.specs.declared.service.ServiceItem.{ServiceItem}
-use Rattle.np_objects.specs.declared.service.ServicePort.{ServicePort}
+use Rattle.np_model.specs.declared.named_port.NamedPort.{NamedPort}
+use Rattle.np_model.specs.declared.service.PortName.{PortName}
+use Rattle.np_model.specs.declared.service.PortName.TheVariants.{Number, Named}
+use Rattle.np_model.specs.declared.service.ServiceItem.{ServiceItem}
+use Rattle.np_model.specs.declared.service.ServicePort.{ServicePort}
 use Rattle.np_routes.proofs.AnyLemmas.{and_false, nat-swap, or-assoc, or_false}
 use Rattle.np_routes.proofs.PortSetLemmas.{at_pod-joined}
 use Rattle.np_routes.proofs.RouteLemmas.{through-ports}

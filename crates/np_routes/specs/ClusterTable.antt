@@ -1,7 +1,7 @@
 -- The table of a cluster: what passes between workloads, between them and addresses, and to them through ingresses.
 use Rattle.std.specs.Prelude.{ℕ, List, ◌++◌, Bool, true, false, ◌&&◌, filter, flat_map, Option, None}
 use Rattle.np_conns.specs.declared.port_spot.PortSpot.{PortSpot}
-use Rattle.np_estate.specs.declared.lists.EstateLists.{EstateLists}
+use Rattle.np_model.specs.declared.lists.EstateLists.{EstateLists}
 use Rattle.np_fold.specs.Workloads.{folding_of}
 use Rattle.np_routes.specs.Controllers.{ingress_allows}
 use Rattle.np_table.specs.Right.{conns_of}

@@ -4,10 +4,10 @@ use Rattle.std.specs.List.{list_any}
 use Rattle.std.specs.Option.{option_map_or}
 use Rattle.np_addr.specs.declared.address.Family.TheVariants.{Four}
 use Rattle.np_conns.specs.declared.port_spot.PortSpot.{PortSpot}
-use Rattle.np_estate.specs.Families.{families_of}
-use Rattle.np_estate.specs.declared.lists.EstateLists.{EstateLists}
+use Rattle.np_model.specs.Families.{families_of}
+use Rattle.np_model.specs.declared.lists.EstateLists.{EstateLists}
 use Rattle.np_fold.specs.Workloads.{Folding}
-use Rattle.np_policies.specs.declared.direction.Direction.TheVariants.{Ingress}
+use Rattle.np_model.specs.declared.direction.Direction.TheVariants.{Ingress}
 use Rattle.np_routes.specs.Routes.{is_routed}
 use Rattle.np_rules.specs.Ends.{PodEnd, contact, pod, stranger_end}
 use Rattle.np_rules.specs.PodSides.{side_rule_count}

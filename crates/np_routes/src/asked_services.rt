@@ -8,8 +8,7 @@ ghost use Rattle.np_rules.specs.Ends.{PodEnd};
 use crate::port_set::PortSet;
 use crate::services::Services;
 use np_base::NoMemory;
-use np_estate::Estate;
-use np_objects::{Backend, IngressItem, ServiceItem};
+use np_model::{Backend, Estate, IngressItem, ServiceItem};
 use std::alloc::Global;
 
 /// A listed service, and the numbers and names by which backends name its ports, each once.

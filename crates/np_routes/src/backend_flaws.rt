@@ -6,8 +6,7 @@ use crate::route_note::{RouteFlaw, RouteNote};
 use crate::service_ports::ServicePorts;
 use crate::services::Services;
 use np_base::{NoMemory, Seq};
-use np_estate::{Estate, PlacedIngress};
-use np_objects::{Backend, PortName, ServiceItem};
+use np_model::{Backend, Estate, PlacedIngress, PortName, ServiceItem};
 use std::alloc::Global;
 
 /// The backends of the ingresses that lead nowhere, or not where they seem to: one note at most for each, by item and then

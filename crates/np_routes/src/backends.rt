@@ -12,7 +12,7 @@ ghost use Rattle.np_rules.specs.Verdict.{pod_at};
 use crate::asked_services::{AskedService, asked_services};
 use crate::service_targets::ServiceTargets;
 use np_base::NoMemory;
-use np_estate::{Estate, Pod};
+use np_model::{Estate, Pod};
 use std::alloc::Global;
 use std::collections::BTreeMap;
 use std::marker::Model;
@@ -26,7 +26,7 @@ pub(crate) struct Backends<'a> {
 }
 
 impl<'a> Model for Backends<'a> {
-    ghost use Rattle.np_estate.specs.declared.lists.EstateLists.{EstateLists};
+    ghost use Rattle.np_model.specs.declared.lists.EstateLists.{EstateLists};
 
     ghost Value = { EstateLists };
 

@@ -1,13 +1,13 @@
 //! Ports by their numbers and by their names.
 ghost use Rattle.std.specs.Prelude.{◌≡◌, ◌||◌, true, false, ℕ, IfOk, OnOk};
-ghost use Rattle.np_objects.specs.declared.service.PortName.{PortName};
-ghost use Rattle.np_objects.specs.declared.service.PortName.TheVariants.{Number, Named};
+ghost use Rattle.np_model.specs.declared.service.PortName.{PortName};
+ghost use Rattle.np_model.specs.declared.service.PortName.TheVariants.{Number, Named};
 ghost use Rattle.np_routes.specs.Services.{is_named_by};
 ghost use Rattle.np_routes.specs.steps.PortSets.{has_own, has_port, is_same_port};
 ghost use Rattle.np_routes.specs.steps.Targets.{has_target};
 
 use np_base::{NoMemory, PortNum};
-use np_objects::{PortName, ServicePort};
+use np_model::{PortName, ServicePort};
 use std::alloc::Global;
 use std::collections::BTreeSet;
 

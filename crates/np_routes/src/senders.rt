@@ -15,7 +15,7 @@ use np_base::{NoMemory, Seq, Text, join_all};
 use np_conns::ConnSet;
 use np_fold::Folded;
 use np_labels::{Labels, Pair};
-use np_policies::Direction;
+use np_model::Direction;
 use np_rules::{PodRules, Stranger};
 use np_steps::Steps;
 use np_table::set_between;

@@ -7,8 +7,7 @@ ghost use Rattle.np_rules.specs.Ends.{pod_end};
 use crate::port_set::PortSet;
 use np_base::NoMemory;
 use np_conns::Proto;
-use np_estate::Pod;
-use np_objects::{PortName, ServiceItem};
+use np_model::{Pod, PortName, ServiceItem};
 use std::alloc::Global;
 use std::marker::Model;
 
@@ -33,7 +32,7 @@ pub(crate) struct ServicePorts<'a> {
 }
 
 impl<'a> Model for ServicePorts<'a> {
-    ghost use Rattle.np_objects.specs.declared.service.ServiceItem.{ServiceItem};
+    ghost use Rattle.np_model.specs.declared.service.ServiceItem.{ServiceItem};
 
     ghost Value = { ServiceItem };
 

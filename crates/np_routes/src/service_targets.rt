@@ -10,7 +10,7 @@ use crate::asked_services::AskedService;
 use crate::port_set::PortSet;
 use np_base::NoMemory;
 use np_conns::Proto;
-use np_objects::{ServiceItem, ServicePort};
+use np_model::{ServiceItem, ServicePort};
 use std::alloc::Global;
 
 /// A service, and the numbers and names of container ports to which those of its TCP ports lead that backends name, each

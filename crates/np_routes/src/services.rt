@@ -5,7 +5,7 @@ ghost use Rattle.np_routes.specs.Services.{is_service, service_named};
 ghost use Rattle.np_routes.specs.steps.ServicesByName.{IsPlaceOf, place_at};
 
 use np_base::NoMemory;
-use np_objects::ServiceItem;
+use np_model::ServiceItem;
 use std::alloc::Global;
 use std::collections::BTreeMap;
 use std::marker::Model;
@@ -19,7 +19,7 @@ pub(crate) struct Services<'a> {
 
 impl<'a> Model for Services<'a> {
     ghost use Rattle.std.specs.Prelude.{List};
-    ghost use Rattle.np_objects.specs.declared.service.ServiceItem.{ServiceItem};
+    ghost use Rattle.np_model.specs.declared.service.ServiceItem.{ServiceItem};
 
     ghost Value = { List ServiceItem };
 

@@ -4,7 +4,7 @@ ghost use Rattle.std.specs.List.{list_any};
 ghost use Rattle.np_conns.specs.Conns.{IsConns, has_spot, same_proto};
 ghost use Rattle.np_conns.specs.declared.port_spot.PortSpot.{PortSpot};
 ghost use Rattle.np_conns.specs.declared.proto.Proto.TheVariants.{Tcp};
-ghost use Rattle.np_objects.specs.declared.service.PortName.TheVariants.{Number};
+ghost use Rattle.np_model.specs.declared.service.PortName.TheVariants.{Number};
 ghost use Rattle.np_routes.specs.Routes.{is_routed};
 ghost use Rattle.np_routes.specs.steps.PortSets.{at_pod, has_port, is_named_in};
 ghost use Rattle.np_routes.specs.steps.Targets.{has_target};
@@ -18,8 +18,7 @@ use crate::service_ports::serves;
 use crate::service_targets::ServiceTargets;
 use np_base::{Cells, NoMemory, PortNum};
 use np_conns::{ConnSet, Proto};
-use np_estate::Pod;
-use np_objects::NamedPort;
+use np_model::{NamedPort, Pod};
 use std::alloc::Global;
 
 /// The TCP ports to which routes lead at the pod at a place, as a set.

@@ -16,13 +16,13 @@ use Rattle.np_conns.specs.declared.port_spot.PortSpot.{PortSpot}
 use Rattle.np_pieces.specs.Pieces as pieces
 use Rattle.np_pieces.specs.declared.piece.At.{At}
 use Rattle.np_pieces.specs.declared.piece.Piece.{Piece}
-use Rattle.np_policies.specs.declared.admin_policy.AdminRule.{AdminRule}
-use Rattle.np_policies.specs.declared.direction.Direction.{Direction}
-use Rattle.np_policies.specs.declared.network_policy.NetPeer.{NetPeer}
-use Rattle.np_policies.specs.declared.network_policy.NetPeer.TheVariants as net
-use Rattle.np_policies.specs.declared.network_policy.NetRule.{NetRule}
+use Rattle.np_model.specs.declared.admin_policy.AdminRule.{AdminRule}
+use Rattle.np_model.specs.declared.direction.Direction.{Direction}
+use Rattle.np_model.specs.declared.network_policy.NetPeer.{NetPeer}
+use Rattle.np_model.specs.declared.network_policy.NetPeer.TheVariants as net
+use Rattle.np_model.specs.declared.network_policy.NetRule.{NetRule}
 use Rattle.np_rules.specs.Ends.{End, address, destination_of}
-use Rattle.np_rules.specs.EveryAddress.{Place, address_contact, address_of, admin_peer_has, has_place, is_place, net_peer_has, spot_of}
+use Rattle.np_rules.specs.EveryAddress.{AddressSpot, address_contact, address_of, admin_peer_has, has_place, is_place, net_peer_has, spot_of}
 use Rattle.np_rules.specs.Peers.{net_peer_matches}
 use Rattle.np_rules.specs.PortEntries.{admin_entry_matches, net_entry_matches}
 use Rattle.np_rules.specs.Rules.{admin_rule_matches, net_rule_matches, none_or_any}
@@ -43,7 +43,7 @@ either between true conns none spot within empty = ap (λ b. b && has_spot conns
 either between false conns none spot within empty = ap (λ b. b && has_spot none spot) within ∙ empty
 
 -- connections at some addresses and none at others
-pub has_place-over : (addresses : AddressRanges) (conns inside inside' none none' : Conns) (first second : List (Piece ℕ Conns)) → inside ≡ conns → inside' ≡ conns → ((spot : PortSpot) → has_spot none spot ≡ false) → ((spot : PortSpot) → has_spot none' spot ≡ false) → ((place : At ℕ PortSpot) → pieces.has_spot (λ a. a) has_spot first place ≡ (is_between 0 (2 ^ 32 - 1) place.point && has_spot (if holds (λ a. a) addresses.first place.point then inside else none) place.spot)) → ((place : At ℕ PortSpot) → pieces.has_spot (λ a. a) has_spot second place ≡ (is_between 0 (2 ^ 128 - 1) place.point && has_spot (if holds (λ a. a) addresses.second place.point then inside' else none') place.spot)) → (place : Place) → is_place place ≡ true → has_place (record { first = first; second = second }) place ≡ (set_has addresses (address_of place) && has_spot conns (spot_of place))
+pub has_place-over : (addresses : AddressRanges) (conns inside inside' none none' : Conns) (first second : List (Piece ℕ Conns)) → inside ≡ conns → inside' ≡ conns → ((spot : PortSpot) → has_spot none spot ≡ false) → ((spot : PortSpot) → has_spot none' spot ≡ false) → ((place : At ℕ PortSpot) → pieces.has_spot (λ a. a) has_spot first place ≡ (is_between 0 (2 ^ 32 - 1) place.point && has_spot (if holds (λ a. a) addresses.first place.point then inside else none) place.spot)) → ((place : At ℕ PortSpot) → pieces.has_spot (λ a. a) has_spot second place ≡ (is_between 0 (2 ^ 128 - 1) place.point && has_spot (if holds (λ a. a) addresses.second place.point then inside' else none') place.spot)) → (place : AddressSpot) → is_place place ≡ true → has_place (record { first = first; second = second }) place ≡ (set_has addresses (address_of place) && has_spot conns (spot_of place))
 has_place-over addresses conns inside inside' none none' first second same same' empty empty' in_first in_second (First place) within =
     in_first place
     ∙ either (is_between 0 (2 ^ 32 - 1) place.point) (holds (λ a. a) addresses.first place.point) inside none place.spot (and_parts _ _ within).0 (empty place.spot)
@@ -72,7 +72,7 @@ set_has-everything made all (Six n) below = all (Second n) ∙ between n (2 ^ 12
 -- ---- what a rule matches at an address
 
 -- a place of the space has an address and a port
-pub place_parts : (place : Place) → is_place place ≡ true → IsAddress (address_of place) × (is_spot (spot_of place) ≡ true)
+pub place_parts : (place : AddressSpot) → is_place place ≡ true → IsAddress (address_of place) × (is_spot (spot_of place) ≡ true)
 place_parts (First place) within = (below (2 ^ 32 - 1) place.point (and_parts _ _ within).0, (and_parts _ _ within).1)
   where
     below : (last n : ℕ) → is_between 0 last n ≡ true → n < last + 1
@@ -96,7 +96,7 @@ none_or_any-same f g same [] = refl
 none_or_any-same f g same (x ∷ xs) = list_any-same f g same (x ∷ xs)
 
 -- what a rule of a NetworkPolicy matches at a place: its addresses, with the spots of its port entries
-pub net_at_place : (namespace : List ℕ) (rule : NetRule) (direction : Direction) (near : End) (addresses : AddressRanges) (conns : Conns) → ((a : Address) → IsAddress a → set_has addresses a ≡ none_or_any (λ peer. net_peer_has peer a) rule.peers) → ((a : Address) (spot : PortSpot) → is_spot spot ≡ true → has_spot conns spot ≡ none_or_any (λ entry. net_entry_matches entry (destination_of direction near (address a)) spot) rule.ports) → (place : Place) → is_place place ≡ true → (set_has addresses (address_of place) && has_spot conns (spot_of place)) ≡ net_rule_matches namespace rule (address_contact direction near place)
+pub net_at_place : (namespace : List ℕ) (rule : NetRule) (direction : Direction) (near : End) (addresses : AddressRanges) (conns : Conns) → ((a : Address) → IsAddress a → set_has addresses a ≡ none_or_any (λ peer. net_peer_has peer a) rule.peers) → ((a : Address) (spot : PortSpot) → is_spot spot ≡ true → has_spot conns spot ≡ none_or_any (λ entry. net_entry_matches entry (destination_of direction near (address a)) spot) rule.ports) → (place : AddressSpot) → is_place place ≡ true → (set_has addresses (address_of place) && has_spot conns (spot_of place)) ≡ net_rule_matches namespace rule (address_contact direction near place)
 net_at_place namespace rule direction near addresses conns peers ports place within =
     let parts = place_parts place within in
     let a = address_of place in
@@ -104,7 +104,7 @@ net_at_place namespace rule direction near addresses conns peers ports place wit
     ∙ ap (λ b. none_or_any (λ peer. net_peer_matches namespace peer (address a)) rule.peers && b) (ports a (spot_of place) parts.1)
 
 -- what an admin rule matches at a place
-pub admin_at_place : (rule : AdminRule) (direction : Direction) (near : End) (addresses : AddressRanges) (conns : Conns) → ((a : Address) → IsAddress a → set_has addresses a ≡ list_any (λ peer. admin_peer_has peer a) rule.peers) → ((a : Address) (spot : PortSpot) → is_spot spot ≡ true → has_spot conns spot ≡ none_or_any (λ entry. admin_entry_matches entry (destination_of direction near (address a)) spot) rule.ports) → (place : Place) → is_place place ≡ true → (set_has addresses (address_of place) && has_spot conns (spot_of place)) ≡ admin_rule_matches rule (address_contact direction near place)
+pub admin_at_place : (rule : AdminRule) (direction : Direction) (near : End) (addresses : AddressRanges) (conns : Conns) → ((a : Address) → IsAddress a → set_has addresses a ≡ list_any (λ peer. admin_peer_has peer a) rule.peers) → ((a : Address) (spot : PortSpot) → is_spot spot ≡ true → has_spot conns spot ≡ none_or_any (λ entry. admin_entry_matches entry (destination_of direction near (address a)) spot) rule.ports) → (place : AddressSpot) → is_place place ≡ true → (set_has addresses (address_of place) && has_spot conns (spot_of place)) ≡ admin_rule_matches rule (address_contact direction near place)
 admin_at_place rule direction near addresses conns peers ports place within =
     let parts = place_parts place within in
     let a = address_of place in
@@ -114,7 +114,7 @@ admin_at_place rule direction near addresses conns peers ports place within =
 -- ---- what a rule matches that has no address
 
 -- a rule of a NetworkPolicy without addresses matches nothing
-pub net_nowhere : (namespace : List ℕ) (rule : NetRule) (direction : Direction) (near : End) (addresses : AddressRanges) → ((spot : Which ℕ ℕ) → ranges_have addresses spot ≡ false) → ((a : Address) → IsAddress a → set_has addresses a ≡ none_or_any (λ peer. net_peer_has peer a) rule.peers) → (place : Place) → is_place place ≡ true → net_rule_matches namespace rule (address_contact direction near place) ≡ false
+pub net_nowhere : (namespace : List ℕ) (rule : NetRule) (direction : Direction) (near : End) (addresses : AddressRanges) → ((spot : Which ℕ ℕ) → ranges_have addresses spot ≡ false) → ((a : Address) → IsAddress a → set_has addresses a ≡ none_or_any (λ peer. net_peer_has peer a) rule.peers) → (place : AddressSpot) → is_place place ≡ true → net_rule_matches namespace rule (address_contact direction near place) ≡ false
 net_nowhere namespace rule direction near addresses none peers place within =
     let a = address_of place in
     and_left _ _ (
@@ -123,7 +123,7 @@ net_nowhere namespace rule direction near addresses none peers place within =
     ∙ set_has-nothing addresses none a)
 
 -- nor does an admin rule
-pub admin_nowhere : (rule : AdminRule) (direction : Direction) (near : End) (addresses : AddressRanges) → ((spot : Which ℕ ℕ) → ranges_have addresses spot ≡ false) → ((a : Address) → IsAddress a → set_has addresses a ≡ list_any (λ peer. admin_peer_has peer a) rule.peers) → (place : Place) → is_place place ≡ true → admin_rule_matches rule (address_contact direction near place) ≡ false
+pub admin_nowhere : (rule : AdminRule) (direction : Direction) (near : End) (addresses : AddressRanges) → ((spot : Which ℕ ℕ) → ranges_have addresses spot ≡ false) → ((a : Address) → IsAddress a → set_has addresses a ≡ list_any (λ peer. admin_peer_has peer a) rule.peers) → (place : AddressSpot) → is_place place ≡ true → admin_rule_matches rule (address_contact direction near place) ≡ false
 admin_nowhere rule direction near addresses none peers place within =
     let a = address_of place in
     and_left _ _ (sym (peers a (place_parts place within).0) ∙ set_has-nothing addresses none a)

@@ -5,11 +5,11 @@ use Rattle.std.specs.Option.{option_map, option_or}
 use Rattle.std.proofs.lemmas.Bool.Decides.{nat_tests}
 use Rattle.std.proofs.lemmas.Bool.{and_parts, ltb-true}
 use Rattle.std.proofs.Math.Seq.{take-length}
-use Rattle.np_estate.specs.Lawful.{ascends, HasAscendingPriorities}
-use Rattle.np_policies.specs.declared.admin_policy.Action.{Action}
-use Rattle.np_policies.specs.declared.admin_policy.AdminPolicy.{AdminPolicy}
-use Rattle.np_policies.specs.declared.admin_policy.AdminRule.{AdminRule}
-use Rattle.np_policies.specs.declared.direction.Direction.{Direction}
+use Rattle.np_model.specs.Lawful.{ascends, HasAscendingPriorities}
+use Rattle.np_model.specs.declared.admin_policy.Action.{Action}
+use Rattle.np_model.specs.declared.admin_policy.AdminPolicy.{AdminPolicy}
+use Rattle.np_model.specs.declared.admin_policy.AdminRule.{AdminRule}
+use Rattle.np_model.specs.declared.direction.Direction.{Direction}
 use Rattle.np_rules.specs.AdminTier.{least_by, sooner, admin_precedes, admin_decider}
 use Rattle.np_rules.specs.Ends.{Contact, PodEnd}
 use Rattle.np_rules.specs.Places.{PlacedAdminRule, admin_places, admin_places_of, admin_rules_of}

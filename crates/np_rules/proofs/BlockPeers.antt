@@ -8,7 +8,7 @@ use Rattle.np_addr.specs.declared.address.Family.{Family}
 use Rattle.np_addr.specs.declared.address.Family.TheVariants as of
 use Rattle.np_addr.specs.declared.cidr.Cidr.{Cidr}
 use Rattle.np_addr.specs.declared.cidr.Cidr.TheVariants as block
-use Rattle.np_estate.specs.Families.{is_of, same_family}
+use Rattle.np_model.specs.Families.{is_of, same_family}
 use Rattle.np_rules.specs.BlockFamilies.{is_block_of, some_inside}
 use Rattle.np_rules.specs.Peers.{in_some}
 

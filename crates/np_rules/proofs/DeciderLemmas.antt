@@ -2,10 +2,10 @@
 use Rattle.std.proofs.Common.{◌≡◌, ◌≢◌, ℕ, List, [], ◌∷◌, Bool, true, false, ◌&&◌, ◌||◌, ◌==◌, nat_lt, filter, Option, Some, None, is_some, refl, sym, ◌∙◌, subst, arith, inl, inr, if◌then◌else◌}
 use Rattle.std.specs.List.{AllByRecursion, list_any}
 use Rattle.std.proofs.lemmas.Bool.Decides.{nat_tests}
-use Rattle.np_estate.specs.declared.lists.EstateLists.{EstateLists}
-use Rattle.np_policies.specs.declared.admin_policy.Action.{Action}
-use Rattle.np_policies.specs.declared.admin_policy.Action.TheVariants.{Allow, Deny, Pass}
-use Rattle.np_policies.specs.declared.direction.Direction.{Direction}
+use Rattle.np_model.specs.declared.lists.EstateLists.{EstateLists}
+use Rattle.np_model.specs.declared.admin_policy.Action.{Action}
+use Rattle.np_model.specs.declared.admin_policy.Action.TheVariants.{Allow, Deny, Pass}
+use Rattle.np_model.specs.declared.direction.Direction.{Direction}
 use Rattle.np_rules.specs.AdminTier.{admin_decider, admin_precedes, least_by, sooner}
 use Rattle.np_rules.specs.BaseTier.{base_decider}
 use Rattle.np_rules.specs.Deciders.{action_decides, admin_decides, admin_rule_name, base_decides, decider, decider_allows, isolating_names, lower_decider, net_decider, net_decides, net_precedes}

@@ -5,16 +5,16 @@ use Rattle.std.specs.Str.{bytes_eq}
 use Rattle.std.proofs.lemmas.Bool.{and_parts}
 use Rattle.std.proofs.lemmas.List.{map-append}
 use Rattle.std.proofs.lemmas.Slice.Eq.{bytes_eq-Decides}
-use Rattle.np_estate.specs.Lawful.{HasAscendingPriorities}
-use Rattle.np_estate.specs.declared.lists.EstateLists.{EstateLists}
+use Rattle.np_model.specs.Lawful.{HasAscendingPriorities}
+use Rattle.np_model.specs.declared.lists.EstateLists.{EstateLists}
 use Rattle.np_labels.specs.Selectors.{meets_selector}
-use Rattle.np_policies.specs.declared.admin_policy.Action.{Action}
-use Rattle.np_policies.specs.declared.admin_policy.Action.TheVariants as policy
-use Rattle.np_policies.specs.declared.admin_policy.AdminPolicy.{AdminPolicy}
-use Rattle.np_policies.specs.declared.admin_policy.AdminRule.{AdminRule}
-use Rattle.np_policies.specs.declared.direction.Direction.{Direction}
-use Rattle.np_policies.specs.declared.network_policy.NetPolicy.{NetPolicy}
-use Rattle.np_policies.specs.declared.network_policy.NetRule.{NetRule}
+use Rattle.np_model.specs.declared.admin_policy.Action.{Action}
+use Rattle.np_model.specs.declared.admin_policy.Action.TheVariants as policy
+use Rattle.np_model.specs.declared.admin_policy.AdminPolicy.{AdminPolicy}
+use Rattle.np_model.specs.declared.admin_policy.AdminRule.{AdminRule}
+use Rattle.np_model.specs.declared.direction.Direction.{Direction}
+use Rattle.np_model.specs.declared.network_policy.NetPolicy.{NetPolicy}
+use Rattle.np_model.specs.declared.network_policy.NetRule.{NetRule}
 use Rattle.np_tiers.specs.Walk.{action_allows, admin_allows, base_allows, lower_allows, walk_allows}
 use Rattle.np_tiers.specs.declared.layer.AdminPart.{AdminPart}
 use Rattle.np_tiers.specs.declared.layer.BasePart.{BasePart}

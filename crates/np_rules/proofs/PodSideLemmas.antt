@@ -1,7 +1,7 @@
 -- The layer of a side, made of the rules that are kept of it.
 use Rattle.std.proofs.Common.{◌≡◌, ℕ, ◌+◌, List, [], ◌∷◌, Bool, length, map, refl, sym, ap, ◌∙◌, subst, arith}
-use Rattle.np_policies.specs.declared.admin_policy.AdminRule.{AdminRule}
-use Rattle.np_policies.specs.declared.network_policy.NetRule.{NetRule}
+use Rattle.np_model.specs.declared.admin_policy.AdminRule.{AdminRule}
+use Rattle.np_model.specs.declared.network_policy.NetRule.{NetRule}
 use Rattle.np_rules.specs.Ends.{Contact}
 use Rattle.np_rules.specs.Layers.{Pairwise, IsAdminPart, IsBasePart, IsLayer, IsSetOf, matches_of}
 use Rattle.np_rules.specs.Places.{admin_places, base_places, net_places}

@@ -1,7 +1,7 @@
 -- The tier of AdminNetworkPolicies.
 use Rattle.std.specs.Prelude.{List, [], ◌∷◌, filter, Bool, ◌&&◌, ◌||◌, ◌==◌, nat_lt, Option, Some, None, if◌then◌else◌}
-use Rattle.np_policies.specs.declared.admin_policy.AdminPolicy.{AdminPolicy}
-use Rattle.np_policies.specs.declared.direction.Direction.{Direction}
+use Rattle.np_model.specs.declared.admin_policy.AdminPolicy.{AdminPolicy}
+use Rattle.np_model.specs.declared.direction.Direction.{Direction}
 use Rattle.np_rules.specs.Ends.{Contact, PodEnd}
 use Rattle.np_rules.specs.Places.{PlacedAdminRule, admin_places}
 use Rattle.np_rules.specs.Rules.{admin_rule_matches}

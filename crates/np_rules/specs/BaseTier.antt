@@ -1,7 +1,7 @@
 -- The baseline.
 use Rattle.std.specs.Prelude.{Option, find}
-use Rattle.np_policies.specs.declared.admin_policy.BasePolicy.{BasePolicy}
-use Rattle.np_policies.specs.declared.direction.Direction.{Direction}
+use Rattle.np_model.specs.declared.admin_policy.BasePolicy.{BasePolicy}
+use Rattle.np_model.specs.declared.direction.Direction.{Direction}
 use Rattle.np_rules.specs.Ends.{Contact, PodEnd}
 use Rattle.np_rules.specs.Places.{PlacedBaseRule, base_places}
 use Rattle.np_rules.specs.Rules.{admin_rule_matches}

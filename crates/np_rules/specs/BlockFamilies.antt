@@ -7,7 +7,7 @@ use Rattle.np_addr.specs.declared.address.Family.{Family}
 use Rattle.np_addr.specs.declared.address.Family.TheVariants.{Four, Six}
 use Rattle.np_addr.specs.declared.cidr.Cidr.{Cidr}
 use Rattle.np_addr.specs.declared.cidr.Cidr.TheVariants as block
-use Rattle.np_estate.specs.Families.{same_family}
+use Rattle.np_model.specs.Families.{same_family}
 
 -- whether the addresses of a block are of the family
 abbrev pub is_block_of : Family → Cidr → Bool

@@ -12,9 +12,9 @@ use Rattle.np_conns.specs.declared.port_spot.PortSpot.{PortSpot}
 use Rattle.np_pieces.specs.Pieces as pieces
 use Rattle.np_pieces.specs.declared.piece.At.{At}
 use Rattle.np_pieces.specs.declared.piece.Piece.{Piece}
-use Rattle.np_policies.specs.declared.admin_policy.AdminPeer.{AdminPeer}
-use Rattle.np_policies.specs.declared.direction.Direction.{Direction}
-use Rattle.np_policies.specs.declared.network_policy.NetPeer.{NetPeer}
+use Rattle.np_model.specs.declared.admin_policy.AdminPeer.{AdminPeer}
+use Rattle.np_model.specs.declared.direction.Direction.{Direction}
+use Rattle.np_model.specs.declared.network_policy.NetPeer.{NetPeer}
 use Rattle.np_rules.specs.Ends.{Contact, End, address, contact}
 use Rattle.np_rules.specs.Peers.{admin_peer_matches, net_peer_matches}
 use Rattle.np_rules.specs.Views.{end_view}
@@ -22,30 +22,30 @@ use Rattle.np_rules.specs.declared.every_address.EveryAddress.{EveryAddress}
 use Rattle.np_sets.specs.Space.{is_between}
 
 -- an address of either family, with a protocol and a port
-abbrev pub Place : Type 0
-Place = Which (At ℕ PortSpot) (At ℕ PortSpot)
+abbrev pub AddressSpot : Type 0
+AddressSpot = Which (At ℕ PortSpot) (At ℕ PortSpot)
 
-abbrev pub address_of : Place → Address
+abbrev pub address_of : AddressSpot → Address
 address_of (First place) = Four place.point
 address_of (Second place) = Six place.point
 
-abbrev pub spot_of : Place → PortSpot
+abbrev pub spot_of : AddressSpot → PortSpot
 spot_of (First place) = place.spot
 spot_of (Second place) = place.spot
 
 -- whether the number is one of the family, and the port is one
-abbrev pub is_place : Place → Bool
+abbrev pub is_place : AddressSpot → Bool
 is_place = by_side (λ place. is_between 0 (2 ^ 32 - 1) place.point && is_spot place.spot) (λ place. is_between 0 (2 ^ 128 - 1) place.point && is_spot place.spot)
 
 -- whether the connections at the address have the spot
-abbrev pub has_place : Beside (List (Piece ℕ Conns)) (List (Piece ℕ Conns)) → Place → Bool
+abbrev pub has_place : Beside (List (Piece ℕ Conns)) (List (Piece ℕ Conns)) → AddressSpot → Bool
 has_place set = by_side (pieces.has_spot (λ a. a) has_spot set.first) (pieces.has_spot (λ a. a) has_spot set.second)
 
 -- what the side of a near end looks at, where the address is the far end
-abbrev pub address_contact : Direction → End → Place → Contact
+abbrev pub address_contact : Direction → End → AddressSpot → Contact
 address_contact direction near place = contact direction near (address (address_of place)) (family_of (address_of place)) (spot_of place)
 
-abbrev pub every_contact : EveryAddress → Place → Contact
+abbrev pub every_contact : EveryAddress → AddressSpot → Contact
 every_contact ends place = address_contact ends.direction (end_view ends.near) place
 
 -- whether an address is one of a peer's; a namespace and a family change nothing there

@@ -10,6 +10,7 @@ pub mod PortEntries
 pub mod Rules
 pub mod Selection
 pub mod Sides
+pub mod Texts
 pub mod Verdict
 pub mod Views
 pub mod Layers

@@ -1,8 +1,8 @@
 -- The tier of NetworkPolicies.
 use Rattle.std.specs.Prelude.{List, filter, Bool, ◌&&◌, is_some}
 use Rattle.std.specs.List.{list_any}
-use Rattle.np_policies.specs.declared.direction.Direction.{Direction}
-use Rattle.np_policies.specs.declared.network_policy.NetPolicy.{NetPolicy}
+use Rattle.np_model.specs.declared.direction.Direction.{Direction}
+use Rattle.np_model.specs.declared.network_policy.NetPolicy.{NetPolicy}
 use Rattle.np_rules.specs.Ends.{Contact, PodEnd}
 use Rattle.np_rules.specs.Places.{PlacedNetRule, net_places, net_rules_of}
 use Rattle.np_rules.specs.Rules.{net_rule_matches}

@@ -7,13 +7,13 @@ use Rattle.np_addr.specs.Blocks.{block_has}
 use Rattle.np_addr.specs.declared.address.Address.{Address}
 use Rattle.np_addr.specs.declared.address.Family.{Family}
 use Rattle.np_addr.specs.declared.cidr.Cidr.{Cidr}
-use Rattle.np_estate.specs.Families.{is_of}
+use Rattle.np_model.specs.Families.{is_of}
 use Rattle.np_labels.specs.Selectors.{meets_selector}
 use Rattle.np_labels.specs.declared.selector.Selector.{Selector}
-use Rattle.np_policies.specs.declared.admin_policy.AdminPeer.{AdminPeer}
-use Rattle.np_policies.specs.declared.admin_policy.AdminPeer.TheVariants as admin
-use Rattle.np_policies.specs.declared.network_policy.NetPeer.{NetPeer}
-use Rattle.np_policies.specs.declared.network_policy.NetPeer.TheVariants as net
+use Rattle.np_model.specs.declared.admin_policy.AdminPeer.{AdminPeer}
+use Rattle.np_model.specs.declared.admin_policy.AdminPeer.TheVariants as admin
+use Rattle.np_model.specs.declared.network_policy.NetPeer.{NetPeer}
+use Rattle.np_model.specs.declared.network_policy.NetPeer.TheVariants as net
 use Rattle.np_rules.specs.Ends.{End, PodEnd, pod, address}
 
 -- whether a pod is one of those that the two selectors of a NetworkPolicy's peer stand for

@@ -5,13 +5,13 @@ use Rattle.np_addr.specs.declared.address.Address.{Address}
 use Rattle.np_addr.specs.declared.address.Family.{Family}
 use Rattle.np_addr.specs.declared.address.Family.TheVariants.{Four}
 use Rattle.np_conns.specs.declared.port_spot.PortSpot.{PortSpot}
-use Rattle.np_estate.specs.Lawful.{HasAscendingPriorities}
-use Rattle.np_estate.specs.declared.lists.EstateLists.{EstateLists}
-use Rattle.np_policies.specs.declared.admin_policy.AdminRule.{AdminRule}
-use Rattle.np_policies.specs.declared.direction.Direction.{Direction}
-use Rattle.np_policies.specs.declared.network_policy.NetRule.{NetRule}
+use Rattle.np_model.specs.Lawful.{HasAscendingPriorities}
+use Rattle.np_model.specs.declared.lists.EstateLists.{EstateLists}
+use Rattle.np_model.specs.declared.admin_policy.AdminRule.{AdminRule}
+use Rattle.np_model.specs.declared.direction.Direction.{Direction}
+use Rattle.np_model.specs.declared.network_policy.NetRule.{NetRule}
 use Rattle.np_rules.specs.Ends.{Contact, PodEnd, pod, address, contact, stranger_end}
-use Rattle.np_rules.specs.EveryAddress.{Place, address_contact}
+use Rattle.np_rules.specs.EveryAddress.{AddressSpot, address_contact}
 use Rattle.np_rules.specs.Layers.{IsLayer}
 use Rattle.np_rules.specs.NetTier.{is_isolated}
 use Rattle.np_rules.specs.Places.{admin_places, base_places, net_places, rule_count}
@@ -53,7 +53,7 @@ abbrev pub with_stranger : Stranger → PodSide → PortSpot → Contact
 with_stranger s side = contact side.direction (pod (near_pod side)) (pod (stranger_end s)) Four
 
 -- each address of both families
-abbrev pub with_addresses : PodSide → Place → Contact
+abbrev pub with_addresses : PodSide → AddressSpot → Contact
 with_addresses side = address_contact side.direction (pod (near_pod side))
 
 -- ---- what a layer of the side is, where the spots of its sets stand for what the side looks at

@@ -6,11 +6,11 @@ use Rattle.np_addr.specs.declared.address.Address.{Address}
 use Rattle.np_conns.specs.Conns.{same_proto}
 use Rattle.np_conns.specs.declared.port_spot.PortSpot.{PortSpot}
 use Rattle.np_conns.specs.declared.proto.Proto.{Proto}
-use Rattle.np_objects.specs.declared.named_port.NamedPort.{NamedPort}
-use Rattle.np_policies.specs.declared.admin_policy.AdminPort.{AdminPort}
-use Rattle.np_policies.specs.declared.admin_policy.AdminPort.TheVariants as admin
-use Rattle.np_policies.specs.declared.network_policy.NetPort.{NetPort}
-use Rattle.np_policies.specs.declared.network_policy.NetPort.TheVariants as net
+use Rattle.np_model.specs.declared.named_port.NamedPort.{NamedPort}
+use Rattle.np_model.specs.declared.admin_policy.AdminPort.{AdminPort}
+use Rattle.np_model.specs.declared.admin_policy.AdminPort.TheVariants as admin
+use Rattle.np_model.specs.declared.network_policy.NetPort.{NetPort}
+use Rattle.np_model.specs.declared.network_policy.NetPort.TheVariants as net
 use Rattle.np_rules.specs.Ends.{End, pod, address}
 
 -- whether the spot has the protocol, and a port from lo to hi

@@ -1,8 +1,8 @@
 -- What a rule matches.
 use Rattle.std.specs.Prelude.{ℕ, List, [], ◌∷◌, Bool, true, ◌&&◌}
 use Rattle.std.specs.List.{list_any}
-use Rattle.np_policies.specs.declared.admin_policy.AdminRule.{AdminRule}
-use Rattle.np_policies.specs.declared.network_policy.NetRule.{NetRule}
+use Rattle.np_model.specs.declared.admin_policy.AdminRule.{AdminRule}
+use Rattle.np_model.specs.declared.network_policy.NetRule.{NetRule}
 use Rattle.np_rules.specs.Ends.{Contact}
 use Rattle.np_rules.specs.Peers.{net_peer_matches, admin_peer_matches}
 use Rattle.np_rules.specs.PortEntries.{net_entry_matches, admin_entry_matches}

@@ -1,10 +1,10 @@
 -- Whether a packet is allowed.
 use Rattle.std.specs.Prelude.{ℕ, ◌+◌, ◌<◌, [], length, Bool, true, ◌&&◌, Option, Some, None}
 use Rattle.std.specs.List.{slice_get}
-use Rattle.np_estate.specs.declared.lists.EstateLists.{EstateLists}
-use Rattle.np_estate.specs.declared.pod.Pod.{Pod}
-use Rattle.np_policies.specs.declared.direction.Direction.{Direction}
-use Rattle.np_policies.specs.declared.direction.Direction.TheVariants.{Ingress, Egress}
+use Rattle.np_model.specs.declared.lists.EstateLists.{EstateLists}
+use Rattle.np_model.specs.declared.pod.Pod.{Pod}
+use Rattle.np_model.specs.declared.direction.Direction.{Direction}
+use Rattle.np_model.specs.declared.direction.Direction.TheVariants.{Ingress, Egress}
 use Rattle.np_rules.specs.Ends.{End, Contact, Packet, PodEnd, pod, address, contact_of, pod_end}
 use Rattle.np_rules.specs.Places.{end_rule_count}
 use Rattle.np_rules.specs.Sides.{side_allows}

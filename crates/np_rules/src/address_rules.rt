@@ -3,7 +3,7 @@ ghost use Rattle.std.specs.Prelude.{◌≡◌, Bool, IfOk, filter, map};
 
 use crate::address_sets::are_of_addresses;
 use np_base::NoMemory;
-use np_policies::{AdminRule, NetRule};
+use np_model::{AdminRule, NetRule};
 use std::alloc::Global;
 
 /// A rule that matches no address unless it has a peer of a kind that stands for addresses.

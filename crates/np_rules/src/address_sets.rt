@@ -9,7 +9,7 @@ ghost use Rattle.np_rules.specs.Rules.{none_or_any};
 
 use np_addr::{AddrSet, Cidr, cidr_set};
 use np_base::{Cells, NoMemory};
-use np_policies::{AdminPeer, NetPeer};
+use np_model::{AdminPeer, NetPeer};
 use std::alloc::Global;
 
 /// What stands for addresses.

@@ -1,7 +1,7 @@
 //! What the AdminNetworkPolicies say of one packet.
 ghost use Rattle.std.specs.Prelude.{◌≡◌, ◌+◌, [], find, length, if◌then◌else◌};
 ghost use Rattle.std.specs.Option.{option_map};
-ghost use Rattle.np_estate.specs.Lawful.{HasAscendingPriorities};
+ghost use Rattle.np_model.specs.Lawful.{HasAscendingPriorities};
 ghost use Rattle.np_rules.specs.AdminTier.{admin_decider};
 ghost use Rattle.np_rules.specs.Places as spec;
 ghost use Rattle.np_rules.specs.Places.{admin_places, admin_places_of};
@@ -12,7 +12,7 @@ ghost use Rattle.np_rules.specs.Views.{pod_view, contact_view};
 use crate::rules::admin_rule_matches;
 use crate::selection::subject_selects;
 use crate::views::{ContactView, PodView};
-use np_policies::{Action, AdminPolicy, AdminRule, Direction};
+use np_model::{Action, AdminPolicy, AdminRule, Direction};
 use np_steps::Steps;
 use std::sync::ledger::Ledger;
 

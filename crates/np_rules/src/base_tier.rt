@@ -9,7 +9,7 @@ ghost use Rattle.np_rules.specs.Views.{pod_view, contact_view};
 use crate::admin_tier::first_action;
 use crate::selection::subject_selects;
 use crate::views::{ContactView, PodView};
-use np_policies::{Action, AdminRule, BasePolicy, Direction};
+use np_model::{Action, AdminRule, BasePolicy, Direction};
 use np_steps::Steps;
 use std::sync::ledger::Ledger;
 

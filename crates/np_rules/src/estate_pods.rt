@@ -1,7 +1,7 @@
 //! Which pods of an estate a policy selects, and which ones a rule of it speaks of as far ends.
 ghost use Rattle.std.specs.Prelude.{◌≡◌, AllPairs};
 ghost use Rattle.std.specs.List.{list_any};
-ghost use Rattle.np_estate.specs.Lawful.{StandsBefore};
+ghost use Rattle.np_model.specs.Lawful.{StandsBefore};
 ghost use Rattle.np_rules.specs.Ends.{pod, pod_end};
 ghost use Rattle.np_rules.specs.NetTier.{is_isolated};
 ghost use Rattle.np_rules.specs.Peers.{admin_peer_matches, net_peer_matches};
@@ -14,8 +14,7 @@ use crate::peers::{admin_peers_match, net_peers_match};
 use crate::selection::{net_selects, subject_selects};
 use crate::views::{EndView, view_of_pod};
 use np_addr::Family;
-use np_estate::Pod;
-use np_policies::{AdminRule, Direction, NetPolicy, NetRule, Subject};
+use np_model::{AdminRule, Direction, NetPolicy, NetRule, Pod, Subject};
 
 /// Whether a NetworkPolicy selects a pod.
 pub fn net_policy_selects(policy: &NetPolicy, pod: &Pod) -> bool

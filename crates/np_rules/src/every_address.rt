@@ -13,8 +13,8 @@ use crate::views::EndView;
 use np_addr::{AddrSet, Address};
 use np_base::{Beside, Cells, NoMemory, Point, V4, V6};
 use np_conns::ConnSet;
+use np_model::{AdminRule, Direction, NetRule};
 use np_pieces::Pieces;
-use np_policies::{AdminRule, Direction, NetRule};
 use std::alloc::Global;
 
 /// Connections by address: at each address of either family a set of protocols and ports.
@@ -86,7 +86,7 @@ impl EveryAddress<'_> {
 
 // These connections at these addresses, and none at any other.
 fn at_addresses(alloc: Global, addresses: &AddrSet, conns: &ConnSet) -> Result<AddrConns, NoMemory>
-    ensures { IfOk result (λ made. (place : spec.Place) → spec.is_place place ≡ true →
+    ensures { IfOk result (λ made. (place : spec.AddressSpot) → spec.is_place place ≡ true →
         spec.has_place made place
         ≡ (set_has addresses.now (spec.address_of place) && has_spot conns.now (spec.spot_of place))) }
 {

@@ -5,7 +5,7 @@ ghost use Rattle.np_rules.specs.Layers.{IsSetOf};
 ghost use Rattle.np_rules.specs.Rules.{admin_rule_matches, net_rule_matches};
 
 use np_base::{Cells, NoMemory};
-use np_policies::{AdminRule, NetRule};
+use np_model::{AdminRule, NetRule};
 use std::alloc::Global;
 
 /// The far ends that a layer is made for: what each spot of a kind of set stands for, and so which spots a rule

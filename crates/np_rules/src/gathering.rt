@@ -1,7 +1,7 @@
 //! The rules of the policies that select a pod.
 ghost use Rattle.std.specs.Prelude.{◌≡◌, ◌++◌, None, map, if◌then◌else◌, AllPairs, IfOk, OnOk};
 ghost use Rattle.std.specs.Option.{option_map};
-ghost use Rattle.np_estate.specs.Lawful.{StandsBefore};
+ghost use Rattle.np_model.specs.Lawful.{StandsBefore};
 ghost use Rattle.np_rules.specs.NetTier.{is_isolated};
 ghost use Rattle.np_rules.specs.Places.{admin_places, net_places, net_rules_of};
 ghost use Rattle.np_rules.specs.Selection.{net_selects};
@@ -12,7 +12,7 @@ use crate::net_tier::isolating_rules;
 use crate::own_policies::own_policies;
 use crate::views::PodView;
 use np_base::NoMemory;
-use np_policies::{AdminPolicy, AdminRule, Direction, NetPolicy, NetRule};
+use np_model::{AdminPolicy, AdminRule, Direction, NetPolicy, NetRule};
 use std::alloc::Global;
 
 /// The rules of the NetworkPolicies that select a pod, and whether some of these isolates it.

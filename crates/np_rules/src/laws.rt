@@ -3,11 +3,11 @@ ghost use Rattle.std.specs.Prelude.{◌≡◌, [], ◌∷◌, ◌++◌, List, tr
 ghost use Rattle.std.specs.List.{AllByRecursion, list_any};
 ghost use Rattle.std.specs.Option.{option_map_or};
 ghost use Rattle.np_addr.specs.declared.address.Family.{Family};
-ghost use Rattle.np_estate.specs.declared.lists.EstateLists.{EstateLists};
-ghost use Rattle.np_policies.specs.declared.admin_policy.AdminPolicy.{AdminPolicy};
-ghost use Rattle.np_policies.specs.declared.direction.Direction.{Direction};
-ghost use Rattle.np_policies.specs.declared.network_policy.NetPolicy.{NetPolicy};
-ghost use Rattle.np_policies.specs.declared.network_policy.NetRule.{NetRule};
+ghost use Rattle.np_model.specs.declared.lists.EstateLists.{EstateLists};
+ghost use Rattle.np_model.specs.declared.admin_policy.AdminPolicy.{AdminPolicy};
+ghost use Rattle.np_model.specs.declared.direction.Direction.{Direction};
+ghost use Rattle.np_model.specs.declared.network_policy.NetPolicy.{NetPolicy};
+ghost use Rattle.np_model.specs.declared.network_policy.NetRule.{NetRule};
 ghost use Rattle.np_rules.specs.AdminTier.{admin_candidates, admin_decider, admin_precedes};
 ghost use Rattle.np_rules.specs.Deciders.{decider, decider_allows};
 ghost use Rattle.np_rules.specs.Ends.{Contact, End, Packet, PodEnd};

@@ -7,7 +7,7 @@ ghost use Rattle.np_rules.specs.Sides.{is_allow};
 
 use crate::far_ends::FarEnds;
 use np_base::{Cells, NoMemory, Seq};
-use np_policies::{Action, AdminRule, NetRule};
+use np_model::{Action, AdminRule, NetRule};
 use np_tiers::{AdminPart, BasePart};
 use std::alloc::Global;
 

@@ -28,6 +28,7 @@ mod rule_ids;
 mod rules;
 mod selection;
 mod stranger;
+mod texts;
 mod verdict;
 mod views;
 
@@ -48,4 +49,5 @@ pub use pod_rules::PodRules;
 pub use policy_names::PolicyNames;
 pub use rule_ids::{LayerRules, RuleId, layer_rules};
 pub use stranger::Stranger;
+pub use texts::{direction_text, said_text, verdict_text};
 pub use verdict::allows;

@@ -11,8 +11,7 @@ use crate::one_end::OneEnd;
 use crate::stranger::Stranger;
 use crate::views::{EndView, PodView, view_of_pod, view_of_stranger};
 use np_addr::{Address, Family, family_of};
-use np_estate::Estate;
-use np_policies::Direction;
+use np_model::{Direction, Estate};
 
 /// The pod at a place of the estate.
 pub(crate) fn view_at(estate: &Estate, place: u32) -> PodView<'_>

@@ -7,7 +7,7 @@ use crate::views::EndView;
 use np_addr::Family;
 use np_base::{Cells, NoMemory};
 use np_conns::ConnSet;
-use np_policies::{AdminRule, NetRule};
+use np_model::{AdminRule, NetRule};
 use std::alloc::Global;
 
 /// One far end, with the end that a packet goes to and its family. The spots stand for protocols and ports.

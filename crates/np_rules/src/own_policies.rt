@@ -1,9 +1,9 @@
 //! The NetworkPolicies of one namespace.
 ghost use Rattle.std.specs.Prelude.{◌≡◌, filter, AllPairs};
 ghost use Rattle.std.specs.Str.{bytes_eq};
-ghost use Rattle.np_estate.specs.Lawful.{StandsBefore};
+ghost use Rattle.np_model.specs.Lawful.{StandsBefore};
 
-use np_policies::NetPolicy;
+use np_model::NetPolicy;
 
 /// The policies of a namespace, in order. They stand together, and are found by halves.
 pub(crate) fn own_policies<'a>(policies: &'a [NetPolicy], namespace: &str) -> &'a [NetPolicy]

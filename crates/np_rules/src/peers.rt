@@ -4,7 +4,7 @@ ghost use Rattle.std.specs.Option.{option_copied};
 ghost use Rattle.std.specs.List.{list_any};
 ghost use Rattle.np_addr.specs.Addresses.{cidr_has};
 ghost use Rattle.np_addr.specs.Blocks.{block_has};
-ghost use Rattle.np_estate.specs.Families.{is_of};
+ghost use Rattle.np_model.specs.Families.{is_of};
 ghost use Rattle.np_rules.specs.BlockFamilies.{is_block_of, some_inside};
 ghost use Rattle.np_rules.specs.Peers as spec;
 ghost use Rattle.np_rules.specs.Rules.{none_or_any};
@@ -13,7 +13,7 @@ ghost use Rattle.np_rules.specs.Views.{pod_view, end_view};
 use crate::views::{EndView, PodView};
 use np_addr::{Address, Addresses, Cidr, Family, cidr_has};
 use np_labels::Selector;
-use np_policies::{AdminPeer, NetPeer};
+use np_model::{AdminPeer, NetPeer};
 
 /// Whether an end is one of the peers of a rule of a NetworkPolicy of this namespace. No peers at all stand for every
 /// end.

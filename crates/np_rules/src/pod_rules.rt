@@ -2,7 +2,7 @@
 ghost use Rattle.std.specs.Prelude.{◌≡◌, ◌+◌, ◌-◌, ◌^◌, ◌≤◌, ◌<◌, length, true, IfOk, OnOk};
 ghost use Rattle.np_conns.specs.Conns.{IsConns, is_spot, has_spot};
 ghost use Rattle.np_pieces.specs.Pieces.{Covers};
-ghost use Rattle.np_rules.specs.EveryAddress.{Place, has_place, is_place};
+ghost use Rattle.np_rules.specs.EveryAddress.{AddressSpot, has_place, is_place};
 ghost use Rattle.np_rules.specs.PodSides.{IsSideLayer, SaysVerdicts, near_pod, side_of, side_rule_count};
 ghost use Rattle.np_rules.specs.PodSides.{with_addresses, with_pod, with_point, with_stranger};
 ghost use Rattle.np_rules.specs.Sides.{side_allows};
@@ -19,8 +19,7 @@ use crate::views::EndView;
 use np_addr::{Address, Family};
 use np_base::{Cells, NoMemory};
 use np_conns::ConnSet;
-use np_estate::Estate;
-use np_policies::{AdminRule, Direction};
+use np_model::{AdminRule, Direction, Estate};
 use np_steps::Steps;
 use np_tiers::{Layer, verdict_set};
 use std::alloc::Global;
@@ -167,7 +166,7 @@ impl<'a> PodRules<'a> {
         alloc: Global,
         steps: &mut Steps<L>,
     ) -> Result<AddrConns, NoMemory>
-        ensures members { IfOk result (λ made. (place : Place) → is_place place ≡ true →
+        ensures members { IfOk result (λ made. (place : AddressSpot) → is_place place ≡ true →
             has_place made place
             ≡ side_allows self.now.lists self.now.direction (near_pod self.now) (with_addresses self.now place)) }
         ensures four { IfOk result (λ made. Covers (λ n. n) IsConns 0 (2 ^ 32 - 1) made.first) }

@@ -8,8 +8,7 @@ ghost use Rattle.np_rules.specs.Views.{end_view};
 use crate::views::EndView;
 use np_base::PortNum;
 use np_conns::{PortSpot, Proto};
-use np_objects::NamedPort;
-use np_policies::{AdminPort, NetPort};
+use np_model::{AdminPort, NamedPort, NetPort};
 
 /// Whether some port entry of a rule of a NetworkPolicy matches. No entries at all match every protocol and port.
 pub(crate) fn net_entries_match(

@@ -12,8 +12,7 @@ ghost use Rattle.np_rules.specs.Views.{end_view};
 use crate::views::EndView;
 use np_base::{Cells, NoMemory, PortNum};
 use np_conns::{ConnSet, Proto};
-use np_objects::NamedPort;
-use np_policies::{AdminPort, NetPort};
+use np_model::{AdminPort, NamedPort, NetPort};
 use std::alloc::Global;
 
 /// A port entry of a rule.

@@ -1,7 +1,7 @@
 //! The rules behind the places of a layer.
 ghost use Rattle.std.specs.Prelude.{◌≡◌, ◌<◌, ◌≤◌, ◌++◌, length, filter, Some, IfOk, OnOk};
 ghost use Rattle.std.specs.List.{slice_get};
-ghost use Rattle.np_estate.specs.Lawful.{IsFew};
+ghost use Rattle.np_model.specs.Lawful.{IsFew};
 ghost use Rattle.np_rules.specs.LayerRules as spec;
 ghost use Rattle.np_rules.specs.Layers.{Pairwise};
 ghost use Rattle.np_rules.specs.NetTier.{isolates};
@@ -14,8 +14,7 @@ use crate::base_tier::base_rules_for;
 use crate::net_tier::{isolates, net_rules_for};
 use crate::views::{PodView, view_of_pod};
 use np_base::{NoMemory, Seq};
-use np_estate::Estate;
-use np_policies::{AdminPolicy, Direction, NetPolicy};
+use np_model::{AdminPolicy, Direction, Estate, NetPolicy};
 use std::alloc::Global;
 
 /// A rule, by the place of its policy in the estate's list and its own place among the policy's rules of the direction,

@@ -6,7 +6,7 @@ ghost use Rattle.np_rules.specs.Views.{contact_view};
 use crate::peers::{admin_peers_match, net_peers_match};
 use crate::port_entries::{admin_entries_match, net_entries_match};
 use crate::views::ContactView;
-use np_policies::{AdminRule, NetRule};
+use np_model::{AdminRule, NetRule};
 
 /// Whether a rule of a NetworkPolicy of this namespace matches.
 pub(crate) fn net_rule_matches(namespace: &str, rule: &NetRule, contact: &ContactView<'_>) -> bool

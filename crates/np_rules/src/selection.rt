@@ -4,7 +4,7 @@ ghost use Rattle.np_rules.specs.Selection as spec;
 ghost use Rattle.np_rules.specs.Views.{pod_view};
 
 use crate::views::PodView;
-use np_policies::{NetPolicy, Subject};
+use np_model::{NetPolicy, Subject};
 
 /// Whether a NetworkPolicy selects a pod.
 pub(crate) fn net_selects(policy: &NetPolicy, pod: &PodView<'_>) -> bool

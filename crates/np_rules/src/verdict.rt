@@ -13,8 +13,7 @@ use crate::net_tier::{is_isolated, permits};
 use crate::packet::{End, Packet};
 use crate::views::{ContactView, EndView, PodView, view_of_pod};
 use np_conns::PortSpot;
-use np_estate::Estate;
-use np_policies::{Action, Direction};
+use np_model::{Action, Direction, Estate};
 use np_steps::Steps;
 use std::sync::ledger::Ledger;
 

@@ -6,9 +6,8 @@ ghost use Rattle.np_rules.specs.Views as spec;
 use crate::stranger::Stranger;
 use np_addr::{Address, Addresses, Family};
 use np_conns::PortSpot;
-use np_estate::Pod;
 use np_labels::Labels;
-use np_objects::NamedPort;
+use np_model::{NamedPort, Pod};
 
 /// A pod as rules look at it: one of an estate, or one that nobody has written yet.
 #[derive(Drop)]

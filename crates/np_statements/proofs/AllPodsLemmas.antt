@@ -7,7 +7,7 @@ use Rattle.np_check.proofs.LeastLemmas.{first_broken, nothing_broken}
 use Rattle.np_check.proofs.NoneLemmas.{or_second}
 use Rattle.np_check.specs.Counters.{allows_between, complies, counter_of}
 use Rattle.np_check.specs.FirstPacket.{IsBroken}
-use Rattle.np_check.specs.declared.counter.Counter.{Counter}
+use Rattle.np_check.specs.declared.counterexample.Counterexample.{Counterexample}
 use Rattle.np_check.specs.declared.question.Question.{Question}
 use Rattle.np_check.specs.declared.statement_text.EndForm.{EndForm}
 use Rattle.np_check.specs.declared.statement_text.EndForm.TheVariants.{Pods, Addresses, Namespace, Work, Block}
@@ -16,7 +16,7 @@ use Rattle.np_check.specs.declared.statement_text.Wanted.{Wanted}
 use Rattle.np_check.specs.declared.statement_text.Wanted.TheVariants.{Allow, Deny}
 use Rattle.np_conns.specs.Conns.{Conns, has_spot}
 use Rattle.np_conns.specs.declared.port_spot.PortSpot.{PortSpot}
-use Rattle.np_estate.specs.declared.lists.EstateLists.{EstateLists}
+use Rattle.np_model.specs.declared.lists.EstateLists.{EstateLists}
 use Rattle.np_statements.proofs.AmongLemmas.{IsLeft, one_left}
 use Rattle.np_statements.proofs.EndLemmas.{AreEnds, ends_of-are}
 use Rattle.np_statements.proofs.FoundLemmas.{at_turn}
@@ -26,7 +26,7 @@ use Rattle.np_statements.specs.BrokenLines.{broken_by, broken_of}
 use Rattle.np_statements.specs.Ends.{all_works, ends_of, works_alone}
 use Rattle.np_statements.specs.FoundEnds.{asked_of}
 use Rattle.np_statements.specs.Steps.{◌>>=◌}
-use Rattle.np_statements.specs.declared.all_pods.Settled.{Settled}
+use Rattle.np_statements.specs.declared.all_pods.CheckedKinds.{CheckedKinds}
 use Rattle.np_statements.specs.declared.asked_line.AskedLine.{AskedLine}
 use Rattle.np_statements.specs.declared.statement_line.StatementLine.{StatementLine}
 
@@ -65,7 +65,7 @@ asks-pods lists line source destination = rw (source, destination) refl
 -- ---- where all of them hold
 
 -- what breaks one of them breaks that of all
-broken_in_all : (lists : EstateLists) (wanted : Wanted) (all : Conns) (line : StatementLine) (packet : Counter) → ((spot : PortSpot) → asks_at wanted spot line ≡ true → has_spot all spot ≡ true) → asks_pods wanted line.statement ≡ true → IsBroken lists (question_of_pods lists line.statement.wanted line.statement.conns) packet → IsBroken lists (question_of_pods lists wanted all) packet
+broken_in_all : (lists : EstateLists) (wanted : Wanted) (all : Conns) (line : StatementLine) (packet : Counterexample) → ((spot : PortSpot) → asks_at wanted spot line ≡ true → has_spot all spot ≡ true) → asks_pods wanted line.statement ≡ true → IsBroken lists (question_of_pods lists line.statement.wanted line.statement.conns) packet → IsBroken lists (question_of_pods lists wanted all) packet
 broken_in_all lists wanted all line packet within asks own =
     let allowed = allows_between lists packet.source packet.destination packet.family packet.spot in
     let parts = and_parts (has_spot line.statement.conns packet.spot) (not (complies line.statement.wanted allowed)) own.broken in
@@ -87,7 +87,7 @@ one_holds lists wanted all line none within asks = of (counter_of lists question
     question : Question
     question = question_of_pods lists line.statement.wanted line.statement.conns
 
-    of : (found : Option Counter) → counter_of lists question ≡ found → counter_of lists question ≡ None
+    of : (found : Option Counterexample) → counter_of lists question ≡ found → counter_of lists question ≡ None
     of None is = is
     of (Some packet) is =
         let pods = pods_are lists in
@@ -107,7 +107,7 @@ hold-together lists wanted all lines none are = each_holds lists wanted all line
 
 -- ---- in a loop
 
-settled-none : (lists : EstateLists) (settled : Settled) (lines : List StatementLine) (i : ℕ) (line : StatementLine) → (i < length lines) × (line ≡ get_or lines i line) → AreSettled lists settled lines → is_settled settled line.statement ≡ true → (wanted : Wanted) × (asks_pods wanted line.statement ≡ true) × (counter_of lists (question_of_pods lists line.statement.wanted line.statement.conns) ≡ None)
+settled-none : (lists : EstateLists) (settled : CheckedKinds) (lines : List StatementLine) (i : ℕ) (line : StatementLine) → (i < length lines) × (line ≡ get_or lines i line) → AreSettled lists settled lines → is_settled settled line.statement ≡ true → (wanted : Wanted) × (asks_pods wanted line.statement ≡ true) × (counter_of lists (question_of_pods lists line.statement.wanted line.statement.conns) ≡ None)
 settled-none lists settled lines i line turn are is =
     elim (cases_Bool (settled.allow && asks_pods Allow line.statement)) [
       | inl allow ↦ by Allow settled.allow (and_parts settled.allow (asks_pods Allow line.statement) allow) are.allow
@@ -118,7 +118,7 @@ settled-none lists settled lines i line turn are is =
     by wanted known both all = (wanted, both.1, at_turn (HoldsOfPods lists wanted) lines i line turn (all both.0) both.1)
 
 -- a line that is known to hold is left out
-pub settled-left : (lists : EstateLists) (settled : Settled) (lines : List StatementLine) (i next : ℕ) (line : StatementLine) → (i < length lines) × (line ≡ get_or lines i line) → IsLeft lists lines i → AreSettled lists settled lines → is_settled settled line.statement ≡ true → next ≡ i + 1 → IsLeft lists lines next
+pub settled-left : (lists : EstateLists) (settled : CheckedKinds) (lines : List StatementLine) (i next : ℕ) (line : StatementLine) → (i < length lines) × (line ≡ get_or lines i line) → IsLeft lists lines i → AreSettled lists settled lines → is_settled settled line.statement ≡ true → next ≡ i + 1 → IsLeft lists lines next
 unfolding broken_of asked_by_pods
 settled-left lists settled lines i next line turn left are is later =
     let (wanted, asks, none) = settled-none lists settled lines i line turn are is in

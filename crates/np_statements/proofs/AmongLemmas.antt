@@ -5,7 +5,7 @@ use Rattle.std.specs.Prelude.{IsOk}
 use Rattle.std.proofs.lemmas.Bool.{false≢true, true≢false}
 use Rattle.std.proofs.lemmas.List.{at_drop_more, drop_all}
 use Rattle.np_check.specs.Firsts.{first_of}
-use Rattle.np_estate.specs.declared.lists.EstateLists.{EstateLists}
+use Rattle.np_model.specs.declared.lists.EstateLists.{EstateLists}
 use Rattle.np_statements.proofs.FoundLemmas.{asked-by, asked-known, found-behind, length-found}
 use Rattle.np_statements.proofs.StepLemmas.{same_ok, then-ok}
 use Rattle.np_statements.specs.Answers.{GivesEnds}

@@ -12,16 +12,16 @@ use Rattle.np_check.specs.Counters.{complies, counter_of}
 use Rattle.np_check.specs.FirstPacket.{IsEndOf}
 use Rattle.np_check.specs.Firsts.{first_of}
 use Rattle.np_check.specs.Holding.{Holds, IsOf}
-use Rattle.np_check.specs.declared.counter.Counter.{Counter}
-use Rattle.np_check.specs.declared.counter.PlaceEnd.{PlaceEnd}
-use Rattle.np_check.specs.declared.counter.PlaceEnd.TheVariants.{At, Work}
+use Rattle.np_check.specs.declared.counterexample.Counterexample.{Counterexample}
+use Rattle.np_check.specs.declared.counterexample.PlaceEnd.{PlaceEnd}
+use Rattle.np_check.specs.declared.counterexample.PlaceEnd.TheVariants.{At, Work}
 use Rattle.np_check.specs.declared.question.Ends.{Ends}
 use Rattle.np_check.specs.declared.question.Question.{Question}
 use Rattle.np_check.specs.declared.statement_text.Wanted.{Wanted}
 use Rattle.np_check.specs.declared.statement_text.Wanted.TheVariants.{Allow, Deny}
 use Rattle.np_conns.specs.Conns.{has_spot}
-use Rattle.np_estate.specs.Lawful.{IsLawful}
-use Rattle.np_estate.specs.declared.lists.EstateLists.{EstateLists}
+use Rattle.np_model.specs.Lawful.{IsLawful}
+use Rattle.np_model.specs.declared.lists.EstateLists.{EstateLists}
 use Rattle.np_statements.proofs.FormLemmas.{names-addresses, names-pods}
 use Rattle.np_statements.proofs.FoundLemmas.{AreFoundBy, IsAskedBy, all-known, asked-by, found-by}
 use Rattle.np_statements.proofs.StepLemmas.{same_ok}
@@ -43,7 +43,7 @@ unfolding broken_of
 not_broken lists asked none = sym (ap (option_map (broken_by lists asked.line)) none)
 
 -- the verdict of the packet is not the wanted one
-unwanted : (lists : EstateLists) (question : Question) (packet : Counter) → IsQuestion lists question → counter_of lists question ≡ Some packet → complies question.wanted (is_allowed lists packet) ≡ false
+unwanted : (lists : EstateLists) (question : Question) (packet : Counterexample) → IsQuestion lists question → counter_of lists question ≡ Some packet → complies question.wanted (is_allowed lists packet) ≡ false
 unwanted lists question packet is found =
     let first = first_packet lists question packet is.sources_ascend is.destinations_ascend found in
     not-true (complies question.wanted (is_allowed lists packet)) (and_parts (has_spot question.conns packet.spot) (not (complies question.wanted (is_allowed lists packet))) first.own.broken).1
@@ -53,7 +53,7 @@ one_verdict : (wanted : Wanted) (verdict other : Bool) → complies wanted verdi
 one_verdict Allow verdict other is also = is ∙ sym also
 one_verdict Deny verdict other is also = not-false verdict is ∙ sym (not-false other also)
 
-pub broken-is : (lists : EstateLists) (asked : AskedLine) (packet : Counter) (allowed : Bool) → IsAsked lists asked → counter_of lists asked.question ≡ Some packet → complies asked.question.wanted allowed ≡ false → Some (record { line = asked.line; packet = packet; allowed = allowed }) ≡ broken_of lists asked
+pub broken-is : (lists : EstateLists) (asked : AskedLine) (packet : Counterexample) (allowed : Bool) → IsAsked lists asked → counter_of lists asked.question ≡ Some packet → complies asked.question.wanted allowed ≡ false → Some (record { line = asked.line; packet = packet; allowed = allowed }) ≡ broken_of lists asked
 unfolding broken_of
 broken-is lists asked packet allowed is found does =
     let verdict = one_verdict asked.question.wanted allowed (is_allowed lists packet) does (unwanted lists asked.question packet is found) in
@@ -65,7 +65,7 @@ place-is : (lists : EstateLists) (ends : Ends) (place : PlaceEnd) → All (IsWor
 place-is lists ends (Work work) works is = among_all (IsWorkload lists) ends.works work works is
 place-is lists ends (At address) works is = tt
 
-pub packet-places : (lists : EstateLists) (question : Question) (packet : Counter) → IsQuestion lists question → counter_of lists question ≡ Some packet → IsPlace lists packet.source × IsPlace lists packet.destination
+pub packet-places : (lists : EstateLists) (question : Question) (packet : Counterexample) → IsQuestion lists question → counter_of lists question ≡ Some packet → IsPlace lists packet.source × IsPlace lists packet.destination
 packet-places lists question packet is found =
     let first = first_packet lists question packet is.sources_ascend is.destinations_ascend found in
     (place-is lists question.source packet.source is.sources first.own.from, place-is lists question.destination packet.destination is.destinations first.own.to)
@@ -135,7 +135,7 @@ nothing-broken lists lines asked lawful well found = (
 -- ---- the first broken line
 
 record IsBrokenBy (lists : EstateLists) (asked : AskedLine) (broken : Broken) : Type 0 where
-  packet : Counter
+  packet : Counterexample
   found : counter_of lists asked.question ≡ Some packet
   is : broken ≡ broken_by lists asked.line packet
 
@@ -143,7 +143,7 @@ broken-by : (lists : EstateLists) (asked : AskedLine) (broken : Broken) → brok
 unfolding broken_of
 broken-by lists asked broken is = of (counter_of lists asked.question) refl is
   where
-    of : (found : Option Counter) → counter_of lists asked.question ≡ found → option_map (broken_by lists asked.line) found ≡ Some broken → IsBrokenBy lists asked broken
+    of : (found : Option Counterexample) → counter_of lists asked.question ≡ found → option_map (broken_by lists asked.line) found ≡ Some broken → IsBrokenBy lists asked broken
     of None none is = absurd (none-some broken is)
     of (Some packet) found is = record { packet = packet; found = found; is = sym (same_Some (broken_by lists asked.line packet) broken is) }
 

@@ -16,8 +16,8 @@ use Rattle.np_check.specs.StatementGrammar.{is_address_form}
 use Rattle.np_check.specs.declared.question.Ends.{Ends}
 use Rattle.np_check.specs.declared.statement_text.EndForm.{EndForm}
 use Rattle.np_check.specs.declared.statement_text.EndForm.TheVariants.{Pods, Addresses, Namespace, Work, Block}
-use Rattle.np_estate.specs.declared.lists.EstateLists.{EstateLists}
-use Rattle.np_estate.specs.declared.pod.Pod.{Pod}
+use Rattle.np_model.specs.declared.lists.EstateLists.{EstateLists}
+use Rattle.np_model.specs.declared.pod.Pod.{Pod}
 use Rattle.np_fold.specs.Workloads.{Workload, folding_of, members_of, number_named}
 use Rattle.np_statements.proofs.StepLemmas.{same_ok}
 use Rattle.np_statements.specs.Ends.{addresses_alone, addresses_in, all_works, ends_of, every_address, is_in_namespace, named_alone, works_alone}

@@ -26,9 +26,9 @@ use Rattle.np_check.specs.declared.statement_text.EndForm.{EndForm}
 use Rattle.np_check.specs.declared.statement_text.EndForm.TheVariants.{Pods, Addresses, Namespace, Work, Block}
 use Rattle.np_classes.proofs.Lists.{no_position}
 use Rattle.np_classes.proofs.Relations.{firsts-le-count}
-use Rattle.np_estate.specs.Lawful.{IsLawful}
-use Rattle.np_estate.specs.declared.lists.EstateLists.{EstateLists}
-use Rattle.np_estate.specs.declared.pod.Pod.{Pod}
+use Rattle.np_model.specs.Lawful.{IsLawful}
+use Rattle.np_model.specs.declared.lists.EstateLists.{EstateLists}
+use Rattle.np_model.specs.declared.pod.Pod.{Pod}
 use Rattle.np_fold.proofs.AlikeLemmas.{slice_get-some}
 use Rattle.np_fold.proofs.WorkloadLemmas.{number-in_workloads, one_workload, workloads-by_name}
 use Rattle.np_fold.specs.Workloads.{Workload, folding_of, name_of, number_named, number_of, pods_alike, workload_count, workloads_of}

@@ -9,9 +9,9 @@ use Rattle.np_check.specs.declared.statement_text.Wanted.{Wanted}
 use Rattle.np_check.specs.declared.statement_text.Wanted.TheVariants.{Allow, Deny}
 use Rattle.np_conns.specs.Conns.{Conns, has_spot}
 use Rattle.np_conns.specs.declared.port_spot.PortSpot.{PortSpot}
-use Rattle.np_estate.specs.declared.lists.EstateLists.{EstateLists}
+use Rattle.np_model.specs.declared.lists.EstateLists.{EstateLists}
 use Rattle.np_statements.specs.Ends.{all_works, works_alone}
-use Rattle.np_statements.specs.declared.all_pods.Settled.{Settled}
+use Rattle.np_statements.specs.declared.all_pods.CheckedKinds.{CheckedKinds}
 use Rattle.np_statements.specs.declared.statement_line.StatementLine.{StatementLine}
 
 -- ---- which statements
@@ -48,10 +48,10 @@ abbrev pub HoldsOfPods : EstateLists → Wanted → StatementLine → Type 0
 HoldsOfPods lists wanted line = asks_pods wanted line.statement ≡ true → counter_of lists (question_of_pods lists line.statement.wanted line.statement.conns) ≡ None
 
 -- so do those of the verdicts that are known to
-pub record AreSettled (lists : EstateLists) (settled : Settled) (lines : List StatementLine) : Type 0 where
+pub record AreSettled (lists : EstateLists) (settled : CheckedKinds) (lines : List StatementLine) : Type 0 where
   pub allow : settled.allow ≡ true → All (HoldsOfPods lists Allow) lines
   pub deny : settled.deny ≡ true → All (HoldsOfPods lists Deny) lines
 
 -- whether a statement is one of these
-abbrev pub is_settled : Settled → StatementText → Bool
+abbrev pub is_settled : CheckedKinds → StatementText → Bool
 is_settled settled statement = (settled.allow && asks_pods Allow statement) || (settled.deny && asks_pods Deny statement)

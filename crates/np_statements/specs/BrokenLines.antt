@@ -2,10 +2,10 @@
 use Rattle.std.specs.Prelude.{ℕ, List, Bool, Option, option_map, Result, Ok}
 use Rattle.np_check.specs.Counters.{allows_between, counter_of}
 use Rattle.np_check.specs.Firsts.{first_of}
-use Rattle.np_check.specs.declared.counter.Counter.{Counter}
-use Rattle.np_check.specs.declared.counter.PlaceEnd.{PlaceEnd}
-use Rattle.np_check.specs.declared.counter.PlaceEnd.TheVariants.{At, Work}
-use Rattle.np_estate.specs.declared.lists.EstateLists.{EstateLists}
+use Rattle.np_check.specs.declared.counterexample.Counterexample.{Counterexample}
+use Rattle.np_check.specs.declared.counterexample.PlaceEnd.{PlaceEnd}
+use Rattle.np_check.specs.declared.counterexample.PlaceEnd.TheVariants.{At, Work}
+use Rattle.np_model.specs.declared.lists.EstateLists.{EstateLists}
 use Rattle.np_statements.specs.FoundEnds.{ends_found}
 use Rattle.np_statements.specs.Steps.{◌>>=◌}
 use Rattle.np_statements.specs.declared.asked_line.AskedLine.{AskedLine}
@@ -14,11 +14,11 @@ use Rattle.np_statements.specs.declared.statement_line.StatementLine.{StatementL
 use Rattle.np_table.specs.Table.{IsWorkload}
 
 -- whether a packet is allowed
-abbrev pub is_allowed : EstateLists → Counter → Bool
+abbrev pub is_allowed : EstateLists → Counterexample → Bool
 is_allowed lists packet = allows_between lists packet.source packet.destination packet.family packet.spot
 
 -- a packet that breaks the line of a number, with its verdict
-abbrev pub broken_by : EstateLists → ℕ → Counter → Broken
+abbrev pub broken_by : EstateLists → ℕ → Counterexample → Broken
 broken_by lists line packet = record { line = line; packet = packet; allowed = is_allowed lists packet }
 
 -- how a line is broken, if it is: by the first packet that does not comply

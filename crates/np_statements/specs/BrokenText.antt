@@ -1,16 +1,15 @@
 -- The line that says how a statement is broken.
-use Rattle.std.specs.Prelude.{ℕ, List, [], ◌∷◌, ◌++◌, Bool, true, false, codes, decimal}
+use Rattle.std.specs.Prelude.{ℕ, List, [], ◌∷◌, ◌++◌, codes, decimal}
 use Rattle.np_addr.specs.AddressText.{address_text}
 use Rattle.np_addr.specs.declared.address.Family.{Family}
 use Rattle.np_addr.specs.declared.address.Family.TheVariants.{Four, Six}
-use Rattle.np_check.specs.declared.counter.PlaceEnd.{PlaceEnd}
-use Rattle.np_check.specs.declared.counter.PlaceEnd.TheVariants.{At, Work}
-use Rattle.np_conns.specs.ConnsText.{proto_name}
-use Rattle.np_conns.specs.declared.port_spot.PortSpot.{PortSpot}
-use Rattle.np_estate.specs.Families.{families_of}
-use Rattle.np_estate.specs.declared.lists.EstateLists.{EstateLists}
+use Rattle.np_check.specs.declared.counterexample.PlaceEnd.{PlaceEnd}
+use Rattle.np_check.specs.declared.counterexample.PlaceEnd.TheVariants.{At, Work}
+use Rattle.np_model.specs.Families.{families_of}
+use Rattle.np_model.specs.declared.lists.EstateLists.{EstateLists}
 use Rattle.np_fold.specs.Workloads.{folding_of, name_of}
 use Rattle.np_statements.specs.declared.broken.Broken.{Broken}
+use Rattle.np_rules.specs.Texts.{said_text}
 
 -- an end of a packet: the name of its workload, or the canonical text of its address
 abbrev pub place_text : EstateLists → PlaceEnd → List ℕ
@@ -27,14 +26,6 @@ family_mark families Six = codes " (IPv6)"
 abbrev pub mark_between : EstateLists → PlaceEnd → PlaceEnd → Family → List ℕ
 mark_between lists (Work source) (Work destination) family = family_mark (families_of lists.pods) family
 mark_between lists source destination family = []
-
-abbrev pub verdict_text : Bool → List ℕ
-verdict_text true = codes "Allow"
-verdict_text false = codes "Deny"
-
--- `PROTOCOL port : Allow`
-abbrev pub said_text : PortSpot → Bool → List ℕ
-said_text spot allowed = proto_name spot.proto ++ codes " " ++ decimal spot.port ++ codes " : " ++ verdict_text allowed
 
 -- `line k: source => destination : PROTOCOL port : Allow`, where the mark of a family may follow the destination
 unfoldable pub broken_text : EstateLists → Broken → List ℕ

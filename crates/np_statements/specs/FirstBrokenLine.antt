@@ -2,7 +2,7 @@
 use Rattle.std.specs.Prelude.{◌≡◌, List, ◌∷◌, ◌++◌, false, All, Ok}
 use Rattle.np_check.specs.Counters.{complies}
 use Rattle.np_check.specs.FirstPacket.{IsFirstBroken}
-use Rattle.np_estate.specs.declared.lists.EstateLists.{EstateLists}
+use Rattle.np_model.specs.declared.lists.EstateLists.{EstateLists}
 use Rattle.np_statements.specs.BrokenLines.{is_allowed}
 use Rattle.np_statements.specs.FoundEnds.{asked_of}
 use Rattle.np_statements.specs.Holding.{LineHolds}

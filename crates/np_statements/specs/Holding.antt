@@ -8,9 +8,9 @@ use Rattle.np_check.specs.declared.statement_text.EndForm.{EndForm}
 use Rattle.np_check.specs.declared.statement_text.StatementText.{StatementText}
 use Rattle.np_conns.specs.Conns.{has_spot, is_spot}
 use Rattle.np_conns.specs.declared.port_spot.PortSpot.{PortSpot}
-use Rattle.np_estate.specs.Families.{families_of}
-use Rattle.np_estate.specs.declared.lists.EstateLists.{EstateLists}
-use Rattle.np_policies.specs.declared.direction.Direction.TheVariants.{Egress, Ingress}
+use Rattle.np_model.specs.Families.{families_of}
+use Rattle.np_model.specs.declared.lists.EstateLists.{EstateLists}
+use Rattle.np_model.specs.declared.direction.Direction.TheVariants.{Egress, Ingress}
 use Rattle.np_rules.specs.Ends.{pod}
 use Rattle.np_rules.specs.Verdict.{pod_at}
 use Rattle.np_statements.specs.NamedEnds.{NamesAddress, NamesPod}

@@ -11,7 +11,7 @@ use Rattle.np_check.specs.declared.statement_text.EndForm.TheVariants.{Pods, Add
 use Rattle.np_check.specs.declared.statement_text.StatementText.{StatementText}
 use Rattle.np_check.specs.declared.statement_text.Wanted.{Wanted}
 use Rattle.np_check.specs.declared.statement_text.Wanted.TheVariants.{Allow, Deny}
-use Rattle.np_json.specs.Words.{has_slash, is_name}
+use Rattle.np_model.specs.Words.{has_slash, is_name}
 use Rattle.np_statements.specs.Cuts.{behind, first_cut, has_mark}
 use Rattle.np_statements.specs.ReadConns.{conns_read}
 

@@ -19,12 +19,12 @@ use std::sync::ledger::Ledger;
 
 /// Whether the statements of any pod and any pod are known to hold: those that allow, and those that deny.
 #[derive(Clone, Copy)]
-pub(crate) struct Settled {
+pub(crate) struct CheckedKinds {
     pub allow: bool,
     pub deny: bool,
 }
 
-impl Settled {
+impl CheckedKinds {
     /// Asks for all protocols and ports of those that allow at once, and for all of those that deny. A gate may have thousands
     /// of them, and each by itself asks every two workloads anew.
     pub(crate) fn of<L: Ledger>(
@@ -33,7 +33,7 @@ impl Settled {
         checker: &mut Checker<'_>,
         lines: &[StatementLine],
         steps: &mut Steps<L>,
-    ) -> Result<Settled, NoMemory>
+    ) -> Result<CheckedKinds, NoMemory>
         requires { checker.old ≡ folded.now }
         ensures settled { IfOk result (λ made. AreSettled folded.now made lines.now) }
         ensures same { checker.new ≡ checker.old }
@@ -41,7 +41,7 @@ impl Settled {
     {
         let allow = hold_together(alloc, folded, checker, lines, Wanted::Allow, steps)?;
         let deny = hold_together(alloc, folded, checker, lines, Wanted::Deny, steps)?;
-        Ok(Settled { allow, deny })
+        Ok(CheckedKinds { allow, deny })
     }
 
     /// Whether a statement is one of those that are known to hold.

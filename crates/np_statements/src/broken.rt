@@ -1,12 +1,12 @@
 //! A line that does not hold.
 
-use np_check::Counter;
+use np_check::Counterexample;
 
 /// A line whose statement does not hold: its number, the first packet that does not comply, and whether that one is
 /// allowed.
 #[derive(Clone, Copy, Debug, PartialEq, Eq)]
 pub struct Broken {
     pub line: u64,
-    pub packet: Counter,
+    pub packet: Counterexample,
     pub allowed: bool,
 }

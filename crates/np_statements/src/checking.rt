@@ -6,7 +6,7 @@ ghost use Rattle.np_statements.specs.AskedLines.{IsAsked, IsQuestion, IsWellLine
 ghost use Rattle.np_statements.specs.BrokenLines as spec;
 ghost use Rattle.np_statements.specs.BrokenLines.{HasPlaces};
 
-use crate::all_pods::Settled;
+use crate::all_pods::CheckedKinds;
 use crate::ascending::Ascending;
 use crate::asked_line::AskedLine;
 use crate::broken::Broken;
@@ -14,7 +14,7 @@ use crate::end_fault::EndFault;
 use crate::find::{asked_of, unknown_name};
 use crate::statement_line::StatementLine;
 use np_base::{NoMemory, Seq};
-use np_check::{Checker, Counter, IsDestination, IsSource, Question, Statement, Wanted};
+use np_check::{Checker, Counterexample, IsDestination, IsSource, Question, Statement, Wanted};
 use np_fold::Folded;
 use np_steps::Steps;
 use std::alloc::Global;
@@ -40,7 +40,7 @@ pub fn first_broken<L: Ledger>(
         return Err(EndFault::UnknownEnd { name: name.copy()? });
     }
     let mut checker = Checker::new(alloc, folded);
-    let settled = Settled::of(alloc, folded, &mut checker, statements.items(), steps)?;
+    let settled = CheckedKinds::of(alloc, folded, &mut checker, statements.items(), steps)?;
     for line in statements.into_vec() {
         if settled.has(&line.statement) {
             continue;
@@ -92,7 +92,7 @@ pub(crate) fn counter_of<L: Ledger>(
     checker: &mut Checker<'_>,
     question: Question,
     steps: &mut Steps<L>,
-) -> Result<Option<Counter>, NoMemory>
+) -> Result<Option<Counterexample>, NoMemory>
     requires { IsQuestion checker.old question }
     ensures counter { IfOk result (λ made. made ≡ counter_of checker.old question) }
     ensures same { checker.new ≡ checker.old }

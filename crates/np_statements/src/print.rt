@@ -1,15 +1,15 @@
 //! The line that says how a statement is broken.
 ghost use Rattle.std.specs.Prelude.{◌≡◌, ◌++◌, IfOk, string_bytes};
-ghost use Rattle.np_estate.specs.Families.{families_of};
+ghost use Rattle.np_model.specs.Families.{families_of};
 ghost use Rattle.np_statements.specs.BrokenLines.{HasPlaces, IsPlace};
 ghost use Rattle.np_statements.specs.BrokenText as spec;
 
 use crate::broken::Broken;
 use np_addr::{Family, print_address};
 use np_base::{NoMemory, Text};
-use np_check::{Counter, PlaceEnd};
-use np_conns::PortSpot;
+use np_check::{Counterexample, PlaceEnd};
 use np_fold::Folded;
+use np_rules::said_text;
 use std::alloc::Global;
 
 /// The line of a broken statement: `line k: source => destination : PROTOCOL port : Allow`, or `Deny`, the verdict of the packet.
@@ -45,7 +45,7 @@ fn place_text(alloc: Global, folded: &Folded, place: PlaceEnd) -> Result<Text, N
 }
 
 // The mark of the family of a packet.
-fn mark_between(folded: &Folded, packet: &Counter) -> &'static str
+fn mark_between(folded: &Folded, packet: &Counterexample) -> &'static str
     ensures { result.now ≡ spec.mark_between folded.now packet.now.source packet.now.destination packet.now.family }
 {
     match (packet.source, packet.destination) {
@@ -65,20 +65,4 @@ fn family_mark(families: &[Family], family: Family) -> &'static str
         (_, Family::Four) => " (IPv4)",
         (_, Family::Six) => " (IPv6)",
     }
-}
-
-// What is said of a protocol and a port.
-fn said_text(alloc: Global, spot: PortSpot, allowed: bool) -> Result<String, NoMemory>
-    ensures { IfOk result (λ text. string_bytes text ≡ spec.said_text spot allowed) }
-{
-    let proto = spot.proto;
-    let port = spot.port.get();
-    let verdict = verdict_text(allowed);
-    Ok(format!(in alloc; "{proto} {port} : {verdict}")?)
-}
-
-fn verdict_text(allowed: bool) -> &'static str
-    ensures { result.now ≡ spec.verdict_text allowed }
-{
-    if allowed { "Allow" } else { "Deny" }
 }

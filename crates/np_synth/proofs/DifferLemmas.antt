@@ -13,8 +13,8 @@ use Rattle.np_classes.proofs.Lists.{any_place, place_that_passes, places_more}
 use Rattle.np_classes.specs.Classes.{places}
 use Rattle.np_conns.specs.Conns.{Conns, has_spot}
 use Rattle.np_conns.specs.declared.port_spot.PortSpot.{PortSpot}
-use Rattle.np_estate.specs.declared.lists.EstateLists.{EstateLists}
-use Rattle.np_policies.specs.declared.direction.Direction.TheVariants.{Egress, Ingress}
+use Rattle.np_model.specs.declared.lists.EstateLists.{EstateLists}
+use Rattle.np_model.specs.declared.direction.Direction.TheVariants.{Egress, Ingress}
 use Rattle.np_rules.specs.Laws.{IsAmong}
 use Rattle.np_synth.specs.Faults.{are_same_row, are_same_span, differ, differ_at, differ_towards, is_defined, own_sets, set_of, two_differ}
 use Rattle.np_synth.specs.steps.Agree.{Agree}

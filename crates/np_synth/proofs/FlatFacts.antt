@@ -9,8 +9,8 @@ use Rattle.np_classes.proofs.Lists.{All-places, any_place}
 use Rattle.np_classes.proofs.Relations.{alike_in_class}
 use Rattle.np_classes.specs.Classes.{places}
 use Rattle.np_conns.specs.Conns.{Conns}
-use Rattle.np_estate.specs.Families.{families_of}
-use Rattle.np_estate.specs.declared.lists.EstateLists.{EstateLists}
+use Rattle.np_model.specs.Families.{families_of}
+use Rattle.np_model.specs.declared.lists.EstateLists.{EstateLists}
 use Rattle.np_synth.proofs.AgreeLemmas.{Agree-sym}
 use Rattle.np_synth.proofs.ClassFirsts.{first-class, first-in}
 use Rattle.np_synth.proofs.DifferLemmas.{Agrees, apart-defined, own_rows, to_agree}

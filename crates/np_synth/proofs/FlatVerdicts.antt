@@ -11,17 +11,17 @@ use Rattle.np_classes.proofs.Relations.{class_of_first, class_within, firsts_wit
 use Rattle.np_classes.specs.Classes.{firsts, places}
 use Rattle.np_conns.specs.Conns.{Conns, has_spot, is_spot}
 use Rattle.np_conns.specs.declared.port_spot.PortSpot.{PortSpot}
-use Rattle.np_estate.specs.Families.{families_of}
-use Rattle.np_estate.specs.Lawful.{IsLawful, SaysItsNamespace}
-use Rattle.np_estate.specs.declared.lists.EstateLists.{EstateLists}
-use Rattle.np_estate.specs.declared.pod.Pod.{Pod}
+use Rattle.np_model.specs.Families.{families_of}
+use Rattle.np_model.specs.Lawful.{IsLawful, SaysItsNamespace}
+use Rattle.np_model.specs.declared.lists.EstateLists.{EstateLists}
+use Rattle.np_model.specs.declared.pod.Pod.{Pod}
 use Rattle.np_fold.proofs.WorkloadLemmas.{number-in_workloads, one_workload}
 use Rattle.np_fold.specs.Workloads.{folding_of, number_of}
 use Rattle.np_labels.specs.Labels.{value_of}
-use Rattle.np_policies.specs.declared.direction.Direction.{Direction}
-use Rattle.np_policies.specs.declared.direction.Direction.TheVariants.{Egress, Ingress}
-use Rattle.np_policies.specs.declared.network_policy.NetPeer.{NetPeer}
-use Rattle.np_policies.specs.declared.network_policy.NetRule.{NetRule}
+use Rattle.np_model.specs.declared.direction.Direction.{Direction}
+use Rattle.np_model.specs.declared.direction.Direction.TheVariants.{Egress, Ingress}
+use Rattle.np_model.specs.declared.network_policy.NetPeer.{NetPeer}
+use Rattle.np_model.specs.declared.network_policy.NetRule.{NetRule}
 use Rattle.np_rules.specs.Ends.{Contact, End, PodEnd, address, pod, pod_end}
 use Rattle.np_rules.specs.Peers.{net_peer_matches}
 use Rattle.np_rules.specs.Places.{net_rules_of}

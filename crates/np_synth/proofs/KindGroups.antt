@@ -8,9 +8,9 @@ use Rattle.np_addr.specs.declared.address.Family.{Family}
 use Rattle.np_addr.specs.declared.address.Family.TheVariants.{Four, Six}
 use Rattle.np_classes.specs.Classes.{IsAlike, class_of}
 use Rattle.np_conns.specs.declared.port_spot.PortSpot.{PortSpot}
-use Rattle.np_estate.specs.Lawful.{IsLawful}
-use Rattle.np_estate.specs.declared.lists.EstateLists.{EstateLists}
-use Rattle.np_estate.specs.declared.pod.Pod.{Pod}
+use Rattle.np_model.specs.Lawful.{IsLawful}
+use Rattle.np_model.specs.declared.lists.EstateLists.{EstateLists}
+use Rattle.np_model.specs.declared.pod.Pod.{Pod}
 use Rattle.np_fold.proofs.AlikeLemmas.{kinds-are}
 use Rattle.np_fold.proofs.PartLemmas.{keys-agree}
 use Rattle.np_fold.proofs.WorkloadLemmas.{first-is, one_kind, workloads-count}
@@ -19,8 +19,8 @@ use Rattle.np_fold.specs.Keys.{keys_of_estate, with_keys}
 use Rattle.np_fold.specs.Workloads.{first_pod, folding_of, kinds_alike, members_of, workload_count}
 use Rattle.np_labels.specs.Labels.{value_of}
 use Rattle.np_labels.specs.Selectors.{is_listed}
-use Rattle.np_policies.specs.declared.direction.Direction.{Direction}
-use Rattle.np_policies.specs.declared.direction.Direction.TheVariants.{Egress, Ingress}
+use Rattle.np_model.specs.declared.direction.Direction.{Direction}
+use Rattle.np_model.specs.declared.direction.Direction.TheVariants.{Egress, Ingress}
 use Rattle.np_rules.specs.Ends.{pod, pod_end}
 use Rattle.np_rules.specs.Verdict.{pod_at, pod_or_none}
 use Rattle.np_synth.proofs.AgreeLemmas.{least-first_pair}

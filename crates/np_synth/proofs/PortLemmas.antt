@@ -10,7 +10,7 @@ use Rattle.np_conns.specs.ConnsText.{is_whole}
 use Rattle.np_conns.specs.declared.port_spot.PortSpot.{PortSpot}
 use Rattle.np_conns.specs.declared.proto.Proto.{Proto}
 use Rattle.np_conns.specs.declared.proto.Proto.TheVariants.{Tcp, Udp, Sctp}
-use Rattle.np_policies.specs.declared.network_policy.NetPort.{NetPort}
+use Rattle.np_model.specs.declared.network_policy.NetPort.{NetPort}
 use Rattle.np_rules.specs.Ends.{End}
 use Rattle.np_rules.specs.PortEntries.{net_entry_matches}
 use Rattle.np_rules.specs.Rules.{none_or_any}

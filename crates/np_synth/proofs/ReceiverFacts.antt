@@ -12,10 +12,10 @@ use Rattle.np_classes.proofs.Lists.{places_more}
 use Rattle.np_classes.proofs.Relations.{class_of_first, firsts-le-count, firsts_within}
 use Rattle.np_classes.specs.Classes.{places}
 use Rattle.np_conns.specs.Conns.{Conns}
-use Rattle.np_estate.specs.declared.lists.EstateLists.{EstateLists}
+use Rattle.np_model.specs.declared.lists.EstateLists.{EstateLists}
 use Rattle.np_fold.specs.Workloads.{folding_of}
-use Rattle.np_policies.specs.declared.direction.Direction.{Direction}
-use Rattle.np_policies.specs.declared.network_policy.NetRule.{NetRule}
+use Rattle.np_model.specs.declared.direction.Direction.{Direction}
+use Rattle.np_model.specs.declared.network_policy.NetRule.{NetRule}
 use Rattle.np_synth.proofs.AddressVerdicts.{IsWellSpan, rows-well}
 use Rattle.np_synth.proofs.ClassFirsts.{first-least}
 use Rattle.np_synth.proofs.DifferLemmas.{apart-defined}

@@ -8,10 +8,10 @@ use Rattle.np_addr.specs.declared.address.Family.{Family}
 use Rattle.np_classes.specs.Classes.{places}
 use Rattle.np_conns.specs.Conns.{Conns, IsConns, has_spot}
 use Rattle.np_conns.specs.declared.port_spot.PortSpot.{PortSpot}
-use Rattle.np_estate.specs.declared.lists.EstateLists.{EstateLists}
+use Rattle.np_model.specs.declared.lists.EstateLists.{EstateLists}
 use Rattle.np_fold.specs.Workloads.{folding_of, members_of}
-use Rattle.np_policies.specs.declared.direction.Direction.{Direction}
-use Rattle.np_policies.specs.declared.direction.Direction.TheVariants.{Egress, Ingress}
+use Rattle.np_model.specs.declared.direction.Direction.{Direction}
+use Rattle.np_model.specs.declared.direction.Direction.TheVariants.{Egress, Ingress}
 use Rattle.np_rules.specs.PodSides.{PodSide}
 use Rattle.np_synth.proofs.GroupLemmas.{get-map}
 use Rattle.np_synth.specs.Faults.{family_of_list, set_in, set_of}

@@ -6,11 +6,11 @@ use Rattle.np_addr.specs.declared.address.Family.{Family}
 use Rattle.np_addr.specs.declared.address.Family.TheVariants.{Four}
 use Rattle.np_classes.specs.Classes.{places}
 use Rattle.np_conns.specs.Conns.{Conns}
-use Rattle.np_estate.specs.Families.{families_of}
-use Rattle.np_estate.specs.declared.lists.EstateLists.{EstateLists}
+use Rattle.np_model.specs.Families.{families_of}
+use Rattle.np_model.specs.declared.lists.EstateLists.{EstateLists}
 use Rattle.np_fold.specs.Workloads.{folding_of}
-use Rattle.np_policies.specs.declared.direction.Direction.{Direction}
-use Rattle.np_policies.specs.declared.direction.Direction.TheVariants.{Ingress, Egress}
+use Rattle.np_model.specs.declared.direction.Direction.{Direction}
+use Rattle.np_model.specs.declared.direction.Direction.TheVariants.{Ingress, Egress}
 use Rattle.np_synth.specs.Groups.{are_together}
 use Rattle.np_synth.specs.Pairs.{first_pair}
 use Rattle.np_synth.specs.declared.fault.FlatFault.{FlatFault}

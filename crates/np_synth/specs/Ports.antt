@@ -5,8 +5,8 @@ use Rattle.np_conns.specs.Conns.{Conns}
 use Rattle.np_conns.specs.ConnsText.{is_whole}
 use Rattle.np_conns.specs.declared.proto.Proto.{Proto}
 use Rattle.np_conns.specs.declared.proto.Proto.TheVariants.{Tcp, Udp, Sctp}
-use Rattle.np_policies.specs.declared.network_policy.NetPort.{NetPort}
-use Rattle.np_policies.specs.declared.network_policy.NetPort.TheVariants as port
+use Rattle.np_model.specs.declared.network_policy.NetPort.{NetPort}
+use Rattle.np_model.specs.declared.network_policy.NetPort.TheVariants as port
 
 abbrev pub span_of : Proto → Range ℕ → NetPort
 span_of proto run = port.Span proto run.lo run.hi

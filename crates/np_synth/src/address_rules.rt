@@ -6,7 +6,7 @@ ghost use Rattle.np_synth.specs.steps.Filled.{IsFilled};
 use crate::policy_parts::{is_nothing, ports_of};
 use np_addr::{AddrSet, prefixes};
 use np_base::{Beside, Cells, NoMemory, Seq};
-use np_policies::{NetPeer, NetRule};
+use np_model::{NetPeer, NetRule};
 use np_sets::IntervalSet;
 use np_table::{AddressRow, AddressSpan};
 use std::alloc::Global;

@@ -11,7 +11,7 @@ ghost use Rattle.np_table.specs.Table.{IsWorkload, number_of_workloads};
 use crate::sides::Sides;
 use np_base::{Cells, NoMemory, Point, Range};
 use np_conns::ConnSet;
-use np_policies::Direction;
+use np_model::Direction;
 use np_steps::Steps;
 use np_table::{AddressRow, AddressSpan, address_rows};
 use std::sync::ledger::Ledger;

@@ -15,7 +15,7 @@ use np_base::{NoMemory, Seq, Text};
 use np_classes::Classes;
 use np_conns::ConnSet;
 use np_fold::Folded;
-use np_policies::{Direction, NetPolicy, NetRule};
+use np_model::{Direction, NetPolicy, NetRule};
 use np_steps::Steps;
 use np_table::{address_rows, first_pod};
 use std::marker::Model;
@@ -33,7 +33,7 @@ pub struct Flat<'a> {
 impl<'a> Model for Flat<'a> {
     ghost use Rattle.std.specs.Prelude.{◌≡◌, ◌<◌, ◌^◌, map};
     ghost use Rattle.np_classes.specs.Classes.{places};
-    ghost use Rattle.np_estate.specs.declared.lists.EstateLists.{EstateLists};
+    ghost use Rattle.np_model.specs.declared.lists.EstateLists.{EstateLists};
     ghost use Rattle.np_synth.specs.Groups.{group_firsts, group_of};
     ghost use Rattle.np_table.specs.Table.{number_of_workloads};
 

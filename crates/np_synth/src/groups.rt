@@ -11,9 +11,8 @@ ghost use Rattle.np_table.specs.Table.{number_of_workloads};
 
 use np_base::{NoMemory, Seq, Text};
 use np_classes::Classes;
-use np_estate::Pod;
 use np_fold::{Folded, Traits};
-use np_owners::Owner;
+use np_model::{Owner, Pod};
 use np_table::first_pod;
 use std::alloc::Global;
 

@@ -3,10 +3,10 @@ ghost use Rattle.std.specs.Prelude.{◌≡◌, ◌≢◌, ◌<◌, ℕ, None, So
 ghost use Rattle.np_addr.specs.declared.address.Family.{Family};
 ghost use Rattle.np_conns.specs.Conns.{is_spot};
 ghost use Rattle.np_conns.specs.declared.port_spot.PortSpot.{PortSpot};
-ghost use Rattle.np_estate.specs.Families.{families_of};
-ghost use Rattle.np_estate.specs.Lawful.{IsLawful};
-ghost use Rattle.np_estate.specs.declared.lists.EstateLists.{EstateLists};
-ghost use Rattle.np_policies.specs.declared.direction.Direction.{Direction};
+ghost use Rattle.np_model.specs.Families.{families_of};
+ghost use Rattle.np_model.specs.Lawful.{IsLawful};
+ghost use Rattle.np_model.specs.declared.lists.EstateLists.{EstateLists};
+ghost use Rattle.np_model.specs.declared.direction.Direction.{Direction};
 ghost use Rattle.np_rules.specs.Ends.{pod};
 ghost use Rattle.np_rules.specs.Verdict.{pod_at};
 ghost use Rattle.np_synth.specs.Faults.{flat_fault, is_defined, set_of};

@@ -1,7 +1,7 @@
 //! The parts of flat policies: names, selectors, peers and ports.
 ghost use Rattle.std.specs.Prelude.{◌≡◌, ◌++◌, IfOk, OnOk, Some, map};
 ghost use Rattle.np_conns.specs.ConnsText.{is_whole};
-ghost use Rattle.np_policies.specs.declared.network_policy.NetPeer.TheVariants.{Pods};
+ghost use Rattle.np_model.specs.declared.network_policy.NetPeer.TheVariants.{Pods};
 ghost use Rattle.np_synth.specs.Flat.{flat_name, rule_to_everyone};
 ghost use Rattle.np_synth.specs.Ports.{ports_of, span_of};
 ghost use Rattle.np_synth.specs.Selecting as select;
@@ -9,9 +9,8 @@ ghost use Rattle.np_table.specs.Rows.{is_nothing};
 
 use np_base::{NoMemory, PortNum, Range, Seq, Text};
 use np_conns::{ConnSet, Proto};
-use np_estate::Pod;
 use np_labels::{Labels, Op, Requirement, Selector};
-use np_policies::{NetPeer, NetPort, NetRule};
+use np_model::{NetPeer, NetPort, NetRule, Pod};
 use std::alloc::Global;
 
 /// The name of the policy of a group: `flat-` and its number.

@@ -2,7 +2,7 @@
 ghost use Rattle.std.specs.Prelude.{◌≡◌, ◌≢◌, ◌≤◌, IfOk, None, Some, map, if◌then◌else◌};
 ghost use Rattle.np_classes.specs.Classes.{places};
 ghost use Rattle.np_fold.specs.Workloads.{folding_of};
-ghost use Rattle.np_policies.specs.declared.direction.Direction.TheVariants.{Egress, Ingress};
+ghost use Rattle.np_model.specs.declared.direction.Direction.TheVariants.{Egress, Ingress};
 ghost use Rattle.np_synth.specs.Faults as spec;
 ghost use Rattle.np_table.specs.PairRules.{first_side};
 ghost use Rattle.np_table.specs.Table.{IsWorkload, is_alone, number_of_workloads};
@@ -11,7 +11,7 @@ use np_addr::Family;
 use np_base::{Cells, NoMemory};
 use np_conns::ConnSet;
 use np_fold::Folded;
-use np_policies::Direction;
+use np_model::Direction;
 use np_rules::PodRules;
 use np_steps::Steps;
 use np_table::{KindReach, pair_set, set_between};
@@ -34,8 +34,8 @@ pub(crate) struct Sides<'a> {
 impl<'a> Model for Sides<'a> {
     ghost use Rattle.std.specs.Prelude.{◌≡◌, map};
     ghost use Rattle.np_classes.specs.Classes.{places};
-    ghost use Rattle.np_estate.specs.declared.lists.EstateLists.{EstateLists};
-    ghost use Rattle.np_policies.specs.declared.direction.Direction.TheVariants.{Egress, Ingress};
+    ghost use Rattle.np_model.specs.declared.lists.EstateLists.{EstateLists};
+    ghost use Rattle.np_model.specs.declared.direction.Direction.TheVariants.{Egress, Ingress};
     ghost use Rattle.np_table.specs.PairRules.{IsKindReach, first_side};
     ghost use Rattle.np_table.specs.Table.{number_of_workloads};
 

@@ -7,16 +7,16 @@ use Rattle.np_base.specs.declared.beside.Beside.{Beside}
 use Rattle.np_base.specs.declared.beside.Which.TheVariants.{First, Second}
 use Rattle.np_conns.specs.Conns.{Conns, IsConns, has_spot, is_spot}
 use Rattle.np_conns.specs.declared.port_spot.PortSpot.{PortSpot}
-use Rattle.np_estate.specs.declared.lists.EstateLists.{EstateLists}
+use Rattle.np_model.specs.declared.lists.EstateLists.{EstateLists}
 use Rattle.np_pieces.specs.Pieces.{Covers, has_at}
 use Rattle.np_pieces.specs.declared.piece.Piece.{Piece}
-use Rattle.np_policies.specs.declared.direction.Direction.{Direction}
-use Rattle.np_policies.specs.declared.direction.Direction.TheVariants.{Egress, Ingress}
+use Rattle.np_model.specs.declared.direction.Direction.{Direction}
+use Rattle.np_model.specs.declared.direction.Direction.TheVariants.{Egress, Ingress}
 use Rattle.np_table.proofs.RangeOneList.{right-walk, walk-agrees}
 use Rattle.np_table.proofs.RangePieces.{Covers-right}
 use Rattle.np_table.specs.Right.{stretches_of, walk}
 use Rattle.np_rules.specs.Ends.{PodEnd, pod}
-use Rattle.np_rules.specs.EveryAddress.{Place, address_contact, has_place, is_place}
+use Rattle.np_rules.specs.EveryAddress.{AddressSpot, address_contact, has_place, is_place}
 use Rattle.np_rules.specs.Sides.{side_allows}
 use Rattle.np_rules.specs.Verdict.{allows}
 use Rattle.np_table.specs.Rows.{address_row, four_of, rows_of_addresses, six_of}
@@ -50,13 +50,13 @@ side-six lists Egress p n spot = and_true (side_allows lists Egress p (address_c
 -- ---- all addresses of a family
 
 -- the pieces of a set that has what the pod's side allows, for IPv4
-pub stretches_of-four : (lists : EstateLists) (direction : Direction) (p : PodEnd) (made : Beside (List (Piece ℕ Conns)) (List (Piece ℕ Conns))) → Covers (λ n. n) IsConns 0 (2 ^ 32 - 1) made.first → ((place : Place) → is_place place ≡ true → has_place made place ≡ side_allows lists direction p (address_contact direction (pod p) place)) → stretches_of (λ n. n) made.first ≡ walk (with_address lists direction (pod p) Four) 0 (2 ^ 32 - 1)
+pub stretches_of-four : (lists : EstateLists) (direction : Direction) (p : PodEnd) (made : Beside (List (Piece ℕ Conns)) (List (Piece ℕ Conns))) → Covers (λ n. n) IsConns 0 (2 ^ 32 - 1) made.first → ((place : AddressSpot) → is_place place ≡ true → has_place made place ≡ side_allows lists direction p (address_contact direction (pod p) place)) → stretches_of (λ n. n) made.first ≡ walk (with_address lists direction (pod p) Four) 0 (2 ^ 32 - 1)
 stretches_of-four lists direction p made covers agrees =
     stretches_of-walk 0 (2 ^ 32 - 1) made.first (with_address lists direction (pod p) Four) (lit≤ tt) covers (λ n spot above below is.
     agrees (First (record { point = n; spot = spot })) (and_from _ _ (and_from _ _ (le-leb 0 n above) (le-leb n (2 ^ 32 - 1) below)) is) ∙ side-four lists direction p n spot)
 
 -- and for IPv6
-pub stretches_of-six : (lists : EstateLists) (direction : Direction) (p : PodEnd) (made : Beside (List (Piece ℕ Conns)) (List (Piece ℕ Conns))) → Covers (λ n. n) IsConns 0 (2 ^ 128 - 1) made.second → ((place : Place) → is_place place ≡ true → has_place made place ≡ side_allows lists direction p (address_contact direction (pod p) place)) → stretches_of (λ n. n) made.second ≡ walk (with_address lists direction (pod p) Six) 0 (2 ^ 128 - 1)
+pub stretches_of-six : (lists : EstateLists) (direction : Direction) (p : PodEnd) (made : Beside (List (Piece ℕ Conns)) (List (Piece ℕ Conns))) → Covers (λ n. n) IsConns 0 (2 ^ 128 - 1) made.second → ((place : AddressSpot) → is_place place ≡ true → has_place made place ≡ side_allows lists direction p (address_contact direction (pod p) place)) → stretches_of (λ n. n) made.second ≡ walk (with_address lists direction (pod p) Six) 0 (2 ^ 128 - 1)
 stretches_of-six lists direction p made covers agrees =
     stretches_of-walk 0 (2 ^ 128 - 1) made.second (with_address lists direction (pod p) Six) (lit≤ tt) covers (λ n spot above below is.
     agrees (Second (record { point = n; spot = spot })) (and_from _ _ (and_from _ _ (le-leb 0 n above) (le-leb n (2 ^ 128 - 1) below)) is) ∙ side-six lists direction p n spot)

@@ -4,10 +4,10 @@ use Rattle.std.specs.List.{range_with_len}
 use Rattle.std.proofs.Math.Nat.{div-lt_iff_lt-mul, mod-lt, mul-le-mul_left, mul-le-mul_right}
 use Rattle.std.proofs.lemmas.Bool.{cases_lt, cases_order, lt-ltb, le-ltb}
 use Rattle.std.proofs.lemmas.Nat.{div-add-mod', div-mul-add}
-use Rattle.np_estate.specs.declared.lists.EstateLists.{EstateLists}
+use Rattle.np_model.specs.declared.lists.EstateLists.{EstateLists}
 use Rattle.np_fold.specs.Workloads.{Folding}
-use Rattle.np_table.specs.Kept.{kept_count}
-use Rattle.np_table.specs.declared.kept.KeptConns.{KeptConns}
+use Rattle.np_table.specs.RowCache.{kept_count}
+use Rattle.np_table.specs.declared.row_cache.CachedConns.{CachedConns}
 use Rattle.np_table.specs.ToCome.{IsOfSameSource, due_at, due_from, most_rules, greatest, pair_count, place_count}
 
 -- ---- the greatest number
@@ -141,7 +141,7 @@ same_source count place below more =
 
 -- ---- an estate's rules from a place to the next
 
-module _ (lists : EstateLists) (folding : Folding) (old new place : ℕ) (kept kept' : List (Option (List KeptConns))) where
+module _ (lists : EstateLists) (folding : Folding) (old new place : ℕ) (kept kept' : List (Option (List CachedConns))) where
   -- where its source is the same
   pub due_from-same_source : place < length folding.workloads * length folding.workloads → place % length folding.workloads + 1 ≢ length folding.workloads → new + 4 * most_rules lists folding * (folding.kind_count - kept_count kept') ≤ old + 4 * most_rules lists folding * (folding.kind_count - kept_count kept) → new + due_from lists folding (place + 1) kept' ≤ old + due_from lists folding place kept
   unfolding due_from
@@ -228,6 +228,6 @@ module _ (count place later : ℕ) (same : IsOfSameSource count place later) whe
       go false behind = ap (λ (n : ℕ). most * (place_count count - n)) (behind refl)
 
 -- as much is due at a later place of the same source
-pub due_from-over : (lists : EstateLists) (folding : Folding) (place later : ℕ) (kept : List (Option (List KeptConns))) → IsOfSameSource (length folding.workloads) place later → due_from lists folding later kept ≡ due_from lists folding place kept
+pub due_from-over : (lists : EstateLists) (folding : Folding) (place later : ℕ) (kept : List (Option (List CachedConns))) → IsOfSameSource (length folding.workloads) place later → due_from lists folding later kept ≡ due_from lists folding place kept
 unfolding due_from
 due_from-over lists folding place later kept same = over-due (length folding.workloads) place later same folding.kind_count (most_rules lists folding) (folding.kind_count - kept_count kept)

@@ -12,24 +12,24 @@ use Rattle.np_classes.specs.Classes.{class_of}
 use Rattle.np_conns.specs.Conns.{Conns, has_spot}
 use Rattle.np_conns.specs.declared.port_spot.PortSpot.{PortSpot}
 use Rattle.np_conns.specs.declared.proto.Proto.TheVariants.{Tcp, Udp, Sctp}
-use Rattle.np_estate.specs.Lawful.{IsLawful}
-use Rattle.np_estate.specs.declared.lists.EstateLists.{EstateLists}
-use Rattle.np_estate.specs.declared.pod.Pod.{Pod}
+use Rattle.np_model.specs.Lawful.{IsLawful}
+use Rattle.np_model.specs.declared.lists.EstateLists.{EstateLists}
+use Rattle.np_model.specs.declared.pod.Pod.{Pod}
 use Rattle.np_fold.proofs.AlikeLemmas.{kinds-are}
 use Rattle.np_fold.proofs.WorkloadLemmas.{first-is, workloads-count}
 use Rattle.np_fold.specs.Workloads.{Folding, first_pod, folding_of, kinds_alike, members_of, workload_count}
-use Rattle.np_policies.specs.declared.direction.Direction.{Direction}
-use Rattle.np_policies.specs.declared.direction.Direction.TheVariants.{Egress, Ingress}
+use Rattle.np_model.specs.declared.direction.Direction.{Direction}
+use Rattle.np_model.specs.declared.direction.Direction.TheVariants.{Egress, Ingress}
 use Rattle.np_table.proofs.RangeSets.{conns_of-agrees, conns_of-has_spot}
 use Rattle.np_table.specs.Right.{are_same_conns, conns_of}
 use Rattle.np_table.proofs.DueLemmas.{greatest-at, over-source, same_source, source-behind}
 use Rattle.np_table.proofs.KeptLemmas.{kept_count-below}
 use Rattle.np_table.proofs.PairLemmas.{first_there, in_workloads, pair_allows-alone, pair_allows-kinds, pod_there, source-within}
-use Rattle.np_table.specs.Kept.{IsKept, KeepsAlso, KeepsTheSame, kept_at, kept_count, kept_of, row_with}
+use Rattle.np_table.specs.RowCache.{IsKept, KeepsAlso, KeepsTheSame, kept_at, kept_count, kept_of, row_with}
 use Rattle.np_table.specs.Rows.{is_nothing, pair_key, pair_rows, row_if, rows_in, rows_of_both}
 use Rattle.np_table.specs.Table.{is_alone, pair_allows, source_pod, table_of}
 use Rattle.np_table.specs.ToCome.{IsOfSameSource, most_rules, rules_of}
-use Rattle.np_table.specs.declared.kept.KeptConns.{KeptConns}
+use Rattle.np_table.specs.declared.row_cache.CachedConns.{CachedConns}
 use Rattle.np_table.specs.declared.rows.Row.{Row}
 use Rattle.np_table.specs.declared.rows.RowKey.{RowKey}
 
@@ -150,7 +150,7 @@ conns-same_kind lists folding source b b' family folded lawful =
 
 -- ---- what is kept
 
-nothing_there : (kind : ℕ) (conns : List KeptConns) → kept_at [] kind ≡ Some conns → ⊥
+nothing_there : (kind : ℕ) (conns : List CachedConns) → kept_at [] kind ≡ Some conns → ⊥
 nothing_there zero conns is = absurd (cc)
 nothing_there (suc kind) conns is = absurd (cc)
 
@@ -160,16 +160,16 @@ unfolding IsKept
 IsKept-nothing lists folding source destination conns near far alone is = absurd (nothing_there (slice_index folding.kinds destination) conns is)
 
 -- what is kept stays right
-pub IsKept-same : (lists : EstateLists) (folding : Folding) (source : ℕ) (old new : List (Option (List KeptConns))) → IsKept lists folding source old → KeepsTheSame old new → IsKept lists folding source new
+pub IsKept-same : (lists : EstateLists) (folding : Folding) (source : ℕ) (old new : List (Option (List CachedConns))) → IsKept lists folding source old → KeepsTheSame old new → IsKept lists folding source new
 unfolding IsKept
 IsKept-same lists folding source old new kept same destination conns near far alone is =
     kept destination conns near far alone (sym (same.all _) ∙ is)
 
-same_some : (found : Option (List KeptConns)) (a b : List KeptConns) → found ≡ Some a → found ≡ Some b → a ≡ b
+same_some : (found : Option (List CachedConns)) (a b : List CachedConns) → found ≡ Some a → found ≡ Some b → a ≡ b
 same_some found a b is is' = cc
 
 -- also with the rows to one more kind
-pub IsKept-also : (lists : EstateLists) (folding : Folding) (source destination : ℕ) (old new : List (Option (List KeptConns))) (rows : List Row) → folding ≡ folding_of lists → IsLawful lists → destination < length folding.workloads → is_alone folding source destination ≡ false → rows ≡ pair_rows (table_of lists folding) source destination → IsKept lists folding source old → KeepsAlso old new (slice_index folding.kinds destination) (map kept_of rows) → IsKept lists folding source new
+pub IsKept-also : (lists : EstateLists) (folding : Folding) (source destination : ℕ) (old new : List (Option (List CachedConns))) (rows : List Row) → folding ≡ folding_of lists → IsLawful lists → destination < length folding.workloads → is_alone folding source destination ≡ false → rows ≡ pair_rows (table_of lists folding) source destination → IsKept lists folding source old → KeepsAlso old new (slice_index folding.kinds destination) (map kept_of rows) → IsKept lists folding source new
 unfolding IsKept
 IsKept-also lists folding source destination old new rows folded lawful here here_alone made kept also other conns near far alone is =
     elim (eqb_tells (slice_index folding.kinds other) (slice_index folding.kinds destination)) [
@@ -181,19 +181,19 @@ IsKept-also lists folding source destination old new rows folded lawful here her
       | inr apart ↦ kept other conns near far alone (sym (also.others _ apart.1) ∙ is)
     ]
 
-some_kept : (found : Option (List KeptConns)) (f : List KeptConns → List Row) (rows : List Row) → Some rows ≡ option_map f found → (conns : List KeptConns) × (found ≡ Some conns) × (rows ≡ f conns)
+some_kept : (found : Option (List CachedConns)) (f : List CachedConns → List Row) (rows : List Row) → Some rows ≡ option_map f found → (conns : List CachedConns) × (found ≡ Some conns) × (rows ≡ f conns)
 some_kept None f rows is = absurd (cc)
 some_kept (Some conns) f rows is = (conns, refl, cc)
 
 -- what is kept for the kind of a destination gives its rows
-pub rows-kept : (lists : EstateLists) (folding : Folding) (source destination : ℕ) (kept : List (Option (List KeptConns))) (rows : List Row) → source < length folding.workloads → destination < length folding.workloads → is_alone folding source destination ≡ false → IsKept lists folding source kept → Some rows ≡ option_map (map (row_with (pair_key source destination))) (kept_at kept (slice_index folding.kinds destination)) → rows ≡ pair_rows (table_of lists folding) source destination
+pub rows-kept : (lists : EstateLists) (folding : Folding) (source destination : ℕ) (kept : List (Option (List CachedConns))) (rows : List Row) → source < length folding.workloads → destination < length folding.workloads → is_alone folding source destination ≡ false → IsKept lists folding source kept → Some rows ≡ option_map (map (row_with (pair_key source destination))) (kept_at kept (slice_index folding.kinds destination)) → rows ≡ pair_rows (table_of lists folding) source destination
 unfolding IsKept
 rows-kept lists folding source destination kept rows near far alone is_kept is =
     let there = some_kept (kept_at kept (slice_index folding.kinds destination)) (map (row_with (pair_key source destination))) rows is in
     there.2 ∙ is_kept destination there.0 near far alone there.1
 
 -- there are none exactly where nothing is kept
-pub none_kept : (found : Option (List KeptConns)) (f : List KeptConns → List Row) → None ≡ option_map f found → found ≡ None
+pub none_kept : (found : Option (List CachedConns)) (f : List CachedConns → List Row) → None ≡ option_map f found → found ≡ None
 none_kept None f is = refl
 none_kept (Some conns) f is = absurd (cc)
 
@@ -209,7 +209,7 @@ rules-most lists folding direction workload within =
     elim direction as (λ d. rules_of lists folding d workload ≤ most_rules lists folding) [ Ingress ↦ omega (arith, here, most) | Egress ↦ omega (arith, here, most) ]
 
 -- what is looked at for a pair is due for a kind for which nothing is kept
-pub pair-due : (lists : EstateLists) (folding : Folding) (old new kind : ℕ) (kept : List (Option (List KeptConns))) → kind < folding.kind_count → length kept ≤ folding.kind_count → kept_at kept kind ≡ None → new ≤ old + 4 * most_rules lists folding → new ≤ old + 4 * most_rules lists folding * (folding.kind_count - kept_count kept)
+pub pair-due : (lists : EstateLists) (folding : Folding) (old new kind : ℕ) (kept : List (Option (List CachedConns))) → kind < folding.kind_count → length kept ≤ folding.kind_count → kept_at kept kind ≡ None → new ≤ old + 4 * most_rules lists folding → new ≤ old + 4 * most_rules lists folding * (folding.kind_count - kept_count kept)
 pair-due lists folding old new kind kept within few none steps =
     let most = 4 * most_rules lists folding in
     let low = kept_count-below kept kind folding.kind_count few within none in
@@ -217,7 +217,7 @@ pair-due lists folding old new kind kept within few none steps =
     omega (arith, steps, one)
 
 -- and no more when it is kept
-pub pair-counted : (lists : EstateLists) (folding : Folding) (old new kind : ℕ) (kept kept' : List (Option (List KeptConns))) → kind < folding.kind_count → length kept ≤ folding.kind_count → kept_at kept kind ≡ None → kept_count kept' ≡ kept_count kept + 1 → new ≤ old + 4 * most_rules lists folding → new + 4 * most_rules lists folding * (folding.kind_count - kept_count kept') ≤ old + 4 * most_rules lists folding * (folding.kind_count - kept_count kept)
+pub pair-counted : (lists : EstateLists) (folding : Folding) (old new kind : ℕ) (kept kept' : List (Option (List CachedConns))) → kind < folding.kind_count → length kept ≤ folding.kind_count → kept_at kept kind ≡ None → kept_count kept' ≡ kept_count kept + 1 → new ≤ old + 4 * most_rules lists folding → new + 4 * most_rules lists folding * (folding.kind_count - kept_count kept') ≤ old + 4 * most_rules lists folding * (folding.kind_count - kept_count kept)
 pair-counted lists folding old new kind kept kept' within few none more steps =
     let most = 4 * most_rules lists folding in
     let low = kept_count-below kept kind folding.kind_count few within none in
@@ -229,17 +229,17 @@ pair-counted lists folding old new kind kept kept' within few none more steps =
 -- ---- places
 
 -- for the next place of the same source the same is kept
-pub IsKept-same_source : (lists : EstateLists) (folding : Folding) (place : ℕ) (kept : List (Option (List KeptConns))) → place < length folding.workloads * length folding.workloads → place % length folding.workloads + 1 ≢ length folding.workloads → IsKept lists folding (place / length folding.workloads) kept → IsKept lists folding ((place + 1) / length folding.workloads) kept
+pub IsKept-same_source : (lists : EstateLists) (folding : Folding) (place : ℕ) (kept : List (Option (List CachedConns))) → place < length folding.workloads * length folding.workloads → place % length folding.workloads + 1 ≢ length folding.workloads → IsKept lists folding (place / length folding.workloads) kept → IsKept lists folding ((place + 1) / length folding.workloads) kept
 IsKept-same_source lists folding place kept below more is =
     let P : ℕ → Type 0 = λ source. IsKept lists folding source kept in
     subst P (sym (same_source (length folding.workloads) place below more)) is
 
 -- and behind the pairs there is no source
-pub IsKept-behind : (lists : EstateLists) (folding : Folding) (place : ℕ) (kept : List (Option (List KeptConns))) → length folding.workloads * length folding.workloads ≤ place → IsKept lists folding (place / length folding.workloads) kept
+pub IsKept-behind : (lists : EstateLists) (folding : Folding) (place : ℕ) (kept : List (Option (List CachedConns))) → length folding.workloads * length folding.workloads ≤ place → IsKept lists folding (place / length folding.workloads) kept
 unfolding IsKept
 IsKept-behind lists folding place kept up destination conns near far alone is = absurd (source-behind (length folding.workloads) place up near)
 
 -- for a later place of the same source the same is kept
-pub IsKept-over : (lists : EstateLists) (folding : Folding) (place later : ℕ) (kept : List (Option (List KeptConns))) → IsOfSameSource (length folding.workloads) place later → IsKept lists folding (place / length folding.workloads) kept → IsKept lists folding (later / length folding.workloads) kept
+pub IsKept-over : (lists : EstateLists) (folding : Folding) (place later : ℕ) (kept : List (Option (List CachedConns))) → IsOfSameSource (length folding.workloads) place later → IsKept lists folding (place / length folding.workloads) kept → IsKept lists folding (later / length folding.workloads) kept
 IsKept-over lists folding place later kept same is =
     subst (λ (source : ℕ). IsKept lists folding source kept) (sym (over-source (length folding.workloads) place later same)) is

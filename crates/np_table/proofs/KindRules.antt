@@ -7,12 +7,12 @@ use Rattle.np_fold.specs.Blocks.{cidrs_of_peer, cidrs_of_rule}
 use Rattle.np_fold.specs.Keys.{keys_of_admin_peer, keys_of_admin_rule, keys_of_net_peer, keys_of_net_rule}
 use Rattle.np_table.proofs.KindLists.{All-both, All-each, All-flat, All-weaker, list_any-same, none_or_any-same}
 use Rattle.np_table.proofs.KindPeers.{AgreeAt, AgreeIn, SameEnd, admin_entry-same, admin_peer-same, net_entry-same, net_peer-same}
-use Rattle.np_policies.specs.declared.admin_policy.AdminPeer.{AdminPeer}
-use Rattle.np_policies.specs.declared.admin_policy.AdminPort.{AdminPort}
-use Rattle.np_policies.specs.declared.admin_policy.AdminRule.{AdminRule}
-use Rattle.np_policies.specs.declared.network_policy.NetPeer.{NetPeer}
-use Rattle.np_policies.specs.declared.network_policy.NetPort.{NetPort}
-use Rattle.np_policies.specs.declared.network_policy.NetRule.{NetRule}
+use Rattle.np_model.specs.declared.admin_policy.AdminPeer.{AdminPeer}
+use Rattle.np_model.specs.declared.admin_policy.AdminPort.{AdminPort}
+use Rattle.np_model.specs.declared.admin_policy.AdminRule.{AdminRule}
+use Rattle.np_model.specs.declared.network_policy.NetPeer.{NetPeer}
+use Rattle.np_model.specs.declared.network_policy.NetPort.{NetPort}
+use Rattle.np_model.specs.declared.network_policy.NetRule.{NetRule}
 use Rattle.np_rules.specs.Ends.{Contact, End}
 use Rattle.np_rules.specs.Peers.{admin_peer_matches, net_peer_matches}
 use Rattle.np_rules.specs.PortEntries.{admin_entry_matches, net_entry_matches}

@@ -9,13 +9,13 @@ use Rattle.np_table.proofs.KindPeers.{AgreeAt, AgreeIn, SamePod}
 use Rattle.np_table.proofs.KindRules.{IsAlikeAt, SameContact, admin_rules-same, net_rule-same}
 use Rattle.np_table.proofs.KindSelectors.{AgreeOn, selector-same}
 use Rattle.np_labels.specs.Selectors.{meets_selector}
-use Rattle.np_policies.specs.declared.admin_policy.AdminPolicy.{AdminPolicy}
-use Rattle.np_policies.specs.declared.admin_policy.BasePolicy.{BasePolicy}
-use Rattle.np_policies.specs.declared.admin_policy.Subject.{Subject}
-use Rattle.np_policies.specs.declared.direction.Direction.{Direction}
-use Rattle.np_policies.specs.declared.direction.Direction.TheVariants.{Ingress, Egress}
-use Rattle.np_policies.specs.declared.network_policy.NetPolicy.{NetPolicy}
-use Rattle.np_policies.specs.declared.network_policy.NetRule.{NetRule}
+use Rattle.np_model.specs.declared.admin_policy.AdminPolicy.{AdminPolicy}
+use Rattle.np_model.specs.declared.admin_policy.BasePolicy.{BasePolicy}
+use Rattle.np_model.specs.declared.admin_policy.Subject.{Subject}
+use Rattle.np_model.specs.declared.direction.Direction.{Direction}
+use Rattle.np_model.specs.declared.direction.Direction.TheVariants.{Ingress, Egress}
+use Rattle.np_model.specs.declared.network_policy.NetPolicy.{NetPolicy}
+use Rattle.np_model.specs.declared.network_policy.NetRule.{NetRule}
 use Rattle.np_rules.specs.Ends.{Contact, PodEnd}
 use Rattle.np_rules.specs.NetTier.{placed_net_matches}
 use Rattle.np_rules.specs.Places.{PlacedNetRule, admin_places, admin_places_of, admin_rules_of, base_places, base_rules_of, net_places, net_places_of, net_rules_of}

@@ -7,16 +7,16 @@ use Rattle.np_addr.specs.declared.address.Family.{Family}
 use Rattle.np_classes.specs.Classes.{class_of}
 use Rattle.np_conns.specs.Conns.{Conns, has_spot, is_spot}
 use Rattle.np_conns.specs.declared.port_spot.PortSpot.{PortSpot}
-use Rattle.np_estate.specs.Lawful.{AgreeOnNamespace, IsLawful}
-use Rattle.np_estate.specs.declared.lists.EstateLists.{EstateLists}
-use Rattle.np_estate.specs.declared.pod.Pod.{Pod}
+use Rattle.np_model.specs.Lawful.{AgreeOnNamespace, IsLawful}
+use Rattle.np_model.specs.declared.lists.EstateLists.{EstateLists}
+use Rattle.np_model.specs.declared.pod.Pod.{Pod}
 use Rattle.np_fold.proofs.WorkloadLemmas.{first-is, number-in_workloads, one_kind, one_workload, workloads-count}
 use Rattle.np_fold.specs.Alike.{IsSameKind}
 use Rattle.np_fold.specs.Workloads.{Folding, first_pod, folding_of, kinds_alike, members_of, number_of, workload_count, workloads_of}
 use Rattle.np_table.proofs.KindVerdicts.{SameKindEnd-ends, end_rule_count-same, packet-same}
 use Rattle.np_table.specs.Ends.{AreOneKind}
-use Rattle.np_policies.specs.declared.direction.Direction.{Direction}
-use Rattle.np_policies.specs.declared.direction.Direction.TheVariants.{Egress, Ingress}
+use Rattle.np_model.specs.declared.direction.Direction.{Direction}
+use Rattle.np_model.specs.declared.direction.Direction.TheVariants.{Egress, Ingress}
 use Rattle.np_table.specs.Right.{conns_of}
 use Rattle.np_rules.specs.Ends.{End, address, pod}
 use Rattle.np_rules.specs.Places.{rule_count}

@@ -1,5 +1,5 @@
 pub mod Ends
-pub mod Kept
+pub mod RowCache
 pub mod PairRules
 pub mod Right
 pub mod Rows

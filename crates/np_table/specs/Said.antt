@@ -6,9 +6,9 @@ use Rattle.np_addr.specs.declared.address.Family.TheVariants as family
 use Rattle.np_base.specs.Ranges.{is_within}
 use Rattle.np_conns.specs.Conns.{has_spot, is_spot}
 use Rattle.np_conns.specs.declared.port_spot.PortSpot.{PortSpot}
-use Rattle.np_estate.specs.Families.{same_family}
-use Rattle.np_policies.specs.declared.direction.Direction.{Direction}
-use Rattle.np_policies.specs.declared.direction.Direction.TheVariants.{Ingress, Egress}
+use Rattle.np_model.specs.Families.{same_family}
+use Rattle.np_model.specs.declared.direction.Direction.{Direction}
+use Rattle.np_model.specs.declared.direction.Direction.TheVariants.{Ingress, Egress}
 use Rattle.np_table.specs.declared.rows.AddressSpan.{AddressSpan}
 use Rattle.np_table.specs.declared.rows.AddressSpan.TheVariants as span
 use Rattle.np_table.specs.declared.rows.Row.{Row}

@@ -1,16 +1,16 @@
 -- The rows of a table one after another.
 use Rattle.std.specs.Prelude.{ℕ, ◌≡◌, ◌<◌, ◌≤◌, ◌^◌, ◌+◌, ◌-◌, ◌*◌, ◌/◌, ◌%◌, List, [], ◌∷◌, ◌==◌, Option, flat_map, length, map, max, nat_lt, if◌then◌else◌}
 use Rattle.std.specs.List.{range_with_len}
-use Rattle.np_estate.specs.declared.lists.EstateLists.{EstateLists}
+use Rattle.np_model.specs.declared.lists.EstateLists.{EstateLists}
 use Rattle.np_fold.specs.Workloads.{Folding, folding_of}
-use Rattle.np_policies.specs.declared.direction.Direction.{Direction}
-use Rattle.np_policies.specs.declared.direction.Direction.TheVariants.{Ingress, Egress}
+use Rattle.np_model.specs.declared.direction.Direction.{Direction}
+use Rattle.np_model.specs.declared.direction.Direction.TheVariants.{Ingress, Egress}
 use Rattle.np_rules.specs.Places.{rule_count}
 use Rattle.np_rules.specs.Verdict.{pod_at}
-use Rattle.np_table.specs.Kept.{IsKept, kept_count}
+use Rattle.np_table.specs.RowCache.{IsKept, kept_count}
 use Rattle.np_table.specs.Rows.{pair_rows, rows_towards}
 use Rattle.np_table.specs.Table.{Table, number_of_workloads, source_pod}
-use Rattle.np_table.specs.declared.kept.KeptConns.{KeptConns}
+use Rattle.np_table.specs.declared.row_cache.CachedConns.{CachedConns}
 use Rattle.np_table.specs.declared.rows.Row.{Row}
 
 -- what is still to come of the rows of a table, and an upper bound of the rules that are still to be looked at for them
@@ -69,7 +69,7 @@ unfoldable pub most_rules : EstateLists → Folding → ℕ
 most_rules lists folding = greatest (map (λ workload. max (rules_of lists folding Ingress workload) (rules_of lists folding Egress workload)) (range_with_len 0 (length folding.workloads)))
 
 -- what may yet be looked at for the source at hand: four times the most for each kind for which nothing is kept
-abbrev pub due_for_kinds : EstateLists → Folding → List (Option (List KeptConns)) → ℕ
+abbrev pub due_for_kinds : EstateLists → Folding → List (Option (List CachedConns)) → ℕ
 due_for_kinds lists folding kept = 4 * most_rules lists folding * (folding.kind_count - kept_count kept)
 
 -- With so many workloads and kinds, and rules at most that speak of one: among the pairs, four times the most for each
@@ -81,13 +81,13 @@ due_at count kinds most unkept place =
     else most * (place_count count - place)
 
 -- the same at a place, where this is kept
-unfoldable pub due_from : EstateLists → Folding → ℕ → List (Option (List KeptConns)) → ℕ
+unfoldable pub due_from : EstateLists → Folding → ℕ → List (Option (List CachedConns)) → ℕ
 due_from lists folding place kept = due_at (length folding.workloads) folding.kind_count (most_rules lists folding) (folding.kind_count - kept_count kept) place
 
 -- ---- rows under way
 
 -- The next rows are those at a place that is not behind the last one, and what is kept is of the source at that place.
-pub record IsUnderWay (lists : EstateLists) (place end : ℕ) (kept : List (Option (List KeptConns))) : Type 0 where
+pub record IsUnderWay (lists : EstateLists) (place end : ℕ) (kept : List (Option (List CachedConns))) : Type 0 where
   pub last : end ≡ place_count (number_of_workloads lists)
   pub within : place ≤ end
   pub fits : end < 2 ^ 64

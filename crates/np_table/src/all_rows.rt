@@ -2,22 +2,22 @@
 ghost use Rattle.std.specs.Prelude.{◌≡◌, ◌≤◌, ◌<◌, ◌+◌, ◌*◌, ◌/◌, ◌^◌, ◌∷◌, []};
 ghost use Rattle.std.specs.Prelude.{IfOk, OnErr, OnOk, MatchOption, length, map, reverse};
 ghost use Rattle.np_fold.specs.Workloads.{folding_of};
-ghost use Rattle.np_policies.specs.declared.direction.Direction.{Direction};
-ghost use Rattle.np_table.specs.Kept.{IsKept};
+ghost use Rattle.np_model.specs.declared.direction.Direction.{Direction};
+ghost use Rattle.np_table.specs.RowCache.{IsKept};
 ghost use Rattle.np_table.specs.PairRules.{AreOfKinds, IsKindReach};
 ghost use Rattle.np_table.specs.Rows as table;
 ghost use Rattle.np_table.specs.Table.{estate_table, number_of_workloads};
 ghost use Rattle.np_table.specs.ToCome as spec;
 
-use crate::kept::Kept;
 use crate::kind_reach::KindReach;
+use crate::row_cache::RowCache;
 use crate::rows::{AddressRow, Row, RowEnd, RowKey};
 use crate::rows_by_kind::rows_by_kind;
 use crate::rows_of_addresses::rows_by_addresses;
 use crate::rules_by_kind::KindRules;
 use np_base::{NoMemory, Seq};
 use np_fold::{Folded, Workloads};
-use np_policies::Direction;
+use np_model::Direction;
 use np_steps::Steps;
 use std::alloc::Global;
 use std::marker::Model;
@@ -37,7 +37,7 @@ pub struct Rows<'a> {
     place: u64,
     end: u64,
     // What is known of the rows from the source at that place.
-    kept: Kept,
+    kept: RowCache,
     // Rows that were made and not given, the last one first.
     ready: Vec<Row>,
 }
@@ -74,7 +74,7 @@ impl<'a> Rows<'a> {
             rules: KindRules::nothing(alloc),
             place: 0,
             end,
-            kept: Kept::nothing(alloc),
+            kept: RowCache::nothing(alloc),
             ready: Vec::new(alloc),
         }
     }
@@ -157,7 +157,7 @@ fn rows_at<L: Ledger>(
     folded: &Folded,
     rules: &KindRules<'_>,
     place: u64,
-    kept: &mut Kept,
+    kept: &mut RowCache,
     steps: &mut Steps<L>,
 ) -> Result<Seq<Row>, NoMemory>
     requires rules { AreOfKinds folded.now rules.now }
@@ -182,7 +182,7 @@ fn rows_at<L: Ledger>(
     let destination = (place % count) as u32;
     let rows = rows_by_kind(alloc, folded, rules, source, destination, kept, steps)?;
     if place % count + 1 == count {
-        *kept = Kept::nothing(alloc);
+        *kept = RowCache::nothing(alloc);
     }
     Ok(rows)
 }

@@ -2,10 +2,10 @@
 ghost use Rattle.std.specs.Prelude.{◌≡◌};
 ghost use Rattle.np_addr.specs.declared.address.Family.{Family};
 ghost use Rattle.np_conns.specs.declared.port_spot.PortSpot.{PortSpot};
-ghost use Rattle.np_estate.specs.declared.lists.EstateLists.{EstateLists};
+ghost use Rattle.np_model.specs.declared.lists.EstateLists.{EstateLists};
 ghost use Rattle.np_table.specs.Ends.{AreOneKind};
-ghost use Rattle.np_policies.specs.declared.direction.Direction.{Direction};
-ghost use Rattle.np_policies.specs.declared.direction.Direction.TheVariants.{Ingress, Egress};
+ghost use Rattle.np_model.specs.declared.direction.Direction.{Direction};
+ghost use Rattle.np_model.specs.declared.direction.Direction.TheVariants.{Ingress, Egress};
 ghost use Rattle.np_rules.specs.Deciders.{decider};
 ghost use Rattle.np_rules.specs.Ends.{End, contact_of};
 ghost use Rattle.np_rules.specs.Places.{end_rule_count};

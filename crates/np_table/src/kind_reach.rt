@@ -2,9 +2,9 @@
 ghost use Rattle.std.specs.Prelude.{◌≡◌, IfOk, false, map, not, slice_index, true};
 ghost use Rattle.np_addr.specs.declared.address.Family.{Family};
 ghost use Rattle.np_conns.specs.declared.port_spot.PortSpot.{PortSpot};
-ghost use Rattle.np_estate.specs.declared.lists.EstateLists.{EstateLists};
+ghost use Rattle.np_model.specs.declared.lists.EstateLists.{EstateLists};
 ghost use Rattle.np_fold.specs.Workloads.{folding_of};
-ghost use Rattle.np_policies.specs.declared.direction.Direction.TheVariants.{Egress, Ingress};
+ghost use Rattle.np_model.specs.declared.direction.Direction.TheVariants.{Egress, Ingress};
 ghost use Rattle.np_reach.specs.Reach.{reach_of};
 ghost use Rattle.np_rules.specs.Ends.{pod_end};
 ghost use Rattle.np_table.specs.PairRules as spec;
@@ -12,9 +12,8 @@ ghost use Rattle.np_table.specs.Table.{IsWorkload, pair_allows};
 ghost use Rattle.np_table.specs.steps.PairSides.{may_pass};
 
 use np_base::NoMemory;
-use np_estate::Pod;
 use np_fold::Folded;
-use np_policies::Direction;
+use np_model::{Direction, Pod};
 use np_reach::Reach;
 use std::alloc::Global;
 

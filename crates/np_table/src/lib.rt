@@ -2,12 +2,12 @@
 #![tactic(auto)]
 
 mod all_rows;
-mod kept;
 mod kind_laws;
 mod kind_reach;
 mod laws;
 mod pair_sets;
 mod range_laws;
+mod row_cache;
 mod rows;
 mod rows_by_kind;
 mod rows_of_addresses;

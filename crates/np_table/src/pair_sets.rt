@@ -3,7 +3,7 @@ ghost use Rattle.std.specs.Prelude.{◌≡◌, ◌≢◌, ◌≤◌, ◌<◌, �
 ghost use Rattle.std.specs.Prelude.{None, Some, Contains, length, true, IfOk, IfSome};
 ghost use Rattle.np_conns.specs.Conns.{IsConns, has_spot, is_spot};
 ghost use Rattle.np_conns.specs.declared.port_spot.PortSpot.{PortSpot};
-ghost use Rattle.np_estate.specs.Lawful.{IsLawful};
+ghost use Rattle.np_model.specs.Lawful.{IsLawful};
 ghost use Rattle.np_fold.specs.Workloads.{folding_of, members_of};
 ghost use Rattle.np_rules.specs.PodSides.{side_rule_count};
 ghost use Rattle.np_table.specs.PairRules as rules;
@@ -15,7 +15,7 @@ use np_addr::Family;
 use np_base::{Cells, NoMemory};
 use np_conns::ConnSet;
 use np_fold::{Folded, Workloads};
-use np_policies::Direction;
+use np_model::Direction;
 use np_rules::PodRules;
 use np_steps::Steps;
 use np_tiers::verdict_set;
@@ -44,7 +44,7 @@ pub fn pair_set<L: Ledger>(
     ensures least { steps.old ≤ steps.new }
     ensures most { steps.new ≤ steps.old + rules.rules_of_pair folded.now source destination }
 {
-    let Some(ends) = ends_of_pair(alloc, folded, source, destination)? else {
+    let Some(ends) = rules_of_pair(alloc, folded, source, destination)? else {
         return Ok(None);
     };
     let set = set_between(alloc, &ends.sender, &ends.receiver, family, steps)?;
@@ -59,7 +59,7 @@ pub(crate) struct PairEnds<'a> {
 }
 
 /// The rules of the pods that stand for two workloads. `None` exactly where a workload of one pod meets itself.
-pub(crate) fn ends_of_pair<'a>(
+pub(crate) fn rules_of_pair<'a>(
     alloc: Global,
     folded: &'a Folded,
     source: u32,

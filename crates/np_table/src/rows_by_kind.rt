@@ -1,20 +1,20 @@
 //! The rows of two workloads, by their kinds.
 ghost use Rattle.std.specs.Prelude.{◌≡◌, ◌<◌, ◌≤◌, ◌+◌, length, IfOk, OnErr, OnOk};
 ghost use Rattle.np_fold.specs.Workloads.{folding_of};
-ghost use Rattle.np_table.specs.Kept.{IsKept};
+ghost use Rattle.np_table.specs.RowCache.{IsKept};
 ghost use Rattle.np_table.specs.PairRules.{AreOfKinds};
 ghost use Rattle.np_table.specs.Rows as spec;
 ghost use Rattle.np_table.specs.Table as table;
 ghost use Rattle.np_table.specs.Table.{IsWorkload, estate_table};
 ghost use Rattle.np_table.specs.ToCome.{due_for_kinds};
 
-use crate::kept::Kept;
+use crate::row_cache::RowCache;
 use crate::rows::Row;
 use crate::rows_of_pairs::{pair_key, rows_between};
 use crate::rules_by_kind::KindRules;
 use np_base::{NoMemory, Seq};
 use np_fold::{Folded, Workloads};
-use np_policies::Direction;
+use np_model::Direction;
 use np_steps::Steps;
 use std::alloc::Global;
 use std::sync::ledger::Ledger;
@@ -29,7 +29,7 @@ pub(crate) fn rows_by_kind<L: Ledger>(
     rules: &KindRules<'_>,
     source: u32,
     destination: u32,
-    kept: &mut Kept,
+    kept: &mut RowCache,
     steps: &mut Steps<L>,
 ) -> Result<Seq<Row>, NoMemory>
     requires rules { AreOfKinds folded.now rules.now }

@@ -6,7 +6,7 @@ ghost use Rattle.np_table.specs.Right.{conns_of};
 ghost use Rattle.np_table.specs.Rows as spec;
 ghost use Rattle.np_table.specs.Table.{IsWorkload, between_pods, estate_table};
 
-use crate::pair_sets::{ends_of_pair, set_between};
+use crate::pair_sets::{rules_of_pair, set_between};
 use crate::rows::{Row, RowEnd, RowKey};
 use np_addr::Family;
 use np_base::{Cells, NoMemory, Seq};
@@ -33,7 +33,7 @@ pub fn pair_rows<L: Ledger>(
     ensures least { steps.old ≤ steps.new }
     ensures most { steps.new ≤ steps.old + 2 * rules.rules_of_pair folded.now source destination }
 {
-    let Some(ends) = ends_of_pair(alloc, folded, source, destination)? else {
+    let Some(ends) = rules_of_pair(alloc, folded, source, destination)? else {
         return Ok(Seq::new(alloc));
     };
     let key = pair_key(source, destination);

@@ -7,7 +7,7 @@ ghost use Rattle.np_table.specs.steps.PairSides.{sides_at};
 use crate::kind_reach::KindReach;
 use np_base::NoMemory;
 use np_fold::Folded;
-use np_policies::Direction;
+use np_model::Direction;
 use np_rules::PodRules;
 use std::alloc::Global;
 

@@ -1,6 +1,6 @@
 //! Lists that are read, folded and asked.
 ghost use Rattle.std.specs.Prelude.{◌≡◌, ◌<◌};
-ghost use Rattle.np_estate.specs.Lawful.{IsLawful};
+ghost use Rattle.np_model.specs.Lawful.{IsLawful};
 
 use crate::explained::explained_text;
 use crate::exposed::{exposed_text, weight_text};
@@ -9,11 +9,11 @@ use crate::routed::{flaws_text, reached_text};
 use crate::stated::broken_text;
 use crate::unused::unused_text;
 use np_base::NoMemory;
-use np_estate::Estate;
 use np_fold::Folded;
-use np_policies::Direction;
-use np_samples::{input_of, list_of};
+use np_model::{Direction, Estate};
+use np_reading::read_estate;
 use np_steps::Steps;
+use np_test_samples::{input_of, list_of};
 use std::alloc::Global;
 use std::marker::Brand;
 use std::process::Abort;
@@ -53,7 +53,7 @@ pub fn expect_answers(rt: &impl Abort, alloc: Global, items: &[&str], wanted: &[
 // What the text of a list answers: why it is refused, or what its estate answers.
 fn answer(alloc: Global, text: &str, question: Question) -> Result<String, NoMemory> {
     let inputs = input_of(alloc, text)?;
-    match Estate::read(alloc, &inputs) {
+    match read_estate(alloc, &inputs) {
         Ok(estate) => answer_of_estate(alloc, estate, question),
         Err(refusal) => Ok(format!(in alloc; "{refusal}")?),
     }

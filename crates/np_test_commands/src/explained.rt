@@ -6,7 +6,7 @@ use np_base::{NoMemory, Seq, Text};
 use np_conns::print_conns;
 use np_explain::{explain, print_decider};
 use np_fold::Folded;
-use np_policies::Direction;
+use np_model::Direction;
 use np_rules::{Decider, End, PolicyNames};
 use np_steps::Steps;
 use std::alloc::Global;

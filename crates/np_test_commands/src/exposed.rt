@@ -3,9 +3,8 @@
 use crate::asked::{Question, expect_answers};
 use np_base::NoMemory;
 use np_conns::print_conns;
-use np_estate::Estate;
 use np_exposure::{ExposureFault, ExposureRow, exposure, print_peer, weight};
-use np_policies::Direction;
+use np_model::{Direction, Estate};
 use np_steps::Steps;
 use std::alloc::Global;
 use std::sync::ledger::Ledger;

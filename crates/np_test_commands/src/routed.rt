@@ -3,8 +3,8 @@
 use crate::asked::{Question, expect_answers};
 use np_base::NoMemory;
 use np_conns::print_conns;
-use np_estate::Estate;
 use np_fold::Folded;
+use np_model::Estate;
 use np_routes::{ingress_set, route_notes};
 use np_steps::Steps;
 use std::alloc::Global;

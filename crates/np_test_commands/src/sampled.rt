@@ -1,6 +1,6 @@
 //! The sample cluster, as kubectl would print it.
 
-use np_cluster::sample;
+use np_sample::sample;
 
 // One pod, written out by hand. The line breaks are not in the text.
 static ONE_POD: &str = r#"{"apiVersion":"v1","items":[

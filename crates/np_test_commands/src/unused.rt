@@ -4,9 +4,9 @@ ghost use Rattle.np_lint.specs.Rules.{IsRuleOf};
 
 use crate::asked::{Question, expect_answers};
 use np_base::NoMemory;
-use np_estate::Estate;
 use np_fold::Folded;
 use np_lint::{RuleRef, print_rule, unused_rules};
+use np_model::Estate;
 use np_steps::Steps;
 use std::alloc::Global;
 use std::sync::ledger::Ledger;

@@ -1,8 +1,9 @@
 //! Lists that are read, and what is seen of them. An estate lives nowhere else, so that few functions let one go.
 
 use np_base::NoMemory;
-use np_estate::{Estate, Pod};
-use np_samples::input_of;
+use np_model::{Estate, Pod};
+use np_reading::read_estate;
+use np_test_samples::input_of;
 use std::alloc::Global;
 use std::process::Abort;
 
@@ -30,7 +31,7 @@ pub fn expect_seen(rt: &impl Abort, alloc: Global, list: &str, wanted: &[(Seen, 
 // What is seen of the estate of a list, or why the list is refused.
 fn seen_in(alloc: Global, list: &str, seen: &Seen) -> Result<String, NoMemory> {
     let inputs = input_of(alloc, list)?;
-    match Estate::read(alloc, &inputs) {
+    match read_estate(alloc, &inputs) {
         Ok(estate) => seen_of(alloc, &estate, seen),
         Err(refusal) => Ok(format!(in alloc; "{refusal}")?),
     }

@@ -3,7 +3,7 @@
 use np_base::NoMemory;
 use np_items::{Item, read_items};
 use np_objects::Object;
-use np_samples::input_of;
+use np_test_samples::input_of;
 use std::alloc::Global;
 use std::test::Fail;
 

@@ -3,7 +3,7 @@
 use crate::estates::{Seen, expect_seen};
 use crate::lists::{DEPLOYMENT, OWNED, POD, REPLICA_SET};
 use np_base::NoMemory;
-use np_samples::list_of;
+use np_test_samples::list_of;
 use std::alloc::{AllocError, Global};
 use std::test::Fail;
 

@@ -1,7 +1,7 @@
 //! The labels of namespaces, and the order of policies.
 
 use crate::estates::{Seen, expect_seen};
-use np_samples::{Policy, items_of, list_of};
+use np_test_samples::{Policy, items_of, list_of};
 use std::test::Fail;
 
 // A pod of a namespace with an object of its own, whose labels say another name, and a pod of one without.

@@ -1,6 +1,6 @@
 //! Lists that are read, folded and asked. An estate lives nowhere else, so that few functions let it go.
 ghost use Rattle.std.specs.Prelude.{◌≡◌, ◌<◌, length};
-ghost use Rattle.np_estate.specs.Lawful.{IsLawful};
+ghost use Rattle.np_model.specs.Lawful.{IsLawful};
 ghost use Rattle.np_fold.specs.Workloads.{folding_of};
 
 use crate::described::{counts, number_named, numbers_of_pods, relevant, size, workloads_by_name};
@@ -9,10 +9,11 @@ use crate::question::Question;
 use crate::seen::{blocks, keys, traits};
 use crate::tables::{pair_rows_text, pair_set_text, ranges_text, rows_text, silence_text};
 use np_base::NoMemory;
-use np_estate::Estate;
 use np_fold::Folded;
-use np_samples::input_of;
+use np_model::Estate;
+use np_reading::read_estate;
 use np_steps::Steps;
+use np_test_samples::input_of;
 use std::alloc::Global;
 use std::marker::Brand;
 use std::process::Abort;
@@ -30,7 +31,7 @@ pub fn expect_answers(rt: &impl Abort, alloc: Global, list: List, wanted: &[(Que
 // What the text of a list answers: why it is refused, or what its estate answers.
 fn answer(alloc: Global, text: &str, question: &Question) -> Result<String, NoMemory> {
     let inputs = input_of(alloc, text)?;
-    match Estate::read(alloc, &inputs) {
+    match read_estate(alloc, &inputs) {
         Ok(estate) => answer_of_estate(alloc, estate, question),
         Err(refusal) => Ok(format!(in alloc; "{refusal}")?),
     }

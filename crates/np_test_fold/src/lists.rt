@@ -1,7 +1,7 @@
 //! Lists of objects as texts.
 
 use np_base::NoMemory;
-use np_samples::{Pod, items_of, list_of};
+use np_test_samples::{Pod, items_of, list_of};
 use std::alloc::Global;
 
 /// A list.

@@ -3,7 +3,7 @@
 use crate::answers::expect_answers;
 use crate::lists::{List, OF_DB};
 use crate::question::Question;
-use np_samples::{BARE, Pod};
+use np_test_samples::{BARE, Pod};
 
 static POD_NAMES: &[Pod] = &[
     Pod {

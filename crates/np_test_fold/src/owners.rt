@@ -3,7 +3,7 @@
 use crate::answers::expect_answers;
 use crate::lists::{List, OF_DB, POLICY_ON_APP};
 use crate::question::Question;
-use np_samples::{BARE, Pod};
+use np_test_samples::{BARE, Pod};
 
 // The Deployment `web`, and two ReplicaSets that it owns.
 static WEB: &[&str] = &[

@@ -4,7 +4,7 @@ use crate::answers::expect_answers;
 use crate::lists::{List, OF_DB};
 use crate::question::Question;
 use np_addr::Family;
-use np_samples::{BARE, Pod};
+use np_test_samples::{BARE, Pod};
 
 // Workload 0 is of the one pod `c`, and workload 1 of the two pods of `db`.
 static PODS: &[Pod] = &[

@@ -1,7 +1,7 @@
 //! What is asked of a list.
 
 use np_addr::Family;
-use np_policies::Direction;
+use np_model::Direction;
 
 /// What is asked of the estate of a list and of its workloads. Workloads are named by their numbers.
 #[derive(Clone, Copy)]

@@ -3,8 +3,8 @@
 use crate::answers::expect_answers;
 use crate::lists::List;
 use crate::question::Question;
-use np_policies::Direction;
-use np_samples::{BARE, Pod};
+use np_model::Direction;
+use np_test_samples::{BARE, Pod};
 
 static ONE: &[Pod] = &[Pod { name: "a", ..BARE }];
 

@@ -3,7 +3,7 @@
 use crate::answers::expect_answers;
 use crate::lists::List;
 use crate::question::Question;
-use np_samples::{BARE, Pod};
+use np_test_samples::{BARE, Pod};
 
 // Pairs of workloads, and then each workload with all addresses: ingress and egress, IPv4 and IPv6.
 #[test]

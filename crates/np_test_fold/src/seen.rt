@@ -3,8 +3,8 @@
 use crate::described::names;
 use np_addr::{Address, Cidr, print_address};
 use np_base::NoMemory;
-use np_estate::Estate;
 use np_fold::{Traits, listed_cidrs, relevant_keys};
+use np_model::Estate;
 use std::alloc::{AllocError, Global};
 
 /// The keys of labels that the selectors of an estate name, each behind a space.

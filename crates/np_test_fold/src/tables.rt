@@ -7,7 +7,7 @@ use np_addr::Family;
 use np_base::NoMemory;
 use np_conns::{ConnSet, print_conns};
 use np_fold::Folded;
-use np_policies::Direction;
+use np_model::Direction;
 use np_report::{Report, row_text};
 use np_steps::Steps;
 use np_table::{KindReach, Row, Rows, address_rows, pair_rows, pair_set};

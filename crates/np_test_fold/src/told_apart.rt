@@ -3,7 +3,7 @@
 use crate::answers::expect_answers;
 use crate::lists::{List, OF_DB, POLICY_ON_APP};
 use crate::question::Question;
-use np_samples::{BARE, Pod};
+use np_test_samples::{BARE, Pod};
 
 // Pods with one value, with another, with an empty one, with none, and with the first again.
 static BY_APP: &[Pod] = &[

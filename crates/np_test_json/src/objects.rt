@@ -6,10 +6,8 @@ use np_addr::print_address;
 use np_base::{NoMemory, Seq};
 use np_json::ReadFault;
 use np_labels::Labels;
-use np_objects::{
-    Backend, ControllerItem, IngressItem, NamedPort, Object, OwnerRef, PodItem, PortName,
-    ServiceItem,
-};
+use np_model::{Backend, IngressItem, NamedPort, PortName, ServiceItem};
+use np_objects::{ControllerItem, Object, OwnerRef, PodItem};
 use std::alloc::Global;
 use std::fmt::Write;
 use std::test::Fail;

@@ -5,9 +5,10 @@ use crate::selectors::put_selector;
 use np_addr::{Cidr, print_cidr};
 use np_base::{NoMemory, Seq};
 use np_json::ReadFault;
-use np_policies::{
-    Action, AdminPeer, AdminPort, AdminRule, NetPeer, NetPolicy, NetPort, NetRule, Policy, Subject,
+use np_model::{
+    Action, AdminPeer, AdminPort, AdminRule, NetPeer, NetPolicy, NetPort, NetRule, Subject,
 };
+use np_policies::Policy;
 use std::alloc::Global;
 use std::fmt::Write;
 use std::test::Fail;

@@ -11,9 +11,8 @@ use crate::objects::put_object;
 use crate::parcels::ParcelShape;
 use crate::policies::put_policy;
 use np_base::NoMemory;
-use np_json::{
-    Flag, LabelMap, NamespacedNameShape, Port, TypeMetaShape, is_name, is_word, pairs_field,
-};
+use np_json::{Flag, LabelMap, NamespacedNameShape, Port, TypeMetaShape, pairs_field};
+use np_model::{is_name, is_word};
 use np_objects::read_object;
 use np_policies::read_policy;
 use serde_json::Value;

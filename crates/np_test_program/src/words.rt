@@ -1,8 +1,8 @@
 //! What words ask for, by example.
 
 use crate::runs::words_of;
+use np_args::{Job, WordsFault, read_words};
 use np_base::{NoMemory, Text};
-use np_words::{Job, WordsFault, read_words};
 use std::alloc::Global;
 use std::test::Fail;
 

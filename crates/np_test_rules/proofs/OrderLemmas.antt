@@ -1,8 +1,8 @@
 -- Policies that stand in order.
 use Rattle.std.proofs.Common.{◌≡◌, ℕ, zero, suc, ◌<◌, List, [], ◌∷◌, length, arith}
 use Rattle.std.specs.Prelude.{All, AllPairs}
-use Rattle.np_estate.specs.Lawful.{StandsBefore}
-use Rattle.np_policies.specs.declared.network_policy.NetPolicy.{NetPolicy}
+use Rattle.np_model.specs.Lawful.{StandsBefore}
+use Rattle.np_model.specs.declared.network_policy.NetPolicy.{NetPolicy}
 
 pub all_pairs_nothing : AllPairs StandsBefore []
 all_pairs_nothing i j d before within = absurd (omega (arith, within))

@@ -1,6 +1,6 @@
 //! Estates built from what the examples write down.
 ghost use Rattle.std.specs.Prelude.{◌≡◌, true, All, AllPairs};
-ghost use Rattle.np_estate.specs.Lawful.{HasAscendingPriorities, StandsBefore};
+ghost use Rattle.np_model.specs.Lawful.{HasAscendingPriorities, StandsBefore};
 
 use crate::written::{
     Pairs, WrittenAdmin, WrittenAdminPeer, WrittenAdminPort, WrittenAdminRule, WrittenBase,
@@ -9,12 +9,10 @@ use crate::written::{
 };
 use np_addr::{Address, Addresses, Cidr, read_address, read_cidr};
 use np_base::{Point, PortNum, Seq, Text};
-use np_estate::{Estate, EstateLists, Notes, Owner, Pod};
 use np_labels::{Labels, Pair, Selector, SharedLabels};
-use np_objects::NamedPort;
-use np_policies::{
-    AdminPeer, AdminPolicy, AdminPort, AdminRule, BasePolicy, NetPeer, NetPolicy, NetPort, NetRule,
-    Subject,
+use np_model::{
+    AdminPeer, AdminPolicy, AdminPort, AdminRule, BasePolicy, Estate, EstateLists, NamedPort,
+    NetPeer, NetPolicy, NetPort, NetRule, Notes, Owner, Pod, Subject,
 };
 use std::alloc::Global;
 use std::cmp::Ordering;

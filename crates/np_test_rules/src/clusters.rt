@@ -6,7 +6,7 @@ use crate::written::{
     WrittenRule,
 };
 use np_conns::Proto;
-use np_policies::Action;
+use np_model::Action;
 
 // The pods `a` and `b` of `default`, each with its name as its label `app`.
 const A_AND_B: &[WrittenPod] = &[

@@ -1,13 +1,12 @@
 //! The rules behind the places of a layer, against names that were written by hand.
 ghost use Rattle.std.specs.Prelude.{◌≡◌, true};
-ghost use Rattle.np_estate.specs.Lawful.{IsFew};
+ghost use Rattle.np_model.specs.Lawful.{IsFew};
 
 use crate::built::estate;
 use crate::clusters::{DENIED_BEFORE_ALLOWED, PASSED_TO_BASELINE, SAME_PORT_OF_TWO_PROTOCOLS};
 use crate::packets::place_named;
 use crate::written::{BARE, NOTHING, WrittenEstate, WrittenPod, WrittenPolicy, WrittenRule};
-use np_estate::Estate;
-use np_policies::Direction;
+use np_model::{Direction, Estate};
 use np_rules::{LayerRules, RuleId, layer_rules};
 use std::alloc::Global;
 use std::process::Abort;

@@ -7,7 +7,7 @@ use crate::written::WrittenEstate;
 use np_addr::{Family, family_of, read_address};
 use np_base::{Point, PortNum};
 use np_conns::{ConnSet, PortSpot, Proto, read_conns};
-use np_estate::{Estate, Pod};
+use np_model::{Estate, Pod};
 use np_rules::{End, Packet, allows};
 use np_steps::Steps;
 use std::alloc::Global;

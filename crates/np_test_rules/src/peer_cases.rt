@@ -7,7 +7,7 @@ use crate::written::{
     WrittenRule,
 };
 use np_addr::Family;
-use np_policies::Action;
+use np_model::Action;
 use std::alloc::Global;
 use std::process::Abort;
 use std::test::Fail;

@@ -8,7 +8,7 @@ use crate::written::{
 };
 use np_addr::Family;
 use np_conns::Proto;
-use np_policies::Action;
+use np_model::Action;
 use std::alloc::Global;
 use std::process::Abort;
 use std::test::Fail;

@@ -11,7 +11,7 @@ use crate::written::WrittenEstate;
 use np_addr::Family;
 use np_base::Cells;
 use np_conns::read_conns;
-use np_estate::Estate;
+use np_model::Estate;
 use std::alloc::Global;
 use std::process::Abort;
 use std::test::Fail;

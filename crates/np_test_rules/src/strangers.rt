@@ -12,8 +12,7 @@ use crate::written::{
 use np_addr::Family;
 use np_base::Cells;
 use np_conns::{ConnSet, Proto, read_conns};
-use np_estate::Estate;
-use np_policies::Direction;
+use np_model::{Direction, Estate};
 use np_rules::{Stranger, stranger_layer};
 use np_steps::Steps;
 use np_tiers::verdict_set;

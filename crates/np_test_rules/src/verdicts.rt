@@ -11,10 +11,9 @@ use crate::written::{
 };
 use np_addr::Family;
 use np_base::PortNum;
-use np_conns::Proto;
-use np_estate::Estate;
-use np_policies::Action;
-use np_rules::{End, Packet, allows};
+use np_conns::{PortSpot, Proto};
+use np_model::{Action, Estate};
+use np_rules::{End, Packet, allows, said_text};
 use np_steps::Steps;
 use std::marker::Brand;
 use std::sync::ledger::{Blank, Ledger};
@@ -295,5 +294,16 @@ fn one_counter_goes_through_two_calls(rt: HostRuntime) -> Result<(), Fail> {
     let allowed = both_verdicts(&estate, &there, &back);
     assert!(rt; !allowed.0, "91 does not arrive at `b`");
     assert!(rt; allowed.1, "but at `a`");
+    Ok(())
+}
+
+#[test]
+fn a_verdict_is_said(rt: HostRuntime) -> Result<(), Fail> {
+    let spot = PortSpot {
+        proto: Proto::Udp,
+        port: PortNum::new(53),
+    };
+    assert!(rt; said_text(rt.alloc(), spot, true)?.as_str() == "UDP 53 : Allow");
+    assert!(rt; said_text(rt.alloc(), spot, false)?.as_str() == "UDP 53 : Deny");
     Ok(())
 }

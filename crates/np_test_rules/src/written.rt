@@ -1,7 +1,7 @@
 //! The form in which the examples write estates down.
 
 use np_conns::Proto;
-use np_policies::Action;
+use np_model::Action;
 
 /// Labels, as keys with values; and a selector of what has all of them.
 pub type Pairs = &'static [(&'static str, &'static str)];

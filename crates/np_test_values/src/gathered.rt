@@ -1,13 +1,13 @@
 //! Bytes that are gathered before a sink takes them, by example.
 
 use np_base::NoMemory;
-use np_io::{Gathered, MemSink};
+use np_io::{BufferedSink, MemSink};
 use std::alloc::Global;
 use std::test::Fail;
 
 // Puts these texts one after another, and hands on what is held then. Says whether the sink took all.
 fn gather(alloc: Global, out: &mut MemSink, texts: &[&[u8]]) -> Result<bool, NoMemory> {
-    let mut gathered = Gathered::new(alloc)?;
+    let mut gathered = BufferedSink::new(alloc)?;
     for text in texts {
         if gathered.put(out, text).is_err() {
             return Ok(false);
@@ -54,7 +54,7 @@ static LARGE: &[(usize, usize)] = &[(2, 0), (65_536, 2), (65_537, 131_075), (1, 
 
 // Whether the sink has taken so many after each.
 fn is_taken_in_time(alloc: Global, out: &mut MemSink) -> Result<bool, NoMemory> {
-    let mut gathered = Gathered::new(alloc)?;
+    let mut gathered = BufferedSink::new(alloc)?;
     for (size, taken) in LARGE {
         let bytes = vec![in alloc; b'x'; *size]?;
         if gathered.put(out, &bytes).is_err() || out.taken().len() != *taken {

@@ -10,7 +10,7 @@ use Rattle.np_check.specs.Counters.{addresses_of, breaks, number_of_address}
 use Rattle.np_check.specs.Firsts.{first_of, first_spot}
 use Rattle.np_check.specs.Order.{comes_before}
 use Rattle.np_check.specs.declared.addresses.Broken.{Broken}
-use Rattle.np_check.specs.declared.counter.Counter.{Counter}
+use Rattle.np_check.specs.declared.counterexample.Counterexample.{Counterexample}
 use Rattle.np_check.specs.declared.statement_text.Wanted.{Wanted}
 use Rattle.np_conns.specs.Conns.{Conns, has_spot}
 use Rattle.np_conns.specs.declared.port_spot.PortSpot.{PortSpot}
@@ -58,10 +58,10 @@ broken_in wanted conns block row = with_spot (first_within block row.span) (firs
 -- ---- packets from addresses
 
 -- of two packets the one whose source comes first, and the first of the two where they have one source
-abbrev pub earlier_of : Counter → Counter → Counter
+abbrev pub earlier_of : Counterexample → Counterexample → Counterexample
 earlier_of kept counter = if comes_before counter.source kept.source then counter else kept
 
-abbrev pub earlier : Option Counter → Option Counter → Option Counter
+abbrev pub earlier : Option Counterexample → Option Counterexample → Option Counterexample
 earlier first None = first
 earlier None (Some counter) = Some counter
 earlier (Some kept) (Some counter) = Some (earlier_of kept counter)

@@ -1,8 +1,8 @@
 -- Rules of workloads that are known.
 use Rattle.std.specs.Prelude.{◌≡◌, ℕ, Some, nat_eq}
 use Rattle.std.specs.HashMap.{HashMap, get}
-use Rattle.np_estate.specs.declared.lists.EstateLists.{EstateLists}
-use Rattle.np_policies.specs.declared.direction.Direction.{Direction}
+use Rattle.np_model.specs.declared.lists.EstateLists.{EstateLists}
+use Rattle.np_model.specs.declared.direction.Direction.{Direction}
 use Rattle.np_rules.specs.PodSides.{PodSide}
 use Rattle.np_table.specs.PairRules.{first_side}
 

@@ -7,13 +7,13 @@ use Rattle.np_addr.specs.declared.address.Address.TheVariants as address
 use Rattle.np_addr.specs.declared.cidr.Cidr.{Cidr}
 use Rattle.np_addr.specs.declared.cidr.Cidr.TheVariants as cidr
 use Rattle.np_classes.specs.Classes.{class_of, firsts, places}
-use Rattle.np_estate.specs.declared.lists.EstateLists.{EstateLists}
-use Rattle.np_estate.specs.declared.pod.Pod.{Pod}
+use Rattle.np_model.specs.declared.lists.EstateLists.{EstateLists}
+use Rattle.np_model.specs.declared.pod.Pod.{Pod}
 use Rattle.np_fold.specs.Traits.{traits_of, with_owner}
 use Rattle.np_fold.specs.Workloads.{Workload, kinds_alike, pods_alike, workload_count}
 use Rattle.np_fold.specs.declared.traits.Traits.{Traits}
 use Rattle.np_names.specs.declared.named.Named.{Named}
-use Rattle.np_owners.specs.declared.owner.Owner.{Owner}
+use Rattle.np_model.specs.declared.owner.Owner.{Owner}
 
 -- ---- blocks
 

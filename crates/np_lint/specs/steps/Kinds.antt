@@ -1,6 +1,6 @@
 -- Pods that stand for their kinds.
 use Rattle.std.specs.Prelude.{◌≡◌, ◌≢◌, ℕ, ◌<◌, List, length, Bool, true, false, ◌||◌, ◌==◌, not, Some, slice_get, slice_index}
-use Rattle.np_estate.specs.declared.lists.EstateLists.{EstateLists}
+use Rattle.np_model.specs.declared.lists.EstateLists.{EstateLists}
 use Rattle.np_fold.specs.Workloads.{folding_of}
 use Rattle.np_lint.specs.declared.kind_pods.KindPod.{KindPod}
 use Rattle.np_table.specs.Table.{source_pod}

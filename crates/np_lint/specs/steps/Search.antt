@@ -3,9 +3,9 @@ use Rattle.std.specs.Prelude.{◌≡◌, ℕ, ◌<◌, List, Bool, true, ◌&&�
 use Rattle.std.specs.List.{Contains}
 use Rattle.np_addr.specs.declared.address.Family.{Family}
 use Rattle.np_conns.specs.Conns.{is_spot}
-use Rattle.np_estate.specs.Families.{families_of}
-use Rattle.np_estate.specs.Lawful.{IsLawful}
-use Rattle.np_estate.specs.declared.lists.EstateLists.{EstateLists}
+use Rattle.np_model.specs.Families.{families_of}
+use Rattle.np_model.specs.Lawful.{IsLawful}
+use Rattle.np_model.specs.declared.lists.EstateLists.{EstateLists}
 use Rattle.np_explain.specs.Marks.{admin_rules, base_rules, net_rules}
 use Rattle.np_lint.specs.Rules.{rule_count_at}
 use Rattle.np_lint.specs.Used.{is_used, stands_in}
@@ -17,8 +17,8 @@ use Rattle.np_lint.specs.declared.search.Search.{Search}
 use Rattle.np_lint.specs.declared.used_rules.UsedRules.{UsedRules}
 use Rattle.np_lint.specs.steps.Kinds.{AreKindPods, is_asked}
 use Rattle.np_lint.specs.steps.Known.{are_known, is_known}
-use Rattle.np_policies.specs.declared.direction.Direction.{Direction}
-use Rattle.np_policies.specs.declared.direction.Direction.TheVariants.{Ingress, Egress}
+use Rattle.np_model.specs.declared.direction.Direction.{Direction}
+use Rattle.np_model.specs.declared.direction.Direction.TheVariants.{Ingress, Egress}
 use Rattle.np_reach.specs.Reach.{may_at, may_reach, reach_of}
 use Rattle.np_rules.specs.Deciders.{decider}
 use Rattle.np_rules.specs.Ends.{Contact, pod}

@@ -2,10 +2,10 @@
 use Rattle.std.specs.Prelude.{ℕ, List, Bool, ◌&&◌}
 use Rattle.np_addr.specs.declared.address.Family.{Family}
 use Rattle.np_conns.specs.declared.port_spot.PortSpot.{PortSpot}
-use Rattle.np_estate.specs.declared.lists.EstateLists.{EstateLists}
+use Rattle.np_model.specs.declared.lists.EstateLists.{EstateLists}
 use Rattle.np_fold.specs.Workloads.{folding_of}
-use Rattle.np_policies.specs.declared.direction.Direction.{Direction}
-use Rattle.np_policies.specs.declared.direction.Direction.TheVariants.{Egress, Ingress}
+use Rattle.np_model.specs.declared.direction.Direction.{Direction}
+use Rattle.np_model.specs.declared.direction.Direction.TheVariants.{Egress, Ingress}
 use Rattle.np_reach.specs.Reach.{may_at}
 use Rattle.np_rules.specs.PodSides.{PodSide, near_pod, side_of, with_pod}
 use Rattle.np_rules.specs.Sides.{side_allows}

@@ -4,16 +4,16 @@ use Rattle.std.proofs.lemmas.Result.{IfOk-weaker}
 use Rattle.np_check.proofs.PairLemmas.{from-work, none_or, some_or}
 use Rattle.np_check.specs.Counters.{addresses_of, counter_between, counter_from}
 use Rattle.np_check.specs.Firsts.{first_of}
-use Rattle.np_check.specs.declared.counter.Counter.{Counter}
-use Rattle.np_check.specs.declared.counter.PlaceEnd.TheVariants.{At, Work}
-use Rattle.np_estate.specs.declared.lists.EstateLists.{EstateLists}
+use Rattle.np_check.specs.declared.counterexample.Counterexample.{Counterexample}
+use Rattle.np_check.specs.declared.counterexample.PlaceEnd.TheVariants.{At, Work}
+use Rattle.np_model.specs.declared.lists.EstateLists.{EstateLists}
 use Rattle.np_check.proofs.checking.first_from_work.Goals as goal
 
 pub returns-then-is_some-clause-counter : goal.returns-then-is_some-clause-counter
 returns-then-is_some-clause-counter g c =
     let rest = first_of (λ address. counter_between c.args.checker.now c.args.asked.now.wanted c.args.asked.now.conns.now (Work c.args.source) (At address)) (addresses_of c.args.ends.now.block) in
     some_or c.in_ok-found.found rest (sym c.is_some.ensures ∙ c.if-is_some.true)
-    ∙ ap (λ (first : Option Counter). option_or first rest) c.in_ok-found.ensures.counter
+    ∙ ap (λ (first : Option Counterexample). option_or first rest) c.in_ok-found.ensures.counter
     ∙ sym (from-work c.args.checker.now c.args.asked.now.wanted c.args.asked.now.conns.now c.args.ends.now c.args.source c.args.destinations.now c.requires.ends)
 
 pub returns-clause-counter : goal.returns-clause-counter
@@ -22,8 +22,8 @@ returns-clause-counter g c =
     (addresses_of c.args.ends.now.block) in
     let rest = to_addresses c.args.checker.now in
     let all = none_or c.in_ok-found.found rest (sym c.is_some.ensures ∙ c.if-is_some.false)
-    ∙ ap (λ (first : Option Counter). option_or first rest) c.in_ok-found.ensures.counter
+    ∙ ap (λ (first : Option Counterexample). option_or first rest) c.in_ok-found.ensures.counter
     ∙ sym (from-work c.args.checker.now c.args.asked.now.wanted c.args.asked.now.conns.now c.args.ends.now c.args.source c.args.destinations.now c.requires.ends) in
-    IfOk-weaker c.first_to_addresses.result (λ (made : Option Counter). made ≡ to_addresses c.first_to_works.new.checker)
-    (λ (made : Option Counter). made ≡ counter_from c.args.checker.now c.args.asked.now.wanted c.args.asked.now.conns.now c.args.ends.now (Work c.args.source)) (λ made is. is
+    IfOk-weaker c.first_to_addresses.result (λ (made : Option Counterexample). made ≡ to_addresses c.first_to_works.new.checker)
+    (λ (made : Option Counterexample). made ≡ counter_from c.args.checker.now c.args.asked.now.wanted c.args.asked.now.conns.now c.args.ends.now (Work c.args.source)) (λ made is. is
     ∙ ap to_addresses c.in_ok-found.ensures.same ∙ all) c.first_to_addresses.ensures.counter

@@ -1,13 +1,13 @@
 use Rattle.std.proofs.Common.{Result, Err, map, refl, subst, sym}
 use Rattle.std.proofs.lemmas.Result.{err_from_is_err_and}
 use Rattle.np_cli.proofs.SampleLemmas.{countable}
-use Rattle.np_cli.proofs.WroteLemmas.{Wrote-refused}
+use Rattle.np_command.proofs.WroteLemmas.{Wrote-refused}
 use Rattle.np_cli.specs.Answers.{objects_of, reply_in}
-use Rattle.np_cli.specs.Prints.{Wrote}
-use Rattle.np_cli.specs.Sinks.{sunk}
-use Rattle.np_cli.specs.declared.failure.Failure.TheVariants.{NoMemory}
-use Rattle.np_cli.specs.declared.fault.Fault.{Fault}
-use Rattle.np_estate.specs.declared.lists.EstateLists.{EstateLists}
+use Rattle.np_command.specs.Prints.{Wrote}
+use Rattle.np_command.specs.Sinks.{sunk}
+use Rattle.np_command.specs.declared.failure.Failure.TheVariants.{NoMemory}
+use Rattle.np_command.specs.declared.fault.Fault.{Fault}
+use Rattle.np_model.specs.declared.lists.EstateLists.{EstateLists}
 use Rattle.np_cli.proofs.run.answer.Goals as goal
 
 pub returns-in_err-folded-clause-answers : goal.returns-in_err-folded-clause-answers

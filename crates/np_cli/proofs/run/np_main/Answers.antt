@@ -1,10 +1,7 @@
-use Rattle.np_cli.proofs.CheckLemmas.{says_what_holds}
-use Rattle.np_cli.proofs.FlattenLemmas.{says_flat_policies}
-use Rattle.np_cli.proofs.HeadlineLemmas.{says_exposures, says_what_decides, says_what_passes}
+use Rattle.np_cli.proofs.HeadlineLemmas.{says_exposures, says_flat_policies, says_what_decides, says_what_holds, says_what_is_unused, says_what_passes}
 use Rattle.np_cli.proofs.PromisesLemmas.{begins_in_order, completes, refuses_too_large, refuses_more, refuses_faults, blames_device, blames_words, usage_ended}
 use Rattle.np_cli.proofs.RunsLemmas.{Cause-said}
 use Rattle.np_cli.proofs.SampleLemmas.{says_counts}
-use Rattle.np_cli.proofs.UnusedLemmas.{says_what_is_unused}
 use Rattle.np_cli.proofs.run.np_main.Goals as goal
 
 pub returns : goal.returns

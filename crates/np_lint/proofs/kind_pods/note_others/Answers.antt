@@ -1,7 +1,7 @@
 use Rattle.std.proofs.Common.{◌≡◌, ◌<◌, ◌≤◌, List, false, length, get_or, slice_get, Some, ap, ◌∙◌, subst, arith}
 use Rattle.std.proofs.lemmas.Option.{slice_get-get_or}
-use Rattle.np_estate.specs.declared.lists.EstateLists.{EstateLists}
-use Rattle.np_estate.specs.declared.pod.Pod.{Pod}
+use Rattle.np_model.specs.declared.lists.EstateLists.{EstateLists}
+use Rattle.np_model.specs.declared.pod.Pod.{Pod}
 use Rattle.np_lint.proofs.KindStepLemmas.{all_seen, kind_in, kind_looked_up, kind_there, number_there, other_seen, own_seen}
 use Rattle.np_lint.proofs.kind_pods.note_others.Goals as goal
 use Rattle.np_lint.proofs.kind_pods.note_others.Goals.{then-kinds-kind, else-kinds-kind}

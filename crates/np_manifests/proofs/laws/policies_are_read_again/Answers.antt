@@ -1,4 +1,4 @@
-use Rattle.np_estate.proofs.LawfulPolicies.{net_policies-ascend}
+use Rattle.np_reading.proofs.LawfulPolicies.{net_policies-ascend}
 use Rattle.np_manifests.specs.Estates.{net_items}
 use Rattle.np_manifests.specs.Lists.{list_line, list_text}
 use Rattle.np_manifests.proofs.EstateLemmas.{estate_of-list, policies-once}

@@ -1,8 +1,8 @@
 use Rattle.std.proofs.Common.{◌≡◌, ◌||◌, ℕ, List, get_or, ap, sym, ◌∙◌}
 use Rattle.std.proofs.lemmas.Result.{on_ok_weaker}
 use Rattle.std.specs.List.{list_any}
-use Rattle.np_objects.specs.declared.ingress.Backend.{Backend}
-use Rattle.np_objects.specs.declared.service.PortName.{PortName}
+use Rattle.np_model.specs.declared.ingress.Backend.{Backend}
+use Rattle.np_model.specs.declared.service.PortName.{PortName}
 use Rattle.np_routes.proofs.AskedLemmas.{asked-within, backend-added, services-kept}
 use Rattle.np_routes.proofs.asked_services.add_backend.Goals as goal
 use Rattle.np_routes.specs.Routes.{leads_to, routes_of_backend, routes_through}

@@ -1,7 +1,7 @@
 use Rattle.std.proofs.Common.{◌||◌, List, length, flat_map, ap, sym, ◌∙◌}
 use Rattle.std.proofs.lemmas.List.{take_all, with_items_is}
 use Rattle.std.specs.List.{list_any}
-use Rattle.np_estate.specs.declared.placed_ingress.PlacedIngress.{PlacedIngress}
+use Rattle.np_model.specs.declared.placed_ingress.PlacedIngress.{PlacedIngress}
 use Rattle.np_routes.proofs.BackendLemmas.{routes-all, routes-next}
 use Rattle.np_routes.proofs.asked_services.asked_services.Goals as goal
 use Rattle.np_routes.specs.Routes.{leads_to, routes_of_ingress}

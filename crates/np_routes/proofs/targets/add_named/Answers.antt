@@ -1,7 +1,7 @@
 use Rattle.std.proofs.Common.{◌≡◌, ◌&&◌, true, false, arith, ◌∙◌}
 use Rattle.np_conns.specs.Conns.{same_proto}
 use Rattle.np_conns.specs.declared.proto.Proto.TheVariants.{Tcp}
-use Rattle.np_objects.specs.declared.service.PortName.TheVariants.{Named}
+use Rattle.np_model.specs.declared.service.PortName.TheVariants.{Named}
 use Rattle.np_routes.proofs.AnyLemmas.{or_false}
 use Rattle.np_routes.proofs.TargetLemmas.{named-added, named-other}
 use Rattle.np_routes.proofs.targets.add_named.Goals as goal

@@ -1,5 +1,5 @@
 use Rattle.std.proofs.Common.{List, ◌++◌, sym, ap, ◌∙◌, map, take}
-use Rattle.np_policies.specs.declared.admin_policy.AdminRule.{AdminRule}
+use Rattle.np_model.specs.declared.admin_policy.AdminRule.{AdminRule}
 use Rattle.np_rules.specs.Places.{admin_places}
 use Rattle.np_rules.specs.Views.{pod_view}
 use Rattle.np_rules.proofs.LayerLemmas.{admin_rules-next}

@@ -1,8 +1,8 @@
 use Rattle.std.proofs.Common.{◌≡◌, List, [], ◌++◌, refl, sym, ap, ◌∙◌, map, take, unwrap_or, arith, if◌then◌else◌}
 use Rattle.std.proofs.lemmas.Grind.{common_steps}
 use Rattle.std.proofs.lemmas.List.{take_all}
-use Rattle.np_policies.specs.declared.network_policy.NetRule.{NetRule}
-use Rattle.np_policies.specs.declared.network_policy.NetPolicy.{NetPolicy}
+use Rattle.np_model.specs.declared.network_policy.NetRule.{NetRule}
+use Rattle.np_model.specs.declared.network_policy.NetPolicy.{NetPolicy}
 use Rattle.np_rules.specs.NetTier.{is_isolated, isolates}
 use Rattle.np_rules.specs.Places.{net_places, net_rules_of}
 use Rattle.np_rules.specs.Selection.{net_selects}

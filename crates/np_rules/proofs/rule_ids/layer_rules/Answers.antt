@@ -1,6 +1,6 @@
 use Rattle.std.proofs.Common.{◌≡◌, ◌<◌, List, Some, filter, length, subst}
 use Rattle.std.specs.List.{slice_get}
-use Rattle.np_policies.specs.declared.network_policy.NetPolicy.{NetPolicy}
+use Rattle.np_model.specs.declared.network_policy.NetPolicy.{NetPolicy}
 use Rattle.np_rules.specs.Ends.{PodEnd}
 use Rattle.np_rules.specs.LayerRules.{NamesBase}
 use Rattle.np_rules.specs.Layers.{Pairwise}

@@ -7,7 +7,7 @@ use Rattle.np_table.proofs.SetLemmas.{OnErr-from, OnOk-from}
 use Rattle.np_table.proofs.all_rows.rows_at.Goals as goal
 use Rattle.np_table.proofs.all_rows.rows_at.Goals.{else-place-count, then-place-count}
 use Rattle.np_fold.specs.Workloads.{Folding, folding_of}
-use Rattle.np_table.specs.Kept.{IsKept}
+use Rattle.np_table.specs.RowCache.{IsKept}
 use Rattle.np_table.specs.Table.{number_of_workloads}
 
 pub returns-then-place-pairs-clause-rows : goal.returns-then-place-pairs-clause-rows

@@ -1,5 +1,5 @@
 use Rattle.std.proofs.Common.{◌<◌, length, slice_index, refl, ap, ◌∙◌}
-use Rattle.np_estate.specs.declared.lists.EstateLists.{EstateLists}
+use Rattle.np_model.specs.declared.lists.EstateLists.{EstateLists}
 use Rattle.np_fold.specs.Workloads.{Folding, folding_of, members_of}
 use Rattle.np_table.proofs.MemberLemmas.{members-some, members-within, pod-first, source-member}
 use Rattle.np_table.proofs.kind_reach.first_pod.Goals as goal

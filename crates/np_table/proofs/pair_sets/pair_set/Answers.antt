@@ -12,7 +12,7 @@ set_between-requires g c =
 pub returns-in_err-set-clause-most : goal.returns-in_err-set-clause-most
 returns-in_err-set-clause-most g c =
     let both = ends-are c.args.folded.now c.args.source c.args.destination c.in-Some.ends (sym c.in-Some.is ∙ c.in_ok-ends.ensures.ends) in
-    omega (arith, c.set_between.ensures.most, ends-count c.args.folded.now c.args.source c.args.destination c.in-Some.ends c.ends_of_pair.ensures.lawful c.requires.destination both.0 both.1)
+    omega (arith, c.set_between.ensures.most, ends-count c.args.folded.now c.args.source c.args.destination c.in-Some.ends c.rules_of_pair.ensures.lawful c.requires.destination both.0 both.1)
 
 pub returns-clause-set : goal.returns-clause-set
 returns-clause-set g c =
@@ -22,9 +22,9 @@ returns-clause-set g c =
 pub returns-clause-every_pod : goal.returns-clause-every_pod
 returns-clause-every_pod g c =
     let both = ends-are c.args.folded.now c.args.source c.args.destination c.in-Some.ends (sym c.in-Some.is ∙ c.in_ok-ends.ensures.ends) in
-    every_pod-of c.args.folded.now (folding_of c.args.folded.now) c.args.source c.args.destination c.args.family c.in_ok-set.set refl c.requires.source c.requires.destination (c.in_ok-set.ensures.set ∙ ends-pass c.args.folded.now c.args.source c.args.destination c.in-Some.ends c.args.family both.0 both.1) c.ends_of_pair.ensures.lawful
+    every_pod-of c.args.folded.now (folding_of c.args.folded.now) c.args.source c.args.destination c.args.family c.in_ok-set.set refl c.requires.source c.requires.destination (c.in_ok-set.ensures.set ∙ ends-pass c.args.folded.now c.args.source c.args.destination c.in-Some.ends c.args.family both.0 both.1) c.rules_of_pair.ensures.lawful
 
 pub returns-clause-most : goal.returns-clause-most
 returns-clause-most g c =
     let both = ends-are c.args.folded.now c.args.source c.args.destination c.in-Some.ends (sym c.in-Some.is ∙ c.in_ok-ends.ensures.ends) in
-    omega (arith, c.set_between.ensures.most, ends-count c.args.folded.now c.args.source c.args.destination c.in-Some.ends c.ends_of_pair.ensures.lawful c.requires.destination both.0 both.1)
+    omega (arith, c.set_between.ensures.most, ends-count c.args.folded.now c.args.source c.args.destination c.in-Some.ends c.rules_of_pair.ensures.lawful c.requires.destination both.0 both.1)

@@ -1,14 +1,14 @@
 use Rattle.std.proofs.Common.{◌≡◌, ◌<◌, None, false, slice_index, arith, ap, sym, refl, ◌∙◌}
 use Rattle.np_addr.specs.declared.address.Family.{Family}
-use Rattle.np_estate.specs.Families.{families_of}
-use Rattle.np_estate.specs.declared.lists.EstateLists.{EstateLists}
+use Rattle.np_model.specs.Families.{families_of}
+use Rattle.np_model.specs.declared.lists.EstateLists.{EstateLists}
 use Rattle.np_fold.specs.Workloads.{Folding, folding_of}
-use Rattle.np_policies.specs.declared.direction.Direction.TheVariants.{Egress, Ingress}
+use Rattle.np_model.specs.declared.direction.Direction.TheVariants.{Egress, Ingress}
 use Rattle.np_table.proofs.KindLemmas.{IsKept-also, IsKept-same, kind-there, kind-within, none_kept, pair-counted, pair-due, pair_rows-alone, rows-kept}
 use Rattle.np_table.proofs.SetLemmas.{OnErr-from}
 use Rattle.np_table.proofs.SideLemmas.{side-within, sides-stand, silent-rows}
 use Rattle.np_table.proofs.rows_by_kind.rows_by_kind.Goals as goal
-use Rattle.np_table.specs.Kept.{kept_at}
+use Rattle.np_table.specs.RowCache.{kept_at}
 use Rattle.np_table.specs.Right.{conns_of}
 use Rattle.np_table.specs.Rows.{rows_in}
 use Rattle.np_table.specs.Table.{between_pods, is_alone}

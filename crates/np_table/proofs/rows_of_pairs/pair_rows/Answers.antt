@@ -1,8 +1,8 @@
 use Rattle.std.proofs.Common.{arith, ap, sym, ◌∙◌}
 use Rattle.std.proofs.lemmas.Result.{IfOk-weaker}
 use Rattle.np_addr.specs.declared.address.Family.{Family}
-use Rattle.np_estate.specs.Families.{families_of}
-use Rattle.np_estate.specs.declared.lists.EstateLists.{EstateLists}
+use Rattle.np_model.specs.Families.{families_of}
+use Rattle.np_model.specs.declared.lists.EstateLists.{EstateLists}
 use Rattle.np_fold.specs.Workloads.{folding_of}
 use Rattle.np_table.proofs.KindLemmas.{pair_rows-alone}
 use Rattle.np_table.proofs.SideLemmas.{ends-are, ends-both, ends-count, ends-none, ends-rows}
@@ -33,4 +33,4 @@ returns-clause-rows g c =
 pub returns-clause-most : goal.returns-clause-most
 returns-clause-most g c =
     let both = ends-are c.args.folded.now c.args.source c.args.destination c.in-Some.ends (sym c.in-Some.is ∙ c.in_ok-ends.ensures.ends) in
-    omega (arith, c.rows_between.ensures.most, ends-count c.args.folded.now c.args.source c.args.destination c.in-Some.ends c.ends_of_pair.ensures.lawful c.requires.destination both.0 both.1)
+    omega (arith, c.rows_between.ensures.most, ends-count c.args.folded.now c.args.source c.args.destination c.in-Some.ends c.rules_of_pair.ensures.lawful c.requires.destination both.0 both.1)

@@ -1,6 +1,6 @@
 use Rattle.std.specs.Prelude.{All, Contains}
 use Rattle.std.proofs.lemmas.List.Elements.{All-contains_itself, All-weaker}
-use Rattle.np_estate.specs.declared.lists.EstateLists.{EstateLists}
+use Rattle.np_model.specs.declared.lists.EstateLists.{EstateLists}
 use Rattle.np_lint.proofs.LawLemmas.{unused_is}
 use Rattle.np_lint.specs.Rules.{IsRuleOf}
 use Rattle.np_lint.specs.Used.{unused_of}

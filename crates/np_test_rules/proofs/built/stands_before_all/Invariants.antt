@@ -1,6 +1,6 @@
 use Rattle.std.proofs.Common.{take}
 use Rattle.std.specs.Prelude.{All}
-use Rattle.np_estate.specs.Lawful.{StandsBefore}
+use Rattle.np_model.specs.Lawful.{StandsBefore}
 use Rattle.np_test_rules.proofs.built.stands_before_all.Given as goal
 
 -- the policy stands before the others so far

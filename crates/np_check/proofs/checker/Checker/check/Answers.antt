@@ -6,9 +6,9 @@ use Rattle.np_check.proofs.PairLemmas.{none_or, some_or}
 use Rattle.np_check.proofs.WholeLemmas.{of-question}
 use Rattle.np_check.specs.Counters.{addresses_of, counter_between, counter_from, counter_of}
 use Rattle.np_check.specs.Firsts.{first_of}
-use Rattle.np_check.specs.declared.counter.Counter.{Counter}
-use Rattle.np_check.specs.declared.counter.PlaceEnd.TheVariants.{At, Work}
-use Rattle.np_estate.specs.declared.lists.EstateLists.{EstateLists}
+use Rattle.np_check.specs.declared.counterexample.Counterexample.{Counterexample}
+use Rattle.np_check.specs.declared.counterexample.PlaceEnd.TheVariants.{At, Work}
+use Rattle.np_model.specs.declared.lists.EstateLists.{EstateLists}
 use Rattle.np_check.proofs.checker.Checker.check.Goals as goal
 
 pub returns-then-is_some-clause-counter : goal.returns-then-is_some-clause-counter
@@ -19,7 +19,7 @@ returns-then-is_some-clause-counter g c =
     let works = (rw c.expect.ensures at c.in_ok-found.ensures.counter) ∙ ap (first_of (λ (source : ℕ). counter_from c.args.self.now question.wanted question.conns question.destination (Work source)))
     (c.deref.ensures.value ∙ c.in_ok-sources.ensures) in
     some_or c.in_ok-found.found rest (sym c.is_some.ensures ∙ c.if-is_some.true)
-    ∙ ap (λ (first : Option Counter). option_or first rest) works
+    ∙ ap (λ (first : Option Counterexample). option_or first rest) works
     ∙ sym (of-question c.args.self.now question)
 
 pub returns-clause-counter : goal.returns-clause-counter
@@ -31,9 +31,9 @@ returns-clause-counter g c =
     let works = (rw c.expect.ensures at c.in_ok-found.ensures.counter) ∙ ap (first_of (λ (source : ℕ). counter_from c.args.self.now question.wanted question.conns question.destination (Work source)))
     (c.deref.ensures.value ∙ c.in_ok-sources.ensures) in
     let all = none_or c.in_ok-found.found rest (sym c.is_some.ensures ∙ c.if-is_some.false)
-    ∙ ap (λ (first : Option Counter). option_or first rest) works
+    ∙ ap (λ (first : Option Counterexample). option_or first rest) works
     ∙ sym (of-question c.args.self.now question) in
-    IfOk-weaker c.first_from_addresses.result (λ (made : Option Counter). made ≡ from_all c.first_from_works.new.checker c.deref-3.result.now)
-    (λ (made : Option Counter). made ≡ counter_of c.args.self.now question)
+    IfOk-weaker c.first_from_addresses.result (λ (made : Option Counterexample). made ≡ from_all c.first_from_works.new.checker c.deref-3.result.now)
+    (λ (made : Option Counterexample). made ≡ counter_of c.args.self.now question)
     (λ made is. is ∙ ap (λ (lists : EstateLists). from_all lists c.deref-3.result.now) (c.in_ok-found.ensures.same ∙ c.expect.ensures) ∙ ap (from_all c.args.self.now) (c.deref-3.ensures.value
     ∙ c.in_ok-destinations.ensures) ∙ all) c.first_from_addresses.ensures.counter

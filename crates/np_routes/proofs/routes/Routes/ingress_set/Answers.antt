@@ -1,6 +1,6 @@
 use Rattle.std.proofs.Common.{arith, ap, subst, ◌∙◌}
 use Rattle.std.proofs.lemmas.Result.{IfOk-weaker}
-use Rattle.np_estate.specs.Lawful.{IsLawful}
+use Rattle.np_model.specs.Lawful.{IsLawful}
 use Rattle.np_fold.specs.Workloads.{folding_of}
 use Rattle.np_routes.proofs.ReachedLemmas.{controller-asked, every_pod-of, send_steps-most, set-of_controller, set-of_other}
 use Rattle.np_routes.proofs.routes.Routes.ingress_set.Goals as goal

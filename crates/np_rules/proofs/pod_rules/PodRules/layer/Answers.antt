@@ -1,5 +1,5 @@
 use Rattle.std.proofs.Common.{map, refl, ap, subst}
-use Rattle.np_estate.specs.Lawful.{HasAscendingPriorities}
+use Rattle.np_model.specs.Lawful.{HasAscendingPriorities}
 use Rattle.np_rules.specs.Ends.{PodEnd}
 use Rattle.np_rules.specs.Layers.{IsLayer}
 use Rattle.np_rules.specs.PodSides.{PodSide, near_pod, side_of}

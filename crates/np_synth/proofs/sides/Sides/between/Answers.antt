@@ -1,7 +1,7 @@
 use Rattle.std.proofs.Common.{◌<◌, arith, sym, ap, subst, ◌∙◌}
 use Rattle.std.proofs.lemmas.Result.{IfOk-weaker}
-use Rattle.np_estate.specs.declared.lists.EstateLists.{EstateLists}
-use Rattle.np_policies.specs.declared.direction.Direction.TheVariants.{Egress, Ingress}
+use Rattle.np_model.specs.declared.lists.EstateLists.{EstateLists}
+use Rattle.np_model.specs.declared.direction.Direction.TheVariants.{Egress, Ingress}
 use Rattle.np_synth.proofs.SideFacts.{side-at, sides-count, sides-ends, sides-set, silent-set}
 use Rattle.np_synth.proofs.sides.Sides.between.Goals as goal
 use Rattle.np_synth.specs.Faults.{set_of}

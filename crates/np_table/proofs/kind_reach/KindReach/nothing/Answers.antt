@@ -1,4 +1,4 @@
-use Rattle.np_policies.specs.declared.direction.Direction.TheVariants.{Egress, Ingress}
+use Rattle.np_model.specs.declared.direction.Direction.TheVariants.{Egress, Ingress}
 use Rattle.np_table.proofs.SideLemmas.{reach-nothing}
 use Rattle.np_table.proofs.kind_reach.KindReach.nothing.Goals as goal
 

@@ -1,0 +1,43 @@
+-- The command line of `evaluate`: clap is exact for it, and what its values make.
+use Rattle.std.proofs.Common.{◌≡◌, ◌∙◌, ℕ, ap, List, Option, Some, codes, refl, true}
+use Rattle.clap.proofs.OnLiterals.{clap_on_literals}
+use Rattle.clap.specs.Faults.{is_simple_and_free}
+use Rattle.clap.specs.Walk.{Row}
+use Rattle.np_addr.specs.Steps.{◌>>=◌}
+use Rattle.np_conns.specs.ConnsText.{proto_named}
+use Rattle.np_conns.specs.declared.proto.Proto.{Proto}
+use Rattle.np_args.specs.Arguments.{asked_of, files_in, value_in}
+use Rattle.np_args.specs.EvaluateWords.{evaluate_command, evaluate_job, evaluate_of}
+use Rattle.np_args.specs.Values.{Text, end_of, port_of}
+use Rattle.np_args.specs.declared.end_word.EndWord.{EndWord}
+use Rattle.np_args.specs.declared.job.Job.{Job}
+use Rattle.np_args.specs.declared.job.Job.TheVariants.{Evaluate as EvaluateJob}
+
+-- clap says exactly what it answers for this command line
+pub is_exact : is_simple_and_free evaluate_command ≡ true
+unfolding clap_on_literals
+is_exact = refl
+
+pub evaluate_asked : (words : List Text) → evaluate_job words ≡ asked_of evaluate_command evaluate_of words
+unfolding evaluate_job
+evaluate_asked words = refl
+
+-- the packet of these values, where each is there
+abbrev pub packet_of : Option Proto → Option ℕ → Option (List Text) → Option EndWord → Option EndWord → Option Job
+packet_of proto port files from to = do
+  one ← proto
+  two ← port
+  three ← files
+  four ← from
+  five ← to
+  Some (EvaluateJob four five one two three)
+
+pub evaluate_of-values : (rows : List Row) (proto : Option Proto) (port : Option ℕ) (files : Option (List Text)) (from to : Option EndWord)
+    → value_in proto_named (codes "protocol") rows ≡ proto → value_in port_of (codes "port") rows ≡ port → files_in rows ≡ files
+    → value_in end_of (codes "from") rows ≡ from → value_in end_of (codes "to") rows ≡ to → evaluate_of rows ≡ packet_of proto port files from to
+evaluate_of-values rows proto port files from to one two three four five =
+    ap (λ (value : Option Proto). packet_of value (value_in port_of (codes "port") rows) (files_in rows) (value_in end_of (codes "from") rows) (value_in end_of (codes "to") rows)) one
+    ∙ ap (λ (value : Option ℕ). packet_of proto value (files_in rows) (value_in end_of (codes "from") rows) (value_in end_of (codes "to") rows)) two
+    ∙ ap (λ (value : Option (List Text)). packet_of proto port value (value_in end_of (codes "from") rows) (value_in end_of (codes "to") rows)) three
+    ∙ ap (λ (value : Option EndWord). packet_of proto port files value (value_in end_of (codes "to") rows)) four
+    ∙ ap (packet_of proto port files from) five

@@ -1,0 +1,29 @@
+-- What the words of `evaluate` ask for.
+use Rattle.std.proofs.Common.{◌≡◌, ◌∙◌, ◌++◌, ℕ, [], ◌∷◌, Option, Some, ap, codes, refl}
+use Rattle.clap.proofs.OnLiterals.{clap_on_literals}
+use Rattle.np_conns.specs.ConnsText.{proto_named}
+use Rattle.np_conns.specs.declared.proto.Proto.{Proto}
+use Rattle.np_args.proofs.EvaluateLemmas.{packet_of}
+use Rattle.np_args.specs.CommandLines.{job_of}
+use Rattle.np_args.specs.EvaluateWords.{evaluate_job}
+use Rattle.np_args.specs.Values.{Text, end_of, port_of}
+use Rattle.np_args.specs.declared.end_word.EndWord.{EndWord}
+use Rattle.np_args.specs.declared.job.Job.TheVariants.{Evaluate as EvaluateJob}
+
+-- the four options, and no file
+asked_packet : (from to proto port : Text)
+    → job_of (codes "evaluate" ∷ (codes "--from=" ++ from) ∷ (codes "--to=" ++ to) ∷ (codes "--protocol=" ++ proto) ∷ (codes "--port=" ++ port) ∷ [])
+    ≡ packet_of (proto_named proto) (port_of port) (Some (codes "-" ∷ [])) (end_of from) (end_of to)
+unfolding evaluate_job clap_on_literals
+asked_packet from to proto port = refl
+
+pub packet_job : (from to proto port : Text) (source destination : EndWord) (named : Proto) (number : ℕ) → end_of from ≡ Some source → end_of to ≡ Some destination
+    → proto_named proto ≡ Some named → port_of port ≡ Some number
+    → job_of (codes "evaluate" ∷ (codes "--from=" ++ from) ∷ (codes "--to=" ++ to) ∷ (codes "--protocol=" ++ proto) ∷ (codes "--port=" ++ port) ∷ [])
+    ≡ Some (EvaluateJob source destination named number (codes "-" ∷ []))
+packet_job from to proto port source destination named number one two three four =
+    asked_packet from to proto port
+    ∙ ap (λ (value : Option Proto). packet_of value (port_of port) (Some (codes "-" ∷ [])) (end_of from) (end_of to)) three
+    ∙ ap (λ (value : Option ℕ). packet_of (Some named) value (Some (codes "-" ∷ [])) (end_of from) (end_of to)) four
+    ∙ ap (λ (value : Option EndWord). packet_of (Some named) (Some number) (Some (codes "-" ∷ [])) value (end_of to)) one
+    ∙ ap (packet_of (Some named) (Some number) (Some (codes "-" ∷ [])) (Some source)) two

@@ -1,0 +1,31 @@
+-- The command line of `evaluate`.
+use Rattle.std.specs.Prelude.{◌∷◌, [], List, Option, Some, codes}
+use Rattle.clap.specs.Simple.{App}
+use Rattle.clap.specs.Walk.{Row}
+use Rattle.np_addr.specs.Steps.{◌>>=◌}
+use Rattle.np_conns.specs.ConnsText.{proto_named}
+use Rattle.np_args.specs.Arguments.{asked_of, command_of, file_rule, files_in, required_rule, value_in}
+use Rattle.np_args.specs.Values.{Text, end_of, port_of}
+use Rattle.np_args.specs.declared.job.Job.{Job}
+use Rattle.np_args.specs.declared.job.Job.TheVariants.{Evaluate as EvaluateJob}
+
+-- `evaluate --from END --to END --protocol P --port N [FILE]...`
+abbrev pub evaluate_command : App
+evaluate_command =
+    command_of (codes "evaluate")
+    (required_rule (codes "from") ∷ required_rule (codes "to") ∷ required_rule (codes "protocol") ∷ required_rule (codes "port")
+    ∷ file_rule ∷ [])
+
+-- the packet that was asked for
+abbrev pub evaluate_of : List Row → Option Job
+evaluate_of rows = do
+  proto ← value_in proto_named (codes "protocol") rows
+  port ← value_in port_of (codes "port") rows
+  files ← files_in rows
+  from ← value_in end_of (codes "from") rows
+  to ← value_in end_of (codes "to") rows
+  Some (EvaluateJob from to proto port files)
+
+-- what words ask for of which the first is `evaluate`
+unfoldable pub evaluate_job : List Text → Option Job
+evaluate_job words = asked_of evaluate_command evaluate_of words

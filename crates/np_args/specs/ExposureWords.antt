@@ -1,0 +1,25 @@
+-- The command line of `exposure`.
+use Rattle.std.specs.Prelude.{◌∷◌, [], List, Option, Some, codes}
+use Rattle.clap.specs.Simple.{App}
+use Rattle.clap.specs.Walk.{Row, first_of}
+use Rattle.np_addr.specs.Steps.{◌>>=◌}
+use Rattle.np_args.specs.Arguments.{asked_of, command_of, default_rule, file_rule, files_in, option_rule, value_in}
+use Rattle.np_args.specs.Values.{Text, format_of}
+use Rattle.np_args.specs.declared.job.Job.{Job}
+use Rattle.np_args.specs.declared.job.Job.TheVariants.{Exposure as ExposureJob}
+
+-- `exposure [--workload NAME] [--format text|csv|json] [FILE]...`
+abbrev pub exposure_command : App
+exposure_command =
+    command_of (codes "exposure") (option_rule (codes "workload") ∷ default_rule (codes "format") (codes "text") ∷ file_rule ∷ [])
+
+-- the workloads whose exposure was asked for
+abbrev pub exposure_of : List Row → Option Job
+exposure_of rows = do
+  format ← value_in format_of (codes "format") rows
+  files ← files_in rows
+  Some (ExposureJob (first_of (codes "workload") rows) format files)
+
+-- what words ask for of which the first is `exposure`
+unfoldable pub exposure_job : List Text → Option Job
+exposure_job words = asked_of exposure_command exposure_of words

@@ -1,0 +1,29 @@
+-- The command line of `list`.
+use Rattle.std.specs.Prelude.{◌∷◌, [], List, Option, Some, codes}
+use Rattle.clap.specs.Simple.{App}
+use Rattle.clap.specs.Walk.{Row, first_of}
+use Rattle.np_addr.specs.Steps.{◌>>=◌}
+use Rattle.np_args.specs.Arguments.{asked_of, command_of, default_rule, file_rule, files_in, option_rule, value_in}
+use Rattle.np_args.specs.Values.{Text, format_of, report_of, side_of}
+use Rattle.np_args.specs.declared.job.Job.{Job}
+use Rattle.np_args.specs.declared.job.Job.TheVariants.{List as ListJob}
+
+-- `list [--format text|csv|json] [--report 1|2] [--controller NAME] [--focus NAME] [--side either|from|to] [FILE]...`
+abbrev pub list_command : App
+list_command =
+    command_of (codes "list")
+    (default_rule (codes "format") (codes "text") ∷ default_rule (codes "report") (codes "2") ∷ option_rule (codes "controller")
+    ∷ option_rule (codes "focus") ∷ default_rule (codes "side") (codes "either") ∷ file_rule ∷ [])
+
+-- the table that was asked for
+abbrev pub list_of : List Row → Option Job
+list_of rows = do
+  format ← value_in format_of (codes "format") rows
+  report ← value_in report_of (codes "report") rows
+  side ← value_in side_of (codes "side") rows
+  files ← files_in rows
+  Some (ListJob format report (first_of (codes "controller") rows) (first_of (codes "focus") rows) side files)
+
+-- what words ask for of which the first is `list`
+unfoldable pub list_job : List Text → Option Job
+list_job words = asked_of list_command list_of words

@@ -1,0 +1,25 @@
+-- The command line of `sample`.
+use Rattle.std.specs.Prelude.{◌∷◌, [], List, Option, Some, codes, option_map, true}
+use Rattle.clap.specs.Simple.{App, new_rule}
+use Rattle.clap.specs.Walk.{Row, Rule}
+use Rattle.clap.specs.declared.builder.action.ArgAction.TheVariants.{Set}
+use Rattle.np_args.specs.Arguments.{asked_of, command_of, value_in}
+use Rattle.np_args.specs.Values.{Text, count_of}
+use Rattle.np_args.specs.declared.job.Job.{Job}
+use Rattle.np_args.specs.declared.job.Job.TheVariants.{Sample as SampleJob}
+
+-- N: one word, which must be given
+abbrev pub number_rule : Rule
+number_rule = record (new_rule (codes "N")) { action = Some Set; required = true }
+
+-- `sample N`
+abbrev pub sample_command : App
+sample_command = command_of (codes "sample") (number_rule ∷ [])
+
+-- the number of pods
+abbrev pub sample_of : List Row → Option Job
+sample_of rows = option_map SampleJob (value_in count_of (codes "N") rows)
+
+-- what words ask for of which the first is `sample`
+unfoldable pub sample_job : List Text → Option Job
+sample_job words = asked_of sample_command sample_of words

@@ -1,0 +1,62 @@
+-- The values of options: what each reader makes of a word.
+use Rattle.std.specs.Prelude.{ℕ, ◌==◌, ◌&&◌, nat_le, not, List, Option, Some, None, option_map, codes, slice_index, if◌then◌else◌}
+use Rattle.std.specs.Char.{is_digit}
+use Rattle.std.specs.List.{list_all, list_any}
+use Rattle.std.specs.Str.{bytes_eq}
+use Rattle.std.specs.Str.Parse.{digits_value}
+use Rattle.np_addr.specs.AddressGrammar.{address_of}
+use Rattle.np_args.specs.declared.end_word.EndWord.{EndWord}
+use Rattle.np_args.specs.declared.end_word.EndWord.TheVariants.{At, Named}
+use Rattle.np_args.specs.declared.focus_side.FocusSide.{FocusSide}
+use Rattle.np_args.specs.declared.focus_side.FocusSide.TheVariants.{Either, Source, Destination}
+use Rattle.np_args.specs.declared.format.Format.{Format}
+use Rattle.np_args.specs.declared.format.Format.TheVariants.{Plain, Csv, Json}
+use Rattle.np_args.specs.declared.report.Report.{Report}
+use Rattle.np_args.specs.declared.report.Report.TheVariants.{One, Two}
+
+abbrev pub Text : Type 0
+Text = List ℕ
+
+-- `--format`
+abbrev pub format_of : Text → Option Format
+format_of word =
+    if bytes_eq word (codes "text") then Some Plain
+    else if bytes_eq word (codes "csv") then Some Csv
+    else if bytes_eq word (codes "json") then Some Json
+    else None
+
+-- `--report`
+abbrev pub report_of : Text → Option Report
+report_of word =
+    if bytes_eq word (codes "1") then Some One
+    else if bytes_eq word (codes "2") then Some Two
+    else None
+
+-- `--side`
+abbrev pub side_of : Text → Option FocusSide
+side_of word =
+    if bytes_eq word (codes "either") then Some Either
+    else if bytes_eq word (codes "from") then Some Source
+    else if bytes_eq word (codes "to") then Some Destination
+    else None
+
+-- `--from` and `--to` of a packet: a word with a `/` (47) in it is a name, and any other must be an address.
+abbrev pub end_of : Text → Option EndWord
+end_of word =
+    if list_any (λ c. c == 47) word then Some (Named word) else option_map At (address_of word)
+
+-- a number from 1 to `most` in decimal, without a sign or a leading zero (48 is `0`)
+abbrev pub number_to : ℕ → Text → Option ℕ
+number_to most word =
+    let number = digits_value 10 word in
+    if list_all (λ c. is_digit c 10) word && not (slice_index word 0 == 48)
+    && nat_le 1 number && nat_le number most
+    then Some number else None
+
+-- `--port`
+abbrev pub port_of : Text → Option ℕ
+port_of word = number_to 65535 word
+
+-- N of `sample`
+abbrev pub count_of : Text → Option ℕ
+count_of word = number_to 1000 word

@@ -1,7 +1,0 @@
-use Rattle.std.proofs.Common.{◌≡◌, drop}
-use Rattle.np_cli.proofs.commands.exposure.must_be_few.Given as goal
-use Rattle.np_cli.specs.commands.Exposure.{first_fault}
-
--- the first fault is that of the sides that are left
-abbrev pub invariant-loop-side : goal.invariant-loop-side
-invariant-loop-side l = first_fault l.folded (drop l.side-index l.sides) ≡ first_fault l.fn.folded l.fn.sides

@@ -1,5 +1,0 @@
-use Rattle.np_cli.proofs.UnusedLemmas.{unused_rules_of}
-use Rattle.np_cli.proofs.commands.unused.unused.Goals as goal
-
-pub rule_lines-requires : goal.rule_lines-requires
-rule_lines-requires g c = rw (c.estate.ensures.value, c.items.ensures, c.in_ok-rules.ensures.rules) (unused_rules_of c.args.folded.now)

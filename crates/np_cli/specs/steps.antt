@@ -1,3 +1,0 @@
--- What only the steps of the proofs speak of.
-pub mod Explaining
-pub mod Putting

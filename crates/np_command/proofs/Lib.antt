@@ -1,0 +1,6 @@
+pub mod EndLemmas
+pub mod LeftLemmas
+pub mod PuttingLemmas
+pub mod SinkLemmas
+pub mod StepLemmas
+pub mod WroteLemmas

@@ -1,0 +1,38 @@
+-- What the inputs say, or why they are refused.
+use Rattle.std.specs.Prelude.{◌≡◌, ℕ, List, Result, Ok, Err, if◌then◌else◌, nat_le}
+use Rattle.np_reading.specs.Reading.{estate_of}
+use Rattle.np_model.specs.declared.lists.EstateLists.{EstateLists}
+use Rattle.np_fold.specs.Workloads.{workload_count}
+use Rattle.np_fold.specs.declared.workloads.TheConstants.{MOST_WORKLOADS}
+use Rattle.np_reading.specs.Readings.{Reading}
+use Rattle.np_command.specs.declared.failure.Failure.{Failure}
+use Rattle.np_command.specs.declared.failure.Failure.TheVariants.{Usage, CannotRead, TooLarge, Refused, CannotWrite, NoMemory}
+use Rattle.np_command.specs.declared.fault.Fault.{Fault}
+use Rattle.np_command.specs.declared.fault.Fault.TheVariants.{Inputs, TooManyWorkloads}
+
+-- the estate, unless it has too many workloads
+unfoldable pub small_estate : EstateLists → Result EstateLists Fault
+small_estate lists = if nat_le (workload_count lists) MOST_WORKLOADS then Ok lists else Err (TooManyWorkloads (workload_count lists))
+
+-- the estate that is read, unless it has too many workloads or there is none
+abbrev pub small_reading : Reading EstateLists → Result EstateLists Fault
+small_reading (Ok lists) = small_estate lists
+small_reading (Err refusal) = Err (Inputs refusal)
+
+-- what all inputs say together, or the first fault
+abbrev pub lists_of : List (List ℕ) → Result EstateLists Fault
+lists_of texts = small_reading (estate_of texts)
+
+-- A refusal is for the fault that there is. Memory may be refused at any time.
+abbrev pub Refuses : {X : Type 0} → Failure → Result X Fault → Type 0
+Refuses (Refused fault) found = found ≡ Err fault
+Refuses NoMemory found = Unit {0}
+Refuses Usage found = ⊥
+Refuses (CannotRead name) found = ⊥
+Refuses TooLarge found = ⊥
+Refuses CannotWrite found = ⊥
+
+-- what the code gives is what there is, or its very fault
+abbrev pub Gives : {X : Type 0} → Result X Failure → Result X Fault → Type 0
+Gives (Ok x) found = found ≡ Ok x
+Gives (Err failure) found = Refuses failure found

@@ -1,0 +1,10 @@
+pub mod Ends
+pub mod Failures
+pub mod Inputs
+pub mod Messages
+pub mod Prints
+pub mod Sinks
+pub mod Statuses
+pub mod TableSteps
+pub mod Written
+pub mod steps

@@ -1,0 +1,2 @@
+-- What only the steps of the proofs speak of.
+pub mod Putting

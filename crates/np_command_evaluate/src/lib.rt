@@ -1,0 +1,6 @@
+//! `evaluate`: the verdict on one packet.
+#![tactic(auto)]
+
+mod report;
+
+pub use report::evaluate;

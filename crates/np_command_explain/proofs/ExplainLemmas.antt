@@ -1,0 +1,247 @@
+-- What a report of `explain` says.
+use Rattle.std.proofs.Common.{◌≡◌, ◌≢◌, ◌<◌, ℕ, zero, suc, List, [], ◌∷◌, length, get_or, Bool, true, false, ◌==◌, Less, Equal, inr, Contains, Option, None, Some, Result, Ok, Err, if◌then◌else◌, arith, refl, sym, ap, subst, ◌∙◌}
+use Rattle.std.proofs.lemmas.Bool.{eq-eqb, false≢true, ne_eqb}
+use Rattle.std.proofs.lemmas.Map.Keys.{Less-from_sorted}
+use Rattle.std.proofs.lemmas.Cmp.{nat_cmp_total}
+use Rattle.std.specs.Cmp.{tied_itself}
+use Rattle.std.specs.Ordering.{nat_cmp}
+use Rattle.np_addr.specs.declared.address.Address.{Address}
+use Rattle.np_addr.specs.declared.address.Family.{Family}
+use Rattle.np_addr.specs.declared.address.Family.TheVariants.{Four, Six}
+use Rattle.np_command.proofs.EndLemmas.{named_workload}
+use Rattle.np_command_explain.specs.Promise.{IsFamilyBetween, IsOf, SaysWhatDecidesBetween, shown_of}
+use Rattle.np_command.specs.Ends.{family_asked, only_family, or_unknown}
+use Rattle.np_command_explain.specs.Report.{are_one, asked_end, destination_end, ends_between, explanations, in_families, of_both, source_end}
+use Rattle.np_command_explain.specs.declared.report.AskedEnd.{AskedEnd}
+use Rattle.np_command_explain.specs.declared.report.AskedEnd.TheVariants.{At, Work}
+use Rattle.np_command_explain.specs.declared.report.Ends.{Ends}
+use Rattle.np_command.specs.declared.fault.Fault.{Fault}
+use Rattle.np_command.specs.declared.fault.Fault.TheVariants.{SameEnd}
+use Rattle.np_command_explain.specs.steps.Explaining.{AreEnds, HasPods, IsAsked}
+use Rattle.np_model.specs.Families.{families_of}
+use Rattle.np_model.specs.Lawful.{IsLawful}
+use Rattle.np_model.specs.declared.lists.EstateLists.{EstateLists}
+use Rattle.np_explain.proofs.ExplanationLemmas.{explanation-right, right-alike, same_sides-right}
+use Rattle.np_explain.specs.Explanations.{IsRightFor, explanation_of, same_sides}
+use Rattle.np_explain.specs.declared.explanation.Explanation.{Explanation}
+use Rattle.np_fold.proofs.WorkloadLemmas.{pods-ascend}
+use Rattle.np_fold.specs.Workloads.{Folding, folding_of, members_of, number_named, number_of}
+use Rattle.np_routes.proofs.KindRoutes.{one_workload-alike}
+use Rattle.np_rules.specs.Verdict.{IsEndOf, end_of}
+use Rattle.np_rules.specs.declared.packet.End.{End}
+use Rattle.np_rules.specs.declared.packet.End.TheVariants as end
+use Rattle.np_table.proofs.KindVerdicts.{SameKindEnd, SameKindEnd-ends, got-same, sent-same}
+use Rattle.np_table.proofs.MemberLemmas.{destination-member, member-number, members-some, members-within, source-member}
+use Rattle.np_table.specs.Table.{IsWorkload, destination_pod, is_alone, source_pod}
+use Rattle.np_args.specs.declared.end_word.EndWord.{EndWord}
+use Rattle.np_args.specs.declared.end_word.EndWord.TheVariants as word
+
+-- ---- ends
+
+-- a result gives one thing
+one_ok : (found : Result AskedEnd Fault) (a b : AskedEnd) → found ≡ Ok a → found ≡ Ok b → a ≡ b
+one_ok found a b is is' = cc
+
+at-there : (lists : EstateLists) (address : Address) (asked : AskedEnd) → At address ≡ asked → IsAsked lists asked
+at-there lists address (At other) is = tt
+at-there lists address (Work number) is = absurd (cc)
+
+work-there : (lists : EstateLists) (number : ℕ) (asked : AskedEnd) → Work number ≡ asked → IsWorkload lists number → IsAsked lists asked
+work-there lists number (At address) is there = absurd (cc)
+work-there lists number (Work other) is there = let same : number ≡ other = cc in subst (IsWorkload lists) same there
+
+-- what a word names is there
+pub asked-there : (lists : EstateLists) (named : EndWord) (asked : AskedEnd) → asked_end lists named ≡ Ok asked → IsAsked lists asked
+unfolding asked_end
+asked-there lists (word.At address) asked is = at-there lists address asked (one_ok (asked_end lists (word.At address)) (At address) asked refl is)
+asked-there lists (word.Named name) asked is = by (number_named (folding_of lists) name) refl is
+  where
+    by : (found : Option ℕ) → number_named (folding_of lists) name ≡ found → or_unknown name Work found ≡ Ok asked → IsAsked lists asked
+    by None found is = absurd (cc)
+    by (Some number) found is =
+        let told : Work number ≡ asked = one_ok (Ok (Work number)) (Work number) asked refl is in
+        work-there lists number asked told (named_workload lists name number found)
+
+pub asked-pods : (lists : EstateLists) (asked : AskedEnd) → IsAsked lists asked → HasPods (folding_of lists) asked
+asked-pods lists (At address) there = tt
+asked-pods lists (Work number) there = (there, members-some lists (folding_of lists) number refl there)
+
+two : (count : ℕ) → 0 < count → (count == 1) ≡ false → 1 < count
+two count some other = grind arith
+
+-- the pods that stand for two workloads are two
+pods-apart : (lists : EstateLists) (a b : ℕ) → IsWorkload lists a → IsWorkload lists b → is_alone (folding_of lists) a b ≡ false
+    → source_pod (folding_of lists) a ≢ destination_pod (folding_of lists) a b
+pods-apart lists a b a_in b_in alone same = by (a == b) refl
+  where
+    folding : Folding
+    folding = folding_of lists
+
+    a_has : Contains (members_of (folding_of lists) a) (source_pod (folding_of lists) a)
+    a_has = source-member (folding_of lists) a (members-some lists (folding_of lists) a refl a_in)
+
+    b_has : Contains (members_of (folding_of lists) b) (destination_pod (folding_of lists) a b)
+    b_has = destination-member (folding_of lists) a b (members-some lists (folding_of lists) b refl b_in) alone
+
+    number : (w p : ℕ) → IsWorkload lists w → Contains (members_of (folding_of lists) w) p → number_of lists p ≡ w
+    number w p w_in has = member-number lists w p (members-within lists (folding_of lists) w p refl w_in has) has
+
+    one : a ≡ b
+    one = sym (number a (source_pod (folding_of lists) a) a_in a_has) ∙ ap (number_of lists) same ∙ number b (destination_pod (folding_of lists) a b) b_in b_has
+
+    by : (equal : Bool) → (a == b) ≡ equal → ⊥
+    by false is = false≢true (sym is ∙ eq-eqb a b one)
+    by true is =
+        let pods = members_of (folding_of lists) b in
+        let near : source_pod (folding_of lists) a ≡ get_or pods 0 0 = ap (λ (number : ℕ). get_or (members_of (folding_of lists) number) 0 0) one in
+        let far : destination_pod (folding_of lists) a b ≡ get_or pods 1 0 = rw is refl in
+        let lone : (length (members_of (folding_of lists) a) == 1) ≡ false = rw is at alone in
+        let more : 1 < length pods = two (length pods) (members-some lists (folding_of lists) b refl b_in) (ap (λ (number : ℕ). length (members_of (folding_of lists) number) == 1) (sym one) ∙ lone) in
+        let less : nat_cmp (get_or pods 0 0) (get_or pods 1 0) ≡ Less = Less-from_sorted nat_cmp pods 0 1 0 (pods-ascend lists b) (omega arith) more in
+        let equal : get_or pods 0 0 ≡ get_or pods 1 0 = sym near ∙ same ∙ far in
+        let tie : nat_cmp (get_or pods 0 0) (get_or pods 1 0) ≡ Equal = ap (nat_cmp (get_or pods 0 0)) (sym equal) ∙ tied_itself nat_cmp_total (get_or pods 0 0) in
+        apart (sym less ∙ tie)
+      where
+        apart : Less ≡ Equal → ⊥
+        apart is = cc
+
+-- what stands for an end is there
+near-there : (lists : EstateLists) (asked : AskedEnd) → IsAsked lists asked → IsEndOf lists (source_end (folding_of lists) asked)
+near-there lists (At address) there = tt
+near-there lists (Work number) there =
+    members-within lists (folding_of lists) number (source_pod (folding_of lists) number) refl there (source-member (folding_of lists) number (members-some lists (folding_of lists) number refl there))
+
+pub ends-there : (lists : EstateLists) (source destination : AskedEnd) → IsAsked lists source → IsAsked lists destination → are_one (folding_of lists) source destination ≡ false
+    → AreEnds lists (record { source = source_end (folding_of lists) source; destination = destination_end (folding_of lists) source destination })
+ends-there lists (At address) destination source_in destination_in apart =
+    record { source = tt; destination = near-there lists destination destination_in; apart = refl }
+ends-there lists (Work source) (At address) source_in destination_in apart =
+    record { source = near-there lists (Work source) source_in; destination = tt; apart = refl }
+ends-there lists (Work source) (Work destination) source_in destination_in apart = record {
+  source = near-there lists (Work source) source_in;
+  destination = members-within lists (folding_of lists) destination (destination_pod (folding_of lists) source destination) refl destination_in
+      (destination-member (folding_of lists) source destination (members-some lists (folding_of lists) destination refl destination_in) apart);
+  apart = ne_eqb (source_pod (folding_of lists) source) (destination_pod (folding_of lists) source destination) (pods-apart lists source destination source_in destination_in apart);
+}
+
+-- so are those that stand for them where there is one for the destination
+pub ends-far : (lists : EstateLists) (folding : Folding) (source destination : AskedEnd) (near far : End) → folding ≡ folding_of lists → IsAsked lists source → IsAsked lists destination
+    → Some far ≡ (if are_one folding source destination then None else Some (destination_end folding source destination)) → near ≡ source_end folding source
+    → AreEnds lists (record { source = near; destination = far })
+ends-far lists folding source destination near far folded source_in destination_in far_is near_is =
+    by (are_one (folding_of lists) source destination) refl (subst (λ (f : Folding). Some far ≡ (if are_one f source destination then None else Some (destination_end f source destination))) folded far_is)
+  where
+    near_there : near ≡ source_end (folding_of lists) source
+    near_there = near_is ∙ ap (λ (f : Folding). source_end f source) folded
+
+    by : (one : Bool) → are_one (folding_of lists) source destination ≡ one → Some far ≡ (if one then None else Some (destination_end (folding_of lists) source destination))
+        → AreEnds lists (record { source = near; destination = far })
+    by true is far_is = absurd (cc)
+    by false is far_is =
+        let far_there : far ≡ destination_end (folding_of lists) source destination = cc in
+        let of_near : End → Ends = λ one. record { source = one; destination = far } in
+        let of_far : End → Ends = λ one. record { source = source_end (folding_of lists) source; destination = one } in
+        subst (AreEnds lists) (sym (ap of_near near_there ∙ ap of_far far_there)) (ends-there lists source destination source_in destination_in is)
+
+-- ends that are told are no one pod's
+pub ends-between : (lists : EstateLists) (from : List ℕ) (source destination : AskedEnd) (ends : Ends) → ends_between (folding_of lists) from source destination ≡ Ok ends
+    → (are_one (folding_of lists) source destination ≡ false) × (ends ≡ record { source = source_end (folding_of lists) source; destination = destination_end (folding_of lists) source destination })
+unfolding ends_between
+ends-between lists from source destination ends is = by (are_one (folding_of lists) source destination) refl is
+  where
+    told : Ends
+    told = record { source = source_end (folding_of lists) source; destination = destination_end (folding_of lists) source destination }
+
+    by : (one : Bool) → are_one (folding_of lists) source destination ≡ one → (if one then Err (SameEnd from) else Ok told) ≡ Ok ends
+        → (are_one (folding_of lists) source destination ≡ false) × (ends ≡ told)
+    by true same is = absurd (cc)
+    by false apart is = (apart, cc)
+
+-- ---- pods of one workload
+
+-- a pod of the workload is of one kind with the one that stands for it
+member-same : (lists : EstateLists) (number place p : ℕ) → IsLawful lists → IsWorkload lists number → Contains (members_of (folding_of lists) number) place
+    → p < length lists.pods → number_of lists p ≡ number → SameKindEnd lists (end_of lists (end.Pod place)) (end_of lists (end.Pod p))
+member-same lists number place p lawful number_in has p_in is =
+    let place_in = members-within lists (folding_of lists) number place refl number_in has in
+    SameKindEnd-ends lists (end_of lists (end.Pod place)) (end_of lists (end.Pod p))
+    (one_workload-alike lists place p lawful place_in p_in (member-number lists number place place_in has ∙ sym is)).kind
+
+source-same : (lists : EstateLists) (asked : AskedEnd) (s : End) → IsLawful lists → IsAsked lists asked → IsOf lists asked s
+    → SameKindEnd lists (end_of lists (source_end (folding_of lists) asked)) (end_of lists s)
+source-same lists (At address) s lawful there is = SameKindEnd-ends lists _ _ (inr (ap (end_of lists) (sym is)))
+source-same lists (Work number) (end.Pod p) lawful there is =
+    member-same lists number (source_pod (folding_of lists) number) p lawful there (source-member (folding_of lists) number (members-some lists (folding_of lists) number refl there)) is.0 is.1
+source-same lists (Work number) (end.At address) lawful there is = absurd is
+
+destination-same : (lists : EstateLists) (source asked : AskedEnd) (d : End) → IsLawful lists → IsAsked lists asked → are_one (folding_of lists) source asked ≡ false → IsOf lists asked d
+    → SameKindEnd lists (end_of lists (destination_end (folding_of lists) source asked)) (end_of lists d)
+destination-same lists (At address) asked d lawful there apart is = source-same lists asked d lawful there is
+destination-same lists (Work source) (At address) d lawful there apart is = SameKindEnd-ends lists _ _ (inr (ap (end_of lists) (sym is)))
+destination-same lists (Work source) (Work number) (end.Pod q) lawful there apart is =
+    member-same lists number (destination_pod (folding_of lists) source number) q lawful there
+    (destination-member (folding_of lists) source number (members-some lists (folding_of lists) number refl there) apart) is.0 is.1
+destination-same lists (Work source) (Work number) (end.At address) lawful there apart is = absurd is
+
+-- what is right for the ends that stand for two is right for all of theirs
+right-for : (lists : EstateLists) (s d s' d' : End) (family : Family) (made : Explanation) → SameKindEnd lists (end_of lists s) (end_of lists s') → SameKindEnd lists (end_of lists d) (end_of lists d')
+    → IsRightFor lists s d family made → IsRightFor lists s' d' family made
+right-for lists s d s' d' family made first second =
+    right-alike lists s d s' d' family made
+    (λ spot. sent-same lists family spot (end_of lists s) (end_of lists s') (end_of lists d) (end_of lists d') first second)
+    (λ spot. got-same lists family spot (end_of lists s) (end_of lists s') (end_of lists d) (end_of lists d') first second)
+
+-- ---- families
+
+-- the family that is asked about is that of the packets between two ends
+contained-one : (x family : Family) → Contains (x ∷ []) family → x ≡ family
+contained-one x family (zero, within, is) = is
+contained-one x family (suc n, within, is) = absurd (omega arith)
+
+only-contained : (families : List Family) (one family : Family) → only_family families ≡ Some one → Contains families family → one ≡ family
+only-contained [] one family is has = absurd (cc)
+only-contained (x ∷ []) one family is has = cc (contained-one x family has)
+only-contained (x ∷ y ∷ more) one family is has = absurd (cc)
+
+asked-family : (lists : EstateLists) (source destination : AskedEnd) (s d : End) (one family : Family) → IsOf lists source s → IsOf lists destination d → IsFamilyBetween lists s d family
+    → family_asked lists (source_end (folding_of lists) source) (destination_end (folding_of lists) source destination) ≡ Some one → one ≡ family
+asked-family lists (At address) destination s d one family s_is d_is between asked =
+    cc (subst (λ (x : End). IsFamilyBetween lists x d family) s_is between)
+asked-family lists (Work source) (At address) (end.Pod p) d one family s_is d_is between asked =
+    cc (subst (λ (x : End). IsFamilyBetween lists (end.Pod p) x family) d_is between)
+asked-family lists (Work source) (Work destination) (end.Pod p) (end.Pod q) one family s_is d_is between asked = only-contained (families_of lists.pods) one family asked between
+asked-family lists (Work source) destination (end.At address) d one family s_is d_is between asked = absurd s_is
+asked-family lists (Work source) (Work destination) (end.Pod p) (end.At address) one family s_is d_is between asked = absurd d_is
+
+-- one explanation of each family is shown, and what holds of the family's holds of it
+one-shown : (asked : Option Family) (make : Family → Explanation) (family : Family) (P : Explanation → Type 0) → ((one : Family) → asked ≡ Some one → one ≡ family)
+    → P (make family) → (same_sides (make Four) (make Six) ≡ true → family ≡ Six → P (make Four))
+    → (made : Explanation) × (shown_of family (in_families asked make) ≡ made ∷ []) × P made
+one-shown (Some one) make family P only own both = (make one, refl, subst (λ (f : Family). P (make f)) (sym (only one refl)) own)
+one-shown None make family P only own both = by (same_sides (make Four) (make Six)) refl family own both
+  where
+    by : (same : Bool) → same_sides (make Four) (make Six) ≡ same → (f : Family) → P (make f) → (same_sides (make Four) (make Six) ≡ true → f ≡ Six → P (make Four))
+        → (made : Explanation) × (shown_of f (of_both (make Four) (make Six)) ≡ made ∷ []) × P made
+    by true is Four own both = (make Four, rw is refl, own)
+    by true is Six own both = (make Four, rw is refl, both is refl)
+    by false is Four own both = (make Four, rw is refl, own)
+    by false is Six own both = (make Six, rw is refl, own)
+
+-- ---- all of it
+
+pub says-deciders : (lists : EstateLists) (from : List ℕ) (source destination : AskedEnd) (ends : Ends) → IsLawful lists → IsAsked lists source → IsAsked lists destination
+    → ends_between (folding_of lists) from source destination ≡ Ok ends → SaysWhatDecidesBetween lists source destination (explanations lists ends)
+unfolding explanations
+says-deciders lists from source destination ends lawful source_in destination_in are = λ s d family s_is d_is apart between.
+    let told = ends-between lists from source destination ends are in
+    let near = source_end (folding_of lists) source in
+    let far = destination_end (folding_of lists) source destination in
+    let first = source-same lists source s lawful source_in s_is in
+    let second = destination-same lists source destination d lawful destination_in told.0 d_is in
+    let make : Family → Explanation = explanation_of lists near far in
+    let right : (made : Explanation) × (shown_of family (in_families (family_asked lists near far) make) ≡ made ∷ []) × IsRightFor lists s d family made =
+    one-shown (family_asked lists near far) make family (IsRightFor lists s d family)
+    (λ one is. asked-family lists source destination s d one family s_is d_is between is)
+    (right-for lists near far s d family (make family) first second (explanation-right lists near far family))
+    (λ same six. right-for lists near far s d family (make Four) first second (subst (λ (f : Family). IsRightFor lists near far f (make Four)) (sym six) (same_sides-right lists near far Four Six same))) in
+    subst (λ (e : Ends). (made : Explanation) × (shown_of family (in_families (family_asked lists e.source e.destination) (explanation_of lists e.source e.destination)) ≡ made ∷ []) × IsRightFor lists s d family made) (sym told.1) right

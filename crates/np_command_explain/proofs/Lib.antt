@@ -1,0 +1,3 @@
+pub mod ExplainLemmas
+pub mod PromiseLemmas
+pub mod ShownLemmas

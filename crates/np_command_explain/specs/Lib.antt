@@ -1,0 +1,3 @@
+pub mod Promise
+pub mod Report
+pub mod steps

@@ -1,0 +1,6 @@
+//! `explain`: what decides between two ends.
+#![tactic(auto)]
+
+mod report;
+
+pub use report::{AskedEnd, Ends, Shown, explain};

@@ -1,0 +1,2 @@
+pub mod ExposureLemmas
+pub mod PromiseLemmas

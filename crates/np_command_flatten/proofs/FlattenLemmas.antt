@@ -1,0 +1,192 @@
+-- Flat policies, as they are written one after another.
+use Rattle.std.proofs.Common.{◌≡◌, ℕ, zero, suc, ◌+◌, ◌-◌, ◌<◌, ◌≤◌, List, [], ◌∷◌, ◌++◌, flat_map, map, Bool, true, false, Option, None, Some, Result, Ok, Err, arith, codes, inl, inr, refl, ap, sym, subst, ◌∙◌, append_assoc}
+use Rattle.std.specs.List.{find, join_by, range_with_len}
+use Rattle.std.specs.Prelude.{◌⊎◌, All, nat_le}
+use Rattle.std.proofs.lemmas.Bool.{ne_eqb}
+use Rattle.std.proofs.lemmas.List.Elements.{All-append, All-cons, All-head, All-nil, All-tail}
+use Rattle.np_command.specs.Prints.{fault_in, text_in}
+use Rattle.np_command_flatten.specs.Promise.{FlattensAll}
+use Rattle.np_command.specs.Inputs.{lists_of, small_estate, small_reading}
+use Rattle.np_command.specs.Sinks.{SinkTrace, TookWhole}
+use Rattle.np_command_flatten.specs.Report.{AreWorkloads, flatten_text, item_text, policies_unless, flatten_reply}
+use Rattle.np_command.specs.declared.fault.Fault.{Fault}
+use Rattle.np_model.specs.Lawful.{IsLawful}
+use Rattle.np_reading.specs.Reading.{estate_of}
+use Rattle.np_reading.specs.Readings.{Reading}
+use Rattle.np_model.specs.declared.lists.EstateLists.{EstateLists}
+use Rattle.np_fold.specs.Workloads.{workload_count}
+use Rattle.np_fold.specs.declared.workloads.TheConstants.{MOST_WORKLOADS}
+use Rattle.np_manifests.proofs.FlatLemmas.{estate_of-flat, policies-printable}
+use Rattle.np_manifests.proofs.LawfulReads.{estate-lawful}
+use Rattle.np_manifests.proofs.ListLemmas.{json_of-list_line, list_text-joined}
+use Rattle.np_manifests.specs.Estates.{estate_with}
+use Rattle.np_manifests.specs.Lists.{list_line, policy_text}
+use Rattle.np_synth.proofs.FlatVerdicts.{addresses-same, pods-same}
+use Rattle.np_synth.specs.Faults.{fault_by, flat_fault, is_split, is_unlike}
+use Rattle.np_synth.specs.Flat.{flat_policies, flat_policy}
+use Rattle.np_synth.specs.Groups.{group_count}
+use Rattle.np_synth.specs.Pairs.{first_pair, pairs_below}
+use Rattle.np_synth.specs.declared.fault.FlatFault.{FlatFault}
+use Rattle.np_synth.specs.declared.fault.FlatFault.TheVariants.{Alike, NoMemory, Split}
+use Rattle.np_table.specs.Table.{number_of_workloads}
+
+-- ---- one policy after another
+
+-- the texts of so many policies, from a group on
+abbrev pub items : EstateLists → ℕ → ℕ → List ℕ
+items lists group count = flat_map (item_text lists) (range_with_len group count)
+
+item-first : (lists : EstateLists) → item_text lists 0 ≡ policy_text (flat_policy lists 0)
+unfolding item_text
+item-first lists = refl
+
+item-behind : (lists : EstateLists) (group : ℕ) → 1 ≤ group → item_text lists group ≡ codes "," ++ policy_text (flat_policy lists group)
+unfolding item_text
+item-behind lists group some = rw (ne_eqb group 0 (λ none. absurd (omega (arith, none, some)))) refl
+
+items-behind : (lists : EstateLists) (group count : ℕ) → 1 ≤ group → flat_map (λ policy. codes "," ++ policy_text policy) (map (flat_policy lists) (range_with_len group count)) ≡ items lists group count
+items-behind lists group zero some = refl
+items-behind lists group (suc count) some =
+    ap (λ (text : List ℕ). text ++ flat_map (λ policy. codes "," ++ policy_text policy) (map (flat_policy lists) (range_with_len (group + 1) count))) (sym (item-behind lists group some))
+    ∙ ap (λ (text : List ℕ). item_text lists group ++ text) (items-behind lists (group + 1) count (omega (arith, some)))
+
+items-joined : (lists : EstateLists) (count : ℕ) → join_by policy_text (codes ",") (map (flat_policy lists) (range_with_len 0 count)) ≡ items lists 0 count
+items-joined lists zero = refl
+items-joined lists (suc count) =
+    ap (λ (text : List ℕ). text ++ flat_map (λ policy. codes "," ++ policy_text policy) (map (flat_policy lists) (range_with_len (0 + 1) count))) (sym (item-first lists))
+    ∙ ap (λ (text : List ℕ). item_text lists 0 ++ text) (items-behind lists (0 + 1) count (omega arith))
+
+-- ---- what is left of the text
+
+-- what stands behind the last policy
+abbrev pub tail : List ℕ
+tail = codes "],\"kind\":\"List\"}" ++ codes "\n"
+
+-- the policies that are still to come, and what stands behind them
+unfoldable pub to_come : EstateLists → ℕ → List ℕ
+to_come lists group = items lists group (group_count lists - group) ++ tail
+
+pub flatten_text-is : (lists : EstateLists) → flatten_text lists ≡ codes "{\"apiVersion\":\"v1\",\"items\":[" ++ to_come lists 0
+unfolding flatten_text to_come
+flatten_text-is lists =
+    let front = codes "{\"apiVersion\":\"v1\",\"items\":[" in
+    let end = codes "],\"kind\":\"List\"}" in
+    let joined = join_by policy_text (codes ",") (flat_policies lists) in
+    let whole : group_count lists - 0 ≡ group_count lists = omega arith in
+    ap (λ (text : List ℕ). text ++ codes "\n") (list_text-joined (flat_policies lists))
+    ∙ append_assoc front (joined ++ end) (codes "\n")
+    ∙ ap (λ (text : List ℕ). front ++ text) (append_assoc joined end (codes "\n") ∙ ap (λ (text : List ℕ). text ++ (end ++ codes "\n")) (items-joined lists (group_count lists)))
+    ∙ ap (λ (count : ℕ). front ++ (items lists 0 count ++ tail)) (sym whole)
+
+pub to_come-next : (lists : EstateLists) (group : ℕ) → group < group_count lists → to_come lists group ≡ item_text lists group ++ to_come lists (group + 1)
+unfolding to_come
+to_come-next lists group within =
+    let left : group_count lists - group ≡ suc (group_count lists - (group + 1)) = omega (arith, within) in
+    ap (λ (count : ℕ). items lists group count ++ tail) left
+    ∙ append_assoc (item_text lists group) (items lists (group + 1) (group_count lists - (group + 1))) tail
+
+pub to_come-none : (lists : EstateLists) (group : ℕ) → group_count lists ≤ group → to_come lists group ≡ tail
+unfolding to_come
+to_come-none lists group all =
+    let none : group_count lists - group ≡ 0 = omega (arith, all) in ap (λ (count : ℕ). items lists group count ++ tail) none
+
+-- ---- the two workloads of a fault
+
+abbrev Within : ℕ → ℕ × ℕ → Type 0
+Within count pair = (pair.0 < count) × (pair.1 < count)
+
+row-within : (count a from len : ℕ) → a < count → from + len ≤ count → All (Within count) (map (λ b. (a, b)) (range_with_len from len))
+row-within count a from zero within fits = All-nil (Within count)
+row-within count a from (suc len) within fits =
+    All-cons (Within count) (a, from) (map (λ b. (a, b)) (range_with_len (from + 1) len)) (within, omega (arith, fits)) (row-within count a (from + 1) len within (omega (arith, fits)))
+
+rows-within : (count from len : ℕ) → from + len ≤ count → All (Within count) (flat_map (λ a. map (λ b. (a, b)) (range_with_len 0 count)) (range_with_len from len))
+rows-within count from zero fits = All-nil (Within count)
+rows-within count from (suc len) fits =
+    All-append (Within count) (map (λ b. (from, b)) (range_with_len 0 count)) (flat_map (λ a. map (λ b. (a, b)) (range_with_len 0 count)) (range_with_len (from + 1) len))
+    (row-within count from 0 count (omega (arith, fits)) (omega arith)) (rows-within count (from + 1) len (omega (arith, fits)))
+
+find-all : {X : Type 0} (P : X → Type 0) (test : X → Bool) (xs : List X) (x : X) → All P xs → find test xs ≡ Some x → P x
+find-all P test [] x all found = absurd (cc)
+find-all P test (y ∷ ys) x all found = by (test y) refl found (find-all P test ys x (All-tail P y ys all))
+  where
+    by : (passes : Bool) → test y ≡ passes → find test (y ∷ ys) ≡ Some x → (find test ys ≡ Some x → P x) → P x
+    by true is found rest = let same : Some y ≡ Some x = rw is at found in subst P (let one : y ≡ x = cc in one) (All-head P y ys all)
+    by false is found rest = rest (rw is at found)
+
+pair-within : (test : ℕ → ℕ → Bool) (count : ℕ) (pair : ℕ × ℕ) → first_pair test count ≡ Some pair → Within count pair
+unfolding first_pair
+pair-within test count pair found = find-all (Within count) (λ (p : ℕ × ℕ). test p.0 p.1) (pairs_below count) pair (rows-within count 0 count (omega arith)) found
+
+one_fault : (one other : FlatFault) → Some one ≡ Some other → one ≡ other
+one_fault one other is = cc
+
+pub fault-workloads : (lists : EstateLists) (fault : FlatFault) → (fault ≡ NoMemory) ⊎ (flat_fault lists ≡ Some fault) → AreWorkloads lists fault
+unfolding flat_fault
+fault-workloads lists fault which = elim which [
+  | inl none ↦ subst (AreWorkloads lists) (sym none) tt
+  | inr is ↦ by (first_pair (is_split lists) count) refl (first_pair (is_unlike lists) count) refl is
+]
+  where
+    count : ℕ
+    count = number_of_workloads lists
+
+    by : (split : Option (ℕ × ℕ)) → first_pair (is_split lists) count ≡ split → (unlike : Option (ℕ × ℕ)) → first_pair (is_unlike lists) count ≡ unlike → fault_by split unlike ≡ Some fault → AreWorkloads lists fault
+    by (Some pair) is_one unlike is_other is = subst (AreWorkloads lists) (one_fault (Split pair.0 pair.1) fault is) (pair-within (is_split lists) count pair is_one)
+    by None is_one (Some pair) is_other is = subst (AreWorkloads lists) (one_fault (Alike pair.0 pair.1) fault is) (pair-within (is_unlike lists) count pair is_other)
+    by None is_one None is_other is = absurd (cc)
+
+-- ---- what is said
+
+abbrev Reads : EstateLists → EstateLists → Type 0
+Reads found lists = ◌≡◌ {A = Reading EstateLists} (Ok found) (Ok lists)
+
+abbrev Kept : EstateLists → EstateLists → Type 0
+Kept found lists = ◌≡◌ {A = Result EstateLists Fault} (Ok found) (Ok lists)
+
+-- what is small enough was read
+read-small : (reads : Reading EstateLists) (lists : EstateLists) → small_reading reads ≡ Ok lists → reads ≡ Ok lists
+unfolding small_estate
+read-small (Err refusal) lists read = absurd (cc)
+read-small (Ok found) lists read = by (nat_le (workload_count found) MOST_WORKLOADS) refl read
+  where
+    by : (few : Bool) → nat_le (workload_count found) MOST_WORKLOADS ≡ few → small_reading (Ok found) ≡ Ok lists → Reads found lists
+    by true is read = let same : Kept found lists = rw is at read in cc
+    by false is read = absurd (let wrong = rw is at read in cc)
+
+memory-none : (split unlike : Option (ℕ × ℕ)) → fault_by split unlike ≡ Some NoMemory → ⊥
+memory-none (Some pair) unlike is = cc
+memory-none None (Some pair) is = cc
+memory-none None None is = cc
+
+fault-memory : (lists : EstateLists) → flat_fault lists ≡ Some NoMemory → ⊥
+unfolding flat_fault
+fault-memory lists is = memory-none (first_pair (is_split lists) (number_of_workloads lists)) (first_pair (is_unlike lists) (number_of_workloads lists)) is
+
+again : (lists : EstateLists) → estate_of (list_line (flat_policies lists) ∷ []) ≡ Ok (estate_with (flat_policies lists)) → estate_of (flatten_text lists ∷ []) ≡ Ok (estate_with (flat_policies lists))
+unfolding flatten_text
+again lists is = is
+
+says_policies : (out : SinkTrace) (texts : List (List ℕ)) (lists : EstateLists) (fault : Option FlatFault) → lists_of texts ≡ Ok lists → IsLawful lists
+    → flat_fault lists ≡ fault → fault_in (policies_unless lists fault) ≡ None → TookWhole out (text_in (policies_unless lists fault)) → FlattensAll out texts
+says_policies out texts lists (Some (Split source destination)) read lawful is none took = cc
+says_policies out texts lists (Some (Alike a b)) read lawful is none took = cc
+says_policies out texts lists (Some NoMemory) read lawful is none took = absurd (fault-memory lists is)
+says_policies out texts lists None read lawful is none took =
+    let reads : estate_of texts ≡ Ok lists = read-small (estate_of texts) lists read in
+    record {
+      lists = lists;
+      read = read;
+      lawful = lawful;
+      no_fault = is;
+      printed = took;
+      pods = λ p q family spot. pods-same lists p q family spot lawful is;
+      addresses = λ p direction family number spot. addresses-same lists p direction family number spot lawful is;
+      again = again lists (estate_of-flat texts lists (list_line (flat_policies lists)) reads (json_of-list_line (flat_policies lists) (policies-printable lists (estate-lawful texts lists reads))));
+    }
+
+-- a whole report of accepted inputs says what passes without any other policy
+pub promised : (out : SinkTrace) (texts : List (List ℕ)) (lists : EstateLists) → lists_of texts ≡ Ok lists → IsLawful lists
+    → fault_in (flatten_reply lists) ≡ None → TookWhole out (text_in (flatten_reply lists)) → FlattensAll out texts
+unfolding flatten_reply
+promised out texts lists read lawful no_fault took = says_policies out texts lists (flat_fault lists) read lawful refl no_fault took

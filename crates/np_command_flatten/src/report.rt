@@ -1,0 +1,104 @@
+//! `flatten`: one tier of NetworkPolicies with the same verdicts.
+ghost use Rattle.std.specs.Prelude.{◌≡◌, ◌≤◌, ◌<◌, Err, IfOk, Some};
+ghost use Rattle.np_command.specs.Prints.{Wrote};
+ghost use Rattle.np_command.specs.Sinks.{sunk};
+ghost use Rattle.np_command.specs.Written.{Writes};
+ghost use Rattle.np_command_flatten.specs.Report as spec;
+ghost use Rattle.np_synth.specs.Groups.{group_count};
+
+use np_base::{NoMemory, Text};
+use np_command::{Failure, Fault, WriteFault};
+use np_fold::Folded;
+use np_io::{BufferedSink, Sink};
+use np_manifests::{LIST_END, LIST_FRONT, LIST_SEPARATOR, print_policy};
+use np_steps::Steps;
+use np_synth::{Flat, FlatFault, flatten};
+use std::alloc::Global;
+use std::sync::ledger::Ledger;
+
+/// Writes NetworkPolicies that alone give the verdicts of all policies, as one line of JSON. They are made and written one
+/// after another. `Split` and `Alike` come exactly where there are none, with the first two workloads for which there are none,
+/// before the first byte is written.
+#[tactic(auto, unfolding(crate::specs::Report::flatten_reply))]
+pub fn flatten_in<O: Sink, L: Ledger>(
+    alloc: Global,
+    folded: &Folded,
+    out: &mut O,
+    steps: &mut Steps<L>,
+) -> Result<(), Failure>
+    ensures wrote { Wrote (sunk O.taken O.faults out.old out.new) (spec.flatten_reply folded.now) result }
+    ensures least { steps.old ≤ steps.new }
+{
+    match flatten(alloc, folded, steps) {
+        Ok(flat) => {
+            write_policies(alloc, &flat, out, steps)?;
+            Ok(())
+        }
+        Err(fault) => Err(Failure::Refused(named(alloc, folded, fault)?)),
+    }
+}
+
+// A fault of two workloads, by their names.
+fn named(alloc: Global, folded: &Folded, fault: FlatFault) -> Result<Fault, NoMemory>
+    requires { spec.AreWorkloads folded.now fault }
+    ensures { IfOk result (λ named. spec.policies_unless folded.now (Some fault) ≡ Err named) }
+{
+    match fault {
+        FlatFault::Split {
+            source,
+            destination,
+        } => Ok(Fault::Split {
+            source: Text::of(alloc, folded.workloads().name(source))?,
+            destination: Text::of(alloc, folded.workloads().name(destination))?,
+        }),
+        FlatFault::Alike { a, b } => Ok(Fault::Alike {
+            a: Text::of(alloc, folded.workloads().name(a))?,
+            b: Text::of(alloc, folded.workloads().name(b))?,
+        }),
+        FlatFault::NoMemory => Err(NoMemory),
+    }
+}
+
+// Writes the policies. They are gathered, so that many of them are one call of the sink.
+fn write_policies<O: Sink, L: Ledger>(
+    alloc: Global,
+    flat: &Flat<'_>,
+    out: &mut O,
+    steps: &mut Steps<L>,
+) -> Result<(), WriteFault>
+    ensures written { Writes (sunk O.taken O.faults out.old out.new) (spec.flatten_text flat.now) result }
+    ensures least { steps.old ≤ steps.new }
+{
+    let mut gathered = BufferedSink::new(alloc)?;
+    gathered.put(out, LIST_FRONT.as_bytes())?;
+    for group in 0..flat.count() {
+        let text = text_of(alloc, flat, group, steps)?;
+        gathered.put(out, &text)?;
+    }
+    gathered.put(out, LIST_END.as_bytes())?;
+    gathered.put(out, b"\n")?;
+    gathered.finish(out)?;
+    Ok(())
+}
+
+// The text of the policy of a group, behind a comma but for the first.
+#[tactic(auto, unfolding(crate::specs::Report::item_text))]
+fn text_of<L: Ledger>(
+    alloc: Global,
+    flat: &Flat<'_>,
+    group: u32,
+    steps: &mut Steps<L>,
+) -> Result<Vec<u8>, NoMemory>
+    requires { group < group_count flat.now }
+    ensures text { IfOk result (λ text. text.items ≡ spec.item_text flat.now group) }
+    ensures least { steps.old ≤ steps.new }
+{
+    let policy = flat.policy(group, steps)?;
+    let text = print_policy(alloc, &policy)?;
+    if group == 0 {
+        return Ok(text);
+    }
+    let mut behind = Vec::from_slice(alloc, LIST_SEPARATOR.as_bytes())?;
+    behind.extend_from_slice(&text)?;
+    Ok(behind)
+}

@@ -1,0 +1,144 @@
+//! `list`: the rows of the table that are asked for.
+ghost use Rattle.std.specs.Prelude.{◌≡◌, ◌≤◌, ◌+◌, [], IfOk, IfSome, false, if◌then◌else◌};
+ghost use Rattle.np_command.specs.TableSteps.{list_steps};
+ghost use Rattle.np_command.specs.Inputs.{Gives};
+ghost use Rattle.np_command.specs.Sinks.{sunk};
+ghost use Rattle.np_command.specs.Written.{Writes};
+ghost use Rattle.np_command_list.specs.Report as spec;
+ghost use Rattle.np_fold.specs.Workloads.{folding_of};
+ghost use Rattle.np_report.specs.Keeps.{keeps};
+ghost use Rattle.np_report.specs.RowText.{names_of, row_text};
+ghost use Rattle.np_report.specs.TableText.{list_text, rows_to_come};
+ghost use Rattle.np_routes.specs.ClusterTable.{cluster_table};
+ghost use Rattle.np_table.specs.Table.{IsWorkload};
+
+use np_args::Format;
+use np_base::{NoMemory, Text};
+use np_command::{Failure, WriteFault, workload_of};
+use np_fold::Folded;
+use np_io::{BufferedSink, Sink};
+use np_report::{
+    CsvForm, Focus, FocusSide, Form, JsonForm, Query, Report, TextForm, keeps, row_text,
+};
+use np_routes::ClusterRows;
+use np_steps::Steps;
+use np_table::{Row, RowKey};
+use std::alloc::Global;
+use std::sync::ledger::Ledger;
+
+/// What a table is asked for: who sends what comes through Ingresses, a workload or, where there is `None`, a controller
+/// that is not known; and which rows.
+#[derive(Clone, Copy, Debug)]
+pub struct Listing {
+    pub controller: Option<u32>,
+    pub query: Query,
+}
+
+/// What the names of a command line ask for. `UnknownEnd` comes exactly where no workload has a name, that of the controller
+/// first.
+#[tactic(auto, unfolding(crate::specs::Report::controller_of, crate::specs::Report::query_of))]
+pub fn listing_of(
+    folded: &Folded,
+    controller: &Option<Text>,
+    focus: &Option<Text>,
+    side: FocusSide,
+) -> Result<Listing, Failure>
+    ensures asked { Gives result (spec.listing_of controller.now focus.now side folded.now) }
+    ensures workload { IfOk result (λ asked. IfSome asked.controller (IsWorkload folded.now)) }
+{
+    let controller = match controller {
+        Some(name) => Some(workload_of(folded, name)?),
+        None => None,
+    };
+    let query = match focus {
+        Some(name) => Query::Work {
+            workload: workload_of(folded, name)?,
+            side,
+        },
+        None => Query::All,
+    };
+    Ok(Listing { controller, query })
+}
+
+/// Writes the rows of the table that are asked for, in their order. Rows are gathered, so that many of them are one call of
+/// the sink. The room for that is made before the first byte is written. The rules that it looks at are counted.
+#[tactic(auto, using(crate::proofs::ListingLemmas::list_text_is, np_command::proofs::StepLemmas::due_all))]
+pub fn list<O: Sink, L: Ledger>(
+    alloc: Global,
+    folded: &Folded,
+    asked: Listing,
+    format: Format,
+    report: Report,
+    out: &mut O,
+    steps: &mut Steps<L>,
+) -> Result<(), WriteFault>
+    requires { IfSome asked.controller (IsWorkload folded.now) }
+    ensures written { Writes (sunk O.taken O.faults out.old out.new)
+        (list_text (cluster_table folded.now asked.controller) asked.query format report)
+        result }
+    ensures least { steps.old ≤ steps.new }
+    ensures most { steps.new ≤ steps.old + list_steps folded.now }
+{
+    let query = asked.query;
+    let keep = Box::new(alloc, move |key: &RowKey| keeps(&query, key))?;
+    let focus = Focus::new(query, keep);
+    let mut rows = ClusterRows::of(alloc, folded, asked.controller)?;
+    match format {
+        Format::Plain => write_rows::<TextForm, O, L>(
+            alloc, folded, &mut rows, &focus, report, out, steps,
+        ),
+        Format::Csv => write_rows::<CsvForm, O, L>(
+            alloc, folded, &mut rows, &focus, report, out, steps,
+        ),
+        Format::Json => write_rows::<JsonForm, O, L>(
+            alloc, folded, &mut rows, &focus, report, out, steps,
+        ),
+    }
+}
+
+// Writes those of some rows that a focus admits in a form.
+fn write_rows<F: Form, O: Sink, L: Ledger>(
+    alloc: Global,
+    folded: &Folded,
+    rows: &mut ClusterRows<'_>,
+    focus: &Focus,
+    report: Report,
+    out: &mut O,
+    steps: &mut Steps<L>,
+) -> Result<(), WriteFault>
+    ensures written { Writes (sunk O.taken O.faults out.old out.new)
+        (rows_to_come F.bytes (names_of (folding_of folded.now)) focus.now.query report false rows.old.rows)
+        result }
+    ensures least { steps.old ≤ steps.new }
+    ensures most { steps.new ≤ steps.old + rows.old.due }
+{
+    let mut gathered = BufferedSink::new(alloc)?;
+    let mut came = false;
+    while let Some(row) = rows.next(steps)? {
+        let line = line_of::<F>(alloc, folded, focus, report, came, &row)?;
+        gathered.put(out, &line)?;
+        came |= focus.admits(&row.key);
+    }
+    gathered.put(out, F::end(came).as_bytes())?;
+    gathered.finish(out)?;
+    Ok(())
+}
+
+// The bytes of a row, and none where the focus does not admit it.
+fn line_of<F: Form>(
+    alloc: Global,
+    folded: &Folded,
+    focus: &Focus,
+    report: Report,
+    came: bool,
+    row: &Row,
+) -> Result<Vec<u8>, NoMemory>
+    ensures { IfOk result (λ line. line.items ≡ (if keeps focus.now.query row.now.key
+        then F.bytes.row came (row_text (names_of (folding_of folded.now)) report row.now) else [])) }
+{
+    if !focus.admits(&row.key) {
+        return Ok(Vec::new(alloc));
+    }
+    let text = row_text(alloc, folded.workloads(), row, report)?;
+    F::line(alloc, came, &text)
+}

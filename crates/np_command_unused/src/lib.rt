@@ -1,0 +1,6 @@
+//! `unused`: the rules that decide nothing.
+#![tactic(auto)]
+
+mod report;
+
+pub use report::unused;

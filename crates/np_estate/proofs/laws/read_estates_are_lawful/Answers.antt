@@ -1,5 +1,0 @@
-use Rattle.np_estate.proofs.LawfulReading.{lists_of-lawful}
-use Rattle.np_estate.proofs.laws.read_estates_are_lawful.Goals as goal
-
-pub returns : goal.returns
-returns c = lists_of-lawful

@@ -1,9 +1,0 @@
-use Rattle.std.proofs.Common.{◌≡◌, drop}
-use Rattle.std.specs.Prelude.{fold}
-use Rattle.std.specs.List.{filter_map}
-use Rattle.np_estate.specs.Listed.{admin_policy, with_rank, by_rank}
-use Rattle.np_estate.proofs.priorities.by_rank.Given as goal
-
--- putting in the items that are left gives the ranks of all
-abbrev pub invariant-loop-item : goal.invariant-loop-item
-invariant-loop-item l = fold with_rank l.ranks.entries (filter_map admin_policy (drop l.item-index l.items)) ≡ by_rank l.items

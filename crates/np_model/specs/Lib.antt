@@ -1,0 +1,6 @@
+pub mod Families
+pub mod Lawful
+pub mod PodPlaces
+pub mod WellObjects
+pub mod WellPolicies
+pub mod Words

@@ -1,0 +1,77 @@
+-- Policies that are read stand in their order.
+use Rattle.std.proofs.Common.{◌≡◌, ℕ, ◌≤◌, List, [], ◌∷◌, length, true, Ordering, Less, Equal, Greater, refl, sym, ap, ◌∙◌, arith}
+use Rattle.std.specs.Prelude.{AllPairs}
+use Rattle.std.specs.Cmp.{IsTotalOrder}
+use Rattle.std.specs.List.{AllByRecursion, filter_map}
+use Rattle.std.specs.List.Sorted.{IsStrictlySortedBy}
+use Rattle.std.specs.Ordering.{nat_cmp, is_eq, ordering_then}
+use Rattle.std.proofs.lemmas.Bool.{and_from, lt-ltb}
+use Rattle.std.proofs.lemmas.Cmp.{nat_cmp_total, nat_list_cmp_total, on_total, then_total, ranked}
+use Rattle.std.proofs.lemmas.List.{length-map}
+use Rattle.np_reading.proofs.LawfulEntries.{length-with_values-le, all-with_values, sorted_values, later-with_values, Less-from_sorted_keys}
+use Rattle.np_reading.proofs.LawfulLists.{AllLater, length-filter_map-le}
+use Rattle.np_model.specs.Lawful.{ascends, HasAscendingPriorities, comes_before, StandsBefore}
+use Rattle.np_reading.specs.Listed.{net_policy, net_name, nets_by_name, net_policies_of, admin_policy, admins_by_priority, admin_policies_of}
+use Rattle.np_items.specs.declared.item.Item.{Item}
+use Rattle.np_owners.proofs.PlaceLemmas.{is_eq-compare_names, equal_names}
+use Rattle.np_owners.specs.Names.{compare_names}
+use Rattle.np_owners.specs.declared.object_name.ObjectName.{ObjectName}
+use Rattle.np_model.specs.declared.admin_policy.AdminPolicy.{AdminPolicy}
+use Rattle.np_model.specs.declared.network_policy.NetPolicy.{NetPolicy}
+
+-- ---- orders
+
+compare_names-total : IsTotalOrder compare_names
+compare_names-total = then_total (on_total (λ n. n.kind) nat_list_cmp_total) (then_total (on_total (λ n. n.namespace) nat_list_cmp_total) (on_total (λ n. n.name) nat_list_cmp_total))
+
+pub compare_names-exact : (a b : ObjectName) → compare_names a b ≡ Equal → a ≡ b
+compare_names-exact a b is = equal_names a b (sym (is_eq-compare_names a b) ∙ ap is_eq is)
+
+pub nat_cmp-exact : (a b : ℕ) → nat_cmp a b ≡ Equal → a ≡ b
+nat_cmp-exact a b is = ranked a b Equal (sym is)
+
+-- ---- NetworkPolicies
+
+before-from_Less : (first second : Ordering) → ordering_then first second ≡ Less → comes_before first second ≡ true
+before-from_Less Less second is = refl
+before-from_Less Equal Less is = refl
+before-from_Less Equal Equal is = cc
+before-from_Less Equal Greater is = cc
+before-from_Less Greater second is = cc
+
+pub length-net_policies-le : (items : List Item) → length (net_policies_of items) ≤ length items
+length-net_policies-le items =
+    rw (length-map (nets_by_name items) (λ entry. entry.1)) (omega (arith, length-with_values-le compare_names-total compare_names-exact net_name [] (filter_map net_policy items), length-filter_map-le net_policy items))
+
+pub net_policies-ascend : (items : List Item) → AllPairs StandsBefore (net_policies_of items)
+net_policies-ascend items i j d before below =
+    before-from_Less _ _ (Less-from_sorted_keys compare_names net_name (net_policies_of items) (sorted_values compare_names-total compare_names-exact net_name (filter_map net_policy items)) i j d before below)
+
+pub all-net_policies : (P : NetPolicy → Type 0) (items : List Item) → AllByRecursion P (filter_map net_policy items) → AllByRecursion P (net_policies_of items)
+all-net_policies P items all = all-with_values compare_names-total compare_names-exact net_name P [] (filter_map net_policy items) tt all
+
+-- ---- admin policies
+
+ascends-from_sorted : (ns : List ℕ) → IsStrictlySortedBy nat_cmp ns → ascends ns ≡ true
+unfolding IsStrictlySortedBy
+ascends-from_sorted [] sorted = refl
+ascends-from_sorted (n ∷ []) sorted = refl
+ascends-from_sorted (n ∷ next ∷ ns) sorted =
+    and_from _ _ (lt-ltb n next (ranked n next Less (sym sorted.0.0))) (ascends-from_sorted (next ∷ ns) sorted.1)
+
+pub length-admin_policies-le : (items : List Item) → length (admin_policies_of items) ≤ length items
+length-admin_policies-le items =
+    rw (length-map (admins_by_priority items) (λ entry. entry.1)) (omega (arith, length-with_values-le nat_cmp_total nat_cmp-exact (λ admin. admin.priority) [] (filter_map admin_policy items), length-filter_map-le admin_policy items))
+
+pub admin_policies-ascend : (items : List Item) → HasAscendingPriorities (admin_policies_of items)
+admin_policies-ascend items = ascends-from_sorted _ (sorted_values nat_cmp_total nat_cmp-exact (λ admin. admin.priority) (filter_map admin_policy items))
+
+pub all-admin_policies : (P : AdminPolicy → Type 0) (items : List Item) → AllByRecursion P (filter_map admin_policy items) → AllByRecursion P (admin_policies_of items)
+all-admin_policies P items all = all-with_values nat_cmp_total nat_cmp-exact (λ admin. admin.priority) P [] (filter_map admin_policy items) tt all
+
+pub later-admin_policies : (S : AdminPolicy → AdminPolicy → Type 0) → ((x y : AdminPolicy) → S x y → S y x) → (items : List Item) → AllLater S (filter_map admin_policy items) → AllLater S (admin_policies_of items)
+later-admin_policies S flips items all = later-with_values nat_cmp_total nat_cmp-exact (λ admin. admin.priority) S flips [] (filter_map admin_policy items) tt (none (filter_map admin_policy items)) all
+  where
+    none : (xs : List AdminPolicy) → AllByRecursion (λ x. AllByRecursion (S x) []) xs
+    none [] = tt
+    none (x ∷ xs) = (tt, none xs)

@@ -1,0 +1,22 @@
+-- The policies, Services and Ingresses of an estate are those of the items that were read.
+use Rattle.std.specs.Prelude.{◌≡◌, ◌-◌, List, Some, map, option_to_list, All, IsPermutation}
+use Rattle.std.specs.List.{filter_map, slice_get}
+use Rattle.std.specs.Option.{option_and_then}
+use Rattle.np_reading.specs.Listed.{admin_policy, base_policy, ingress, net_policy, service}
+use Rattle.np_model.specs.declared.lists.EstateLists.{EstateLists}
+use Rattle.np_model.specs.declared.placed_ingress.PlacedIngress.{PlacedIngress}
+use Rattle.np_items.specs.declared.item.Item.{Item}
+
+-- an ingress is that of the item whose number, from 1, it has
+abbrev pub IsOfItsItem : List Item → PlacedIngress → Type 0
+IsOfItsItem items placed = option_and_then ingress (slice_get items (placed.item - 1)) ≡ Some placed.ingress
+
+-- Each policy, Service and Ingress among the items stands in the lists exactly once, and nothing else stands there.
+-- Services and Ingresses stand in the order of the items.
+pub record HoldsEachOnce (items : List Item) (lists : EstateLists) : Type 0 where
+  pub net_policies : IsPermutation (filter_map net_policy items) lists.net_policies
+  pub admin_policies : IsPermutation (filter_map admin_policy items) lists.admin_policies
+  pub baseline : option_to_list lists.baseline ≡ filter_map base_policy items
+  pub services : lists.services ≡ filter_map service items
+  pub ingresses : map (λ placed. placed.ingress) lists.ingresses ≡ filter_map ingress items
+  pub ingresses_numbered : All (IsOfItsItem items) lists.ingresses

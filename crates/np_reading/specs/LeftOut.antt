@@ -1,0 +1,81 @@
+-- What is left out of the estate, and counted.
+use Rattle.std.specs.Prelude.{ℕ, List, length, ◌==◌, Bool, true, false, ◌&&◌, ◌||◌, if◌then◌else◌, Option, Some, None}
+use Rattle.std.specs.List.{count_by, list_any, range_with_len, slice_get}
+use Rattle.std.specs.Option.{option_and_then, option_map_or}
+use Rattle.np_reading.specs.Ends.{is_on_host}
+use Rattle.np_reading.specs.declared.left_out.LeftOut.{LeftOut}
+use Rattle.np_reading.specs.declared.left_out.LeftOut.TheVariants.{Host, Finished, Skipped}
+use Rattle.np_model.specs.declared.pod.Pod.{Pod}
+use Rattle.np_items.specs.declared.item.Item.{Item}
+use Rattle.np_items.specs.declared.item.Item.TheVariants as item
+use Rattle.np_objects.specs.declared.object.Object.{Object}
+use Rattle.np_objects.specs.declared.object.Object.TheVariants as object
+use Rattle.np_objects.specs.declared.pod_item.PodItem.{PodItem}
+use Rattle.np_owners.specs.MadePods.{makes_pod}
+use Rattle.np_model.specs.declared.admin_policy.AdminPeer.{AdminPeer}
+use Rattle.np_model.specs.declared.admin_policy.AdminPeer.TheVariants.{Pods, Networks}
+use Rattle.np_model.specs.declared.admin_policy.AdminPolicy.{AdminPolicy}
+use Rattle.np_model.specs.declared.admin_policy.AdminRule.{AdminRule}
+use Rattle.np_model.specs.declared.admin_policy.BasePolicy.{BasePolicy}
+
+abbrev pub if_counts : Bool → LeftOut → Option LeftOut
+if_counts counts why = if counts then Some why else None
+
+-- a pod that is on the network of its node and finished counts for the first alone
+abbrev pub pod_left_out : PodItem → Option LeftOut
+pod_left_out pod = if pod.host_network then Some Host else if_counts pod.finished Finished
+
+abbrev pub object_left_out : Bool → Object → Option LeftOut
+object_left_out makes (object.Pod pod) = pod_left_out pod
+object_left_out makes (object.Controller controller) = if_counts (makes && is_on_host controller) Host
+object_left_out makes object.Other = Some Skipped
+object_left_out makes _ = None
+
+-- why an item is left out, if it is one that is counted; `makes` says whether it is a controller that stands for a pod
+abbrev pub left_out : Bool → Item → Option LeftOut
+left_out makes (item.Object object) = object_left_out makes object
+left_out makes (item.Policy policy) = None
+
+abbrev pub is_for : LeftOut → LeftOut → Bool
+is_for Host Host = true
+is_for Finished Finished = true
+is_for Skipped Skipped = true
+is_for why other = false
+
+-- whether the item at a place is left out for that reason
+abbrev pub is_left_out : List Item → LeftOut → ℕ → Bool
+is_left_out items why place =
+    option_map_or (is_for why) (option_and_then (left_out (makes_pod items place)) (slice_get items place)) false
+
+-- how many items are left out for a reason
+abbrev pub count_left_out : List Item → LeftOut → ℕ
+count_left_out items why = count_by (is_left_out items why) (range_with_len 0 (length items))
+
+-- ---- pods that no peer of networks matches
+
+abbrev pub is_networks : AdminPeer → Bool
+is_networks (Pods namespaces pods) = false
+is_networks (Networks cidrs) = true
+
+abbrev pub rule_lists_networks : AdminRule → Bool
+rule_lists_networks rule = list_any is_networks rule.peers
+
+abbrev pub rules_list_networks : List AdminRule → List AdminRule → Bool
+rules_list_networks ingress egress = list_any rule_lists_networks ingress || list_any rule_lists_networks egress
+
+abbrev pub admins_list_networks : List AdminPolicy → Bool
+admins_list_networks policies = list_any (λ policy. rules_list_networks policy.ingress policy.egress) policies
+
+abbrev pub base_lists_networks : Option BasePolicy → Bool
+base_lists_networks baseline = option_map_or (λ base. rules_list_networks base.ingress base.egress) baseline false
+
+-- whether some admin policy or the baseline has a peer of networks
+abbrev pub list_networks : List AdminPolicy → Option BasePolicy → Bool
+list_networks policies baseline = admins_list_networks policies || base_lists_networks baseline
+
+abbrev pub has_no_address : Pod → Bool
+has_no_address pod = length pod.addresses == 0
+
+-- the pods without an address, where there is a peer of networks, and none where there is not
+abbrev pub unaddressed : List Pod → List AdminPolicy → Option BasePolicy → ℕ
+unaddressed pods policies baseline = if list_networks policies baseline then count_by has_no_address pods else 0

@@ -1,0 +1,10 @@
+pub mod EachOnce
+pub mod Ends
+pub mod LeftOut
+pub mod Listed
+pub mod Namespaces
+pub mod Reading
+pub mod Readings
+pub mod Refusals
+pub mod TopOwners
+pub mod steps

@@ -1,0 +1,68 @@
+-- What the bytes of inputs are read as.
+use Rattle.std.specs.Prelude.{ℕ, List, Option, Some, None, Result, Ok, Err, ⊤}
+use Rattle.np_reading.specs.Ends.{pods_of}
+use Rattle.np_reading.specs.LeftOut.{count_left_out, unaddressed}
+use Rattle.np_reading.specs.Listed.{admin_policies_of, baseline_of, have_priorities_apart, ingresses_of, net_policies_of, services_of}
+use Rattle.np_reading.specs.Readings.{Reading}
+use Rattle.np_reading.specs.Refusals.{items_refusal}
+use Rattle.np_reading.specs.declared.left_out.LeftOut.TheVariants.{Host, Finished, Skipped}
+use Rattle.np_model.specs.declared.lists.EstateLists.{EstateLists}
+use Rattle.np_model.specs.declared.notes.Notes.{Notes}
+use Rattle.np_reading.specs.declared.refusal.Refusal.TheVariants.{Duplicate, OwnerCycle}
+use Rattle.np_items.specs.Items.{items_of}
+use Rattle.np_items.specs.Readings.{◌>>=◌, ◌>>◌}
+use Rattle.np_items.specs.declared.fault.ItemsFault.{ItemsFault}
+use Rattle.np_items.specs.declared.item.Item.{Item}
+use Rattle.np_owners.specs.Names.{first_repeat}
+use Rattle.np_owners.specs.Owners.{first_in_cycle}
+
+abbrev pub notes_of : List Item → Notes
+notes_of items = record {
+  host = count_left_out items Host;
+  finished = count_left_out items Finished;
+  skipped = count_left_out items Skipped;
+  unaddressed = unaddressed (pods_of items) (admin_policies_of items) (baseline_of items);
+}
+
+-- the estate of these items
+abbrev pub lists_of : List Item → EstateLists
+lists_of items = record {
+  pods = pods_of items;
+  net_policies = net_policies_of items;
+  admin_policies = admin_policies_of items;
+  baseline = baseline_of items;
+  services = services_of items;
+  ingresses = ingresses_of items;
+  notes = notes_of items;
+}
+
+-- the items that are read, or the refusal of them
+abbrev pub or_refused : Result (List Item) ItemsFault → Reading (List Item)
+or_refused (Ok items) = Ok items
+or_refused (Err fault) = Err (items_refusal fault)
+
+abbrev pub or_duplicate : Option (ℕ × ℕ) → Reading ⊤
+or_duplicate None = Ok tt
+or_duplicate (Some numbers) = Err (Duplicate numbers.0 numbers.1)
+
+-- no two items have one name
+abbrev pub have_names_apart : List Item → Reading ⊤
+have_names_apart items = or_duplicate (first_repeat items)
+
+abbrev pub or_cycle : Option (List ℕ) → Reading ⊤
+or_cycle None = Ok tt
+or_cycle (Some name) = Err (OwnerCycle name)
+
+-- no listed controller stands in its own chain of owners
+abbrev pub have_no_cycle : List Item → Reading ⊤
+have_no_cycle items = or_cycle (first_in_cycle items)
+
+-- The estate of inputs, or the first refusal: that of the items, else of two items of one name, else of two admin
+-- policies of one priority, else of a controller in its own chain of owners.
+unfoldable pub estate_of : List (List ℕ) → Reading EstateLists
+estate_of texts = do
+  items ← or_refused (items_of texts)
+  have_names_apart items
+  have_priorities_apart items
+  have_no_cycle items
+  Ok (lists_of items)

@@ -1,0 +1,153 @@
+//! What is left out of an estate, and counted.
+ghost use Rattle.std.specs.Prelude.{◌≡◌, ◌≤◌, false, length};
+ghost use Rattle.std.specs.List.{list_any};
+ghost use Rattle.std.specs.Option.{option_copied, option_map_or};
+ghost use Rattle.np_reading.specs.LeftOut as spec;
+ghost use Rattle.np_owners.specs.MadePods as made_pods;
+
+use crate::context::is_on_host;
+use np_items::Item;
+use np_model::{AdminPeer, AdminPolicy, AdminRule, BasePolicy, Pod};
+use np_objects::{Object, PodItem};
+
+/// Why an item is left out.
+#[derive(Clone, Copy, PartialEq, Eq)]
+pub(crate) enum LeftOut {
+    /// It is a pod, or gives one, on the network of its node.
+    Host,
+    /// It is a pod of the phase `Succeeded` or `Failed`.
+    Finished,
+    /// It is of a kind that is not read.
+    Skipped,
+}
+
+/// How many items are left out for a reason. `makers` says of each item whether it is a controller that stands for a
+/// pod.
+pub(crate) fn count_left_out(items: &[Item], makers: &[bool], why: LeftOut) -> u64
+    requires few { length items.now ≤ 20000 }
+    requires makers { makers.now ≡ made_pods.makers items.now }
+    ensures { result ≡ spec.count_left_out items.now why }
+{
+    let mut count = 0;
+    for (place, item) in items.iter().enumerate() {
+        if is_for(why, left_out(makers[place], item)) {
+            count += 1;
+        }
+    }
+    count
+}
+
+// Whether an item is left out for that reason.
+fn is_for(why: LeftOut, found: Option<LeftOut>) -> bool
+    ensures { result ≡ option_map_or (spec.is_for why) found false }
+{
+    match found {
+        Some(found) => why == found,
+        None => false,
+    }
+}
+
+// Why an item is left out, if it is one that is counted.
+fn left_out(makes: bool, item: &Item) -> Option<LeftOut>
+    ensures { result ≡ spec.left_out makes item.now }
+{
+    match item {
+        Item::Object(object) => object_left_out(makes, object),
+        Item::Policy(_) => None,
+    }
+}
+
+// Why an object is left out.
+fn object_left_out(makes: bool, object: &Object) -> Option<LeftOut>
+    ensures { result ≡ spec.object_left_out makes object.now }
+{
+    match object {
+        Object::Pod(pod) => pod_left_out(pod),
+        Object::Controller(controller) if makes && is_on_host(controller) => Some(LeftOut::Host),
+        Object::Other => Some(LeftOut::Skipped),
+        _ => None,
+    }
+}
+
+// Why a pod is left out. One on the network of its node counts as that alone.
+fn pod_left_out(pod: &PodItem) -> Option<LeftOut>
+    ensures { result ≡ spec.pod_left_out pod.now }
+{
+    if pod.host_network {
+        Some(LeftOut::Host)
+    } else if pod.finished {
+        Some(LeftOut::Finished)
+    } else {
+        None
+    }
+}
+
+/// How many pods have no address, where some policy lists networks, which match none of them, and else 0.
+pub(crate) fn unaddressed(
+    pods: &[Pod],
+    policies: &[AdminPolicy],
+    baseline: Option<&BasePolicy>,
+) -> u64
+    ensures { result ≡ spec.unaddressed pods.now policies.now (option_copied baseline.entry) }
+{
+    if list_networks(policies, baseline) {
+        pods.iter().filter(|pod| has_no_address(pod)).count() as u64
+    } else {
+        0
+    }
+}
+
+// Whether a pod has no address.
+fn has_no_address(pod: &Pod) -> bool
+    ensures { result ≡ spec.has_no_address pod.now }
+{
+    pod.addresses.items().is_empty()
+}
+
+// Whether some admin policy or the baseline has a peer of networks.
+fn list_networks(policies: &[AdminPolicy], baseline: Option<&BasePolicy>) -> bool
+    ensures { result ≡ spec.list_networks policies.now (option_copied baseline.entry) }
+{
+    admins_list_networks(policies) || base_lists_networks(baseline)
+}
+
+// Whether some admin policy has a peer of networks.
+fn admins_list_networks(policies: &[AdminPolicy]) -> bool
+    ensures { result ≡ spec.admins_list_networks policies.now }
+{
+    policies.iter().any(|policy| rules_list_networks(policy.ingress.items(), policy.egress.items()))
+}
+
+// Whether the baseline has a peer of networks.
+fn base_lists_networks(baseline: Option<&BasePolicy>) -> bool
+    ensures { result ≡ spec.base_lists_networks (option_copied baseline.entry) }
+{
+    match baseline {
+        Some(base) => rules_list_networks(base.ingress.items(), base.egress.items()),
+        None => false,
+    }
+}
+
+// Whether some rule of either direction has a peer of networks.
+fn rules_list_networks(ingress: &[AdminRule], egress: &[AdminRule]) -> bool
+    ensures { result ≡ spec.rules_list_networks ingress.now egress.now }
+{
+    some_lists_networks(ingress) || some_lists_networks(egress)
+}
+
+// Whether some rule has a peer of networks.
+fn some_lists_networks(rules: &[AdminRule]) -> bool
+    ensures { result ≡ list_any spec.rule_lists_networks rules.now }
+{
+    rules.iter().any(|rule| lists_networks(rule))
+}
+
+// Whether a rule has a peer of networks.
+fn lists_networks(rule: &AdminRule) -> bool
+    ensures { result ≡ spec.rule_lists_networks rule.now }
+{
+    rule.peers
+        .items()
+        .iter()
+        .any(|peer| matches!(peer, AdminPeer::Networks { .. }))
+}

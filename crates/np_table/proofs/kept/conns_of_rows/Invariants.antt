@@ -1,7 +1,0 @@
-use Rattle.std.proofs.Common.{◌≡◌, map, take}
-use Rattle.np_table.proofs.kept.conns_of_rows.Given as goal
-use Rattle.np_table.specs.Kept.{kept_of}
-
--- what the rows so far have
-abbrev pub invariant-loop-row : goal.invariant-loop-row
-invariant-loop-row l = l.kept ≡ map kept_of (take l.row-index l.rows)

@@ -1,7 +1,0 @@
-use Rattle.std.proofs.Common.{◌≡◌, map, take}
-use Rattle.np_table.proofs.kept.rows_with.Given as goal
-use Rattle.np_table.specs.Kept.{row_with}
-
--- the rows of those so far
-abbrev pub invariant-loop-one : goal.invariant-loop-one
-invariant-loop-one l = l.rows ≡ map (row_with l.key) (take l.one-index l.conns)

@@ -1,5 +1,0 @@
-use Rattle.np_words.proofs.ExplainLemmas.{explained_job}
-use Rattle.np_words.proofs.laws.ends_are_read_of_their_options.Goals as goal
-
-pub returns : goal.returns
-returns c = explained_job

@@ -1,6 +1,0 @@
-use Rattle.std.proofs.Common.{arith}
-use Rattle.np_words.proofs.NumberLemmas.{number_to-decimal}
-use Rattle.np_words.proofs.laws.ports_are_decimals.Goals as goal
-
-pub returns : goal.returns
-returns c = number_to-decimal 65535 (omega arith)
