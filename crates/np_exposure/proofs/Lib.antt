@@ -6,7 +6,6 @@ pub mod FillLemmas
 pub mod WitnessLemmas
 pub mod WalkLemmas
 pub mod DecidedLemmas
-pub mod ToldLemmas
 pub mod ListLemmas
 pub mod ExposureLemmas
 pub mod FirstLemmas

@@ -20,7 +20,7 @@ use crate::walk::rows_of;
 use crate::weights::weight_of;
 use np_base::{NoMemory, Seq};
 use np_model::{Direction, Estate};
-use np_rules::PodRules;
+use np_rules::StrangerRules;
 use np_steps::Steps;
 use std::alloc::Global;
 use std::sync::ledger::Ledger;
@@ -52,14 +52,14 @@ pub fn exposure<L: Ledger>(
     if weight > MOST_PATTERNS {
         return Err(ExposureFault::TooManyPatterns { weight });
     }
-    let rules = PodRules::of(alloc, estate, pod, direction)?;
+    let rules = StrangerRules::of(alloc, estate, pod, direction)?;
     Ok(rows_of_mentions(alloc, &rules, mentions, steps)?)
 }
 
 // The rows of the mentioned requirements.
 fn rows_of_mentions<L: Ledger>(
     alloc: Global,
-    rules: &PodRules<'_>,
+    rules: &StrangerRules<'_>,
     mentions: Vec<SidedRequirement>,
     steps: &mut Steps<L>,
 ) -> Result<Seq<ExposureRow>, NoMemory>

@@ -21,7 +21,6 @@ mod same;
 mod side;
 mod sided_requirement;
 mod step;
-mod told;
 mod walk;
 mod weights;
 mod witness;

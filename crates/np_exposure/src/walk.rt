@@ -10,11 +10,10 @@ use crate::open_row::OpenRow;
 use crate::pending::{Pending, all_joined};
 use crate::sided_requirement::SidedRequirement;
 use crate::step::{Step, next_step};
-use crate::told::told_layer;
 use crate::witness::stranger_of;
 use np_base::NoMemory;
 use np_conns::ConnSet;
-use np_rules::{PodRules, Stranger};
+use np_rules::{Stranger, StrangerRules};
 use np_steps::Steps;
 use np_tiers::verdict_set;
 use std::alloc::Global;
@@ -26,7 +25,7 @@ use std::sync::ledger::Ledger;
 /// each key, no more requirements are asked.
 pub(crate) fn rows_of<'a, L: Ledger>(
     alloc: Global,
-    rules: &PodRules<'_>,
+    rules: &StrangerRules<'_>,
     asked: &'a [SidedRequirement],
     state: Vec<KeyChoices<'_>>,
     steps: &mut Steps<L>,
@@ -66,7 +65,7 @@ fn still_asked<'a>(left: &'a [SidedRequirement], state: &[KeyChoices<'_>]) -> &'
 // One row of the exposure of a hypothetical pod with labels among the choices.
 fn leaf<'a, L: Ledger>(
     alloc: Global,
-    rules: &PodRules<'_>,
+    rules: &StrangerRules<'_>,
     state: &[KeyChoices<'_>],
     steps: &mut Steps<L>,
 ) -> Result<Vec<OpenRow<'a>>, NoMemory>
@@ -81,18 +80,17 @@ fn leaf<'a, L: Ledger>(
     Ok(rows)
 }
 
-// What the rules allow a stranger. Most rules match none of its protocols and ports, and are left out of the join.
+// What the rules allow a stranger.
 fn exposed<L: Ledger>(
     alloc: Global,
-    rules: &PodRules<'_>,
+    rules: &StrangerRules<'_>,
     stranger: &Stranger,
     steps: &mut Steps<L>,
 ) -> Result<ConnSet, NoMemory>
     ensures exposure { IfOk result (IsExposure rules.now stranger.now) }
     ensures least { steps.old ≤ steps.new }
 {
-    let layer = rules.stranger_layer(alloc, stranger, steps)?;
-    let told = told_layer(alloc, layer)?;
-    let conns = verdict_set(alloc, &told)?;
+    let layer = rules.layer(alloc, stranger, steps)?;
+    let conns = verdict_set(alloc, &layer)?;
     Ok(conns)
 }

@@ -15,3 +15,4 @@ pub mod LayerRulesLemmas
 pub mod PodSideLemmas
 pub mod OwnPolicies
 pub mod KeptLemmas
+pub mod StrangerLemmas

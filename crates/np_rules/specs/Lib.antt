@@ -20,3 +20,4 @@ pub mod AddressRules
 pub mod Laws
 pub mod LayerRules
 pub mod PodSides
+pub mod StrangerRules

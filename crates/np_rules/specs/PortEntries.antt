@@ -1,5 +1,5 @@
 -- Which protocols and ports a port entry matches.
-use Rattle.std.specs.Prelude.{◌≡◌, ℕ, List, Bool, false, ◌&&◌, ◌==◌, nat_le, refl}
+use Rattle.std.specs.Prelude.{◌≡◌, ℕ, List, Bool, true, false, ◌&&◌, ◌==◌, Option, Some, None, nat_le, refl}
 use Rattle.std.specs.List.{list_any}
 use Rattle.std.specs.Str.{bytes_eq}
 use Rattle.np_addr.specs.declared.address.Address.{Address}
@@ -24,6 +24,11 @@ is_port spot port = same_proto spot.proto port.proto && (spot.port == port.numbe
 -- whether a container port has the name, and is the spot's
 abbrev pub is_named : List ℕ → PortSpot → NamedPort → Bool
 is_named name spot port = bytes_eq port.name name && is_port spot port
+
+-- whether it is the protocol that is asked for; where none is, each is
+abbrev pub is_asked : Option Proto → Proto → Bool
+is_asked None proto = true
+is_asked (Some asked) proto = same_proto proto asked
 
 -- whether the spot is a port of that name at the end; an address has none
 abbrev pub has_named : List ℕ → PortSpot → End → Bool

@@ -67,8 +67,12 @@ impl EveryAddress<'_> {
     ghost use Rattle.np_rules.specs.Rules.{none_or_any};
     ghost use Rattle.np_rules.specs.Views.{end_view};
 
-    // The spots that some port entry matches, whatever the address is. No entries at all stand for every spot.
-    fn entries_set<E: PortEntry>(&self, alloc: Global, entries: &[E]) -> Result<ConnSet, NoMemory>
+    /// The spots that some port entry matches, whatever the address is. No entries at all stand for every spot.
+    pub(crate) fn entries_set<E: PortEntry>(
+        &self,
+        alloc: Global,
+        entries: &[E],
+    ) -> Result<ConnSet, NoMemory>
         ensures { IfOk result (λ made. (a : Address) (spot : PortSpot) → is_spot spot ≡ true →
             has_spot made spot
             ≡ none_or_any (λ entry. E.matches entry (destination_of self.now.direction (end_view self.now.near) (address a)) spot)

@@ -78,9 +78,24 @@ pub(crate) fn entries_set<E: PortEntry>(
     }
 }
 
-// The spots that some entry matches. The sets of both halves of the entries are joined, so that n entries take time n log
-// n; one entry alone, as most rules have, is not joined.
+// The spots that some entry matches. Layers keep such a set for each rule. A join leaves room for up to twice its ranges, and
+// a copy leaves none.
 fn joined_set<E: PortEntry>(
+    alloc: Global,
+    entries: &[E],
+    destination: &EndView<'_>,
+) -> Result<ConnSet, NoMemory>
+    ensures { IfOk result (λ made. (spot : PortSpot) → is_spot spot ≡ true →
+        has_spot made spot ≡ list_any (λ entry. E.matches entry (end_view destination.now) spot) entries.now) }
+{
+    let joined = joined_by_halves(alloc, entries, destination)?;
+    let exact = joined.copy()?;
+    Ok(exact)
+}
+
+// The same. The sets of both halves of the entries are joined, so that n entries take time n log n; one entry alone, as most
+// rules have, is not joined.
+fn joined_by_halves<E: PortEntry>(
     alloc: Global,
     entries: &[E],
     destination: &EndView<'_>,
@@ -93,8 +108,8 @@ fn joined_set<E: PortEntry>(
         [entry] => entry.spots(alloc, destination),
         _ => {
             let (front, back) = entries.split_at(entries.len() / 2);
-            let first = joined_set(alloc, front, destination)?;
-            let second = joined_set(alloc, back, destination)?;
+            let first = joined_by_halves(alloc, front, destination)?;
+            let second = joined_by_halves(alloc, back, destination)?;
             let joined = first.join(&second)?;
             Ok(joined)
         }
@@ -122,9 +137,10 @@ fn named_of_protocol(
     ensures { IfOk result (λ made. (spot : PortSpot) → is_spot spot ≡ true →
         has_spot made spot ≡ (same_proto spot.proto proto && spec.has_named name.now spot (end_view end.now))) }
 {
-    let whole = ConnSet::of(alloc, proto, PortNum::new(1), PortNum::new(65535))?;
-    let named = named_at(alloc, name, end)?;
-    whole.meet(&named)
+    match end {
+        EndView::Pod(pod) => named_set(alloc, Some(proto), name, pod.ports),
+        EndView::At(_) => ConnSet::nothing(alloc),
+    }
 }
 
 // The ports of that name at the end.
@@ -132,35 +148,53 @@ fn named_at(alloc: Global, name: &str, end: &EndView<'_>) -> Result<ConnSet, NoM
     ensures { IfOk result (λ made. (spot : PortSpot) → has_spot made spot ≡ spec.has_named name.now spot (end_view end.now)) }
 {
     match end {
-        EndView::Pod(pod) => named_set(alloc, name, pod.ports),
+        EndView::Pod(pod) => named_set(alloc, None, name, pod.ports),
         EndView::At(_) => ConnSet::nothing(alloc),
     }
 }
 
-// The ports of that name. They are gathered before they are joined, since most ports have another.
-fn named_set(alloc: Global, name: &str, ports: &[NamedPort]) -> Result<ConnSet, NoMemory>
-    ensures { IfOk result (λ made. (spot : PortSpot) → has_spot made spot ≡ list_any (spec.is_named name.now spot) ports.now) }
+// The ports of that name, of one protocol where it is asked for. They are gathered before they are joined, since most ports
+// have another name.
+fn named_set(
+    alloc: Global,
+    asked: Option<Proto>,
+    name: &str,
+    ports: &[NamedPort],
+) -> Result<ConnSet, NoMemory>
+    ensures { IfOk result (λ made. (spot : PortSpot) →
+        has_spot made spot ≡ (spec.is_asked asked spot.proto && list_any (spec.is_named name.now spot) ports.now)) }
 {
-    let named = ports_named(alloc, name, ports)?;
+    let named = ports_named(alloc, asked, name, ports)?;
     ports_set(alloc, &named)
 }
 
-// The ports that have the name, in order.
+// Those ports, in order.
 fn ports_named<'a>(
     alloc: Global,
+    asked: Option<Proto>,
     name: &str,
     ports: &'a [NamedPort],
 ) -> Result<Vec<&'a NamedPort>, NoMemory>
     ensures { IfOk result (λ made. (spot : PortSpot) → list_any (λ port. spec.is_port spot port.now) made.items
-        ≡ list_any (spec.is_named name.now spot) ports.now) }
+        ≡ (spec.is_asked asked spot.proto && list_any (spec.is_named name.now spot) ports.now)) }
 {
     let mut named = Vec::new(alloc);
     for port in ports {
-        if port.name.as_str() == name {
+        if is_asked(asked, port.proto) && port.name.as_str() == name {
             named.push(port)?;
         }
     }
     Ok(named)
+}
+
+// Whether it is the protocol that is asked for. Where none is, each is.
+fn is_asked(asked: Option<Proto>, proto: Proto) -> bool
+    ensures { result ≡ spec.is_asked asked proto }
+{
+    match asked {
+        Some(asked) => proto == asked,
+        None => true,
+    }
 }
 
 // The ports, whatever their names are. The sets of both halves are joined, so that n ports take time n log n.

@@ -13,7 +13,7 @@ use np_addr::Family;
 use np_base::Cells;
 use np_conns::{ConnSet, Proto, read_conns};
 use np_model::{Direction, Estate};
-use np_rules::{Stranger, stranger_layer};
+use np_rules::{Stranger, StrangerRules, stranger_layer};
 use np_steps::Steps;
 use np_tiers::verdict_set;
 use std::alloc::Global;
@@ -34,15 +34,16 @@ fn stranger(alloc: Global, namespace: &str, written: Pairs) -> Result<Stranger, 
     })
 }
 
-// What the layer of the pod at a place allows with the stranger.
-fn stranger_set<L: Ledger>(
+// What the layer of the pod at a place allows with the stranger, and what the layer of the rules that are kept for
+// strangers does.
+fn stranger_sets<L: Ledger>(
     alloc: Global,
     estate: &Estate,
     pod: u32,
     direction: Direction,
     stranger: &Stranger,
     blank: Blank,
-) -> Result<ConnSet, Fail>
+) -> Result<(ConnSet, ConnSet), Fail>
     requires pod { pod < length estate.now.pods }
     requires name { blank.name ≡ L.name }
     requires parts { blank.parts ≡ L.parts }
@@ -50,19 +51,21 @@ fn stranger_set<L: Ledger>(
 {
     let mut steps: Steps<L> = Steps::new(blank);
     let layer = stranger_layer(alloc, estate, pod, direction, stranger, &mut steps)?;
-    Ok(verdict_set(alloc, &layer)?)
+    let rules = StrangerRules::of(alloc, estate, pod, direction)?;
+    let kept = rules.layer(alloc, stranger, &mut steps)?;
+    Ok((verdict_set(alloc, &layer)?, verdict_set(alloc, &kept)?))
 }
 
 // The same of the pod of this name.
-fn set_of(
+fn sets_of(
     alloc: Global,
     estate: &Estate,
     pod: &str,
     direction: Direction,
     stranger: &Stranger,
-) -> Result<ConnSet, Fail> {
+) -> Result<(ConnSet, ConnSet), Fail> {
     match place_named(estate, pod) {
-        Some(place) => stranger_set::<Brand>(
+        Some(place) => stranger_sets::<Brand>(
             alloc,
             estate,
             place,
@@ -118,13 +121,14 @@ fn is_alike(
 ) -> Result<bool, Fail> {
     let (namespace, labels, alike, conns) = *row;
     let stranger = stranger(alloc, namespace, labels)?;
-    let set = set_of(alloc, estate, pod, direction, &stranger)?;
+    let (set, kept) = sets_of(alloc, estate, pod, direction, &stranger)?;
     let (source, destination) = match direction {
         Direction::Ingress => (alike, pod),
         Direction::Egress => (pod, alike),
     };
     let packets = agrees_with(estate, source, destination, Family::Four, &set);
-    Ok(packets && set.same(&read_conns(alloc, conns)?))
+    let expected = read_conns(alloc, conns)?;
+    Ok(packets && set.same(&expected) && kept.same(&expected))
 }
 
 // The policy selects `shop/bare` too, but not in egress, so that what leaves it is free, as it is of a stranger.

@@ -1,0 +1,122 @@
+-- What the rules that are kept for strangers say of one.
+use Rattle.std.proofs.Common.{◌≡◌, ℕ, ◌+◌, ◌<◌, List, [], ◌∷◌, ◌++◌, Bool, true, ◌&&◌, ◌||◌, find, get_or, length, map, take, refl, sym, ap, ◌∙◌, subst}
+use Rattle.std.specs.List.{AllByRecursion, list_any}
+use Rattle.std.proofs.lemmas.List.{map-append, take_more}
+use Rattle.np_addr.specs.declared.address.Address.{Address}
+use Rattle.np_addr.specs.declared.address.Address.TheVariants.{Six}
+use Rattle.np_conns.specs.Conns.{Conns, has_spot, is_spot}
+use Rattle.np_conns.specs.declared.port_spot.PortSpot.{PortSpot}
+use Rattle.np_model.specs.declared.admin_policy.AdminRule.{AdminRule}
+use Rattle.np_model.specs.declared.direction.Direction.{Direction}
+use Rattle.np_model.specs.declared.direction.Direction.TheVariants.{Ingress, Egress}
+use Rattle.np_model.specs.declared.network_policy.NetPort.{NetPort}
+use Rattle.np_model.specs.declared.network_policy.NetPort.TheVariants as net
+use Rattle.np_model.specs.declared.network_policy.NetRule.{NetRule}
+use Rattle.np_rules.proofs.LayerLemmas.{admin_same, base_same, matches_in, matches_in_namespace, walk_by_tiers}
+use Rattle.np_rules.proofs.PairwiseLemmas.{Pairwise-map}
+use Rattle.np_rules.specs.Ends.{Contact, End, address, destination_of, pod, stranger_end}
+use Rattle.np_rules.specs.Layers.{IsAdminPart, IsBasePart, Pairwise, matches_of}
+use Rattle.np_rules.specs.NetTier.{placed_net_matches}
+use Rattle.np_rules.specs.Peers.{net_peer_matches}
+use Rattle.np_rules.specs.Places.{PlacedNetRule, admin_places, base_places, net_places}
+use Rattle.np_rules.specs.PodSides.{KeepsRules, PodSide, SaysVerdicts, near_pod, with_stranger}
+use Rattle.np_rules.specs.PortEntries.{net_entry_matches}
+use Rattle.np_rules.specs.Rules.{admin_rule_matches, net_rule_matches, none_or_any}
+use Rattle.np_rules.specs.StrangerRules.{HasPorts, HavePorts, kept_matches, rule_of}
+use Rattle.np_rules.specs.declared.stranger.Stranger.{Stranger}
+use Rattle.np_rules.specs.declared.stranger_rules.RuleConns.{RuleConns}
+use Rattle.np_rules.specs.Sides.{admin_says, base_says}
+use Rattle.np_tiers.specs.Walk.{admin_allows, base_allows}
+use Rattle.np_tiers.specs.declared.layer.Layer.{Layer}
+
+-- ---- the sets of the rules
+
+any_same : {X : Type 0} (f g : X → Bool) → ((x : X) → f x ≡ g x) → (xs : List X) → list_any f xs ≡ list_any g xs
+any_same f g same [] = refl
+any_same f g same (x ∷ xs) = ap (λ b. b || list_any f xs) (same x) ∙ ap (λ b. g x || b) (any_same f g same xs)
+
+none_or_any_same : {X : Type 0} (f g : X → Bool) → ((x : X) → f x ≡ g x) → (xs : List X) → none_or_any f xs ≡ none_or_any g xs
+none_or_any_same f g same [] = refl
+none_or_any_same f g same (x ∷ xs) = any_same f g same (x ∷ xs)
+
+-- a stranger has no named ports, as an address has none
+entry_same : (direction : Direction) (near : End) (s : Stranger) (a : Address) (spot : PortSpot) (entry : NetPort) → net_entry_matches entry (destination_of direction near (address a)) spot ≡ net_entry_matches entry (destination_of direction near (pod (stranger_end s))) spot
+entry_same Ingress near s a spot entry = refl
+entry_same Egress near s a spot (net.Span proto lo hi) = refl
+entry_same Egress near s a spot (net.Named proto name) = refl
+
+-- what the entries of a rule match at some address they match at each stranger
+ports_same : (direction : Direction) (near : End) (s : Stranger) (a : Address) (spot : PortSpot) (entries : List NetPort) → none_or_any (λ entry. net_entry_matches entry (destination_of direction near (address a)) spot) entries ≡ none_or_any (λ entry. net_entry_matches entry (destination_of direction near (pod (stranger_end s))) spot) entries
+ports_same direction near s a spot entries = none_or_any_same (λ entry. net_entry_matches entry (destination_of direction near (address a)) spot) (λ entry. net_entry_matches entry (destination_of direction near (pod (stranger_end s))) spot) (entry_same direction near s a spot) entries
+
+-- so a set of what the entries of a rule match at addresses is one of what they match at strangers
+pub has_ports : (direction : Direction) (near : End) (kept : RuleConns) → ((a : Address) (spot : PortSpot) → is_spot spot ≡ true → has_spot kept.conns spot ≡ none_or_any (λ entry. net_entry_matches entry (destination_of direction near (address a)) spot) (rule_of kept).ports) → HasPorts direction near kept
+has_ports direction near kept at_addresses = λ s spot within. at_addresses (Six 0) spot within ∙ ports_same direction near s (Six 0) spot (rule_of kept).ports
+
+-- one rule more
+pub images-next : {X Y Z : Type 0} (f : X → Y) (g : Z → Y) (made new : List X) (x : X) (zs : List Z) (i : ℕ) (z : Z) → i < length zs → z ≡ get_or zs i z → new ≡ made ++ x ∷ [] → f x ≡ g z → map f made ≡ map g (take i zs) → map f new ≡ map g (take (i + 1) zs)
+images-next {X} {Y} {Z} f g made new x zs i z within is pushed same so_far =
+    ap (map f) pushed
+    ∙ map-append f made (x ∷ [])
+    ∙ ap (λ (ys : List Y). ys ++ f x ∷ []) so_far
+    ∙ ap (λ (y : Y). map g (take i zs) ++ y ∷ []) same
+    ∙ sym (ap (map g) (take_more zs i z within ∙ ap (λ (last : Z). take i zs ++ last ∷ []) (sym is)) ∙ map-append g (take i zs) (z ∷ []))
+
+pub all-push : {X : Type 0} (P : X → Type 0) (xs : List X) (x : X) → AllByRecursion P xs → P x → AllByRecursion P (xs ++ x ∷ [])
+all-push P [] x all here = (here, tt)
+all-push P (y ∷ xs) x all here = (all.0, all-push P xs x all.1 here)
+
+-- ---- what they say together
+
+any-map : {X Y : Type 0} (f : Y → Bool) (g : X → Y) (xs : List X) → list_any f (map g xs) ≡ list_any (λ x. f (g x)) xs
+any-map f g [] = refl
+any-map f g (x ∷ xs) = ap (λ b. f (g x) || b) (any-map f g xs)
+
+-- the kept rules match what they match as rules
+kept_same : (side : PodSide) (s : Stranger) (namespace : List ℕ) (spot : PortSpot) → is_spot spot ≡ true → (kept : List RuleConns) → HavePorts side kept → list_any (kept_matches namespace (pod (stranger_end s)) spot) kept ≡ list_any (λ k. net_rule_matches namespace (rule_of k) (with_stranger s side spot)) kept
+kept_same side s namespace spot within [] have = refl
+kept_same side s namespace spot within (k ∷ kept) have =
+    let peers = none_or_any (λ peer. net_peer_matches namespace peer (pod (stranger_end s))) (rule_of k).peers in
+    let rule_matches : RuleConns → Bool = λ k'. net_rule_matches namespace (rule_of k') (with_stranger s side spot) in
+    ap (λ b. (peers && b) || list_any (kept_matches namespace (pod (stranger_end s)) spot) kept) (have.0 s spot within)
+    ∙ ap (λ b. rule_matches k || b) (kept_same side s namespace spot within kept have.1)
+
+-- A layer whose parts are those of the kept rules, and whose sets have together what some kept rule matches, says what the side says of the stranger.
+pub says_of_stranger : (side : PodSide) (s : Stranger) (admin : List AdminRule) (isolated : Bool) (kept : List RuleConns) (base : List AdminRule) (namespace : List ℕ) (at : PortSpot → Contact) (far : End) (made : Layer Conns) → at ≡ with_stranger s side → far ≡ pod (stranger_end s) → KeepsRules side admin isolated (map rule_of kept) base → HavePorts side kept → namespace ≡ (near_pod side).namespace → Pairwise (IsAdminPart has_spot is_spot at) made.admin admin → made.isolated ≡ isolated → ((spot : PortSpot) → list_any (λ set. has_spot set spot) made.net ≡ list_any (kept_matches namespace far spot) kept) → Pairwise (IsBasePart has_spot is_spot at) made.base base → SaysVerdicts has_spot is_spot side (with_stranger s) made
+says_of_stranger side s admin isolated kept base namespace at far made is_at is_far keeps have named are_admin same are_net are_base spot within =
+    walk_by_tiers has_spot side.lists side.direction (near_pod side) (contacts spot) made spot keeps.ascending (same ∙ keeps.isolation) net_says base_is admin_is
+  where
+    contacts : PortSpot → Contact
+    contacts = with_stranger s side
+
+    nets : List PlacedNetRule
+    nets = net_places side.lists.net_policies side.direction (near_pod side)
+
+    by_name : List ℕ → NetRule → Bool
+    by_name name rule = net_rule_matches name rule (contacts spot)
+
+    passes : (Contact → Bool) → Bool
+    passes matches = matches (contacts spot)
+
+    net_says : list_any (λ set. has_spot set spot) made.net ≡ list_any (placed_net_matches (contacts spot)) nets
+    net_says =
+        are_net spot
+        ∙ ap (λ (end : End). list_any (kept_matches namespace end spot) kept) is_far
+        ∙ kept_same side s namespace spot within kept have
+        ∙ sym (any-map (by_name namespace) rule_of kept)
+        ∙ ap (list_any (by_name namespace)) keeps.net_rules
+        ∙ ap (λ (name : List ℕ). list_any (by_name name) (map (λ placed. placed.rule) nets)) named
+        ∙ any-map (by_name (near_pod side).namespace) (λ placed. placed.rule) nets
+        ∙ sym (any-map passes (matches_in (near_pod side).namespace) nets)
+        ∙ ap (list_any passes) (sym (matches_in_namespace side.lists.net_policies side.direction (near_pod side)))
+        ∙ any-map passes matches_of nets
+
+    base_is : base_allows (find (λ part. has_spot part.set spot) made.base) ≡ base_says (find (λ placed. admin_rule_matches placed.rule (contacts spot)) (base_places side.lists.baseline side.direction (near_pod side)))
+    base_is =
+        base_same has_spot is_spot contacts spot within made.base (base_places side.lists.baseline side.direction (near_pod side))
+        (Pairwise-map (IsBasePart has_spot is_spot contacts) (λ placed. placed.rule) made.base (base_places side.lists.baseline side.direction (near_pod side)) (subst (λ (rules : List AdminRule). Pairwise (IsBasePart has_spot is_spot contacts) made.base rules) keeps.base_rules (subst (λ (c : PortSpot → Contact). Pairwise (IsBasePart has_spot is_spot c) made.base base) is_at are_base)))
+
+    admin_is : (below : Bool) → admin_allows (find (λ part. has_spot part.set spot) made.admin) below ≡ admin_says (find (λ placed. admin_rule_matches placed.rule (contacts spot)) (admin_places side.lists.admin_policies side.direction (near_pod side))) below
+    admin_is below =
+        admin_same has_spot is_spot contacts spot within below made.admin (admin_places side.lists.admin_policies side.direction (near_pod side))
+        (Pairwise-map (IsAdminPart has_spot is_spot contacts) (λ placed. placed.rule) made.admin (admin_places side.lists.admin_policies side.direction (near_pod side)) (subst (λ (rules : List AdminRule). Pairwise (IsAdminPart has_spot is_spot contacts) made.admin rules) keeps.admin_rules (subst (λ (c : PortSpot → Contact). Pairwise (IsAdminPart has_spot is_spot c) made.admin admin) is_at are_admin)))

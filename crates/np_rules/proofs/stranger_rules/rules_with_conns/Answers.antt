@@ -1,0 +1,17 @@
+use Rattle.std.proofs.Common.{refl, sym, subst}
+use Rattle.std.specs.List.{AllByRecursion}
+use Rattle.np_rules.specs.StrangerRules.{HasPorts, rule_of}
+use Rattle.np_rules.specs.Views.{end_view}
+use Rattle.np_rules.proofs.StrangerLemmas.{all-push, has_ports, images-next}
+use Rattle.np_rules.specs.declared.stranger_rules.RuleConns.{RuleConns}
+use Rattle.np_rules.proofs.stranger_rules.rules_with_conns.Goals as goal
+
+pub loop-rule-preserved : goal.loop-rule-preserved
+loop-rule-preserved c =
+    let direction = c.args.ends.now.direction in
+    let near = end_view c.args.ends.now.near in
+    let next : RuleConns = record { rule = c.rule-item.result; conns = c.in_ok-conns.conns } in
+    record {
+      rules = images-next rule_of (λ rule. rule.now) c.loop-rule.made.items c.push.new.self.items next c.args.rules.now c.loop-rule.rule-index c.rule-item.result c.loop-rule-test.true c.rule-item.is c.in_ok-push.ensures.items refl c.loop-rule.invariant.rules;
+      conns = subst (AllByRecursion (HasPorts direction near)) (sym c.in_ok-push.ensures.items) (all-push (HasPorts direction near) c.loop-rule.made.items next c.loop-rule.invariant.conns (has_ports direction near next (rw c.items.ensures at c.in_ok-conns.ensures)));
+    }

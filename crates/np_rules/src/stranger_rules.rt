@@ -1,0 +1,198 @@
+//! The rules that speak of a pod, for many pods that nobody has written yet.
+ghost use Rattle.std.specs.Prelude.{◌≡◌, ◌+◌, ◌≤◌, ◌<◌, length, map, IfOk, OnOk};
+ghost use Rattle.std.specs.List.{AllByRecursion, list_any};
+ghost use Rattle.np_conns.specs.Conns.{has_spot, is_spot};
+ghost use Rattle.np_conns.specs.declared.port_spot.PortSpot.{PortSpot};
+ghost use Rattle.np_rules.specs.PodSides.{SaysVerdicts, side_of, side_rule_count, with_stranger};
+ghost use Rattle.np_rules.specs.StrangerRules.{HasPorts, kept_matches, rule_of};
+ghost use Rattle.np_rules.specs.Views.{end_view};
+
+use crate::base_tier::base_rules_for;
+use crate::every_address::EveryAddress;
+use crate::gathering::{admin_rules, net_rules};
+use crate::layer_parts::{admin_parts, base_parts};
+use crate::near_ends::{view_at, with_stranger};
+use crate::peers::net_peers_match;
+use crate::stranger::Stranger;
+use crate::views::EndView;
+use np_base::{Cells, NoMemory, Seq};
+use np_conns::ConnSet;
+use np_model::{AdminRule, Direction, Estate, NetRule};
+use np_steps::Steps;
+use np_tiers::Layer;
+use std::alloc::Global;
+use std::marker::Model;
+use std::sync::ledger::Ledger;
+
+/// A rule of a NetworkPolicy, with the protocols and ports that its entries match.
+#[derive(Drop)]
+pub(crate) struct RuleConns<'a> {
+    pub rule: &'a NetRule,
+    pub conns: ConnSet,
+}
+
+/// The rules that speak of a pod in a direction, found once, to be looked at with many pods that nobody has written yet.
+/// Such a pod has no named ports, so that the protocols and ports of a rule of a NetworkPolicy are the same with each:
+/// they are made once too. Contracts see the estate's lists, the pod's place among its pods, and the direction.
+#[derive(Drop)]
+pub struct StrangerRules<'a> {
+    estate: &'a Estate,
+    pod: u32,
+    direction: Direction,
+    admin: Vec<&'a AdminRule>,
+    isolated: bool,
+    net: Vec<RuleConns<'a>>,
+    base: &'a [AdminRule],
+}
+
+impl<'a> Model for StrangerRules<'a> {
+    ghost use Rattle.std.specs.Prelude.{map};
+    ghost use Rattle.np_rules.specs.PodSides.{KeepsRules, PodSide, side_of};
+    ghost use Rattle.np_rules.specs.StrangerRules.{HavePorts, rule_of};
+
+    ghost Value = { PodSide };
+
+    ghost view = { λ r. side_of r.estate.now r.pod r.direction };
+
+    ghost invariant = { λ r. KeepsRules (side_of r.estate.now r.pod r.direction) (map (λ rule. rule.now) r.admin.items)
+        r.isolated (map rule_of r.net.items) r.base.now
+        × HavePorts (side_of r.estate.now r.pod r.direction) r.net.items };
+}
+
+impl<'a> StrangerRules<'a> {
+    /// The rules of the policies that select a pod, which is named by its place in the estate. Each policy is asked once.
+    pub fn of(
+        alloc: Global,
+        estate: &'a Estate,
+        pod: u32,
+        direction: Direction,
+    ) -> Result<StrangerRules<'a>, NoMemory>
+        requires { pod < length estate.now.pods }
+        ensures { IfOk result (λ made. made ≡ side_of estate.now pod direction) }
+    {
+        let near = view_at(estate, pod);
+        let admin = admin_rules(alloc, estate.admin_policies(), direction, &near)?;
+        let net = net_rules(alloc, estate.net_policies(), direction, &near)?;
+        let base = base_rules_for(estate.baseline(), direction, &near);
+        let far = EveryAddress {
+            direction,
+            near: EndView::Pod(near),
+        };
+        let conns = rules_with_conns(alloc, &net.rules, &far)?;
+        Ok(StrangerRules {
+            estate,
+            pod,
+            direction,
+            admin,
+            isolated: net.isolated,
+            net: conns,
+            base,
+        })
+    }
+
+    /// The rules as sets of the protocols and ports that they match with such a pod as the far end. All of them are
+    /// counted. Those of NetworkPolicies that match are one set together.
+    pub fn layer<L: Ledger>(
+        &self,
+        alloc: Global,
+        stranger: &Stranger,
+        steps: &mut Steps<L>,
+    ) -> Result<Layer<ConnSet>, NoMemory>
+        ensures verdict { IfOk result (SaysVerdicts has_spot is_spot self.now (with_stranger stranger.now)) }
+        ensures cost { OnOk result (steps.new ≡ steps.old + side_rule_count self.now) }
+        ensures least { steps.old ≤ steps.new }
+        ensures most { steps.new ≤ steps.old + side_rule_count self.now }
+    {
+        self.count(steps);
+        let ends = with_stranger(self.estate, self.direction, self.pod, stranger);
+        let near = view_at(self.estate, self.pod);
+        let admin = admin_parts(alloc, &self.admin, &ends)?;
+        let net = net_set(alloc, near.namespace, &self.net, &ends.far)?;
+        let base = base_parts(alloc, self.base, &ends)?;
+        Ok(Layer {
+            admin,
+            isolated: self.isolated,
+            net,
+            base,
+        })
+    }
+
+    // Counts all rules.
+    fn count<L: Ledger>(&self, steps: &mut Steps<L>)
+        ensures { steps.new ≡ steps.old + side_rule_count self.now }
+    {
+        steps.add(self.admin.len() as u64);
+        steps.add(self.net.len() as u64);
+        steps.add(self.base.len() as u64);
+    }
+}
+
+// The rules, each with what its port entries match where the far end is a stranger. That has no named ports, and nor has
+// an address.
+fn rules_with_conns<'a>(
+    alloc: Global,
+    rules: &[&'a NetRule],
+    ends: &EveryAddress<'_>,
+) -> Result<Vec<RuleConns<'a>>, NoMemory>
+    ensures rules { IfOk result (λ made. map rule_of made.items ≡ map (λ rule. rule.now) rules.now) }
+    ensures conns { IfOk result (λ made. AllByRecursion (HasPorts ends.now.direction (end_view ends.now.near)) made.items) }
+{
+    let mut made = Vec::new(alloc);
+    for rule in rules {
+        let conns = ends.entries_set(alloc, rule.ports.items())?;
+        made.push(RuleConns { rule, conns })?;
+    }
+    Ok(made)
+}
+
+// One set of all that the rules of this namespace match with a far end.
+fn net_set(
+    alloc: Global,
+    namespace: &str,
+    rules: &[RuleConns<'_>],
+    far: &EndView<'_>,
+) -> Result<Seq<ConnSet>, NoMemory>
+    ensures { IfOk result (λ made. (spot : PortSpot) → list_any (λ set. has_spot set spot) made
+        ≡ list_any (kept_matches namespace.now (end_view far.now) spot) rules.now) }
+{
+    let matching = matching_sets(alloc, namespace, rules, far)?;
+    let mut sets = Vec::new(alloc);
+    sets.push(joined_set(alloc, &matching)?)?;
+    Ok(Seq::from_vec(sets))
+}
+
+// The sets of the rules that match the far end.
+fn matching_sets<'a>(
+    alloc: Global,
+    namespace: &str,
+    rules: &'a [RuleConns<'_>],
+    far: &EndView<'_>,
+) -> Result<Vec<&'a ConnSet>, NoMemory>
+    ensures { IfOk result (λ made. (spot : PortSpot) → list_any (λ set. has_spot set.now spot) made.items
+        ≡ list_any (kept_matches namespace.now (end_view far.now) spot) rules.now) }
+{
+    let mut sets = Vec::new(alloc);
+    for kept in rules {
+        if net_peers_match(namespace, kept.rule.peers.items(), far) {
+            sets.push(&kept.conns)?;
+        }
+    }
+    Ok(sets)
+}
+
+// The spots that some of the sets has. The sets of both halves are joined, so that n sets take time n log n.
+fn joined_set(alloc: Global, sets: &[&ConnSet]) -> Result<ConnSet, NoMemory>
+    ensures { IfOk result (λ made. (spot : PortSpot) → has_spot made spot ≡ list_any (λ set. has_spot set.now spot) sets.now) }
+{
+    match sets {
+        [] => ConnSet::nothing(alloc),
+        [set] => set.copy(),
+        _ => {
+            let (front, back) = sets.split_at(sets.len() / 2);
+            let first = joined_set(alloc, front)?;
+            let second = joined_set(alloc, back)?;
+            let joined = first.join(&second)?;
+            Ok(joined)
+        }
+    }
+}
