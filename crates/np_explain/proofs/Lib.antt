@@ -1,6 +1,7 @@
 pub mod ExplanationLemmas
 pub mod FirstLemmas
 pub mod MarkLemmas
+pub mod NamedLemmas
 pub mod NoSideLemmas
 pub mod OneListLemmas
 pub mod PartLemmas
@@ -10,5 +11,6 @@ pub mod RuleLemmas
 pub mod SameDecider
 pub mod SideLemmas
 pub mod SpotLemmas
+pub mod TextLemmas
 pub mod WalkLemmas
 pub mod WholeLemmas

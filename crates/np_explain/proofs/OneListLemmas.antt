@@ -29,7 +29,7 @@ record IsStrict {X : Type 0} (R : X → X → Type 0) : Type 0 where
   pub never : (x : X) → R x x → ⊥
   pub once : (x y : X) → R x y → R y x → ⊥
 
-among_all : {X : Type 0} (P : X → Type 0) (xs : List X) → All P xs → (x : X) → IsAmong x xs → P x
+pub among_all : {X : Type 0} (P : X → Type 0) (xs : List X) → All P xs → (x : X) → IsAmong x xs → P x
 among_all P [] all x among = absurd among
 among_all P (y ∷ ys) all x (inl same) = subst P (sym same) (All-head P y ys all)
 among_all P (y ∷ ys) all x (inr later) = among_all P ys (All-tail P y ys all) x later

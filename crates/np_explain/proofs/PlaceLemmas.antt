@@ -35,7 +35,7 @@ place_told {X} {N} name xs apart p q x y at_p at_q same =
 -- ---- the items of several owners
 
 -- what holds of the items of each owner
-all_flat : {A X : Type 0} (P : A → Type 0) (Q : X → Type 0) (f : A → List X) → ((a : A) → P a → All Q (f a)) → (owners : List A) → All P owners → All Q (flat_map f owners)
+pub all_flat : {A X : Type 0} (P : A → Type 0) (Q : X → Type 0) (f : A → List X) → ((a : A) → P a → All Q (f a)) → (owners : List A) → All P owners → All Q (flat_map f owners)
 all_flat P Q f each [] all = All-nil Q
 all_flat P Q f each (a ∷ owners) all = All-append Q (f a) (flat_map f owners) (each a (All-head P a owners all)) (all_flat P Q f each owners (All-tail P a owners all))
 

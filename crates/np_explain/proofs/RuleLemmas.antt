@@ -29,7 +29,7 @@ pairs_with : {X : Type 0} (P : X → Type 0) (S R : X → X → Type 0) → ((x 
 pairs_with P S R both xs all pairs = λ i j d before within. both _ _ (all i d (omega arith)) (all j d within) (pairs i j d before within)
 
 -- what holds of a list holds of it where it is chosen, and else of none
-if_any : {X : Type 0} (P : List X → Type 0) (b : Bool) (xs : List X) → (b ≡ true → P xs) → P [] → P (if b then xs else [])
+pub if_any : {X : Type 0} (P : List X → Type 0) (b : Bool) (xs : List X) → (b ≡ true → P xs) → P [] → P (if b then xs else [])
 if_any P true xs some none = some refl
 if_any P false xs some none = none
 

@@ -1,19 +1,11 @@
 -- What decides, as it is printed.
-use Rattle.std.specs.Prelude.{ℕ, List, [], ◌++◌, codes, decimal, Bool, true, false, Option, Some, None}
+use Rattle.std.specs.Prelude.{ℕ, List, [], ◌++◌, codes, decimal, Option, Some, None}
 use Rattle.std.specs.List.{join_by}
 use Rattle.np_model.specs.declared.direction.Direction.{Direction}
-use Rattle.np_model.specs.declared.direction.Direction.TheVariants.{Ingress, Egress}
+use Rattle.np_rules.specs.Texts.{direction_text, verdict_text}
 use Rattle.np_rules.specs.declared.decider.Decider.{Decider}
 use Rattle.np_rules.specs.declared.decider.Decider.TheVariants.{NoSide, Admin, Net, Isolated, Base, Free}
 use Rattle.np_rules.specs.declared.decider.RuleName.{RuleName}
-
-abbrev pub verdict_text : Bool → List ℕ
-verdict_text true = codes "Allow"
-verdict_text false = codes "Deny"
-
-abbrev pub direction_text : Direction → List ℕ
-direction_text Ingress = codes "ingress"
-direction_text Egress = codes "egress"
 
 -- `name ingress[n]`, where n is the rule's place from 0
 abbrev pub rule_text : Direction → RuleName → List ℕ

@@ -5,3 +5,4 @@ pub mod Order
 pub mod Parts
 pub mod RightParts
 pub mod Sides
+pub mod WellNamed

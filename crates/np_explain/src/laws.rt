@@ -1,20 +1,24 @@
 //! What follows from the definitions. Each law is the contract of a call that does nothing.
-ghost use Rattle.std.specs.Prelude.{◌≡◌, ◌↔◌, ◌&&◌, IsTrue, List, [], ◌∷◌, map, filter, true, All};
+ghost use Rattle.std.specs.Prelude.{◌≡◌, ◌≢◌, ◌↔◌, ◌<◌, ◌^◌, ◌&&◌, IsTrue, List, [], ◌∷◌, map, filter, true, All, AllPairs};
 ghost use Rattle.np_addr.specs.declared.address.Family.{Family};
 ghost use Rattle.np_conns.specs.Conns.{has_spot, is_spot};
 ghost use Rattle.np_conns.specs.declared.port_spot.PortSpot.{PortSpot};
+ghost use Rattle.np_model.specs.Lawful.{is_well};
 ghost use Rattle.np_model.specs.declared.lists.EstateLists.{EstateLists};
+ghost use Rattle.np_explain.specs.DeciderText.{decider_text};
 ghost use Rattle.np_explain.specs.Explanations.{IsRightFor, explanation_of, same_sides};
 ghost use Rattle.np_explain.specs.Parts.{AreRightParts};
 ghost use Rattle.np_explain.specs.RightParts.{parts_of};
-ghost use Rattle.np_explain.specs.Sides.{decider_at, decider_between, end_at, is_address, packet_between};
+ghost use Rattle.np_explain.specs.Sides.{decider_at, decider_between, end_at, is_address, packet_between, placed_at};
+ghost use Rattle.np_explain.specs.WellNamed.{has_rule, is_well_named};
 ghost use Rattle.np_explain.specs.declared.explanation.Explanation.{Explanation};
 ghost use Rattle.np_explain.specs.declared.part.Part.{Part};
 ghost use Rattle.np_model.specs.declared.direction.Direction.{Direction};
 ghost use Rattle.np_model.specs.declared.direction.Direction.TheVariants.{Ingress, Egress};
 ghost use Rattle.np_rules.specs.Deciders.{decider, decider_allows};
 ghost use Rattle.np_rules.specs.Ends.{Contact, End as RuleEnd, Packet, contact_of};
-ghost use Rattle.np_rules.specs.Verdict.{allows, end_allows};
+ghost use Rattle.np_rules.specs.Places.{end_rule_count};
+ghost use Rattle.np_rules.specs.Verdict.{allows, end_allows, end_of};
 ghost use Rattle.np_rules.specs.declared.decider.Decider.{Decider};
 ghost use Rattle.np_rules.specs.declared.decider.Decider.TheVariants.{NoSide};
 ghost use Rattle.np_rules.specs.declared.packet.End.{End};
@@ -74,4 +78,33 @@ pub fn same_sides_explain_both_families()
     ensures { (lists : EstateLists) (source destination : End) (family other : Family) →
         same_sides (explanation_of lists source destination family) (explanation_of lists source destination other) ≡ true →
         IsRightFor lists source destination other (explanation_of lists source destination family) }
+{}
+
+/// The text of what decides belongs to one decider, whichever direction it is printed for, where all names are such as the
+/// policies have that are read. Where some rule stands in it, it belongs to one direction too.
+pub fn one_text_has_one_decider()
+    ensures decider { (a b : Direction) (d e : Decider) → is_well_named d ≡ true → is_well_named e ≡ true →
+        decider_text a d ≡ decider_text b e → d ≡ e }
+    ensures direction { (a b : Direction) (d e : Decider) → is_well_named d ≡ true → is_well_named e ≡ true →
+        has_rule d ≡ true → decider_text a d ≡ decider_text b e → a ≡ b }
+{}
+
+/// Where all names of the lists are well formed, as in every estate that is read, and fewer than 2^64 rules speak of an end,
+/// all names are such in whatever decides a packet at the end.
+pub fn deciders_of_read_policies_are_well_named()
+    ensures { (lists : EstateLists) (direction : Direction) (end : RuleEnd) (contact : Contact) →
+        is_well lists ≡ true → end_rule_count lists direction end < 2 ^ 64 →
+        is_well_named (decider lists direction end contact) ≡ true }
+{}
+
+/// So they are in all parts of a side, and no two parts of it have one text.
+pub fn parts_have_texts_of_their_own()
+    ensures named { (lists : EstateLists) (direction : Direction) (source destination : End) (family : Family) (parts : List Part) →
+        is_well lists ≡ true → end_rule_count lists direction (end_of lists (placed_at direction source destination)) < 2 ^ 64 →
+        AreRightParts (decider_between lists direction source destination family) parts →
+        All (λ part. is_well_named part.decider ≡ true) parts }
+    ensures texts { (lists : EstateLists) (direction : Direction) (source destination : End) (family : Family) (parts : List Part) →
+        is_well lists ≡ true → end_rule_count lists direction (end_of lists (placed_at direction source destination)) < 2 ^ 64 →
+        AreRightParts (decider_between lists direction source destination family) parts →
+        AllPairs (λ a b. decider_text direction a.decider ≢ decider_text direction b.decider) parts }
 {}

@@ -4,7 +4,7 @@ ghost use Rattle.np_explain.specs.DeciderText as spec;
 
 use np_base::{NoMemory, Text};
 use np_model::Direction;
-use np_rules::{Decider, RuleName};
+use np_rules::{Decider, RuleName, direction_text, verdict_text};
 use std::alloc::Global;
 
 /// What decides packets at an end, as it is printed, with `ingress` or `egress` for `d`, and the rule's place from 0 for `n`:
@@ -49,21 +49,6 @@ pub fn print_decider(
         }
     };
     Ok(Text::from_string(text))
-}
-
-fn verdict_text(allow: bool) -> &'static str
-    ensures { result.now ≡ spec.verdict_text allow }
-{
-    if allow { "Allow" } else { "Deny" }
-}
-
-fn direction_text(direction: Direction) -> &'static str
-    ensures { result.now ≡ spec.direction_text direction }
-{
-    match direction {
-        Direction::Ingress => "ingress",
-        Direction::Egress => "egress",
-    }
 }
 
 // A rule: `name ingress[n]`.

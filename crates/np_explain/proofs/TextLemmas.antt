@@ -1,0 +1,254 @@
+-- A text of what decides belongs to one decider.
+use Rattle.std.proofs.Common.{◌≡◌, ℕ, ◌+◌, ◌*◌, ◌<◌, ◌^◌, List, [], ◌∷◌, ◌++◌, length, flat_map, get_or, Bool, true, false, not, ◌&&◌, ◌==◌, nat_lt, codes, decimal, Option, Some, None, is_some, refl, sym, ap, ◌∙◌, append_assoc, arith}
+use Rattle.std.specs.Int.{IsInRange}
+use Rattle.std.specs.List.{list_all}
+use Rattle.std.specs.Str.Parse.{AllDigits}
+use Rattle.std.proofs.lemmas.Bool.{and_from, and_parts, eqb-false, false≢true, not-true, true≢false}
+use Rattle.std.proofs.lemmas.Bool.Decides.{nat_tests}
+use Rattle.std.proofs.lemmas.Fmt.{decimal_injective, decimal_is_IsNumeral}
+use Rattle.std.proofs.lemmas.List.{append_cancel_left}
+use Rattle.std.proofs.lemmas.Str.Parse.{digit_from_value}
+use Rattle.np_explain.specs.DeciderText.{decider_text, names_text, pass_text, rule_text}
+use Rattle.np_explain.specs.WellNamed.{has_rule, is_policy_name, is_rule_name, is_well_named}
+use Rattle.np_rules.specs.Deciders.{decider_allows}
+use Rattle.np_rules.specs.Texts.{direction_text, verdict_text}
+use Rattle.np_model.specs.WellPolicies.{if_there}
+use Rattle.np_model.specs.Words.{is_word, is_word_byte}
+use Rattle.np_rules.specs.declared.decider.Decider.{Decider}
+use Rattle.np_rules.specs.declared.decider.Decider.TheVariants.{NoSide, Admin, Net, Isolated, Base, Free}
+use Rattle.np_rules.specs.declared.decider.RuleName.{RuleName}
+use Rattle.np_model.specs.declared.direction.Direction.{Direction}
+use Rattle.np_model.specs.declared.direction.Direction.TheVariants.{Ingress, Egress}
+
+-- ---- words
+
+-- words that end at a byte that is none of a word are equal, and so is what follows
+cut : (w w' : List ℕ) (c c' : ℕ) (t t' : List ℕ) → is_word w ≡ true → is_word w' ≡ true → is_word_byte c ≡ false → is_word_byte c' ≡ false → w ++ c ∷ t ≡ w' ++ c' ∷ t' → (w ≡ w') × (c ≡ c') × (t ≡ t')
+cut [] [] c c' t t' word word' end end' same = (refl, cc, cc)
+cut [] (y ∷ ys) c c' t t' word word' end end' same =
+    let here : c ≡ y = cc in
+    absurd (false≢true (sym end ∙ ap is_word_byte here ∙ (and_parts (is_word_byte y) (is_word ys) word').0))
+cut (x ∷ xs) [] c c' t t' word word' end end' same =
+    let here : x ≡ c' = cc in
+    absurd (true≢false (sym (and_parts (is_word_byte x) (is_word xs) word).0 ∙ ap is_word_byte here ∙ end'))
+cut (x ∷ xs) (y ∷ ys) c c' t t' word word' end end' same =
+    let heads : x ≡ y = cc in
+    let tails : xs ++ c ∷ t ≡ ys ++ c' ∷ t' = cc in
+    let rest = cut xs ys c c' t t' (and_parts (is_word_byte x) (is_word xs) word).1 (and_parts (is_word_byte y) (is_word ys) word').1 end end' tails in
+    (rw (heads, rest.0) refl, rest.1, rest.2)
+
+digit-word : (d : ℕ) → IsInRange 48 57 d → is_word_byte d ≡ true
+digit-word d digit = grind (arith, nat_tests)
+
+digits-word : (digits : List ℕ) → AllDigits 10 digits → is_word digits ≡ true
+digits-word [] all = refl
+digits-word (d ∷ digits) all = and_from _ _ (digit-word d (digit_from_value d all.0)) (digits-word digits all.1)
+
+decimal-word : (n : ℕ) → n < 2 ^ 64 → is_word (decimal n) ≡ true
+decimal-word n few = digits-word (decimal n) (decimal_is_IsNumeral n few).0.1
+
+name-word : (text : List ℕ) → is_policy_name text ≡ true → is_word text ≡ true
+name-word text name = (and_parts (not (length text == 0)) (is_word text) name).1
+
+-- ---- rules
+
+direction-word : (direction : Direction) → is_word (direction_text direction) ≡ true
+direction-word Ingress = refl
+direction-word Egress = refl
+
+-- a text that tells two apart
+apart : (place x y : ℕ) (text text' : List ℕ) → text ≡ text' → get_or text place 0 ≡ x → get_or text' place 0 ≡ y → (x == y) ≡ false → ⊥
+apart place x y text text' same first second differ = eqb-false x y differ (sym first ∙ ap (λ (t : List ℕ). get_or t place 0) same ∙ second)
+
+direction-one : (a b : Direction) → direction_text a ≡ direction_text b → a ≡ b
+direction-one Ingress Ingress same = refl
+direction-one Egress Egress same = refl
+direction-one Ingress Egress same = absurd (apart 0 105 101 (codes "ingress") (codes "egress") same refl refl refl)
+direction-one Egress Ingress same = absurd (apart 0 101 105 (codes "egress") (codes "ingress") same refl refl refl)
+
+below : (n : ℕ) → nat_lt n (2 ^ 64) ≡ true → n < 2 ^ 64
+below n few = grind (arith, nat_tests)
+
+rule-parts : (rule : RuleName) → is_rule_name rule ≡ true → (is_word rule.policy ≡ true) × (rule.place < 2 ^ 64)
+rule-parts rule well =
+    let parts = and_parts (is_policy_name rule.policy) (nat_lt rule.place (2 ^ 64)) well in
+    (name-word rule.policy parts.0, below rule.place parts.1)
+
+rule-equal : (rule other : RuleName) → rule.policy ≡ other.policy → rule.place ≡ other.place → rule ≡ other
+rule-equal rule other policies places =
+    let of_policy : List ℕ → RuleName = λ policy. record { policy = policy; place = rule.place } in
+    let of_place : ℕ → RuleName = λ place. record { policy = other.policy; place = place } in
+    ap of_policy policies ∙ ap of_place places
+
+rule-spelled : (direction : Direction) (rule : RuleName) (t : List ℕ) → rule_text direction rule ++ t ≡ rule.policy ++ 32 ∷ (direction_text direction ++ 91 ∷ (decimal rule.place ++ 93 ∷ t))
+rule-spelled direction rule t = simp append_assoc
+
+record AreOne (a b : Direction) (rule other : RuleName) (t t' : List ℕ) : Type 0 where
+  pub direction : a ≡ b
+  pub name : rule ≡ other
+  pub rest : t ≡ t'
+
+rule-one : (a b : Direction) (rule other : RuleName) (t t' : List ℕ) → is_rule_name rule ≡ true → is_rule_name other ≡ true
+    → rule_text a rule ++ t ≡ rule_text b other ++ t' → AreOne a b rule other t t'
+rule-one a b rule other t t' well well' same =
+    let one = rule-parts rule well in
+    let two = rule-parts other well' in
+    let names = cut rule.policy other.policy 32 32 _ _ one.0 two.0 refl refl (sym (rule-spelled a rule t) ∙ same ∙ rule-spelled b other t') in
+    let ways = cut (direction_text a) (direction_text b) 91 91 _ _ (direction-word a) (direction-word b) refl refl names.2 in
+    let numbers = cut (decimal rule.place) (decimal other.place) 93 93 t t' (decimal-word rule.place one.1) (decimal-word other.place two.1) refl refl ways.2 in
+    record { direction = direction-one a b ways.0; name = rule-equal rule other names.0 (decimal_injective rule.place other.place one.1 two.1 numbers.0); rest = numbers.2 }
+
+-- ---- rules with Pass; each text ends with a newline, so that something stands behind every word
+
+pass-one : (a b : Direction) (pass passed : Option RuleName) → if_there is_rule_name pass ≡ true → if_there is_rule_name passed ≡ true
+    → pass_text a pass ++ 10 ∷ [] ≡ pass_text b passed ++ 10 ∷ [] → (pass ≡ passed) × (is_some pass ≡ true → a ≡ b)
+pass-one a b None None well well' same = (refl, λ is. absurd (false≢true is))
+pass-one a b None (Some other) well well' same = absurd (apart 0 10 32 (10 ∷ []) (pass_text b (Some other) ++ 10 ∷ []) same refl refl refl)
+pass-one a b (Some rule) None well well' same = absurd (apart 0 32 10 (pass_text a (Some rule) ++ 10 ∷ []) (10 ∷ []) same refl refl refl)
+pass-one a b (Some rule) (Some other) well well' same =
+    let front = codes " after Pass by AdminNetworkPolicy " in
+    let both : front ++ (rule_text a rule ++ 10 ∷ []) ≡ front ++ (rule_text b other ++ 10 ∷ []) =
+    sym (append_assoc front (rule_text a rule) (10 ∷ [])) ∙ same ∙ append_assoc front (rule_text b other) (10 ∷ []) in
+    let rules = rule-one a b rule other (10 ∷ []) (10 ∷ []) well well' (append_cancel_left front (rule_text a rule ++ 10 ∷ []) (rule_text b other ++ 10 ∷ []) both) in
+    (ap Some rules.name, λ is. rules.direction)
+
+-- what stands behind a list of names begins with a byte that is none of theirs
+record Begins (text : List ℕ) : Type 0 where
+  pub byte : ℕ
+  pub rest : List ℕ
+  pub is : text ≡ byte ∷ rest
+  pub no_word : is_word_byte byte ≡ false
+  pub no_comma : (byte == 44) ≡ false
+
+pass-begins : (direction : Direction) (pass : Option RuleName) → Begins (pass_text direction pass ++ 10 ∷ [])
+pass-begins direction None = record { byte = 10; rest = []; is = refl; no_word = refl; no_comma = refl }
+pass-begins direction (Some rule) = record { byte = 32; rest = codes "after Pass by AdminNetworkPolicy " ++ rule_text direction rule ++ 10 ∷ []; is = refl; no_word = refl; no_comma = refl }
+
+-- ---- names
+
+abbrev others_text : List (List ℕ) → List ℕ
+others_text names = flat_map (λ name. codes ", " ++ name) names
+
+others-spelled : (name : List ℕ) (names : List (List ℕ)) (t : List ℕ) → others_text (name ∷ names) ++ t ≡ 44 ∷ 32 ∷ (name ++ (others_text names ++ t))
+others-spelled name names t = ap (λ (rest : List ℕ). 44 ∷ 32 ∷ rest) (append_assoc name (others_text names) t)
+
+module _ (c c' : ℕ) (t t' : List ℕ) (end : is_word_byte c ≡ false) (end' : is_word_byte c' ≡ false) (no_comma : (c == 44) ≡ false) (no_comma' : (c' == 44) ≡ false) where
+  names-one : (v v' : List ℕ) (vs vs' : List (List ℕ)) → list_all is_policy_name (v ∷ vs) ≡ true → list_all is_policy_name (v' ∷ vs') ≡ true
+      → v ++ (others_text vs ++ c ∷ t) ≡ v' ++ (others_text vs' ++ c' ∷ t') → (v ∷ vs ≡ v' ∷ vs') × (c ∷ t ≡ c' ∷ t')
+  names-one v v' [] [] words words' same =
+      let parts = cut v v' c c' t t' (name-word v (and_parts (is_policy_name v) true words).0) (name-word v' (and_parts (is_policy_name v') true words').0) end end' same in
+      (rw parts.0 refl, rw (parts.1, parts.2) refl)
+  names-one v v' [] (u' ∷ us') words words' same =
+      let parts = cut v v' c 44 t _ (name-word v (and_parts (is_policy_name v) true words).0) (name-word v' (and_parts (is_policy_name v') (list_all is_policy_name (u' ∷ us')) words').0) end refl
+      (same ∙ ap (λ (rest : List ℕ). v' ++ rest) (others-spelled u' us' (c' ∷ t'))) in
+      absurd (eqb-false c 44 no_comma parts.1)
+  names-one v v' (u ∷ us) [] words words' same =
+      let parts = cut v v' 44 c' _ t' (name-word v (and_parts (is_policy_name v) (list_all is_policy_name (u ∷ us)) words).0) (name-word v' (and_parts (is_policy_name v') true words').0) refl end'
+      (sym (ap (λ (rest : List ℕ). v ++ rest) (others-spelled u us (c ∷ t))) ∙ same) in
+      absurd (eqb-false c' 44 no_comma' (sym parts.1))
+  names-one v v' (u ∷ us) (u' ∷ us') words words' same =
+      let here = and_parts (is_policy_name v) (list_all is_policy_name (u ∷ us)) words in
+      let there = and_parts (is_policy_name v') (list_all is_policy_name (u' ∷ us')) words' in
+      let parts = cut v v' 44 44 _ _ (name-word v here.0) (name-word v' there.0) refl refl
+      (sym (ap (λ (rest : List ℕ). v ++ rest) (others-spelled u us (c ∷ t))) ∙ same ∙ ap (λ (rest : List ℕ). v' ++ rest) (others-spelled u' us' (c' ∷ t'))) in
+      let behind : u ++ (others_text us ++ c ∷ t) ≡ u' ++ (others_text us' ++ c' ∷ t') = let tails = parts.2 in cc in
+      let rest = names-one u u' us us' here.1 there.1 behind in
+      (rw (parts.0, rest.0) refl, rest.1)
+
+  listed-one : (names others : List (List ℕ)) → (length names == 0) ≡ false → (length others == 0) ≡ false → list_all is_policy_name names ≡ true → list_all is_policy_name others ≡ true
+      → names_text names ++ c ∷ t ≡ names_text others ++ c' ∷ t' → (names ≡ others) × (c ∷ t ≡ c' ∷ t')
+  listed-one [] others some some' words words' same = absurd (true≢false some)
+  listed-one (v ∷ vs) [] some some' words words' same = absurd (true≢false some')
+  listed-one (v ∷ vs) (v' ∷ vs') some some' words words' same =
+      names-one v v' vs vs' words words' (sym (append_assoc v (others_text vs) (c ∷ t)) ∙ same ∙ append_assoc v' (others_text vs') (c' ∷ t'))
+
+-- ---- deciders
+
+-- texts of one beginning go on alike
+go_on : (front middle middle' end end' : List ℕ) → front ++ middle ++ end ≡ front ++ middle' ++ end' → middle ++ (end ++ 10 ∷ []) ≡ middle' ++ (end' ++ 10 ∷ [])
+go_on front middle middle' end end' same =
+    append_cancel_left front (middle ++ (end ++ 10 ∷ [])) (middle' ++ (end' ++ 10 ∷ []))
+    (sym (spread middle end) ∙ ap (λ (text : List ℕ). text ++ 10 ∷ []) same ∙ spread middle' end')
+  where
+    spread : (one other : List ℕ) → front ++ one ++ other ++ 10 ∷ [] ≡ front ++ (one ++ (other ++ 10 ∷ []))
+    spread one other = append_assoc (front ++ one) other (10 ∷ []) ∙ append_assoc front one (other ++ 10 ∷ [])
+
+-- what a text says behind its verdict
+abbrev reason : Direction → Decider → List ℕ
+reason direction NoSide = codes " since no pod is at this side"
+reason direction (Admin rule allow) = codes " by AdminNetworkPolicy " ++ rule_text direction rule
+reason direction (Net pass rule) = codes " by NetworkPolicy " ++ rule_text direction rule ++ pass_text direction pass
+reason direction (Isolated pass policies) = codes " since isolated by NetworkPolicy " ++ names_text policies ++ pass_text direction pass
+reason direction (Base pass rule allow) = codes " by BaselineAdminNetworkPolicy " ++ rule_text direction rule ++ pass_text direction pass
+reason direction (Free pass) = codes " by default" ++ pass_text direction pass
+
+in_two : (direction : Direction) (d : Decider) → decider_text direction d ≡ verdict_text (decider_allows d) ++ reason direction d
+unfolding decider_text
+in_two direction NoSide = refl
+in_two direction (Admin rule allow) = append_assoc (verdict_text allow) (codes " by AdminNetworkPolicy ") (rule_text direction rule)
+in_two direction (Net pass rule) = refl
+in_two direction (Isolated pass policies) = refl
+in_two direction (Base pass rule allow) =
+    let front = codes " by BaselineAdminNetworkPolicy " in
+    ap (λ (text : List ℕ). text ++ pass_text direction pass) (append_assoc (verdict_text allow) front (rule_text direction rule))
+    ∙ append_assoc (verdict_text allow) (front ++ rule_text direction rule) (pass_text direction pass)
+in_two direction (Free pass) = refl
+
+verdict-one : (allow allows : Bool) (t t' : List ℕ) → verdict_text allow ++ t ≡ verdict_text allows ++ t' → (allow ≡ allows) × (t ≡ t')
+verdict-one true true t t' same = (refl, append_cancel_left (codes "Allow") t t' same)
+verdict-one false false t t' same = (refl, append_cancel_left (codes "Deny") t t' same)
+verdict-one true false t t' same = absurd (apart 0 65 68 (codes "Allow" ++ t) (codes "Deny" ++ t') same refl refl refl)
+verdict-one false true t t' same = absurd (apart 0 68 65 (codes "Deny" ++ t) (codes "Allow" ++ t') same refl refl refl)
+
+-- two bytes that are others where another kind decides
+abbrev mark : List ℕ → ℕ
+mark text = 2 * get_or text 4 0 + get_or text 7 0
+
+abbrev IsOne : Direction → Direction → Decider → Decider → Type 0
+IsOne a b d e = (d ≡ e) × (has_rule d ≡ true → a ≡ b)
+
+-- a rule, and the rule with Pass that was met before
+tier-one : (a b : Direction) (front : List ℕ) (pass passed : Option RuleName) (rule other : RuleName)
+    → (if_there is_rule_name pass && is_rule_name rule) ≡ true → (if_there is_rule_name passed && is_rule_name other) ≡ true
+    → front ++ rule_text a rule ++ pass_text a pass ≡ front ++ rule_text b other ++ pass_text b passed → (pass ≡ passed) × (rule ≡ other) × (a ≡ b)
+tier-one a b front pass passed rule other well well' same =
+    let here = and_parts (if_there is_rule_name pass) (is_rule_name rule) well in
+    let there = and_parts (if_there is_rule_name passed) (is_rule_name other) well' in
+    let rules = rule-one a b rule other _ _ here.1 there.1 (go_on front (rule_text a rule) (rule_text b other) (pass_text a pass) (pass_text b passed) same) in
+    ((pass-one a b pass passed here.0 there.0 rules.rest).0, rules.name, rules.direction)
+
+isolated-one : (a b : Direction) (pass passed : Option RuleName) (names others : List (List ℕ)) → is_well_named (Isolated pass names) ≡ true → is_well_named (Isolated passed others) ≡ true
+    → reason a (Isolated pass names) ≡ reason b (Isolated passed others) → IsOne a b (Isolated pass names) (Isolated passed others)
+isolated-one a b pass passed names others well well' same =
+    let here = and_parts _ (list_all is_policy_name names) well in
+    let there = and_parts _ (list_all is_policy_name others) well' in
+    let some = and_parts (if_there is_rule_name pass) (not (length names == 0)) here.0 in
+    let some' = and_parts (if_there is_rule_name passed) (not (length others == 0)) there.0 in
+    let first = pass-begins a pass in
+    let second = pass-begins b passed in
+    let both = go_on (codes " since isolated by NetworkPolicy ") (names_text names) (names_text others) (pass_text a pass) (pass_text b passed) same in
+    let parts = listed-one first.byte second.byte first.rest second.rest first.no_word second.no_word first.no_comma second.no_comma names others (not-true _ some.1) (not-true _ some'.1) here.1 there.1
+    (sym (ap (λ (text : List ℕ). names_text names ++ text) first.is) ∙ both ∙ ap (λ (text : List ℕ). names_text others ++ text) second.is) in
+    let passes = pass-one a b pass passed some.0 some'.0 (first.is ∙ parts.1 ∙ sym second.is) in
+    (cc (parts.0, passes.0), passes.1)
+
+reason-one : (a b : Direction) (d e : Decider) → is_well_named d ≡ true → is_well_named e ≡ true → decider_allows d ≡ decider_allows e → reason a d ≡ reason b e → IsOne a b d e
+reason-one a b NoSide NoSide well well' verdict same = (refl, λ is. absurd (false≢true is))
+reason-one a b (Admin rule allow) (Admin other allows) well well' verdict same =
+    let behind : rule_text a rule ≡ rule_text b other = append_cancel_left (codes " by AdminNetworkPolicy ") (rule_text a rule) (rule_text b other) same in
+    let rules = rule-one a b rule other (10 ∷ []) (10 ∷ []) well well' (ap (λ (text : List ℕ). text ++ 10 ∷ []) behind) in
+    (cc (verdict, rules.name), λ is. rules.direction)
+reason-one a b (Net pass rule) (Net passed other) well well' verdict same =
+    let one = tier-one a b (codes " by NetworkPolicy ") pass passed rule other well well' same in (cc (one.0, one.1), λ is. one.2)
+reason-one a b (Isolated pass names) (Isolated passed others) well well' verdict same = isolated-one a b pass passed names others well well' same
+reason-one a b (Base pass rule allow) (Base passed other allows) well well' verdict same =
+    let one = tier-one a b (codes " by BaselineAdminNetworkPolicy ") pass passed rule other well well' same in (cc (one.0, one.1, verdict), λ is. one.2)
+reason-one a b (Free pass) (Free passed) well well' verdict same =
+    let passes = pass-one a b pass passed well well' (ap (λ (text : List ℕ). text ++ 10 ∷ []) (append_cancel_left (codes " by default") (pass_text a pass) (pass_text b passed) same)) in
+    (cc passes.0, passes.1)
+reason-one a b d e well well' verdict same = absurd (eqb-false (mark (reason a d)) (mark (reason b e)) refl (ap mark same))
+
+pub decider_text-one : (a b : Direction) (d e : Decider) → is_well_named d ≡ true → is_well_named e ≡ true → decider_text a d ≡ decider_text b e → IsOne a b d e
+decider_text-one a b d e well well' same =
+    let parts = verdict-one (decider_allows d) (decider_allows e) (reason a d) (reason b e) (sym (in_two a d) ∙ same ∙ in_two b e) in
+    reason-one a b d e well well' parts.0 parts.1
