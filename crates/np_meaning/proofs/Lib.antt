@@ -1,9 +1,14 @@
+pub mod AddressBytes
 pub mod ControllerMeant
 pub mod EachPodLemmas
+pub mod EndTexts
 pub mod IngressMeant
 pub mod KindMeant
 pub mod MetaMeant
+pub mod NameTexts
 pub mod NumberingLemmas
 pub mod Outputs
 pub mod PodMeant
+pub mod RowTexts
 pub mod ServiceMeant
+pub mod SpanTexts

@@ -1,5 +1,6 @@
 pub mod ControllerMeaning
 pub mod EachPod
+pub mod EstateRows
 pub mod KindMeaning
 pub mod Numbering
 pub mod ObjectMeaning
