@@ -61,7 +61,7 @@ KNOWN = {(name, command): why for name, commands, why in (
     ("mostBlocks", "list evaluate", "the JSON and the policies are held whole, at 50 bytes of memory for each byte"),
     ("groupKeys", "list", PAIRS),
     ("groupKeys", "flatten", "each policy names all groups, and each group by all keys"),
-    ("namedPortRules", "list unused", "each rule has a set of its own of all ports of that name"),
+    ("namedPortRules", "unused", "each rule has a set of its own of all ports of that name"),
     ("exposureKeys", "exposure", PATTERNS),
 ) for command in commands.split()}
 
