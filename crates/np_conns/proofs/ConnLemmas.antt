@@ -12,14 +12,20 @@ use Rattle.np_conns.specs.declared.proto.Proto.TheVariants.{Tcp, Udp, Sctp}
 use Rattle.np_conns.proofs.RunLemmas.{runs-holds, runs-agree}
 
 -- sets with equal ranges of each protocol are equal, and a spot of one protocol tells two sets apart
-pub same_by_protocols : (a b : Conns) (tcp udp sctp : Bool) → MatchBool tcp (a.tcp ≡ b.tcp) ((port : ℕ) × (holds (λ p. p) a.tcp port ≡ not (holds (λ p. p) b.tcp port))) → MatchBool udp (a.udp ≡ b.udp) ((port : ℕ) × (holds (λ p. p) a.udp port ≡ not (holds (λ p. p) b.udp port))) → MatchBool sctp (a.sctp ≡ b.sctp) ((port : ℕ) × (holds (λ p. p) a.sctp port ≡ not (holds (λ p. p) b.sctp port))) → MatchBool (tcp && udp && sctp) (a ≡ b) ((spot : PortSpot) × (has_spot a spot ≡ not (has_spot b spot)))
+pub same_by_protocols : (a b : Conns) (tcp udp sctp : Bool) → MatchBool tcp (a.tcp ≡ b.tcp) ((port : ℕ) × (holds (λ p. p) a.tcp port ≡ not (holds (λ p. p) b.tcp port))) →
+    MatchBool udp (a.udp ≡ b.udp) ((port : ℕ) × (holds (λ p. p) a.udp port ≡ not (holds (λ p. p) b.udp port))) →
+    MatchBool sctp (a.sctp ≡ b.sctp) ((port : ℕ) × (holds (λ p. p) a.sctp port ≡ not (holds (λ p. p) b.sctp port))) →
+    MatchBool (tcp && udp && sctp) (a ≡ b) ((spot : PortSpot) × (has_spot a spot ≡ not (has_spot b spot)))
 same_by_protocols a b true true true on_tcp on_udp on_sctp = equal_by_ranges a b (elim [ Tcp ↦ on_tcp | Udp ↦ on_udp | Sctp ↦ on_sctp ])
 same_by_protocols a b true true false on_tcp on_udp on_sctp = (record { proto = Sctp; port = on_sctp.0 }, on_sctp.1)
 same_by_protocols a b true false sctp on_tcp on_udp on_sctp = (record { proto = Udp; port = on_udp.0 }, on_udp.1)
 same_by_protocols a b false udp sctp on_tcp on_udp on_sctp = (record { proto = Tcp; port = on_tcp.0 }, on_tcp.1)
 
 -- a set without ports of any protocol has no spot
-pub empty_by_protocols : (conns : Conns) (tcp udp sctp : Bool) → MatchBool tcp ((port : ℕ) → holds (λ p. p) conns.tcp port ≡ false) ((port : ℕ) × (holds (λ p. p) conns.tcp port ≡ true)) → MatchBool udp ((port : ℕ) → holds (λ p. p) conns.udp port ≡ false) ((port : ℕ) × (holds (λ p. p) conns.udp port ≡ true)) → MatchBool sctp ((port : ℕ) → holds (λ p. p) conns.sctp port ≡ false) ((port : ℕ) × (holds (λ p. p) conns.sctp port ≡ true)) → MatchBool (tcp && udp && sctp) ((spot : PortSpot) → has_spot conns spot ≡ false) ((spot : PortSpot) × (has_spot conns spot ≡ true))
+pub empty_by_protocols : (conns : Conns) (tcp udp sctp : Bool) → MatchBool tcp ((port : ℕ) → holds (λ p. p) conns.tcp port ≡ false) ((port : ℕ) × (holds (λ p. p) conns.tcp port ≡ true)) →
+    MatchBool udp ((port : ℕ) → holds (λ p. p) conns.udp port ≡ false) ((port : ℕ) × (holds (λ p. p) conns.udp port ≡ true)) →
+    MatchBool sctp ((port : ℕ) → holds (λ p. p) conns.sctp port ≡ false) ((port : ℕ) × (holds (λ p. p) conns.sctp port ≡ true)) →
+    MatchBool (tcp && udp && sctp) ((spot : PortSpot) → has_spot conns spot ≡ false) ((spot : PortSpot) × (has_spot conns spot ≡ true))
 empty_by_protocols conns true true true on_tcp on_udp on_sctp =
     λ spot. elim spot.proto as (λ proto. holds (λ p. p) (ranges_of conns proto) spot.port ≡ false) [ Tcp ↦ on_tcp spot.port | Udp ↦ on_udp spot.port | Sctp ↦ on_sctp spot.port ]
 empty_by_protocols conns true true false on_tcp on_udp on_sctp = (record { proto = Sctp; port = on_sctp.0 }, on_sctp.1)

@@ -26,9 +26,11 @@ run_text-cut run real =
     let hi_free = no_hyphen run.hi real.high in
     elim (cases_Bool (eqb run.lo run.hi)) [
       | inl one ↦
-          ap (λ text. end_texts (slice_split (λ b. eqb b 45) text)) (cond-true _ _ _ one) ∙ ap end_texts (slice_split-whole 45 (decimal run.lo) lo_free) ∙ ap (λ n. (decimal run.lo, decimal n)) (eqb-true run.lo run.hi one)
+          ap (λ text. end_texts (slice_split (λ b. eqb b 45) text)) (cond-true _ _ _ one) ∙ ap end_texts (slice_split-whole 45 (decimal run.lo) lo_free) ∙ ap (λ n. (decimal run.lo, decimal n))
+          (eqb-true run.lo run.hi one)
       | inr more ↦
-          ap (λ text. end_texts (slice_split (λ b. eqb b 45) text)) (run_text-long run more) ∙ ap end_texts (slice_split-at 45 (decimal run.lo) (decimal run.hi) lo_free ∙ ap (λ parts. decimal run.lo ∷ parts) (slice_split-whole 45 (decimal run.hi) hi_free))
+          ap (λ text. end_texts (slice_split (λ b. eqb b 45) text)) (run_text-long run more) ∙ ap end_texts
+          (slice_split-at 45 (decimal run.lo) (decimal run.hi) lo_free ∙ ap (λ parts. decimal run.lo ∷ parts) (slice_split-whole 45 (decimal run.hi) hi_free))
     ]
 
 -- runs of equal texts are equal
@@ -54,7 +56,8 @@ no_comma [] real = tt
 no_comma (run ∷ others) real = (run_text-lacks 44 run (λ digit. omega arith) refl real.0, no_comma others real.1)
 
 -- runs that are joined by commas, cut at the commas
-pub runs_text-cut : (run : Range ℕ) (others : List (Range ℕ)) → AllByRecursion IsRun (run ∷ others) → slice_split (λ b. eqb b 44) (join_by run_text (codes ",") (run ∷ others)) ≡ map run_text (run ∷ others)
+pub runs_text-cut : (run : Range ℕ) (others : List (Range ℕ)) → AllByRecursion IsRun (run ∷ others) →
+    slice_split (λ b. eqb b 44) (join_by run_text (codes ",") (run ∷ others)) ≡ map run_text (run ∷ others)
 runs_text-cut run others real =
     slice_split-join_by 44 [] run_text run others (run_text-lacks 44 run (λ digit. omega arith) refl real.0) (no_comma others real.1)
 
@@ -102,7 +105,8 @@ spaced [] free = tt
 spaced (text ∷ others) free = (free.0, spaced others free.1)
 
 -- parts that are joined, cut at the semicolons
-pub joined-cut : (first : List ℕ) (others : List (List ℕ)) → AllByRecursion (λ text. lacks 59 text ≡ true) (first ∷ others) → slice_split (λ b. eqb b 59) (joined (first ∷ others)) ≡ first ∷ map (λ text. 32 ∷ text) others
+pub joined-cut : (first : List ℕ) (others : List (List ℕ)) → AllByRecursion (λ text. lacks 59 text ≡ true) (first ∷ others) →
+    slice_split (λ b. eqb b 59) (joined (first ∷ others)) ≡ first ∷ map (λ text. 32 ∷ text) others
 joined-cut first others free = slice_split-join_by 59 (32 ∷ []) (λ text. text) first others free.0 (spaced others free.1)
 
 -- the pieces without the space before each but the first
@@ -125,7 +129,9 @@ found-joined b (first ∷ others) other free =
     ∙ ap (λ rest. filter (λ piece. eqb (get_or piece 0 0) b) (first ∷ rest)) (unspaced-spaced others)
 
 -- a protocol's part is known by the first byte of its name
-filtered : (tcp udp sctp : List (Range ℕ)) → (filter (λ piece. eqb (get_or piece 0 0) 84) (parts tcp udp sctp) ≡ part Tcp tcp) × (filter (λ piece. eqb (get_or piece 0 0) 85) (parts tcp udp sctp) ≡ part Udp udp) × (filter (λ piece. eqb (get_or piece 0 0) 83) (parts tcp udp sctp) ≡ part Sctp sctp)
+filtered : (tcp udp sctp : List (Range ℕ)) →
+    (filter (λ piece. eqb (get_or piece 0 0) 84) (parts tcp udp sctp) ≡ part Tcp tcp) × (filter (λ piece. eqb (get_or piece 0 0) 85) (parts tcp udp sctp) ≡ part Udp udp) ×
+    (filter (λ piece. eqb (get_or piece 0 0) 83) (parts tcp udp sctp) ≡ part Sctp sctp)
 filtered [] [] [] = (refl, refl, refl)
 filtered [] [] (c ∷ cs) = (refl, refl, refl)
 filtered [] (b ∷ bs) [] = (refl, refl, refl)
@@ -179,7 +185,8 @@ whole-is (run ∷ next ∷ others) ascends whole =
 abbrev pub all_whole : Conns → Bool
 all_whole conns = is_whole conns.tcp && is_whole conns.udp && is_whole conns.sctp
 
-pub all_whole-is : (conns : Conns) → IsConns conns → all_whole conns ≡ true → conns ≡ record { tcp = record { lo = 1; hi = 65535 } ∷ []; udp = record { lo = 1; hi = 65535 } ∷ []; sctp = record { lo = 1; hi = 65535 } ∷ [] }
+pub all_whole-is : (conns : Conns) → IsConns conns → all_whole conns ≡ true →
+    conns ≡ record { tcp = record { lo = 1; hi = 65535 } ∷ []; udp = record { lo = 1; hi = 65535 } ∷ []; sctp = record { lo = 1; hi = 65535 } ∷ [] }
 all_whole-is conns well whole =
     let front = and_parts (is_whole conns.tcp && is_whole conns.udp) (is_whole conns.sctp) whole in
     let both = and_parts (is_whole conns.tcp) (is_whole conns.udp) front.0 in

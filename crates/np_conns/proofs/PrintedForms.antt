@@ -20,7 +20,9 @@ or-false true = refl
 or-false false = refl
 
 -- ports in one range of all ports are ports
-whole-has : (proto : Proto) (port : ℕ) → holds (λ p. p) (ranges_of (record { tcp = record { lo = 1; hi = 65535 } ∷ []; udp = record { lo = 1; hi = 65535 } ∷ []; sctp = record { lo = 1; hi = 65535 } ∷ [] }) proto) port ≡ (nat_le 1 port && nat_le port 65535)
+whole-has : (proto : Proto) (port : ℕ) →
+    holds (λ p. p) (ranges_of (record { tcp = record { lo = 1; hi = 65535 } ∷ []; udp = record { lo = 1; hi = 65535 } ∷ []; sctp = record { lo = 1; hi = 65535 } ∷ [] }) proto) port ≡
+    (nat_le 1 port && nat_le port 65535)
 whole-has Tcp port = or-false _
 whole-has Udp port = or-false _
 whole-has Sctp port = or-false _
@@ -37,7 +39,8 @@ pub whole_spots : (conns : Conns) → IsConns conns → conns_text (has_spot con
 whole_spots conns well text spot = elim (cases_Bool (all_whole conns)) [
   | inl whole ↦ ap (λ s. has_spot s spot) (all_whole-is conns well whole) ∙ whole-has spot.proto spot.port
   | inr partial ↦
-      absurd (joined-not_whole conns.tcp conns.udp conns.sctp (IsRun-from_ascending 1 conns.tcp (omega arith) well.tcp) (IsRun-from_ascending 1 conns.udp (omega arith) well.udp) (IsRun-from_ascending 1 conns.sctp (omega arith) well.sctp)
+      absurd (joined-not_whole conns.tcp conns.udp conns.sctp (IsRun-from_ascending 1 conns.tcp (omega arith) well.tcp) (IsRun-from_ascending 1 conns.udp (omega arith) well.udp)
+      (IsRun-from_ascending 1 conns.sctp (omega arith) well.sctp)
       (sym (text_of_partial conns well partial) ∙ text))
 ]
 
@@ -46,7 +49,8 @@ pub no_spots : (conns : Conns) → IsConns conns → conns_text (has_spot conns)
 no_spots conns well text spot = elim (cases_Bool (all_whole conns)) [
   | inl whole ↦ absurd (false≢true (ap (λ t. eqb (get_or t 0 0) 78) (sym (text_of_whole conns well whole) ∙ text)))
   | inr partial ↦
-      let told = joined-tells conns.tcp conns.udp conns.sctp (IsRun-from_ascending 1 conns.tcp (omega arith) well.tcp) (IsRun-from_ascending 1 conns.udp (omega arith) well.udp) (IsRun-from_ascending 1 conns.sctp (omega arith) well.sctp) in
+      let told = joined-tells conns.tcp conns.udp conns.sctp (IsRun-from_ascending 1 conns.tcp (omega arith) well.tcp) (IsRun-from_ascending 1 conns.udp (omega arith) well.udp)
+      (IsRun-from_ascending 1 conns.sctp (omega arith) well.sctp) in
       let same = sym (text_of_partial conns well partial) ∙ text in
       elim spot.proto as (λ proto. holds (λ p. p) (ranges_of conns proto) spot.port ≡ false) [
         | Tcp ↦ ap (λ runs. holds (λ p. p) runs spot.port) (none-from_part Tcp conns.tcp (sym told.of_tcp ∙ ap (found 84) same))
@@ -77,7 +81,9 @@ kept-has proto [] spot = sym (and-false (same_proto spot.proto proto))
 kept-has proto (first ∷ others) spot = or-false _ ∙ ap (λ b. same_proto spot.proto proto && b) (sym (holds-in_runs (first ∷ others) spot.port))
 
 -- one of three is the spot's protocol
-by_protocol : (conns : Conns) (proto : Proto) (port : ℕ) → (((same_proto proto Tcp && holds (λ p. p) conns.tcp port) || (same_proto proto Udp && holds (λ p. p) conns.udp port)) || (same_proto proto Sctp && holds (λ p. p) conns.sctp port)) ≡ holds (λ p. p) (ranges_of conns proto) port
+by_protocol : (conns : Conns) (proto : Proto) (port : ℕ) →
+    (((same_proto proto Tcp && holds (λ p. p) conns.tcp port) || (same_proto proto Udp && holds (λ p. p) conns.udp port)) || (same_proto proto Sctp && holds (λ p. p) conns.sctp port)) ≡ holds (λ p. p)
+    (ranges_of conns proto) port
 by_protocol conns Tcp port = or-false _ ∙ or-false _
 by_protocol conns Udp port = or-false _
 by_protocol conns Sctp port = refl
@@ -109,7 +115,8 @@ kept-real proto (first ∷ others) real = (real, tt)
 all_kept-real : (conns : Conns) → IsConns conns → AllByRecursion IsPart (all_kept conns)
 all_kept-real conns well =
     all-append IsPart (kept Tcp conns.tcp ++ kept Udp conns.udp) _
-    (all-append IsPart (kept Tcp conns.tcp) _ (kept-real Tcp conns.tcp (IsRun-from_ascending 1 conns.tcp (omega arith) well.tcp)) (kept-real Udp conns.udp (IsRun-from_ascending 1 conns.udp (omega arith) well.udp)))
+    (all-append IsPart (kept Tcp conns.tcp) _ (kept-real Tcp conns.tcp (IsRun-from_ascending 1 conns.tcp (omega arith) well.tcp))
+    (kept-real Udp conns.udp (IsRun-from_ascending 1 conns.udp (omega arith) well.udp)))
     (kept-real Sctp conns.sctp (IsRun-from_ascending 1 conns.sctp (omega arith) well.sctp))
 
 -- there is at most one for each protocol
@@ -119,7 +126,14 @@ kept-few proto (first ∷ others) = omega arith
 
 all_kept-few : (conns : Conns) → length (all_kept conns) ≤ 3
 all_kept-few conns =
-    omega (arith, length-append (kept Tcp conns.tcp ++ kept Udp conns.udp) (kept Sctp conns.sctp), length-append (kept Tcp conns.tcp) (kept Udp conns.udp), kept-few Tcp conns.tcp, kept-few Udp conns.udp, kept-few Sctp conns.sctp)
+    omega (
+      arith,
+      length-append (kept Tcp conns.tcp ++ kept Udp conns.udp) (kept Sctp conns.sctp),
+      length-append (kept Tcp conns.tcp) (kept Udp conns.udp),
+      kept-few Tcp conns.tcp,
+      kept-few Udp conns.udp,
+      kept-few Sctp conns.sctp,
+    )
 
 -- A text that is neither is that of parts.
 pub record IsOfParts (conns : Conns) : Type 0 where
@@ -134,7 +148,8 @@ pub record IsOfParts (conns : Conns) : Type 0 where
 joined-all_kept : (conns : Conns) → IsConns conns → all_whole conns ≡ false → conns_text (has_spot conns) ≡ joined (map text_of_part (all_kept conns))
 joined-all_kept conns well partial = text_of_partial conns well partial ∙ ap joined (sym (all_kept-texts conns.tcp conns.udp conns.sctp))
 
-from_kept : (conns : Conns) → IsConns conns → all_whole conns ≡ false → (conns_text (has_spot conns) ≡ codes "No Connections" → ⊥) → (parts_there : List Part) → all_kept conns ≡ parts_there → IsOfParts conns
+from_kept : (conns : Conns) → IsConns conns → all_whole conns ≡ false → (conns_text (has_spot conns) ≡ codes "No Connections" → ⊥) → (parts_there : List Part) → all_kept conns ≡ parts_there →
+    IsOfParts conns
 from_kept conns well partial some [] same = absurd (some (joined-all_kept conns well partial ∙ ap (λ ps. joined (map text_of_part ps)) same))
 from_kept conns well partial some (first ∷ rest) same = record {
   part = first;

@@ -51,7 +51,8 @@ runs_from-holds passes first (suc count) last n sum low high =
     cond_both (passes first) _ _ (λ ranges. holds (λ p. p) ranges n ≡ passes n)
     (λ taken. elim (cases_lt first n) [
       | inl later ↦ onto_runs-keeps first last n (runs_from passes (first + 1) count) above later ∙ runs_from-holds passes (first + 1) count last n (omega arith) (omega arith) high
-      | inr not_later ↦ let here : first ≡ n = omega arith in ap (holds (λ p. p) (onto_runs first (runs_from passes (first + 1) count))) (sym here) ∙ onto_runs-has_port first last (runs_from passes (first + 1) count) above ∙ sym taken ∙ ap passes here
+      | inr not_later ↦ let here : first ≡ n = omega arith in ap (holds (λ p. p) (onto_runs first (runs_from passes (first + 1) count))) (sym here) ∙ onto_runs-has_port first last
+          (runs_from passes (first + 1) count) above ∙ sym taken ∙ ap passes here
     ])
     (λ left_out. elim (cases_lt first n) [
       | inl later ↦ runs_from-holds passes (first + 1) count last n (omega arith) (omega arith) high

@@ -1,5 +1,6 @@
 -- Where printed texts are cut: at bytes that stand in none of the parts between them.
-use Rattle.std.proofs.Common.{◌≡◌, ℕ, zero, suc, ◌<◌, ◌≤◌, List, [], ◌∷◌, ◌++◌, Bool, true, false, not, ◌&&◌, eqb, length, get_or, Option, Some, None, refl, sym, ◌∙◌, ap, arith, decimal, unwrap_or, inl, inr, lit<, codes, append_assoc, append-nil, subst, map}
+use Rattle.std.proofs.Common.{◌≡◌, ℕ, zero, suc, ◌<◌, ◌≤◌, List, [], ◌∷◌, ◌++◌, Bool, true, false, not, ◌&&◌, eqb, length, get_or, Option, Some, None, refl, sym, ◌∙◌, ap, arith, decimal, unwrap_or}
+use Rattle.std.proofs.Common.{inl, inr, lit<, codes, append_assoc, append-nil, subst, map}
 use Rattle.std.proofs.lemmas.Bool.{and_parts, and_from, not-true, not_from_false, ne_eqb, eqb-false, cond-true, cond-false, eq-eqb, cases_Bool, eqb-true, cond_both}
 use Rattle.std.proofs.lemmas.Fmt.{decimal_is_IsNumeral}
 use Rattle.std.proofs.lemmas.Str.Parse.{digit_from_value}
@@ -56,13 +57,15 @@ slice_split-whole c (x ∷ xs) free =
     cond-false _ _ _ (not-true _ parts.0) ∙ ap (onto_first x) (slice_split-whole c xs parts.1)
 
 -- pieces joined by a separator, cut at its first byte: all but the first keep the rest of it
-slice_split-flat_map : {X : Type 0} (c : ℕ) (more : List ℕ) (f : X → List ℕ) (front : List ℕ) (xs : List X) → lacks c front ≡ true → AllByRecursion (λ x. lacks c (more ++ f x) ≡ true) xs → slice_split (λ b. eqb b c) (front ++ flat_map (λ x. (c ∷ more) ++ f x) xs) ≡ front ∷ map (λ x. more ++ f x) xs
+slice_split-flat_map : {X : Type 0} (c : ℕ) (more : List ℕ) (f : X → List ℕ) (front : List ℕ) (xs : List X) → lacks c front ≡ true → AllByRecursion (λ x. lacks c (more ++ f x) ≡ true) xs →
+    slice_split (λ b. eqb b c) (front ++ flat_map (λ x. (c ∷ more) ++ f x) xs) ≡ front ∷ map (λ x. more ++ f x) xs
 slice_split-flat_map c more f front [] free all_free = rw append-nil (slice_split-whole c front free)
 slice_split-flat_map c more f front (x ∷ xs) free all_free =
     slice_split-at c front ((more ++ f x) ++ flat_map (λ x. (c ∷ more) ++ f x) xs) free
     ∙ ap (λ parts. front ∷ parts) (slice_split-flat_map c more f (more ++ f x) xs all_free.0 all_free.1)
 
-pub slice_split-join_by : {X : Type 0} (c : ℕ) (more : List ℕ) (f : X → List ℕ) (x : X) (xs : List X) → lacks c (f x) ≡ true → AllByRecursion (λ x. lacks c (more ++ f x) ≡ true) xs → slice_split (λ b. eqb b c) (join_by f (c ∷ more) (x ∷ xs)) ≡ f x ∷ map (λ x. more ++ f x) xs
+pub slice_split-join_by : {X : Type 0} (c : ℕ) (more : List ℕ) (f : X → List ℕ) (x : X) (xs : List X) → lacks c (f x) ≡ true → AllByRecursion (λ x. lacks c (more ++ f x) ≡ true) xs →
+    slice_split (λ b. eqb b c) (join_by f (c ∷ more) (x ∷ xs)) ≡ f x ∷ map (λ x. more ++ f x) xs
 slice_split-join_by c more f x xs = slice_split-flat_map c more f (f x) xs
 
 -- a text with the byte in it does not lack it
@@ -75,7 +78,8 @@ pub run_text-long : (run : Range ℕ) → eqb run.lo run.hi ≡ false → run_te
 run_text-long run more = cond-false _ _ _ more ∙ append_assoc (decimal run.lo) (codes "-") (decimal run.hi)
 
 -- a printed run, cut once at `-`, or taken twice where there is none, gives the texts of its ends
-pub run_text-ends : (run : Range ℕ) (text : Bor (List ℕ)) (cut : Option (Bor (List ℕ) × Bor (List ℕ))) → IsRun run → text.now ≡ run_text run → IsSplitOnceResult 45 text.now cut → ((unwrap_or cut (text, text)).0.now ≡ decimal run.lo) × ((unwrap_or cut (text, text)).1.now ≡ decimal run.hi)
+pub run_text-ends : (run : Range ℕ) (text : Bor (List ℕ)) (cut : Option (Bor (List ℕ) × Bor (List ℕ))) → IsRun run → text.now ≡ run_text run → IsSplitOnceResult 45 text.now cut →
+    ((unwrap_or cut (text, text)).0.now ≡ decimal run.lo) × ((unwrap_or cut (text, text)).1.now ≡ decimal run.hi)
 run_text-ends run text None real printed found =
     elim (cases_Bool (eqb run.lo run.hi)) [
       | inl one ↦

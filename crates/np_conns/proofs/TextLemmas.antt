@@ -21,5 +21,6 @@ joined-three_parts (a ∷ as_rest) [] (c ∷ cs) some = simp (append_assoc, appe
 joined-three_parts (a ∷ as_rest) (b ∷ bs) [] some = simp (append_assoc, append-nil)
 joined-three_parts (a ∷ as_rest) (b ∷ bs) (c ∷ cs) some = simp (append_assoc, append-nil)
 
-pub text_of_runs-by_parts : (tcp udp sctp : List (Range ℕ)) → (is_whole tcp && is_whole udp && is_whole sctp) ≡ false → eqb (length (three_parts tcp udp sctp)) 0 ≡ false → three_parts tcp udp sctp ≡ text_of_runs tcp udp sctp
+pub text_of_runs-by_parts : (tcp udp sctp : List (Range ℕ)) → (is_whole tcp && is_whole udp && is_whole sctp) ≡ false → eqb (length (three_parts tcp udp sctp)) 0 ≡ false →
+    three_parts tcp udp sctp ≡ text_of_runs tcp udp sctp
 text_of_runs-by_parts tcp udp sctp partial some = joined-three_parts tcp udp sctp some ∙ sym (cond-false _ _ _ partial)

@@ -1,5 +1,6 @@
 //! Sets of connections.
-ghost use Rattle.std.specs.Prelude.{◌≡◌, ◌≤◌, ◌&&◌, false, length, nat_le, IfOk, IsOk};
+ghost use Rattle.std.specs.Prelude.{◌≡◌, ◌≤◌, ◌&&◌, ◌==◌, false, length, nat_le, IfOk, IsOk};
+ghost use Rattle.std.specs.List.{list_any};
 ghost use Rattle.np_base.specs.Ranges.{holds};
 ghost use Rattle.np_conns.specs.Conns.{ranges_of, is_spot, has_spot, same_proto, AscendsInPorts, IsConns};
 ghost use Rattle.np_conns.specs.ConnsText.{spans_of};
@@ -41,11 +42,21 @@ impl ConnSet {
         ensures well { IfOk result IsConns }
         ensures succeeds { IsOk result }
     {
-        ConnSet::of_ports(alloc, proto, IntervalSet::of_range(alloc, lo, hi)?)
+        ConnSet::of_set(alloc, proto, IntervalSet::of_range(alloc, lo, hi)?)
+    }
+
+    /// The set of some ports of one protocol, in whatever order they stand. It takes time n log n.
+    pub fn of_ports(alloc: Global, proto: Proto, ports: Vec<PortNum>) -> Result<ConnSet, NoMemory>
+        ensures members { IfOk result (λ made. (spot : PortSpot) →
+            has_spot made spot
+            ≡ (same_proto spot.proto proto && list_any (λ port. port == spot.port) ports.items)) }
+        ensures well { IfOk result IsConns }
+    {
+        ConnSet::of_set(alloc, proto, IntervalSet::of_points(alloc, ports)?)
     }
 
     // The set of some ports of one protocol. It takes no memory.
-    pub(crate) fn of_ports(
+    pub(crate) fn of_set(
         alloc: Global,
         proto: Proto,
         ports: IntervalSet<PortNum>,

@@ -90,7 +90,7 @@ fn read_part(alloc: Global, text: &str) -> Result<ConnSet, ConnsFault>
     let (name, runs) = text.split_once(' ').ok_or(ConnsFault::BadConns)?;
     let proto = read_proto(name).ok_or(ConnsFault::BadConns)?;
     let ports = read_runs(alloc, runs)?;
-    Ok(ConnSet::of_ports(alloc, proto, ports)?)
+    Ok(ConnSet::of_set(alloc, proto, ports)?)
 }
 
 // A protocol's name.

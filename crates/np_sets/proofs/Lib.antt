@@ -1,6 +1,7 @@
 pub mod Alike
 pub mod Gaps
 pub mod Growing
+pub mod InOrder
 pub mod Members
 pub mod Overlaps
 pub mod SameSets

@@ -12,7 +12,8 @@ or_assoc true y z = refl
 or_assoc false y z = refl
 
 -- a range more at the end holds its own numbers more
-pub holds-push : {P : Type 0} (number_of : P → ℕ) (ranges : List (Range P)) (range : Range P) (n : ℕ) → holds number_of (ranges ++ range ∷ []) n ≡ (holds number_of ranges n || is_within number_of range n)
+pub holds-push : {P : Type 0} (number_of : P → ℕ) (ranges : List (Range P)) (range : Range P) (n : ℕ) →
+    holds number_of (ranges ++ range ∷ []) n ≡ (holds number_of ranges n || is_within number_of range n)
 holds-push number_of [] range n = or_false (is_within number_of range n)
 holds-push number_of (first ∷ ranges) range n = rw (holds-push number_of ranges range n) (or_assoc (is_within number_of first n) (holds number_of ranges n) (is_within number_of range n))
 

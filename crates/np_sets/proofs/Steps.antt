@@ -15,10 +15,12 @@ pub BeginsFrom-none : {P : Type 0} (number_of : P → ℕ) (from : ℕ) (ranges 
 BeginsFrom-none number_of from [] none = tt
 BeginsFrom-none number_of from (range ∷ ranges) none = absurd (omega arith)
 
-pub BeginsFrom-first : {P : Type 0} (number_of : P → ℕ) (from : ℕ) (ranges : List (Range P)) (range : Range P) (rest : List (Range P)) → ranges ≡ range ∷ rest → from ≤ number_of range.lo → BeginsFrom number_of from ranges
+pub BeginsFrom-first : {P : Type 0} (number_of : P → ℕ) (from : ℕ) (ranges : List (Range P)) (range : Range P) (rest : List (Range P)) → ranges ≡ range ∷ rest → from ≤ number_of range.lo →
+    BeginsFrom number_of from ranges
 BeginsFrom-first number_of from ranges range rest is before = rw is before
 
-IsAscending-begins : {P : Type 0} (number_of : P → ℕ) (from start last : ℕ) (ranges : List (Range P)) → BeginsFrom number_of start ranges → IsAscending number_of from last ranges → IsAscending number_of start last ranges
+IsAscending-begins : {P : Type 0} (number_of : P → ℕ) (from start last : ℕ) (ranges : List (Range P)) → BeginsFrom number_of start ranges → IsAscending number_of from last ranges →
+    IsAscending number_of start last ranges
 IsAscending-begins number_of from start last [] begins ascends = tt
 IsAscending-begins number_of from start last (range ∷ ranges) begins ascends = (begins, ascends.1, ascends.2, ascends.3)
 
@@ -28,7 +30,8 @@ or_swap true false z = refl
 or_swap false y z = refl
 
 -- the first range of the left list, where the right one does not begin before it
-pub IsEarlier-left : {P : Type 0} (number_of : P → ℕ) (left right : List (Range P)) (range : Range P) (rest : List (Range P)) → left ≡ range ∷ rest → BeginsFrom number_of (number_of range.lo) right → IsEarlier number_of left right range rest right
+pub IsEarlier-left : {P : Type 0} (number_of : P → ℕ) (left right : List (Range P)) (range : Range P) (rest : List (Range P)) → left ≡ range ∷ rest → BeginsFrom number_of (number_of range.lo) right →
+    IsEarlier number_of left right range rest right
 IsEarlier-left number_of left right range rest taken begins = record {
   shorter = rw taken (omega arith);
   members = λ n. rw taken (sym (or_assoc (is_within number_of range n) (holds number_of rest n) (holds number_of right n)));
@@ -44,7 +47,8 @@ IsEarlier-left number_of left right range rest taken begins = record {
 }
 
 -- the first range of the right list, where the left one does not begin before it
-pub IsEarlier-right : {P : Type 0} (number_of : P → ℕ) (left right : List (Range P)) (range : Range P) (rest : List (Range P)) → right ≡ range ∷ rest → BeginsFrom number_of (number_of range.lo) left → IsEarlier number_of left right range left rest
+pub IsEarlier-right : {P : Type 0} (number_of : P → ℕ) (left right : List (Range P)) (range : Range P) (rest : List (Range P)) → right ≡ range ∷ rest → BeginsFrom number_of (number_of range.lo) left →
+    IsEarlier number_of left right range left rest
 IsEarlier-right number_of left right range rest taken begins = record {
   shorter = rw taken (omega arith);
   members = λ n. rw taken (or_swap (holds number_of left n) (is_within number_of range n) (holds number_of rest n));

@@ -1,5 +1,6 @@
 //! A set of points, kept as ranges.
-ghost use Rattle.std.specs.Prelude.{ℕ, ◌≡◌, ◌≤◌, [], ◌∷◌, length, false, IfOk, IsOk};
+ghost use Rattle.std.specs.Prelude.{ℕ, ◌≡◌, ◌≤◌, ◌==◌, [], ◌∷◌, length, false, IfOk, IsOk};
+ghost use Rattle.std.specs.List.{list_any};
 ghost use Rattle.np_base.specs.Ranges.{is_within, holds, IsAscending};
 
 use crate::complement::complement_ranges;
@@ -8,6 +9,7 @@ use crate::meet::meet_ranges;
 use crate::member::has_number;
 use crate::minus::subtract_ranges;
 use crate::point_range::range_between;
+use crate::points::point_ranges;
 use crate::ranges::Ranges;
 use crate::same::same_ranges;
 use np_base::{Cells, NoMemory, Point, Range};
@@ -46,6 +48,19 @@ impl<P: Point> IntervalSet<P> {
         ensures succeeds { IsOk result }
     {
         let ranges = one_range(alloc, Range { lo, hi });
+        Ok(IntervalSet { ranges })
+    }
+
+    /// The set of some points, in whatever order they stand. It takes time n log n.
+    pub fn of_points(alloc: Global, points: Vec<P>) -> Result<IntervalSet<P>, NoMemory>
+        ensures members { IfOk result (λ made. (p : P) →
+            holds P.number_of made (P.number_of p)
+            ≡ list_any (λ point. P.number_of point == P.number_of p) points.items) }
+        ensures ascending { IfOk result (λ made. IsAscending P.number_of P.LOW P.HIGH made) }
+    {
+        let mut points = points;
+        points.sort_unstable_by_key(|point| point.number());
+        let ranges = point_ranges(alloc, &points)?;
         Ok(IntervalSet { ranges })
     }
 

@@ -81,9 +81,9 @@ fn take_earlier<'a, P: Point>(left: &'a [Range<P>], right: &'a [Range<P>]) -> Op
     }
 }
 
-// Widens the growing range by the next one where they touch. Else puts it last of what is made, and the
-// next one grows.
-fn grow<P: Point>(
+/// Widens the growing range by the next one where they touch. Else puts it last of what is made, and the
+/// next one grows.
+pub(crate) fn grow<P: Point>(
     made: &mut Ranges<P>,
     growing: Range<P>,
     next: Range<P>,

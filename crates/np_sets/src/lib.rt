@@ -10,6 +10,7 @@ mod meet;
 mod member;
 mod minus;
 mod point_range;
+mod points;
 mod ranges;
 mod same;
 

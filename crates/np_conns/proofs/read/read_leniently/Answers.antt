@@ -16,4 +16,5 @@ returns-in_ok-nothing-in-text-2-clause-printed c = λ conns well printed spot.
 pub returns-in_default-clause-printed : goal.returns-in_default-clause-printed
 returns-in_default-clause-printed c = λ conns well printed.
     let parts = of_parts conns well (λ e. c.in_default.not-text (printed ∙ e)) (λ e. c.in_default.not-text-2 (printed ∙ e)) in
-    MatchResult-weaker c.read_parts.result (c.read_parts.ensures.printed parts.part parts.others parts.few parts.real (printed ∙ parts.text)) (λ made has spot. has spot ∙ parts.spots spot) (λ fault is. is)
+    MatchResult-weaker c.read_parts.result (c.read_parts.ensures.printed parts.part parts.others parts.few parts.real (printed ∙ parts.text)) (λ made has spot. has spot ∙ parts.spots spot)
+    (λ fault is. is)

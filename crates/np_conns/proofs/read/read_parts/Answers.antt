@@ -11,14 +11,18 @@ use Rattle.np_conns.proofs.read.read_parts.Goals as goal
 use Rattle.np_conns.proofs.read.read_parts.Goals.{In-Some}
 
 -- which part a piece of a printed text is
-here : (c : In-Some) (part : Part) (others : List Part) → AllByRecursion IsPart (part ∷ others) → c.args.text.now ≡ join_by text_of_part (codes "; ") (part ∷ others) → (length c.loop-piece.yielded < length (part ∷ others)) × ((c.in-Some.piece.now ≡ text_of_part (get_or (part ∷ others) (length c.loop-piece.yielded) part)) ⊎ (c.in-Some.piece.now ≡ 32 ∷ text_of_part (get_or (part ∷ others) (length c.loop-piece.yielded) part)))
+here : (c : In-Some) (part : Part) (others : List Part) → AllByRecursion IsPart (part ∷ others) → c.args.text.now ≡ join_by text_of_part (codes "; ") (part ∷ others) →
+    (length c.loop-piece.yielded < length (part ∷ others)) × ((c.in-Some.piece.now ≡ text_of_part (get_or (part ∷ others) (length c.loop-piece.yielded) part)) ⊎
+    (c.in-Some.piece.now ≡ 32 ∷ text_of_part (get_or (part ∷ others) (length c.loop-piece.yielded) part)))
 here c part others real printed =
-    let turn = YieldsList-turn (YieldsList-from_str_split 59 c.args.text.now (lit< tt) (cc) (cc) (cc)) c.loop-piece.yielded _ c.loop-piece.yielded_by _ _ c.in-Some.piece c.in-Some.is c.next.ensures.steps in
+    let turn = YieldsList-turn (YieldsList-from_str_split 59 c.args.text.now (lit< tt) (cc) (cc) (cc)) c.loop-piece.yielded _ c.loop-piece.yielded_by _ _ c.in-Some.piece c.in-Some.is
+    c.next.ensures.steps in
     part_at part others c.args.text.now c.in-Some.piece.now (length c.loop-piece.yielded) real printed turn
 
 pub returns-then-count-gt3-clause-printed : goal.returns-then-count-gt3-clause-printed
 returns-then-count-gt3-clause-printed c = λ part others few real printed.
-    let pieces = count_from_yields_List c.split.result c.count.result c.count.ensures.ran (YieldsList-from_str_split 59 c.args.text.now (lit< tt) c.split.ensures.text c.split.ensures.has_more c.split.ensures.pattern) in
+    let pieces = count_from_yields_List c.split.result c.count.result c.count.ensures.ran
+    (YieldsList-from_str_split 59 c.args.text.now (lit< tt) c.split.ensures.text c.split.ensures.has_more c.split.ensures.pattern) in
     absurd (omega (arith, c.if-count-gt3.true, few_pieces part others c.args.text.now c.count.result few real printed pieces))
 
 pub returns-in_err-set-2-clause-printed : goal.returns-in_err-set-2-clause-printed

@@ -10,5 +10,6 @@ invariant-loop-piece l = record {
   can : goal.iterator-loop-piece.can_next l.piece-iterator;
   ends : goal.iterator-loop-piece.is_finite l.piece-iterator;
   well : IsConns l.set;
-  taken : (part : Part) (others : List Part) → AllByRecursion IsPart (part ∷ others) → l.text ≡ join_by text_of_part (codes "; ") (part ∷ others) → (spot : PortSpot) → has_spot l.set spot ≡ in_parts (take (length l.yielded) (part ∷ others)) spot;
+  taken : (part : Part) (others : List Part) → AllByRecursion IsPart (part ∷ others) → l.text ≡ join_by text_of_part (codes "; ") (part ∷ others) → (spot : PortSpot) →
+      has_spot l.set spot ≡ in_parts (take (length l.yielded) (part ∷ others)) spot;
 }

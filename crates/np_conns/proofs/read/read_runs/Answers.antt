@@ -13,9 +13,11 @@ use Rattle.np_conns.proofs.read.read_runs.Goals as goal
 use Rattle.np_conns.proofs.read.read_runs.Goals.{In-Some}
 
 -- which run a piece of a printed text is
-here : (c : In-Some) (run : Range ℕ) (others : List (Range ℕ)) → AllByRecursion IsRun (run ∷ others) → c.args.text.now ≡ join_by run_text (codes ",") (run ∷ others) → (length c.loop-piece.yielded < length (run ∷ others)) × (c.in-Some.piece.now ≡ run_text (get_or (run ∷ others) (length c.loop-piece.yielded) run))
+here : (c : In-Some) (run : Range ℕ) (others : List (Range ℕ)) → AllByRecursion IsRun (run ∷ others) → c.args.text.now ≡ join_by run_text (codes ",") (run ∷ others) →
+    (length c.loop-piece.yielded < length (run ∷ others)) × (c.in-Some.piece.now ≡ run_text (get_or (run ∷ others) (length c.loop-piece.yielded) run))
 here c run others real printed =
-    let turn = YieldsList-turn (YieldsList-from_str_split 44 c.args.text.now (lit< tt) (cc) (cc) (cc)) c.loop-piece.yielded _ c.loop-piece.yielded_by _ _ c.in-Some.piece c.in-Some.is c.next.ensures.steps in
+    let turn = YieldsList-turn (YieldsList-from_str_split 44 c.args.text.now (lit< tt) (cc) (cc) (cc)) c.loop-piece.yielded _ c.loop-piece.yielded_by _ _ c.in-Some.piece c.in-Some.is
+    c.next.ensures.steps in
     run_at run others c.args.text.now c.in-Some.piece.now (length c.loop-piece.yielded) real printed turn
 
 pub returns-in_err-run-clause-printed : goal.returns-in_err-run-clause-printed
@@ -27,7 +29,8 @@ pub loop-piece-preserved : goal.loop-piece-preserved
 loop-piece-preserved c = record {
   can = tt;
   ends = tt;
-  ordered = rw c.in_ok-push.ensures.ok (All-push (λ run. run.lo ≤ run.hi) c.loop-piece.runs c.in_ok-run.run' c.loop-piece.invariant.ordered (rw c.in_ok-run.ensures.ok_part at c.read_run.ensures.ordered));
+  ordered = rw c.in_ok-push.ensures.ok (All-push (λ run. run.lo ≤ run.hi) c.loop-piece.runs c.in_ok-run.run' c.loop-piece.invariant.ordered
+      (rw c.in_ok-run.ensures.ok_part at c.read_run.ensures.ordered));
   taken = λ run others real printed.
       let turn = here (goal.at.loop-piece-preserved c).In-Some run others real printed in
       rw (length_push c.loop-piece.yielded c.in-Some.piece)

@@ -11,5 +11,7 @@ invariant-loop-range g l = record {
   high : l.from ≤ g.P.Point.HIGH;
   rest : IsAscending g.P.Point.number_of l.from g.P.Point.HIGH (drop l.range-index l.ranges);
   gaps : IsAscendingUpTo g.P.Point.number_of g.P.Point.LOW g.P.Point.HIGH l.gaps.items l.from;
-  members : (n : ℕ) → (holds g.P.Point.number_of l.gaps.items n || misses g.P.Point.number_of l.from g.P.Point.HIGH (drop l.range-index l.ranges) n) ≡ misses g.P.Point.number_of g.P.Point.LOW g.P.Point.HIGH l.ranges n;
+  members : (n : ℕ) →
+      (holds g.P.Point.number_of l.gaps.items n || misses g.P.Point.number_of l.from g.P.Point.HIGH (drop l.range-index l.ranges) n)
+      ≡ misses g.P.Point.number_of g.P.Point.LOW g.P.Point.HIGH l.ranges n;
 }

@@ -9,7 +9,8 @@ returns-in_ok-push-clause-members g c =
 
 pub returns-in_ok-push-clause-ascending : goal.returns-in_ok-push-clause-ascending
 returns-in_ok-push-clause-ascending g c =
-    λ ascends. rw c.in_ok-push.ensures.ok (IsAscendingUpTo-push g.P.Point.number_of g.P.Point.LOW g.P.Point.HIGH _ _ c.range_between.result (rw c.range_between.ensures.first ascends) (omega arith) (omega arith) (omega arith))
+    λ ascends. rw c.in_ok-push.ensures.ok (IsAscendingUpTo-push g.P.Point.number_of g.P.Point.LOW g.P.Point.HIGH _ _ c.range_between.result (rw c.range_between.ensures.first ascends) (omega arith)
+    (omega arith) (omega arith))
 
 pub returns-else-from-to-clause-ascending : goal.returns-else-from-to-clause-ascending
 returns-else-from-to-clause-ascending g c =

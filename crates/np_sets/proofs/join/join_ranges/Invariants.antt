@@ -9,7 +9,9 @@ invariant-loop-next g l = record {
   growing : IsGrowing g.P.Point.number_of g.P.Point.LOW g.P.Point.HIGH l.made.items l.growing;
   left_after : IsAscending g.P.Point.number_of (g.P.Point.number_of l.growing.lo) g.P.Point.HIGH l.left;
   right_after : IsAscending g.P.Point.number_of (g.P.Point.number_of l.growing.lo) g.P.Point.HIGH l.right;
-  members : (n : ℕ) → ((holds g.P.Point.number_of l.made.items n || is_within g.P.Point.number_of l.growing n) || (holds g.P.Point.number_of l.left n || holds g.P.Point.number_of l.right n)) ≡ (holds g.P.Point.number_of l.fn.left n || holds g.P.Point.number_of l.fn.right n);
+  members : (n : ℕ) →
+      ((holds g.P.Point.number_of l.made.items n || is_within g.P.Point.number_of l.growing n) || (holds g.P.Point.number_of l.left n || holds g.P.Point.number_of l.right n)) ≡
+      (holds g.P.Point.number_of l.fn.left n || holds g.P.Point.number_of l.fn.right n);
 }
 
 abbrev pub decreases-loop-next : goal.decreases-loop-next

@@ -16,7 +16,8 @@ loop-step-preserved g c =
     let kept = c.loop-step.invariant in
     let next = c.in-Some.step in
     let step = c.in-Some.ensures in
-    let made = IsMadeTo-push g.P.Point.number_of g.P.Point.LOW g.P.Point.HIGH c.loop-step.left.now c.loop-step.right.now next.range next.left.now next.right.now c.loop-step.made.items c.push_some.new.ranges.items step kept.made kept.past c.in_ok-push_some.ensures in
+    let made = IsMadeTo-push g.P.Point.number_of g.P.Point.LOW g.P.Point.HIGH c.loop-step.left.now c.loop-step.right.now next.range next.left.now next.right.now c.loop-step.made.items
+    c.push_some.new.ranges.items step kept.made kept.past c.in_ok-push_some.ensures in
     record {
       left = step.left_ascends;
       right = step.right_ascends;

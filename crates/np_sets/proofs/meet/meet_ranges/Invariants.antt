@@ -10,7 +10,9 @@ invariant-loop-step g l = record {
   right : IsAscending g.P.Point.number_of g.P.Point.LOW g.P.Point.HIGH l.right;
   made : IsAscending g.P.Point.number_of g.P.Point.LOW g.P.Point.HIGH l.made.items;
   past : (n : ℕ) → (holds g.P.Point.number_of l.left n && holds g.P.Point.number_of l.right n) ≡ true → IsAscendingUpTo g.P.Point.number_of g.P.Point.LOW g.P.Point.HIGH l.made.items n;
-  members : (n : ℕ) → (holds g.P.Point.number_of l.made.items n || (holds g.P.Point.number_of l.left n && holds g.P.Point.number_of l.right n)) ≡ (holds g.P.Point.number_of l.fn.left n && holds g.P.Point.number_of l.fn.right n);
+  members : (n : ℕ) →
+      (holds g.P.Point.number_of l.made.items n || (holds g.P.Point.number_of l.left n && holds g.P.Point.number_of l.right n)) ≡
+      (holds g.P.Point.number_of l.fn.left n && holds g.P.Point.number_of l.fn.right n);
 }
 
 abbrev pub decreases-loop-step : goal.decreases-loop-step
