@@ -1,5 +1,6 @@
 -- Blocks of addresses.
-use Rattle.std.proofs.Common.{◌≡◌, ℕ, Bool, true, false, not, ◌&&◌, ◌||◌, nat_le, nat_lt, min, List, [], ◌∷◌, ◌++◌, take, length, get_or, ◌+◌, ◌-◌, ◌*◌, ◌/◌, ◌%◌, ◌^◌, ◌<◌, ◌≤◌, bit_and, Option, Some, None, IsSome, refl, sym, ap, ◌∙◌, one-mul, arith}
+use Rattle.std.proofs.Common.{◌≡◌, ℕ, Bool, true, false, not, ◌&&◌, ◌||◌, nat_le, nat_lt, min, List, [], ◌∷◌, ◌++◌, take, length, get_or, ◌+◌, ◌-◌, ◌*◌, ◌/◌, ◌%◌, ◌^◌, ◌<◌, ◌≤◌, bit_and, Option, Some}
+use Rattle.std.proofs.Common.{None, IsSome, refl, sym, ap, ◌∙◌, one-mul, arith}
 use Rattle.std.proofs.Math.Nat.{mul-mod_left, mul-le-mul_right, add-mul}
 use Rattle.std.specs.Option.{SomeIff}
 use Rattle.std.proofs.lemmas.Nat.{pow_pos, shr_below, shr_split, pow-add}
@@ -54,7 +55,9 @@ list_any-push test xs x = list_any-append test xs (x ∷ []) ∙ ap (λ t. list_
     or_false false = refl
 
 -- the sets of one block more
-pub one_more : (blocks : List Cidr) (i : ℕ) (block : Cidr) (sets : List AddressRanges) (more : AddressRanges) (made : List AddressRanges) → i < length blocks → block ≡ get_or blocks i block → made ≡ sets ++ more ∷ [] → ((address : Address) → list_any (λ set. set_has set address) sets ≡ list_any (λ b. cidr_has b address) (take i blocks)) → ((address : Address) → set_has more address ≡ cidr_has block address) → (address : Address) → list_any (λ set. set_has set address) made ≡ list_any (λ b. cidr_has b address) (take (i + 1) blocks)
+pub one_more : (blocks : List Cidr) (i : ℕ) (block : Cidr) (sets : List AddressRanges) (more : AddressRanges) (made : List AddressRanges) → i < length blocks → block ≡ get_or blocks i block →
+    made ≡ sets ++ more ∷ [] → ((address : Address) → list_any (λ set. set_has set address) sets ≡ list_any (λ b. cidr_has b address) (take i blocks)) →
+    ((address : Address) → set_has more address ≡ cidr_has block address) → (address : Address) → list_any (λ set. set_has set address) made ≡ list_any (λ b. cidr_has b address) (take (i + 1) blocks)
 one_more blocks i block sets more made within is adds so_far part address =
     let in_set : AddressRanges → Bool = λ set. set_has set address in
     let in_block : Cidr → Bool = λ b. cidr_has b address in
@@ -69,12 +72,16 @@ abbrev pub ranges_have : AddressRanges → Which ℕ ℕ → Bool
 ranges_have set = by_side (λ n. holds (λ a. a) set.first n) (λ n. holds (λ a. a) set.second n)
 
 -- the sets of all blocks, joined
-pub set_has-join_all : (blocks : List Cidr) (i : ℕ) (sets : List AddressRanges) (made : AddressRanges) → length blocks ≤ i → ((address : Address) → list_any (λ set. set_has set address) sets ≡ list_any (λ b. cidr_has b address) (take i blocks)) → ((spot : Which ℕ ℕ) → ranges_have made spot ≡ list_any (λ set. ranges_have set spot) sets) → (address : Address) → set_has made address ≡ list_any (λ b. cidr_has b address) blocks
+pub set_has-join_all : (blocks : List Cidr) (i : ℕ) (sets : List AddressRanges) (made : AddressRanges) → length blocks ≤ i →
+    ((address : Address) → list_any (λ set. set_has set address) sets ≡ list_any (λ b. cidr_has b address) (take i blocks)) →
+    ((spot : Which ℕ ℕ) → ranges_have made spot ≡ list_any (λ set. ranges_have set spot) sets) → (address : Address) → set_has made address ≡ list_any (λ b. cidr_has b address) blocks
 set_has-join_all blocks i sets made past all_of joined (Four n) = joined (First n) ∙ all_of (Four n) ∙ ap (list_any (λ b. cidr_has b (Four n))) (take_all i blocks past)
 set_has-join_all blocks i sets made past all_of joined (Six n) = joined (Second n) ∙ all_of (Six n) ∙ ap (list_any (λ b. cidr_has b (Six n))) (take_all i blocks past)
 
 -- the block without its holes
-pub set_has-minus : (block : Cidr) (excepts : List Cidr) (whole holes made : AddressRanges) → ((address : Address) → set_has whole address ≡ cidr_has block address) → ((address : Address) → set_has holes address ≡ list_any (λ except. cidr_has except address) excepts) → ((spot : Which ℕ ℕ) → ranges_have made spot ≡ (ranges_have whole spot && not (ranges_have holes spot))) → (address : Address) → set_has made address ≡ block_has block excepts address
+pub set_has-minus : (block : Cidr) (excepts : List Cidr) (whole holes made : AddressRanges) → ((address : Address) → set_has whole address ≡ cidr_has block address) →
+    ((address : Address) → set_has holes address ≡ list_any (λ except. cidr_has except address) excepts) →
+    ((spot : Which ℕ ℕ) → ranges_have made spot ≡ (ranges_have whole spot && not (ranges_have holes spot))) → (address : Address) → set_has made address ≡ block_has block excepts address
 set_has-minus block excepts whole holes made of_block of_excepts minus (Four n) = rw (minus (First n), of_block (Four n), of_excepts (Four n))
 set_has-minus block excepts whole holes made of_block of_excepts minus (Six n) = rw (minus (Second n), of_block (Six n), of_excepts (Six n))
 
@@ -83,15 +90,18 @@ same_end : (base last n size : ℕ) → last + 1 ≡ base + size → nat_le n la
 same_end base last n size ends = grind (arith, nat_tests)
 
 -- the ranges of a block of IPv4 addresses
-pub four_has : (base last len : ℕ) (first second : List (Range ℕ)) → last + 1 ≡ base + 2 ^ (32 - len) → ((n : ℕ) → holds (λ a. a) first n ≡ (nat_le base n && nat_le n last)) → ((n : ℕ) → holds (λ a. a) second n ≡ false) → (address : Address) → set_has (record { first = first; second = second }) address ≡ cidr_has (cidr.Four base len) address
+pub four_has : (base last len : ℕ) (first second : List (Range ℕ)) → last + 1 ≡ base + 2 ^ (32 - len) → ((n : ℕ) → holds (λ a. a) first n ≡ (nat_le base n && nat_le n last)) →
+    ((n : ℕ) → holds (λ a. a) second n ≡ false) → (address : Address) → set_has (record { first = first; second = second }) address ≡ cidr_has (cidr.Four base len) address
 four_has base last len first second ends members none (Four n) = members n ∙ ap (λ t. nat_le base n && t) (same_end base last n _ ends)
 four_has base last len first second ends members none (Six n) = none n
 
 -- the ranges of a block of IPv6 addresses
-pub six_has : (base last len : ℕ) (first second : List (Range ℕ)) → last + 1 ≡ base + 2 ^ (128 - len) → ((n : ℕ) → holds (λ a. a) first n ≡ false) → ((n : ℕ) → holds (λ a. a) second n ≡ (nat_le base n && nat_le n last)) → (address : Address) → set_has (record { first = first; second = second }) address ≡ cidr_has (cidr.Six base len) address
+pub six_has : (base last len : ℕ) (first second : List (Range ℕ)) → last + 1 ≡ base + 2 ^ (128 - len) → ((n : ℕ) → holds (λ a. a) first n ≡ false) →
+    ((n : ℕ) → holds (λ a. a) second n ≡ (nat_le base n && nat_le n last)) → (address : Address) → set_has (record { first = first; second = second }) address ≡ cidr_has (cidr.Six base len) address
 six_has base last len first second ends none members (Four n) = none n
 six_has base last len first second ends none members (Six n) = members n ∙ ap (λ t. nat_le base n && t) (same_end base last n _ ends)
 
 -- the last number of a well-formed block
-pub block_last : (width len base last : ℕ) → len ≤ width → base % 2 ^ (width - len) ≡ 0 → base < 2 ^ width → last ≡ min (base + 2 ^ (width - len) - 1) (2 ^ width - 1) → last + 1 ≡ base + 2 ^ (width - len)
+pub block_last : (width len base last : ℕ) → len ≤ width → base % 2 ^ (width - len) ≡ 0 → base < 2 ^ width → last ≡ min (base + 2 ^ (width - len) - 1) (2 ^ width - 1) →
+    last + 1 ≡ base + 2 ^ (width - len)
 block_last width len base last within rest fits is = omega (arith, block_end width len base within rest fits, pow_pos (width - len), is)

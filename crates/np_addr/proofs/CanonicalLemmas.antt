@@ -1,5 +1,6 @@
 -- The canonical text of an address is a text of that address, so reading it gives the address again.
-use Rattle.std.proofs.Common.{◌≡◌, ℕ, zero, suc, ◌+◌, ◌-◌, ◌*◌, ◌/◌, ◌%◌, ◌^◌, ◌<◌, ◌≤◌, ◌==◌, Bool, true, false, List, [], ◌∷◌, ◌++◌, length, take, drop, replicate, decimal, codes, Some, refl, sym, ap, ◌∙◌, inl, inr, append-nil, append_assoc, take-add, take-append-drop, length-take-le, length-drop, one-mul, arith, lit≤, lit<}
+use Rattle.std.proofs.Common.{◌≡◌, ℕ, zero, suc, ◌+◌, ◌-◌, ◌*◌, ◌/◌, ◌%◌, ◌^◌, ◌<◌, ◌≤◌, ◌==◌, Bool, true, false, List, [], ◌∷◌, ◌++◌, length, take, drop, replicate, decimal, codes, Some, refl, sym}
+use Rattle.std.proofs.Common.{ap, ◌∙◌, inl, inr, append-nil, append_assoc, take-add, take-append-drop, length-take-le, length-drop, one-mul, arith, lit≤, lit<}
 use Rattle.std.proofs.Math.Nat.{div-lt_iff_lt-mul, div-eq_of_lt, pow-zero, pow-suc}
 use Rattle.std.proofs.NetLemmas.Texts.{IsZeroRun-longest_zero_run}
 use Rattle.std.proofs.lemmas.Bool.{eq-eqb, cond_both, cases_lt, lt-ltb, le-ltb}
@@ -63,7 +64,8 @@ length-digits_onto (suc turns) (suc most) base upper n behind two fits =
     let digit = digit_glyph upper (n % base) in
     let more : length (digits_onto turns base upper (n / base) (digit ∷ behind)) ≤ suc most + suc (length behind) = length-digits_onto turns most base upper (n / base) (digit ∷ behind) two less in
     let one_more : length (digit ∷ behind) ≤ suc (suc most) + length behind = omega arith in
-    cond_both (n / base == 0) (digit ∷ behind) (digits_onto turns base upper (n / base) (digit ∷ behind)) (λ (l : List ℕ). length l ≤ suc (suc most) + length behind) (λ _. one_more) (λ _. omega (arith, more))
+    cond_both (n / base == 0) (digit ∷ behind) (digits_onto turns base upper (n / base) (digit ∷ behind)) (λ (l : List ℕ). length l ≤ suc (suc most) + length behind) (λ _. one_more)
+    (λ _. omega (arith, more))
 
 length-group_text : (group : ℕ) → group < 65536 → length (group_text group) ≤ 4
 unfolding digits
@@ -95,7 +97,13 @@ AreSmall-drop (suc count) (group ∷ groups) small = AreSmall-drop count groups 
 AreGroups-groups_text : (dotted : Bool) (group : ℕ) (groups : List ℕ) → AreSmall (group ∷ groups) → AreGroups dotted (groups_text (group ∷ groups)) (group ∷ groups)
 AreGroups-groups_text dotted group [] small = inl (rw (append-nil (group_text group)) (IsGroup-group_text group small.0), refl)
 AreGroups-groups_text dotted group (next ∷ groups) small =
-    inr (inl (group_text group, groups_text (next ∷ groups), sym (append_assoc (group_text group) (codes ":") (groups_text (next ∷ groups))), IsGroup-group_text group small.0, AreGroups-groups_text dotted next groups small.1))
+    inr (inl (
+      group_text group,
+      groups_text (next ∷ groups),
+      sym (append_assoc (group_text group) (codes ":") (groups_text (next ∷ groups))),
+      IsGroup-group_text group small.0,
+      AreGroups-groups_text dotted next groups small.1,
+    ))
 
 IsSide-groups_text : (dotted : Bool) (groups : List ℕ) → AreSmall groups → IsSide dotted (groups_text groups) groups
 IsSide-groups_text dotted [] small = refl
@@ -106,7 +114,8 @@ whole_text [] eight small = absurd (omega arith)
 whole_text (group ∷ groups) eight small = inl (AreGroups-groups_text true group groups small, eight)
 
 -- the groups round a run of zeros
-gapped_text : (groups : List ℕ) (start count : ℕ) → length groups ≡ 8 → AreSmall groups → 2 ≤ count → start + count ≤ length groups → take count (drop start groups) ≡ replicate count 0 → IsColonHex (groups_text (take start groups) ++ codes "::" ++ groups_text (drop (start + count) groups)) groups
+gapped_text : (groups : List ℕ) (start count : ℕ) → length groups ≡ 8 → AreSmall groups → 2 ≤ count → start + count ≤ length groups → take count (drop start groups) ≡ replicate count 0 →
+    IsColonHex (groups_text (take start groups) ++ codes "::" ++ groups_text (drop (start + count) groups)) groups
 gapped_text groups start count eight small long within zeros =
     let front = length-take-le start groups (omega arith) in
     let back = length-drop (start + count) groups in

@@ -12,7 +12,8 @@ length_of-cut : (most : ℕ) (text first next : List ℕ) (more : List (List ℕ
 unfolding length_of
 length_of-cut most text first next more cut = rw (numeral_of-cut 10 3 47 text first next more (lit≤ tt) cut)
 
-no_length : (found : Option Address) (text first next : List ℕ) (more : List (List ℕ)) → pieces 47 text ≡ first ∷ next ∷ more → (found >>= λ address. length_of (width_of (family_of address)) text >>= λ len. Some (block_of address len)) ≡ None
+no_length : (found : Option Address) (text first next : List ℕ) (more : List (List ℕ)) → pieces 47 text ≡ first ∷ next ∷ more →
+    (found >>= λ address. length_of (width_of (family_of address)) text >>= λ len. Some (block_of address len)) ≡ None
 no_length None text first next more cut = refl
 no_length (Some address) text first next more cut = rw (length_of-cut (width_of (family_of address)) text first next more cut)
 

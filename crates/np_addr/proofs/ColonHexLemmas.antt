@@ -1,5 +1,6 @@
 -- The text of an IPv6 address is read to its groups, and no other text is.
-use Rattle.std.proofs.Common.{◌≡◌, ℕ, ◌-◌, ◌<◌, Bool, true, false, cond, List, [], ◌∷◌, ◌++◌, length, replicate, codes, Option, Some, None, option_map, All, refl, sym, ap, ◌∙◌, inl, inr, append-nil, append_assoc, arith, lit≤}
+use Rattle.std.proofs.Common.{◌≡◌, ℕ, ◌-◌, ◌<◌, Bool, true, false, cond, List, [], ◌∷◌, ◌++◌, length, replicate, codes, Option, Some, None, option_map, All, refl, sym, ap, ◌∙◌, inl, inr, append-nil}
+use Rattle.std.proofs.Common.{append_assoc, arith, lit≤}
 use Rattle.std.proofs.lemmas.Bool.{eqb-true, eq-eqb, lt-ltb, ltb-true}
 use Rattle.std.proofs.lemmas.List.Elements.{All-head}
 use Rattle.std.proofs.lemmas.List.Splits.{join_with_byte-slice_split}
@@ -55,7 +56,8 @@ begins (c ∷ first) behind text spelled some others = (c, first ++ behind, spel
 starts_other : (dotted : Bool) (text groups : List ℕ) → AreGroups dotted text groups → (c : ℕ) × (rest : List ℕ) × (text ≡ c ∷ rest) × IsOther 58 c
 starts_other dotted text [] are = absurd are
 starts_other dotted text (group ∷ groups) (inl (is, last)) = begins text [] text (sym (append-nil text)) is.numeral.0 (group_others text group is)
-starts_other dotted text (group ∷ groups) (inr (inl (first, rest, spelled, is, more))) = begins first (58 ∷ rest) text (spelled ∙ append_assoc first (codes ":") rest) is.numeral.0 (group_others first group is)
+starts_other dotted text (group ∷ groups) (inr (inl (first, rest, spelled, is, more))) = begins first (58 ∷ rest) text (spelled ∙ append_assoc first (codes ":") rest) is.numeral.0
+    (group_others first group is)
 starts_other dotted text (group ∷ groups) (inr (inr (n, allowed, is, value))) =
     begins is.first _ text (is.spelled ∙ nested is.first is.second is.third is.fourth) is.parts.0.0.numeral.0 (part_others 58 is.first is.a (lit≤ tt) is.parts.0)
 
@@ -98,7 +100,8 @@ last_from_ipv4 : (text groups : List ℕ) (o : Option ℕ) → ipv4_of text ≡ 
 last_from_ipv4 text groups None is reads = absurd (none-some groups reads)
 last_from_ipv4 text groups (Some n) is reads = rw (← same_Some _ groups reads) (inr (inr (n, refl, dotted_from_ipv4 text n is, refl)))
 
-last_from : (dotted : Bool) (text groups : List ℕ) (o : Option ℕ) → group_of text ≡ o → option_or (option_map (λ group. group ∷ []) o) (cond dotted (option_map halves_of (ipv4_of text)) None) ≡ Some groups → AreGroups dotted text groups
+last_from : (dotted : Bool) (text groups : List ℕ) (o : Option ℕ) → group_of text ≡ o →
+    option_or (option_map (λ group. group ∷ []) o) (cond dotted (option_map halves_of (ipv4_of text)) None) ≡ Some groups → AreGroups dotted text groups
 last_from dotted text groups (Some group) is reads = rw (← same_Some _ groups reads) (inl (Writes-from_numeral 16 4 text group is, refl))
 last_from true text groups None is reads = last_from_ipv4 text groups (ipv4_of text) refl reads
 last_from false text groups None is reads = absurd (none-some groups reads)
@@ -135,7 +138,8 @@ whole_from text n reads =
     let (eight, value) = cond_some _ _ n kept in
     (groups, inl (groups_from_text true text groups reads_groups, eqb-true _ 8 eight), sym value)
 
-gapped_from : (text before after : List ℕ) (n : ℕ) → text ≡ before ++ 58 ∷ 58 ∷ after → (side_of false before >>= λ head. side_of true after >>= λ tail. filled_of head tail) ≡ Some n → (groups : List ℕ) × IsColonHex text groups × (n ≡ number_from_digits 65536 groups)
+gapped_from : (text before after : List ℕ) (n : ℕ) → text ≡ before ++ 58 ∷ 58 ∷ after → (side_of false before >>= λ head. side_of true after >>= λ tail. filled_of head tail) ≡ Some n →
+    (groups : List ℕ) × IsColonHex text groups × (n ≡ number_from_digits 65536 groups)
 gapped_from text before after n spelled reads =
     option_and_then_some _ (side_of false before) n reads λ head reads_head more.
     option_and_then_some _ (side_of true after) n more λ tail reads_tail kept.
@@ -155,7 +159,8 @@ gapped_from text before after n spelled reads =
       sym value,
     )
 
-colon_hex_from_sides : (text : List ℕ) (n : ℕ) (o : Option (List ℕ × List ℕ)) → around_gap text ≡ o → sides_of text o ≡ Some n → (groups : List ℕ) × IsColonHex text groups × (n ≡ number_from_digits 65536 groups)
+colon_hex_from_sides : (text : List ℕ) (n : ℕ) (o : Option (List ℕ × List ℕ)) → around_gap text ≡ o → sides_of text o ≡ Some n →
+    (groups : List ℕ) × IsColonHex text groups × (n ≡ number_from_digits 65536 groups)
 colon_hex_from_sides text n None is reads = whole_from text n reads
 colon_hex_from_sides text n (Some sides) is reads = gapped_from text sides.0 sides.1 n (around_gap-spelled text sides.0 sides.1 is) reads
 

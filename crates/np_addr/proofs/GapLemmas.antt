@@ -1,5 +1,6 @@
 -- Where a text has its first `::`.
-use Rattle.std.proofs.Common.{◌≡◌, ℕ, zero, suc, ◌+◌, ◌<◌, ◌≤◌, Bool, true, false, cond, ◌==◌, ◌&&◌, List, [], ◌∷◌, ◌++◌, length, take, drop, Option, Some, None, option_map, All, MatchOption, refl, ap, ◌∙◌, inl, inr, arith}
+use Rattle.std.proofs.Common.{◌≡◌, ℕ, zero, suc, ◌+◌, ◌<◌, ◌≤◌, Bool, true, false, cond, ◌==◌, ◌&&◌, List, [], ◌∷◌, ◌++◌, length, take, drop, Option, Some, None, option_map, All, MatchOption, refl}
+use Rattle.std.proofs.Common.{ap, ◌∙◌, inl, inr, arith}
 use Rattle.std.proofs.lemmas.Bool.{cases_Bool, and_parts, eqb-true}
 use Rattle.std.proofs.lemmas.Option.{none-some, some_pair_parts}
 use Rattle.std.proofs.lemmas.List.Elements.{All-head, All-tail}
@@ -37,7 +38,10 @@ around_gap-some (a ∷ b ∷ text) (suc i) after lacks here =
     ]
 
 -- what `split_once` finds
-pub around_gap-found : (text : List ℕ) (r : Option (Bor (List ℕ) × Bor (List ℕ))) → MatchOption r (FindsText (58 ∷ 58 ∷ []) text None) (λ x. (i : ℕ) × (j : ℕ) × FindsText (58 ∷ 58 ∷ []) text (Some (i, j)) × (x.0.now ≡ take i text) × (x.1.now ≡ drop j text) × (i ≤ j) × (length x.0.now ≡ i) × (length x.1.now + j ≡ length text)) → MatchOption r (around_gap text ≡ None) (λ sides. around_gap text ≡ Some (sides.0.now, sides.1.now))
+pub around_gap-found : (text : List ℕ) (r : Option (Bor (List ℕ) × Bor (List ℕ))) →
+    MatchOption r (FindsText (58 ∷ 58 ∷ []) text None) (λ x. (i : ℕ) × (j : ℕ) × FindsText (58 ∷ 58 ∷ []) text (Some (i, j)) × (x.0.now ≡ take i text) × (x.1.now ≡ drop j text) × (i ≤ j) ×
+    (length x.0.now ≡ i) × (length x.1.now + j ≡ length text)) →
+    MatchOption r (around_gap text ≡ None) (λ sides. around_gap text ≡ Some (sides.0.now, sides.1.now))
 around_gap-found text None finds = around_gap-none text finds
 around_gap-found text (Some sides) finds =
     let (i, j, found, before, after, _, _, _) = finds in
@@ -58,7 +62,8 @@ around_gap-piece (b ∷ piece) text others none =
     around_gap-other b (piece ++ text) (All-head (IsOther 58) b piece others) (around_gap-piece piece text (All-tail (IsOther 58) b piece others) none)
 
 -- where there is no gap, the first two bytes are none, nor is there one later
-no_gap_parts : (here : Bool) (sides : List ℕ × List ℕ) (first : ℕ) (later : Option (List ℕ × List ℕ)) → cond here (Some sides) (option_map (λ (found : List ℕ × List ℕ). (first ∷ found.0, found.1)) later) ≡ None → (here ≡ false) × (later ≡ None)
+no_gap_parts : (here : Bool) (sides : List ℕ × List ℕ) (first : ℕ) (later : Option (List ℕ × List ℕ)) →
+    cond here (Some sides) (option_map (λ (found : List ℕ × List ℕ). (first ∷ found.0, found.1)) later) ≡ None → (here ≡ false) × (later ≡ None)
 no_gap_parts true sides first later none = cc
 no_gap_parts false sides first None none = (refl, refl)
 no_gap_parts false sides first (Some found) none = cc
@@ -74,7 +79,8 @@ gap_after (a ∷ b ∷ before) after none =
     rw (parts.0, gap_after (b ∷ before) after parts.1)
 
 -- what is found is there
-spelled_later : (a b : ℕ) (text before after : List ℕ) (o : Option (List ℕ × List ℕ)) → ((sides : List ℕ × List ℕ) → o ≡ Some sides → b ∷ text ≡ sides.0 ++ 58 ∷ 58 ∷ sides.1) → option_map {U = List ℕ × List ℕ} (λ (sides : List ℕ × List ℕ). (a ∷ sides.0, sides.1)) o ≡ Some (before, after) → a ∷ b ∷ text ≡ before ++ 58 ∷ 58 ∷ after
+spelled_later : (a b : ℕ) (text before after : List ℕ) (o : Option (List ℕ × List ℕ)) → ((sides : List ℕ × List ℕ) → o ≡ Some sides → b ∷ text ≡ sides.0 ++ 58 ∷ 58 ∷ sides.1) →
+    option_map {U = List ℕ × List ℕ} (λ (sides : List ℕ × List ℕ). (a ∷ sides.0, sides.1)) o ≡ Some (before, after) → a ∷ b ∷ text ≡ before ++ 58 ∷ 58 ∷ after
 spelled_later a b text before after None later found = absurd (none-some _ found)
 spelled_later a b text before after (Some sides) later found =
     let parts = some_pair_parts (a ∷ sides.0) before sides.1 after found in

@@ -21,7 +21,8 @@ pow_group below = ap (λ bits. 2 ^ bits) (omega arith) ∙ pow-add 2 16 (16 * be
 group_at-push : (n group below : ℕ) → group < 65536 → group_at (n * 65536 + group) (suc below) ≡ group_at n below
 group_at-push n group below fits =
     let whole = n * 65536 + group in
-    let cut : whole / 2 ^ (16 * suc below) ≡ n / 2 ^ (16 * below) = ap (λ bits. whole / 2 ^ bits) (omega arith) ∙ sym (shr-shr whole 16 (16 * below)) ∙ ap (λ high. high / 2 ^ (16 * below)) (shr_high n 16 group fits) in
+    let cut : whole / 2 ^ (16 * suc below) ≡ n / 2 ^ (16 * below) = ap (λ bits. whole / 2 ^ bits) (omega arith) ∙ sym (shr-shr whole 16 (16 * below)) ∙ ap (λ high. high / 2 ^ (16 * below))
+    (shr_high n 16 group fits) in
     ap (λ high. high % 2 ^ 16) cut
 
 -- a group more at the low end
@@ -55,7 +56,8 @@ number_after-replicate (suc zeros) high =
     ∙ raised high 0 (2 ^ (16 * zeros)) (2 ^ (16 * suc zeros)) 0 0 (pow_group zeros) (omega arith) ∙ add-zero _
 
 -- the number of a head, zero groups and a tail
-pub number-filled : (head zeros tail m n : ℕ) → m < 2 ^ (16 * head) → n < 2 ^ (16 * tail) → number_from_digits 65536 (low_groups head m ++ replicate zeros 0 ++ low_groups tail n) ≡ m * 2 ^ (16 * (zeros + tail)) + n
+pub number-filled : (head zeros tail m n : ℕ) → m < 2 ^ (16 * head) → n < 2 ^ (16 * tail) →
+    number_from_digits 65536 (low_groups head m ++ replicate zeros 0 ++ low_groups tail n) ≡ m * 2 ^ (16 * (zeros + tail)) + n
 number-filled head zeros tail m n head_fits tail_fits =
     let front = low_groups head m ++ replicate zeros 0 in
     let high : number_from_digits 65536 front ≡ m * 2 ^ (16 * zeros) =

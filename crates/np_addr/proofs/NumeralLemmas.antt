@@ -63,7 +63,8 @@ numeral_of-none radix most text other = go (numeral_of radix most text) refl
     go (Some n) is = absurd (other (Writes-from_numeral radix most text n is).numeral)
 
 -- what `from_str_radix` reads of a text without a sign
-pub numeral_of-parsed : {E : Type 0} (radix most : ℕ) (text : List ℕ) (r : Result ℕ E) → radix ^ most ≤ 2 ^ 16 → 1 ≤ radix → length text ≤ most → get_or text 0 0 ≢ 43 → ParsesUnsigned 16 radix text r → result_ok r ≡ numeral_of radix most text
+pub numeral_of-parsed : {E : Type 0} (radix most : ℕ) (text : List ℕ) (r : Result ℕ E) → radix ^ most ≤ 2 ^ 16 → 1 ≤ radix → length text ≤ most → get_or text 0 0 ≢ 43 →
+    ParsesUnsigned 16 radix text r → result_ok r ≡ numeral_of radix most text
 numeral_of-parsed radix most text (Ok n) fits low short unsigned parsed =
     let read = rw (without_leading_plus_none text unsigned) at parsed in
     sym (numeral_of-numeral radix most text n (record { numeral = read.0.0; short = short; value = sym read.1 }))

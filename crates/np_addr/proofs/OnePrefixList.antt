@@ -1,5 +1,6 @@
 -- One list is right for a set, and none with its addresses is shorter.
-use Rattle.std.proofs.Common.{◌≡◌, ℕ, zero, suc, ◌+◌, ◌-◌, ◌^◌, ◌<◌, ◌≤◌, ◌⊎◌, Bool, true, false, not, List, [], ◌∷◌, length, get_or, All, AllPairs, Any, Contains, filter, refl, sym, ap, subst, ◌∙◌, inl, inr, arith}
+use Rattle.std.proofs.Common.{◌≡◌, ℕ, zero, suc, ◌+◌, ◌-◌, ◌^◌, ◌<◌, ◌≤◌, ◌⊎◌, Bool, true, false, not, List, [], ◌∷◌, length, get_or, All, AllPairs, Any, Contains, filter, refl, sym, ap, subst, ◌∙◌}
+use Rattle.std.proofs.Common.{inl, inr, arith}
 use Rattle.std.proofs.lemmas.Bool.{cases_Bool, cases_order, or_cases, or_left, or_right, false_from_ne_true, both_ways, false≢true}
 use Rattle.std.proofs.lemmas.List.{get_or_default}
 use Rattle.std.proofs.lemmas.List.Elements.{All-head, All-tail, All-contains, All-filter}
@@ -88,7 +89,8 @@ same_size free fewer same =
       ]
     ]
 
-same_numbers : (base free inner fewer : ℕ) → ((n : ℕ) → in_block inner fewer n ≡ true → in_block base free n ≡ true) → ((n : ℕ) → in_block base free n ≡ true → in_block inner fewer n ≡ true) → (base ≡ inner) × (free ≡ fewer)
+same_numbers : (base free inner fewer : ℕ) → ((n : ℕ) → in_block inner fewer n ≡ true → in_block base free n ≡ true) → ((n : ℕ) → in_block base free n ≡ true → in_block inner fewer n ≡ true) →
+    (base ≡ inner) × (free ≡ fewer)
 same_numbers base free inner fewer lies back =
     let one = lies_between base free inner fewer lies in
     let other = lies_between inner fewer base free back in
@@ -117,7 +119,8 @@ stands_one_way (cidr.Six base len) (cidr.Four inner longer) before after = befor
 -- ---- one list is right
 
 -- blocks of a right list that have one address are one
-same_place : (blocks : List Cidr) (i j : ℕ) (d : Cidr) (a : Address) → AllPairs AreDisjoint blocks → i < length blocks → j < length blocks → cidr_has (get_or blocks i d) a ≡ true → cidr_has (get_or blocks j d) a ≡ true → i ≡ j
+same_place : (blocks : List Cidr) (i j : ℕ) (d : Cidr) (a : Address) → AllPairs AreDisjoint blocks → i < length blocks → j < length blocks → cidr_has (get_or blocks i d) a ≡ true →
+    cidr_has (get_or blocks j d) a ≡ true → i ≡ j
 same_place blocks i j d a disjoint in_i in_j has_i has_j =
     elim (cases_order i j) [
       | inl same ↦ same
@@ -128,7 +131,8 @@ same_place blocks i j d a disjoint in_i in_j has_i has_j =
     ]
 
 -- a block of a list with the set's addresses lies in one block of a right list
-lies_in_one : (set : AddressRanges) (blocks others : List Cidr) (k : ℕ) (d : Cidr) → IsRightPrefixList set blocks → All IsCidr others → ((a : Address) → some_has others a ≡ set_has set a) → k < length others → Any (LiesIn (get_or others k d)) blocks
+lies_in_one : (set : AddressRanges) (blocks others : List Cidr) (k : ℕ) (d : Cidr) → IsRightPrefixList set blocks → All IsCidr others → ((a : Address) → some_has others a ≡ set_has set a) →
+    k < length others → Any (LiesIn (get_or others k d)) blocks
 lies_in_one set blocks others k d right well exact within =
     right.greatest (get_or others k d) (well k d within) (λ a held. sym (exact a) ∙ list_any_at (λ block. cidr_has block a) others k d within held)
 
@@ -158,7 +162,8 @@ one_right_list set blocks others right also =
 -- ---- no list is shorter
 
 -- what passes a test that none of the others passes with it stays where those are taken away
-still_any : {Y : Type 0} (p q : Y → Bool) (Q : Y → Type 0) → ((y : Y) → Q y → p y ≡ true → q y ≡ false) → (ys : List Y) → All Q ys → list_any q ys ≡ true → list_any q (filter (λ y. not (p y)) ys) ≡ true
+still_any : {Y : Type 0} (p q : Y → Bool) (Q : Y → Type 0) → ((y : Y) → Q y → p y ≡ true → q y ≡ false) → (ys : List Y) → All Q ys → list_any q ys ≡ true →
+    list_any q (filter (λ y. not (p y)) ys) ≡ true
 still_any p q Q apart [] all found = found
 still_any p q Q apart (y ∷ ys) all found =
     let rest = filter (λ z. not (p z)) ys in
@@ -189,18 +194,21 @@ fewer_left p (y ∷ ys) found =
     ]
 
 -- Where each of the first list has one of the second, and none of the second is had by two, the second is as long.
-as_many : {X Y : Type 0} (has : X → Y → Bool) (Q : Y → Type 0) (xs : List X) (ys : List Y) → All (λ x. list_any (has x) ys ≡ true) xs → AllPairs (λ x z. (y : Y) → Q y → has x y ≡ true → has z y ≡ false) xs → All Q ys → length xs ≤ length ys
+as_many : {X Y : Type 0} (has : X → Y → Bool) (Q : Y → Type 0) (xs : List X) (ys : List Y) → All (λ x. list_any (has x) ys ≡ true) xs →
+    AllPairs (λ x z. (y : Y) → Q y → has x y ≡ true → has z y ≡ false) xs → All Q ys → length xs ≤ length ys
 as_many has Q [] ys found apart all = omega arith
 as_many {X} {Y} has Q (x ∷ xs) ys found apart all =
     let left = filter (λ y. not (has x y)) ys in
     let others = AllPairs-head (λ z w. (y : Y) → Q y → has z y ≡ true → has w y ≡ false) x xs apart in
-    let still : All (λ z. list_any (has z) left ≡ true) xs = λ k d within. still_any (has x) (has (get_or xs k d)) Q (others k d within) ys all (All-tail (λ z. list_any (has z) ys ≡ true) x xs found k d within) in
+    let still : All (λ z. list_any (has z) left ≡ true) xs = λ k d within. still_any (has x) (has (get_or xs k d)) Q (others k d within) ys all
+    (All-tail (λ z. list_any (has z) ys ≡ true) x xs found k d within) in
     let fewer = fewer_left (has x) ys (All-head (λ z. list_any (has z) ys ≡ true) x xs found) in
     let rest = as_many has Q xs left still (AllPairs-tail (λ z w. (y : Y) → Q y → has z y ≡ true → has w y ≡ false) x xs apart) (All-filter (λ y. not (has x y)) Q ys all) in
     omega arith
 
 -- a block that lies in one block of a list of disjoint blocks has the first address of one of them at most
-base_of_one : (blocks : List Cidr) → AllPairs AreDisjoint blocks → AllPairs (λ block next. (other : Cidr) → Any (LiesIn other) blocks → cidr_has other (base_of block) ≡ true → cidr_has other (base_of next) ≡ false) blocks
+base_of_one : (blocks : List Cidr) → AllPairs AreDisjoint blocks →
+    AllPairs (λ block next. (other : Cidr) → Any (LiesIn other) blocks → cidr_has other (base_of block) ≡ true → cidr_has other (base_of next) ≡ false) blocks
 base_of_one blocks disjoint = λ i j d before in_j other (k, around, in_k, is, lies) has_i.
     false_from_ne_true _ (λ has_j.
     let at_k : get_or blocks k d ≡ around = get_or_default blocks k d around in_k ∙ is in
@@ -213,7 +221,8 @@ base_of_one blocks disjoint = λ i j d before in_j other (k, around, in_k, is, l
     let two = same_place blocks j k d base_j disjoint in_j in_k (base_is_in (get_or blocks j d)) around_j in
     omega arith)
 
-pub no_shorter_list : (set : AddressRanges) (blocks others : List Cidr) → IsRightPrefixList set blocks → All IsCidr others → ((a : Address) → some_has others a ≡ set_has set a) → length blocks ≤ length others
+pub no_shorter_list : (set : AddressRanges) (blocks others : List Cidr) → IsRightPrefixList set blocks → All IsCidr others → ((a : Address) → some_has others a ≡ set_has set a) →
+    length blocks ≤ length others
 no_shorter_list set blocks others right well exact =
     as_many (λ block other. cidr_has other (base_of block)) (λ other. Any (LiesIn other) blocks) blocks others
     (λ k d within.

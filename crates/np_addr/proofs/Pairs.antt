@@ -16,7 +16,8 @@ AllPairs-nil R = λ i j d before within. absurd (omega arith)
 pub AllPairs-weaker : {X : Type 0} (R S : X → X → Type 0) → ((x y : X) → R x y → S x y) → (xs : List X) → AllPairs R xs → AllPairs S xs
 AllPairs-weaker R S weaker xs pairs = λ i j d before within. weaker _ _ (pairs i j d before within)
 
-pub AllPairs-append : {X : Type 0} (R : X → X → Type 0) (P Q : X → Type 0) → ((x y : X) → P x → Q y → R x y) → (xs ys : List X) → AllPairs R xs → AllPairs R ys → All P xs → All Q ys → AllPairs R (xs ++ ys)
+pub AllPairs-append : {X : Type 0} (R : X → X → Type 0) (P Q : X → Type 0) → ((x y : X) → P x → Q y → R x y) → (xs ys : List X) → AllPairs R xs → AllPairs R ys → All P xs → All Q ys →
+    AllPairs R (xs ++ ys)
 AllPairs-append R P Q across [] ys in_xs in_ys of_xs of_ys = in_ys
 AllPairs-append R P Q across (x ∷ xs) ys in_xs in_ys of_xs of_ys =
     AllPairs-cons R x (xs ++ ys)

@@ -24,7 +24,8 @@ pub pieces-first : (separator : ℕ) (text rest : List ℕ) → All (IsOther sep
 pieces-first separator text rest none = slice_split_at (λ c. c == separator) text separator rest none (eq-eqb separator separator refl)
 
 -- what `split_once` finds
-pub pieces-cut : (separator : ℕ) (text : List ℕ) (r : Option (Bor (List ℕ) × Bor (List ℕ))) → IsSplitOnceResult separator text r → separator < 128 → MatchOption r (pieces separator text ≡ text ∷ []) (λ sides. pieces separator text ≡ sides.0.now ∷ pieces separator sides.1.now)
+pub pieces-cut : (separator : ℕ) (text : List ℕ) (r : Option (Bor (List ℕ) × Bor (List ℕ))) → IsSplitOnceResult separator text r → separator < 128 →
+    MatchOption r (pieces separator text ≡ text ∷ []) (λ sides. pieces separator text ≡ sides.0.now ∷ pieces separator sides.1.now)
 pieces-cut separator text None cut small =
     let none = split_parts separator text None cut small in
     pieces-one separator text (All-from_get_or (IsOther separator) text 0 (λ i within. ne_eqb _ separator (none i within)))
@@ -57,7 +58,8 @@ IsOther-from_digits radix separator (c ∷ text) high digits =
     (IsOther-from_digits radix separator text high digits.1)
 
 -- a text that is cut is no numeral
-pub numeral_of-cut : (radix most separator : ℕ) (text first next : List ℕ) (more : List (List ℕ)) → radix ≤ digit_value separator → pieces separator text ≡ first ∷ next ∷ more → numeral_of radix most text ≡ None
+pub numeral_of-cut : (radix most separator : ℕ) (text first next : List ℕ) (more : List (List ℕ)) → radix ≤ digit_value separator → pieces separator text ≡ first ∷ next ∷ more →
+    numeral_of radix most text ≡ None
 numeral_of-cut radix most separator text first next more high cut =
     numeral_of-none radix most text (λ numeral.
     let one = pieces-one separator text (IsOther-from_digits radix separator text high numeral.1) in

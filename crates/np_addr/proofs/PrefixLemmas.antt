@@ -30,7 +30,8 @@ blocks_in-whole family range base (suc half) inside =
     cond-true (is_inside range base (suc half)) (block_at family base (suc half) ∷ []) (blocks_in family range base half ++ blocks_in family range (base + 2 ^ half) half) inside
 
 -- a block that is partly in the range
-pub blocks_in-cut : (family : Family) (range : Range ℕ) (base half : ℕ) → is_inside range base (suc half) ≡ false → blocks_in family range base (suc half) ≡ blocks_in family range base half ++ blocks_in family range (base + 2 ^ half) half
+pub blocks_in-cut : (family : Family) (range : Range ℕ) (base half : ℕ) → is_inside range base (suc half) ≡ false →
+    blocks_in family range base (suc half) ≡ blocks_in family range base half ++ blocks_in family range (base + 2 ^ half) half
 unfolding blocks_in
 blocks_in-cut family range base half out =
     cond-false (is_inside range base (suc half)) (block_at family base (suc half) ∷ []) (blocks_in family range base half ++ blocks_in family range (base + 2 ^ half) half) out
@@ -59,14 +60,18 @@ has_halves range base zero out begins ends = absurd (both_ways _ out (is_inside-
 has_halves range base (suc half) out begins ends = omega arith
 
 -- What holds of a block that is in the range, of a number that is not, and of a block where it holds of its halves, holds of all.
-pub blocks_in-by_halves : (family : Family) (range : Range ℕ) (P : ℕ → ℕ → List Cidr → Type 0) → ((base free : ℕ) → is_inside range base free ≡ true → P base free (block_at family base free ∷ [])) → ((base : ℕ) → is_inside range base zero ≡ false → P base zero []) → ((base half : ℕ) (first second : List Cidr) → is_inside range base (suc half) ≡ false → P base half first → P (base + 2 ^ half) half second → P base (suc half) (first ++ second)) → (base free : ℕ) → P base free (blocks_in family range base free)
+pub blocks_in-by_halves : (family : Family) (range : Range ℕ) (P : ℕ → ℕ → List Cidr → Type 0) → ((base free : ℕ) → is_inside range base free ≡ true → P base free (block_at family base free ∷ [])) →
+    ((base : ℕ) → is_inside range base zero ≡ false → P base zero []) →
+    ((base half : ℕ) (first second : List Cidr) → is_inside range base (suc half) ≡ false → P base half first → P (base + 2 ^ half) half second → P base (suc half) (first ++ second)) →
+    (base free : ℕ) → P base free (blocks_in family range base free)
 unfolding blocks_in
 blocks_in-by_halves family range P whole none cut base zero =
     cond_both (is_inside range base zero) (block_at family base zero ∷ []) [] (P base zero) (whole base zero) (none base)
 blocks_in-by_halves family range P whole none cut base (suc half) =
     let first = blocks_in-by_halves family range P whole none cut base half in
     let second = blocks_in-by_halves family range P whole none cut (base + 2 ^ half) half in
-    cond_both (is_inside range base (suc half)) (block_at family base (suc half) ∷ []) (blocks_in family range base half ++ blocks_in family range (base + 2 ^ half) half) (P base (suc half)) (whole base (suc half)) (λ out. cut base half _ _ out first second)
+    cond_both (is_inside range base (suc half)) (block_at family base (suc half) ∷ []) (blocks_in family range base half ++ blocks_in family range (base + 2 ^ half) half) (P base (suc half))
+    (whole base (suc half)) (λ out. cut base half _ _ out first second)
 
 -- ---- what the code does
 
@@ -83,7 +88,8 @@ pub record IsCut (family : Family) (range : Range ℕ) (base free half : ℕ) : 
   pub fits : base + 2 ^ half + 2 ^ half ≤ 2 ^ width_of family
   pub small : 2 ^ width_of family ≤ 2 ^ 128
 
-pub IsCut-from : (family : Family) (range : Range ℕ) (base free last : ℕ) → free ≤ width_of family → base + 2 ^ free ≤ 2 ^ width_of family → last + 1 ≡ base + 2 ^ free → base ≤ range.hi → range.lo ≤ last → (range.lo ≤ base → last ≤ range.hi → ⊥) → IsCut family range base free (free - 1)
+pub IsCut-from : (family : Family) (range : Range ℕ) (base free last : ℕ) → free ≤ width_of family → base + 2 ^ free ≤ 2 ^ width_of family → last + 1 ≡ base + 2 ^ free → base ≤ range.hi →
+    range.lo ≤ last → (range.lo ≤ base → last ≤ range.hi → ⊥) → IsCut family range base free (free - 1)
 IsCut-from family range base free last short fits ends begins reaches partly =
     let out = is_inside-not range base free (λ above below. partly above (omega arith)) in
     let some = has_halves range base free out begins (omega arith) in
@@ -92,14 +98,17 @@ IsCut-from family range base free last short fits ends begins reaches partly =
     record { out = out; halved = halved; short = omega arith; fits = omega arith; small = (spaces family).1 }
 
 -- a block that is all in the range, put last
-pub one_block : (family : Family) (range : Range ℕ) (base free : ℕ) (block : Cidr) (old made : List Cidr) → range.lo ≤ base → base + 2 ^ free ≤ range.hi + 1 → block ≡ block_at family base free → made ≡ old ++ block ∷ [] → made ≡ old ++ blocks_in family range base free
+pub one_block : (family : Family) (range : Range ℕ) (base free : ℕ) (block : Cidr) (old made : List Cidr) → range.lo ≤ base → base + 2 ^ free ≤ range.hi + 1 → block ≡ block_at family base free →
+    made ≡ old ++ block ∷ [] → made ≡ old ++ blocks_in family range base free
 one_block family range base free block old made above below is adds =
     rw (adds, is, blocks_in-whole family range base free (is_inside-from range base free above below)) refl
 
 -- both halves, one after the other
-pub both_halves : (family : Family) (range : Range ℕ) (base second free half : ℕ) (old first made : List Cidr) → suc half ≡ free → second ≡ base + 2 ^ half → is_inside range base free ≡ false → first ≡ old ++ blocks_in family range base half → made ≡ first ++ blocks_in family range second half → made ≡ old ++ blocks_in family range base free
+pub both_halves : (family : Family) (range : Range ℕ) (base second free half : ℕ) (old first made : List Cidr) → suc half ≡ free → second ≡ base + 2 ^ half → is_inside range base free ≡ false →
+    first ≡ old ++ blocks_in family range base half → made ≡ first ++ blocks_in family range second half → made ≡ old ++ blocks_in family range base free
 both_halves family range base second free half old first made is begins out in_first in_second =
-    let cut : blocks_in family range base (suc half) ≡ blocks_in family range base half ++ blocks_in family range (base + 2 ^ half) half = blocks_in-cut family range base half (ap (λ (k : ℕ). is_inside range base k) is ∙ out) in
+    let cut : blocks_in family range base (suc half) ≡ blocks_in family range base half ++ blocks_in family range (base + 2 ^ half) half = blocks_in-cut family range base half
+    (ap (λ (k : ℕ). is_inside range base k) is ∙ out) in
     in_second
     ∙ rw (in_first, begins) (append_assoc old (blocks_in family range base half) (blocks_in family range (base + 2 ^ half) half))
     ∙ ap (λ (blocks : List Cidr). old ++ blocks) (sym cut ∙ ap (λ (k : ℕ). blocks_in family range base k) is)

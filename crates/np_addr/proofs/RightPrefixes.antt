@@ -1,5 +1,6 @@
 -- The list that the definition gives is right for its set.
-use Rattle.std.proofs.Common.{◌≡◌, ℕ, zero, suc, ◌+◌, ◌-◌, ◌*◌, ◌/◌, ◌%◌, ◌^◌, ◌<◌, ◌≤◌, Bool, true, false, ◌&&◌, ◌||◌, List, [], ◌∷◌, ◌++◌, All, AllPairs, Any, flat_map, refl, sym, ap, ◌∙◌, inl, inr, arith, lit≤}
+use Rattle.std.proofs.Common.{◌≡◌, ℕ, zero, suc, ◌+◌, ◌-◌, ◌*◌, ◌/◌, ◌%◌, ◌^◌, ◌<◌, ◌≤◌, Bool, true, false, ◌&&◌, ◌||◌, List, [], ◌∷◌, ◌++◌, All, AllPairs, Any, flat_map, refl, sym, ap, ◌∙◌, inl, inr}
+use Rattle.std.proofs.Common.{arith, lit≤}
 use Rattle.std.proofs.Math.Nat.{mul-mod_left, add-mod_right, pow-suc, pow-le-pow_right}
 use Rattle.std.proofs.lemmas.Bool.{and_parts, and_from, or_cases, or_from, cases_lt, cases_Bool, leb-true, le-leb, false_from_ne_true, both_ways, false≢true}
 use Rattle.std.proofs.lemmas.Bool.Decides.{nat_tests}
@@ -19,7 +20,8 @@ use Rattle.np_addr.specs.declared.cidr.Cidr.TheVariants as cidr
 use Rattle.np_addr.specs.Addresses.{width_of, IsCidr, cidr_has}
 use Rattle.np_addr.specs.Blocks.{AddressRanges, set_has, IsAddressSet}
 use Rattle.np_addr.specs.Prefixes.{block_at, is_inside, blocks_in, range_prefixes, prefixes_of, some_has, LiesIn, AreDisjoint, StandsBefore, IsRightPrefixList}
-use Rattle.np_addr.proofs.BlockEnds.{address_at, IsBetween, Spans, EndsBefore, IsBetween-block_at, Spans-block_at, IsCidr-block_at, has-block_at, IsBetween-wider, EndsBefore-between, EndsBefore-families, other_family_four, other_family_six, disjoint_by_ends, stands_by_ends, lies_four, lies_six}
+use Rattle.np_addr.proofs.BlockEnds.{address_at, IsBetween, Spans, EndsBefore, IsBetween-block_at, Spans-block_at, IsCidr-block_at, has-block_at, IsBetween-wider, EndsBefore-between}
+use Rattle.np_addr.proofs.BlockEnds.{EndsBefore-families, other_family_four, other_family_six, disjoint_by_ends, stands_by_ends, lies_four, lies_six}
 use Rattle.np_addr.proofs.Pairs.{AllPairs-nil, AllPairs-weaker, AllPairs-append, Any-cons, Any-weaker, Any-append_left, Any-append_right}
 use Rattle.np_addr.proofs.PrefixLemmas.{is_inside-from, is_inside-parts, blocks_in-by_halves}
 use Rattle.np_addr.proofs.SubsetLemmas.{in_block, in_block-parts, in_block-from, ends_within}
@@ -49,7 +51,8 @@ record AreBlocksIn (family : Family) (range : Range ℕ) (base free : ℕ) (bloc
   well : All IsCidr blocks
   ordered : AllPairs EndsBefore blocks
   members : (n : ℕ) → some_has blocks (address_at family n) ≡ (in_block base free n && in_range range n)
-  greatest : (inner fewer : ℕ) → fewer ≤ width_of family → inner % 2 ^ fewer ≡ 0 → base ≤ inner → inner + 2 ^ fewer ≤ base + 2 ^ free → range.lo ≤ inner → inner + 2 ^ fewer ≤ range.hi + 1 → Any (Spans family inner (inner + 2 ^ fewer)) blocks
+  greatest : (inner fewer : ℕ) → fewer ≤ width_of family → inner % 2 ^ fewer ≡ 0 → base ≤ inner → inner + 2 ^ fewer ≤ base + 2 ^ free → range.lo ≤ inner → inner + 2 ^ fewer ≤ range.hi + 1 →
+      Any (Spans family inner (inner + 2 ^ fewer)) blocks
 
 -- two tests of which the first tells the second
 alone : (x y : Bool) → (x ≡ true → y ≡ true) → (x || false) ≡ (x && y)
@@ -67,13 +70,16 @@ both_parts true true false = refl
 both_parts true false false = refl
 both_parts false y z = refl
 
-whole_block : (family : Family) (range : Range ℕ) (base free : ℕ) → free ≤ width_of family → base % 2 ^ free ≡ 0 → is_inside range base free ≡ true → AreBlocksIn family range base free (block_at family base free ∷ [])
+whole_block : (family : Family) (range : Range ℕ) (base free : ℕ) → free ≤ width_of family → base % 2 ^ free ≡ 0 → is_inside range base free ≡ true →
+    AreBlocksIn family range base free (block_at family base free ∷ [])
 whole_block family range base free short aligned inside =
     let parts = is_inside-parts range base free inside in
     let block = block_at family base free in
     record {
-      of_block = All-cons (IsBetween family base (base + 2 ^ free)) block [] (IsBetween-block_at family base free base (base + 2 ^ free) short (omega arith) (omega arith)) (All-nil (IsBetween family base (base + 2 ^ free)));
-      of_range = All-cons (IsBetween family range.lo (range.hi + 1)) block [] (IsBetween-block_at family base free range.lo (range.hi + 1) short parts.0 parts.1) (All-nil (IsBetween family range.lo (range.hi + 1)));
+      of_block = All-cons (IsBetween family base (base + 2 ^ free)) block [] (IsBetween-block_at family base free base (base + 2 ^ free) short (omega arith) (omega arith))
+          (All-nil (IsBetween family base (base + 2 ^ free)));
+      of_range = All-cons (IsBetween family range.lo (range.hi + 1)) block [] (IsBetween-block_at family base free range.lo (range.hi + 1) short parts.0 parts.1)
+          (All-nil (IsBetween family range.lo (range.hi + 1)));
       well = All-cons IsCidr block [] (IsCidr-block_at family base free short aligned) (All-nil IsCidr);
       ordered = AllPairs-cons EndsBefore block [] (All-nil (EndsBefore block)) (AllPairs-nil EndsBefore);
       members = λ n.
@@ -105,7 +111,8 @@ in_halves : (base half n : ℕ) → (in_block base half n || in_block (base + 2 
 in_halves base half n = let double = pow-suc 2 half in let some = pow_pos half in grind (arith, nat_tests)
 
 -- a block that is not all in the range has no part in the range that is more than a half
-at_most_half : (range : Range ℕ) (base half inner fewer : ℕ) → is_inside range base (suc half) ≡ false → base ≤ inner → inner + 2 ^ fewer ≤ base + 2 ^ suc half → range.lo ≤ inner → inner + 2 ^ fewer ≤ range.hi + 1 → fewer ≤ half
+at_most_half : (range : Range ℕ) (base half inner fewer : ℕ) → is_inside range base (suc half) ≡ false → base ≤ inner → inner + 2 ^ fewer ≤ base + 2 ^ suc half → range.lo ≤ inner →
+    inner + 2 ^ fewer ≤ range.hi + 1 → fewer ≤ half
 at_most_half range base half inner fewer out above below low high =
     elim (cases_lt half fewer) [
       | inl larger ↦
@@ -114,7 +121,8 @@ at_most_half range base half inner fewer out above below low high =
       | inr fits ↦ fits
     ]
 
-cut_block : (family : Family) (range : Range ℕ) (base half : ℕ) (xs ys : List Cidr) → suc half ≤ width_of family → base % 2 ^ suc half ≡ 0 → is_inside range base (suc half) ≡ false → AreBlocksIn family range base half xs → AreBlocksIn family range (base + 2 ^ half) half ys → AreBlocksIn family range base (suc half) (xs ++ ys)
+cut_block : (family : Family) (range : Range ℕ) (base half : ℕ) (xs ys : List Cidr) → suc half ≤ width_of family → base % 2 ^ suc half ≡ 0 → is_inside range base (suc half) ≡ false →
+    AreBlocksIn family range base half xs → AreBlocksIn family range (base + 2 ^ half) half ys → AreBlocksIn family range base (suc half) (xs ++ ys)
 cut_block family range base half xs ys short aligned out first second =
     let double = pow-suc 2 half in
     let middle = base + 2 ^ half in
@@ -127,7 +135,8 @@ cut_block family range base half xs ys short aligned out first second =
           (All-weaker high_part all (IsBetween-wider family middle (middle + 2 ^ half) base (base + 2 ^ suc half) (omega arith) (omega arith)) ys second.of_block);
       of_range = All-append (IsBetween family range.lo (range.hi + 1)) xs ys first.of_range second.of_range;
       well = All-append IsCidr xs ys first.well second.well;
-      ordered = AllPairs-append EndsBefore low_part high_part (EndsBefore-between family base middle middle (middle + 2 ^ half) (omega arith)) xs ys first.ordered second.ordered first.of_block second.of_block;
+      ordered = AllPairs-append EndsBefore low_part high_part (EndsBefore-between family base middle middle (middle + 2 ^ half) (omega arith)) xs ys first.ordered second.ordered first.of_block
+          second.of_block;
       members = λ n.
           list_any-append (λ block. cidr_has block (address_at family n)) xs ys
           ∙ ap (λ (t : Bool). t || some_has ys (address_at family n)) (first.members n)
@@ -159,7 +168,8 @@ record AreBlocksOf (family : Family) (from last : ℕ) (ranges : List (Range ℕ
   well : All IsCidr blocks
   ordered : AllPairs EndsBefore blocks
   members : (n : ℕ) → some_has blocks (address_at family n) ≡ holds (λ a. a) ranges n
-  greatest : (inner fewer : ℕ) → fewer ≤ width_of family → inner % 2 ^ fewer ≡ 0 → ((n : ℕ) → inner ≤ n → n < inner + 2 ^ fewer → holds (λ a. a) ranges n ≡ true) → Any (Spans family inner (inner + 2 ^ fewer)) blocks
+  greatest : (inner fewer : ℕ) → fewer ≤ width_of family → inner % 2 ^ fewer ≡ 0 → ((n : ℕ) → inner ≤ n → n < inner + 2 ^ fewer → holds (λ a. a) ranges n ≡ true) →
+      Any (Spans family inner (inner + 2 ^ fewer)) blocks
 
 no_ranges : (family : Family) (from last : ℕ) → AreBlocksOf family from last [] []
 no_ranges family from last = record {
@@ -171,7 +181,8 @@ no_ranges family from last = record {
 }
 
 -- what begins in a range and has numbers of the list alone ends in that range
-ends_in_range : (from last : ℕ) (range : Range ℕ) (ranges : List (Range ℕ)) (inner end : ℕ) → IsAscending (λ a. a) from last (range ∷ ranges) → inner ≤ range.hi → ((n : ℕ) → inner ≤ n → n < end → holds (λ a. a) (range ∷ ranges) n ≡ true) → end ≤ range.hi + 1
+ends_in_range : (from last : ℕ) (range : Range ℕ) (ranges : List (Range ℕ)) (inner end : ℕ) → IsAscending (λ a. a) from last (range ∷ ranges) → inner ≤ range.hi →
+    ((n : ℕ) → inner ≤ n → n < end → holds (λ a. a) (range ∷ ranges) n ≡ true) → end ≤ range.hi + 1
 ends_in_range from last range ranges inner end ascends begins every =
     elim (cases_lt (range.hi + 1) end) [
       | inl past ↦
@@ -181,7 +192,8 @@ ends_in_range from last range ranges inner end ascends begins every =
     ]
 
 -- what does not begin in the first range has numbers of the later ones alone
-in_later : (from last : ℕ) (range : Range ℕ) (ranges : List (Range ℕ)) (inner end : ℕ) → IsAscending (λ a. a) from last (range ∷ ranges) → inner < end → in_range range inner ≡ false → ((n : ℕ) → inner ≤ n → n < end → holds (λ a. a) (range ∷ ranges) n ≡ true) → (n : ℕ) → inner ≤ n → n < end → holds (λ a. a) ranges n ≡ true
+in_later : (from last : ℕ) (range : Range ℕ) (ranges : List (Range ℕ)) (inner end : ℕ) → IsAscending (λ a. a) from last (range ∷ ranges) → inner < end → in_range range inner ≡ false →
+    ((n : ℕ) → inner ≤ n → n < end → holds (λ a. a) (range ∷ ranges) n ≡ true) → (n : ℕ) → inner ≤ n → n < end → holds (λ a. a) ranges n ≡ true
 in_later from last range ranges inner end ascends some out every n above below =
     let begins : holds (λ a. a) ranges inner ≡ true = elim (or_cases _ _ (every inner (omega arith) some)) [ inl within ↦ absurd (both_ways _ out within) | inr held ↦ held ] in
     let behind : range.hi + 2 ≤ inner = elim (cases_lt inner (range.hi + 2)) [
@@ -193,7 +205,8 @@ in_later from last range ranges inner end ascends some out every n above below =
       | inr held ↦ held
     ]
 
-more_ranges : (family : Family) (from last : ℕ) (range : Range ℕ) (ranges : List (Range ℕ)) (xs ys : List Cidr) → last + 1 ≤ 2 ^ width_of family → IsAscending (λ a. a) from last (range ∷ ranges) → AreBlocksIn family range 0 (width_of family) xs → AreBlocksOf family (range.hi + 2) last ranges ys → AreBlocksOf family from last (range ∷ ranges) (xs ++ ys)
+more_ranges : (family : Family) (from last : ℕ) (range : Range ℕ) (ranges : List (Range ℕ)) (xs ys : List Cidr) → last + 1 ≤ 2 ^ width_of family → IsAscending (λ a. a) from last (range ∷ ranges) →
+    AreBlocksIn family range 0 (width_of family) xs → AreBlocksOf family (range.hi + 2) last ranges ys → AreBlocksOf family from last (range ∷ ranges) (xs ++ ys)
 more_ranges family from last range ranges xs ys room ascends first more =
     let low_part = IsBetween family range.lo (range.hi + 1) in
     let high_part = IsBetween family (range.hi + 2) (last + 1) in
@@ -203,7 +216,8 @@ more_ranges family from last range ranges xs ys room ascends first more =
           (All-weaker low_part all (IsBetween-wider family range.lo (range.hi + 1) from (last + 1) (omega arith) (omega arith)) xs first.of_range)
           (All-weaker high_part all (IsBetween-wider family (range.hi + 2) (last + 1) from (last + 1) (omega arith) (omega arith)) ys more.of_family);
       well = All-append IsCidr xs ys first.well more.well;
-      ordered = AllPairs-append EndsBefore low_part high_part (EndsBefore-between family range.lo (range.hi + 1) (range.hi + 2) (last + 1) (omega arith)) xs ys first.ordered more.ordered first.of_range more.of_family;
+      ordered = AllPairs-append EndsBefore low_part high_part (EndsBefore-between family range.lo (range.hi + 1) (range.hi + 2) (last + 1) (omega arith)) xs ys first.ordered more.ordered
+          first.of_range more.of_family;
       members = λ n.
           let in_family = absorbed (in_block 0 (width_of family) n) (in_range range n) (λ held.
           let place = in_range-parts range n held in
@@ -228,10 +242,12 @@ aligned_start : (family : Family) → 0 % 2 ^ width_of family ≡ 0
 aligned_start family.Four = refl
 aligned_start family.Six = refl
 
-blocks_of_ranges : (family : Family) (from last : ℕ) (ranges : List (Range ℕ)) → last + 1 ≤ 2 ^ width_of family → IsAscending (λ a. a) from last ranges → AreBlocksOf family from last ranges (flat_map (λ range. range_prefixes family range) ranges)
+blocks_of_ranges : (family : Family) (from last : ℕ) (ranges : List (Range ℕ)) → last + 1 ≤ 2 ^ width_of family → IsAscending (λ a. a) from last ranges →
+    AreBlocksOf family from last ranges (flat_map (λ range. range_prefixes family range) ranges)
 blocks_of_ranges family from last [] room ascends = no_ranges family from last
 blocks_of_ranges family from last (range ∷ ranges) room ascends =
-    more_ranges family from last range ranges _ _ room ascends (blocks_in_block family range 0 (width_of family) (omega arith) (aligned_start family)) (blocks_of_ranges family (range.hi + 2) last ranges room ascends.3)
+    more_ranges family from last range ranges _ _ room ascends (blocks_in_block family range 0 (width_of family) (omega arith) (aligned_start family))
+    (blocks_of_ranges family (range.hi + 2) last ranges room ascends.3)
 
 -- ---- the blocks of both families
 
@@ -239,18 +255,22 @@ or_false : (x : Bool) → (x || false) ≡ x
 or_false true = refl
 or_false false = refl
 
-exact_in_both : (set : AddressRanges) (end_four end_six : ℕ) (xs ys : List Cidr) → AreBlocksOf family.Four 0 end_four set.first xs → AreBlocksOf family.Six 0 end_six set.second ys → (a : Address) → some_has (xs ++ ys) a ≡ set_has set a
+exact_in_both : (set : AddressRanges) (end_four end_six : ℕ) (xs ys : List Cidr) → AreBlocksOf family.Four 0 end_four set.first xs → AreBlocksOf family.Six 0 end_six set.second ys → (a : Address) →
+    some_has (xs ++ ys) a ≡ set_has set a
 exact_in_both set end_four end_six xs ys four six (address.Four n) =
     list_any-append (λ block. cidr_has block (address.Four n)) xs ys
     ∙ ap (λ (t : Bool). t || some_has ys (address.Four n)) (four.members n)
-    ∙ ap (λ (t : Bool). holds (λ a. a) set.first n || t) (list_any_none (λ block. cidr_has block (address.Four n)) ys (All-weaker (IsBetween family.Six 0 (end_six + 1)) (λ block. cidr_has block (address.Four n) ≡ false) (other_family_six 0 (end_six + 1) n) ys six.of_family))
+    ∙ ap (λ (t : Bool). holds (λ a. a) set.first n || t) (list_any_none (λ block. cidr_has block (address.Four n)) ys
+    (All-weaker (IsBetween family.Six 0 (end_six + 1)) (λ block. cidr_has block (address.Four n) ≡ false) (other_family_six 0 (end_six + 1) n) ys six.of_family))
     ∙ or_false (holds (λ a. a) set.first n)
 exact_in_both set end_four end_six xs ys four six (address.Six n) =
     list_any-append (λ block. cidr_has block (address.Six n)) xs ys
-    ∙ ap (λ (t : Bool). t || some_has ys (address.Six n)) (list_any_none (λ block. cidr_has block (address.Six n)) xs (All-weaker (IsBetween family.Four 0 (end_four + 1)) (λ block. cidr_has block (address.Six n) ≡ false) (other_family_four 0 (end_four + 1) n) xs four.of_family))
+    ∙ ap (λ (t : Bool). t || some_has ys (address.Six n)) (list_any_none (λ block. cidr_has block (address.Six n)) xs
+    (All-weaker (IsBetween family.Four 0 (end_four + 1)) (λ block. cidr_has block (address.Six n) ≡ false) (other_family_four 0 (end_four + 1) n) xs four.of_family))
     ∙ six.members n
 
-greatest_in_both : (set : AddressRanges) (end_four end_six : ℕ) (xs ys : List Cidr) → AreBlocksOf family.Four 0 end_four set.first xs → AreBlocksOf family.Six 0 end_six set.second ys → (block : Cidr) → IsCidr block → ((a : Address) → cidr_has block a ≡ true → set_has set a ≡ true) → Any (LiesIn block) (xs ++ ys)
+greatest_in_both : (set : AddressRanges) (end_four end_six : ℕ) (xs ys : List Cidr) → AreBlocksOf family.Four 0 end_four set.first xs → AreBlocksOf family.Six 0 end_six set.second ys →
+    (block : Cidr) → IsCidr block → ((a : Address) → cidr_has block a ≡ true → set_has set a ≡ true) → Any (LiesIn block) (xs ++ ys)
 greatest_in_both set end_four end_six xs ys four six (cidr.Four base len) well every =
     Any-append_left (LiesIn (cidr.Four base len)) xs ys
     (Any-weaker (Spans family.Four base (base + 2 ^ (32 - len))) (LiesIn (cidr.Four base len)) (lies_four base len) xs
@@ -260,9 +280,11 @@ greatest_in_both set end_four end_six xs ys four six (cidr.Six base len) well ev
     (Any-weaker (Spans family.Six base (base + 2 ^ (128 - len))) (LiesIn (cidr.Six base len)) (lies_six base len) ys
     (six.greatest base (128 - len) (omega arith) well.1 (λ n above below. every (address.Six n) (in_block-from base (128 - len) n above below))))
 
-right_in_both : (set : AddressRanges) (end_four end_six : ℕ) (xs ys : List Cidr) → AreBlocksOf family.Four 0 end_four set.first xs → AreBlocksOf family.Six 0 end_six set.second ys → IsRightPrefixList set (xs ++ ys)
+right_in_both : (set : AddressRanges) (end_four end_six : ℕ) (xs ys : List Cidr) → AreBlocksOf family.Four 0 end_four set.first xs → AreBlocksOf family.Six 0 end_six set.second ys →
+    IsRightPrefixList set (xs ++ ys)
 right_in_both set end_four end_six xs ys four six =
-    let ordered = AllPairs-append EndsBefore (IsBetween family.Four 0 (end_four + 1)) (IsBetween family.Six 0 (end_six + 1)) (EndsBefore-families 0 (end_four + 1) 0 (end_six + 1)) xs ys four.ordered six.ordered four.of_family six.of_family in
+    let ordered = AllPairs-append EndsBefore (IsBetween family.Four 0 (end_four + 1)) (IsBetween family.Six 0 (end_six + 1))
+    (EndsBefore-families 0 (end_four + 1) 0 (end_six + 1)) xs ys four.ordered six.ordered four.of_family six.of_family in
     record {
       well = All-append IsCidr xs ys four.well six.well;
       disjoint = AllPairs-weaker EndsBefore AreDisjoint disjoint_by_ends (xs ++ ys) ordered;

@@ -13,7 +13,8 @@ abbrev pub behind : List ℕ → Option (List ℕ) → Option (List ℕ)
 behind front found = option_map (λ groups. front ++ groups) found
 
 -- a piece in front of others is one group
-pub groups_of-piece : (dotted : Bool) (piece text : List ℕ) → groups_of dotted (piece ∷ pieces 58 text) ≡ (group_of piece >>= λ group. groups_of dotted (pieces 58 text) >>= λ groups. Some (group ∷ groups))
+pub groups_of-piece : (dotted : Bool) (piece text : List ℕ) →
+    groups_of dotted (piece ∷ pieces 58 text) ≡ (group_of piece >>= λ group. groups_of dotted (pieces 58 text) >>= λ groups. Some (group ∷ groups))
 groups_of-piece dotted piece text =
     elim (pieces-cases 58 text) [
       | inl one ↦ rw one
@@ -25,14 +26,16 @@ behind-behind front group None = refl
 behind-behind front group (Some groups) = ap Some (sym (append_assoc front (group ∷ []) groups))
 
 -- one group more was read
-pub next_group : (dotted : Bool) (all : List (List ℕ)) (front rest piece after : List ℕ) (group : ℕ) → groups_of dotted all ≡ behind front (groups_of dotted (pieces 58 rest)) → pieces 58 rest ≡ piece ∷ pieces 58 after → group_of piece ≡ Some group → groups_of dotted all ≡ behind (front ++ group ∷ []) (groups_of dotted (pieces 58 after))
+pub next_group : (dotted : Bool) (all : List (List ℕ)) (front rest piece after : List ℕ) (group : ℕ) → groups_of dotted all ≡ behind front (groups_of dotted (pieces 58 rest)) →
+    pieces 58 rest ≡ piece ∷ pieces 58 after → group_of piece ≡ Some group → groups_of dotted all ≡ behind (front ++ group ∷ []) (groups_of dotted (pieces 58 after))
 next_group dotted all front rest piece after group so_far cut reads =
     so_far ∙ ap (λ ps. behind front (groups_of dotted ps)) cut ∙ ap (behind front) (groups_of-piece dotted piece after)
     ∙ ap (λ o. behind front (o >>= λ g. groups_of dotted (pieces 58 after) >>= λ groups. Some (g ∷ groups))) reads
     ∙ behind-behind front group (groups_of dotted (pieces 58 after))
 
 -- where a piece is no group, there are no groups
-pub no_group : (dotted : Bool) (all : List (List ℕ)) (front rest piece after : List ℕ) → groups_of dotted all ≡ behind front (groups_of dotted (pieces 58 rest)) → pieces 58 rest ≡ piece ∷ pieces 58 after → group_of piece ≡ None → groups_of dotted all ≡ None
+pub no_group : (dotted : Bool) (all : List (List ℕ)) (front rest piece after : List ℕ) → groups_of dotted all ≡ behind front (groups_of dotted (pieces 58 rest)) →
+    pieces 58 rest ≡ piece ∷ pieces 58 after → group_of piece ≡ None → groups_of dotted all ≡ None
 no_group dotted all front rest piece after so_far cut reads =
     so_far ∙ ap (λ ps. behind front (groups_of dotted ps)) cut ∙ ap (behind front) (groups_of-piece dotted piece after)
     ∙ ap (λ o. behind front (o >>= λ g. groups_of dotted (pieces 58 after) >>= λ groups. Some (g ∷ groups))) reads

@@ -72,7 +72,8 @@ ends_within base free inner fewer rest inner_rest less begins =
     omega (arith, step, next, end, inner_parts)
 
 -- a part of a block with fewer free bits has only numbers of the block
-part_within : (base free inner fewer : ℕ) → base % 2 ^ free ≡ 0 → inner % 2 ^ fewer ≡ 0 → fewer < free → in_block base free inner ≡ true → (n : ℕ) → in_block inner fewer n ≡ true → in_block base free n ≡ true
+part_within : (base free inner fewer : ℕ) → base % 2 ^ free ≡ 0 → inner % 2 ^ fewer ≡ 0 → fewer < free → in_block base free inner ≡ true → (n : ℕ) → in_block inner fewer n ≡ true →
+    in_block base free n ≡ true
 part_within base free inner fewer rest inner_rest less begins n held =
     let (above, below) = in_block-parts base free inner begins in
     let (from, to) = in_block-parts inner fewer n held in
@@ -91,7 +92,8 @@ part_more base free inner fewer less begins =
     ]
 
 -- where each number of a block is in another, and there are more, it begins there and has fewer free bits
-part_from : (base free inner fewer : ℕ) → ((n : ℕ) → in_block inner fewer n ≡ true → in_block base free n ≡ true) → (n : ℕ) → in_block base free n ≡ true → in_block inner fewer n ≡ false → (fewer < free) × (in_block base free inner ≡ true)
+part_from : (base free inner fewer : ℕ) → ((n : ℕ) → in_block inner fewer n ≡ true → in_block base free n ≡ true) → (n : ℕ) → in_block base free n ≡ true → in_block inner fewer n ≡ false →
+    (fewer < free) × (in_block base free inner ≡ true)
 part_from base free inner fewer within n held out =
     let some = pow_pos fewer in
     let begins = within inner (in_block-from inner fewer inner (omega arith) (omega arith)) in
@@ -106,19 +108,23 @@ part_from base free inner fewer within n held out =
           absurd (both_ways _ out (in_block-from inner fewer n (omega arith) (omega arith)))
     ]
 
-at_four : (base len inner longer : ℕ) → IsStrictSubset (cidr.Four base len) (cidr.Four inner longer) → (a : Address) → cidr_has (cidr.Four base len) a ≡ true → cidr_has (cidr.Four inner longer) a ≡ false → (32 - longer < 32 - len) × (in_block base (32 - len) inner ≡ true)
+at_four : (base len inner longer : ℕ) → IsStrictSubset (cidr.Four base len) (cidr.Four inner longer) → (a : Address) → cidr_has (cidr.Four base len) a ≡ true →
+    cidr_has (cidr.Four inner longer) a ≡ false → (32 - longer < 32 - len) × (in_block base (32 - len) inner ≡ true)
 at_four base len inner longer subset (address.Four n) held out = part_from base (32 - len) inner (32 - longer) (λ m. subset.within (address.Four m)) n held out
 at_four base len inner longer subset (address.Six n) held out = absurd (false≢true held)
 
-at_six : (base len inner longer : ℕ) → IsStrictSubset (cidr.Six base len) (cidr.Six inner longer) → (a : Address) → cidr_has (cidr.Six base len) a ≡ true → cidr_has (cidr.Six inner longer) a ≡ false → (128 - longer < 128 - len) × (in_block base (128 - len) inner ≡ true)
+at_six : (base len inner longer : ℕ) → IsStrictSubset (cidr.Six base len) (cidr.Six inner longer) → (a : Address) → cidr_has (cidr.Six base len) a ≡ true → cidr_has (cidr.Six inner longer) a ≡ false →
+    (128 - longer < 128 - len) × (in_block base (128 - len) inner ≡ true)
 at_six base len inner longer subset (address.Six n) held out = part_from base (128 - len) inner (128 - longer) (λ m. subset.within (address.Six m)) n held out
 at_six base len inner longer subset (address.Four n) held out = absurd (false≢true held)
 
-within_four : (base len inner longer : ℕ) → ((n : ℕ) → in_block inner (32 - longer) n ≡ true → in_block base (32 - len) n ≡ true) → (a : Address) → cidr_has (cidr.Four inner longer) a ≡ true → cidr_has (cidr.Four base len) a ≡ true
+within_four : (base len inner longer : ℕ) → ((n : ℕ) → in_block inner (32 - longer) n ≡ true → in_block base (32 - len) n ≡ true) → (a : Address) → cidr_has (cidr.Four inner longer) a ≡ true →
+    cidr_has (cidr.Four base len) a ≡ true
 within_four base len inner longer numbers (address.Four n) held = numbers n held
 within_four base len inner longer numbers (address.Six n) held = held
 
-within_six : (base len inner longer : ℕ) → ((n : ℕ) → in_block inner (128 - longer) n ≡ true → in_block base (128 - len) n ≡ true) → (a : Address) → cidr_has (cidr.Six inner longer) a ≡ true → cidr_has (cidr.Six base len) a ≡ true
+within_six : (base len inner longer : ℕ) → ((n : ℕ) → in_block inner (128 - longer) n ≡ true → in_block base (128 - len) n ≡ true) → (a : Address) → cidr_has (cidr.Six inner longer) a ≡ true →
+    cidr_has (cidr.Six base len) a ≡ true
 within_six base len inner longer numbers (address.Six n) held = numbers n held
 within_six base len inner longer numbers (address.Four n) held = held
 

@@ -1,5 +1,6 @@
 -- What clap's contract says of the words of a simple command, and of what it finds of them.
-use Rattle.std.proofs.Common.{◌≡◌, ◌∙◌, ap, ap₂, Bor, List, [], ◌∷◌, Bool, true, false, MatchOption, Option, Some, None, codes, map, option_and_then, option_map, refl, unwrap_or, true≢false, inl, inr, sym, if◌then◌else◌}
+use Rattle.std.proofs.Common.{◌≡◌, ◌∙◌, ap, ap₂, Bor, List, [], ◌∷◌, Bool, true, false, MatchOption, Option, Some, None, codes, map, option_and_then, option_map, refl, unwrap_or, true≢false, inl, inr}
+use Rattle.std.proofs.Common.{sym, if◌then◌else◌}
 use Rattle.clap.proofs.WalkLemmas.{both, first_value-rows, raw_values-rows}
 use Rattle.clap.specs.Built.{AddsArg}
 use Rattle.clap.specs.Faults.{fault_of, is_free_app, is_simple_and_free}

@@ -1,5 +1,6 @@
 -- How clap walks over words that name files, of a command that has FILE as its one positional.
-use Rattle.std.proofs.Common.{◌≡◌, ◌∙◌, ◌⊎◌, ◌==◌, ◌&&◌, ◌||◌, ◌++◌, ap, List, [], append-nil, append_assoc, ◌∷◌, Bool, true, false, Option, Some, None, codes, fold, if◌then◌else◌, inl, inr, not, refl, sym, true≢false}
+use Rattle.std.proofs.Common.{◌≡◌, ◌∙◌, ◌⊎◌, ◌==◌, ◌&&◌, ◌||◌, ◌++◌, ap, List, [], append-nil, append_assoc, ◌∷◌, Bool, true, false, Option, Some, None, codes, fold, if◌then◌else◌, inl, inr, not}
+use Rattle.std.proofs.Common.{refl, sym, true≢false}
 use Rattle.std.proofs.lemmas.Bool.{or_parts}
 use Rattle.std.specs.List.{list_all}
 use Rattle.std.specs.Option.{option_map_or}
@@ -9,7 +10,8 @@ use Rattle.clap.specs.Faults.{positional_fault, settle_fault, stray_fault, turn_
 use Rattle.clap.specs.Kinds.{Kinds, or_else}
 use Rattle.clap.specs.Lexer.{long_of, short_of}
 use Rattle.clap.specs.Simple.{Shape, filled, with_index}
-use Rattle.clap.specs.Walk.{Held, Row, Rule, Step, Walk, Waiting, after_step, arg_by_id, arg_by_index, at_row, has_row, idle, is_pending, more_values, positional, positional_held, pushed, reading_by, settled, settled_rows, takes_several, to_positional, used_by_id, value, walked, word_met}
+use Rattle.clap.specs.Walk.{Held, Row, Rule, Step, Walk, Waiting, after_step, arg_by_id, arg_by_index, at_row, has_row, idle, is_pending, more_values, positional, positional_held, pushed, reading_by}
+use Rattle.clap.specs.Walk.{settled, settled_rows, takes_several, to_positional, used_by_id, value, walked, word_met}
 use Rattle.clap.specs.declared.parser.matches.ValueSource.TheVariants.{CommandLine}
 use Rattle.np_args.specs.Arguments.{file_rule, is_none}
 use Rattle.np_args.specs.Laws.{is_plain}
@@ -152,7 +154,8 @@ module _ (shape : Shape) (takes : TakesFiles shape) (options : List Row) (new : 
   next_taken trailing done last word =
       ap (λ (found : Option Rule). to_positional shape.rules found word (after options trailing done last) (after options trailing done last).held) takes.by_place ∙ at_place trailing
     where
-      at_place : (trailing : Bool) → to_positional shape.rules (Some file) word (after options trailing done last) (after options trailing done last).held ≡ after options trailing (done ++ last ∷ []) word
+      at_place : (trailing : Bool) →
+          to_positional shape.rules (Some file) word (after options trailing done last) (after options trailing done last).held ≡ after options trailing (done ++ last ∷ []) word
       at_place true = ap (λ (rows : List Row). record (after options true done word) { held = record { rows = rows; pending = Some (codes "FILE", word ∷ []); skip = 0 } }) (noted done last)
       at_place false = ap (λ (rows : List Row). record (after options false done word) { held = record { rows = rows; pending = Some (codes "FILE", word ∷ []); skip = 0 } }) (noted done last)
 

@@ -52,7 +52,8 @@ pub list_of-values : (rows : List Row) (format : Option Format) (report : Option
     → files_in rows ≡ files → first_of (codes "controller") rows ≡ controller → first_of (codes "focus") rows ≡ focus
     → list_of rows ≡ table_of format report side files controller focus
 list_of-values rows format report side files controller focus one two three four five six =
-    ap (λ (value : Option Format). table_of value (value_in report_of (codes "report") rows) (value_in side_of (codes "side") rows) (files_in rows) (first_of (codes "controller") rows) (first_of (codes "focus") rows)) one
+    ap (λ (value : Option Format). table_of value (value_in report_of (codes "report") rows) (value_in side_of (codes "side") rows) (files_in rows) (first_of (codes "controller") rows)
+    (first_of (codes "focus") rows)) one
     ∙ ap (λ (value : Option Report). table_of format value (value_in side_of (codes "side") rows) (files_in rows) (first_of (codes "controller") rows) (first_of (codes "focus") rows)) two
     ∙ ap (λ (value : Option FocusSide). table_of format report value (files_in rows) (first_of (codes "controller") rows) (first_of (codes "focus") rows)) three
     ∙ ap (λ (value : Option (List Text)). table_of format report side value (first_of (codes "controller") rows) (first_of (codes "focus") rows)) four

@@ -17,7 +17,8 @@ number_to-decimal most fits word number = (reads, writes)
         let number_is = IsNumber-from_word most word number is in (
           number_is.low,
           number_is.high,
-          sym (decimal-digits_value (numerals_by_value _ tells_digits) word number_is.digits (number_to-some most word number is) (λ zero. absurd (number_is.first zero)) (omega (arith, number_is.value, number_is.high)))
+          sym (decimal-digits_value (numerals_by_value _ tells_digits) word number_is.digits (number_to-some most word number is) (λ zero. absurd (number_is.first zero))
+              (omega (arith, number_is.value, number_is.high)))
               ∙ ap decimal number_is.value,
         )
 

@@ -83,7 +83,8 @@ split_job (word ∷ words) others plain once =
     let last = end word words in
     let files : front done last others ++ end last others ∷ [] ≡ word ∷ words ++ others =
     in_order done last others ∙ sym (append_assoc done (last ∷ []) others) ∙ ap (λ (before : List Text). before ++ others) (in_order [] word words) in
-    asked_list (word ∷ words ++ codes "--" ∷ others) _ (split_end shape takes [] refl nothing_held (nothing_met shape) word words others plain) (clean-none true (front done last others) (end last others))
+    asked_list (word ∷ words ++ codes "--" ∷ others) _ (split_end shape takes [] refl nothing_held (nothing_met shape) word words others plain)
+    (clean-none true (front done last others) (end last others))
     ∙ made-none true (front done last others) (end last others) ∙ ap (made_of Two None None) files ∙ taken Two None None (word ∷ words ++ others) once
 
 -- ---- `--report`

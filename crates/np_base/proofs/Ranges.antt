@@ -23,7 +23,8 @@ holds-before number_of from last (range ∷ ranges) n ascends below =
     or_from _ _ (is_within-before number_of range n (omega arith)) (holds-before number_of (number_of range.hi + 2) last ranges n ascends.3 (omega arith))
 
 -- a list that begins later ascends from any earlier number too
-pub IsAscending-earlier : {P : Type 0} (number_of : P → ℕ) (from earlier last : ℕ) (ranges : List (Range P)) → earlier ≤ from → IsAscending number_of from last ranges → IsAscending number_of earlier last ranges
+pub IsAscending-earlier : {P : Type 0} (number_of : P → ℕ) (from earlier last : ℕ) (ranges : List (Range P)) → earlier ≤ from → IsAscending number_of from last ranges →
+    IsAscending number_of earlier last ranges
 IsAscending-earlier number_of from earlier last [] before ascends = tt
 IsAscending-earlier number_of from earlier last (range ∷ ranges) before ascends = (omega arith, ascends.1, ascends.2, ascends.3)
 
@@ -37,14 +38,18 @@ at_odds : (x y : Bool) → x ≡ true → y ≡ false → x ≡ y → ⊥
 at_odds x y has lacks alike = cc
 
 -- two lists with the same numbers do not begin one before the other
-no_earlier_start : {P : Type 0} (number_of : P → ℕ) (low last from : ℕ) (a : Range P) (a_rest : List (Range P)) (b : Range P) (b_rest : List (Range P)) → low ≤ from → IsAscending number_of from last (a ∷ a_rest) → IsAscending number_of from last (b ∷ b_rest) → ((n : ℕ) → low ≤ n → n ≤ last → holds number_of (a ∷ a_rest) n ≡ holds number_of (b ∷ b_rest) n) → number_of a.lo < number_of b.lo → ⊥
+no_earlier_start : {P : Type 0} (number_of : P → ℕ) (low last from : ℕ) (a : Range P) (a_rest : List (Range P)) (b : Range P) (b_rest : List (Range P)) → low ≤ from →
+    IsAscending number_of from last (a ∷ a_rest) → IsAscending number_of from last (b ∷ b_rest) → ((n : ℕ) → low ≤ n → n ≤ last → holds number_of (a ∷ a_rest) n ≡ holds number_of (b ∷ b_rest) n) →
+    number_of a.lo < number_of b.lo → ⊥
 no_earlier_start number_of low last from a a_rest b b_rest above in_a in_b alike earlier =
     let n = number_of a.lo in
     let later : IsAscending number_of (number_of b.lo) last (b ∷ b_rest) = (omega arith, in_b.1, in_b.2, in_b.3) in
     at_odds _ _ (or_left _ _ (is_within-inside number_of a n (omega arith) in_a.1)) (holds-before number_of (number_of b.lo) last (b ∷ b_rest) n later earlier) (alike n (omega arith) (omega arith))
 
 -- nor does the first range of one end before that of the other
-no_earlier_end : {P : Type 0} (number_of : P → ℕ) (low last from : ℕ) (a : Range P) (a_rest : List (Range P)) (b : Range P) (b_rest : List (Range P)) → low ≤ from → IsAscending number_of from last (a ∷ a_rest) → IsAscending number_of from last (b ∷ b_rest) → ((n : ℕ) → low ≤ n → n ≤ last → holds number_of (a ∷ a_rest) n ≡ holds number_of (b ∷ b_rest) n) → number_of a.lo ≡ number_of b.lo → number_of a.hi < number_of b.hi → ⊥
+no_earlier_end : {P : Type 0} (number_of : P → ℕ) (low last from : ℕ) (a : Range P) (a_rest : List (Range P)) (b : Range P) (b_rest : List (Range P)) → low ≤ from →
+    IsAscending number_of from last (a ∷ a_rest) → IsAscending number_of from last (b ∷ b_rest) → ((n : ℕ) → low ≤ n → n ≤ last → holds number_of (a ∷ a_rest) n ≡ holds number_of (b ∷ b_rest) n) →
+    number_of a.lo ≡ number_of b.lo → number_of a.hi < number_of b.hi → ⊥
 no_earlier_end number_of low last from a a_rest b b_rest above in_a in_b alike start earlier =
     let n = number_of a.hi + 1 in
     at_odds _ _ (or_left _ _ (is_within-inside number_of b n (omega arith) (omega arith)))
@@ -52,7 +57,9 @@ no_earlier_end number_of low last from a a_rest b b_rest above in_a in_b alike s
     (sym (alike n (omega arith) (omega arith)))
 
 -- after equal first ranges, the rests have the same numbers
-rest_alike : {P : Type 0} (number_of : P → ℕ) (low last : ℕ) (a : Range P) (a_rest : List (Range P)) (b : Range P) (b_rest : List (Range P)) → IsAscending number_of (number_of a.hi + 2) last a_rest → IsAscending number_of (number_of b.hi + 2) last b_rest → number_of a.hi ≡ number_of b.hi → ((n : ℕ) → low ≤ n → n ≤ last → holds number_of (a ∷ a_rest) n ≡ holds number_of (b ∷ b_rest) n) → (n : ℕ) → low ≤ n → n ≤ last → holds number_of a_rest n ≡ holds number_of b_rest n
+rest_alike : {P : Type 0} (number_of : P → ℕ) (low last : ℕ) (a : Range P) (a_rest : List (Range P)) (b : Range P) (b_rest : List (Range P)) → IsAscending number_of (number_of a.hi + 2) last a_rest →
+    IsAscending number_of (number_of b.hi + 2) last b_rest → number_of a.hi ≡ number_of b.hi → ((n : ℕ) → low ≤ n → n ≤ last → holds number_of (a ∷ a_rest) n ≡ holds number_of (b ∷ b_rest) n) →
+    (n : ℕ) → low ≤ n → n ≤ last → holds number_of a_rest n ≡ holds number_of b_rest n
 rest_alike number_of low last a a_rest b b_rest in_a_rest in_b_rest end alike n above below =
     elim (cases_lt n (number_of a.hi + 2)) [
       | inl before ↦ holds-before number_of (number_of a.hi + 2) last a_rest n in_a_rest before ∙ sym (holds-before number_of (number_of b.hi + 2) last b_rest n in_b_rest (omega arith))
@@ -66,7 +73,9 @@ equal_ranges {P} a b lo hi =
     ap with_lo lo ∙ ap with_hi hi
 
 -- Two ascending lists that hold the same numbers are equal, where points of one number are.
-pub same_members_same_ranges : {P : Type 0} (number_of : P → ℕ) (low last : ℕ) → ((p q : P) → low ≤ number_of p → number_of p ≤ last → number_of p ≡ number_of q → p ≡ q) → (from : ℕ) (a_rest b_rest : List (Range P)) → low ≤ from → IsAscending number_of from last a_rest → IsAscending number_of from last b_rest → ((n : ℕ) → low ≤ n → n ≤ last → holds number_of a_rest n ≡ holds number_of b_rest n) → a_rest ≡ b_rest
+pub same_members_same_ranges : {P : Type 0} (number_of : P → ℕ) (low last : ℕ) → ((p q : P) → low ≤ number_of p → number_of p ≤ last → number_of p ≡ number_of q → p ≡ q) →
+    (from : ℕ) (a_rest b_rest : List (Range P)) → low ≤ from → IsAscending number_of from last a_rest → IsAscending number_of from last b_rest →
+    ((n : ℕ) → low ≤ n → n ≤ last → holds number_of a_rest n ≡ holds number_of b_rest n) → a_rest ≡ b_rest
 same_members_same_ranges number_of low last one from [] [] above in_a_rest in_b_rest alike = refl
 same_members_same_ranges number_of low last one from [] (b ∷ b_rest) above in_a_rest in_b_rest alike =
     absurd (at_odds _ _ (or_left _ _ (is_within-inside number_of b (number_of b.lo) (omega arith) in_b_rest.1)) refl (sym (alike (number_of b.lo) (omega arith) (omega arith))))

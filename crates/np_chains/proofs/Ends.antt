@@ -1,5 +1,6 @@
 -- Chains without a cycle end.
-use Rattle.std.proofs.Common.{◌≡◌, ◌≢◌, inl, inr, ℕ, zero, suc, ◌+◌, ◌-◌, ◌<◌, ◌≤◌, List, [], ◌∷◌, length, Bool, true, false, ◌||◌, Option, Some, None, nat_eq, eq-eqb, refl, sym, subst, ap, ◌∙◌, arith}
+use Rattle.std.proofs.Common.{◌≡◌, ◌≢◌, inl, inr, ℕ, zero, suc, ◌+◌, ◌-◌, ◌<◌, ◌≤◌, List, [], ◌∷◌, length, Bool, true, false, ◌||◌, Option, Some, None, nat_eq, eq-eqb, refl, sym, subst, ap, ◌∙◌}
+use Rattle.std.proofs.Common.{arith}
 use Rattle.std.specs.Prelude.{find}
 use Rattle.std.specs.List.{list_any, range_with_len}
 use Rattle.std.proofs.Math.Bool.{or-true}
@@ -74,7 +75,8 @@ module _ (ups : List (Option ℕ)) where
   any_longer test (suc steps) (suc more) place below found =
       by (up ups place) refl (λ above. any_longer test steps more above (omega (arith, below)))
     where
-      by : (o : Option ℕ) → up ups place ≡ o → ((above : ℕ) → list_any test (chain ups steps above) ≡ true → list_any test (chain ups more above) ≡ true) → list_any test (chain ups (suc more) place) ≡ true
+      by : (o : Option ℕ) → up ups place ≡ o → ((above : ℕ) → list_any test (chain ups steps above) ≡ true → list_any test (chain ups more above) ≡ true) →
+          list_any test (chain ups (suc more) place) ≡ true
       by None is rest = rw is (rw is at found)
       by (Some above) is rest = rw is (here (test above) refl)
         where

@@ -28,7 +28,8 @@ abbrev is_over_first : List (Option ℕ) → List Bool → ℕ → ℕ → Bool
 is_over_first ups starts n above = list_any (λ place. is_marked starts place && is_at_or_over ups above place) (range_with_len 0 n)
 
 -- one place more, which is a start
-over_start : (ups : List (Option ℕ)) (starts : List Bool) (n above : ℕ) → is_marked starts n ≡ true → is_over_first ups starts (n + 1) above ≡ (is_over_first ups starts n above || is_at_or_over ups above n)
+over_start : (ups : List (Option ℕ)) (starts : List Bool) (n above : ℕ) → is_marked starts n ≡ true →
+    is_over_first ups starts (n + 1) above ≡ (is_over_first ups starts n above || is_at_or_over ups above n)
 over_start ups starts n above start = any_more (λ place. is_marked starts place && is_at_or_over ups above place) n ∙ rw start refl
 
 -- one place more, which is none
@@ -46,7 +47,8 @@ start_step ups lent same starts old before new kept n start marked so_far above 
     ∙ rw (kept, so_far above below) (sym (over_start ups starts n above start))
 
 -- marks are the list of what holds of each place
-pub marks_are : (test : ℕ → Bool) (ups : List (Option ℕ)) (marks : List Bool) → length marks ≡ length ups → ((place : ℕ) → place < length ups → is_marked marks place ≡ test place) → marks ≡ map test (places ups)
+pub marks_are : (test : ℕ → Bool) (ups : List (Option ℕ)) (marks : List Bool) → length marks ≡ length ups → ((place : ℕ) → place < length ups → is_marked marks place ≡ test place) →
+    marks ≡ map test (places ups)
 marks_are test ups marks long each =
     same_lists marks (map test (places ups)) (long ∙ sym (length-map-range_with_len test 0 (length ups)))
     (λ k d below. get_or_default marks k d false below ∙ each k (rw long at below) ∙ sym (get_or-map-range_with_len test 0 (length ups) k k d (rw long at below) (zero-add k)))

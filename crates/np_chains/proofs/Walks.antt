@@ -38,13 +38,15 @@ none_over (Some above) never = absurd (never above refl)
 is_marked-set : (marks : List Bool) (place other : ℕ) → place < length marks → is_marked (slice_set marks place true) other ≡ (is_marked marks other || nat_eq place other)
 is_marked-set marks place other within = by (eqb_tells place other)
   where
-    by : ((nat_eq place other ≡ true) × (place ≡ other)) ⊎ ((nat_eq place other ≡ false) × (place ≢ other)) → is_marked (slice_set marks place true) other ≡ (is_marked marks other || nat_eq place other)
+    by : ((nat_eq place other ≡ true) × (place ≡ other)) ⊎ ((nat_eq place other ≡ false) × (place ≢ other)) →
+        is_marked (slice_set marks place true) other ≡ (is_marked marks other || nat_eq place other)
     by (inl (is, same)) = subst (λ (k : ℕ). is_marked (slice_set marks place true) k ≡ true) same (get_or-set_same marks place true false within) ∙ sym (rw is (or-true (is_marked marks other)))
     by (inr (is, apart)) = get_or-set_other marks place other true false (λ same. apart (sym same)) ∙ sym (rw is (or-false (is_marked marks other)))
 
 -- the marks and the rest of the chain, with what stands over the place marked
 pub mark_step : (marks : List Bool) (ups : List (Option ℕ)) (steps rest place above : ℕ) → steps ≡ suc rest → up ups place ≡ Some above → above < length marks → (other : ℕ)
-    → (is_marked (slice_set marks above true) other || list_any (λ owner. nat_eq owner other) (chain ups rest above)) ≡ (is_marked marks other || list_any (λ owner. nat_eq owner other) (chain ups steps place))
+    → (is_marked (slice_set marks above true) other || list_any (λ owner. nat_eq owner other) (chain ups rest above)) ≡
+    (is_marked marks other || list_any (λ owner. nat_eq owner other) (chain ups steps place))
 mark_step marks ups steps rest place above more is within other =
     rw (is_marked-set marks above other within, any_step (λ owner. nat_eq owner other) ups steps rest place above more is)
     (or_assoc (is_marked marks other) (nat_eq above other) (list_any (λ owner. nat_eq owner other) (chain ups rest above)))

@@ -37,7 +37,8 @@ numbered-push numbers last number =
 pub numbered_more : (numbers : List ℕ) (count last : ℕ) (groups : List (List ℕ)) → last < count → groups ≡ map (numbered numbers) (places count)
     → slice_set groups last (slice_index_or groups last [] ++ length numbers ∷ []) ≡ map (numbered (numbers ++ last ∷ [])) (places count)
 numbered_more numbers count last groups within are =
-    fill_by_all (numbered (numbers ++ last ∷ [])) (slice_set groups last (slice_index_or groups last [] ++ length numbers ∷ [])) count [] (length-set groups last (slice_index_or groups last [] ++ length numbers ∷ []) ∙ long)
+    fill_by_all (numbered (numbers ++ last ∷ [])) (slice_set groups last (slice_index_or groups last [] ++ length numbers ∷ [])) count []
+    (length-set groups last (slice_index_or groups last [] ++ length numbers ∷ []) ∙ long)
     (λ number below. by number below (cases_eq number last))
   where
     long : length groups ≡ count
@@ -46,7 +47,8 @@ numbered_more numbers count last groups within are =
     at : (number : ℕ) → number < count → get_or groups number [] ≡ numbered numbers number
     at number below = rw are (get_or-map-range_with_len (numbered numbers) 0 count number number [] below (zero-add number))
 
-    by : (number : ℕ) → number < count → (number ≡ last) ⊎ (number ≡ last → ⊥) → get_or (slice_set groups last (slice_index_or groups last [] ++ length numbers ∷ [])) number [] ≡ numbered (numbers ++ last ∷ []) number
+    by : (number : ℕ) → number < count → (number ≡ last) ⊎ (number ≡ last → ⊥) →
+        get_or (slice_set groups last (slice_index_or groups last [] ++ length numbers ∷ [])) number [] ≡ numbered (numbers ++ last ∷ []) number
     by number below (inl same) =
         rw same (get_or-set_same groups last (slice_index_or groups last [] ++ length numbers ∷ []) [] (omega (arith, long))
         ∙ ap (λ (ns : List ℕ). ns ++ length numbers ∷ []) (at last within)

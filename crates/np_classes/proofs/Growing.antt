@@ -73,7 +73,8 @@ module _ (alike : ℕ → ℕ → Bool) (count : ℕ) (lawful : IsAlike alike (c
       let inside : position_or_len (λ first. alike first place) (firsts alike count) < length (firsts alike count) = class_within alike count lawful_before place within in
       ap (position_or_len (λ first. alike first place)) firsts_more ∙ by (is_first alike count) inside
     where
-      by : (b : Bool) → position_or_len (λ first. alike first place) (firsts alike count) < length (firsts alike count) → position_or_len (λ first. alike first place) (firsts alike count ++ cond b (count ∷ []) []) ≡ position_or_len (λ first. alike first place) (firsts alike count)
+      by : (b : Bool) → position_or_len (λ first. alike first place) (firsts alike count) < length (firsts alike count) →
+          position_or_len (λ first. alike first place) (firsts alike count ++ cond b (count ∷ []) []) ≡ position_or_len (λ first. alike first place) (firsts alike count)
       by true inside =
           position_or_len_push (λ first. alike first place) (firsts alike count) count
           ∙ rw (ne_eqb (position_or_len (λ first. alike first place) (firsts alike count)) (length (firsts alike count)) (λ same. absurd (omega arith))) refl

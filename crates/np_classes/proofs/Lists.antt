@@ -1,5 +1,6 @@
 -- Lists of places, and tests that agree on the items of a list.
-use Rattle.std.proofs.Common.{◌≡◌, ℕ, zero, suc, ◌+◌, ◌<◌, List, [], ◌∷◌, ◌++◌, length, map, Bool, true, false, cond, ◌&&◌, ◌||◌, All, Some, None, nat_lt, refl, sym, subst, ap, ◌∙◌, arith, add-zero, zero-add, suc-add}
+use Rattle.std.proofs.Common.{◌≡◌, ℕ, zero, suc, ◌+◌, ◌<◌, List, [], ◌∷◌, ◌++◌, length, map, Bool, true, false, cond, ◌&&◌, ◌||◌, All, Some, None, nat_lt, refl, sym, subst, ap, ◌∙◌, arith, add-zero}
+use Rattle.std.proofs.Common.{zero-add, suc-add}
 use Rattle.std.specs.Prelude.{filter, position, slice_get}
 use Rattle.std.specs.List.{list_any, position_from, position_or_len, range_with_len}
 use Rattle.std.specs.List.Sorted.{IsStrictlyIncreasing}
@@ -142,13 +143,15 @@ position-push p xs last =
     ∙ ap (λ n. option_or (position_from p 0 xs) (cond (p last) (Some n) None)) (zero-add (length xs))
     ∙ ap (λ o. option_or o (cond (p last) (Some (length xs)) None)) (sym (position_from-zero p xs))
   where
-    position_from-push : {X : Type 0} (p : X → Bool) (from : ℕ) (xs : List X) (last : X) → position_from p from (xs ++ last ∷ []) ≡ option_or (position_from p from xs) (cond (p last) (Some (from + length xs)) None)
+    position_from-push : {X : Type 0} (p : X → Bool) (from : ℕ) (xs : List X) (last : X) →
+        position_from p from (xs ++ last ∷ []) ≡ option_or (position_from p from xs) (cond (p last) (Some (from + length xs)) None)
     position_from-push p from [] last = rw add-zero refl
     position_from-push p from (x ∷ xs) last = by (p x) (position_from-push p (from + 1) xs last)
       where
         same : from + 1 + length xs ≡ from + length (x ∷ xs)
         same = omega arith
 
-        by : (b : Bool) → position_from p (from + 1) (xs ++ last ∷ []) ≡ option_or (position_from p (from + 1) xs) (cond (p last) (Some (from + 1 + length xs)) None) → cond b (Some from) (position_from p (from + 1) (xs ++ last ∷ [])) ≡ option_or (cond b (Some from) (position_from p (from + 1) xs)) (cond (p last) (Some (from + length (x ∷ xs))) None)
+        by : (b : Bool) → position_from p (from + 1) (xs ++ last ∷ []) ≡ option_or (position_from p (from + 1) xs) (cond (p last) (Some (from + 1 + length xs)) None) →
+            cond b (Some from) (position_from p (from + 1) (xs ++ last ∷ [])) ≡ option_or (cond b (Some from) (position_from p (from + 1) xs)) (cond (p last) (Some (from + length (x ∷ xs))) None)
         by true behind = refl
         by false behind = behind ∙ ap (λ n. option_or (position_from p (from + 1) xs) (cond (p last) (Some n) None)) same

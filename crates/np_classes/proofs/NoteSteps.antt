@@ -97,7 +97,8 @@ module _ {K : Type 0} (compare : K → K → Ordering) (total : IsTotalOrder com
       some = at_position (λ first. alike first count) (firsts alike count) number (at_last ∙ sym (same_class_so_far key) ∙ sym (held.of_keys key) ∙ found)
 
   -- a key of a new class
-  pub HoldsClasses-new : (known new : BTreeMap K ℕ) (first_places more_firsts numbers more : List ℕ) (place number : ℕ) → place ≡ length numbers → number ≡ length first_places → get compare known key ≡ None
+  pub HoldsClasses-new : (known new : BTreeMap K ℕ) (first_places more_firsts numbers more : List ℕ) (place number : ℕ) → place ≡ length numbers → number ≡ length first_places →
+      get compare known key ≡ None
       → more_firsts ≡ first_places ++ place ∷ [] → more ≡ numbers ++ number ∷ []
       → ((other : K) → get compare new other ≡ cond (is_eq (compare key other)) (Some number) (get compare known other))
       → HoldsClasses compare earlier known first_places numbers → HoldsClasses compare later new more_firsts more
@@ -107,7 +108,8 @@ module _ {K : Type 0} (compare : K → K → Ordering) (total : IsTotalOrder com
         ∙ sym (numbers_more alike count lawful ∙ ap (λ (n : ℕ). map (class_of alike count) (places count) ++ n ∷ []) (last_of_new alike count lawful none))));
     of_keys = λ other. noted other ∙ by other (is_eq (compare key other)) refl
         ∙ sym (rw length_push (ap (position (ties_at compare later other)) grown ∙ position-push (ties_at compare later other) (firsts alike count) count
-        ∙ ap (λ (last : Option K). option_or (class_so_far other) (cond (of_both (λ x y. is_eq (compare x y)) last (Some other)) (Some (length (firsts alike count))) None)) (slice_get-last earlier key)));
+        ∙ ap (λ (last : Option K). option_or (class_so_far other) (cond (of_both (λ x y. is_eq (compare x y)) last (Some other)) (Some (length (firsts alike count))) None))
+        (slice_get-last earlier key)));
   }
     where
       known_firsts : first_places ≡ firsts alike count

@@ -38,7 +38,8 @@ module _ (alike : ℕ → ℕ → Bool) where
   has_first count lawful zero place less within = absurd (omega arith)
   has_first count lawful (suc below) place less within = by (is_first alike place) refl (has_first count lawful below)
     where
-      by : (b : Bool) → is_first alike place ≡ b → ((earlier : ℕ) → earlier < below → earlier < count → list_any (λ first. alike first earlier) (firsts alike count) ≡ true) → list_any (λ first. alike first place) (firsts alike count) ≡ true
+      by : (b : Bool) → is_first alike place ≡ b → ((earlier : ℕ) → earlier < below → earlier < count → list_any (λ first. alike first earlier) (firsts alike count) ≡ true) →
+          list_any (λ first. alike first place) (firsts alike count) ≡ true
       by true is rest = in_firsts (λ first. alike first place) count place within is (lawful.itself place within)
       by false is rest =
           let (earlier, before, tied) = place_that_passes (λ other. alike other place) place (not-false _ is) in
@@ -55,7 +56,8 @@ module _ (alike : ℕ → ℕ → Bool) where
       position_within (λ first. alike first place) (firsts alike count) (has_first count lawful (suc place) place (omega arith) within)
 
   -- a class of a place has a first one, which is alike to it
-  pub first_of : (count : ℕ) → IsAlike alike count → (place : ℕ) → place < count → (first : ℕ) × (slice_get (firsts alike count) (class_of alike count place) ≡ Some first) × (first < count) × (alike first place ≡ true)
+  pub first_of : (count : ℕ) → IsAlike alike count → (place : ℕ) → place < count →
+      (first : ℕ) × (slice_get (firsts alike count) (class_of alike count place) ≡ Some first) × (first < count) × (alike first place ≡ true)
   unfolding class_of
   first_of count lawful place within =
       let at = class_of alike count place in
@@ -67,7 +69,8 @@ module _ (alike : ℕ → ℕ → Bool) where
       )
 
   -- and no other one is at its number
-  pub first_at : (count : ℕ) → IsAlike alike count → (place first : ℕ) → place < count → slice_get (firsts alike count) (class_of alike count place) ≡ Some first → (first < count) × (alike first place ≡ true)
+  pub first_at : (count : ℕ) → IsAlike alike count → (place first : ℕ) → place < count → slice_get (firsts alike count) (class_of alike count place) ≡ Some first →
+      (first < count) × (alike first place ≡ true)
   first_at count lawful place first within is =
       let (other, at, below, tied) = first_of count lawful place within in
       let same : other ≡ first = same_Some other first (sym at ∙ is) in (
@@ -119,7 +122,8 @@ module _ (alike : ℕ → ℕ → Bool) where
       let near_b = (first_at count lawful b first in_b (ap (slice_get (firsts alike count)) (sym same) ∙ at)).1 in
       lawful.onward a first b in_a below in_b (lawful.both_ways first a below in_a near_a) near_b
 
-  pub members_of_class : (count : ℕ) → IsAlike alike count → (place : ℕ) → place < count → members alike count place ≡ filter (λ other. class_of alike count other == class_of alike count place) (places count)
+  pub members_of_class : (count : ℕ) → IsAlike alike count → (place : ℕ) → place < count →
+      members alike count place ≡ filter (λ other. class_of alike count other == class_of alike count place) (places count)
   unfolding members
   members_of_class count lawful place within =
       filter_agree_on (alike place) (λ other. class_of alike count other == class_of alike count place) (places count)

@@ -29,13 +29,15 @@ pub record IsOfLines (bytes : List ℕ) (lists : EstateLists) (asked : List Aske
   pub read : statements_of bytes ≡ Ok lines
   pub found : ends_found lists lines ≡ Ok asked
 
-names-known : (bytes : List ℕ) (lists : EstateLists) (lines : List StatementLine) (asked : List AskedLine) (found : Result (List AskedLine) (List ℕ)) → statements_of bytes ≡ Ok lines → ends_found lists lines ≡ found → name_fault found ≡ Ok asked → IsOfLines bytes lists asked
+names-known : (bytes : List ℕ) (lists : EstateLists) (lines : List StatementLine) (asked : List AskedLine) (found : Result (List AskedLine) (List ℕ)) → statements_of bytes ≡ Ok lines →
+    ends_found lists lines ≡ found → name_fault found ≡ Ok asked → IsOfLines bytes lists asked
 names-known bytes lists lines asked (Err name) read found is = absurd (cc)
 names-known bytes lists lines asked (Ok own) read found is =
     let same : own ≡ asked = cc in
     record { lines = lines; read = read; found = subst (λ (one : List AskedLine). ends_found lists lines ≡ Ok one) same found }
 
-lines-known : (bytes : List ℕ) (lists : EstateLists) (asked : List AskedLine) (found : Result (List StatementLine) ℕ) → statements_of bytes ≡ found → asked_of lists (line_fault found) ≡ Ok asked → IsOfLines bytes lists asked
+lines-known : (bytes : List ℕ) (lists : EstateLists) (asked : List AskedLine) (found : Result (List StatementLine) ℕ) → statements_of bytes ≡ found → asked_of lists (line_fault found) ≡ Ok asked →
+    IsOfLines bytes lists asked
 lines-known bytes lists asked (Err line) read is = absurd (cc)
 lines-known bytes lists asked (Ok lines) read is = names-known bytes lists lines asked (ends_found lists lines) read refl is
 
@@ -43,7 +45,8 @@ asked-lines : (bytes : List ℕ) (lists : EstateLists) (asked : List AskedLine) 
 unfolding asked_in
 asked-lines bytes lists asked is = lines-known bytes lists asked (statements_of bytes) refl is
 
-first-known : (lists : EstateLists) (lines : List StatementLine) (asked : List AskedLine) (broken : Broken) → IsLawful lists → All IsWellLine lines → ends_found lists lines ≡ Ok asked → first_broken lists asked ≡ Some broken → IsFirstBrokenLine lists lines broken
+first-known : (lists : EstateLists) (lines : List StatementLine) (asked : List AskedLine) (broken : Broken) → IsLawful lists → All IsWellLine lines → ends_found lists lines ≡ Ok asked →
+    first_broken lists asked ≡ Some broken → IsFirstBrokenLine lists lines broken
 unfolding first_broken
 first-known lists lines asked broken lawful well found is = first-is lists lines asked broken lawful well found is
 

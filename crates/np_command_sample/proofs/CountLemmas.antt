@@ -28,7 +28,8 @@ pub counted-more : (counts more : Counts) (row : Row) (rows all : List Row) → 
 counted-more counts more row rows all came is = ap (λ (c : Counts). counted c rows) is ∙ sym (counted-next counts row rows) ∙ ap (counted counts) (sym came)
 
 -- so as many are counted and to come as before
-pub few-more : (counts more : Counts) (row : Row) (rows all : List Row) (most : ℕ) → all ≡ row ∷ rows → more ≡ with_row counts row.key → row_count counts + length all ≤ most → row_count more + length rows ≤ most
+pub few-more : (counts more : Counts) (row : Row) (rows all : List Row) (most : ℕ) → all ≡ row ∷ rows → more ≡ with_row counts row.key → row_count counts + length all ≤ most →
+    row_count more + length rows ≤ most
 few-more counts more row rows all most came is few =
     let own : row_count more ≡ row_count counts + 1 = ap row_count is ∙ row_count-more counts row in
     let one : length all ≡ length rows + 1 = ap length came ∙ omega arith in

@@ -85,13 +85,15 @@ module _ (lists : EstateLists) (a b : Pod) where
 ties_decide : (x y : Traits) → Decides (is_eq (compare_traits x y)) (x ≡ y)
 ties_decide x y = Decides-like (is_eq (compare_traits x y)) (ties-equal x y).0 (ties-equal x y).1 (Equal-is (compare_traits x y))
 
-of_both-map : {K X : Type 0} (ask : K → K → Bool) (ask' : X → X → Bool) (f : X → K) → ((x y : X) → ask (f x) (f y) ≡ ask' x y) → (p q : Option X) → of_both ask (option_map f p) (option_map f q) ≡ of_both ask' p q
+of_both-map : {K X : Type 0} (ask : K → K → Bool) (ask' : X → X → Bool) (f : X → K) → ((x y : X) → ask (f x) (f y) ≡ ask' x y) → (p q : Option X) →
+    of_both ask (option_map f p) (option_map f q) ≡ of_both ask' p q
 of_both-map ask ask' f same None None = refl
 of_both-map ask ask' f same None (Some y) = refl
 of_both-map ask ask' f same (Some x) None = refl
 of_both-map ask ask' f same (Some x) (Some y) = same x y
 
-module _ (lists : EstateLists) (keys : List (List ℕ)) (same : (key : List ℕ) → is_listed keys key ≡ is_listed (keys_of_estate lists) key) (cidrs : List Cidr) (blocks : HaveSame cidrs (cidrs_of_estate lists)) where
+module _ (lists : EstateLists) (keys : List (List ℕ)) (same : (key : List ℕ) → is_listed keys key ≡ is_listed (keys_of_estate lists) key) (cidrs : List Cidr)
+    (blocks : HaveSame cidrs (cidrs_of_estate lists)) where
   -- pods are alike where their traits tie
   traits-tie : (a b : Pod) → is_eq (compare_traits (traits_of keys cidrs a) (traits_of keys cidrs b)) ≡ are_alike lists a b
   traits-tie a b =
@@ -103,7 +105,8 @@ module _ (lists : EstateLists) (keys : List (List ℕ)) (same : (key : List ℕ)
   kinds-tie : (owner : Owner) (a b : Pod) → is_eq (compare_traits (with_owner owner (traits_of keys cidrs a)) (with_owner owner (traits_of keys cidrs b))) ≡ are_same_kind lists a b
   kinds-tie owner a b =
       same_from_decides _ (are_same_kind lists a b)
-      (Decides-like _ (traits-same_kind lists keys same cidrs blocks a b owner).0 (traits-same_kind lists keys same cidrs blocks a b owner).1 (ties_decide (with_owner owner (traits_of keys cidrs a)) (with_owner owner (traits_of keys cidrs b))))
+      (Decides-like _ (traits-same_kind lists keys same cidrs blocks a b owner).0 (traits-same_kind lists keys same cidrs blocks a b owner).1
+      (ties_decide (with_owner owner (traits_of keys cidrs a)) (with_owner owner (traits_of keys cidrs b))))
       (kinds_decide lists a b)
 
   -- so the traits of all pods tie where the pods are alike

@@ -34,7 +34,8 @@ passing-from start test [] = tt
 passing-from {X} start test (x ∷ xs) = by (test x) (later start (passing (start + 1) test xs) (passing-from (start + 1) test xs))
   where
     by : (b : Bool) → AllByRecursion (λ place. start ≤ place) (passing (start + 1) test xs)
-        → AllByRecursion (λ place. start ≤ place) (map (λ (at : ℕ × X). at.0) (cond b ((start, x) ∷ filter (λ at. test at.1) (enumerate_from (start + 1) xs)) (filter (λ at. test at.1) (enumerate_from (start + 1) xs))))
+        → AllByRecursion (λ place. start ≤ place) (map (λ (at : ℕ × X). at.0)
+        (cond b ((start, x) ∷ filter (λ at. test at.1) (enumerate_from (start + 1) xs)) (filter (λ at. test at.1) (enumerate_from (start + 1) xs))))
     by true others = (omega arith, others)
     by false others = others
 

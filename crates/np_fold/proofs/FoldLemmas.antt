@@ -24,7 +24,8 @@ use Rattle.np_labels.specs.Selectors.{is_listed}
 use Rattle.np_names.specs.declared.named.Named.{Named}
 
 -- one more value of a function, at one more item
-pub one_more : {X Y : Type 0} (f : X → Y) (xs : List X) (i : ℕ) (d : X) (made : List Y) (y : Y) → i < length xs → made ≡ map f (take i xs) → y ≡ f (get_or xs i d) → made ++ y ∷ [] ≡ map f (take (i + 1) xs)
+pub one_more : {X Y : Type 0} (f : X → Y) (xs : List X) (i : ℕ) (d : X) (made : List Y) (y : Y) → i < length xs → made ≡ map f (take i xs) → y ≡ f (get_or xs i d) →
+    made ++ y ∷ [] ≡ map f (take (i + 1) xs)
 one_more f xs i d made y within so_far here = rw (so_far, here) (sym (map_more f xs i d within))
 
 -- relations with equal answers are one
@@ -40,7 +41,8 @@ owner_name-here lists place pod within is =
 
 -- ---- classes of pods
 
-module _ (lists : EstateLists) (keys : List (List ℕ)) (same : (key : List ℕ) → is_listed keys key ≡ is_listed (keys_of_estate lists) key) (cidrs : List Cidr) (blocks : HaveSame cidrs (cidrs_of_estate lists)) where
+module _ (lists : EstateLists) (keys : List (List ℕ)) (same : (key : List ℕ) → is_listed keys key ≡ is_listed (keys_of_estate lists) key) (cidrs : List Cidr)
+    (blocks : HaveSame cidrs (cidrs_of_estate lists)) where
   traits_alike : (traits : List Traits) → traits ≡ map (traits_of keys cidrs) lists.pods → keys_tie compare_traits traits ≡ pods_alike lists
   traits_alike traits is =
       ap (keys_tie compare_traits) is
@@ -52,7 +54,8 @@ module _ (lists : EstateLists) (keys : List (List ℕ)) (same : (key : List ℕ)
   pub classes-firsts : (traits : List Traits) → traits ≡ map (traits_of keys cidrs) lists.pods → firsts (keys_tie compare_traits traits) (length traits) ≡ first_pods lists
   classes-firsts traits is = rw (traits_alike traits is, traits_count traits is) refl
 
-  pub classes-numbers : (traits : List Traits) → traits ≡ map (traits_of keys cidrs) lists.pods → map (class_of (keys_tie compare_traits traits) (length traits)) (places (length traits)) ≡ classes_of_pods lists
+  pub classes-numbers : (traits : List Traits) → traits ≡ map (traits_of keys cidrs) lists.pods →
+      map (class_of (keys_tie compare_traits traits) (length traits)) (places (length traits)) ≡ classes_of_pods lists
   classes-numbers traits is = rw (traits_alike traits is, traits_count traits is) refl
 
 -- ---- numbers of pods
@@ -75,7 +78,8 @@ named-in lists firsts named is named_is = rw (is, named_is) (named-within lists)
 -- ---- kinds
 
 -- what is made for a thing whose first pod is there
-kind-here : (keys : List (List ℕ)) (cidrs : List Cidr) (pods : List Pod) (firsts : List ℕ) (one : Named) (pod : Pod) → one.place < length firsts → All (λ first. first < length pods) firsts → pod ≡ get_or pods (get_or firsts one.place 0) pod → Some (kind_traits keys cidrs pod) ≡ kind_at keys cidrs pods firsts one
+kind-here : (keys : List (List ℕ)) (cidrs : List Cidr) (pods : List Pod) (firsts : List ℕ) (one : Named) (pod : Pod) → one.place < length firsts → All (λ first. first < length pods) firsts →
+    pod ≡ get_or pods (get_or firsts one.place 0) pod → Some (kind_traits keys cidrs pod) ≡ kind_at keys cidrs pods firsts one
 kind-here keys cidrs pods firsts one pod known within is =
     let there : get_or firsts one.place 0 < length pods = All-get_or (λ first. first < length pods) firsts one.place 0 known within in
     ap (λ (p : Pod). Some (kind_traits keys cidrs p)) is
@@ -110,14 +114,17 @@ counts-agree f (x ∷ xs) (y ∷ made) is =
     let others : map Some made ≡ map f xs = cc in
     ap suc (counts-agree f xs made others)
 
-module _ (lists : EstateLists) (keys : List (List ℕ)) (same : (key : List ℕ) → is_listed keys key ≡ is_listed (keys_of_estate lists) key) (cidrs : List Cidr) (blocks : HaveSame cidrs (cidrs_of_estate lists))
+module _ (lists : EstateLists) (keys : List (List ℕ)) (same : (key : List ℕ) → is_listed keys key ≡ is_listed (keys_of_estate lists) key) (cidrs : List Cidr)
+    (blocks : HaveSame cidrs (cidrs_of_estate lists))
     (made : List Traits) (is : map Some made ≡ map (kind_at keys cidrs lists.pods (first_pods lists)) (named_first_pods lists)) where
   each : (number : ℕ) → slice_get made number ≡ option_map (kind_traits keys cidrs) (first_pod lists number)
   each number =
       value_at-number (kind_at keys cidrs lists.pods (first_pods lists)) (named_first_pods lists) made is number
       ∙ moved (slice_get (named_first_pods lists) number)
     where
-      moved : (one : Option Named) → option_and_then (kind_at keys cidrs lists.pods (first_pods lists)) one ≡ option_map (kind_traits keys cidrs) (option_and_then (λ (one : Named). slice_get lists.pods (get_or (first_pods lists) one.place 0)) one)
+      moved : (one : Option Named) →
+          option_and_then (kind_at keys cidrs lists.pods (first_pods lists)) one ≡ option_map (kind_traits keys cidrs)
+          (option_and_then (λ (one : Named). slice_get lists.pods (get_or (first_pods lists) one.place 0)) one)
       moved None = refl
       moved (Some one) = refl
 

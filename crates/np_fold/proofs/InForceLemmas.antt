@@ -8,7 +8,8 @@ use Rattle.std.proofs.lemmas.List.Folds.{list_any-append}
 use Rattle.np_model.specs.declared.lists.EstateLists.{EstateLists}
 use Rattle.np_fold.specs.InForce as force
 use Rattle.np_fold.specs.InForce.{IsInForce, IsNamed, IsOfAdmin, IsOfAdminPeer, IsOfAdminRules, IsOfNetDirection, IsOfNetPeer, IsOfNetPolicy, IsOfNetRule}
-use Rattle.np_fold.specs.Keys.{keys_of_admin_peer, keys_of_admin_policy, keys_of_admin_rule, keys_of_baseline, keys_of_estate, keys_of_net_direction, keys_of_net_peer, keys_of_net_policy, keys_of_net_rule, keys_of_optional, keys_of_selector, keys_of_service, keys_of_subject}
+use Rattle.np_fold.specs.Keys.{keys_of_admin_peer, keys_of_admin_policy, keys_of_admin_rule, keys_of_baseline, keys_of_estate, keys_of_net_direction, keys_of_net_peer, keys_of_net_policy}
+use Rattle.np_fold.specs.Keys.{keys_of_net_rule, keys_of_optional, keys_of_selector, keys_of_service, keys_of_subject}
 use Rattle.np_labels.specs.Selectors.{is_listed}
 use Rattle.np_labels.specs.declared.selector.Selector.{Selector}
 use Rattle.np_model.specs.declared.admin_policy.AdminPeer.{AdminPeer}
@@ -80,7 +81,8 @@ module _ (key : List ℕ) where
       first (inl one) = record { selector = policy.subject; is = force.IsOfNetPolicy.subject refl; names = one }
       first (inr other) = again (λ selector has. force.IsOfNetPolicy.ingress has) (net_direction policy.ingress other)
 
-      go : (is_listed (keys_of_selector policy.subject ++ keys_of_net_direction policy.ingress) key ≡ true) ⊎ (is_listed (keys_of_net_direction policy.egress) key ≡ true) → Found (λ selector. IsOfNetPolicy selector policy)
+      go : (is_listed (keys_of_selector policy.subject ++ keys_of_net_direction policy.ingress) key ≡ true) ⊎ (is_listed (keys_of_net_direction policy.egress) key ≡ true) →
+          Found (λ selector. IsOfNetPolicy selector policy)
       go (inl one) = first (halves key (keys_of_selector policy.subject) (keys_of_net_direction policy.ingress) one)
       go (inr other) = again (λ selector has. force.IsOfNetPolicy.egress has) (net_direction policy.egress other)
 
@@ -98,7 +100,8 @@ module _ (key : List ℕ) where
       let inner = somewhere keys_of_admin_peer key found.item.peers found.has in
       again (λ selector has. record { rule = found.item; listed = found.listed; peer = inner.item; listed_peer = inner.listed; has = has }) (admin_peer inner.item inner.has)
 
-  admin_policy : (subject : Subject) (ingress egress : List AdminRule) → is_listed (keys_of_subject subject ++ flat_map keys_of_admin_rule ingress ++ flat_map keys_of_admin_rule egress) key ≡ true → Found (λ selector. IsOfAdmin selector subject ingress egress)
+  admin_policy : (subject : Subject) (ingress egress : List AdminRule) → is_listed (keys_of_subject subject ++ flat_map keys_of_admin_rule ingress ++ flat_map keys_of_admin_rule egress) key ≡ true →
+      Found (λ selector. IsOfAdmin selector subject ingress egress)
   admin_policy subject ingress egress is = go (halves key (keys_of_subject subject ++ flat_map keys_of_admin_rule ingress) (flat_map keys_of_admin_rule egress) is)
     where
       of_subject : (is_listed (keys_of_selector subject.namespaces) key ≡ true) ⊎ (is_listed (keys_of_selector subject.pods) key ≡ true) → Found (λ selector. IsOfAdmin selector subject ingress egress)
@@ -109,16 +112,19 @@ module _ (key : List ℕ) where
       first (inl one) = of_subject (halves key (keys_of_selector subject.namespaces) (keys_of_selector subject.pods) one)
       first (inr other) = again (λ selector has. force.IsOfAdmin.ingress_rule has) (admin_rules ingress other)
 
-      go : (is_listed (keys_of_subject subject ++ flat_map keys_of_admin_rule ingress) key ≡ true) ⊎ (is_listed (flat_map keys_of_admin_rule egress) key ≡ true) → Found (λ selector. IsOfAdmin selector subject ingress egress)
+      go : (is_listed (keys_of_subject subject ++ flat_map keys_of_admin_rule ingress) key ≡ true) ⊎ (is_listed (flat_map keys_of_admin_rule egress) key ≡ true) →
+          Found (λ selector. IsOfAdmin selector subject ingress egress)
       go (inl one) = first (halves key (keys_of_subject subject) (flat_map keys_of_admin_rule ingress) one)
       go (inr other) = again (λ selector has. force.IsOfAdmin.egress_rule has) (admin_rules egress other)
 
-  base_policy : (baseline : Option BasePolicy) → is_listed (keys_of_baseline baseline) key ≡ true → Found (λ selector. (policy : BasePolicy) × (baseline ≡ Some policy) × IsOfAdmin selector policy.subject policy.ingress policy.egress)
+  base_policy : (baseline : Option BasePolicy) → is_listed (keys_of_baseline baseline) key ≡ true →
+      Found (λ selector. (policy : BasePolicy) × (baseline ≡ Some policy) × IsOfAdmin selector policy.subject policy.ingress policy.egress)
   base_policy None is = absurd (false≢true is)
   base_policy (Some policy) is = again (λ selector has. (policy, refl, has)) (admin_policy policy.subject policy.ingress policy.egress is)
 
   pub named-somewhere : (lists : EstateLists) → is_listed (keys_of_estate lists) key ≡ true → IsNamed lists key
-  named-somewhere lists is = done (last (halves key (flat_map keys_of_net_policy lists.net_policies ++ flat_map keys_of_admin_policy lists.admin_policies ++ keys_of_baseline lists.baseline) (flat_map keys_of_service lists.services) is))
+  named-somewhere lists is = done (last (halves key (flat_map keys_of_net_policy lists.net_policies ++ flat_map keys_of_admin_policy lists.admin_policies ++ keys_of_baseline lists.baseline)
+      (flat_map keys_of_service lists.services) is))
     where
       done : Found (λ selector. IsInForce lists selector) → IsNamed lists key
       done found = record { selector = found.selector; in_force = found.is; names = found.names }
@@ -132,14 +138,19 @@ module _ (key : List ℕ) where
       of_service : Where keys_of_service lists.services key → Found (λ selector. IsInForce lists selector)
       of_service found = again (λ selector given. force.IsInForce.of_service found.item found.listed given) (optional found.item.selector found.has)
 
-      first : (is_listed (flat_map keys_of_net_policy lists.net_policies) key ≡ true) ⊎ (is_listed (flat_map keys_of_admin_policy lists.admin_policies) key ≡ true) → Found (λ selector. IsInForce lists selector)
+      first : (is_listed (flat_map keys_of_net_policy lists.net_policies) key ≡ true) ⊎ (is_listed (flat_map keys_of_admin_policy lists.admin_policies) key ≡ true) →
+          Found (λ selector. IsInForce lists selector)
       first (inl one) = of_net (somewhere keys_of_net_policy key lists.net_policies one)
       first (inr other) = of_admin (somewhere keys_of_admin_policy key lists.admin_policies other)
 
-      second : (is_listed (flat_map keys_of_net_policy lists.net_policies ++ flat_map keys_of_admin_policy lists.admin_policies) key ≡ true) ⊎ (is_listed (keys_of_baseline lists.baseline) key ≡ true) → Found (λ selector. IsInForce lists selector)
+      second : (is_listed (flat_map keys_of_net_policy lists.net_policies ++ flat_map keys_of_admin_policy lists.admin_policies) key ≡ true) ⊎
+          (is_listed (keys_of_baseline lists.baseline) key ≡ true) →
+          Found (λ selector. IsInForce lists selector)
       second (inl one) = first (halves key (flat_map keys_of_net_policy lists.net_policies) (flat_map keys_of_admin_policy lists.admin_policies) one)
       second (inr other) = again (λ selector of. force.IsInForce.of_baseline of.0 of.1 of.2) (base_policy lists.baseline other)
 
-      last : (is_listed (flat_map keys_of_net_policy lists.net_policies ++ flat_map keys_of_admin_policy lists.admin_policies ++ keys_of_baseline lists.baseline) key ≡ true) ⊎ (is_listed (flat_map keys_of_service lists.services) key ≡ true) → Found (λ selector. IsInForce lists selector)
+      last : (is_listed (flat_map keys_of_net_policy lists.net_policies ++ flat_map keys_of_admin_policy lists.admin_policies ++ keys_of_baseline lists.baseline) key ≡ true) ⊎
+          (is_listed (flat_map keys_of_service lists.services) key ≡ true) →
+          Found (λ selector. IsInForce lists selector)
       last (inl one) = second (halves key (flat_map keys_of_net_policy lists.net_policies ++ flat_map keys_of_admin_policy lists.admin_policies) (keys_of_baseline lists.baseline) one)
       last (inr other) = of_service (somewhere keys_of_service key lists.services other)

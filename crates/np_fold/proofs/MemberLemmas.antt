@@ -1,5 +1,6 @@
 -- Steps of a folding: workloads by name, with their members.
-use Rattle.std.proofs.Common.{◌≡◌, ◌≢◌, ℕ, zero, suc, ◌+◌, ◌<◌, List, [], ◌∷◌, ◌++◌, map, length, get_or, take, slice_get, false, nat_lt, if◌then◌else◌, Option, Some, None, Less, Equal, All, refl, sym, ap, subst, ◌∙◌, arith}
+use Rattle.std.proofs.Common.{◌≡◌, ◌≢◌, ℕ, zero, suc, ◌+◌, ◌<◌, List, [], ◌∷◌, ◌++◌, map, length, get_or, take, slice_get, false, nat_lt, if◌then◌else◌, Option, Some, None, Less, Equal, All, refl}
+use Rattle.std.proofs.Common.{sym, ap, subst, ◌∙◌, arith}
 use Rattle.std.proofs.lemmas.Bool.{false_from_ne_true}
 use Rattle.std.proofs.lemmas.List.{length-map, map-append}
 use Rattle.std.proofs.lemmas.List.Elements.{All-from_recursion, recursion_from_All}
@@ -24,7 +25,8 @@ use Rattle.np_names.specs.declared.named.Named.{Named}
 
 -- ---- the workload of a name
 
-first-by_name : (name : List ℕ) (entries : List (String Global × List ℕ)) → position_or_len (λ key. bytes_eq name (string_bytes key)) (keys_of entries) ≡ position_or_len (λ one. bytes_eq one.name name) (map workload_of_entry entries)
+first-by_name : (name : List ℕ) (entries : List (String Global × List ℕ)) →
+    position_or_len (λ key. bytes_eq name (string_bytes key)) (keys_of entries) ≡ position_or_len (λ one. bytes_eq one.name name) (map workload_of_entry entries)
 first-by_name name [] = refl
 first-by_name name (entry ∷ entries) = rw (nat_list_eq_equiv.symm name (string_bytes entry.0), first-by_name name entries) refl
 
@@ -33,26 +35,31 @@ abbrev below : ℕ → ℕ → Option ℕ
 below place count = if nat_lt place count then Some place else None
 
 -- the first entry of a name is the first workload of it
-position-by_name : (name : List ℕ) (entries : List (String Global × List ℕ)) → position (λ key. bytes_eq name (string_bytes key)) (keys_of entries) ≡ position (λ one. bytes_eq one.name name) (map workload_of_entry entries)
+position-by_name : (name : List ℕ) (entries : List (String Global × List ℕ)) →
+    position (λ key. bytes_eq name (string_bytes key)) (keys_of entries) ≡ position (λ one. bytes_eq one.name name) (map workload_of_entry entries)
 position-by_name name entries =
     ap (λ (count : ℕ). below (position_or_len (λ key. bytes_eq name (string_bytes key)) (keys_of entries)) count) (length-map entries (λ entry. entry.0) ∙ sym (length-map entries workload_of_entry))
     ∙ ap (λ (place : ℕ). below place (length (map workload_of_entry entries))) (first-by_name name entries)
 
-pub number-by_name : (name : List ℕ) (folding : Folding) (entries : List (String Global × List ℕ)) → map workload_of_entry entries ≡ folding.workloads → position (λ key. bytes_eq name (string_bytes key)) (keys_of entries) ≡ number_named folding name
+pub number-by_name : (name : List ℕ) (folding : Folding) (entries : List (String Global × List ℕ)) → map workload_of_entry entries ≡ folding.workloads →
+    position (λ key. bytes_eq name (string_bytes key)) (keys_of entries) ≡ number_named folding name
 number-by_name name folding entries is = position-by_name name entries ∙ ap (position (λ (one : Workload). bytes_eq one.name name)) is
 
 -- ---- a new name goes last
 
-entry-last : (entries : List (String Global × List ℕ)) (key : String Global) (members : List ℕ) → AllByRecursion (λ one. one.name ≢ string_bytes key) (map workload_of_entry entries) → insert_entry string_eq entries key members ≡ entries ++ (key, members) ∷ []
+entry-last : (entries : List (String Global × List ℕ)) (key : String Global) (members : List ℕ) → AllByRecursion (λ one. one.name ≢ string_bytes key) (map workload_of_entry entries) →
+    insert_entry string_eq entries key members ≡ entries ++ (key, members) ∷ []
 entry-last [] key members new = refl
 entry-last (entry ∷ entries) key members new =
     let other : string_eq key entry.0 ≡ false = false_from_ne_true _ (λ tied. new.0 (sym ((bytes_decides (string_bytes key) (string_bytes entry.0)).0 tied))) in
     rw (other, entry-last entries key members new.1) refl
 
-pub workload-last : (before after : List (String Global × List ℕ)) (key : String Global) (name members : List ℕ) → string_bytes key ≡ name → All (λ one. one.name ≢ name) (map workload_of_entry before) → after ≡ insert_entry string_eq before key members
+pub workload-last : (before after : List (String Global × List ℕ)) (key : String Global) (name members : List ℕ) → string_bytes key ≡ name →
+    All (λ one. one.name ≢ name) (map workload_of_entry before) → after ≡ insert_entry string_eq before key members
     → map workload_of_entry after ≡ map workload_of_entry before ++ workload_of name members ∷ []
 workload-last before after key name members is new put =
-    let other : AllByRecursion (λ one. one.name ≢ string_bytes key) (map workload_of_entry before) = subst (λ (text : List ℕ). AllByRecursion (λ one. one.name ≢ text) (map workload_of_entry before)) (sym is) (recursion_from_All (λ (one : Workload). one.name ≢ name) (map workload_of_entry before) new) in
+    let other : AllByRecursion (λ one. one.name ≢ string_bytes key) (map workload_of_entry before) = subst (λ (text : List ℕ). AllByRecursion (λ one. one.name ≢ text) (map workload_of_entry before))
+    (sym is) (recursion_from_All (λ (one : Workload). one.name ≢ name) (map workload_of_entry before) new) in
     ap (map workload_of_entry) (put ∙ entry-last before key members other)
     ∙ map-append workload_of_entry before ((key, members) ∷ [])
     ∙ ap (λ (text : List ℕ). map workload_of_entry before ++ workload_of text members ∷ []) is
@@ -60,13 +67,15 @@ workload-last before after key name members is new put =
 -- ---- workloads in the order of their names
 
 -- names of an ascending list stand below those after them
-below-later : (name : List ℕ) (pairs : List (Named × List ℕ)) (i : ℕ) (one : Named × List ℕ) → AllByRecursion (λ other. slice_cmp nat_cmp name other ≡ Less) (map (λ pair. pair.0.name) pairs) → i < length pairs → slice_cmp nat_cmp name (get_or pairs i one).0.name ≡ Less
+below-later : (name : List ℕ) (pairs : List (Named × List ℕ)) (i : ℕ) (one : Named × List ℕ) → AllByRecursion (λ other. slice_cmp nat_cmp name other ≡ Less) (map (λ pair. pair.0.name) pairs) →
+    i < length pairs → slice_cmp nat_cmp name (get_or pairs i one).0.name ≡ Less
 below-later name [] i one below within = absurd (omega arith)
 below-later name (pair ∷ pairs) zero one below within = below.0
 below-later name (pair ∷ pairs) (suc i) one below within = below-later name pairs i one below.1 (omega arith)
 
 -- so each is new
-name-new : (pairs : List (Named × List ℕ)) (i : ℕ) (one : Named × List ℕ) → IsStrictlySortedBy (slice_cmp nat_cmp) (map (λ pair. pair.0.name) pairs) → i < length pairs → one ≡ get_or pairs i one → AllByRecursion (λ other. other.name ≢ one.0.name) (map workload_of_pair (take i pairs))
+name-new : (pairs : List (Named × List ℕ)) (i : ℕ) (one : Named × List ℕ) → IsStrictlySortedBy (slice_cmp nat_cmp) (map (λ pair. pair.0.name) pairs) → i < length pairs → one ≡ get_or pairs i one →
+    AllByRecursion (λ other. other.name ≢ one.0.name) (map workload_of_pair (take i pairs))
 unfolding IsStrictlySortedBy
 name-new [] i one ascending within is = absurd (omega arith)
 name-new (pair ∷ pairs) zero one ascending within is = tt
@@ -95,27 +104,33 @@ pub members-count : (numbers : List ℕ) (named items : List Named) (members : L
 members-count numbers named items members are is = ap length are ∙ length-map-range_with_len (numbered numbers) 0 (length items) ∙ ap length is
 
 -- one more workload
-pub workloads-more : (so_far : List (Named × List ℕ)) (one : Named) (members : List ℕ) (workloads : List Workload) → workloads ≡ map workload_of_pair so_far → workloads ++ workload_of one.name members ∷ [] ≡ map workload_of_pair (so_far ++ (one, members) ∷ [])
+pub workloads-more : (so_far : List (Named × List ℕ)) (one : Named) (members : List ℕ) (workloads : List Workload) → workloads ≡ map workload_of_pair so_far →
+    workloads ++ workload_of one.name members ∷ [] ≡ map workload_of_pair (so_far ++ (one, members) ∷ [])
 workloads-more so_far one members workloads are = rw are (sym (map-append workload_of_pair so_far ((one, members) ∷ [])))
 
 -- the next name is none of those so far
-pub next-new : (named : List Named) (members : List (List ℕ)) (so_far : List (Named × List ℕ)) (workloads : List Workload) (one : Named × List ℕ) → IsStrictlySortedBy (slice_cmp nat_cmp) (map (λ other. other.name) named) → length members ≡ length named
-    → workloads ≡ map workload_of_pair so_far → map (λ (pair : Named × List ℕ). (pair.0, pair.1)) so_far ≡ take (length so_far) (zip named members) → length so_far < length (zip named members) → one ≡ get_or (zip named members) (length so_far) one
+pub next-new : (named : List Named) (members : List (List ℕ)) (so_far : List (Named × List ℕ)) (workloads : List Workload) (one : Named × List ℕ) →
+    IsStrictlySortedBy (slice_cmp nat_cmp) (map (λ other. other.name) named) → length members ≡ length named
+    → workloads ≡ map workload_of_pair so_far → map (λ (pair : Named × List ℕ). (pair.0, pair.1)) so_far ≡ take (length so_far) (zip named members) → length so_far < length (zip named members) → one
+    ≡ get_or (zip named members) (length so_far) one
     → All (λ other. other.name ≢ one.0.name) workloads
 next-new named members so_far workloads one ascending count made taken within is =
     let pairs : IsStrictlySortedBy (slice_cmp nat_cmp) (map (λ (pair : Named × List ℕ). pair.0.name) (zip named members)) = rw (names-zip named members count) ascending in
     let before : workloads ≡ map workload_of_pair (take (length so_far) (zip named members)) = made ∙ ap (map workload_of_pair) (sym (pairs-same so_far) ∙ taken) in
     subst (All (λ other. other.name ≢ one.0.name)) (sym before)
-    (All-from_recursion (λ (other : Workload). other.name ≢ one.0.name) (map workload_of_pair (take (length so_far) (zip named members))) (name-new (zip named members) (length so_far) one pairs within is))
+    (All-from_recursion (λ (other : Workload). other.name ≢ one.0.name) (map workload_of_pair (take (length so_far) (zip named members)))
+    (name-new (zip named members) (length so_far) one pairs within is))
 
 -- ---- all workloads
 
-zip-places : {X Y Z : Type 0} (f : ℕ → Y) (g : X → Z) (h : X × Y → Z) (xs : List X) (start : ℕ) → ((i place : ℕ) (x : X) → slice_get xs i ≡ Some x → place ≡ start + i → h (x, f place) ≡ g x) → map h (zip xs (map f (range_with_len start (length xs)))) ≡ map g xs
+zip-places : {X Y Z : Type 0} (f : ℕ → Y) (g : X → Z) (h : X × Y → Z) (xs : List X) (start : ℕ) → ((i place : ℕ) (x : X) → slice_get xs i ≡ Some x → place ≡ start + i → h (x, f place) ≡ g x) →
+    map h (zip xs (map f (range_with_len start (length xs)))) ≡ map g xs
 zip-places f g h [] start each = refl
 zip-places f g h (x ∷ xs) start each =
     rw (each 0 start x refl (omega arith), zip-places f g h xs (start + 1) (λ i place y at is. each (suc i) place y at (omega (arith, is)))) refl
 
-pub workloads-are : (lists : EstateLists) → map workload_of_pair (zip (named_first_pods lists) (map (numbered (map (number_of lists) (places (length lists.pods)))) (places (length (named_first_pods lists))))) ≡ workloads_of lists
+pub workloads-are : (lists : EstateLists) →
+    map workload_of_pair (zip (named_first_pods lists) (map (numbered (map (number_of lists) (places (length lists.pods)))) (places (length (named_first_pods lists))))) ≡ workloads_of lists
 unfolding workloads_of
 workloads-are lists =
     zip-places (numbered (map (number_of lists) (places (length lists.pods)))) (workload lists) workload_of_pair (named_first_pods lists) 0

@@ -116,7 +116,8 @@ module _ (lists : EstateLists) where
 
   -- ---- the named one at a number
 
-  at-number : (number : ℕ) (one : Named) → slice_get (named_first_pods lists) number ≡ Some one → (one ≡ named (owner_names lists) one.place) × (one.place < length (owner_names lists)) × (position_or_len (λ other. other.place == one.place) (named_first_pods lists) ≡ number)
+  at-number : (number : ℕ) (one : Named) → slice_get (named_first_pods lists) number ≡ Some one →
+      (one ≡ named (owner_names lists) one.place) × (one.place < length (owner_names lists)) × (position_or_len (λ other. other.place == one.place) (named_first_pods lists) ≡ number)
   at-number number one at =
       number-of-one (owner_names lists) number one (omega (arith, slice_get_within (named_first_pods lists) number one at, length-all_by_name (owner_names lists))) at
 
@@ -133,14 +134,16 @@ module _ (lists : EstateLists) where
       ∙ ap (λ (n : ℕ). position_or_len (λ other. other.place == n) (named_first_pods lists)) (eqb-true one.place (class place) same)
       ∙ sym (number-rank place within)))
       (λ same.
-      let here : Some one ≡ Some (named (owner_names lists) (class place)) = sym at ∙ ap (slice_get (named_first_pods lists)) (eqb-true number (number_of lists place) same) ∙ named-number place within in
+      let here : Some one ≡ Some (named (owner_names lists) (class place)) = sym at ∙ ap (slice_get (named_first_pods lists)) (eqb-true number (number_of lists place) same)
+      ∙ named-number place within in
       let one_is : one ≡ named (owner_names lists) (class place) = cc in
       eq-eqb one.place (class place) (ap (λ (other : Named). other.place) one_is))
 
   -- ---- members
 
   -- the pods of a workload are those of its number
-  pub members-by_number : (number : ℕ) (one : Named) → slice_get (named_first_pods lists) number ≡ Some one → pods_like lists (first_of lists one) ≡ numbered (map (number_of lists) (places count)) number
+  pub members-by_number : (number : ℕ) (one : Named) → slice_get (named_first_pods lists) number ≡ Some one →
+      pods_like lists (first_of lists one) ≡ numbered (map (number_of lists) (places count)) number
   unfolding members
   members-by_number number one at =
       filter_agree_on (pods_alike lists (first_of lists one)) (λ place. slice_index (map (number_of lists) (places count)) place == number) (places count)

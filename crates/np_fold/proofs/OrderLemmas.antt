@@ -47,11 +47,19 @@ protos Sctp Sctp same = refl
 
 owners : TiesOnlyEqual compare_owners
 owners x y ties =
-    rw (texts x.kind y.kind (first_ties (compare_texts x.kind y.kind) (compare_texts x.name y.name) ties), texts x.name y.name (second_ties (compare_texts x.kind y.kind) (compare_texts x.name y.name) ties)) refl
+    rw (
+      texts x.kind y.kind (first_ties (compare_texts x.kind y.kind) (compare_texts x.name y.name) ties),
+      texts x.name y.name
+          (second_ties (compare_texts x.kind y.kind) (compare_texts x.name y.name) ties),
+    ) refl
 
 labels : TiesOnlyEqual compare_labels
 labels x y ties =
-    rw (texts x.key y.key (first_ties (compare_texts x.key y.key) (compare_texts x.value y.value) ties), texts x.value y.value (second_ties (compare_texts x.key y.key) (compare_texts x.value y.value) ties)) refl
+    rw (
+      texts x.key y.key (first_ties (compare_texts x.key y.key) (compare_texts x.value y.value) ties),
+      texts x.value y.value
+          (second_ties (compare_texts x.key y.key) (compare_texts x.value y.value) ties),
+    ) refl
 
 ports : TiesOnlyEqual compare_ports
 ports x y ties =
@@ -59,7 +67,12 @@ ports x y ties =
     let proto : Ordering = nat_cmp (rank x.proto) (rank y.proto) in
     let number : Ordering = nat_cmp x.number y.number in
     let before : ordering_then name proto ≡ Equal = first_ties (ordering_then name proto) number ties in
-    rw (texts x.name y.name (first_ties name proto before), protos x.proto y.proto (numbers (rank x.proto) (rank y.proto) (second_ties name proto before)), numbers x.number y.number (second_ties (ordering_then name proto) number ties)) refl
+    rw (
+      texts x.name y.name (first_ties name proto before),
+      protos x.proto y.proto (numbers (rank x.proto) (rank y.proto) (second_ties name proto before)),
+      numbers x.number y.number
+          (second_ties (ordering_then name proto) number ties),
+    ) refl
 
 only_equal : TiesOnlyEqual compare_traits
 only_equal x y ties =

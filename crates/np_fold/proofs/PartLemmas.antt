@@ -90,7 +90,8 @@ kinds-few lists made few is = omega (arith, few, ap length is, length-firsts (ki
 -- ---- all parts
 
 pub folding-is : (lists : EstateLists) (workloads : List Workload) (numbers kinds first : List ℕ) (relevant : List (List ℕ))
-    → workloads ≡ workloads_of lists → numbers ≡ map (number_of lists) (places (length lists.pods)) → kinds ≡ kinds_of_workloads lists → first ≡ first_kinds lists → relevant ≡ with_keys [] (keys_of_estate lists)
+    → workloads ≡ workloads_of lists → numbers ≡ map (number_of lists) (places (length lists.pods)) → kinds ≡ kinds_of_workloads lists → first ≡ first_kinds lists → relevant ≡ with_keys []
+    (keys_of_estate lists)
     → (let folding : Folding = record { workloads = workloads; numbers = numbers; kinds = kinds; kind_count = length first; first_of_kinds = first; relevant = relevant } in folding) ≡ folding_of lists
 unfolding folding_of
 folding-is lists workloads numbers kinds first relevant a b c d e = rw (a, b, c, d, e) refl

@@ -16,7 +16,8 @@ use Rattle.np_fold.proofs.LabelLemmas.{labels-from_values, values-from_labels}
 use Rattle.np_labels.specs.Selectors.{is_listed}
 use Rattle.np_model.specs.declared.owner.Owner.{Owner}
 
-module _ (lists : EstateLists) (keys : List (List ℕ)) (same : (key : List ℕ) → is_listed keys key ≡ is_listed (keys_of_estate lists) key) (cidrs : List Cidr) (blocks : HaveSame cidrs (cidrs_of_estate lists)) (a b : Pod) where
+module _ (lists : EstateLists) (keys : List (List ℕ)) (same : (key : List ℕ) → is_listed keys key ≡ is_listed (keys_of_estate lists) key) (cidrs : List Cidr)
+    (blocks : HaveSame cidrs (cidrs_of_estate lists)) (a b : Pod) where
   to_kind : (owner : Owner) → with_owner owner (traits_of keys cidrs a) ≡ with_owner owner (traits_of keys cidrs b) → IsSameKind lists a b
   to_kind owner equal = record {
     namespace = ap (λ (t : Traits). t.namespace) equal;
@@ -28,7 +29,8 @@ module _ (lists : EstateLists) (keys : List (List ℕ)) (same : (key : List ℕ)
   from_kind : (owner : Owner) → IsSameKind lists a b → with_owner owner (traits_of keys cidrs a) ≡ with_owner owner (traits_of keys cidrs b)
   from_kind owner kind =
       let labels : filter_map (label_of a.labels) keys ≡ filter_map (label_of b.labels) keys = labels-from_values a.labels b.labels keys (λ key here. kind.labels key (sym (same key) ∙ here)) in
-      let places : blocks_of cidrs a.addresses ≡ blocks_of cidrs b.addresses = blocks-from_agree cidrs (cidrs_of_estate lists) blocks (is_in a.addresses) (is_in b.addresses) (recursion_from_All _ (cidrs_of_estate lists) kind.blocks) in
+      let places : blocks_of cidrs a.addresses ≡ blocks_of cidrs b.addresses = blocks-from_agree cidrs (cidrs_of_estate lists) blocks (is_in a.addresses) (is_in b.addresses)
+      (recursion_from_All _ (cidrs_of_estate lists) kind.blocks) in
       rw (kind.namespace, labels, kind.ports, places) refl
 
   pub traits-same_kind : (owner : Owner) → (with_owner owner (traits_of keys cidrs a) ≡ with_owner owner (traits_of keys cidrs b)) ↔ IsSameKind lists a b

@@ -1,5 +1,6 @@
 -- What follows of workloads.
-use Rattle.std.proofs.Common.{◌≡◌, ◌↔◌, ℕ, zero, suc, ◌+◌, ◌^◌, ◌<◌, ◌==◌, List, [], ◌∷◌, map, length, get_or, slice_get, Bool, true, false, cond, Option, Some, None, Less, refl, sym, ap, subst, ◌∙◌, arith}
+use Rattle.std.proofs.Common.{◌≡◌, ◌↔◌, ℕ, zero, suc, ◌+◌, ◌^◌, ◌<◌, ◌==◌, List, [], ◌∷◌, map, length, get_or, slice_get, Bool, true, false, cond, Option, Some, None, Less, refl, sym, ap, subst, ◌∙◌}
+use Rattle.std.proofs.Common.{arith}
 use Rattle.std.specs.Prelude.{All, IsSomeAnd, filter}
 use Rattle.std.specs.Cmp.Lexicographic.{slice_cmp}
 use Rattle.std.specs.List.{AllByRecursion, find, position_or_len, range_with_len}
@@ -20,7 +21,8 @@ use Rattle.np_classes.proofs.Relations.{alike_in_class, same_class}
 use Rattle.np_model.specs.declared.lists.EstateLists.{EstateLists}
 use Rattle.np_model.specs.declared.pod.Pod.{Pod}
 use Rattle.np_fold.specs.Alike.{Alike, IsSameKind, are_alike, are_same_kind}
-use Rattle.np_fold.specs.Workloads.{Workload, first_of, first_pod, first_pods, folding_of, has_member, kinds_alike, members_of, named_first_pods, number_of, owner_names, pods_alike, pods_like, workload, workload_count, workloads_of}
+use Rattle.np_fold.specs.Workloads.{Workload, first_of, first_pod, first_pods, folding_of, has_member, kinds_alike, members_of, named_first_pods, number_of, owner_names, pods_alike, pods_like}
+use Rattle.np_fold.specs.Workloads.{workload, workload_count, workloads_of}
 use Rattle.np_fold.proofs.AlikeLemmas.{alike_decide, alike-is, kinds_decide, kinds-are, slice_get-some}
 use Rattle.np_fold.proofs.NumberLemmas.{count-is, first-within, has_member-is, named-number, names-strict, number-is, number-rank, number-within, place-within}
 use Rattle.np_names.specs.Names.{named}
@@ -108,14 +110,16 @@ module _ (lists : EstateLists) where
 
     alike-of_one : number_of lists place ≡ number_of lists place' → Alike lists a b
     alike-of_one same =
-        let named_same : Some (named (owner_names lists) (class place)) ≡ Some (named (owner_names lists) (class place')) = sym (named-number lists place in_a) ∙ ap (slice_get (named_first_pods lists)) same ∙ named-number lists place' in_b in
+        let named_same : Some (named (owner_names lists) (class place)) ≡ Some (named (owner_names lists) (class place')) = sym (named-number lists place in_a) ∙ ap
+        (slice_get (named_first_pods lists)) same ∙ named-number lists place' in_b in
         let classes : class place ≡ class place' = ap (λ (found : Option Named). option_map_or (λ one. one.place) found 0) named_same in
         (alike_decide lists a b).0 (sym asked ∙ alike_in_class (pods_alike lists) count (alike-is lists) place place' in_a in_b classes)
 
     one-of_alike : Alike lists a b → number_of lists place ≡ number_of lists place'
     one-of_alike alike =
         number-rank lists place in_a
-        ∙ ap (λ (n : ℕ). position_or_len (λ one. one.place == n) (named_first_pods lists)) (same_class (pods_alike lists) count (alike-is lists) place place' in_a in_b (asked ∙ (alike_decide lists a b).1 alike))
+        ∙ ap (λ (n : ℕ). position_or_len (λ one. one.place == n) (named_first_pods lists))
+        (same_class (pods_alike lists) count (alike-is lists) place place' in_a in_b (asked ∙ (alike_decide lists a b).1 alike))
         ∙ sym (number-rank lists place' in_b)
 
     pub one_workload : (number_of lists place ≡ number_of lists place') ↔ Alike lists a b
@@ -182,7 +186,8 @@ module _ (lists : EstateLists) where
   pub first-is : (number : ℕ) → number < length (workloads_of lists) → IsSomeAnd (slice_get (members_of (folding_of lists) number) 0) (λ first. slice_get lists.pods first ≡ first_pod lists number)
   first-is number within =
       let (thing, found, is) = members-at number within in
-      let head : slice_get (members_of (folding_of lists) number) 0 ≡ Some (first_of lists thing) = ap (λ (pods : List ℕ). slice_get pods 0) is ∙ first-member thing (place-within lists number thing found) in
+      let head : slice_get (members_of (folding_of lists) number) 0 ≡ Some (first_of lists thing) = ap (λ (pods : List ℕ). slice_get pods 0) is ∙ first-member thing
+      (place-within lists number thing found) in
       subst (λ (found : Option ℕ). IsSomeAnd found (λ first. slice_get lists.pods first ≡ first_pod lists number)) (sym head)
       (sym (ap (option_and_then (λ one. slice_get lists.pods (first_of lists one))) found))
 
@@ -203,7 +208,8 @@ module _ (lists : EstateLists) where
   first_pod-within : (number : ℕ) (pod : Pod) → first_pod lists number ≡ Some pod → number < workload_count lists
   first_pod-within number pod is = by (slice_get (named_first_pods lists) number) refl is
     where
-      by : (found : Option Named) → slice_get (named_first_pods lists) number ≡ found → option_and_then (λ one. slice_get lists.pods (first_of lists one)) found ≡ Some pod → number < workload_count lists
+      by : (found : Option Named) → slice_get (named_first_pods lists) number ≡ found → option_and_then (λ one. slice_get lists.pods (first_of lists one)) found ≡ Some pod →
+          number < workload_count lists
       by None at same = absurd (none-some pod same)
       by (Some thing) at same = omega (arith, slice_get_within (named_first_pods lists) number thing at, count-is lists)
 

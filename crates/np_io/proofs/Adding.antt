@@ -36,12 +36,14 @@ same_places held place old new other at_place alike =
     position_from-set (is_named other) 0 held place old new at_place (ap (λ name. bytes_eq name other) alike)
 
 -- the name then has the new bytes
-pub replaced_here : (held : List Held) (name : List ℕ) (place : ℕ) (old new : Held) → place_of held name ≡ Some place → slice_get held place ≡ Some old → new.name ≡ old.name → option_map_or (bytes_at (set held place new)) (place_of (set held place new) name) [] ≡ new.bytes
+pub replaced_here : (held : List Held) (name : List ℕ) (place : ℕ) (old new : Held) → place_of held name ≡ Some place → slice_get held place ≡ Some old → new.name ≡ old.name →
+    option_map_or (bytes_at (set held place new)) (place_of (set held place new) name) [] ≡ new.bytes
 replaced_here held name place old new found at_place alike =
     rw (same_places held place old new name at_place alike, found, slice_get-set_same held place old new at_place) refl
 
 -- bytes at a place other than that of the name stay
-other_bytes : (held : List Held) (name other : List ℕ) (place : ℕ) (new : Held) → place_of held name ≡ Some place → other ≢ name → (found : Option ℕ) → place_of held other ≡ found → option_map_or (bytes_at (set held place new)) found [] ≡ option_map_or (bytes_at held) found []
+other_bytes : (held : List Held) (name other : List ℕ) (place : ℕ) (new : Held) → place_of held name ≡ Some place → other ≢ name → (found : Option ℕ) → place_of held other ≡ found →
+    option_map_or (bytes_at (set held place new)) found [] ≡ option_map_or (bytes_at held) found []
 other_bytes held name other place new named unlike None found = refl
 other_bytes held name other place new named unlike (Some q) found =
     let there = held_at held name place named in
@@ -50,12 +52,14 @@ other_bytes held name other place new named unlike (Some q) found =
     ap (λ o. option_map_or (λ h. h.bytes) o []) (slice_get-set_other held place q new elsewhere)
 
 -- every other name keeps its bytes
-pub replaced_others : (held : List Held) (name : List ℕ) (place : ℕ) (old new : Held) → place_of held name ≡ Some place → slice_get held place ≡ Some old → new.name ≡ old.name → (other : List ℕ) → other ≢ name → option_map_or (bytes_at (set held place new)) (place_of (set held place new) other) [] ≡ option_map_or (bytes_at held) (place_of held other) []
+pub replaced_others : (held : List Held) (name : List ℕ) (place : ℕ) (old new : Held) → place_of held name ≡ Some place → slice_get held place ≡ Some old → new.name ≡ old.name → (other : List ℕ) →
+    other ≢ name → option_map_or (bytes_at (set held place new)) (place_of (set held place new) other) [] ≡ option_map_or (bytes_at held) (place_of held other) []
 replaced_others held name place old new named at_place alike other unlike =
     ap (λ o. option_map_or (bytes_at (set held place new)) o []) (same_places held place old new other at_place alike) ∙ other_bytes held name other place new named unlike (place_of held other) refl
 
 -- every name keeps its count of faults
-pub replaced_faults : (held : List Held) (place : ℕ) (old new : Held) (faults : List ℕ) (shared : ℕ) → slice_get held place ≡ Some old → new.name ≡ old.name → (other : List ℕ) → option_map_or (slice_index faults) (place_of (set held place new) other) shared ≡ option_map_or (slice_index faults) (place_of held other) shared
+pub replaced_faults : (held : List Held) (place : ℕ) (old new : Held) (faults : List ℕ) (shared : ℕ) → slice_get held place ≡ Some old → new.name ≡ old.name → (other : List ℕ) →
+    option_map_or (slice_index faults) (place_of (set held place new) other) shared ≡ option_map_or (slice_index faults) (place_of held other) shared
 replaced_faults held place old new faults shared at_place alike other =
     ap (λ o. option_map_or (slice_index faults) o shared) (same_places held place old new other at_place alike)
 
@@ -77,7 +81,8 @@ unlike_names h other unlike = false_or (bytes_eq h.name other) (bytes_eq-Decides
     false_or false equal = refl
 
 -- every other name keeps its bytes
-pub pushed_others : (held : List Held) (h : Held) (other : List ℕ) (found : Option ℕ) → place_of held other ≡ found → other ≢ h.name → option_map_or (bytes_at (held ++ h ∷ [])) (place_of (held ++ h ∷ []) other) [] ≡ option_map_or (bytes_at held) (place_of held other) []
+pub pushed_others : (held : List Held) (h : Held) (other : List ℕ) (found : Option ℕ) → place_of held other ≡ found → other ≢ h.name →
+    option_map_or (bytes_at (held ++ h ∷ [])) (place_of (held ++ h ∷ []) other) [] ≡ option_map_or (bytes_at held) (place_of held other) []
 pushed_others held h other None none unlike =
     rw (none, position_from-push_none (is_named other) 0 held h none, unlike_names h other unlike) refl
 pushed_others held h other (Some q) found unlike =
@@ -85,7 +90,8 @@ pushed_others held h other (Some q) found unlike =
     rw (found, position_from-push_found (is_named other) 0 held h q found, slice_get-push_other held h q within) refl
 
 -- every name keeps its count of faults, where that of a new one starts at the shared one
-pub pushed_faults : (held : List Held) (h : Held) (faults : List ℕ) (shared : ℕ) → length faults ≡ length held → (other : List ℕ) (found : Option ℕ) → place_of held other ≡ found → option_map_or (slice_index (faults ++ shared ∷ [])) (place_of (held ++ h ∷ []) other) shared ≡ option_map_or (slice_index faults) (place_of held other) shared
+pub pushed_faults : (held : List Held) (h : Held) (faults : List ℕ) (shared : ℕ) → length faults ≡ length held → (other : List ℕ) (found : Option ℕ) → place_of held other ≡ found →
+    option_map_or (slice_index (faults ++ shared ∷ [])) (place_of (held ++ h ∷ []) other) shared ≡ option_map_or (slice_index faults) (place_of held other) shared
 pushed_faults held h faults shared counted other None none =
     rw (none, position_from-push_none (is_named other) 0 held h none) (last_or_shared (is_named other h))
   where

@@ -7,7 +7,8 @@ use Rattle.std.proofs.lemmas.List.{get_or_default}
 use Rattle.np_io.specs.Counts.{NeverFalls}
 
 -- no count falls where the one at a place is raised
-pub never_falls : (faults : List ℕ) (shared place before after : ℕ) (other : Option ℕ) → place < length faults → before ≡ get_or faults place before → NeverFalls before after → NeverFalls (option_map_or (slice_index faults) other shared) (option_map_or (slice_index (set faults place after)) other shared)
+pub never_falls : (faults : List ℕ) (shared place before after : ℕ) (other : Option ℕ) → place < length faults → before ≡ get_or faults place before → NeverFalls before after →
+    NeverFalls (option_map_or (slice_index faults) other shared) (option_map_or (slice_index (set faults place after)) other shared)
 never_falls faults shared place before after None within at_place never = (omega arith, omega arith)
 never_falls faults shared place before after (Some q) within at_place never = at_or_not (cases_eq q place)
   where

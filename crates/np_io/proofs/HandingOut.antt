@@ -7,7 +7,8 @@ use Rattle.np_io.specs.declared.mem_inputs.Held.{Held}
 use Rattle.np_io.specs.Memory.{bytes_at}
 
 -- what was left is what was handed out, and then what is left behind it
-pub handed_on : (held : List Held) (begun : Option Begun) (place at n : ℕ) (into : List ℕ) → begun ≡ Some (record { place = place; at = at }) → take n into ≡ take n (drop at (bytes_at held place)) → Some (option_map_or (λ b. drop b.at (bytes_at held b.place)) begun []) ≡ Some (take n into ++ drop (at + n) (bytes_at held place))
+pub handed_on : (held : List Held) (begun : Option Begun) (place at n : ℕ) (into : List ℕ) → begun ≡ Some (record { place = place; at = at }) → take n into ≡ take n (drop at (bytes_at held place)) →
+    Some (option_map_or (λ b. drop b.at (bytes_at held b.place)) begun []) ≡ Some (take n into ++ drop (at + n) (bytes_at held place))
 handed_on held begun place at n into is_begun copied =
     let bytes = bytes_at held place in
     let parts : drop at bytes ≡ take n into ++ drop (at + n) bytes = sym (take-append-drop n (drop at bytes)) ∙ rw (drop-drop n at bytes, ← copied) refl in

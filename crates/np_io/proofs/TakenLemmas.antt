@@ -64,7 +64,8 @@ pub TookAllBut-front : (old new : Option (List ℕ)) (bytes left : List ℕ) →
 TookAllBut-front old new bytes left took = record { front = took.front; rest = left; parts = took.parts; taken = took.taken }
 
 -- a piece is put: what is then held stands before what is still to come
-pub TookAllBut-put : (old middle new : Option (List ℕ)) (bytes held piece held' rest : List ℕ) → TookAllBut old middle bytes (held ++ (piece ++ rest)) → TookAllBut middle new (held ++ piece) held' → TookAllBut old new bytes (held' ++ rest)
+pub TookAllBut-put : (old middle new : Option (List ℕ)) (bytes held piece held' rest : List ℕ) → TookAllBut old middle bytes (held ++ (piece ++ rest)) → TookAllBut middle new (held ++ piece) held' →
+    TookAllBut old new bytes (held' ++ rest)
 TookAllBut-put old middle new bytes held piece held' rest took put =
     let left : held ++ (piece ++ rest) ≡ put.front ++ (held' ++ rest) = sym (append_assoc held piece rest) ∙ ap (λ xs. xs ++ rest) put.parts ∙ append_assoc put.front held' rest in
     record {
@@ -84,6 +85,7 @@ TookAllBut-fault old middle new bytes held rest took fault =
     subst (TookFront old new) (sym took.parts) (TookFront-after old middle new took.front (held ++ rest) took.taken (TookFront-append middle new held rest fault))
 
 -- the same of a front of what is held and of the next piece
-pub TookAllBut-put_fault : (old middle new : Option (List ℕ)) (bytes held piece rest : List ℕ) → TookAllBut old middle bytes (held ++ (piece ++ rest)) → TookFront middle new (held ++ piece) → TookFront old new bytes
+pub TookAllBut-put_fault : (old middle new : Option (List ℕ)) (bytes held piece rest : List ℕ) → TookAllBut old middle bytes (held ++ (piece ++ rest)) → TookFront middle new (held ++ piece) →
+    TookFront old new bytes
 TookAllBut-put_fault old middle new bytes held piece rest took fault =
     TookAllBut-fault old middle new bytes (held ++ piece) rest (subst (TookAllBut old middle bytes) (sym (append_assoc held piece rest)) took) fault

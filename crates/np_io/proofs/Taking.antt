@@ -12,9 +12,11 @@ take_on bytes at n =
     sym (take-append-drop at (take (at + n) bytes)) ∙ (rw (take-take at (at + n) bytes fits, drop-take at n bytes) refl)
 
 -- a sink that took the bytes before `at` takes the next ones
-pub takes_on : (old middle new : Option (List ℕ)) (bytes : List ℕ) (at n : ℕ) → middle ≡ append_known old (take at bytes) → new ≡ append_known middle (take n (take (length bytes - at) (drop at bytes))) → new ≡ append_known old (take (at + n) bytes)
+pub takes_on : (old middle new : Option (List ℕ)) (bytes : List ℕ) (at n : ℕ) → middle ≡ append_known old (take at bytes) →
+    new ≡ append_known middle (take n (take (length bytes - at) (drop at bytes))) → new ≡ append_known old (take (at + n) bytes)
 takes_on old middle new bytes at n took takes =
-    takes ∙ ap (λ piece. append_known middle (take n piece)) (take_rest bytes at) ∙ ap (λ known. append_known known (take n (drop at bytes))) took ∙ append_known-append_known old (take at bytes) (take n (drop at bytes)) ∙ ap (append_known old) (sym (take_on bytes at n))
+    takes ∙ ap (λ piece. append_known middle (take n piece)) (take_rest bytes at) ∙ ap (λ known. append_known known (take n (drop at bytes))) took ∙ append_known-append_known old (take at bytes)
+    (take n (drop at bytes)) ∙ ap (append_known old) (sym (take_on bytes at n))
 
 -- a sink that took the bytes before `at` took a front of all
 pub took_front : (old middle new : Option (List ℕ)) (bytes : List ℕ) (at : ℕ) → middle ≡ append_known old (take at bytes) → new ≡ middle → TookFront old new bytes

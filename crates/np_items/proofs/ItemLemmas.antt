@@ -13,7 +13,9 @@ after-one items item (Ok more) = ap Ok (sym (append_assoc items (item ∷ []) mo
 after-one items item (Err fault) = refl
 
 -- the item of the next value stands behind those so far
-pub after-next : (values : List Value) (place : ℕ) (value : Value) (items : List Item) (item : Item) → place < length values → value ≡ get_or values place value → item_of (place + 1) (view value) ≡ Ok item → after items (each_item (place + 1) (map view (drop place values))) ≡ after (items ++ item ∷ []) (each_item (place + 1 + 1) (map view (drop (place + 1) values)))
+pub after-next : (values : List Value) (place : ℕ) (value : Value) (items : List Item) (item : Item) → place < length values → value ≡ get_or values place value →
+    item_of (place + 1) (view value) ≡ Ok item →
+    after items (each_item (place + 1) (map view (drop place values))) ≡ after (items ++ item ∷ []) (each_item (place + 1 + 1) (map view (drop (place + 1) values)))
 after-next values place value items item inside read is =
     let first : drop place values ≡ value ∷ drop (place + 1) values = drop_more values place value inside ∙ ap (λ (first : Value). first ∷ drop (place + 1) values) (sym read) in
     rw (first, is) (after-one items item (each_item (place + 1 + 1) (map view (drop (place + 1) values))))

@@ -18,7 +18,8 @@ use Rattle.np_items.specs.declared.fault.ItemsFault.{ItemsFault}
 not_a_list : (kind : List ℕ) → is_list_kind kind ≡ false → bytes_eq kind (codes "List") ≡ false
 not_a_list kind other = false_from_ne_true _ (λ same. true≢false (sym (ap is_list_kind ((bytes_eq-Decides kind (codes "List")).0 same)) ∙ other))
 
-pub items_in-object : (input : ℕ) (value : Data) (version kind : List ℕ) → text_of (codes "apiVersion") value ≡ Given version → text_of (codes "kind") value ≡ Given kind → is_list_kind kind ≡ false → items_in input value ≡ Ok (value ∷ [])
+pub items_in-object : (input : ℕ) (value : Data) (version kind : List ℕ) → text_of (codes "apiVersion") value ≡ Given version → text_of (codes "kind") value ≡ Given kind → is_list_kind kind ≡ false →
+    items_in input value ≡ Ok (value ∷ [])
 unfolding items_in items_by
 items_in-object input value version kind has_version has_kind other =
     rw (has_version, has_kind, and_right (bytes_eq version (codes "v1")) (bytes_eq kind (codes "List")) (not_a_list kind other), other) refl
@@ -30,7 +31,8 @@ first_gives : {A B : Type 0} (reading : Reading A) (next : A → Reading B) (y :
 first_gives (Ok x) next y is = (x, refl, is)
 first_gives (Err fault) next y is = absurd (false≢true (ap is_ok is))
 
-pub values_from-refused : (input : ℕ) (before others : List (List ℕ)) (text : List ℕ) (values : List Data) (fault : ItemsFault) → values_from input before ≡ Ok values → input_values (input + length before) text ≡ Err fault → values_from input (before ++ text ∷ others) ≡ Err fault
+pub values_from-refused : (input : ℕ) (before others : List (List ℕ)) (text : List ℕ) (values : List Data) (fault : ItemsFault) → values_from input before ≡ Ok values →
+    input_values (input + length before) text ≡ Err fault → values_from input (before ++ text ∷ others) ≡ Err fault
 values_from-refused input [] others text values fault read is =
     let here : input_values input text ≡ Err fault = rw add-zero at is in
     rw here refl
@@ -41,7 +43,8 @@ values_from-refused input (first ∷ before) others text values fault read is =
     let later : values_from (input + 1) (before ++ text ∷ others) ≡ Err fault = values_from-refused (input + 1) before others text rest.0 fault rest.1 (rw same at is) in
     rw (step.1, later) refl
 
-pub each_item-refused : (number : ℕ) (before others : List Data) (value : Data) (items : List Item) (fault : ItemsFault) → each_item number before ≡ Ok items → item_of (number + length before) value ≡ Err fault → each_item number (before ++ value ∷ others) ≡ Err fault
+pub each_item-refused : (number : ℕ) (before others : List Data) (value : Data) (items : List Item) (fault : ItemsFault) → each_item number before ≡ Ok items →
+    item_of (number + length before) value ≡ Err fault → each_item number (before ++ value ∷ others) ≡ Err fault
 each_item-refused number [] others value items fault read is =
     let here : item_of number value ≡ Err fault = rw add-zero at is in
     rw here refl

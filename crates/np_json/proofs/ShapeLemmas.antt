@@ -39,7 +39,8 @@ row_of (Ok output) is = (output, refl)
 row_of (Err flaw) is = absurd (false≢true is)
 
 -- the items before the first flaw are read, and the flaw stands under the place of its item
-pub each_item-first_flaw : {A : Type 0} (shape : Data → Read A) (place : ℕ) (before others : List Data) (item : Data) (flaw : Flaw) → All (λ value. IsOk (shape value)) before → shape item ≡ Err flaw → each_item shape place (items_of (before ++ item ∷ others)) ≡ under (Item (place + length before)) (Err flaw)
+pub each_item-first_flaw : {A : Type 0} (shape : Data → Read A) (place : ℕ) (before others : List Data) (item : Data) (flaw : Flaw) → All (λ value. IsOk (shape value)) before → shape item ≡ Err flaw →
+    each_item shape place (items_of (before ++ item ∷ others)) ≡ under (Item (place + length before)) (Err flaw)
 unfolding under
 each_item-first_flaw shape place [] others item flaw all is = rw (is, add-zero)
 each_item-first_flaw shape place (first ∷ before) others item flaw all is =

@@ -49,7 +49,8 @@ pub value_of-others : (pair : Pair) (pairs : List Pair) → HasAscendingKeys (pa
 value_of-others pair pairs ascending = value_of-below pair.key pairs (sorted_head order pair.key (keys_of pairs) ascending)
 
 -- lists with the same first key and the same values have others with the same values
-tails_same : (x y : Pair) (xs ys : List Pair) → HasAscendingKeys (x ∷ xs) → HasAscendingKeys (y ∷ ys) → x.key ≡ y.key → (key : List ℕ) → value_of (x ∷ xs) key ≡ value_of (y ∷ ys) key → value_of xs key ≡ value_of ys key
+tails_same : (x y : Pair) (xs ys : List Pair) → HasAscendingKeys (x ∷ xs) → HasAscendingKeys (y ∷ ys) → x.key ≡ y.key → (key : List ℕ) → value_of (x ∷ xs) key ≡ value_of (y ∷ ys) key →
+    value_of xs key ≡ value_of ys key
 tails_same x y xs ys ascending_x ascending_y same key alike = by (bytes_eq x.key key) refl
   where
     by : (b : Bool) → bytes_eq x.key key ≡ b → value_of xs key ≡ value_of ys key
@@ -69,7 +70,8 @@ same_pair x y key value =
     ap with_key key ∙ ap with_value value
 
 -- lists with the same values are equal where their others are
-same_cons : (x y : Pair) (xs ys : List Pair) → HasAscendingKeys (x ∷ xs) → HasAscendingKeys (y ∷ ys) → ((key : List ℕ) → value_of (x ∷ xs) key ≡ value_of (y ∷ ys) key) → (((key : List ℕ) → value_of xs key ≡ value_of ys key) → xs ≡ ys) → x ∷ xs ≡ y ∷ ys
+same_cons : (x y : Pair) (xs ys : List Pair) → HasAscendingKeys (x ∷ xs) → HasAscendingKeys (y ∷ ys) → ((key : List ℕ) → value_of (x ∷ xs) key ≡ value_of (y ∷ ys) key) →
+    (((key : List ℕ) → value_of xs key ≡ value_of ys key) → xs ≡ ys) → x ∷ xs ≡ y ∷ ys
 same_cons x y xs ys ascending_x ascending_y alike others = by (order x.key y.key) refl
   where
     by : (o : Ordering) → order x.key y.key ≡ o → x ∷ xs ≡ y ∷ ys
@@ -97,11 +99,13 @@ same_by_values (x ∷ xs) (y ∷ ys) ascending_x ascending_y alike =
     (same_by_values xs ys (sorted_tail order x.key (keys_of xs) ascending_x) (sorted_tail order y.key (keys_of ys) ascending_y))
 
 -- what is below the keys of pairs and below one more is below all of them together
-below-with_pair : (low : List ℕ) (pairs : List Pair) (pair : Pair) → AllByRecursion (λ other. order low other ≡ Less) (keys_of pairs) → order low pair.key ≡ Less → AllByRecursion (λ other. order low other ≡ Less) (keys_of (with_pair pairs pair))
+below-with_pair : (low : List ℕ) (pairs : List Pair) (pair : Pair) → AllByRecursion (λ other. order low other ≡ Less) (keys_of pairs) → order low pair.key ≡ Less →
+    AllByRecursion (λ other. order low other ≡ Less) (keys_of (with_pair pairs pair))
 below-with_pair low [] pair all below = (below, tt)
 below-with_pair low (first ∷ pairs) pair all below = by (order pair.key first.key) (below-with_pair low pairs pair all.1 below)
   where
-    by : (o : Ordering) → AllByRecursion (λ other. order low other ≡ Less) (keys_of (with_pair pairs pair)) → AllByRecursion (λ other. order low other ≡ Less) (keys_of (match_ordering o (pair ∷ first ∷ pairs) (record first { value = pair.value } ∷ pairs) (first ∷ with_pair pairs pair)))
+    by : (o : Ordering) → AllByRecursion (λ other. order low other ≡ Less) (keys_of (with_pair pairs pair)) →
+        AllByRecursion (λ other. order low other ≡ Less) (keys_of (match_ordering o (pair ∷ first ∷ pairs) (record first { value = pair.value } ∷ pairs) (first ∷ with_pair pairs pair)))
     by Less others = (below, all)
     by Equal others = all
     by Greater others = (all.0, others)
@@ -112,7 +116,8 @@ unfolding IsStrictlySortedBy
 HasAscendingKeys-with_pair [] pair ascending = (tt, tt)
 HasAscendingKeys-with_pair (first ∷ pairs) pair ascending = by (order pair.key first.key) refl (HasAscendingKeys-with_pair pairs pair ascending.1)
   where
-    by : (o : Ordering) → order pair.key first.key ≡ o → HasAscendingKeys (with_pair pairs pair) → HasAscendingKeys (match_ordering o (pair ∷ first ∷ pairs) (record first { value = pair.value } ∷ pairs) (first ∷ with_pair pairs pair))
+    by : (o : Ordering) → order pair.key first.key ≡ o → HasAscendingKeys (with_pair pairs pair) →
+        HasAscendingKeys (match_ordering o (pair ∷ first ∷ pairs) (record first { value = pair.value } ∷ pairs) (first ∷ with_pair pairs pair))
     by Less is others = ((is, below-trans pair.key first.key (keys_of pairs) is ascending.0), ascending)
     by Equal is others = ascending
     by Greater is others = (below-with_pair first.key pairs pair ascending.0 (flipped pair.key first.key is), others)

@@ -31,6 +31,8 @@ longer_differs greatest other letter not_above = is_eq-slice_cmp longer other �
         cc
 
 -- the greatest text of a list, with a letter more, is not in the list
-pub greatest_longer : (texts : List (List ℕ)) (greatest : List ℕ) (letter : ℕ) → All (λ other. is_lt (slice_cmp nat_cmp greatest other) ≡ false) texts → list_any (λ other. is_eq (slice_cmp nat_cmp (greatest ++ letter ∷ []) other)) texts ≡ false
+pub greatest_longer : (texts : List (List ℕ)) (greatest : List ℕ) (letter : ℕ) → All (λ other. is_lt (slice_cmp nat_cmp greatest other) ≡ false) texts →
+    list_any (λ other. is_eq (slice_cmp nat_cmp (greatest ++ letter ∷ []) other)) texts ≡ false
 greatest_longer texts greatest letter all =
-    list_any_none _ texts (All-weaker (λ other. is_lt (slice_cmp nat_cmp greatest other) ≡ false) (λ other. is_eq (slice_cmp nat_cmp (greatest ++ letter ∷ []) other) ≡ false) (λ other. longer_differs greatest other letter) texts all)
+    list_any_none _ texts (All-weaker (λ other. is_lt (slice_cmp nat_cmp greatest other) ≡ false) (λ other. is_eq (slice_cmp nat_cmp (greatest ++ letter ∷ []) other) ≡ false)
+    (λ other. longer_differs greatest other letter) texts all)

@@ -61,7 +61,8 @@ is_listed-distinct values s = is_listed-fold [] values s
 
 -- ---- what all values pass
 
-list_all-fold : (test : List ℕ → Bool) (made values : List (List ℕ)) → list_all test made ≡ true → list_all test values ≡ true → list_all test (fold (insert_key (slice_cmp nat_cmp)) made values) ≡ true
+list_all-fold : (test : List ℕ → Bool) (made values : List (List ℕ)) → list_all test made ≡ true → list_all test values ≡ true →
+    list_all test (fold (insert_key (slice_cmp nat_cmp)) made values) ≡ true
 list_all-fold test made [] before all = before
 list_all-fold test made (value ∷ values) before all =
     let parts = and_parts (test value) (list_all test values) all in

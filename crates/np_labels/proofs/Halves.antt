@@ -35,7 +35,8 @@ module _ (values : List (List ℕ)) (ascending : is_ascending values ≡ true) (
   differs listed o is apart = sym (is_eq-slice_cmp listed value) ∙ ap is_eq is ∙ apart
 
   -- a search by halves answers whether the value is listed
-  pub is_listed-by_halves : (found : Result ℕ ℕ) → IsSearchInRange found (length values) → IsBinarySearchResult (λ listed. slice_cmp nat_cmp listed value) values found → is_ok found ≡ is_listed values value
+  pub is_listed-by_halves : (found : Result ℕ ℕ) → IsSearchInRange found (length values) → IsBinarySearchResult (λ listed. slice_cmp nat_cmp listed value) values found →
+      is_ok found ≡ is_listed values value
   is_listed-by_halves (Ok place) below equal =
       sym (list_any_at (λ (listed : List ℕ). bytes_eq listed value) values place value below
       (sym (is_eq-slice_cmp (get_or values place value) value) ∙ ap is_eq (equal value)))

@@ -55,7 +55,8 @@ module _ (pairs : List Pair) (ascending : HasAscendingKeys pairs) (key : List �
   differs other o is apart = sym (is_eq-slice_cmp other key) ∙ ap is_eq is ∙ apart
 
   -- what a search by halves found has the value of the key
-  pub value-found : (place : ℕ) (d : Pair) → place < length pairs → IsBinarySearchResult (λ (pair : Pair). slice_cmp nat_cmp pair.key key) pairs (Ok place) → value_of pairs key ≡ Some (get_or pairs place d).value
+  pub value-found : (place : ℕ) (d : Pair) → place < length pairs → IsBinarySearchResult (λ (pair : Pair). slice_cmp nat_cmp pair.key key) pairs (Ok place) →
+      value_of pairs key ≡ Some (get_or pairs place d).value
   value-found place d within equal =
       let same : (get_or pairs place d).key ≡ key = (bytes_decides (get_or pairs place d).key key).0 (sym (is_eq-slice_cmp (get_or pairs place d).key key) ∙ ap is_eq (equal d)) in
       ap (value_of pairs) (sym same) ∙ value_at pairs place d ascending within

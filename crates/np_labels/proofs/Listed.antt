@@ -8,7 +8,8 @@ use Rattle.np_labels.proofs.PairLists.{is_eq-slice_cmp}
 use Rattle.np_labels.specs.Selectors.{is_listed}
 
 -- one more listed value
-is_listed-more : (listed : List (List ℕ)) (i : ℕ) (item : List ℕ) → i < length listed → item ≡ get_or listed i item → (value : List ℕ) → is_listed (take (i + 1) listed) value ≡ (is_listed (take i listed) value || bytes_eq item value)
+is_listed-more : (listed : List (List ℕ)) (i : ℕ) (item : List ℕ) → i < length listed → item ≡ get_or listed i item → (value : List ℕ) →
+    is_listed (take (i + 1) listed) value ≡ (is_listed (take i listed) value || bytes_eq item value)
 is_listed-more listed i item below is value =
     list_any_more (λ (other : List ℕ). bytes_eq other value) listed i item below ∙ rw (← is) refl
 
@@ -58,21 +59,27 @@ same_test item value new then otherwise updated = updated ∙ rw (is_eq-slice_cm
 
 module _ (listed : List (List ℕ)) (i : ℕ) (item : List ℕ) (below : i < length listed) (is : item ≡ get_or listed i item) where
   -- a listed value goes into a set that has those before it
-  pub more_step : (initial old new : List ℕ → Bool) → ((value : List ℕ) → new value ≡ cond (is_eq (slice_cmp nat_cmp item value)) true (old value)) → ((value : List ℕ) → old value ≡ (initial value || is_listed (take i listed) value)) → (value : List ℕ) → new value ≡ (initial value || is_listed (take (i + 1) listed) value)
+  pub more_step : (initial old new : List ℕ → Bool) → ((value : List ℕ) → new value ≡ cond (is_eq (slice_cmp nat_cmp item value)) true (old value)) →
+      ((value : List ℕ) → old value ≡ (initial value || is_listed (take i listed) value)) → (value : List ℕ) → new value ≡ (initial value || is_listed (take (i + 1) listed) value)
   more_step initial old new updated so_far value =
       same_test item value _ _ _ (updated value) ∙ rw (so_far value, is_listed-more listed i item below is value) (put_in (bytes_eq item value) (initial value) (is_listed (take i listed) value))
 
   -- a listed value goes out of a set that lacks those before it
-  pub less_step : (initial old new : List ℕ → Bool) → ((value : List ℕ) → new value ≡ cond (is_eq (slice_cmp nat_cmp item value)) false (old value)) → ((value : List ℕ) → old value ≡ (initial value && not (is_listed (take i listed) value))) → (value : List ℕ) → new value ≡ (initial value && not (is_listed (take (i + 1) listed) value))
+  pub less_step : (initial old new : List ℕ → Bool) → ((value : List ℕ) → new value ≡ cond (is_eq (slice_cmp nat_cmp item value)) false (old value)) →
+      ((value : List ℕ) → old value ≡ (initial value && not (is_listed (take i listed) value))) → (value : List ℕ) → new value ≡ (initial value && not (is_listed (take (i + 1) listed) value))
   less_step initial old new updated so_far value =
       same_test item value _ _ _ (updated value) ∙ rw (so_far value, is_listed-more listed i item below is value) (put_out (bytes_eq item value) (initial value) (is_listed (take i listed) value))
 
   -- a listed value that is wanted goes into the set of those before it that are
-  pub kept_step : (wanted old new : List ℕ → Bool) → wanted item ≡ true → ((value : List ℕ) → new value ≡ cond (is_eq (slice_cmp nat_cmp item value)) true (old value)) → ((value : List ℕ) → old value ≡ (wanted value && is_listed (take i listed) value)) → (value : List ℕ) → new value ≡ (wanted value && is_listed (take (i + 1) listed) value)
+  pub kept_step : (wanted old new : List ℕ → Bool) → wanted item ≡ true → ((value : List ℕ) → new value ≡ cond (is_eq (slice_cmp nat_cmp item value)) true (old value)) →
+      ((value : List ℕ) → old value ≡ (wanted value && is_listed (take i listed) value)) → (value : List ℕ) → new value ≡ (wanted value && is_listed (take (i + 1) listed) value)
   kept_step wanted old new fits updated so_far value =
-      same_test item value _ _ _ (updated value) ∙ rw (so_far value, is_listed-more listed i item below is value) (kept_in (bytes_eq item value) (wanted value) (is_listed (take i listed) value) (λ e. ap wanted (sym ((bytes_decides item value).0 e)) ∙ fits))
+      same_test item value _ _ _ (updated value) ∙ rw (so_far value, is_listed-more listed i item below is value)
+      (kept_in (bytes_eq item value) (wanted value) (is_listed (take i listed) value) (λ e. ap wanted (sym ((bytes_decides item value).0 e)) ∙ fits))
 
   -- a listed value that is not wanted changes nothing
-  pub skipped_step : (wanted old : List ℕ → Bool) → wanted item ≡ false → ((value : List ℕ) → old value ≡ (wanted value && is_listed (take i listed) value)) → (value : List ℕ) → old value ≡ (wanted value && is_listed (take (i + 1) listed) value)
+  pub skipped_step : (wanted old : List ℕ → Bool) → wanted item ≡ false → ((value : List ℕ) → old value ≡ (wanted value && is_listed (take i listed) value)) → (value : List ℕ) →
+      old value ≡ (wanted value && is_listed (take (i + 1) listed) value)
   skipped_step wanted old fits so_far value =
-      so_far value ∙ rw (is_listed-more listed i item below is value) (left_out (bytes_eq item value) (wanted value) (is_listed (take i listed) value) (λ e. ap wanted (sym ((bytes_decides item value).0 e)) ∙ fits))
+      so_far value ∙ rw (is_listed-more listed i item below is value)
+      (left_out (bytes_eq item value) (wanted value) (is_listed (take i listed) value) (λ e. ap wanted (sym ((bytes_decides item value).0 e)) ∙ fits))

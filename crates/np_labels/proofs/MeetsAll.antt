@@ -18,7 +18,8 @@ use Rattle.np_labels.specs.declared.requirement.Requirement.{Requirement}
 abbrev pub meets_all : List Requirement → List Pair → Bool
 meets_all requirements labels = list_all (λ requirement. meets_requirement requirement labels) requirements
 
-allows_here : (requirement : Requirement) (labels : List Pair) (key : List ℕ) → meets_requirement requirement labels ≡ true → (not (bytes_eq requirement.key key) || allows requirement.op requirement.values (value_of labels key)) ≡ true
+allows_here : (requirement : Requirement) (labels : List Pair) (key : List ℕ) → meets_requirement requirement labels ≡ true →
+    (not (bytes_eq requirement.key key) || allows requirement.op requirement.values (value_of labels key)) ≡ true
 allows_here requirement labels key met = by (bytes_eq requirement.key key) refl
   where
     by : (b : Bool) → bytes_eq requirement.key key ≡ b → (not b || allows requirement.op requirement.values (value_of labels key)) ≡ true
@@ -34,7 +35,8 @@ allowed_from_met [] labels met key = refl
 allowed_from_met (requirement ∷ requirements) labels met key =
     both_so _ _ (allows_here requirement labels key (first_so _ _ met)) (allowed_from_met requirements labels (second_so _ _ met) key)
 
-here : (requirement : Requirement) (labels : List Pair) → (not (bytes_eq requirement.key requirement.key) || allows requirement.op requirement.values (value_of labels requirement.key)) ≡ true → meets_requirement requirement labels ≡ true
+here : (requirement : Requirement) (labels : List Pair) → (not (bytes_eq requirement.key requirement.key) || allows requirement.op requirement.values (value_of labels requirement.key)) ≡ true →
+    meets_requirement requirement labels ≡ true
 here requirement labels allowed = rw (nat_list_eq_equiv.refl requirement.key) at allowed
 
 -- and the other way round
@@ -44,7 +46,8 @@ met_from_allowed (requirement ∷ requirements) labels allowed =
     both_so _ _ (here requirement labels (first_so _ _ (allowed requirement.key))) (met_from_allowed requirements labels (λ key. second_so _ _ (allowed key)))
 
 -- where nothing at some key is allowed, no labels meet all requirements
-pub unmet_from_clash : (requirements : List Requirement) (key : List ℕ) → ((found : Option (List ℕ)) → allowed_at requirements key found ≡ false) → (labels : List Pair) → meets_all requirements labels ≡ false
+pub unmet_from_clash : (requirements : List Requirement) (key : List ℕ) → ((found : Option (List ℕ)) → allowed_at requirements key found ≡ false) → (labels : List Pair) →
+    meets_all requirements labels ≡ false
 unmet_from_clash requirements key clash labels = by (meets_all requirements labels) refl
   where
     by : (b : Bool) → meets_all requirements labels ≡ b → b ≡ false
@@ -56,7 +59,8 @@ and_true true = refl
 and_true false = refl
 
 -- one more requirement
-allowed_at-more : (all : List Requirement) (i : ℕ) (item : Requirement) → i < length all → item ≡ get_or all i item → (key : List ℕ) (found : Option (List ℕ)) → allowed_at (take (i + 1) all) key found ≡ (allowed_at (take i all) key found && (not (bytes_eq item.key key) || allows item.op item.values found))
+allowed_at-more : (all : List Requirement) (i : ℕ) (item : Requirement) → i < length all → item ≡ get_or all i item → (key : List ℕ) (found : Option (List ℕ)) →
+    allowed_at (take (i + 1) all) key found ≡ (allowed_at (take i all) key found && (not (bytes_eq item.key key) || allows item.op item.values found))
 allowed_at-more all i item below is key found =
     list_all_more (λ (requirement : Requirement). not (bytes_eq requirement.key key) || allows requirement.op requirement.values found) all i item below ∙ rw (← is) refl
 
@@ -81,14 +85,16 @@ demands_step all i item below is old taken new made removed inserted narrowed so
 -- what the labels of the demands say of the requirements
 pub met_from_settled : (requirements : List Requirement) (demand : List ℕ → Option Demand) (made : Option (List Pair))
     → ((key : List ℕ) (found : Option (List ℕ)) → admits_unless_free (demand key) found ≡ allowed_at requirements key found)
-    → MatchOption made ((key : List ℕ) × ((found : Option (List ℕ)) → admits_unless_free (demand key) found ≡ false)) (λ labels. (key : List ℕ) → admits_unless_free (demand key) (value_of labels key) ≡ true)
+    → MatchOption made ((key : List ℕ) × ((found : Option (List ℕ)) → admits_unless_free (demand key) found ≡ false))
+    (λ labels. (key : List ℕ) → admits_unless_free (demand key) (value_of labels key) ≡ true)
     → IfSome made (λ labels. meets_all requirements labels ≡ true)
 met_from_settled requirements demand None same settled = tt
 met_from_settled requirements demand (Some labels) same settled = met_from_allowed requirements labels (λ key. sym (same key (value_of labels key)) ∙ settled key)
 
 pub none_from_settled : (requirements : List Requirement) (demand : List ℕ → Option Demand) (made : Option (List Pair))
     → ((key : List ℕ) (found : Option (List ℕ)) → admits_unless_free (demand key) found ≡ allowed_at requirements key found)
-    → MatchOption made ((key : List ℕ) × ((found : Option (List ℕ)) → admits_unless_free (demand key) found ≡ false)) (λ labels. (key : List ℕ) → admits_unless_free (demand key) (value_of labels key) ≡ true)
+    → MatchOption made ((key : List ℕ) × ((found : Option (List ℕ)) → admits_unless_free (demand key) found ≡ false))
+    (λ labels. (key : List ℕ) → admits_unless_free (demand key) (value_of labels key) ≡ true)
     → IfNone made ((labels : List Pair) → meets_all requirements labels ≡ false)
 none_from_settled requirements demand None same settled = unmet_from_clash requirements settled.0 (λ found. sym (same settled.0 found) ∙ settled.1 found)
 none_from_settled requirements demand (Some labels) same settled = tt

@@ -27,7 +27,8 @@ pub value_of-push : (pairs : List Pair) (pair : Pair) (key : List ℕ) → value
 value_of-push [] pair key = refl
 value_of-push (first ∷ pairs) pair key = by (bytes_eq first.key key) (value_of-push pairs pair key)
   where
-    by : (b : Bool) → value_of (pairs ++ pair ∷ []) key ≡ option_or (value_of pairs key) (cond (bytes_eq pair.key key) (Some pair.value) None) → cond b (Some first.value) (value_of (pairs ++ pair ∷ []) key) ≡ option_or (cond b (Some first.value) (value_of pairs key)) (cond (bytes_eq pair.key key) (Some pair.value) None)
+    by : (b : Bool) → value_of (pairs ++ pair ∷ []) key ≡ option_or (value_of pairs key) (cond (bytes_eq pair.key key) (Some pair.value) None) →
+        cond b (Some first.value) (value_of (pairs ++ pair ∷ []) key) ≡ option_or (cond b (Some first.value) (value_of pairs key)) (cond (bytes_eq pair.key key) (Some pair.value) None)
     by true others = refl
     by false others = others
 
@@ -57,20 +58,24 @@ value_of-with_pair (first ∷ pairs) pair key = by (slice_cmp nat_cmp pair.key f
     replaced true = refl
     replaced false = refl
 
-    passed : (b first_is : Bool) → (b ≡ true → first_is ≡ false) → cond first_is (Some first.value) (cond b (Some pair.value) (value_of pairs key)) ≡ cond b (Some pair.value) (cond first_is (Some first.value) (value_of pairs key))
+    passed : (b first_is : Bool) → (b ≡ true → first_is ≡ false) →
+        cond first_is (Some first.value) (cond b (Some pair.value) (value_of pairs key)) ≡ cond b (Some pair.value) (cond first_is (Some first.value) (value_of pairs key))
     passed true true apart = let off = apart refl in cc
     passed true false apart = refl
     passed false true apart = refl
     passed false false apart = refl
 
-    by : (o : Ordering) → slice_cmp nat_cmp pair.key first.key ≡ o → value_of (with_pair pairs pair) key ≡ cond (bytes_eq pair.key key) (Some pair.value) (value_of pairs key) → value_of (match_ordering o (pair ∷ first ∷ pairs) (record first { value = pair.value } ∷ pairs) (first ∷ with_pair pairs pair)) key ≡ cond (bytes_eq pair.key key) (Some pair.value) (value_of (first ∷ pairs) key)
+    by : (o : Ordering) → slice_cmp nat_cmp pair.key first.key ≡ o → value_of (with_pair pairs pair) key ≡ cond (bytes_eq pair.key key) (Some pair.value) (value_of pairs key) →
+        value_of (match_ordering o (pair ∷ first ∷ pairs) (record first { value = pair.value } ∷ pairs) (first ∷ with_pair pairs pair)) key ≡ cond (bytes_eq pair.key key) (Some pair.value)
+        (value_of (first ∷ pairs) key)
     by Less is others = refl
     by Equal is others =
         let same = (bytes_decides pair.key first.key).0 (sym (is_eq-slice_cmp pair.key first.key) ∙ ap is_eq is) in
         rw same (replaced (bytes_eq first.key key))
     by Greater is others = rw others (passed (bytes_eq pair.key key) (bytes_eq first.key key) (not_both pair.key first.key key (ap is_eq is)))
 
-or_assoc : (found : Option (List ℕ)) (b : Bool) (value : List ℕ) (before : Option (List ℕ)) → option_or found (cond b (Some value) before) ≡ option_or (option_or found (cond b (Some value) None)) before
+or_assoc : (found : Option (List ℕ)) (b : Bool) (value : List ℕ) (before : Option (List ℕ)) →
+    option_or found (cond b (Some value) before) ≡ option_or (option_or found (cond b (Some value) None)) before
 or_assoc (Some other) b value before = refl
 or_assoc None true value before = refl
 or_assoc None false value before = refl
@@ -78,7 +83,8 @@ or_assoc None false value before = refl
 more_values : (made pairs : List Pair) (key : List ℕ) → value_of (fold with_pair made pairs) key ≡ option_or (last_value_of pairs key) (value_of made key)
 more_values made [] key = refl
 more_values made (pair ∷ pairs) key =
-    more_values (with_pair made pair) pairs key ∙ rw (value_of-with_pair made pair key, reverse-append (pair ∷ []) pairs, value_of-push (reverse pairs) pair key) (or_assoc (last_value_of pairs key) (bytes_eq pair.key key) pair.value (value_of made key))
+    more_values (with_pair made pair) pairs key ∙ rw (value_of-with_pair made pair key, reverse-append (pair ∷ []) pairs, value_of-push (reverse pairs) pair key)
+    (or_assoc (last_value_of pairs key) (bytes_eq pair.key key) pair.value (value_of made key))
 
 pub or_none : (found : Option (List ℕ)) → option_or found None ≡ found
 or_none None = refl
@@ -91,17 +97,21 @@ value_of-labels_of pairs key = more_values [] pairs key ∙ or_none (last_value_
 -- ---- entries of a map
 
 -- an entry put into a map is a pair put in
-map-insert_entry : (entries : List (List ℕ × List ℕ)) (key value : List ℕ) → map pair_of (insert_entry (slice_cmp nat_cmp) entries key value) ≡ with_pair (map pair_of entries) (record { key = key; value = value })
+map-insert_entry : (entries : List (List ℕ × List ℕ)) (key value : List ℕ) →
+    map pair_of (insert_entry (slice_cmp nat_cmp) entries key value) ≡ with_pair (map pair_of entries) (record { key = key; value = value })
 map-insert_entry [] key value = refl
 map-insert_entry (entry ∷ entries) key value = by (slice_cmp nat_cmp key entry.0) (map-insert_entry entries key value)
   where
     by : (o : Ordering) → map pair_of (insert_entry (slice_cmp nat_cmp) entries key value) ≡ with_pair (map pair_of entries) (record { key = key; value = value })
-        → map pair_of (match_ordering o ((key, value) ∷ entry ∷ entries) ((entry.0, value) ∷ entries) (entry ∷ insert_entry (slice_cmp nat_cmp) entries key value)) ≡ match_ordering o (record { key = key; value = value } ∷ pair_of entry ∷ map pair_of entries) (record { key = entry.0; value = value } ∷ map pair_of entries) (pair_of entry ∷ with_pair (map pair_of entries) (record { key = key; value = value }))
+        → map pair_of (match_ordering o ((key, value) ∷ entry ∷ entries) ((entry.0, value) ∷ entries) (entry ∷ insert_entry (slice_cmp nat_cmp) entries key value)) ≡ match_ordering o
+        (record { key = key; value = value } ∷ pair_of entry ∷ map pair_of entries) (record { key = entry.0; value = value } ∷ map pair_of entries)
+        (pair_of entry ∷ with_pair (map pair_of entries) (record { key = key; value = value }))
     by Less others = refl
     by Equal others = refl
     by Greater others = ap (λ (pairs : List Pair). pair_of entry ∷ pairs) others
 
 -- a map that has the pairs so far, and then is given one more, has the pairs again
-pub labels_of-insert : (pairs : List Pair) (pair : Pair) (old new : List (List ℕ × List ℕ)) → new ≡ insert_entry (slice_cmp nat_cmp) old pair.key pair.value → map pair_of old ≡ labels_of pairs → map pair_of new ≡ labels_of (pairs ++ pair ∷ [])
+pub labels_of-insert : (pairs : List Pair) (pair : Pair) (old new : List (List ℕ × List ℕ)) → new ≡ insert_entry (slice_cmp nat_cmp) old pair.key pair.value → map pair_of old ≡ labels_of pairs →
+    map pair_of new ≡ labels_of (pairs ++ pair ∷ [])
 labels_of-insert pairs pair old new inserted so_far =
     rw (inserted, map-insert_entry old pair.key pair.value, so_far) (sym (fold-append with_pair [] pairs (pair ∷ [])))

@@ -50,7 +50,8 @@ demand_at-below key [] all = refl
 demand_at-below key (entry ∷ entries) all = rw all.0 (demand_at-below key entries all.1)
 
 -- the invariant of the loop that settles the demands, over what is left of them
-module _ (entries rest left : List (List ℕ × Demand)) (key : List ℕ) (demand : Demand) (is : left ≡ (key, demand) ∷ rest) (pairs : List Pair) (ascending : IsStrictlySortedBy order (keys_of pairs ++ map_of.keys_of left)) (in_turn : (other : List ℕ) → IsInTurn entries left pairs other) where
+module _ (entries rest left : List (List ℕ × Demand)) (key : List ℕ) (demand : Demand) (is : left ≡ (key, demand) ∷ rest) (pairs : List Pair)
+    (ascending : IsStrictlySortedBy order (keys_of pairs ++ map_of.keys_of left)) (in_turn : (other : List ℕ) → IsInTurn entries left pairs other) where
   turns : (other : List ℕ) → IsInTurn entries ((key, demand) ∷ rest) pairs other
   turns other = subst (λ (all : List (List ℕ × Demand)). IsInTurn entries all pairs other) is (in_turn other)
 
@@ -66,14 +67,16 @@ module _ (entries rest left : List (List ℕ × Demand)) (key : List ℕ) (deman
       by (inr done) = let found = rw (is_eq-slice_cmp key key, nat_list_eq_equiv.refl key) at done.0 in cc
 
   -- a later key stays as it is where its value does
-  later_turn : (new : List Pair) (other : List ℕ) → bytes_eq key other ≡ false → value_of new other ≡ value_of pairs other → IsInTurn entries ((key, demand) ∷ rest) pairs other → IsInTurn entries rest new other
+  later_turn : (new : List Pair) (other : List ℕ) → bytes_eq key other ≡ false → value_of new other ≡ value_of pairs other → IsInTurn entries ((key, demand) ∷ rest) pairs other →
+      IsInTurn entries rest new other
   later_turn new other apart kept (inl pending) =
       inl (rw (is_eq-slice_cmp other key, nat_list_eq_equiv.symm other key, apart) at pending.0, kept ∙ pending.1)
   later_turn new other apart kept (inr done) =
       inr (rw (is_eq-slice_cmp other key, nat_list_eq_equiv.symm other key, apart) at done.0, rw kept done.1)
 
   -- all keys are in turn once the demand on the key is met and the values of the others are kept
-  all_turns : (new : List Pair) → admits demand (value_of new key) ≡ true → ((other : List ℕ) → bytes_eq key other ≡ false → value_of new other ≡ value_of pairs other) → (other : List ℕ) → IsInTurn entries rest new other
+  all_turns : (new : List Pair) → admits demand (value_of new key) ≡ true → ((other : List ℕ) → bytes_eq key other ≡ false → value_of new other ≡ value_of pairs other) → (other : List ℕ) →
+      IsInTurn entries rest new other
   all_turns new met kept other = by (bytes_eq key other) refl
     where
       done : IsInTurn entries rest new key

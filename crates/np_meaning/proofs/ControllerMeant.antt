@@ -113,7 +113,8 @@ template_spec-meant value spec is =
 -- what a spec that may be missing says
 or_none : (shape : Data → Read Spec) (none : Data → Bool) (at : Data → Option Data) → none (object no_members) ≡ false → at (object no_members) ≡ None
     → ((value : Data) (spec : Spec) → shape value ≡ Ok spec → Says (none value) (at value) spec)
-    → (member : Option Data) (found : Option Spec) → IsOptional shape member found → Says (none (unwrap_or member (object no_members))) (at (unwrap_or member (object no_members))) (unwrap_or found no_spec)
+    → (member : Option Data) (found : Option Spec) → IsOptional shape member found → Says (none (unwrap_or member (object no_members))) (at (unwrap_or member (object no_members)))
+    (unwrap_or found no_spec)
 or_none shape none at is_false is_none meant None None is = record { none_wanted = sym is_false; template = subst (λ (member : Option Data). IsTemplateIn member None) (sym is_none) tt }
 or_none shape none at is_false is_none meant None (Some spec) is = absurd is
 or_none shape none at is_false is_none meant (Some one) None is = absurd is
@@ -125,7 +126,8 @@ job_template-meant value spec is =
     let past = then-output (must_be_object value) _ spec is in
     let found = bind-output (optional (codes "spec") template_spec value) _ spec past in
     subst (λ read. IfOk read (Says false (member_of (codes "template") (spec_of value)))) found.after
-    (or_none template_spec (λ _. false) (member_of (codes "template")) refl refl template_spec-meant (member_of (codes "spec") value) found.first (optional-output template_spec (codes "spec") value found.first found.here))
+    (or_none template_spec (λ _. false) (member_of (codes "template")) refl refl template_spec-meant (member_of (codes "spec") value) found.first
+    (optional-output template_spec (codes "spec") value found.first found.here))
 
 cron_job-meant : (value : Data) (spec : Spec) → cron_job_spec value ≡ Ok spec → Says false (template_in CronJob value) spec
 unfolding cron_job_spec
@@ -133,9 +135,11 @@ cron_job-meant value spec is =
     let past = then-output (must_be_object value) _ spec is in
     let found = bind-output (optional (codes "jobTemplate") job_template value) _ spec past in
     subst (λ read. IfOk read (Says false (template_in CronJob value))) found.after
-    (or_none job_template (λ _. false) (λ job. member_of (codes "template") (spec_of job)) refl refl job_template-meant (member_of (codes "jobTemplate") value) found.first (optional-output job_template (codes "jobTemplate") value found.first found.here))
+    (or_none job_template (λ _. false) (λ job. member_of (codes "template") (spec_of job)) refl refl job_template-meant (member_of (codes "jobTemplate") value) found.first
+    (optional-output job_template (codes "jobTemplate") value found.first found.here))
 
-spec-meant : (kind : ControllerKind) (value : Data) (spec : Spec) → controller_spec kind value ≡ Ok spec → Says (has_replicas kind && is_nought (number_at (codes "replicas") value)) (template_in kind value) spec
+spec-meant : (kind : ControllerKind) (value : Data) (spec : Spec) → controller_spec kind value ≡ Ok spec →
+    Says (has_replicas kind && is_nought (number_at (codes "replicas") value)) (template_in kind value) spec
 spec-meant Deployment value spec is = replicated-meant value spec is
 spec-meant ReplicaSet value spec is = replicated-meant value spec is
 spec-meant StatefulSet value spec is = replicated-meant value spec is
@@ -177,7 +181,8 @@ controller-meant kind value read is =
     let metadata = bind-output (required (codes "metadata") controller_metadata value) _ read is in
     let spec = bind-output (optional (codes "spec") (controller_spec kind) value) _ read metadata.after in
     let own = metadata-meant (object_at (codes "metadata") value) metadata.first (object_at-output controller_metadata (codes "metadata") value metadata.first metadata.here) in
-    let says = or_none (controller_spec kind) (λ value. has_replicas kind && is_nought (number_at (codes "replicas") value)) (template_in kind) (no-replicas kind) (no-template kind) (spec-meant kind) (member_of (codes "spec") value) spec.first (optional-output (controller_spec kind) (codes "spec") value spec.first spec.here) in
+    let says = or_none (controller_spec kind) (λ value. has_replicas kind && is_nought (number_at (codes "replicas") value)) (template_in kind) (no-replicas kind) (no-template kind) (spec-meant kind)
+    (member_of (codes "spec") value) spec.first (optional-output (controller_spec kind) (codes "spec") value spec.first spec.here) in
     subst (λ read. IfOk read (IsControllerOf kind value)) spec.after (record {
       kind = refl;
       names = (own.namespace, own.name);

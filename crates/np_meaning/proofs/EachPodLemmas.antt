@@ -1,5 +1,6 @@
 -- The pods of an estate are those of the items that were read.
-use Rattle.std.proofs.Common.{◌≡◌, ◌≢◌, ℕ, zero, suc, ◌+◌, ◌≤◌, List, [], ◌∷◌, ◌++◌, length, reverse, get_or, nat_lt, Bool, true, false, cond, not, ◌&&◌, ◌||◌, is_some, Option, Some, None, Ok, refl, sym, ap, subst, ◌∙◌, arith, add-zero, zero-add}
+use Rattle.std.proofs.Common.{◌≡◌, ◌≢◌, ℕ, zero, suc, ◌+◌, ◌≤◌, List, [], ◌∷◌, ◌++◌, length, reverse, get_or, nat_lt, Bool, true, false, cond, not, ◌&&◌, ◌||◌, is_some, Option, Some, None, Ok, refl}
+use Rattle.std.proofs.Common.{sym, ap, subst, ◌∙◌, arith, add-zero, zero-add}
 use Rattle.std.specs.Prelude.{codes, filter, find, option_to_list}
 use Rattle.std.specs.List.{cons_option, filter_map, position, position_or_len, slice_get}
 use Rattle.std.specs.Option.{option_and_then, option_flatten, option_map, option_map_or}
@@ -83,7 +84,8 @@ chain-names_one : (items : List Item) (steps place : ℕ) → names_one items pl
 chain-names_one items zero place is = is
 chain-names_one items (suc steps) place is = by (λ above over. chain-names_one items steps above (up-names_one items place above over)) (up (ups items) place) refl
   where
-    by : ((above : ℕ) → up (ups items) place ≡ Some above → names_one items (last_of above (chain (ups items) steps above)) ≡ true) → (above : Option ℕ) → up (ups items) place ≡ above → names_one items (last_of place (option_map_or (λ above. above ∷ chain (ups items) steps above) above [])) ≡ true
+    by : ((above : ℕ) → up (ups items) place ≡ Some above → names_one items (last_of above (chain (ups items) steps above)) ≡ true) → (above : Option ℕ) → up (ups items) place ≡ above →
+        names_one items (last_of place (option_map_or (λ above. above ∷ chain (ups items) steps above) above [])) ≡ true
     by further None over = is
     by further (Some above) over = further above over
 
@@ -117,10 +119,12 @@ nothing true = tt
 nothing false = tt
 
 module _ (items : List Item) (place : ℕ) where
-  pod-fits : (one : PodItem) → slice_get items place ≡ Some (item.Object (object.Pod one)) → Fits (taken (Some one)) (cond (makes_pod items place) None None) (pod_at_item items place (item.Object (object.Pod one)))
+  pod-fits : (one : PodItem) → slice_get items place ≡ Some (item.Object (object.Pod one)) →
+      Fits (taken (Some one)) (cond (makes_pod items place) None None) (pod_at_item items place (item.Object (object.Pod one)))
   pod-fits one at =
       let owner = top_owner-there items place (item.Object (object.Pod one)) at (itself one.owner) in
-      let given : Option Owner → Option Pod = λ top. option_and_then (end_of (item.Object (object.Pod one))) (cond (not (one.host_network || one.finished)) (context_of items (item.Object (object.Pod one)) top) None) in
+      let given : Option Owner → Option Pod = λ top. option_and_then (end_of (item.Object (object.Pod one)))
+      (cond (not (one.host_network || one.finished)) (context_of items (item.Object (object.Pod one)) top) None) in
       subst (λ (top : Option Owner). Fits (taken (Some one)) (cond (makes_pod items place) None None) (given top)) (sym owner.1)
       (by (namespace_labels items one.namespace) owner.0 one.host_network one.finished (makes_pod items place))
     where
@@ -128,16 +132,20 @@ module _ (items : List Item) (place : ℕ) where
       itself None = refl
       itself (Some owner) = refl
 
-      by : (around : List Pair) (top : Owner) (host finished makes : Bool) → Fits (cond (not host && not finished) (Some one) None) (cond makes None None) (option_and_then (end_of (item.Object (object.Pod one))) (cond (not (host || finished)) (Some (context around top)) None))
+      by : (around : List Pair) (top : Owner) (host finished makes : Bool) →
+          Fits (cond (not host && not finished) (Some one) None) (cond makes None None)
+          (option_and_then (end_of (item.Object (object.Pod one))) (cond (not (host || finished)) (Some (context around top)) None))
       by around top true finished makes = nothing makes
       by around top false true makes = nothing makes
       by around top false false true = (record { namespace = refl; name = refl; labels = refl; ports = refl; addresses = refl }, refl)
       by around top false false false = (record { namespace = refl; name = refl; labels = refl; ports = refl; addresses = refl }, refl)
 
-  controller-fits : (one : ControllerItem) → slice_get items place ≡ Some (item.Object (object.Controller one)) → Fits None (cond (makes_pod items place) (templated (item.Object (object.Controller one))) None) (pod_at_item items place (item.Object (object.Controller one)))
+  controller-fits : (one : ControllerItem) → slice_get items place ≡ Some (item.Object (object.Controller one)) →
+      Fits None (cond (makes_pod items place) (templated (item.Object (object.Controller one))) None) (pod_at_item items place (item.Object (object.Controller one)))
   controller-fits one at =
       let owner = top_owner-there items place (item.Object (object.Controller one)) at (itself one.owner) in
-      let given : Option Owner → Option Pod = λ top. option_and_then (end_of (item.Object (object.Controller one))) (cond (makes_pod items place && not (is_on_host one)) (context_of items (item.Object (object.Controller one)) top) None) in
+      let given : Option Owner → Option Pod = λ top. option_and_then (end_of (item.Object (object.Controller one)))
+      (cond (makes_pod items place && not (is_on_host one)) (context_of items (item.Object (object.Controller one)) top) None) in
       subst (λ (top : Option Owner). Fits None (cond (makes_pod items place) (templated (item.Object (object.Controller one))) None) (given top)) (sym owner.1)
       (by (namespace_labels items one.namespace) owner.0 (makes_pod items place) one.template)
     where
@@ -145,12 +153,15 @@ module _ (items : List Item) (place : ℕ) where
       itself None = refl
       itself (Some owner) = refl
 
-      on_host : (around : List Pair) (top : Owner) (template : Template) (host : Bool) → Fits None (cond host None (Some (one, template))) (option_and_then (λ around. Some (made_pod one around template)) (cond (not host) (Some (context around top)) None))
+      on_host : (around : List Pair) (top : Owner) (template : Template) (host : Bool) →
+          Fits None (cond host None (Some (one, template))) (option_and_then (λ around. Some (made_pod one around template)) (cond (not host) (Some (context around top)) None))
       on_host around top template true = tt
       on_host around top template false = (record { namespace = refl; name = refl; labels = refl; ports = refl; addresses = refl }, refl)
 
-      by : (around : List Pair) (top : Owner) (makes : Bool) (template : Option Template) → Fits None (cond makes (option_and_then (λ template. cond template.host_network None (Some (one, template))) template) None)
-          (option_and_then (λ around. option_map (made_pod one around) template) (cond (makes && not (option_map_or (λ template. template.host_network) template false)) (Some (context around top)) None))
+      by : (around : List Pair) (top : Owner) (makes : Bool) (template : Option Template) →
+          Fits None (cond makes (option_and_then (λ template. cond template.host_network None (Some (one, template))) template) None)
+          (option_and_then (λ around. option_map (made_pod one around) template)
+          (cond (makes && not (option_map_or (λ template. template.host_network) template false)) (Some (context around top)) None))
       by around top false template = tt
       by around top true None = tt
       by around top true (Some template) = on_host around top template template.host_network
@@ -175,7 +186,8 @@ record HoldsBoth (listed : List PodItem) (made : List (ControllerItem × Templat
   pub of_listed : AreEach IsListedPod listed (listed_ends ends)
   pub of_made : AreEach IsMadePod made (made_ends ends)
 
-one_more : (one : Option PodItem) (made : Option (ControllerItem × Template)) (end : Option Pod) (ones : List PodItem) (mades : List (ControllerItem × Template)) (ends : List Pod) → Fits one made end → HoldsBoth ones mades ends → HoldsBoth (option_to_list one ++ ones) (option_to_list made ++ mades) (option_to_list end ++ ends)
+one_more : (one : Option PodItem) (made : Option (ControllerItem × Template)) (end : Option Pod) (ones : List PodItem) (mades : List (ControllerItem × Template)) (ends : List Pod) →
+    Fits one made end → HoldsBoth ones mades ends → HoldsBoth (option_to_list one ++ ones) (option_to_list made ++ mades) (option_to_list end ++ ends)
 one_more None None None ones mades ends fits rest = rest
 one_more None None (Some end) ones mades ends fits rest = absurd fits
 one_more (Some one) None None ones mades ends fits rest = absurd fits
@@ -201,13 +213,15 @@ taken-first one rest = by (pod one)
     by None = refl
     by (Some p) = by_part p (takes_part p) (filter takes_part (filter_map pod rest))
 
-from-holds : (items : List Item) (place : ℕ) (rest : List Item) → ((k : ℕ) → slice_get items (place + k) ≡ slice_get rest k) → HoldsBoth (filter takes_part (filter_map pod rest)) (templates_from items place rest) (pods_from items place rest)
+from-holds : (items : List Item) (place : ℕ) (rest : List Item) → ((k : ℕ) → slice_get items (place + k) ≡ slice_get rest k) →
+    HoldsBoth (filter takes_part (filter_map pod rest)) (templates_from items place rest) (pods_from items place rest)
 from-holds items place [] at = record { of_listed = tt; of_made = tt }
 from-holds items place (one ∷ rest) at =
     let here : slice_get items place ≡ Some one = ap (slice_get items) (sym (add-zero place)) ∙ at 0 in
     let others = from-holds items (place + 1) rest (λ k. let next : place + 1 + k ≡ place + suc k = omega arith in ap (slice_get items) next ∙ at (suc k)) in
     subst (λ ones. HoldsBoth ones (templates_from items place (one ∷ rest)) (pods_from items place (one ∷ rest))) (sym (taken-first one rest))
-    (one_more (taken (pod one)) (cond (makes_pod items place) (templated one) None) (pod_at_item items place one) (filter takes_part (filter_map pod rest)) (templates_from items (place + 1) rest) (pods_from items (place + 1) rest) (item-fits items place one here) others)
+    (one_more (taken (pod one)) (cond (makes_pod items place) (templated one) None) (pod_at_item items place one) (filter takes_part (filter_map pod rest)) (templates_from items (place + 1) rest)
+    (pods_from items (place + 1) rest) (item-fits items place one here) others)
 
 -- ---- namespaces
 
@@ -236,7 +250,8 @@ labels_in-found : (name : List ℕ) (items : List Item) → labels_in (find (is_
 labels_in-found name [] = refl
 labels_in-found name (item.Object (object.Namespace one) ∷ rest) = by (bytes_eq name one.name) (labels_in-found name rest)
   where
-    by : (b : Bool) → labels_in (find (is_named (namespace_name name)) rest) ≡ labels_found (namespace_named rest name) → labels_in (cond b (Some (item.Object (object.Namespace one))) (find (is_named (namespace_name name)) rest)) ≡ labels_found (cond b (Some one) (namespace_named rest name))
+    by : (b : Bool) → labels_in (find (is_named (namespace_name name)) rest) ≡ labels_found (namespace_named rest name) →
+        labels_in (cond b (Some (item.Object (object.Namespace one))) (find (is_named (namespace_name name)) rest)) ≡ labels_found (cond b (Some one) (namespace_named rest name))
     by true others = refl
     by false others = others
 labels_in-found name (item.Object (object.Pod one) ∷ rest) = labels_in-found name rest
@@ -251,7 +266,8 @@ labels_in-found name (item.Policy (policy.Base one) ∷ rest) = labels_in-found 
 listed_labels-found : (items : List Item) (name : List ℕ) → listed_labels items name ≡ labels_found (namespace_named items name)
 listed_labels-found items name = ap labels_in (found_at (is_named (namespace_name name)) items) ∙ labels_in-found name items
 
-other_label : (items : List Item) (name key : List ℕ) → key ≢ codes "kubernetes.io/metadata.name" → value_of (namespace_labels items name) key ≡ option_and_then (λ one. last_value_of one.labels key) (namespace_named items name)
+other_label : (items : List Item) (name key : List ℕ) → key ≢ codes "kubernetes.io/metadata.name" →
+    value_of (namespace_labels items name) key ≡ option_and_then (λ one. last_value_of one.labels key) (namespace_named items name)
 other_label items name key other =
     value_of-labels_of (listed_labels items name ++ name_label name ∷ []) key
     ∙ ap (λ (pairs : List Pair). value_of pairs key) (reverse-append (listed_labels items name) (name_label name ∷ []))

@@ -29,7 +29,8 @@ backend_port-meant : (value : Data) (read : PortName) → backend_port value ≡
 unfolding backend_port
 backend_port-meant value read is =
     let past = then-output (must_be_object value) _ read is in
-    let shaped = then-output (refuse_if (not (is_one (is_numbered (whole_of (codes "number") value)) (is_named (text_of (codes "name") value)))) BadField) (number_or_name (is_numbered (whole_of (codes "number") value)) value) read past in
+    let shaped = then-output (refuse_if (not (is_one (is_numbered (whole_of (codes "number") value)) (is_named (text_of (codes "name") value)))) BadField)
+    (number_or_name (is_numbered (whole_of (codes "number") value)) value) read past in
     by (is_numbered (whole_of (codes "number") value)) shaped
   where
     by : (b : Bool) → number_or_name b value ≡ Ok read → IsBackendPort value read
@@ -54,7 +55,11 @@ backend_service-meant value read is =
     let name = bind-output (required (codes "name") text value) _ read past in
     let port = bind-output (required (codes "port") backend_port value) (λ port. Ok (Service name.first port)) read name.after in
     let made : Service name.first port.first ≡ read = let after = port.after in cc in
-    subst (IsServiceBackend value) made (text_at-required text text-output (codes "name") value name.first name.here, backend_port-meant (object_at (codes "port") value) port.first (object_at-output backend_port (codes "port") value port.first port.here))
+    subst (IsServiceBackend value) made (
+      text_at-required text text-output (codes "name") value name.first name.here,
+      backend_port-meant (object_at (codes "port") value) port.first
+          (object_at-output backend_port (codes "port") value port.first port.here),
+    )
 
 backend-meant : (value : Data) (read : Backend) → backend value ≡ Ok read → IsBackend value read
 unfolding backend
@@ -97,7 +102,8 @@ http-meant : (value : Data) (reads : List Backend) → http value ≡ Ok reads �
 unfolding http
 http-meant value reads is =
     let past = then-output (must_be_object value) (listed (codes "paths") path value) reads is in
-    AreEach-map (object_at (codes "backend")) (list_at (codes "paths") value) reads (each-output path (λ d read. IsBackend (object_at (codes "backend") d) read) path-meant (codes "paths") value reads past)
+    AreEach-map (object_at (codes "backend")) (list_at (codes "paths") value) reads
+    (each-output path (λ d read. IsBackend (object_at (codes "backend") d) read) path-meant (codes "paths") value reads past)
 
 rule-meant : (value : Data) (reads : List Backend) → rule value ≡ Ok reads → AreEach IsBackend (paths_of (object_at (codes "http") value)) reads
 unfolding rule
@@ -123,9 +129,11 @@ ingress_spec-meant value reads is =
     let rules = bind-output (listed (codes "rules") rule value) (λ rules. Ok (option_to_list first.first ++ flat_map (λ backends. backends) rules)) reads first.after in
     let made : option_to_list first.first ++ flat_map (λ backends. backends) rules.first ≡ reads = let after = rules.after in cc in
     subst (AreEach IsBackend (backends_in value)) made
-    (AreEach-append IsBackend (option_to_list (member_of (codes "defaultBackend") value)) (flat_map (λ d. paths_of (object_at (codes "http") d)) (list_at (codes "rules") value)) (option_to_list first.first) (flat_map (λ backends. backends) rules.first)
+    (AreEach-append IsBackend (option_to_list (member_of (codes "defaultBackend") value)) (flat_map (λ d. paths_of (object_at (codes "http") d)) (list_at (codes "rules") value))
+    (option_to_list first.first) (flat_map (λ backends. backends) rules.first)
     (by (member_of (codes "defaultBackend") value) first.first (optional-output backend (codes "defaultBackend") value first.first first.here))
-    (AreEach-flat_map IsBackend (λ d. paths_of (object_at (codes "http") d)) (list_at (codes "rules") value) rules.first (each-output rule (λ d reads. AreEach IsBackend (paths_of (object_at (codes "http") d)) reads) rule-meant (codes "rules") value rules.first rules.here)))
+    (AreEach-flat_map IsBackend (λ d. paths_of (object_at (codes "http") d)) (list_at (codes "rules") value) rules.first
+    (each-output rule (λ d reads. AreEach IsBackend (paths_of (object_at (codes "http") d)) reads) rule-meant (codes "rules") value rules.first rules.here)))
   where
     by : (member : Option Data) (found : Option Backend) → IsOptional backend member found → AreEach IsBackend (option_to_list member) (option_to_list found)
     by None None said = tt

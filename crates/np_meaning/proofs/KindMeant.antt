@@ -40,37 +40,45 @@ called : (version kind one other : List ℕ) (value : Data) → Names version ki
 called version kind one other value names first second = (names.0 ∙ (bytes_decides version one).0 first, names.1 ∙ (bytes_decides kind other).0 second)
 
 -- a controller that was read is of the kind by which it was read
-controlled : (kind : ControllerKind) (item : ControllerItem) (value : Data) → Names (version_of kind) (kind_name kind) value → controller kind value ≡ Ok item → IsOfItsKind value (object.Controller item)
+controlled : (kind : ControllerKind) (item : ControllerItem) (value : Data) → Names (version_of kind) (kind_name kind) value → controller kind value ≡ Ok item →
+    IsOfItsKind value (object.Controller item)
 controlled kind item value names is =
     let same = (controller-meant kind value item is).kind in
     subst (λ (kind : ControllerKind). Names (version_of kind) (kind_name kind) value × (controller kind value ≡ Ok item)) (sym same) (names, is)
 
 -- what was read by the definition of a kind is so of the object
-taken : {A : Type 0} (value : Data) (one : Read A) (make : A → Object) (read : Object) → ((item : A) → one ≡ Ok item → IsOfItsKind value (make item)) → (one >>= λ item. Ok (make item)) ≡ Ok read → IsOfItsKind value read
+taken : {A : Type 0} (value : Data) (one : Read A) (make : A → Object) (read : Object) → ((item : A) → one ≡ Ok item → IsOfItsKind value (make item)) → (one >>= λ item. Ok (make item)) ≡ Ok read →
+    IsOfItsKind value read
 taken value one make read so is =
     let item = bind-output one (λ item. Ok (make item)) read is in
     subst (λ read. IfOk read (IsOfItsKind value)) item.after (so item.first item.here)
 
 module _ (value : Data) (meta : TypeMeta) (names : Names meta.api_version meta.kind value) (read : Object) (is : object_by (kind_of meta.api_version meta.kind) value ≡ Ok read) where
   -- the kinds of `v1`
-  as_service : bytes_eq meta.api_version (codes "v1") ≡ true → bytes_eq meta.kind (codes "Pod") ≡ false → bytes_eq meta.kind (codes "Namespace") ≡ false → bytes_eq meta.kind (codes "ReplicationController") ≡ false → (here : Bool) → bytes_eq meta.kind (codes "Service") ≡ here → IsOfItsKind value read
+  as_service : bytes_eq meta.api_version (codes "v1") ≡ true → bytes_eq meta.kind (codes "Pod") ≡ false → bytes_eq meta.kind (codes "Namespace") ≡ false →
+      bytes_eq meta.kind (codes "ReplicationController") ≡ false → (here : Bool) → bytes_eq meta.kind (codes "Service") ≡ here → IsOfItsKind value read
   unfolding object_by
   as_service core no_pod no_namespace no_replication_controller true kind =
-      taken value (service value) object.Service read (λ item found. (called meta.api_version meta.kind (codes "v1") (codes "Service") value names core kind, found)) (rw (core, no_pod, no_namespace, no_replication_controller, kind) at is)
+      taken value (service value) object.Service read (λ item found. (called meta.api_version meta.kind (codes "v1") (codes "Service") value names core kind, found))
+      (rw (core, no_pod, no_namespace, no_replication_controller, kind) at is)
   as_service core no_pod no_namespace no_replication_controller false kind =
       subst (λ read. IfOk read (IsOfItsKind value)) (rw (core, no_pod, no_namespace, no_replication_controller, kind) at is) tt
 
-  as_replication_controller : bytes_eq meta.api_version (codes "v1") ≡ true → bytes_eq meta.kind (codes "Pod") ≡ false → bytes_eq meta.kind (codes "Namespace") ≡ false → (here : Bool) → bytes_eq meta.kind (codes "ReplicationController") ≡ here → IsOfItsKind value read
+  as_replication_controller : bytes_eq meta.api_version (codes "v1") ≡ true → bytes_eq meta.kind (codes "Pod") ≡ false → bytes_eq meta.kind (codes "Namespace") ≡ false → (here : Bool) →
+      bytes_eq meta.kind (codes "ReplicationController") ≡ here → IsOfItsKind value read
   unfolding object_by
   as_replication_controller core no_pod no_namespace true kind =
-      taken value (controller ReplicationController value) object.Controller read (λ item found. controlled ReplicationController item value (called meta.api_version meta.kind (codes "v1") (codes "ReplicationController") value names core kind) found) (rw (core, no_pod, no_namespace, kind) at is)
+      taken value (controller ReplicationController value) object.Controller read
+      (λ item found. controlled ReplicationController item value (called meta.api_version meta.kind (codes "v1") (codes "ReplicationController") value names core kind) found)
+      (rw (core, no_pod, no_namespace, kind) at is)
   as_replication_controller core no_pod no_namespace false kind =
       as_service core no_pod no_namespace kind (bytes_eq meta.kind (codes "Service")) refl
 
   as_namespace : bytes_eq meta.api_version (codes "v1") ≡ true → bytes_eq meta.kind (codes "Pod") ≡ false → (here : Bool) → bytes_eq meta.kind (codes "Namespace") ≡ here → IsOfItsKind value read
   unfolding object_by
   as_namespace core no_pod true kind =
-      taken value (namespace value) object.Namespace read (λ item found. (called meta.api_version meta.kind (codes "v1") (codes "Namespace") value names core kind, found)) (rw (core, no_pod, kind) at is)
+      taken value (namespace value) object.Namespace read (λ item found. (called meta.api_version meta.kind (codes "v1") (codes "Namespace") value names core kind, found))
+      (rw (core, no_pod, kind) at is)
   as_namespace core no_pod false kind =
       as_replication_controller core no_pod kind (bytes_eq meta.kind (codes "ReplicationController")) refl
 
@@ -82,64 +90,84 @@ module _ (value : Data) (meta : TypeMeta) (names : Names meta.api_version meta.k
       as_namespace core kind (bytes_eq meta.kind (codes "Namespace")) refl
 
   -- the kinds of `apps/v1`
-  as_daemon_set : bytes_eq meta.api_version (codes "v1") ≡ false → bytes_eq meta.api_version (codes "apps/v1") ≡ true → bytes_eq meta.kind (codes "Deployment") ≡ false → bytes_eq meta.kind (codes "ReplicaSet") ≡ false → bytes_eq meta.kind (codes "StatefulSet") ≡ false → (here : Bool) → bytes_eq meta.kind (codes "DaemonSet") ≡ here → IsOfItsKind value read
+  as_daemon_set : bytes_eq meta.api_version (codes "v1") ≡ false → bytes_eq meta.api_version (codes "apps/v1") ≡ true → bytes_eq meta.kind (codes "Deployment") ≡ false →
+      bytes_eq meta.kind (codes "ReplicaSet") ≡ false → bytes_eq meta.kind (codes "StatefulSet") ≡ false → (here : Bool) → bytes_eq meta.kind (codes "DaemonSet") ≡ here → IsOfItsKind value read
   unfolding object_by
   as_daemon_set not_core apps no_deployment no_replica_set no_stateful_set true kind =
-      taken value (controller DaemonSet value) object.Controller read (λ item found. controlled DaemonSet item value (called meta.api_version meta.kind (codes "apps/v1") (codes "DaemonSet") value names apps kind) found) (rw (not_core, apps, no_deployment, no_replica_set, no_stateful_set, kind) at is)
+      taken value (controller DaemonSet value) object.Controller read
+      (λ item found. controlled DaemonSet item value (called meta.api_version meta.kind (codes "apps/v1") (codes "DaemonSet") value names apps kind) found)
+      (rw (not_core, apps, no_deployment, no_replica_set, no_stateful_set, kind) at is)
   as_daemon_set not_core apps no_deployment no_replica_set no_stateful_set false kind =
       subst (λ read. IfOk read (IsOfItsKind value)) (rw (not_core, apps, no_deployment, no_replica_set, no_stateful_set, kind) at is) tt
 
-  as_stateful_set : bytes_eq meta.api_version (codes "v1") ≡ false → bytes_eq meta.api_version (codes "apps/v1") ≡ true → bytes_eq meta.kind (codes "Deployment") ≡ false → bytes_eq meta.kind (codes "ReplicaSet") ≡ false → (here : Bool) → bytes_eq meta.kind (codes "StatefulSet") ≡ here → IsOfItsKind value read
+  as_stateful_set : bytes_eq meta.api_version (codes "v1") ≡ false → bytes_eq meta.api_version (codes "apps/v1") ≡ true → bytes_eq meta.kind (codes "Deployment") ≡ false →
+      bytes_eq meta.kind (codes "ReplicaSet") ≡ false → (here : Bool) → bytes_eq meta.kind (codes "StatefulSet") ≡ here → IsOfItsKind value read
   unfolding object_by
   as_stateful_set not_core apps no_deployment no_replica_set true kind =
-      taken value (controller StatefulSet value) object.Controller read (λ item found. controlled StatefulSet item value (called meta.api_version meta.kind (codes "apps/v1") (codes "StatefulSet") value names apps kind) found) (rw (not_core, apps, no_deployment, no_replica_set, kind) at is)
+      taken value (controller StatefulSet value) object.Controller read
+      (λ item found. controlled StatefulSet item value (called meta.api_version meta.kind (codes "apps/v1") (codes "StatefulSet") value names apps kind) found)
+      (rw (not_core, apps, no_deployment, no_replica_set, kind) at is)
   as_stateful_set not_core apps no_deployment no_replica_set false kind =
       as_daemon_set not_core apps no_deployment no_replica_set kind (bytes_eq meta.kind (codes "DaemonSet")) refl
 
-  as_replica_set : bytes_eq meta.api_version (codes "v1") ≡ false → bytes_eq meta.api_version (codes "apps/v1") ≡ true → bytes_eq meta.kind (codes "Deployment") ≡ false → (here : Bool) → bytes_eq meta.kind (codes "ReplicaSet") ≡ here → IsOfItsKind value read
+  as_replica_set : bytes_eq meta.api_version (codes "v1") ≡ false → bytes_eq meta.api_version (codes "apps/v1") ≡ true → bytes_eq meta.kind (codes "Deployment") ≡ false → (here : Bool) →
+      bytes_eq meta.kind (codes "ReplicaSet") ≡ here → IsOfItsKind value read
   unfolding object_by
   as_replica_set not_core apps no_deployment true kind =
-      taken value (controller ReplicaSet value) object.Controller read (λ item found. controlled ReplicaSet item value (called meta.api_version meta.kind (codes "apps/v1") (codes "ReplicaSet") value names apps kind) found) (rw (not_core, apps, no_deployment, kind) at is)
+      taken value (controller ReplicaSet value) object.Controller read
+      (λ item found. controlled ReplicaSet item value (called meta.api_version meta.kind (codes "apps/v1") (codes "ReplicaSet") value names apps kind) found)
+      (rw (not_core, apps, no_deployment, kind) at is)
   as_replica_set not_core apps no_deployment false kind =
       as_stateful_set not_core apps no_deployment kind (bytes_eq meta.kind (codes "StatefulSet")) refl
 
-  as_deployment : bytes_eq meta.api_version (codes "v1") ≡ false → bytes_eq meta.api_version (codes "apps/v1") ≡ true → (here : Bool) → bytes_eq meta.kind (codes "Deployment") ≡ here → IsOfItsKind value read
+  as_deployment : bytes_eq meta.api_version (codes "v1") ≡ false → bytes_eq meta.api_version (codes "apps/v1") ≡ true → (here : Bool) → bytes_eq meta.kind (codes "Deployment") ≡ here →
+      IsOfItsKind value read
   unfolding object_by
   as_deployment not_core apps true kind =
-      taken value (controller Deployment value) object.Controller read (λ item found. controlled Deployment item value (called meta.api_version meta.kind (codes "apps/v1") (codes "Deployment") value names apps kind) found) (rw (not_core, apps, kind) at is)
+      taken value (controller Deployment value) object.Controller read
+      (λ item found. controlled Deployment item value (called meta.api_version meta.kind (codes "apps/v1") (codes "Deployment") value names apps kind) found) (rw (not_core, apps, kind) at is)
   as_deployment not_core apps false kind =
       as_replica_set not_core apps kind (bytes_eq meta.kind (codes "ReplicaSet")) refl
 
   -- the kinds of `batch/v1`
-  as_cron_job : bytes_eq meta.api_version (codes "v1") ≡ false → bytes_eq meta.api_version (codes "apps/v1") ≡ false → bytes_eq meta.api_version (codes "batch/v1") ≡ true → bytes_eq meta.kind (codes "Job") ≡ false → (here : Bool) → bytes_eq meta.kind (codes "CronJob") ≡ here → IsOfItsKind value read
+  as_cron_job : bytes_eq meta.api_version (codes "v1") ≡ false → bytes_eq meta.api_version (codes "apps/v1") ≡ false → bytes_eq meta.api_version (codes "batch/v1") ≡ true →
+      bytes_eq meta.kind (codes "Job") ≡ false → (here : Bool) → bytes_eq meta.kind (codes "CronJob") ≡ here → IsOfItsKind value read
   unfolding object_by
   as_cron_job not_core not_apps batch no_job true kind =
-      taken value (controller CronJob value) object.Controller read (λ item found. controlled CronJob item value (called meta.api_version meta.kind (codes "batch/v1") (codes "CronJob") value names batch kind) found) (rw (not_core, not_apps, batch, no_job, kind) at is)
+      taken value (controller CronJob value) object.Controller read
+      (λ item found. controlled CronJob item value (called meta.api_version meta.kind (codes "batch/v1") (codes "CronJob") value names batch kind) found)
+      (rw (not_core, not_apps, batch, no_job, kind) at is)
   as_cron_job not_core not_apps batch no_job false kind =
       subst (λ read. IfOk read (IsOfItsKind value)) (rw (not_core, not_apps, batch, no_job, kind) at is) tt
 
-  as_job : bytes_eq meta.api_version (codes "v1") ≡ false → bytes_eq meta.api_version (codes "apps/v1") ≡ false → bytes_eq meta.api_version (codes "batch/v1") ≡ true → (here : Bool) → bytes_eq meta.kind (codes "Job") ≡ here → IsOfItsKind value read
+  as_job : bytes_eq meta.api_version (codes "v1") ≡ false → bytes_eq meta.api_version (codes "apps/v1") ≡ false → bytes_eq meta.api_version (codes "batch/v1") ≡ true → (here : Bool) →
+      bytes_eq meta.kind (codes "Job") ≡ here → IsOfItsKind value read
   unfolding object_by
   as_job not_core not_apps batch true kind =
-      taken value (controller Job value) object.Controller read (λ item found. controlled Job item value (called meta.api_version meta.kind (codes "batch/v1") (codes "Job") value names batch kind) found) (rw (not_core, not_apps, batch, kind) at is)
+      taken value (controller Job value) object.Controller read (λ item found. controlled Job item value
+      (called meta.api_version meta.kind (codes "batch/v1") (codes "Job") value names batch kind) found) (rw (not_core, not_apps, batch, kind) at is)
   as_job not_core not_apps batch false kind =
       as_cron_job not_core not_apps batch kind (bytes_eq meta.kind (codes "CronJob")) refl
 
   -- the kinds of `networking.k8s.io/v1`
-  as_ingress : bytes_eq meta.api_version (codes "v1") ≡ false → bytes_eq meta.api_version (codes "apps/v1") ≡ false → bytes_eq meta.api_version (codes "batch/v1") ≡ false → bytes_eq meta.api_version (codes "networking.k8s.io/v1") ≡ true → (here : Bool) → bytes_eq meta.kind (codes "Ingress") ≡ here → IsOfItsKind value read
+  as_ingress : bytes_eq meta.api_version (codes "v1") ≡ false → bytes_eq meta.api_version (codes "apps/v1") ≡ false → bytes_eq meta.api_version (codes "batch/v1") ≡ false →
+      bytes_eq meta.api_version (codes "networking.k8s.io/v1") ≡ true → (here : Bool) → bytes_eq meta.kind (codes "Ingress") ≡ here → IsOfItsKind value read
   unfolding object_by
   as_ingress not_core not_apps not_batch networking true kind =
-      taken value (ingress value) object.Ingress read (λ item found. (called meta.api_version meta.kind (codes "networking.k8s.io/v1") (codes "Ingress") value names networking kind, found)) (rw (not_core, not_apps, not_batch, networking, kind) at is)
+      taken value (ingress value) object.Ingress read (λ item found. (called meta.api_version meta.kind (codes "networking.k8s.io/v1") (codes "Ingress") value names networking kind, found))
+      (rw (not_core, not_apps, not_batch, networking, kind) at is)
   as_ingress not_core not_apps not_batch networking false kind =
       subst (λ read. IfOk read (IsOfItsKind value)) (rw (not_core, not_apps, not_batch, networking, kind) at is) tt
 
   -- the versions
-  of_networking : bytes_eq meta.api_version (codes "v1") ≡ false → bytes_eq meta.api_version (codes "apps/v1") ≡ false → bytes_eq meta.api_version (codes "batch/v1") ≡ false → (here : Bool) → bytes_eq meta.api_version (codes "networking.k8s.io/v1") ≡ here → IsOfItsKind value read
+  of_networking : bytes_eq meta.api_version (codes "v1") ≡ false → bytes_eq meta.api_version (codes "apps/v1") ≡ false → bytes_eq meta.api_version (codes "batch/v1") ≡ false → (here : Bool) →
+      bytes_eq meta.api_version (codes "networking.k8s.io/v1") ≡ here → IsOfItsKind value read
   unfolding object_by
   of_networking not_core not_apps not_batch true networking = as_ingress not_core not_apps not_batch networking (bytes_eq meta.kind (codes "Ingress")) refl
   of_networking not_core not_apps not_batch false version = subst (λ read. IfOk read (IsOfItsKind value)) (rw (not_core, not_apps, not_batch, version) at is) tt
 
-  of_batch : bytes_eq meta.api_version (codes "v1") ≡ false → bytes_eq meta.api_version (codes "apps/v1") ≡ false → (here : Bool) → bytes_eq meta.api_version (codes "batch/v1") ≡ here → IsOfItsKind value read
+  of_batch : bytes_eq meta.api_version (codes "v1") ≡ false → bytes_eq meta.api_version (codes "apps/v1") ≡ false → (here : Bool) → bytes_eq meta.api_version (codes "batch/v1") ≡ here →
+      IsOfItsKind value read
   of_batch not_core not_apps true batch = as_job not_core not_apps batch (bytes_eq meta.kind (codes "Job")) refl
   of_batch not_core not_apps false version = of_networking not_core not_apps version (bytes_eq meta.api_version (codes "networking.k8s.io/v1")) refl
 

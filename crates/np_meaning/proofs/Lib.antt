@@ -12,3 +12,5 @@ pub mod PodMeant
 pub mod RowTexts
 pub mod ServiceMeant
 pub mod SpanTexts
+pub mod TableRows
+pub mod TemplatePodLemmas

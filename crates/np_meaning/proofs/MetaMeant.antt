@@ -1,5 +1,6 @@
 -- Names and labels that were read are what the metadata says.
-use Rattle.std.proofs.Common.{◌≡◌, ℕ, List, [], ◌∷◌, ◌++◌, length, map, reverse, Bool, true, false, cond, not, ◌==◌, is_some, Option, Some, None, option_and_then, option_map, unwrap_or, codes, Ok, refl, sym, ap, subst, ◌∙◌, arith}
+use Rattle.std.proofs.Common.{◌≡◌, ℕ, List, [], ◌∷◌, ◌++◌, length, map, reverse, Bool, true, false, cond, not, ◌==◌, is_some, Option, Some, None, option_and_then, option_map, unwrap_or, codes, Ok}
+use Rattle.std.proofs.Common.{refl, sym, ap, subst, ◌∙◌, arith}
 use Rattle.std.specs.List.{list_all}
 use Rattle.std.specs.Str.{bytes_eq}
 use Rattle.std.proofs.lemmas.Bool.Decides.{nat_tests}
@@ -38,7 +39,8 @@ namespace-output value s is =
     let same : meta.or_default read.first ≡ s = cc in
     rw (text-output value read.first read.here) (named_or_default-is read.first ∙ same)
 
-namespace-meant : (member : Option Data) (found : Option (List ℕ)) → IsOptional meta.namespace member found → named_or_default (unwrap_or (as_str (unwrap_or member (object no_members))) []) ≡ unwrap_or found (codes "default")
+namespace-meant : (member : Option Data) (found : Option (List ℕ)) → IsOptional meta.namespace member found →
+    named_or_default (unwrap_or (as_str (unwrap_or member (object no_members))) []) ≡ unwrap_or found (codes "default")
 namespace-meant None None is = refl
 namespace-meant None (Some s) is = absurd is
 namespace-meant (Some one) None is = absurd is
@@ -63,22 +65,26 @@ namespaced_name-meant value own is =
 
 -- ---- labels
 
-value_of-last : (pairs : List Pair) (pair : Pair) (key : List ℕ) → value_of (pairs ++ pair ∷ []) key ≡ cond (is_some (value_of pairs key)) (value_of pairs key) (cond (bytes_eq pair.key key) (Some pair.value) None)
+value_of-last : (pairs : List Pair) (pair : Pair) (key : List ℕ) →
+    value_of (pairs ++ pair ∷ []) key ≡ cond (is_some (value_of pairs key)) (value_of pairs key) (cond (bytes_eq pair.key key) (Some pair.value) None)
 value_of-last [] pair key = refl
 value_of-last (first ∷ pairs) pair key = by (bytes_eq first.key key) (value_of-last pairs pair key)
   where
     end : Option (List ℕ)
     end = cond (bytes_eq pair.key key) (Some pair.value) None
 
-    by : (b : Bool) → value_of (pairs ++ pair ∷ []) key ≡ cond (is_some (value_of pairs key)) (value_of pairs key) end → cond b (Some first.value) (value_of (pairs ++ pair ∷ []) key) ≡ cond (is_some (cond b (Some first.value) (value_of pairs key))) (cond b (Some first.value) (value_of pairs key)) end
+    by : (b : Bool) → value_of (pairs ++ pair ∷ []) key ≡ cond (is_some (value_of pairs key)) (value_of pairs key) end →
+        cond b (Some first.value) (value_of (pairs ++ pair ∷ []) key) ≡ cond (is_some (cond b (Some first.value) (value_of pairs key))) (cond b (Some first.value) (value_of pairs key)) end
     by true others = refl
     by false others = others
 
 -- the entries of an object, as texts
-pub pairs-member : (name : List ℕ) (value : Data) (members : Members) (pairs : List (List ℕ × List ℕ)) → pairs_of_members (member name value members) ≡ Some pairs → (s : List ℕ) × (more : List (List ℕ × List ℕ)) × (as_str value ≡ Some s) × (pairs_of_members members ≡ Some more) × (pairs ≡ (name, s) ∷ more)
+pub pairs-member : (name : List ℕ) (value : Data) (members : Members) (pairs : List (List ℕ × List ℕ)) → pairs_of_members (member name value members) ≡ Some pairs →
+    (s : List ℕ) × (more : List (List ℕ × List ℕ)) × (as_str value ≡ Some s) × (pairs_of_members members ≡ Some more) × (pairs ≡ (name, s) ∷ more)
 pairs-member name value members pairs is = by (as_str value) (pairs_of_members members) is
   where
-    by : (read : Option (List ℕ)) (rest : Option (List (List ℕ × List ℕ))) → option_and_then (λ s. option_map (λ more. (name, s) ∷ more) rest) read ≡ Some pairs → (s : List ℕ) × (more : List (List ℕ × List ℕ)) × (read ≡ Some s) × (rest ≡ Some more) × (pairs ≡ (name, s) ∷ more)
+    by : (read : Option (List ℕ)) (rest : Option (List (List ℕ × List ℕ))) → option_and_then (λ s. option_map (λ more. (name, s) ∷ more) rest) read ≡ Some pairs →
+        (s : List ℕ) × (more : List (List ℕ × List ℕ)) × (read ≡ Some s) × (rest ≡ Some more) × (pairs ≡ (name, s) ∷ more)
     by None rest step = cc
     by (Some s) None step = cc
     by (Some s) (Some more) step = (s, more, refl, refl, cc)
@@ -111,12 +117,14 @@ unfolding label_map
 label_map-meant value read is key =
     let entries = bind-output (labels value) (λ entries. Ok (labels_of (map pair_of entries))) read is in
     let made : labels_of (map pair_of entries.first) ≡ read = let after = entries.after in cc in
-    ap (λ (all : List Pair). value_of all key) (sym made) ∙ value_of-labels_of (map pair_of entries.first) key ∙ last_text-is (unwrap_or (as_object value) no_members) entries.first key (labels-output value entries.first entries.here)
+    ap (λ (all : List Pair). value_of all key) (sym made) ∙ value_of-labels_of (map pair_of entries.first) key ∙ last_text-is (unwrap_or (as_object value) no_members) entries.first key
+    (labels-output value entries.first entries.here)
 
 pub labels-meant : (value : Data) (found : Option (List Pair)) → optional (codes "labels") label_map value ≡ Ok found → AreLabelsOf value (unwrap_or found [])
 labels-meant value found is = λ key. by key (member_of (codes "labels") value) found (optional-output label_map (codes "labels") value found is)
   where
-    by : (key : List ℕ) (member : Option Data) (found : Option (List Pair)) → IsOptional label_map member found → value_of (unwrap_or found []) key ≡ last_text (unwrap_or (as_object (unwrap_or member (object no_members))) no_members) key
+    by : (key : List ℕ) (member : Option Data) (found : Option (List Pair)) → IsOptional label_map member found →
+        value_of (unwrap_or found []) key ≡ last_text (unwrap_or (as_object (unwrap_or member (object no_members))) no_members) key
     by key None None is = refl
     by key None (Some read) is = absurd is
     by key (Some one) None is = absurd is

@@ -33,7 +33,8 @@ earlier p a b (suc n) s low lt high pa pb = by (λ past. earlier p a b n (s + 1)
         further apart true is = let less = ltb-true s a is in omega (arith, less)
         further apart false is = let least = ltb-false s a is in absurd (apart (omega (arith, low, least)))
 
-    by : (s + 1 ≤ a → number_among rest a < number_among rest b) → (passes : Bool) → p s ≡ passes → (here : Bool) → (s == a) ≡ here → number_among (cond passes (s ∷ rest) rest) a < number_among (cond passes (s ∷ rest) rest) b
+    by : (s + 1 ≤ a → number_among rest a < number_among rest b) → (passes : Bool) → p s ≡ passes → (here : Bool) → (s == a) ≡ here →
+        number_among (cond passes (s ∷ rest) rest) a < number_among (cond passes (s ∷ rest) rest) b
     by further true is true here = rw (here, beyond) (omega arith)
     by further true is false there = let less = further (past there) in rw (there, beyond) (omega (arith, less))
     by further false is true here = absurd (false≢true (sym is ∙ ap p (eqb-true s a here) ∙ pa))
@@ -48,7 +49,8 @@ several n first second order within = ne_eqb n 1 (λ same. never same order with
     never : n ≡ 1 → first < second → second < n → ⊥
     never one two three = omega (arith, one, two, three)
 
-name-several : (wishes : List (List ℕ)) (place : ℕ) → (length (namesakes wishes place) == 1) ≡ false → name_at wishes place ≡ wish_at wishes place ++ (codes "#" ++ decimal (1 + number_among (namesakes wishes place) place))
+name-several : (wishes : List (List ℕ)) (place : ℕ) → (length (namesakes wishes place) == 1) ≡ false →
+    name_at wishes place ≡ wish_at wishes place ++ (codes "#" ++ decimal (1 + number_among (namesakes wishes place) place))
 unfolding name_at suffix
 name-several wishes place many = rw many refl
 
@@ -56,7 +58,8 @@ pub numbered : (wishes : List (List ℕ)) (first second : ℕ) → first < secon
 numbered wishes first second order within same =
     let wanted : ℕ → Bool = λ other. bytes_eq (wish_at wishes other) (wish_at wishes first) in
     let one : namesakes wishes first ≡ namesakes wishes second = ap (λ (wish : List ℕ). filter (λ other. bytes_eq (wish_at wishes other) wish) (range_with_len 0 (length wishes))) same in
-    let before = earlier wanted first second (length wishes) 0 (omega arith) order (omega (arith, within)) (text-same (wish_at wishes first)) ((bytes_decides (wish_at wishes second) (wish_at wishes first)).1 (sym same)) in
+    let before = earlier wanted first second (length wishes) 0 (omega arith) order (omega (arith, within)) (text-same (wish_at wishes first))
+    ((bytes_decides (wish_at wishes second) (wish_at wishes first)).1 (sym same)) in
     let less = subst (λ (places : List ℕ). number_among (namesakes wishes first) first < number_among places second) one before in
     let inside = number-among-namesakes wishes second within in
     let many = several (length (namesakes wishes second)) _ _ less inside in

@@ -61,24 +61,28 @@ each_item-output shape place (item value items) outputs is =
 
 pub listed-output : {A : Type 0} (shape : Data → Read A) (name : List ℕ) (value : Data) (outputs : List A) → listed name shape value ≡ Ok outputs → AreReadOf shape (list_at name value) outputs
 unfolding listed
-listed-output shape name value outputs is = each_item-output shape 0 _ outputs (by (member_of name value) (under-output (Field name) (read_member (Ok []) (λ found. list_by shape (as_array found)) (member_of name value)) outputs is))
+listed-output shape name value outputs is = each_item-output shape 0 _ outputs
+    (by (member_of name value) (under-output (Field name) (read_member (Ok []) (λ found. list_by shape (as_array found)) (member_of name value)) outputs is))
   where
     by_items : (found : Option Items) → list_by shape found ≡ Ok outputs → each_item shape 0 (unwrap_or found no_items) ≡ Ok outputs
     by_items None is = cc
     by_items (Some items) is = is
 
-    by : (member : Option Data) → read_member (Ok []) (λ found. list_by shape (as_array found)) member ≡ Ok outputs → each_item shape 0 (unwrap_or (as_array (unwrap_or member (object no_members))) no_items) ≡ Ok outputs
+    by : (member : Option Data) → read_member (Ok []) (λ found. list_by shape (as_array found)) member ≡ Ok outputs →
+        each_item shape 0 (unwrap_or (as_array (unwrap_or member (object no_members))) no_items) ≡ Ok outputs
     by None is = is
     by (Some found) is = by_items (as_array found) is
 
 -- what was read of each is so of each
-pub AreEach-weaker : {A : Type 0} (Is Has : Data → A → Type 0) → ((value : Data) (output : A) → Is value output → Has value output) → (values : List Data) (outputs : List A) → AreEach Is values outputs → AreEach Has values outputs
+pub AreEach-weaker : {A : Type 0} (Is Has : Data → A → Type 0) → ((value : Data) (output : A) → Is value output → Has value output) → (values : List Data) (outputs : List A) →
+    AreEach Is values outputs → AreEach Has values outputs
 AreEach-weaker Is Has so [] [] are = tt
 AreEach-weaker Is Has so [] (output ∷ outputs) are = are
 AreEach-weaker Is Has so (value ∷ values) [] are = are
 AreEach-weaker Is Has so (value ∷ values) (output ∷ outputs) are = (so value output are.0, AreEach-weaker Is Has so values outputs are.1)
 
-pub each-output : {A : Type 0} (shape : Data → Read A) (Has : Data → A → Type 0) → ((value : Data) (output : A) → shape value ≡ Ok output → Has value output) → (name : List ℕ) (value : Data) (outputs : List A) → listed name shape value ≡ Ok outputs → AreEach Has (list_at name value) outputs
+pub each-output : {A : Type 0} (shape : Data → Read A) (Has : Data → A → Type 0) → ((value : Data) (output : A) → shape value ≡ Ok output → Has value output) →
+    (name : List ℕ) (value : Data) (outputs : List A) → listed name shape value ≡ Ok outputs → AreEach Has (list_at name value) outputs
 each-output shape Has so name value outputs is = AreEach-weaker (λ d output. shape d ≡ Ok output) Has so (list_at name value) outputs (listed-output shape name value outputs is)
 
 -- ---- scalars
@@ -101,7 +105,8 @@ port-output value n is =
     of_type-output (as_whole value) read.first read.here ∙ ap Some (port_number-output read.first n read.after)
 
 -- the text of a required member
-pub text_at-required : (shape : Data → Read (List ℕ)) → ((value : Data) (s : List ℕ) → shape value ≡ Ok s → as_str value ≡ Some s) → (name : List ℕ) (value : Data) (s : List ℕ) → required name shape value ≡ Ok s → text_at name value ≡ s
+pub text_at-required : (shape : Data → Read (List ℕ)) → ((value : Data) (s : List ℕ) → shape value ≡ Ok s → as_str value ≡ Some s) → (name : List ℕ) (value : Data) (s : List ℕ) →
+    required name shape value ≡ Ok s → text_at name value ≡ s
 text_at-required shape reads name value s is = rw (reads (object_at name value) s (object_at-output shape name value s is)) refl
 
 -- the number of a required member

@@ -1,5 +1,6 @@
 -- A pod and a namespace that were read are what their members say.
-use Rattle.std.proofs.Common.{◌≡◌, ℕ, pos, List, [], ◌∷◌, ◌++◌, length, Bool, true, false, cond, ◌||◌, ◌==◌, fold, Option, Some, None, option_map, unwrap_or, codes, Ok, refl, sym, ap, subst, ◌∙◌, arith}
+use Rattle.std.proofs.Common.{◌≡◌, ℕ, pos, List, [], ◌∷◌, ◌++◌, length, Bool, true, false, cond, ◌||◌, ◌==◌, fold, Option, Some, None, option_map, unwrap_or, codes, Ok, refl, sym, ap, subst, ◌∙◌}
+use Rattle.std.proofs.Common.{arith}
 use Rattle.std.specs.Prelude.{IfOk, filter}
 use Rattle.std.specs.List.{filter_map, flat_map, list_any}
 use Rattle.std.specs.Option.{option_flatten}
@@ -25,7 +26,8 @@ use Rattle.np_objects.specs.Labels.{label_map}
 use Rattle.np_objects.specs.Lists.{or_refuse, unless_empty}
 use Rattle.np_objects.specs.Namespaces.{namespace, namespace_metadata}
 use Rattle.np_meaning.specs.EachPod.{AreEach}
-use Rattle.np_meaning.specs.ObjectMeaning.{has_name, is_address, is_final, is_text_empty, list_at, is_true_at, named_ports, number_at, protocol_of, says_address, text_at, AreLabelsOf, IsContainerPort, IsNamespaceOf, IsPodOf}
+use Rattle.np_meaning.specs.ObjectMeaning.{has_name, is_address, is_final, is_text_empty, list_at, is_true_at, named_ports, number_at, protocol_of, says_address, text_at, AreLabelsOf, IsContainerPort}
+use Rattle.np_meaning.specs.ObjectMeaning.{IsNamespaceOf, IsPodOf}
 use Rattle.np_objects.specs.Owners.{owner_reference}
 use Rattle.np_objects.specs.PodSpecs.{container, pod_spec}
 use Rattle.np_objects.specs.Pods.{pod, pod_item, pod_metadata}
@@ -90,7 +92,8 @@ protocol-output value read is =
 pub protocol-meant : (value : Data) (found : Option Proto) → optional (codes "protocol") protocol value ≡ Ok found → protocol_of value ≡ unwrap_or found Tcp
 protocol-meant value found is = by (member_of (codes "protocol") value) found (optional-output protocol (codes "protocol") value found is)
   where
-    by : (member : Option Data) (found : Option Proto) → IsOptional protocol member found → unwrap_or (proto_named (unwrap_or (as_str (unwrap_or member (object no_members))) [])) Tcp ≡ unwrap_or found Tcp
+    by : (member : Option Data) (found : Option Proto) → IsOptional protocol member found →
+        unwrap_or (proto_named (unwrap_or (as_str (unwrap_or member (object no_members))) [])) Tcp ≡ unwrap_or found Tcp
     by None None is = refl
     by None (Some read) is = absurd is
     by (Some one) None is = absurd is
@@ -109,9 +112,11 @@ container_port-meant value read is =
     let proto = bind-output (optional (codes "protocol") protocol value) _ read called.after in
     let number = bind-output (required (codes "containerPort") port value) (λ number. Ok (if_named (option_flatten called.first) (unwrap_or proto.first Tcp) number)) read proto.after in
     let made : if_named (option_flatten called.first) (unwrap_or proto.first Tcp) number.first ≡ read = let after = number.after in cc in
-    subst (IsPortOr value) made (by (option_flatten called.first) (unwrap_or proto.first Tcp) number.first (port_name-meant value called.first called.here) (protocol-meant value proto.first proto.here) (number_at-required (codes "containerPort") value number.first number.here))
+    subst (IsPortOr value) made (by (option_flatten called.first) (unwrap_or proto.first Tcp) number.first (port_name-meant value called.first called.here)
+    (protocol-meant value proto.first proto.here) (number_at-required (codes "containerPort") value number.first number.here))
   where
-    by : (found : Option (List ℕ)) (proto : Proto) (number : ℕ) → IsTextOr (text_at (codes "name") value) found → protocol_of value ≡ proto → number_at (codes "containerPort") value ≡ Some (pos number) → IsPortOr value (if_named found proto number)
+    by : (found : Option (List ℕ)) (proto : Proto) (number : ℕ) → IsTextOr (text_at (codes "name") value) found → protocol_of value ≡ proto →
+        number_at (codes "containerPort") value ≡ Some (pos number) → IsPortOr value (if_named found proto number)
     by None proto number none said at = rw none refl
     by (Some s) proto number some said at = (rw some.1 refl, record { name = some.0; proto = said; number = at })
 
@@ -122,7 +127,8 @@ named-each (value ∷ values) [] are = absurd are
 named-each (value ∷ values) (None ∷ ports) are =
     subst (λ b. AreEach IsContainerPort (cond b (value ∷ filter has_name values) (filter has_name values)) (filter_map (λ port. port) ports)) (sym are.0) (named-each values ports are.1)
 named-each (value ∷ values) (Some port ∷ ports) are =
-    subst (λ b. AreEach IsContainerPort (cond b (value ∷ filter has_name values) (filter has_name values)) (port ∷ filter_map (λ port. port) ports)) (sym are.0.0) (are.0.1, named-each values ports are.1)
+    subst (λ b. AreEach IsContainerPort (cond b (value ∷ filter has_name values) (filter has_name values)) (port ∷ filter_map (λ port. port) ports)) (sym are.0.0)
+    (are.0.1, named-each values ports are.1)
 
 container-meant : (value : Data) (ports : List NamedPort) → container value ≡ Ok ports → AreEach IsContainerPort (filter has_name (list_at (codes "ports") value)) ports
 unfolding container
@@ -140,11 +146,13 @@ AreEach-append Is (value ∷ values) more [] ys are others = absurd are
 AreEach-append Is (value ∷ values) more (x ∷ xs) ys are others = (are.0, AreEach-append Is values more xs ys are.1 others)
 
 -- one list after another
-pub AreEach-flat_map : {A : Type 0} (Is : Data → A → Type 0) (inside : Data → List Data) (values : List Data) (lists : List (List A)) → AreEach (λ value xs. AreEach Is (inside value) xs) values lists → AreEach Is (flat_map inside values) (flat_map (λ xs. xs) lists)
+pub AreEach-flat_map : {A : Type 0} (Is : Data → A → Type 0) (inside : Data → List Data) (values : List Data) (lists : List (List A)) →
+    AreEach (λ value xs. AreEach Is (inside value) xs) values lists → AreEach Is (flat_map inside values) (flat_map (λ xs. xs) lists)
 AreEach-flat_map Is inside [] [] are = tt
 AreEach-flat_map Is inside [] (xs ∷ lists) are = absurd are
 AreEach-flat_map Is inside (value ∷ values) [] are = absurd are
-AreEach-flat_map Is inside (value ∷ values) (xs ∷ lists) are = AreEach-append Is (inside value) (flat_map inside values) xs (flat_map (λ xs. xs) lists) are.0 (AreEach-flat_map Is inside values lists are.1)
+AreEach-flat_map Is inside (value ∷ values) (xs ∷ lists) are = AreEach-append Is (inside value) (flat_map inside values) xs (flat_map (λ xs. xs) lists) are.0
+    (AreEach-flat_map Is inside values lists are.1)
 
 -- what the spec of a pod says
 pub record IsSpec (value : Data) (spec : PodSpec) : Type 0 where
@@ -159,7 +167,8 @@ pod_spec-meant value spec is =
     let host = bind-output (optional (codes "hostNetwork") flag value) (λ host. Ok (record { ports = flat_map (λ ports. ports) each.first; host_network = unwrap_or host false })) spec each.after in
     let made : record { ports = flat_map (λ ports. ports) each.first; host_network = unwrap_or host.first false } ≡ spec = let after = host.after in cc in
     subst (IsSpec value) made (record {
-      ports = AreEach-flat_map IsContainerPort (λ container. filter has_name (list_at (codes "ports") container)) (list_at (codes "containers") value) each.first (each-output container (λ d ports. AreEach IsContainerPort (filter has_name (list_at (codes "ports") d)) ports) container-meant (codes "containers") value each.first each.here);
+      ports = AreEach-flat_map IsContainerPort (λ container. filter has_name (list_at (codes "ports") container)) (list_at (codes "containers") value) each.first
+          (each-output container (λ d ports. AreEach IsContainerPort (filter has_name (list_at (codes "ports") d)) ports) container-meant (codes "containers") value each.first each.here);
       host_network = is_true_at-optional (codes "hostNetwork") value host.first host.here;
     })
 
@@ -187,14 +196,16 @@ kept_with-has : (kept : List Address) (found : Option Address) (address : Addres
 kept_with-has kept None address = or_no (has_address kept address)
 kept_with-has kept (Some other) address = by (has_address kept other) refl (is_same other address) refl
   where
-    by : (known : Bool) → has_address kept other ≡ known → (same : Bool) → is_same other address ≡ same → has_address (cond known kept (kept ++ other ∷ [])) address ≡ (has_address kept address || same)
+    by : (known : Bool) → has_address kept other ≡ known → (same : Bool) → is_same other address ≡ same →
+        has_address (cond known kept (kept ++ other ∷ [])) address ≡ (has_address kept address || same)
     by true known true same =
         let it : has_address kept address ≡ true = ap (has_address kept) (sym (same-equal other address same)) ∙ known in
         rw it refl
     by true known false same = or_no (has_address kept address)
     by false known same here = list_any-append (λ one. is_same one address) kept (other ∷ []) ∙ ap (λ b. has_address kept address || b) (sym (or_no (is_same other address)) ∙ here)
 
-distinct-has : (kept : List Address) (found : List (Option Address)) (address : Address) → has_address (fold kept_with kept found) address ≡ (has_address kept address || list_any (is_found address) found)
+distinct-has : (kept : List Address) (found : List (Option Address)) (address : Address) →
+    has_address (fold kept_with kept found) address ≡ (has_address kept address || list_any (is_found address) found)
 distinct-has kept [] address = or_no (has_address kept address)
 distinct-has kept (one ∷ found) address =
     distinct-has (kept_with kept one) found address
@@ -215,10 +226,12 @@ address-output value found is one =
     by [] is = let same : found ≡ None = cc in rw same refl
     by (byte ∷ bytes) is = by_read (address_of (byte ∷ bytes)) (rw (some-not_empty byte bytes) at is)
 
-address-meant : (name : List ℕ) (value : Data) (found : Option (Option Address)) → optional name address value ≡ Ok found → (one : Address) → is_found one (option_flatten found) ≡ is_address (text_at name value) one
+address-meant : (name : List ℕ) (value : Data) (found : Option (Option Address)) → optional name address value ≡ Ok found → (one : Address) →
+    is_found one (option_flatten found) ≡ is_address (text_at name value) one
 address-meant name value found is one = by (member_of name value) found (optional-output address name value found is)
   where
-    by : (member : Option Data) (found : Option (Option Address)) → IsOptional address member found → is_found one (option_flatten found) ≡ is_address (unwrap_or (as_str (unwrap_or member (object no_members))) []) one
+    by : (member : Option Data) (found : Option (Option Address)) → IsOptional address member found →
+        is_found one (option_flatten found) ≡ is_address (unwrap_or (as_str (unwrap_or member (object no_members))) []) one
     by None None is = refl
     by None (Some read) is = absurd is
     by (Some value) None is = absurd is
@@ -232,7 +245,9 @@ pod_ip-meant value found is one =
     let made : option_flatten ip.first ≡ found = let after = ip.after in cc in
     rw (← made) (address-meant (codes "ip") value ip.first ip.here one)
 
-any-found : (one : Address) (values : List Data) (found : List (Option Address)) → AreEach (λ value read. (one : Address) → is_found one read ≡ is_address (text_at (codes "ip") value) one) values found → list_any (is_found one) found ≡ list_any (λ value. is_address (text_at (codes "ip") value) one) values
+any-found : (one : Address) (values : List Data) (found : List (Option Address)) →
+    AreEach (λ value read. (one : Address) → is_found one read ≡ is_address (text_at (codes "ip") value) one) values found →
+    list_any (is_found one) found ≡ list_any (λ value. is_address (text_at (codes "ip") value) one) values
 any-found one [] [] are = refl
 any-found one [] (read ∷ found) are = absurd are
 any-found one (value ∷ values) [] are = absurd are
@@ -249,11 +264,16 @@ pod_status-meant value status is =
     let past = then-output (must_be_object value) _ status is in
     let phase = bind-output (optional (codes "phase") text value) _ status past in
     let first = bind-output (optional (codes "podIP") address value) _ status phase.after in
-    let others = bind-output (listed (codes "podIPs") pod_ip value) (λ others. Ok (record { finished = is_finished phase.first; addresses = distinct (option_flatten first.first ∷ others) })) status first.after in
+    let others = bind-output (listed (codes "podIPs") pod_ip value)
+    (λ others. Ok (record { finished = is_finished phase.first; addresses = distinct (option_flatten first.first ∷ others) })) status first.after in
     let made : record { finished = is_finished phase.first; addresses = distinct (option_flatten first.first ∷ others.first) } ≡ status = let after = others.after in cc in
     subst (IsStatus value) made (record {
       addresses = λ one. distinct-has [] (option_flatten first.first ∷ others.first) one
-          ∙ rw (address-meant (codes "podIP") value first.first first.here one, any-found one (list_at (codes "podIPs") value) others.first (each-output pod_ip (λ d read. (one : Address) → is_found one read ≡ is_address (text_at (codes "ip") d) one) pod_ip-meant (codes "podIPs") value others.first others.here)) refl;
+          ∙ rw (
+            address-meant (codes "podIP") value first.first first.here one,
+            any-found one (list_at (codes "podIPs") value) others.first
+                (each-output pod_ip (λ d read. (one : Address) → is_found one read ≡ is_address (text_at (codes "ip") d) one) pod_ip-meant (codes "podIPs") value others.first others.here),
+          ) refl;
       finished = by phase.first ∙ ap is_final (sym (text_at-optional (codes "phase") value phase.first phase.here));
     })
   where
@@ -311,7 +331,8 @@ namespace_metadata-meant value read is =
     let called = bind-output (required (codes "name") name value) _ read past in
     let labels = bind-output (optional (codes "labels") label_map value) (λ labels. Ok (record { name = called.first; labels = unwrap_or labels [] })) read called.after in
     let made : record { name = called.first; labels = unwrap_or labels.first [] } ≡ read = let after = labels.after in cc in
-    subst (λ (one : NamespaceItem). (text_at (codes "name") value ≡ one.name) × AreLabelsOf value one.labels) made (text_at-required name name-output (codes "name") value called.first called.here, labels-meant value labels.first labels.here)
+    subst (λ (one : NamespaceItem). (text_at (codes "name") value ≡ one.name) × AreLabelsOf value one.labels) made
+    (text_at-required name name-output (codes "name") value called.first called.here, labels-meant value labels.first labels.here)
 
 pub namespace-meant : (value : Data) (read : NamespaceItem) → namespace value ≡ Ok read → IsNamespaceOf value read
 unfolding namespace

@@ -48,7 +48,8 @@ entry-met own name s value is = by (value_of own name)
     by None = refl
     by (Some other) = rw is (or_false (bytes_eq s other))
 
-entries-met : (own : List Pair) (members : Members) (pairs : List (List ℕ × List ℕ)) → pairs_of_members members ≡ Some pairs → list_all (λ one. meets_requirement one own) (map label_requirement pairs) ≡ have_entries own members
+entries-met : (own : List Pair) (members : Members) (pairs : List (List ℕ × List ℕ)) → pairs_of_members members ≡ Some pairs →
+    list_all (λ one. meets_requirement one own) (map label_requirement pairs) ≡ have_entries own members
 entries-met own no_members [] is = refl
 entries-met own no_members (pair ∷ pairs) is = cc
 entries-met own (member name value members) pairs is =
@@ -64,10 +65,12 @@ selector-of (member name value members) [] is =
     let never = one.4 in cc
 selector-of (member name value members) (pair ∷ pairs) is = (refl, λ own. entries-met own (member name value members) (pair ∷ pairs) is)
 
-selector-meant : (value : Data) (found : Option (List (List ℕ × List ℕ))) → optional (codes "selector") labels value ≡ Ok found → IsServiceSelector (entries_at (codes "selector") value) (selector_of (unwrap_or found []))
+selector-meant : (value : Data) (found : Option (List (List ℕ × List ℕ))) → optional (codes "selector") labels value ≡ Ok found →
+    IsServiceSelector (entries_at (codes "selector") value) (selector_of (unwrap_or found []))
 selector-meant value found is = by (member_of (codes "selector") value) found (optional-output labels (codes "selector") value found is)
   where
-    by : (member : Option Data) (found : Option (List (List ℕ × List ℕ))) → IsOptional labels member found → IsServiceSelector (unwrap_or (as_object (unwrap_or member (object no_members))) no_members) (selector_of (unwrap_or found []))
+    by : (member : Option Data) (found : Option (List (List ℕ × List ℕ))) → IsOptional labels member found →
+        IsServiceSelector (unwrap_or (as_object (unwrap_or member (object no_members))) no_members) (selector_of (unwrap_or found []))
     by None None is = refl
     by None (Some pairs) is = absurd is
     by (Some one) None is = absurd is
@@ -109,10 +112,12 @@ target-output value target n is = by (as_whole value) is
         let made : option_map Named name.first ≡ target = let after = name.after in cc in
         rw (← made) (target-named (unwrap_or (as_str value) []) name.first n (port_name-output value name.first name.here))
 
-target-meant : (value : Data) (found : Option (Option PortName)) (n : ℕ) → optional (codes "targetPort") target_port value ≡ Ok found → unwrap_or (option_flatten found) (Number n) ≡ target_at (number_at (codes "targetPort") value) (text_at (codes "targetPort") value) n
+target-meant : (value : Data) (found : Option (Option PortName)) (n : ℕ) → optional (codes "targetPort") target_port value ≡ Ok found →
+    unwrap_or (option_flatten found) (Number n) ≡ target_at (number_at (codes "targetPort") value) (text_at (codes "targetPort") value) n
 target-meant value found n is = by (member_of (codes "targetPort") value) found (optional-output target_port (codes "targetPort") value found is)
   where
-    by : (member : Option Data) (found : Option (Option PortName)) → IsOptional target_port member found → unwrap_or (option_flatten found) (Number n) ≡ target_at (as_whole (unwrap_or member (object no_members))) (unwrap_or (as_str (unwrap_or member (object no_members))) []) n
+    by : (member : Option Data) (found : Option (Option PortName)) → IsOptional target_port member found →
+        unwrap_or (option_flatten found) (Number n) ≡ target_at (as_whole (unwrap_or member (object no_members))) (unwrap_or (as_str (unwrap_or member (object no_members))) []) n
     by None None is = refl
     by None (Some target) is = absurd is
     by (Some one) None is = absurd is
@@ -125,8 +130,11 @@ service_port-meant value read is =
     let called = bind-output (optional (codes "name") port_name value) _ read past in
     let proto = bind-output (optional (codes "protocol") protocol value) _ read called.after in
     let number = bind-output (required (codes "port") port value) _ read proto.after in
-    let target = bind-output (optional (codes "targetPort") target_port value) (λ target. Ok (record { name = option_flatten called.first; proto = unwrap_or proto.first Tcp; port = number.first; target = unwrap_or (option_flatten target) (Number number.first) })) read number.after in
-    let made : record { name = option_flatten called.first; proto = unwrap_or proto.first Tcp; port = number.first; target = unwrap_or (option_flatten target.first) (Number number.first) } ≡ read = let after = target.after in cc in
+    let target = bind-output (optional (codes "targetPort") target_port value)
+    (λ target. Ok (record { name = option_flatten called.first; proto = unwrap_or proto.first Tcp; port = number.first; target = unwrap_or (option_flatten target) (Number number.first) })) read
+    number.after in
+    let made : record { name = option_flatten called.first; proto = unwrap_or proto.first Tcp; port = number.first; target = unwrap_or (option_flatten target.first) (Number number.first) } ≡ read =
+    let after = target.after in cc in
     subst (IsServicePort value) made (record {
       name = named-or (text_at (codes "name") value) (option_flatten called.first) (port_name-meant value called.first called.here);
       proto = protocol-meant value proto.first proto.here;
@@ -154,8 +162,11 @@ service_spec-meant value spec is =
     let kind = bind-output (optional (codes "type") text value) _ spec past in
     let ip = bind-output (optional (codes "clusterIP") text value) _ spec kind.after in
     let entries = bind-output (optional (codes "selector") labels value) _ spec ip.after in
-    let ports = bind-output (listed (codes "ports") service_port value) (λ ports. Ok (record { selector = selector_of (unwrap_or entries.first []); headless = is_text ip.first (codes "None"); external = is_text kind.first (codes "ExternalName"); ports = ports })) spec entries.after in
-    let made : record { selector = selector_of (unwrap_or entries.first []); headless = is_text ip.first (codes "None"); external = is_text kind.first (codes "ExternalName"); ports = ports.first } ≡ spec = let after = ports.after in cc in
+    let ports = bind-output (listed (codes "ports") service_port value)
+    (λ ports. Ok (record { selector = selector_of (unwrap_or entries.first []); headless = is_text ip.first (codes "None"); external = is_text kind.first (codes "ExternalName"); ports = ports }))
+    spec entries.after in
+    let made : record { selector = selector_of (unwrap_or entries.first []); headless = is_text ip.first (codes "None"); external = is_text kind.first (codes "ExternalName"); ports = ports.first }
+    ≡ spec = let after = ports.after in cc in
     subst (IsServiceSpec value) made (record {
       selector = selector-meant value entries.first entries.here;
       headless = same_text ip.first (codes "None") refl ∙ ap (λ s. bytes_eq s (codes "None")) (sym (text_at-optional (codes "clusterIP") value ip.first ip.here));

@@ -1,5 +1,6 @@
 -- Ranges of addresses are told apart by their texts.
-use Rattle.std.proofs.Common.{◌≡◌, ℕ, ◌+◌, ◌-◌, ◌≤◌, ◌==◌, ◌&&◌, ◌||◌, nat_le, Bool, true, false, cond, List, [], ◌∷◌, ◌++◌, get_or, map, All, codes, refl, sym, ap, subst, ◌∙◌, append-nil, append_assoc, arith, lit≤}
+use Rattle.std.proofs.Common.{◌≡◌, ℕ, ◌-◌, ◌≤◌, ◌==◌, ◌&&◌, ◌||◌, nat_le, Bool, true, false, cond, List, [], ◌∷◌, ◌++◌, get_or, map, All, codes, refl, sym, ap, subst, ◌∙◌, append-nil}
+use Rattle.std.proofs.Common.{append_assoc, arith, lit≤}
 use Rattle.std.specs.List.{join_by}
 use Rattle.std.proofs.lemmas.Bool.{and_from, or_left, eqb-true, false≢true, le-leb, leb-true}
 use Rattle.std.proofs.lemmas.List.Elements.{All-head, All-tail}

@@ -4,3 +4,4 @@ pub mod EstateRows
 pub mod KindMeaning
 pub mod Numbering
 pub mod ObjectMeaning
+pub mod TemplatePods

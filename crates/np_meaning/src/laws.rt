@@ -1,5 +1,5 @@
 //! What follows from the definitions of what is read.
-ghost use Rattle.std.specs.Prelude.{◌≡◌, ◌<◌, ℕ, List, Ok, length};
+ghost use Rattle.std.specs.Prelude.{◌≡◌, ◌↔◌, ◌<◌, ℕ, List, Ok, Some, length, slice_get, true};
 ghost use Rattle.serde_json.specs.Data.{Data};
 ghost use Rattle.np_reading.specs.Reading.{estate_of};
 ghost use Rattle.np_model.specs.declared.lists.EstateLists.{EstateLists};
@@ -10,6 +10,7 @@ ghost use Rattle.np_meaning.specs.EachPod.{HoldsEachPod};
 ghost use Rattle.np_meaning.specs.KindMeaning.{IsOfItsKind};
 ghost use Rattle.np_meaning.specs.Numbering.{AreNumbered};
 ghost use Rattle.np_meaning.specs.ObjectMeaning.{IsIngressOf, IsNamespaceOf, IsPodOf, IsServiceOf};
+ghost use Rattle.np_meaning.specs.TemplatePods.{HasTemplatePod};
 ghost use Rattle.np_names.specs.Names.{wish_at};
 ghost use Rattle.np_objects.specs.Controllers.{controller};
 ghost use Rattle.np_objects.specs.Ingresses.{ingress};
@@ -24,6 +25,7 @@ ghost use Rattle.np_objects.specs.declared.namespace.NamespaceItem.{NamespaceIte
 ghost use Rattle.np_objects.specs.declared.object.Object.{Object};
 ghost use Rattle.np_objects.specs.declared.pod_item.PodItem.{PodItem};
 ghost use Rattle.np_model.specs.declared.service.ServiceItem.{ServiceItem};
+ghost use Rattle.np_owners.specs.MadePods.{makes_pod};
 
 /// An object that was read as one of a kind names that kind, in the version that is read of it, and was read by the
 /// definition of that kind.
@@ -69,6 +71,15 @@ pub fn controllers_mean_their_members()
 pub fn each_pod_stands_once()
     ensures { (texts : List (List ℕ)) (items : List Item) (lists : EstateLists) → items_of texts ≡ Ok items
         → estate_of texts ≡ Ok lists → HoldsEachPod items lists }
+{}
+
+/// The controllers that stand for a pod, the one of their template, are those that have a template and want pods, that no
+/// listed controller owns, and that are in the chain of owners of no listed pod, not even of one that is left out of the estate.
+/// No other item stands for a pod.
+pub fn controllers_without_pods_have_template_pods()
+    ensures { (texts : List (List ℕ)) (items : List Item) (lists : EstateLists) (place : ℕ) (one : Item) →
+        items_of texts ≡ Ok items → estate_of texts ≡ Ok lists → slice_get items place ≡ Some one →
+        (makes_pod items place ≡ true) ↔ HasTemplatePod items one }
 {}
 
 /// Where several things would have one name, as workloads of one top owner, a number follows it in each, and the numbers

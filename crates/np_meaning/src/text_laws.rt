@@ -1,5 +1,5 @@
 //! What the texts of rows tell.
-ghost use Rattle.std.specs.Prelude.{◌≡◌, ℕ};
+ghost use Rattle.std.specs.Prelude.{◌≡◌, ℕ, All, Option};
 ghost use Rattle.np_addr.specs.declared.address.Family.{Family};
 ghost use Rattle.np_args.specs.declared.report.Report.{Report};
 ghost use Rattle.np_base.specs.declared.range.Range.{Range};
@@ -8,6 +8,9 @@ ghost use Rattle.np_meaning.specs.EstateRows.{IsEndOf, IsRangeOf, IsRowOf, IsSpa
 ghost use Rattle.np_model.specs.Lawful.{IsFew, IsLawful};
 ghost use Rattle.np_model.specs.declared.lists.EstateLists.{EstateLists};
 ghost use Rattle.np_report.specs.RowText.{end_text, ends_text, names_of, row_text, span_text};
+ghost use Rattle.np_routes.specs.ClusterTable.{cluster_rows, cluster_table};
+ghost use Rattle.np_table.specs.Rows.{all_rows};
+ghost use Rattle.np_table.specs.Table.{estate_table};
 ghost use Rattle.np_table.specs.declared.rows.AddressSpan.{AddressSpan};
 ghost use Rattle.np_table.specs.declared.rows.Row.{Row};
 ghost use Rattle.np_table.specs.declared.rows.RowEnd.{RowEnd};
@@ -33,4 +36,14 @@ pub fn one_text_has_one_end()
 pub fn one_text_has_one_row()
     ensures { (lists : EstateLists) (report : Report) (a b : Row) → IsLawful lists → IsRowOf lists a → IsRowOf lists b →
         row_text (names_of (folding_of lists)) report a ≡ row_text (names_of (folding_of lists)) report b → a ≡ b }
+{}
+
+/// Every row of the table of an estate is one of which the law above speaks: each end is a workload of the estate, a range of
+/// addresses of one family with at least one in it, or the controller of Ingresses, and the ports of its connections are ranges
+/// with gaps between them.
+pub fn rows_of_the_table_are_of_the_estate()
+    ensures table { (lists : EstateLists) → All (IsRowOf lists) (all_rows (estate_table lists)) }
+    // So is every row with those from the controller of Ingresses among them.
+    ensures cluster { (lists : EstateLists) (controller : Option ℕ) →
+        All (IsRowOf lists) (cluster_rows (cluster_table lists controller)) }
 {}

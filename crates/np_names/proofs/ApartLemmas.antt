@@ -1,5 +1,6 @@
 -- Names that a number follows are apart.
-use Rattle.std.proofs.Common.{◌≡◌, ℕ, ◌+◌, ◌^◌, ◌<◌, ◌==◌, List, [], ◌∷◌, ◌++◌, Bool, true, false, length, get_or, filter, codes, decimal, if◌then◌else◌, refl, sym, ap, subst, ◌∙◌, arith, append_assoc}
+use Rattle.std.proofs.Common.{◌≡◌, ℕ, ◌+◌, ◌^◌, ◌<◌, ◌==◌, List, [], ◌∷◌, ◌++◌, Bool, true, false, length, get_or, filter, codes, decimal, if◌then◌else◌, refl, sym, ap, subst, ◌∙◌, arith}
+use Rattle.std.proofs.Common.{append_assoc}
 use Rattle.std.specs.Prelude.{All}
 use Rattle.std.specs.Int.{IsInRange}
 use Rattle.std.specs.List.{AllByRecursion, range_with_len}
@@ -88,7 +89,8 @@ pub names-apart : (wishes : List (List ℕ)) (a b : ℕ) → All EndsInBracket w
 unfolding name_at suffix
 names-apart wishes a b brackets few a_in b_in same =
     one-at-place (namesakes wishes b) a b a_among (number-among-namesakes wishes b b_in)
-    (behind-apart (length (namesakes wishes b)) (number_among (namesakes wishes b) a) (number_among (namesakes wishes b) b) a_among (number-among-namesakes wishes b b_in) (omega (arith, few-namesakes wishes b)) same_behind)
+    (behind-apart (length (namesakes wishes b)) (number_among (namesakes wishes b) a) (number_among (namesakes wishes b) b) a_among (number-among-namesakes wishes b b_in)
+    (omega (arith, few-namesakes wishes b)) same_behind)
   where
     a_ends : EndsInBracket (wish_at wishes a)
     a_ends = brackets a [] a_in
@@ -100,7 +102,8 @@ names-apart wishes a b brackets few a_in b_in same =
     whole wish ends more = ap (λ (w : List ℕ). w ++ more) ends.1 ∙ append_assoc ends.0 (93 ∷ []) more
 
     free : (place : ℕ) → place < length wishes → Lacks 93 (suffix wishes place)
-    free place within = lacks-bracket (length (namesakes wishes place)) (number_among (namesakes wishes place) place) (omega (arith, number-among-namesakes wishes place within, few-namesakes wishes place))
+    free place within = lacks-bracket (length (namesakes wishes place)) (number_among (namesakes wishes place) place)
+        (omega (arith, number-among-namesakes wishes place within, few-namesakes wishes place))
 
     parts : (a_ends.0 ≡ b_ends.0) × (suffix wishes a ≡ suffix wishes b)
     parts = cut-once 93 a_ends.0 b_ends.0 (suffix wishes a) (suffix wishes b) (free a a_in) (free b b_in)

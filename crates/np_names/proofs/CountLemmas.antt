@@ -1,5 +1,6 @@
 -- Counts of texts, and the names that follow from them.
-use Rattle.std.proofs.Common.{◌≡◌, ℕ, zero, suc, ◌+◌, ◌<◌, ◌≤◌, ◌==◌, List, [], ◌∷◌, ◌++◌, Bool, true, false, cond, length, take, drop, get_or, Some, filter, refl, sym, ap, ◌∙◌, arith, add-one, add-zero, eqb, length-append, length-take, drop-cons}
+use Rattle.std.proofs.Common.{◌≡◌, ℕ, zero, suc, ◌+◌, ◌<◌, ◌≤◌, ◌==◌, List, [], ◌∷◌, ◌++◌, Bool, true, false, cond, length, take, drop, get_or, Some, filter, refl, sym, ap, ◌∙◌, arith, add-one}
+use Rattle.std.proofs.Common.{add-zero, eqb, length-append, length-take, drop-cons}
 use Rattle.std.specs.Cmp.Lexicographic.{slice_cmp, bytes_decides, nat_list_eq_equiv}
 use Rattle.std.specs.List.{position_or_len, range_with_len}
 use Rattle.std.specs.Map.{lookup}
@@ -37,7 +38,8 @@ times-take-le text texts i = omega (arith, times-le text (take i texts), length-
 
 -- a map in which the count of one more text is one higher
 pub HoldsCounts-push : (earlier : List (List ℕ)) (one key : List ℕ) (count : ℕ) (before after : List (List ℕ × ℕ)) → key ≡ one → count ≡ noted before one
-    → ((text : List ℕ) → lookup (λ other. is_eq (slice_cmp nat_cmp text other)) after ≡ cond (is_eq (slice_cmp nat_cmp key text)) (Some (count + 1)) (lookup (λ other. is_eq (slice_cmp nat_cmp text other)) before))
+    → ((text : List ℕ) → lookup (λ other. is_eq (slice_cmp nat_cmp text other)) after ≡ cond (is_eq (slice_cmp nat_cmp key text)) (Some (count + 1))
+    (lookup (λ other. is_eq (slice_cmp nat_cmp text other)) before))
     → HoldsCounts earlier before → HoldsCounts (earlier ++ one ∷ []) after
 HoldsCounts-push earlier one key count before after is_key is_count updates counts text =
     ap (λ o. unwrap_or o 0) (updates text)
@@ -48,14 +50,16 @@ HoldsCounts-push earlier one key count before after is_key is_count updates coun
     by false apart = counts text ∙ sym (add-zero (times text earlier))
 
 -- the texts before a place and the one there are those before the next
-pub HoldsCounts-more : (texts : List (List ℕ)) (i : ℕ) (one : List ℕ) (entries : List (List ℕ × ℕ)) → i < length texts → one ≡ get_or texts i [] → HoldsCounts (take i texts ++ one ∷ []) entries → HoldsCounts (take (i + 1) texts) entries
+pub HoldsCounts-more : (texts : List (List ℕ)) (i : ℕ) (one : List ℕ) (entries : List (List ℕ × ℕ)) → i < length texts → one ≡ get_or texts i [] → HoldsCounts (take i texts ++ one ∷ []) entries →
+    HoldsCounts (take (i + 1) texts) entries
 HoldsCounts-more texts i one entries within is counts text =
     counts text ∙ ap (λ (x : List ℕ). times text (take i texts ++ x ∷ [])) is ∙ sym (ap (times text) (take_more texts i [] within))
 
 -- ---- places among namesakes
 
 -- a place stands among those that pass a test behind those before it that pass
-position-among : (p : ℕ → Bool) (place a n k : ℕ) → k < n → a + k ≡ place → p place ≡ true → position_or_len (λ other. other == place) (filter p (range_with_len a n)) ≡ length (filter p (range_with_len a k))
+position-among : (p : ℕ → Bool) (place a n k : ℕ) → k < n → a + k ≡ place → p place ≡ true →
+    position_or_len (λ other. other == place) (filter p (range_with_len a n)) ≡ length (filter p (range_with_len a k))
 position-among p place a zero k within at passes = absurd (omega arith)
 position-among p place a (suc n) zero within at passes =
     let here : a ≡ place = omega arith in
@@ -69,12 +73,14 @@ position-among p place a (suc n) (suc k) within at passes =
     fewer : List ℕ
     fewer = filter p (range_with_len (a + 1) k)
 
-    by : (b : Bool) → eqb a place ≡ false → position_or_len (λ other. other == place) more ≡ length fewer → position_or_len (λ other. other == place) (cond b (a ∷ more) more) ≡ length (cond b (a ∷ fewer) fewer)
+    by : (b : Bool) → eqb a place ≡ false → position_or_len (λ other. other == place) more ≡ length fewer →
+        position_or_len (λ other. other == place) (cond b (a ∷ more) more) ≡ length (cond b (a ∷ fewer) fewer)
     by true apart behind = rw apart (omega (arith, behind))
     by false apart behind = behind
 
 -- and it is one of them
-is-among : (p : ℕ → Bool) (place a n k : ℕ) → k < n → a + k ≡ place → p place ≡ true → position_or_len (λ other. other == place) (filter p (range_with_len a n)) < length (filter p (range_with_len a n))
+is-among : (p : ℕ → Bool) (place a n k : ℕ) → k < n → a + k ≡ place → p place ≡ true →
+    position_or_len (λ other. other == place) (filter p (range_with_len a n)) < length (filter p (range_with_len a n))
 is-among p place a zero k within at passes = absurd (omega arith)
 is-among p place a (suc n) zero within at passes =
     let here : a ≡ place = omega arith in
@@ -85,12 +91,14 @@ is-among p place a (suc n) (suc k) within at passes =
     more : List ℕ
     more = filter p (range_with_len (a + 1) n)
 
-    by : (b : Bool) → eqb a place ≡ false → position_or_len (λ other. other == place) more < length more → position_or_len (λ other. other == place) (cond b (a ∷ more) more) < length (cond b (a ∷ more) more)
+    by : (b : Bool) → eqb a place ≡ false → position_or_len (λ other. other == place) more < length more →
+        position_or_len (λ other. other == place) (cond b (a ∷ more) more) < length (cond b (a ∷ more) more)
     by true apart behind = rw apart (omega (arith, behind))
     by false apart behind = behind
 
 -- as many places pass as texts at them
-in-turn : (texts : List (List ℕ)) (f : List ℕ → Bool) (a k : ℕ) → a + k ≤ length texts → length (filter (λ place. f (get_or texts place [])) (range_with_len a k)) ≡ length (filter f (take k (drop a texts)))
+in-turn : (texts : List (List ℕ)) (f : List ℕ → Bool) (a k : ℕ) → a + k ≤ length texts →
+    length (filter (λ place. f (get_or texts place [])) (range_with_len a k)) ≡ length (filter f (take k (drop a texts)))
 in-turn texts f a zero within = refl
 in-turn texts f a (suc k) within =
     by (f (get_or texts a [])) (in-turn texts f (a + 1) k (omega arith))

@@ -25,8 +25,12 @@ use Rattle.np_names.specs.declared.named.Named.{Named}
 -- the thing at a number, which stands there first
 pub number-of-one : (wishes : List (List ℕ)) (number : ℕ) (one : Named) → number < length wishes → slice_get (all_by_name wishes) number ≡ Some one
     → (one ≡ named wishes one.place) × (one.place < length wishes) × (number_of wishes one.place ≡ number)
-number-of-one wishes number one within at =
-    (thing.0, thing.1, position_or_len_is (λ other. other.place == one.place) things number one (omega (arith, in_things)) before (λ _. eq-eqb (get_or things number one).place one.place (ap (λ other. other.place) here)))
+number-of-one wishes number one within at = (
+  thing.0,
+  thing.1,
+  position_or_len_is (λ other. other.place == one.place) things number one (omega (arith, in_things)) before
+      (λ _. eq-eqb (get_or things number one).place one.place (ap (λ other. other.place) here)),
+)
   where
     things : List Named
     things = all_by_name wishes
@@ -58,7 +62,12 @@ one-of-place wishes place within =
     (omega (arith, number, in_wishes), ap (slice_get (all_by_name wishes)) number ∙ at)
   where
     in_turn : Contains (all_in_turn wishes) (named wishes place)
-    in_turn = (place, omega (arith, length-map-range_with_len (named wishes) 0 (length wishes)), get_or-map-range_with_len (named wishes) 0 (length wishes) place place (named wishes place) within (omega arith))
+    in_turn = (
+      place,
+      omega (arith, length-map-range_with_len (named wishes) 0 (length wishes)),
+      get_or-map-range_with_len (named wishes) 0 (length wishes) place place (named wishes place) within
+          (omega arith),
+    )
 
     there : Contains (all_by_name wishes) (named wishes place)
     there = Contains-permutation (all_in_turn wishes) (all_by_name wishes) (named wishes place) (IsPermutation-all_by_name wishes) in_turn
@@ -72,7 +81,8 @@ one-of-place wishes place within =
 -- ---- names in order
 
 -- things that do not share their names are in the order of those alone
-less-by-name : (wishes : List (List ℕ)) → All EndsInBracket wishes → length wishes < 10 ^ 64 → (a b : Named) → IsThing wishes a → IsThing wishes b → compare_named a b ≡ Less → slice_cmp nat_cmp a.name b.name ≡ Less
+less-by-name : (wishes : List (List ℕ)) → All EndsInBracket wishes → length wishes < 10 ^ 64 → (a b : Named) → IsThing wishes a → IsThing wishes b → compare_named a b ≡ Less →
+    slice_cmp nat_cmp a.name b.name ≡ Less
 less-by-name wishes brackets few a b a_is b_is less = by (slice_cmp nat_cmp a.name b.name) refl less
   where
     by : (o : Ordering) → slice_cmp nat_cmp a.name b.name ≡ o → ordering_then o (nat_cmp a.place b.place) ≡ Less → o ≡ Less

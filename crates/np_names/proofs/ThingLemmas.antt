@@ -9,7 +9,8 @@ use Rattle.std.specs.List.Sorted.{IsPermutation, IsStrictlySortedBy}
 use Rattle.std.specs.Ordering.{match_ordering, nat_cmp, ordering_reverse, ordering_then}
 use Rattle.std.proofs.lemmas.List.Elements.{All-from_recursion}
 use Rattle.std.proofs.lemmas.List.FromFn.{length-map-range_with_len, map-range_with_len_more}
-use Rattle.std.proofs.lemmas.List.Sorted.{All-permutation, IsPermutation-append_left, IsPermutation-cons, IsPermutation-middle, IsPermutation-refl, IsPermutation-sym, IsPermutation-trans, length_permutation}
+use Rattle.std.proofs.lemmas.List.Sorted.{All-permutation, IsPermutation-append_left, IsPermutation-cons, IsPermutation-middle, IsPermutation-refl, IsPermutation-sym, IsPermutation-trans}
+use Rattle.std.proofs.lemmas.List.Sorted.{length_permutation}
 use Rattle.std.proofs.lemmas.List.Sums.{fold_push}
 use Rattle.np_names.specs.Names.{all_by_name, all_in_turn, compare_named, name_at, named, with_name}
 use Rattle.np_names.specs.declared.named.Named.{Named}
@@ -21,7 +22,8 @@ pub compare_named_total : IsTotalOrder compare_named
 compare_named_total = then_total (on_total (λ (one : Named). one.name) nat_list_cmp_total) (on_total (λ (one : Named). one.place) nat_cmp_total)
 
 -- what is below a thing is below all that the thing is below
-below-trans : (low thing : Named) (things : List Named) → compare_named low thing ≡ Less → AllByRecursion (λ other. compare_named thing other ≡ Less) things → AllByRecursion (λ other. compare_named low other ≡ Less) things
+below-trans : (low thing : Named) (things : List Named) → compare_named low thing ≡ Less → AllByRecursion (λ other. compare_named thing other ≡ Less) things →
+    AllByRecursion (λ other. compare_named low other ≡ Less) things
 below-trans low thing [] below all = tt
 below-trans low thing (other ∷ things) below all = (compare_named_total.trans low thing other below all.0, below-trans low thing things below all.1)
 
@@ -30,7 +32,8 @@ holds-insert : (P : Named → Type 0) (things : List Named) (thing : Named) → 
 holds-insert P [] thing all more = (more, tt)
 holds-insert P (first ∷ things) thing all more = by (compare_named thing first) (holds-insert P things thing all.1 more)
   where
-    by : (o : Ordering) → AllByRecursion P (insert_key compare_named things thing) → AllByRecursion P (match_ordering o (thing ∷ first ∷ things) (first ∷ things) (first ∷ insert_key compare_named things thing))
+    by : (o : Ordering) → AllByRecursion P (insert_key compare_named things thing) →
+        AllByRecursion P (match_ordering o (thing ∷ first ∷ things) (first ∷ things) (first ∷ insert_key compare_named things thing))
     by Less others = (more, all)
     by Equal others = all
     by Greater others = (all.0, others)
@@ -41,7 +44,8 @@ unfolding IsStrictlySortedBy
 in_order-insert [] thing in_order = (tt, tt)
 in_order-insert (first ∷ things) thing in_order = by (compare_named thing first) refl (in_order-insert things thing in_order.1)
   where
-    by : (o : Ordering) → compare_named thing first ≡ o → IsStrictlySortedBy compare_named (insert_key compare_named things thing) → IsStrictlySortedBy compare_named (match_ordering o (thing ∷ first ∷ things) (first ∷ things) (first ∷ insert_key compare_named things thing))
+    by : (o : Ordering) → compare_named thing first ≡ o → IsStrictlySortedBy compare_named (insert_key compare_named things thing) →
+        IsStrictlySortedBy compare_named (match_ordering o (thing ∷ first ∷ things) (first ∷ things) (first ∷ insert_key compare_named things thing))
     by Less is others = ((is, below-trans thing first things is in_order.0), in_order)
     by Equal is others = in_order
     by Greater is others = (holds-insert (λ other. compare_named first other ≡ Less) things thing in_order.0 (compare_named_total.antisymm first thing ∙ ap ordering_reverse is), others)
@@ -78,7 +82,8 @@ IsPermutation-insert : (things : List Named) (thing : Named) → ArePlaces thing
 IsPermutation-insert [] thing places = IsPermutation-refl (thing ∷ [])
 IsPermutation-insert (first ∷ things) thing places = by (compare_named thing first) refl (IsPermutation-insert things thing places.1)
   where
-    by : (o : Ordering) → compare_named thing first ≡ o → IsPermutation (thing ∷ things) (insert_key compare_named things thing) → IsPermutation (thing ∷ first ∷ things) (match_ordering o (thing ∷ first ∷ things) (first ∷ things) (first ∷ insert_key compare_named things thing))
+    by : (o : Ordering) → compare_named thing first ≡ o → IsPermutation (thing ∷ things) (insert_key compare_named things thing) →
+        IsPermutation (thing ∷ first ∷ things) (match_ordering o (thing ∷ first ∷ things) (first ∷ things) (first ∷ insert_key compare_named things thing))
     by Less is others = IsPermutation-refl (thing ∷ first ∷ things)
     by Equal is others = absurd (omega (arith, places.0, places-apart thing first is))
     by Greater is others =
@@ -87,7 +92,8 @@ IsPermutation-insert (first ∷ things) thing places = by (compare_named thing f
         (IsPermutation-cons first (thing ∷ things) (insert_key compare_named things thing) others)
 
 -- so all of them are there
-IsPermutation-fold : (wishes : List (List ℕ)) (next count : ℕ) (things : List Named) → ArePlaces next things → IsPermutation (things ++ map (named wishes) (range_with_len next count)) (fold (insert_key compare_named) things (map (named wishes) (range_with_len next count)))
+IsPermutation-fold : (wishes : List (List ℕ)) (next count : ℕ) (things : List Named) → ArePlaces next things →
+    IsPermutation (things ++ map (named wishes) (range_with_len next count)) (fold (insert_key compare_named) things (map (named wishes) (range_with_len next count)))
 IsPermutation-fold wishes next zero things places = rw (append-nil things) (IsPermutation-refl things)
 IsPermutation-fold wishes next (suc count) things places =
     let first : Named = named wishes next in
@@ -126,7 +132,8 @@ abbrev pub things_before : List (List ℕ) → ℕ → List Named
 things_before wishes place = fold (insert_key compare_named) [] (map (named wishes) (range_with_len 0 place))
 
 -- one more thing
-pub things-push : (wishes : List (List ℕ)) (name : List ℕ) (place : ℕ) (things after : List Named) → name ≡ name_at wishes place → things ≡ things_before wishes place → after ≡ insert_key compare_named things (with_name name place)
+pub things-push : (wishes : List (List ℕ)) (name : List ℕ) (place : ℕ) (things after : List Named) → name ≡ name_at wishes place → things ≡ things_before wishes place →
+    after ≡ insert_key compare_named things (with_name name place)
     → after ≡ things_before wishes (place + 1)
 things-push wishes name place things after is_name is_things is_after =
     is_after

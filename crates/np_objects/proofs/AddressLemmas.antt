@@ -43,9 +43,11 @@ pub HaveSame-none : (keys : List Address) → keys ≡ [] → HaveSame [] keys
 HaveSame-none keys none = record { same = λ address. ap (λ found. has_address found address) none }
 
 -- an address is added to the set exactly where it is not kept yet
-pub kept_with-added : (kept keys : List Address) (found : Option Address) (address : Address) (added is_new : Bool) → HaveSame kept keys → found ≡ Some address → added ≡ not (contains_key keys address) → added ≡ is_new → kept_with kept found ≡ (if is_new then kept ++ address ∷ [] else kept)
+pub kept_with-added : (kept keys : List Address) (found : Option Address) (address : Address) (added is_new : Bool) → HaveSame kept keys → found ≡ Some address →
+    added ≡ not (contains_key keys address) → added ≡ is_new → kept_with kept found ≡ (if is_new then kept ++ address ∷ [] else kept)
 kept_with-added kept keys found address added is_new have is_found is_added is =
-    ap (kept_with kept) is_found ∙ ap with_known (sym (have.same address) ∙ sym (contains_key-has_address keys address)) ∙ by (contains_key keys address) ∙ ap (λ put. if put then kept ++ address ∷ [] else kept) (sym is_added ∙ is)
+    ap (kept_with kept) is_found ∙ ap with_known (sym (have.same address) ∙ sym (contains_key-has_address keys address)) ∙ by (contains_key keys address) ∙ ap
+    (λ put. if put then kept ++ address ∷ [] else kept) (sym is_added ∙ is)
   where
     with_known : Bool → List Address
     with_known known = if known then kept else kept ++ address ∷ []
@@ -55,8 +57,12 @@ kept_with-added kept keys found address added is_new have is_found is_added is =
     by false = refl
 
 -- one more address in both
-pub HaveSame-more : (kept keys more : List Address) (address : Address) → HaveSame kept keys → ((other : Address) → contains_key more other ≡ cond (is_at (order address) other) true (contains_key keys other)) → HaveSame (kept ++ address ∷ []) more
-HaveSame-more kept keys more address have added = record { same = λ other. sym (contains_key-has_address more other) ∙ added other ∙ is_kept other ∙ sym (list_any-append (λ one. is_same one other) kept (address ∷ [])) }
+pub HaveSame-more : (kept keys more : List Address) (address : Address) → HaveSame kept keys →
+    ((other : Address) → contains_key more other ≡ cond (is_at (order address) other) true (contains_key keys other)) → HaveSame (kept ++ address ∷ []) more
+HaveSame-more kept keys more address have added = record {
+  same = λ other. sym (contains_key-has_address more other) ∙ added other ∙ is_kept other ∙ sym
+      (list_any-append (λ one. is_same one other) kept (address ∷ []));
+}
   where
     either : (same before : Bool) → cond same true before ≡ (before || (same || false))
     either true true = refl

@@ -26,7 +26,8 @@ some_kind : (kind : List ℕ) (some : List ControllerKind) → list_any (named_b
 some_kind kind [] is = cc
 some_kind kind (which ∷ some) is = by (named_by kind which) refl is (some_kind kind some)
   where
-    by : (first : Bool) → named_by kind which ≡ first → (first || list_any (named_by kind) some) ≡ true → (list_any (named_by kind) some ≡ true → (which : ControllerKind) × (kind ≡ kind_name which)) → (which : ControllerKind) × (kind ≡ kind_name which)
+    by : (first : Bool) → named_by kind which ≡ first → (first || list_any (named_by kind) some) ≡ true → (list_any (named_by kind) some ≡ true → (which : ControllerKind) × (kind ≡ kind_name which)) →
+        (which : ControllerKind) × (kind ≡ kind_name which)
     by true same any later = (which, (bytes_eq-Decides kind (kind_name which)).0 same)
     by false same any later = later any
 
@@ -42,13 +43,20 @@ is_controller_kind-name CronJob = refl
 -- ---- kinds that count
 
 counts-Decides : (dependent : Dependent) (kind : List ℕ) → Decides (counts dependent kind) (Counts dependent kind)
-counts-Decides Pod kind = (λ is same. both_ways (bytes_eq kind (codes "Node")) (not-true (bytes_eq kind (codes "Node")) is) ((bytes_eq-Decides kind (codes "Node")).1 same), λ apart. not_from_false (bytes_eq kind (codes "Node")) (false_from_ne_true (bytes_eq kind (codes "Node")) (λ same. apart ((bytes_eq-Decides kind (codes "Node")).0 same))))
+counts-Decides Pod kind = (
+  λ is same. both_ways (bytes_eq kind (codes "Node")) (not-true (bytes_eq kind (codes "Node")) is) ((bytes_eq-Decides kind (codes "Node")).1 same),
+  λ apart. not_from_false
+      (bytes_eq kind (codes "Node")) (false_from_ne_true (bytes_eq kind (codes "Node")) (λ same. apart ((bytes_eq-Decides kind (codes "Node")).0 same))),
+)
 counts-Decides Controller kind = (some_kind kind kinds, λ named. ap is_controller_kind named.1 ∙ is_controller_kind-name named.0)
 
 names_owner-Decides : (dependent : Dependent) (reference : OwnerReference) → Decides (names_owner dependent reference) (NamesOwner dependent reference)
 names_owner-Decides dependent reference =
-    let kind = reference.owner.kind in
-    (λ is. let parts = and_parts reference.controls (counts dependent kind) is in (parts.0, (counts-Decides dependent kind).0 parts.1), λ names. and_from reference.controls (counts dependent kind) names.0 ((counts-Decides dependent kind).1 names.1))
+    let kind = reference.owner.kind in (
+      λ is. let parts = and_parts reference.controls (counts dependent kind) is in (parts.0, (counts-Decides dependent kind).0 parts.1),
+      λ names. and_from reference.controls
+          (counts dependent kind) names.0 ((counts-Decides dependent kind).1 names.1),
+    )
 
 -- ---- the first that names the owner
 
@@ -62,7 +70,8 @@ owner_by dependent reference references named = option_map (λ one. one.owner) (
 passed : (dependent : Dependent) (reference : OwnerReference) → Passes dependent reference → names_owner dependent reference ≡ false
 passed dependent reference passes = false_from_ne_true (names_owner dependent reference) (λ is. passes ((names_owner-Decides dependent reference).0 is))
 
-pub owner_of-first : (dependent : Dependent) (before after : List OwnerReference) (reference : OwnerReference) → All (Passes dependent) before → NamesOwner dependent reference → owner_of dependent (before ++ reference ∷ after) ≡ Some reference.owner
+pub owner_of-first : (dependent : Dependent) (before after : List OwnerReference) (reference : OwnerReference) → All (Passes dependent) before → NamesOwner dependent reference →
+    owner_of dependent (before ++ reference ∷ after) ≡ Some reference.owner
 owner_of-first dependent [] after reference pass names = ap (owner_by dependent reference after) ((names_owner-Decides dependent reference).1 names)
 owner_of-first dependent (other ∷ before) after reference pass names =
     ap (owner_by dependent other (before ++ reference ∷ after)) (passed dependent other (All-head (Passes dependent) other before pass))
@@ -78,6 +87,7 @@ pub All-passes : (dependent : Dependent) (references : List OwnerReference) → 
 All-passes dependent [] none = λ k missing below. absurd (omega arith)
 All-passes dependent (reference ∷ references) none = by (names_owner dependent reference) refl none (All-passes dependent references)
   where
-    by : (named : Bool) → names_owner dependent reference ≡ named → owner_by dependent reference references named ≡ None → (owner_of dependent references ≡ None → All (Passes dependent) references) → All (Passes dependent) (reference ∷ references)
+    by : (named : Bool) → names_owner dependent reference ≡ named → owner_by dependent reference references named ≡ None → (owner_of dependent references ≡ None → All (Passes dependent) references) →
+        All (Passes dependent) (reference ∷ references)
     by true is some later = cc
     by false is none later = All-cons (Passes dependent) reference references (λ names. both_ways (names_owner dependent reference) is ((names_owner-Decides dependent reference).1 names)) (later none)

@@ -41,7 +41,8 @@ unfolding under
 Ok-under step read x is = ap (under step) is
 
 -- a shape that reads of a value what another does of it, and of the member too
-required-other : {A B : Type 0} (name : List ℕ) (shape : Data → Read A) (other : Data → Read B) (P : B → Type 0) (value : Data) (x : A) → ((found : Data) → shape found ≡ Ok x → (y : B) × (other found ≡ Ok y) × P y) → required name shape value ≡ Ok x → (y : B) × (required name other value ≡ Ok y) × P y
+required-other : {A B : Type 0} (name : List ℕ) (shape : Data → Read A) (other : Data → Read B) (P : B → Type 0) (value : Data) (x : A) →
+    ((found : Data) → shape found ≡ Ok x → (y : B) × (other found ≡ Ok y) × P y) → required name shape value ≡ Ok x → (y : B) × (required name other value ≡ Ok y) × P y
 unfolding required
 required-other {A} {B} name shape other P value x each is = by (member_of name value) (under-Ok (Field name) (read_member (refuse BadField) shape (member_of name value)) x is)
   where
@@ -59,7 +60,9 @@ pod_metadata-names : (value : Data) (metadata : PodMetadata) → pod_metadata va
 unfolding pod_metadata
 pod_metadata-names value metadata is = by (namespaced_name value) (optional (codes "labels") label_map value) (listed (codes "ownerReferences") owner_reference value) is
   where
-    by : (own : Read NamespacedName) (labels : Read (Option (List Pair))) (listing : Read (List OwnerReference)) → (own >>= λ own. labels >>= λ labels. listing >>= λ references. Ok (record { own = own; labels = unwrap_or labels []; owner = owner_of dependent.Pod references })) ≡ Ok metadata → (references : List OwnerReference) × (listing ≡ Ok references) × (metadata.owner ≡ owner_of dependent.Pod references)
+    by : (own : Read NamespacedName) (labels : Read (Option (List Pair))) (listing : Read (List OwnerReference)) →
+        (own >>= λ own. labels >>= λ labels. listing >>= λ references. Ok (record { own = own; labels = unwrap_or labels []; owner = owner_of dependent.Pod references })) ≡ Ok metadata →
+        (references : List OwnerReference) × (listing ≡ Ok references) × (metadata.owner ≡ owner_of dependent.Pod references)
     by (Ok own) (Ok labels) (Ok references) read =
         let made : PodMetadata = record { own = own; labels = unwrap_or labels []; owner = owner_of dependent.Pod references } in
         let same : metadata ≡ made = cc in
@@ -72,7 +75,9 @@ controller_metadata-names : (value : Data) (metadata : ControllerMetadata) → c
 unfolding controller_metadata
 controller_metadata-names value metadata is = by (namespaced_name value) (listed (codes "ownerReferences") owner_reference value) is
   where
-    by : (own : Read NamespacedName) (listing : Read (List OwnerReference)) → (own >>= λ own. listing >>= λ references. Ok (record { own = own; owner = owner_of dependent.Controller references })) ≡ Ok metadata → (references : List OwnerReference) × (listing ≡ Ok references) × (metadata.owner ≡ owner_of dependent.Controller references)
+    by : (own : Read NamespacedName) (listing : Read (List OwnerReference)) →
+        (own >>= λ own. listing >>= λ references. Ok (record { own = own; owner = owner_of dependent.Controller references })) ≡ Ok metadata →
+        (references : List OwnerReference) × (listing ≡ Ok references) × (metadata.owner ≡ owner_of dependent.Controller references)
     by (Ok own) (Ok references) read =
         let made : ControllerMetadata = record { own = own; owner = owner_of dependent.Controller references } in
         let same : metadata ≡ made = cc in
@@ -86,11 +91,14 @@ pub pod-IsOwnerIn : (value : Data) (item : PodItem) → pod value ≡ Ok item �
 unfolding pod
 pod-IsOwnerIn value item is = by (required (codes "metadata") pod_metadata value) (required (codes "spec") pod_spec value) (optional (codes "status") pod_status value) is refl
   where
-    by : (metadata : Read PodMetadata) (spec : Read PodSpec) (status : Read (Option PodStatus)) → (metadata >>= λ metadata. spec >>= λ spec. status >>= λ status. Ok (pod_item metadata spec (unwrap_or status no_status))) ≡ Ok item → required (codes "metadata") pod_metadata value ≡ metadata → IsOwnerIn dependent.Pod value item.owner
+    by : (metadata : Read PodMetadata) (spec : Read PodSpec) (status : Read (Option PodStatus)) →
+        (metadata >>= λ metadata. spec >>= λ spec. status >>= λ status. Ok (pod_item metadata spec (unwrap_or status no_status))) ≡ Ok item →
+        required (codes "metadata") pod_metadata value ≡ metadata → IsOwnerIn dependent.Pod value item.owner
     by (Ok metadata) (Ok spec) (Ok status) read found =
         let same : item ≡ pod_item metadata spec (unwrap_or status no_status) = cc in
         let owner : item.owner ≡ metadata.owner = ap (λ one. one.owner) same in
-        let part = required-other (codes "metadata") pod_metadata (listed (codes "ownerReferences") owner_reference) (λ references. metadata.owner ≡ owner_of dependent.Pod references) value metadata (λ inner. pod_metadata-names inner metadata) found in
+        let part = required-other (codes "metadata") pod_metadata (listed (codes "ownerReferences") owner_reference) (λ references. metadata.owner ≡ owner_of dependent.Pod references) value metadata
+        (λ inner. pod_metadata-names inner metadata) found in
         (part.0, part.1, owner ∙ part.2)
     by (Err flaw) spec status read found = cc
     by (Ok metadata) (Err flaw) status read found = cc
@@ -100,11 +108,14 @@ pub controller-IsOwnerIn : (kind : ControllerKind) (value : Data) (item : Contro
 unfolding controller
 controller-IsOwnerIn kind value item is = by (required (codes "metadata") controller_metadata value) (optional (codes "spec") (controller_spec kind) value) is refl
   where
-    by : (metadata : Read ControllerMetadata) (spec : Read (Option ControllerSpec)) → (metadata >>= λ metadata. spec >>= λ spec. Ok (controller_item kind metadata (unwrap_or spec no_spec))) ≡ Ok item → required (codes "metadata") controller_metadata value ≡ metadata → IsOwnerIn dependent.Controller value item.owner
+    by : (metadata : Read ControllerMetadata) (spec : Read (Option ControllerSpec)) →
+        (metadata >>= λ metadata. spec >>= λ spec. Ok (controller_item kind metadata (unwrap_or spec no_spec))) ≡ Ok item → required (codes "metadata") controller_metadata value ≡ metadata →
+        IsOwnerIn dependent.Controller value item.owner
     by (Ok metadata) (Ok spec) read found =
         let same : item ≡ controller_item kind metadata (unwrap_or spec no_spec) = cc in
         let owner : item.owner ≡ metadata.owner = ap (λ one. one.owner) same in
-        let part = required-other (codes "metadata") controller_metadata (listed (codes "ownerReferences") owner_reference) (λ references. metadata.owner ≡ owner_of dependent.Controller references) value metadata (λ inner. controller_metadata-names inner metadata) found in
+        let part = required-other (codes "metadata") controller_metadata (listed (codes "ownerReferences") owner_reference)
+        (λ references. metadata.owner ≡ owner_of dependent.Controller references) value metadata (λ inner. controller_metadata-names inner metadata) found in
         (part.0, part.1, owner ∙ part.2)
     by (Err flaw) spec read found = cc
     by (Ok metadata) (Err flaw) read found = cc

@@ -69,11 +69,13 @@ given_by : {A : Type 0} (p : A → Bool) (read : Read A) → ReadsOnly p read �
 given_by p (Ok x) is = ReadsOnly-Ok (option_all p) (Some x) (is.output x refl)
 given_by p (Err flaw) is = ReadsOnly-Err (option_all p) flaw
 
-optional_by : {A : Type 0} (p : A → Bool) (shape : Data → Read A) (found : Option Data) → ((value : Data) → ReadsOnly p (shape value)) → ReadsOnly (option_all p) (read_member (Ok None) (λ value. given (shape value)) found)
+optional_by : {A : Type 0} (p : A → Bool) (shape : Data → Read A) (found : Option Data) → ((value : Data) → ReadsOnly p (shape value)) →
+    ReadsOnly (option_all p) (read_member (Ok None) (λ value. given (shape value)) found)
 optional_by p shape None is = ReadsOnly-Ok (option_all p) None refl
 optional_by p shape (Some value) is = given_by p (shape value) (is value)
 
-pub ReadsOnly-optional : {A : Type 0} (p : A → Bool) (name : List ℕ) (shape : Data → Read A) (value : Data) → ((found : Data) → ReadsOnly p (shape found)) → ReadsOnly (option_all p) (optional name shape value)
+pub ReadsOnly-optional : {A : Type 0} (p : A → Bool) (name : List ℕ) (shape : Data → Read A) (value : Data) → ((found : Data) → ReadsOnly p (shape found)) →
+    ReadsOnly (option_all p) (optional name shape value)
 unfolding optional
 ReadsOnly-optional p name shape value is = ReadsOnly-under (option_all p) (Field name) _ (optional_by p shape (member_of name value) is)
 
@@ -88,11 +90,13 @@ list_by_by : {A : Type 0} (p : A → Bool) (shape : Data → Read A) (items : Op
 list_by_by p shape None is = ReadsOnly-Err (list_all p) _
 list_by_by p shape (Some items) is = each_by p shape 0 items is
 
-listed_by : {A : Type 0} (p : A → Bool) (shape : Data → Read A) (found : Option Data) → ((value : Data) → ReadsOnly p (shape value)) → ReadsOnly (list_all p) (read_member (Ok []) (λ value. list_by shape (as_array value)) found)
+listed_by : {A : Type 0} (p : A → Bool) (shape : Data → Read A) (found : Option Data) → ((value : Data) → ReadsOnly p (shape value)) →
+    ReadsOnly (list_all p) (read_member (Ok []) (λ value. list_by shape (as_array value)) found)
 listed_by p shape None is = ReadsOnly-Ok (list_all p) [] refl
 listed_by p shape (Some value) is = list_by_by p shape (as_array value) is
 
-pub ReadsOnly-listed : {A : Type 0} (p : A → Bool) (name : List ℕ) (shape : Data → Read A) (value : Data) → ((found : Data) → ReadsOnly p (shape found)) → ReadsOnly (list_all p) (listed name shape value)
+pub ReadsOnly-listed : {A : Type 0} (p : A → Bool) (name : List ℕ) (shape : Data → Read A) (value : Data) → ((found : Data) → ReadsOnly p (shape found)) →
+    ReadsOnly (list_all p) (listed name shape value)
 unfolding listed
 ReadsOnly-listed p name shape value is = ReadsOnly-under (list_all p) (Field name) _ (listed_by p shape (member_of name value) is)
 

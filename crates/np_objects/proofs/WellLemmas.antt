@@ -1,5 +1,6 @@
 -- What the shapes of objects read is well formed.
-use Rattle.std.proofs.Common.{◌≡◌, ℕ, List, [], ◌∷◌, length, map, fold, Bool, true, false, not, ◌&&◌, ◌==◌, if◌then◌else◌, IfOk, Option, Some, None, option_map, find, Ok, Err, Result, ℤ, codes, unwrap_or, refl, ap, ◌∙◌}
+use Rattle.std.proofs.Common.{◌≡◌, ℕ, List, [], ◌∷◌, length, map, fold, Bool, true, false, not, ◌&&◌, ◌==◌, if◌then◌else◌, IfOk, Option, Some, None, option_map, find, Ok, Err, Result, ℤ, codes}
+use Rattle.std.proofs.Common.{unwrap_or, refl, ap, ◌∙◌}
 use Rattle.std.specs.List.{list_all, filter_map, flat_map}
 use Rattle.std.specs.Option.{option_flatten}
 use Rattle.std.specs.Ordering.{nat_cmp, match_ordering}
@@ -32,7 +33,8 @@ use Rattle.np_objects.specs.Pods.{pod, pod_metadata}
 use Rattle.np_objects.specs.Ports.{port_name, protocol, container_port, if_named}
 use Rattle.np_objects.specs.Services.{service, service_spec, service_port, target_port, target_by, by_number, by_name, selector_of, is_text}
 use Rattle.np_objects.specs.Templates.{template, template_metadata}
-use Rattle.np_model.specs.WellObjects.{option_all, is_whole_word, is_well_label, is_well_labels, is_well_requirement, is_well_selector, is_well_port, is_well_ports, is_well_target, is_well_service_port, is_well_service, is_well_ingress}
+use Rattle.np_model.specs.WellObjects.{option_all, is_whole_word, is_well_label, is_well_labels, is_well_requirement, is_well_selector, is_well_port, is_well_ports, is_well_target}
+use Rattle.np_model.specs.WellObjects.{is_well_service_port, is_well_service, is_well_ingress}
 use Rattle.np_objects.specs.WellFormed.{is_well_owner, is_well_pod, is_well_namespace, is_well_template, is_well_controller, is_well_object, IsWellObject}
 use Rattle.np_objects.specs.declared.controller.ControllerKind.{ControllerKind}
 use Rattle.np_objects.specs.declared.controller.ControllerKind.TheVariants.{Deployment, ReplicaSet, StatefulSet, DaemonSet, ReplicationController, Job, CronJob}
@@ -49,7 +51,8 @@ use Rattle.np_objects.specs.declared.pod_item.PodMetadata.{PodMetadata}
 use Rattle.np_objects.specs.declared.pod_spec.PodSpec.{PodSpec}
 use Rattle.np_model.specs.declared.service.PortName.TheVariants.{Number, Named}
 use Rattle.np_objects.specs.declared.service_spec.ServiceSpec.{ServiceSpec}
-use Rattle.np_objects.proofs.ReadLemmas.{ReadsOnly, ReadsOnly-Ok, ReadsOnly-bind, ReadsOnly-after, ReadsOnly-then, ReadsOnly-required, ReadsOnly-optional, ReadsOnly-listed, ReadsOnly-name, ReadsOnly-word, ReadsOnly-labels, ReadsOnly-namespaced_name, is_well_own, unwrapped}
+use Rattle.np_objects.proofs.ReadLemmas.{ReadsOnly, ReadsOnly-Ok, ReadsOnly-bind, ReadsOnly-after, ReadsOnly-then, ReadsOnly-required, ReadsOnly-optional, ReadsOnly-listed, ReadsOnly-name}
+use Rattle.np_objects.proofs.ReadLemmas.{ReadsOnly-word, ReadsOnly-labels, ReadsOnly-namespaced_name, is_well_own, unwrapped}
 
 -- ---- lists
 
@@ -87,9 +90,11 @@ with_pair-well (first ∷ pairs) pair all is = by (slice_cmp nat_cmp pair.key fi
     value : (not (length pair.key == 0) && is_word pair.key ≡ true) × (is_word pair.value ≡ true)
     value = and_parts (not (length pair.key == 0) && is_word pair.key) (is_word pair.value) is
 
-    by : (order : Ordering) → is_well_labels (with_pair pairs pair) ≡ true → is_well_labels (match_ordering order (pair ∷ first ∷ pairs) (record first { value = pair.value } ∷ pairs) (first ∷ with_pair pairs pair)) ≡ true
+    by : (order : Ordering) → is_well_labels (with_pair pairs pair) ≡ true →
+        is_well_labels (match_ordering order (pair ∷ first ∷ pairs) (record first { value = pair.value } ∷ pairs) (first ∷ with_pair pairs pair)) ≡ true
     by Less later = and_from (is_well_label pair) (is_well_labels (first ∷ pairs)) is all
-    by Equal later = and_from (not (length first.key == 0) && is_word first.key && is_word pair.value) (is_well_labels pairs) (and_from (not (length first.key == 0) && is_word first.key) (is_word pair.value) key.0 value.1) parts.1
+    by Equal later = and_from (not (length first.key == 0) && is_word first.key && is_word pair.value) (is_well_labels pairs)
+        (and_from (not (length first.key == 0) && is_word first.key) (is_word pair.value) key.0 value.1) parts.1
     by Greater later = and_from (is_well_label first) (is_well_labels (with_pair pairs pair)) parts.0 later
 
 fold-well : (start : List Pair) (entries : List (List ℕ × List ℕ)) → is_well_labels start ≡ true → list_all is_label entries ≡ true → is_well_labels (fold with_pair start (map pair_of entries)) ≡ true
@@ -125,7 +130,8 @@ owner_of-well dependent (reference ∷ references) all = by (names_owner depende
     parts : (is_well_reference reference ≡ true) × (list_all is_well_reference references ≡ true)
     parts = and_parts (is_well_reference reference) (list_all is_well_reference references) all
 
-    by : (named : Bool) → option_all is_well_owner (owner_of dependent references) ≡ true → option_all is_well_owner (option_map (λ one. one.owner) (if named then Some reference else find (names_owner dependent) references)) ≡ true
+    by : (named : Bool) → option_all is_well_owner (owner_of dependent references) ≡ true →
+        option_all is_well_owner (option_map (λ one. one.owner) (if named then Some reference else find (names_owner dependent) references)) ≡ true
     by true later = parts.0
     by false later = later
 
@@ -152,10 +158,12 @@ container_port-well : (value : Data) → ReadsOnly (option_all is_well_port) (co
 unfolding container_port
 container_port-well value =
     ReadsOnly-then (option_all is_well_port) _ _ (
-    ReadsOnly-bind (option_all (option_all is_whole_word)) (option_all is_well_port) _ _ (ReadsOnly-optional (option_all is_whole_word) (codes "name") port_name value port_name-well) (λ called called_well.
+    ReadsOnly-bind (option_all (option_all is_whole_word)) (option_all is_well_port) _ _ (ReadsOnly-optional (option_all is_whole_word) (codes "name") port_name value port_name-well)
+    (λ called called_well.
     ReadsOnly-after (option_all is_well_port) (optional (codes "protocol") protocol value) _ (λ proto.
     ReadsOnly-after (option_all is_well_port) (required (codes "containerPort") port value) _ (λ number.
-    ReadsOnly-Ok (option_all is_well_port) (if_named (option_flatten called) (unwrap_or proto Tcp) number) (if_named-well (option_flatten called) (unwrap_or proto Tcp) number (flattened is_whole_word called called_well))))))
+    ReadsOnly-Ok (option_all is_well_port) (if_named (option_flatten called) (unwrap_or proto Tcp) number)
+    (if_named-well (option_flatten called) (unwrap_or proto Tcp) number (flattened is_whole_word called called_well))))))
 
 container-well : (value : Data) → ReadsOnly is_well_ports (container value)
 unfolding container
@@ -185,7 +193,8 @@ unfolding pod_metadata
 pod_metadata-well value =
     ReadsOnly-bind is_well_own is_well_metadata _ _ (ReadsOnly-namespaced_name value) (λ own own_well.
     ReadsOnly-bind (option_all is_well_labels) is_well_metadata _ _ (ReadsOnly-optional is_well_labels (codes "labels") label_map value label_map-well) (λ found found_well.
-    ReadsOnly-bind (list_all is_well_reference) is_well_metadata _ _ (ReadsOnly-listed is_well_reference (codes "ownerReferences") owner_reference value owner_reference-well) (λ references references_well.
+    ReadsOnly-bind (list_all is_well_reference) is_well_metadata _ _ (ReadsOnly-listed is_well_reference (codes "ownerReferences") owner_reference value owner_reference-well)
+    (λ references references_well.
     ReadsOnly-Ok is_well_metadata _ (and_from _ _ (and_from _ _ own_well (unwrapped is_well_labels found [] found_well refl)) (owner_of-well dependent.Pod references references_well)))))
 
 pod-well : (value : Data) → ReadsOnly is_well_pod (pod value)
@@ -275,14 +284,16 @@ controller_metadata-well : (value : Data) → ReadsOnly has_well_metadata (contr
 unfolding controller_metadata
 controller_metadata-well value =
     ReadsOnly-bind is_well_own has_well_metadata _ _ (ReadsOnly-namespaced_name value) (λ own own_well.
-    ReadsOnly-bind (list_all is_well_reference) has_well_metadata _ _ (ReadsOnly-listed is_well_reference (codes "ownerReferences") owner_reference value owner_reference-well) (λ references references_well.
+    ReadsOnly-bind (list_all is_well_reference) has_well_metadata _ _ (ReadsOnly-listed is_well_reference (codes "ownerReferences") owner_reference value owner_reference-well)
+    (λ references references_well.
     ReadsOnly-Ok has_well_metadata _ (and_from _ _ own_well (owner_of-well dependent.Controller references references_well))))
 
 controller-well : (which : ControllerKind) (value : Data) → ReadsOnly is_well_controller (controller which value)
 unfolding controller
 controller-well which value =
     ReadsOnly-bind has_well_metadata is_well_controller _ _ (ReadsOnly-required has_well_metadata (codes "metadata") controller_metadata value controller_metadata-well) (λ metadata metadata_well.
-    ReadsOnly-bind (option_all has_well_template) is_well_controller _ _ (ReadsOnly-optional has_well_template (codes "spec") (controller_spec which) value (controller_spec-well which)) (λ spec spec_well.
+    ReadsOnly-bind (option_all has_well_template) is_well_controller _ _ (ReadsOnly-optional has_well_template (codes "spec") (controller_spec which) value (controller_spec-well which))
+    (λ spec spec_well.
     ReadsOnly-Ok is_well_controller _ (and_from _ _ metadata_well (unwrapped has_well_template spec no_spec spec_well refl))))
 
 -- ---- services
@@ -320,8 +331,10 @@ service_port-well value =
     ReadsOnly-bind (option_all (option_all is_whole_word)) is_well_service_port _ _ (ReadsOnly-optional (option_all is_whole_word) (codes "name") port_name value port_name-well) (λ called called_well.
     ReadsOnly-after is_well_service_port (optional (codes "protocol") protocol value) _ (λ proto.
     ReadsOnly-after is_well_service_port (required (codes "port") port value) _ (λ number.
-    ReadsOnly-bind (option_all (option_all is_well_target)) is_well_service_port _ _ (ReadsOnly-optional (option_all is_well_target) (codes "targetPort") target_port value target_port-well) (λ target target_well.
-    ReadsOnly-Ok is_well_service_port (record { name = option_flatten called; proto = unwrap_or proto Tcp; port = number; target = unwrap_or (option_flatten target) (Number number) }) (and_from _ _ (flattened is_whole_word called called_well) (unwrapped is_well_target (option_flatten target) (Number number) (flattened is_well_target target target_well) refl)))))))
+    ReadsOnly-bind (option_all (option_all is_well_target)) is_well_service_port _ _ (ReadsOnly-optional (option_all is_well_target) (codes "targetPort") target_port value target_port-well)
+    (λ target target_well.
+    ReadsOnly-Ok is_well_service_port (record { name = option_flatten called; proto = unwrap_or proto Tcp; port = number; target = unwrap_or (option_flatten target) (Number number) })
+    (and_from _ _ (flattened is_whole_word called called_well) (unwrapped is_well_target (option_flatten target) (Number number) (flattened is_well_target target target_well) refl)))))))
 
 requirement-well : (entry : List ℕ × List ℕ) → is_label entry ≡ true → is_well_requirement (label_requirement entry) ≡ true
 requirement-well entry is =
@@ -349,7 +362,13 @@ service_spec-well value =
     ReadsOnly-after has_well_members (optional (codes "clusterIP") text value) _ (λ cluster_ip.
     ReadsOnly-bind (option_all (list_all is_label)) has_well_members _ _ (ReadsOnly-optional (list_all is_label) (codes "selector") labels value ReadsOnly-labels) (λ selector selector_well.
     ReadsOnly-bind (list_all is_well_service_port) has_well_members _ _ (ReadsOnly-listed is_well_service_port (codes "ports") service_port value service_port-well) (λ ports ports_well.
-    ReadsOnly-Ok has_well_members (record { selector = selector_of (unwrap_or selector []); headless = is_text cluster_ip (codes "None"); external = is_text sort (codes "ExternalName"); ports = ports }) (and_from _ _ (selector-well (unwrap_or selector []) (unwrapped (list_all is_label) selector [] selector_well refl)) ports_well))))))
+    ReadsOnly-Ok has_well_members (record {
+      selector = selector_of (unwrap_or selector []);
+      headless = is_text cluster_ip (codes "None");
+      external = is_text sort (codes "ExternalName");
+      ports =
+          ports;
+    }) (and_from _ _ (selector-well (unwrap_or selector []) (unwrapped (list_all is_label) selector [] selector_well refl)) ports_well))))))
 
 service-well : (value : Data) → ReadsOnly is_well_service (service value)
 unfolding service
@@ -375,7 +394,8 @@ unfolding object_by
 object_by-well None value = ReadsOnly-Ok is_well_object object.Other refl
 object_by-well (Some kind.Pod) value = ReadsOnly-bind is_well_pod is_well_object _ _ (pod-well value) (λ item is. ReadsOnly-Ok is_well_object (object.Pod item) is)
 object_by-well (Some kind.Namespace) value = ReadsOnly-bind is_well_namespace is_well_object _ _ (namespace-well value) (λ item is. ReadsOnly-Ok is_well_object (object.Namespace item) is)
-object_by-well (Some (kind.Controller which)) value = ReadsOnly-bind is_well_controller is_well_object _ _ (controller-well which value) (λ item is. ReadsOnly-Ok is_well_object (object.Controller item) is)
+object_by-well (Some (kind.Controller which)) value = ReadsOnly-bind is_well_controller is_well_object _ _ (controller-well which value)
+    (λ item is. ReadsOnly-Ok is_well_object (object.Controller item) is)
 object_by-well (Some kind.Service) value = ReadsOnly-bind is_well_service is_well_object _ _ (service-well value) (λ item is. ReadsOnly-Ok is_well_object (object.Service item) is)
 object_by-well (Some kind.Ingress) value = ReadsOnly-bind is_well_ingress is_well_object _ _ (ingress-well value) (λ item is. ReadsOnly-Ok is_well_object (object.Ingress item) is)
 

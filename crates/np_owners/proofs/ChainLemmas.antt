@@ -71,7 +71,8 @@ first_cycle_within items place is =
     rw long at within
 
 -- the first cycle is named by its item
-pub cycle_named : (items : List Item) (place : ℕ) (one : Item) (text : List ℕ) → first_cycle (ups items) ≡ Some place → place < length items → one ≡ get_or items place one → text ≡ full_name_of one → first_in_cycle items ≡ Some text
+pub cycle_named : (items : List Item) (place : ℕ) (one : Item) (text : List ℕ) → first_cycle (ups items) ≡ Some place → place < length items → one ≡ get_or items place one → text ≡ full_name_of one →
+    first_in_cycle items ≡ Some text
 cycle_named items place one text is within at named =
     let found : slice_get items place ≡ Some one = slice_get_read items (length items) place one refl within at in
     rw (is, found, named) refl
@@ -83,7 +84,8 @@ abbrev pub owner_at : List Item → ℕ → Option Owner
 owner_at items place = option_and_then last_owner (slice_get items place)
 
 -- one top more
-pub owners_at_tops-more : (items : List Item) (tops : List ℕ) (i : ℕ) (one : Item) (before after : List (Option Owner)) → i < length tops → get_or tops i 0 < length items → one ≡ get_or items (get_or tops i 0) one
+pub owners_at_tops-more : (items : List Item) (tops : List ℕ) (i : ℕ) (one : Item) (before after : List (Option Owner)) → i < length tops → get_or tops i 0 < length items →
+    one ≡ get_or items (get_or tops i 0) one
     → after ≡ before ++ last_owner one ∷ []
     → before ≡ map (owner_at items) (take i tops)
     → after ≡ map (owner_at items) (take (i + 1) tops)
@@ -95,7 +97,8 @@ owners_at_tops-more items tops i one before after more within at pushed so_far =
     ∙ sym (ap (map (owner_at items)) (take_more tops i 0 more) ∙ map-append (owner_at items) (take i tops) (get_or tops i 0 ∷ []))
 
 -- each top is the place of an item
-pub top_within : (items : List Item) (chains : List (Option ℕ)) (tops shown : List ℕ) → chains ≡ ups items → All (λ place. place < length chains) tops → shown ≡ tops → (i : ℕ) → i < length shown → get_or shown i 0 < length items
+pub top_within : (items : List Item) (chains : List (Option ℕ)) (tops shown : List ℕ) → chains ≡ ups items → All (λ place. place < length chains) tops → shown ≡ tops → (i : ℕ) → i < length shown →
+    get_or shown i 0 < length items
 top_within items chains tops shown are all same i below =
     let long : length chains ≡ length items = ap length are ∙ length-map items (owner_place items) in
     let within : get_or shown i 0 < length chains = rw same (all i 0 (rw same at below)) in

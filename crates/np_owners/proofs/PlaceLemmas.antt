@@ -47,7 +47,8 @@ position_from-push t i (y ∷ ys) x = by (t y) (position_from-push t (i + 1) ys 
     same : i + 1 + length ys ≡ i + length (y ∷ ys)
     same = omega arith
 
-    by : (b : Bool) → position_from t (i + 1) (ys ++ x ∷ []) ≡ option_or (position_from t (i + 1) ys) (cond (t x) (Some (i + 1 + length ys)) None) → cond b (Some i) (position_from t (i + 1) (ys ++ x ∷ [])) ≡ option_or (cond b (Some i) (position_from t (i + 1) ys)) (cond (t x) (Some (i + length (y ∷ ys))) None)
+    by : (b : Bool) → position_from t (i + 1) (ys ++ x ∷ []) ≡ option_or (position_from t (i + 1) ys) (cond (t x) (Some (i + 1 + length ys)) None) →
+        cond b (Some i) (position_from t (i + 1) (ys ++ x ∷ [])) ≡ option_or (cond b (Some i) (position_from t (i + 1) ys)) (cond (t x) (Some (i + length (y ∷ ys))) None)
     by true behind = refl
     by false behind = behind ∙ ap (λ n. option_or (position_from t (i + 1) ys) (cond (t x) (Some n) None)) same
 
@@ -69,7 +70,8 @@ HoldsPlaces-unnamed earlier one entries unnamed places name =
     places name ∙ sym (place_of-push earlier one name ∙ rw unnamed (or_none (place_of earlier name)))
 
 -- and one of a new name has its own place
-pub HoldsPlaces-named : (earlier : List Item) (one : Item) (name : ObjectName) (before after : List (ObjectName × ℕ)) (place : ℕ) → length earlier ≡ place → name_of one ≡ Some name → noted_place before name ≡ None
+pub HoldsPlaces-named : (earlier : List Item) (one : Item) (name : ObjectName) (before after : List (ObjectName × ℕ)) (place : ℕ) → length earlier ≡ place → name_of one ≡ Some name →
+    noted_place before name ≡ None
     → ((other : ObjectName) → noted_place after other ≡ cond (is_eq (compare_names name other)) (Some place) (noted_place before other))
     → HoldsPlaces earlier before → HoldsPlaces (earlier ++ one ∷ []) after
 HoldsPlaces-named earlier one name before after place at named free noted places other =

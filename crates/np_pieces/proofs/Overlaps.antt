@@ -7,7 +7,8 @@ use Rattle.np_pieces.specs.Steps.{AreBothAt, GoOn, IsOverlap}
 use Rattle.np_pieces.specs.Values.{value_at-first, value_at-rest, ArePieces-ordered}
 
 -- two lists that begin at one number go on from there
-pub GoOn-both : {P S : Type 0} (number_of : P → ℕ) (IsWell : S → Type 0) (from to : ℕ) (before before' : Option S) (left right : List (Piece P S)) → ArePieces number_of IsWell from to before left → ArePieces number_of IsWell from to before' right → GoOn number_of IsWell from to left right
+pub GoOn-both : {P S : Type 0} (number_of : P → ℕ) (IsWell : S → Type 0) (from to : ℕ) (before before' : Option S) (left right : List (Piece P S)) → ArePieces number_of IsWell from to before left →
+    ArePieces number_of IsWell from to before' right → GoOn number_of IsWell from to left right
 GoOn-both number_of IsWell from to before before' [] [] in_left in_right = in_left
 GoOn-both number_of IsWell from to before before' [] (second ∷ second_rest) in_left in_right =
     omega (arith, in_right.0.filled, ArePieces-ordered number_of IsWell (number_of second.hi + 1) to (Some second.value) second_rest in_right.1)
@@ -22,7 +23,8 @@ GoOn-both number_of IsWell from to before before' (first ∷ first_rest) (second
 }
 
 -- the other way round
-GoOn-flipped : {P S : Type 0} (number_of : P → ℕ) (IsWell : S → Type 0) (from to : ℕ) (left right : List (Piece P S)) → GoOn number_of IsWell from to left right → GoOn number_of IsWell from to right left
+GoOn-flipped : {P S : Type 0} (number_of : P → ℕ) (IsWell : S → Type 0) (from to : ℕ) (left right : List (Piece P S)) → GoOn number_of IsWell from to left right →
+    GoOn number_of IsWell from to right left
 GoOn-flipped number_of IsWell from to [] [] on = on
 GoOn-flipped number_of IsWell from to [] (second ∷ second_rest) on = on
 GoOn-flipped number_of IsWell from to (first ∷ first_rest) [] on = on
@@ -35,7 +37,9 @@ GoOn-flipped number_of IsWell from to (first ∷ first_rest) (second ∷ second_
 }
 
 -- where the first piece of one list ends before that of the other, the other goes on in its piece
-GoOn-ended : {P S : Type 0} (number_of : P → ℕ) (IsWell : S → Type 0) (from to : ℕ) (before : Option S) (left : List (Piece P S)) (second : Piece P S) (second_rest : List (Piece P S)) → ArePieces number_of IsWell from to before left → number_of second.lo ≤ from → from ≤ number_of second.hi → ArePieces number_of IsWell (number_of second.hi + 1) to (Some second.value) second_rest → GoOn number_of IsWell from to left (second ∷ second_rest)
+GoOn-ended : {P S : Type 0} (number_of : P → ℕ) (IsWell : S → Type 0) (from to : ℕ) (before : Option S) (left : List (Piece P S)) (second : Piece P S) (second_rest : List (Piece P S)) →
+    ArePieces number_of IsWell from to before left → number_of second.lo ≤ from → from ≤ number_of second.hi → ArePieces number_of IsWell (number_of second.hi + 1) to (Some second.value) second_rest →
+    GoOn number_of IsWell from to left (second ∷ second_rest)
 GoOn-ended number_of IsWell from to before [] second second_rest in_left start on after =
     omega (arith, ArePieces-ordered number_of IsWell (number_of second.hi + 1) to (Some second.value) second_rest after)
 GoOn-ended number_of IsWell from to before (first ∷ first_rest) second second_rest in_left start on after = record {
@@ -60,28 +64,38 @@ pub record IsPast {P S : Type 0} (number_of : P → ℕ) (hi : ℕ) (first : Pie
   pub ended : number_of first.hi ≤ hi → after ≡ rest
   pub going : hi < number_of first.hi → after ≡ first ∷ rest
 
-value_at-past_hi : {P S : Type 0} (number_of : P → ℕ) (hi : ℕ) (first : Piece P S) (rest after : List (Piece P S)) → IsPast number_of hi first rest after → (n : ℕ) → hi < n → value_at number_of (first ∷ rest) n ≡ value_at number_of after n
+value_at-past_hi : {P S : Type 0} (number_of : P → ℕ) (hi : ℕ) (first : Piece P S) (rest after : List (Piece P S)) → IsPast number_of hi first rest after → (n : ℕ) → hi < n →
+    value_at number_of (first ∷ rest) n ≡ value_at number_of after n
 value_at-past_hi {P} {S} number_of hi first rest after past n above =
     elim (cases_lt hi (number_of first.hi)) [
       | inl going ↦ rw (past.going going)
       | inr ended ↦ rw (past.ended ended) (value_at-rest number_of first rest n (omega arith))
     ]
 
-goes_on : {P S : Type 0} (number_of : P → ℕ) (IsWell : S → Type 0) (from to hi : ℕ) (first second : Piece P S) (first_rest second_rest left right : List (Piece P S)) → AreBothAt number_of IsWell from to first second first_rest second_rest → hi ≡ min (number_of first.hi) (number_of second.hi) → IsPast number_of hi first first_rest left → IsPast number_of hi second second_rest right → GoOn number_of IsWell (hi + 1) to left right
+goes_on : {P S : Type 0} (number_of : P → ℕ) (IsWell : S → Type 0) (from to hi : ℕ) (first second : Piece P S) (first_rest second_rest left right : List (Piece P S)) →
+    AreBothAt number_of IsWell from to first second first_rest second_rest → hi ≡ min (number_of first.hi) (number_of second.hi) → IsPast number_of hi first first_rest left →
+    IsPast number_of hi second second_rest right → GoOn number_of IsWell (hi + 1) to left right
 goes_on number_of IsWell from to hi first second first_rest second_rest left right both is_hi left_past right_past =
     elim (cases_order (number_of first.hi) (number_of second.hi)) [
       | inl together ↦
           let ends : hi ≡ number_of first.hi = omega arith in
-          rw (left_past.ended (omega arith), right_past.ended (omega arith), ends) (GoOn-both number_of IsWell (number_of first.hi + 1) to (Some first.value) (Some second.value) first_rest second_rest both.first_after (rw (← together) at both.second_after))
+          rw (left_past.ended (omega arith), right_past.ended (omega arith), ends)
+          (GoOn-both number_of IsWell (number_of first.hi + 1) to (Some first.value) (Some second.value) first_rest second_rest both.first_after (rw (← together) at both.second_after))
       | inr (inl before) ↦
           let ends : hi ≡ number_of first.hi = omega arith in
-          rw (left_past.ended (omega arith), right_past.going (omega arith), ends) (GoOn-ended number_of IsWell (number_of first.hi + 1) to (Some first.value) first_rest second second_rest both.first_after (omega (arith, both.start, both.first_on)) (omega arith) both.second_after)
+          rw (left_past.ended (omega arith), right_past.going (omega arith), ends)
+          (GoOn-ended number_of IsWell (number_of first.hi + 1) to (Some first.value) first_rest second second_rest both.first_after (omega (arith, both.start, both.first_on))
+          (omega arith) both.second_after)
       | inr (inr after) ↦
           let ends : hi ≡ number_of second.hi = omega arith in
-          rw (left_past.going (omega arith), right_past.ended (omega arith), ends) (GoOn-flipped number_of IsWell (number_of second.hi + 1) to second_rest (first ∷ first_rest) (GoOn-ended number_of IsWell (number_of second.hi + 1) to (Some second.value) second_rest first first_rest both.second_after (omega (arith, both.start, both.second_on)) (omega arith) both.first_after))
+          rw (left_past.going (omega arith), right_past.ended (omega arith), ends)
+          (GoOn-flipped number_of IsWell (number_of second.hi + 1) to second_rest (first ∷ first_rest)
+          (GoOn-ended number_of IsWell (number_of second.hi + 1) to (Some second.value) second_rest first first_rest both.second_after (omega (arith, both.start, both.second_on))
+          (omega arith) both.first_after))
     ]
 
-shorter : {P S : Type 0} (number_of : P → ℕ) (hi : ℕ) (first second : Piece P S) (first_rest second_rest left right : List (Piece P S)) → hi ≡ min (number_of first.hi) (number_of second.hi) → IsPast number_of hi first first_rest left → IsPast number_of hi second second_rest right → length left + length right < length (first ∷ first_rest) + length (second ∷ second_rest)
+shorter : {P S : Type 0} (number_of : P → ℕ) (hi : ℕ) (first second : Piece P S) (first_rest second_rest left right : List (Piece P S)) → hi ≡ min (number_of first.hi) (number_of second.hi) →
+    IsPast number_of hi first first_rest left → IsPast number_of hi second second_rest right → length left + length right < length (first ∷ first_rest) + length (second ∷ second_rest)
 shorter number_of hi first second first_rest second_rest left right is_hi left_past right_past =
     elim (cases_order (number_of first.hi) (number_of second.hi)) [
       | inl together ↦ rw (left_past.ended (omega arith), right_past.ended (omega arith)) (omega arith)
@@ -90,7 +104,11 @@ shorter number_of hi first second first_rest second_rest left right is_hi left_p
     ]
 
 -- the overlap of two first pieces
-pub IsOverlap-first : {P S : Type 0} (number_of : P → ℕ) (IsWell : S → Type 0) (left right : List (Piece P S)) (first second : Piece P S) (first_rest second_rest : List (Piece P S)) (lo hi : P) (left_after right_after : List (Piece P S)) → left ≡ first ∷ first_rest → right ≡ second ∷ second_rest → number_of lo ≡ max (number_of first.lo) (number_of second.lo) → number_of hi ≡ min (number_of first.hi) (number_of second.hi) → IsPast number_of (number_of hi) first first_rest left_after → IsPast number_of (number_of hi) second second_rest right_after → IsOverlap number_of IsWell left right lo hi first.value second.value left_after right_after
+pub IsOverlap-first : {P S : Type 0} (number_of : P → ℕ) (IsWell : S → Type 0) (left right : List (Piece P S)) (first second : Piece P S) (first_rest second_rest : List (Piece P S)) (lo hi : P)
+    (left_after right_after : List (Piece P S)) →
+    left ≡ first ∷ first_rest → right ≡ second ∷ second_rest → number_of lo ≡ max (number_of first.lo) (number_of second.lo) → number_of hi ≡ min (number_of first.hi) (number_of second.hi) →
+    IsPast number_of (number_of hi) first first_rest left_after → IsPast number_of (number_of hi) second second_rest right_after →
+    IsOverlap number_of IsWell left right lo hi first.value second.value left_after right_after
 IsOverlap-first number_of IsWell left right first second first_rest second_rest lo hi left_after right_after is_left is_right is_lo is_hi left_past right_past = record {
   shorter = rw (is_left, is_right) (shorter number_of (number_of hi) first second first_rest second_rest left_after right_after is_hi left_past right_past);
   shared = λ from to on.

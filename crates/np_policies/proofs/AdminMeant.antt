@@ -1,5 +1,6 @@
 -- An admin policy that was read is what its members say.
-use Rattle.std.proofs.Common.{◌≡◌, ℕ, ℤ, pos, negsuc, ◌+◌, List, [], ◌∷◌, length, map, Bool, true, false, not, cond, ◌&&◌, ◌==◌, nat_le, nat_lt, is_some, Option, Some, None, codes, Ok, Err, refl, sym, ap, subst, ◌∙◌}
+use Rattle.std.proofs.Common.{◌≡◌, ℕ, ℤ, pos, negsuc, ◌+◌, List, [], ◌∷◌, length, map, Bool, true, false, not, cond, ◌&&◌, ◌==◌, nat_le, nat_lt, is_some, Option, Some, None, codes, Ok, Err, refl, sym}
+use Rattle.std.proofs.Common.{ap, subst, ◌∙◌}
 use Rattle.std.specs.Cmp.Lexicographic.{bytes_decides}
 use Rattle.std.specs.Str.{bytes_eq}
 use Rattle.serde_json.specs.Data.{Data}
@@ -15,8 +16,10 @@ use Rattle.np_policies.proofs.PeersMeaning.{blocks_of-each_item, not_there}
 use Rattle.np_policies.proofs.PortsMeaning.{protocol-output}
 use Rattle.np_policies.proofs.ReadLemmas.{bind-output, then-output, required-output, listed-output, of_type-output, text_at-output}
 use Rattle.np_policies.proofs.WellLemmas.{not_false, unbroken-output, unbroken_member-output}
-use Rattle.np_policies.specs.AdminMeaning.{action_text, ArePodsBy, ArePodsOf, IsAdminPolicyOf, IsAdminPort, IsAdminSpec, IsBasePolicyOf, IsEgressPeer, IsEgressRule, IsIngressPeer, IsIngressRule, IsPortBy, IsSpanOf}
-use Rattle.np_policies.specs.AdminPolicies.{action, action_by, action_named, admin_peer, admin_peers, admin_policy, admin_rule, admin_rules, admin_spec, all_pods, base_name, base_policy, base_spec, egress_member, egress_peer, ingress_peer, namespace_selector, networks, object_name, pass_of, pods_member, priority, priority_number, some_pods, subject}
+use Rattle.np_policies.specs.AdminMeaning.{action_text, ArePodsBy, ArePodsOf, IsAdminPolicyOf, IsAdminPort, IsAdminSpec, IsBasePolicyOf, IsEgressPeer, IsEgressRule, IsIngressPeer, IsIngressRule}
+use Rattle.np_policies.specs.AdminMeaning.{IsPortBy, IsSpanOf}
+use Rattle.np_policies.specs.AdminPolicies.{action, action_by, action_named, admin_peer, admin_peers, admin_policy, admin_rule, admin_rules, admin_spec, all_pods, base_name, base_policy, base_spec}
+use Rattle.np_policies.specs.AdminPolicies.{egress_member, egress_peer, ingress_peer, namespace_selector, networks, object_name, pass_of, pods_member, priority, priority_number, some_pods, subject}
 use Rattle.np_policies.specs.Blocks.{cidr}
 use Rattle.np_policies.specs.Policies.{policy_of}
 use Rattle.np_policies.specs.PolicyMeaning.{blocks_of, number_at, object_at, spec_of, AreEach}
@@ -57,7 +60,8 @@ some_pods-output value read is =
     let made : record { namespaces = spaces.first; pods = pods.first } ≡ read = let after = pods.after in cc in
     rw (← made) (required-some selector (codes "namespaceSelector") value spaces.first spaces.here, required-some selector (codes "podSelector") value pods.first pods.here)
 
-pods_by : (value : Data) (read : Subject) (spaces pods : Option Data) → member_of (codes "namespaces") value ≡ spaces → member_of (codes "pods") value ≡ pods → is_some spaces ≡ not (is_some pods) → pods_member value ≡ Ok read → ArePodsBy spaces pods read.namespaces read.pods
+pods_by : (value : Data) (read : Subject) (spaces pods : Option Data) → member_of (codes "namespaces") value ≡ spaces → member_of (codes "pods") value ≡ pods → is_some spaces ≡ not (is_some pods) →
+    pods_member value ≡ Ok read → ArePodsBy spaces pods read.namespaces read.pods
 pods_by value read None None no_spaces no_pods one is = cc
 pods_by value read (Some spaces) None there no_pods one is =
     all_pods-output spaces read (found-output all_pods (codes "namespaces") value spaces read (rw there at is) there)
@@ -65,7 +69,8 @@ pods_by value read None (Some pods) no_spaces there one is =
     some_pods-output pods read (found-output some_pods (codes "pods") value pods read (rw no_spaces at is) there)
 pods_by value read (Some spaces) (Some pods) there pods_there one is = cc
 
-pods_member-output : (value : Data) (read : Subject) → has_member (codes "namespaces") value ≡ not (has_member (codes "pods") value) → pods_member value ≡ Ok read → ArePodsOf value read.namespaces read.pods
+pods_member-output : (value : Data) (read : Subject) → has_member (codes "namespaces") value ≡ not (has_member (codes "pods") value) → pods_member value ≡ Ok read →
+    ArePodsOf value read.namespaces read.pods
 pods_member-output value read one is = pods_by value read (member_of (codes "namespaces") value) (member_of (codes "pods") value) refl refl one is
 
 -- ---- exactly one of some members
@@ -117,7 +122,8 @@ networks-output value read is =
     let end = then-output (refuse_member_if (codes "networks") (length cidrs.first == 0) EmptyPeers) (Ok (peer.Networks cidrs.first)) read cidrs.after in
     (cidrs.first, cc, blocks_of-each_item 0 (items_at (codes "networks") value) cidrs.first (listed-output cidr (codes "networks") value cidrs.first cidrs.here))
 
-egress_by : (value : Data) (read : AdminPeer) (blocks : Option Data) → member_of (codes "networks") value ≡ blocks → is_one (has_member (codes "namespaces") value) (has_member (codes "pods") value) (is_some blocks) ≡ true → egress_member value ≡ Ok read → IsEgressPeer value read
+egress_by : (value : Data) (read : AdminPeer) (blocks : Option Data) → member_of (codes "networks") value ≡ blocks →
+    is_one (has_member (codes "namespaces") value) (has_member (codes "pods") value) (is_some blocks) ≡ true → egress_member value ≡ Ok read → IsEgressPeer value read
 egress_by value read None none one is =
     let pods = bind-output (pods_member value) (λ one. Ok (peer.Pods one.namespaces one.pods)) read (rw none at is) in
     let made : peer.Pods pods.first.namespaces pods.first.pods ≡ read = let after = pods.after in cc in
@@ -193,7 +199,8 @@ named_port-output value read is =
     let made : Named name.first ≡ read = let after = name.after in cc in
     rw (← made) (port_name-output value name.first name.here)
 
-port_by : (value : Data) (read : AdminPort) (sole range name : Option Data) → member_of (codes "portNumber") value ≡ sole → member_of (codes "portRange") value ≡ range → member_of (codes "namedPort") value ≡ name → is_one (is_some sole) (is_some range) (is_some name) ≡ true → admin_port_member value ≡ Ok read → IsPortBy sole range name read
+port_by : (value : Data) (read : AdminPort) (sole range name : Option Data) → member_of (codes "portNumber") value ≡ sole → member_of (codes "portRange") value ≡ range →
+    member_of (codes "namedPort") value ≡ name → is_one (is_some sole) (is_some range) (is_some name) ≡ true → admin_port_member value ≡ Ok read → IsPortBy sole range name read
 port_by value read None None None no_number no_range no_name one is = cc
 port_by value read (Some sole) None None there no_range no_name one is =
     one_port-output sole read (found-output one_port (codes "portNumber") value sole read (rw there at is) there)
@@ -224,7 +231,8 @@ named-text which s one is = by (bytes_eq s (codes "Allow")) refl (bytes_eq s (co
     passed tier.Admin is = cc
     passed tier.Baseline is = cc
 
-    by : (allow : Bool) → bytes_eq s (codes "Allow") ≡ allow → (deny : Bool) → bytes_eq s (codes "Deny") ≡ deny → (pass : Bool) → bytes_eq s (codes "Pass") ≡ pass → cond allow (Some Allow) (cond deny (Some Deny) (cond pass (pass_of which) None)) ≡ Some one → s ≡ action_text one
+    by : (allow : Bool) → bytes_eq s (codes "Allow") ≡ allow → (deny : Bool) → bytes_eq s (codes "Deny") ≡ deny → (pass : Bool) → bytes_eq s (codes "Pass") ≡ pass →
+        cond allow (Some Allow) (cond deny (Some Deny) (cond pass (pass_of which) None)) ≡ Some one → s ≡ action_text one
     by true here deny other pass third is =
         let same : one ≡ Allow = cc in
         (bytes_decides s (codes "Allow")).0 here ∙ ap action_text (sym same)
@@ -309,10 +317,12 @@ base_name-output : (value : Data) (s : List ℕ) → base_name value ≡ Ok s �
 unfolding base_name
 base_name-output value s is =
     let read = bind-output (object_name value) (λ s. refuse_member_if (codes "name") (not (bytes_eq s (codes "default"))) BaselineName >> Ok s) s is in
-    let is_default = not_false (bytes_eq read.first (codes "default")) (unbroken_member-output (codes "name") (not (bytes_eq read.first (codes "default"))) BaselineName (Ok read.first) s read.after) in
+    let is_default = not_false (bytes_eq read.first (codes "default"))
+    (unbroken_member-output (codes "name") (not (bytes_eq read.first (codes "default"))) BaselineName (Ok read.first) s read.after) in
     object_name-output value read.first read.here ∙ (bytes_decides read.first (codes "default")).0 is_default
 
-rules-output : (which : Tier) (value : Data) (pods : Subject) (ingress egress : List AdminRule) → required (codes "subject") subject value ≡ Ok pods → admin_rules which Ingress value ≡ Ok ingress → admin_rules which Egress value ≡ Ok egress → IsAdminSpec value pods ingress egress
+rules-output : (which : Tier) (value : Data) (pods : Subject) (ingress egress : List AdminRule) → required (codes "subject") subject value ≡ Ok pods → admin_rules which Ingress value ≡ Ok ingress →
+    admin_rules which Egress value ≡ Ok egress → IsAdminSpec value pods ingress egress
 unfolding admin_rules
 rules-output which value pods ingress egress pods_are ingress_is egress_is = record {
   subject = subject-output (object_at (codes "subject") value) pods (object_at-output subject (codes "subject") value pods pods_are);
@@ -332,7 +342,8 @@ admin_spec-output value read is =
     let rank = bind-output (required (codes "priority") priority value) _ read past in
     let pods = bind-output (required (codes "subject") subject value) _ read rank.after in
     let ingress = bind-output (admin_rules tier.Admin Ingress value) _ read pods.after in
-    let egress = bind-output (admin_rules tier.Admin Egress value) (λ egress. Ok (record { priority = rank.first; subject = pods.first; ingress = ingress.first; egress = egress })) read ingress.after in
+    let egress = bind-output (admin_rules tier.Admin Egress value)
+    (λ egress. Ok (record { priority = rank.first; subject = pods.first; ingress = ingress.first; egress = egress })) read ingress.after in
     let made : record { priority = rank.first; subject = pods.first; ingress = ingress.first; egress = egress.first } ≡ read = let after = egress.after in cc in
     subst (IsSpecRead value) made (record {
       priority = number_at-output priority priority-whole (codes "priority") value rank.first rank.here;
@@ -344,7 +355,8 @@ unfolding admin_policy
 admin_policy-meant value read is =
     let by_kind = admin-read value read is in
     let s = bind-output (required (codes "metadata") object_name value) _ read by_kind.1 in
-    let spec = bind-output (required (codes "spec") admin_spec value) (λ spec. Ok (record { name = s.first; priority = spec.priority; subject = spec.subject; ingress = spec.ingress; egress = spec.egress })) read s.after in
+    let spec = bind-output (required (codes "spec") admin_spec value)
+    (λ spec. Ok (record { name = s.first; priority = spec.priority; subject = spec.subject; ingress = spec.ingress; egress = spec.egress })) read s.after in
     let one = spec.first in
     let made : record { name = s.first; priority = one.priority; subject = one.subject; ingress = one.ingress; egress = one.egress } ≡ read = let after = spec.after in cc in
     let parts = admin_spec-output (spec_of value) one (object_at-output admin_spec (codes "spec") value one spec.here) in
@@ -369,7 +381,8 @@ pub base_policy-meant : (value : Data) (read : BasePolicy) → policy_of value �
 unfolding base_policy
 base_policy-meant value read is =
     let by_kind = base-read value read is in
-    let named = bind-output (required (codes "metadata") base_name value) (λ _. required (codes "spec") base_spec value) read (through (required (codes "metadata") base_name value) (required (codes "spec") base_spec value) by_kind.1) in
+    let named = bind-output (required (codes "metadata") base_name value) (λ _. required (codes "spec") base_spec value) read
+    (through (required (codes "metadata") base_name value) (required (codes "spec") base_spec value) by_kind.1) in
     record {
       kind = by_kind.0;
       name = base_name-output (object_at (codes "metadata") value) named.first (object_at-output base_name (codes "metadata") value named.first named.here);

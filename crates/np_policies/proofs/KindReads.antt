@@ -78,7 +78,9 @@ tested false false true network = record { is_net = λ same. cc; is_admin = λ s
 tested false false false true = record { is_net = λ same. cc; is_admin = λ same. cc; is_base = λ same. cc }
 tested false false false false = record { is_net = λ same. cc; is_admin = λ same. cc; is_base = λ same. cc }
 
-kind_of-tested : (meta : TypeMeta) → IsTested (is_of (codes "networking.k8s.io/v1") (codes "NetworkPolicy") meta) (is_of (codes "policy.networking.k8s.io/v1alpha1") (codes "AdminNetworkPolicy") meta) (is_of (codes "policy.networking.k8s.io/v1alpha1") (codes "BaselineAdminNetworkPolicy") meta) (kind_of meta)
+kind_of-tested : (meta : TypeMeta) →
+    IsTested (is_of (codes "networking.k8s.io/v1") (codes "NetworkPolicy") meta) (is_of (codes "policy.networking.k8s.io/v1alpha1") (codes "AdminNetworkPolicy") meta)
+    (is_of (codes "policy.networking.k8s.io/v1alpha1") (codes "BaselineAdminNetworkPolicy") meta) (kind_of meta)
 kind_of-tested meta =
     tested (is_of (codes "networking.k8s.io/v1") (codes "NetworkPolicy") meta) (is_of (codes "policy.networking.k8s.io/v1alpha1") (codes "AdminNetworkPolicy") meta)
     (is_of (codes "policy.networking.k8s.io/v1alpha1") (codes "BaselineAdminNetworkPolicy") meta) (is_network_policy meta.kind)
@@ -101,13 +103,15 @@ net-read value read is =
     let by = one.by in
     (meant_by (codes "networking.k8s.io/v1") (codes "NetworkPolicy") value one.meta one.here ((kind_of-tested one.meta).is_net by.0), by.1)
 
-pub admin-read : (value : Data) (read : AdminPolicy) → policy_of value ≡ Ok (Some (policy.Admin read)) → IsOfKind (codes "policy.networking.k8s.io/v1alpha1") (codes "AdminNetworkPolicy") value × (admin_policy value ≡ Ok read)
+pub admin-read : (value : Data) (read : AdminPolicy) → policy_of value ≡ Ok (Some (policy.Admin read)) →
+    IsOfKind (codes "policy.networking.k8s.io/v1alpha1") (codes "AdminNetworkPolicy") value × (admin_policy value ≡ Ok read)
 admin-read value read is =
     let one = policy_of-output value (policy.Admin read) is in
     let by = one.by in
     (meant_by (codes "policy.networking.k8s.io/v1alpha1") (codes "AdminNetworkPolicy") value one.meta one.here ((kind_of-tested one.meta).is_admin by.0), by.1)
 
-pub base-read : (value : Data) (read : BasePolicy) → policy_of value ≡ Ok (Some (policy.Base read)) → IsOfKind (codes "policy.networking.k8s.io/v1alpha1") (codes "BaselineAdminNetworkPolicy") value × (base_policy value ≡ Ok read)
+pub base-read : (value : Data) (read : BasePolicy) → policy_of value ≡ Ok (Some (policy.Base read)) →
+    IsOfKind (codes "policy.networking.k8s.io/v1alpha1") (codes "BaselineAdminNetworkPolicy") value × (base_policy value ≡ Ok read)
 base-read value read is =
     let one = policy_of-output value (policy.Base read) is in
     let by = one.by in

@@ -18,7 +18,8 @@ object_at-output shape name value output is =
     rw member.there member.read
 
 -- what was read of a required member that is there
-pub found-output : {A : Type 0} (shape : Data → Read A) (name : List ℕ) (value found : Data) (output : A) → required name shape value ≡ Ok output → member_of name value ≡ Some found → shape found ≡ Ok output
+pub found-output : {A : Type 0} (shape : Data → Read A) (name : List ℕ) (value found : Data) (output : A) → required name shape value ≡ Ok output → member_of name value ≡ Some found →
+    shape found ≡ Ok output
 found-output shape name value found output is there =
     let member = required-output shape name value output is in
     let same : member.found ≡ found = let one = member.there in cc in
@@ -42,7 +43,8 @@ module _ {A : Type 0} (shape : Data → Read A) (Is : Data → A → Type 0) (al
   AreEach-listed name value outputs is = AreEach-each_item 0 (items_at name value) outputs (listed-output shape name value outputs is)
 
 -- a number that was read is that of its member
-pub number_at-output : (shape : Data → Read ℕ) → ((value : Data) (n : ℕ) → shape value ≡ Ok n → as_whole value ≡ Some (pos n)) → (name : List ℕ) (value : Data) (n : ℕ) → required name shape value ≡ Ok n → number_at name value ≡ Some (pos n)
+pub number_at-output : (shape : Data → Read ℕ) → ((value : Data) (n : ℕ) → shape value ≡ Ok n → as_whole value ≡ Some (pos n)) → (name : List ℕ) (value : Data) (n : ℕ) →
+    required name shape value ≡ Ok n → number_at name value ≡ Some (pos n)
 number_at-output shape reads name value n is =
     let member = required-output shape name value n is in
     rw member.there (reads member.found n member.read)

@@ -42,7 +42,8 @@ namespace-output value s is =
     let same : or_default read.first ≡ s = cc in
     rw (of_type-output (as_str value) read.first read.here) (named_or_default-is read.first ∙ same)
 
-namespace_in-output : (member : Option Data) (found : Option (List ℕ)) → IsOptional namespace member found → named_or_default (unwrap_or (option_and_then as_str member) []) ≡ unwrap_or found (codes "default")
+namespace_in-output : (member : Option Data) (found : Option (List ℕ)) → IsOptional namespace member found →
+    named_or_default (unwrap_or (option_and_then as_str member) []) ≡ unwrap_or found (codes "default")
 namespace_in-output member None is = rw is refl
 namespace_in-output member (Some s) is = rw is.there (namespace-output is.found s is.read)
 
@@ -77,11 +78,13 @@ net_rule-output direction value read is =
       AreEach-listed net_port (λ d one. net_port d ≡ Ok one) (λ d one this. this) (codes "ports") value ports.first ports.here,
     )
 
-net_rules-output : (direction : Direction) (spec : Data) (rules : List NetRule) → net_rules direction spec ≡ Ok rules → AreEach (IsNetRule (peers_member direction)) (items_at (rules_member direction) spec) rules
+net_rules-output : (direction : Direction) (spec : Data) (rules : List NetRule) → net_rules direction spec ≡ Ok rules →
+    AreEach (IsNetRule (peers_member direction)) (items_at (rules_member direction) spec) rules
 unfolding net_rules
 net_rules-output direction spec rules is = AreEach-listed (net_rule direction) (IsNetRule (peers_member direction)) (net_rule-output direction) (rules_member direction) spec rules is
 
-if_there : (direction : Direction) (spec : Data) (rules : Option (List NetRule)) → IfSome rules (λ found. net_rules direction spec ≡ Ok found) → IfSome rules (λ found. AreEach (IsNetRule (peers_member direction)) (items_at (rules_member direction) spec) found)
+if_there : (direction : Direction) (spec : Data) (rules : Option (List NetRule)) → IfSome rules (λ found. net_rules direction spec ≡ Ok found) →
+    IfSome rules (λ found. AreEach (IsNetRule (peers_member direction)) (items_at (rules_member direction) spec) found)
 if_there direction spec None is = tt
 if_there direction spec (Some rules) is = net_rules-output direction spec rules is
 

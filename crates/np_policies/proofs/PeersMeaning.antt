@@ -78,7 +78,8 @@ unfolding ip_block
 ip_block-output value read is =
     let past = then-output (must_be_object value) _ read is in
     let block = bind-output (required (codes "cidr") cidr value) _ read past in
-    let excepts = bind-output (listed (codes "except") cidr value) (λ excepts. refuse_except (first_bad_except block.first excepts) >> Ok (record { cidr = block.first; excepts = excepts })) read block.after in
+    let excepts = bind-output (listed (codes "except") cidr value)
+    (λ excepts. refuse_except (first_bad_except block.first excepts) >> Ok (record { cidr = block.first; excepts = excepts })) read block.after in
     let end = then-output (refuse_except (first_bad_except block.first excepts.first)) (Ok (record { cidr = block.first; excepts = excepts.first })) read excepts.after in
     let made : record { cidr = block.first; excepts = excepts.first } ≡ read = cc in
     let member = required-output cidr (codes "cidr") value block.first block.here in
@@ -86,7 +87,9 @@ ip_block-output value read is =
     let others = blocks_of-each_item 0 (items_at (codes "except") value) excepts.first (listed-output cidr (codes "except") value excepts.first excepts.here) in
     subst (λ (one : IpBlock). IsBlockOf (Some value) one.cidr one.excepts) made (first, others)
 
-pods_by : (value : Data) (own spaces : Option Selector) (block : Option IpBlock) (namespaces pods : Option Selector) → is_misshapen value ≡ false → IsOptional selector (member_of (codes "podSelector") value) own → IsOptional selector (member_of (codes "namespaceSelector") value) spaces → IsOptional ip_block (member_of (codes "ipBlock") value) block → net_peer_by own spaces block ≡ Pods namespaces pods → IsPodsOf value namespaces pods
+pods_by : (value : Data) (own spaces : Option Selector) (block : Option IpBlock) (namespaces pods : Option Selector) → is_misshapen value ≡ false →
+    IsOptional selector (member_of (codes "podSelector") value) own → IsOptional selector (member_of (codes "namespaceSelector") value) spaces →
+    IsOptional ip_block (member_of (codes "ipBlock") value) block → net_peer_by own spaces block ≡ Pods namespaces pods → IsPodsOf value namespaces pods
 pods_by value own spaces (Some block) namespaces pods shaped own_is spaces_is there made = cc
 pods_by value own spaces None namespaces pods shaped own_is spaces_is none made =
     let first : spaces ≡ namespaces = cc in
@@ -99,7 +102,8 @@ pods_by value own spaces None namespaces pods shaped own_is spaces_is none made 
       no_block = none;
     })
 
-addresses_by : (value : Data) (own spaces : Option Selector) (block : Option IpBlock) (base : Cidr) (excepts : List Cidr) → is_misshapen value ≡ false → IsOptional ip_block (member_of (codes "ipBlock") value) block → net_peer_by own spaces block ≡ Block base excepts → IsAddressesOf value base excepts
+addresses_by : (value : Data) (own spaces : Option Selector) (block : Option IpBlock) (base : Cidr) (excepts : List Cidr) → is_misshapen value ≡ false →
+    IsOptional ip_block (member_of (codes "ipBlock") value) block → net_peer_by own spaces block ≡ Block base excepts → IsAddressesOf value base excepts
 addresses_by value own spaces None base excepts shaped there made = cc
 addresses_by value own spaces (Some block) base excepts shaped there made =
     let first : block.cidr ≡ base = cc in

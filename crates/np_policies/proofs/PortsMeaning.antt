@@ -48,7 +48,8 @@ number_at-there name value n is = by (member_of name value) refl is
     by (Some found) there is = record { found = found; there = there; whole = is }
 
 -- what an optional member was read as, where it is there
-there-output : {A : Type 0} (shape : Data → Read A) (member : Option Data) (output : Option A) (found : Data) → IsOptional shape member output → member ≡ Some found → (read : A) × (output ≡ Some read) × (shape found ≡ Ok read)
+there-output : {A : Type 0} (shape : Data → Read A) (member : Option Data) (output : Option A) (found : Data) → IsOptional shape member output → member ≡ Some found →
+    (read : A) × (output ≡ Some read) × (shape found ≡ Ok read)
 there-output shape member None found is there = cc
 there-output shape member (Some output) found is there =
     let same : is.found ≡ found = let one = is.there in cc in
@@ -138,20 +139,23 @@ all_ports-meant value read is none =
     let first = missing-output port_value (member_of (codes "port") value) parts.first parts.first_is none in
     parts.made ∙ ap (λ (found : Option PortValue). net_port_by (protocol_of value) found parts.last) first
 
-first-number : (value : Data) (n : ℕ) (first : Option PortValue) → IsOptional port_value (member_of (codes "port") value) first → number_at (codes "port") value ≡ Some (pos n) → first ≡ Some (Number n)
+first-number : (value : Data) (n : ℕ) (first : Option PortValue) → IsOptional port_value (member_of (codes "port") value) first → number_at (codes "port") value ≡ Some (pos n) →
+    first ≡ Some (Number n)
 first-number value n first is number =
     let member = number_at-there (codes "port") value (pos n) number in
     let output = there-output port_value (member_of (codes "port") value) first member.found is member.there in
     output.1 ∙ ap Some (port_value-number member.found n output.0 member.whole output.2)
 
-pub one_port-meant : (value : Data) (read : NetPort) (n : ℕ) → net_port value ≡ Ok read → number_at (codes "port") value ≡ Some (pos n) → member_of (codes "endPort") value ≡ None → read ≡ Span (protocol_of value) n n
+pub one_port-meant : (value : Data) (read : NetPort) (n : ℕ) → net_port value ≡ Ok read → number_at (codes "port") value ≡ Some (pos n) → member_of (codes "endPort") value ≡ None →
+    read ≡ Span (protocol_of value) n n
 one_port-meant value read n is number none =
     let parts = net_port-output value read is in
     let first = first-number value n parts.first parts.first_is number in
     let last = missing-output (end_port (number_of parts.first)) (member_of (codes "endPort") value) parts.last parts.last_is none in
     parts.made ∙ ap (λ (found : Option PortValue). net_port_by (protocol_of value) found parts.last) first ∙ ap (λ (found : Option ℕ). net_port_by (protocol_of value) (Some (Number n)) found) last
 
-pub range-meant : (value : Data) (read : NetPort) (n m : ℕ) → net_port value ≡ Ok read → number_at (codes "port") value ≡ Some (pos n) → number_at (codes "endPort") value ≡ Some (pos m) → read ≡ Span (protocol_of value) n m
+pub range-meant : (value : Data) (read : NetPort) (n m : ℕ) → net_port value ≡ Ok read → number_at (codes "port") value ≡ Some (pos n) → number_at (codes "endPort") value ≡ Some (pos m) →
+    read ≡ Span (protocol_of value) n m
 range-meant value read n m is number last_number =
     let parts = net_port-output value read is in
     let first = first-number value n parts.first parts.first_is number in

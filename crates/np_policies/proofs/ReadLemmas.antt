@@ -76,7 +76,8 @@ listed-output shape name value outputs is = by (member_of name value) (under-out
     by_items None is = cc
     by_items (Some items) is = is
 
-    by : (member : Option Data) → read_member (Ok []) (λ found. list_by shape (as_array found)) member ≡ Ok outputs → each_item shape 0 (unwrap_or (option_and_then as_array member) no_items) ≡ Ok outputs
+    by : (member : Option Data) → read_member (Ok []) (λ found. list_by shape (as_array found)) member ≡ Ok outputs →
+        each_item shape 0 (unwrap_or (option_and_then as_array member) no_items) ≡ Ok outputs
     by None is = is
     by (Some found) is = by_items (as_array found) is
 
@@ -88,7 +89,8 @@ pub record IsEachRead {A : Type 0} (shape : Data → Read A) (place : ℕ) (valu
   pub others : each_item shape (place + 1) items ≡ Ok more
   pub are : outputs ≡ output ∷ more
 
-pub each_item-output : {A : Type 0} (shape : Data → Read A) (place : ℕ) (value : Data) (items : Items) (outputs : List A) → each_item shape place (item value items) ≡ Ok outputs → IsEachRead shape place value items outputs
+pub each_item-output : {A : Type 0} (shape : Data → Read A) (place : ℕ) (value : Data) (items : Items) (outputs : List A) → each_item shape place (item value items) ≡ Ok outputs →
+    IsEachRead shape place value items outputs
 each_item-output shape place value items outputs is =
     let first = bind-output (under (Item place) (shape value)) (λ output. each_item shape (place + 1) items >>= λ more. Ok (output ∷ more)) outputs is in
     let second = bind-output (each_item shape (place + 1) items) (λ more. Ok (first.first ∷ more)) outputs first.after in
@@ -135,7 +137,8 @@ word-output value s is =
     of_type-output (as_str value) read.first read.here ∙ ap Some first
 
 -- a required text is the text of its member
-pub text_at-output : (shape : Data → Read (List ℕ)) → ((value : Data) (s : List ℕ) → shape value ≡ Ok s → as_str value ≡ Some s) → (name : List ℕ) (value : Data) (s : List ℕ) → required name shape value ≡ Ok s → text_at name value ≡ s
+pub text_at-output : (shape : Data → Read (List ℕ)) → ((value : Data) (s : List ℕ) → shape value ≡ Ok s → as_str value ≡ Some s) → (name : List ℕ) (value : Data) (s : List ℕ) →
+    required name shape value ≡ Ok s → text_at name value ≡ s
 text_at-output shape reads name value s is =
     let member = required-output shape name value s is in
     rw (member.there, reads member.found s member.read) refl

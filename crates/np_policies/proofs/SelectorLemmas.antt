@@ -1,5 +1,6 @@
 -- What a selector that was read asks of labels.
-use Rattle.std.proofs.Common.{◌≡◌, ℕ, List, [], ◌∷◌, ◌++◌, length, map, Bool, true, false, not, cond, ◌||◌, ◌==◌, Option, Some, None, option_and_then, option_map, unwrap_or, is_some, is_none, codes, Ok, refl, ap, ◌∙◌}
+use Rattle.std.proofs.Common.{◌≡◌, ℕ, List, [], ◌∷◌, ◌++◌, length, map, Bool, true, false, not, cond, ◌||◌, ◌==◌, Option, Some, None, option_and_then, option_map, unwrap_or, is_some, is_none, codes}
+use Rattle.std.proofs.Common.{Ok, refl, ap, ◌∙◌}
 use Rattle.std.proofs.lemmas.List.Folds.{list_all-append}
 use Rattle.std.specs.List.{list_all}
 use Rattle.std.specs.Str.{bytes_eq}
@@ -37,7 +38,8 @@ one_label own name s value is = by (value_of own name)
     by None = refl
     by (Some other) = rw is (or_false (bytes_eq s other))
 
-all_labels : (own : List Pair) (members : Members) (pairs : List (List ℕ × List ℕ)) → pairs_of_members members ≡ Some pairs → list_all (λ one. meets_requirement one own) (map label_requirement pairs) ≡ has_entries own members
+all_labels : (own : List Pair) (members : Members) (pairs : List (List ℕ × List ℕ)) → pairs_of_members members ≡ Some pairs →
+    list_all (λ one. meets_requirement one own) (map label_requirement pairs) ≡ has_entries own members
 all_labels own no_members [] is = refl
 all_labels own no_members (pair ∷ pairs) is = cc
 all_labels own (member name value members) pairs is = by (as_str value) (pairs_of_members members) refl refl (all_labels own members) is
@@ -61,14 +63,17 @@ labels-output value pairs is =
     let first : read.first ≡ pairs = cc in
     of_type-output (as_pairs value) read.first read.here ∙ ap Some first
 
-entries_met : (own : List Pair) (value : Data) (pairs : List (List ℕ × List ℕ)) → as_pairs value ≡ Some pairs → list_all (λ one. meets_requirement one own) (map label_requirement pairs) ≡ has_entries own (unwrap_or (as_object value) no_members)
+entries_met : (own : List Pair) (value : Data) (pairs : List (List ℕ × List ℕ)) → as_pairs value ≡ Some pairs →
+    list_all (λ one. meets_requirement one own) (map label_requirement pairs) ≡ has_entries own (unwrap_or (as_object value) no_members)
 entries_met own value pairs is = by (as_object value) is
   where
-    by : (found : Option Members) → option_and_then pairs_of_members found ≡ Some pairs → list_all (λ one. meets_requirement one own) (map label_requirement pairs) ≡ has_entries own (unwrap_or found no_members)
+    by : (found : Option Members) → option_and_then pairs_of_members found ≡ Some pairs →
+        list_all (λ one. meets_requirement one own) (map label_requirement pairs) ≡ has_entries own (unwrap_or found no_members)
     by None is = cc
     by (Some members) is = all_labels own members pairs is
 
-member_met : (own : List Pair) (there : Option Data) (output : Option (List (List ℕ × List ℕ))) → IsOptional labels there output → list_all (λ one. meets_requirement one own) (map label_requirement (unwrap_or output [])) ≡ has_entries own (unwrap_or (option_and_then as_object there) no_members)
+member_met : (own : List Pair) (there : Option Data) (output : Option (List (List ℕ × List ℕ))) → IsOptional labels there output →
+    list_all (λ one. meets_requirement one own) (map label_requirement (unwrap_or output [])) ≡ has_entries own (unwrap_or (option_and_then as_object there) no_members)
 member_met own there None is = rw is refl
 member_met own there (Some pairs) is = rw is.there (entries_met own is.found pairs (labels-output is.found pairs is.read))
 
@@ -91,15 +96,18 @@ fitting-output (Some other) has_values op is = by (fits other has_values) is
     by false is = cc
 
 -- a text among the values that were read is among the items
-among : (items : _) (values : List (List ℕ)) (found : Option (List ℕ)) → ((s : List ℕ) → is_listed values s ≡ any_item (λ value. is_text value s) items) → allows OneOf (distinct values) found ≡ is_among items found
+among : (items : _) (values : List (List ℕ)) (found : Option (List ℕ)) → ((s : List ℕ) → is_listed values s ≡ any_item (λ value. is_text value s) items) →
+    allows OneOf (distinct values) found ≡ is_among items found
 among items values None same = refl
 among items values (Some s) same = is_listed-distinct values s ∙ same s
 
-not_among : (items : _) (values : List (List ℕ)) (found : Option (List ℕ)) → ((s : List ℕ) → is_listed values s ≡ any_item (λ value. is_text value s) items) → allows NoneOf (distinct values) found ≡ not (is_among items found)
+not_among : (items : _) (values : List (List ℕ)) (found : Option (List ℕ)) → ((s : List ℕ) → is_listed values s ≡ any_item (λ value. is_text value s) items) →
+    allows NoneOf (distinct values) found ≡ not (is_among items found)
 not_among items values None same = refl
 not_among items values (Some s) same = ap not (is_listed-distinct values s ∙ same s)
 
-operator_met : (operator : List ℕ) (items : _) (values : List (List ℕ)) (op : Op) (found : Option (List ℕ)) → op_named operator ≡ Some op → ((s : List ℕ) → is_listed values s ≡ any_item (λ value. is_text value s) items) → allows op (distinct values) found ≡ meets_operator operator items found
+operator_met : (operator : List ℕ) (items : _) (values : List (List ℕ)) (op : Op) (found : Option (List ℕ)) → op_named operator ≡ Some op →
+    ((s : List ℕ) → is_listed values s ≡ any_item (λ value. is_text value s) items) → allows op (distinct values) found ≡ meets_operator operator items found
 operator_met operator items values op found is same =
     by (bytes_eq operator (codes "In")) (bytes_eq operator (codes "NotIn")) (bytes_eq operator (codes "Exists")) (bytes_eq operator (codes "DoesNotExist")) op is
   where
@@ -153,8 +161,10 @@ selector_met value read own is =
     let past = then-output (must_be_object value) _ read is in
     let known = then-output (refuse_if (has_other (as_object value)) BadSelector) _ read past in
     let pairs = bind-output (optional (codes "matchLabels") labels value) _ read known in
-    let expressions = bind-output (listed (codes "matchExpressions") expression value) (λ found. Ok (record { requirements = map label_requirement (unwrap_or pairs.first []) ++ found })) read pairs.after in
+    let expressions = bind-output (listed (codes "matchExpressions") expression value)
+    (λ found. Ok (record { requirements = map label_requirement (unwrap_or pairs.first []) ++ found })) read pairs.after in
     let made : record { requirements = map label_requirement (unwrap_or pairs.first []) ++ expressions.first } ≡ read = cc in
     let first = member_met own (member_of (codes "matchLabels") value) pairs.first (optional-output labels (codes "matchLabels") value pairs.first pairs.here) in
-    let second = list_all-each_item expression (λ one. meets_requirement one own) (meets_expression own) (expression_met own) 0 (items_at (codes "matchExpressions") value) expressions.first (listed-output expression (codes "matchExpressions") value expressions.first expressions.here) in
+    let second = list_all-each_item expression (λ one. meets_requirement one own) (meets_expression own) (expression_met own) 0 (items_at (codes "matchExpressions") value) expressions.first
+    (listed-output expression (codes "matchExpressions") value expressions.first expressions.here) in
     rw (← made) (list_all-append (λ one. meets_requirement one own) (map label_requirement (unwrap_or pairs.first [])) expressions.first ∙ rw (first, second) refl)

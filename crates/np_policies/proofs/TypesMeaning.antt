@@ -37,7 +37,8 @@ named_ingress false false read is = cc
 named_egress : (s : List ℕ) (read : Direction) → direction_named s ≡ Some read → is_same read Egress ≡ bytes_eq s (codes "Egress")
 named_egress s read is = by (bytes_eq s (codes "Ingress")) refl (bytes_eq s (codes "Egress")) refl read is
   where
-    by : (one : Bool) → bytes_eq s (codes "Ingress") ≡ one → (other : Bool) → bytes_eq s (codes "Egress") ≡ other → (read : Direction) → cond one (Some Ingress) (cond other (Some Egress) None) ≡ Some read → is_same read Egress ≡ other
+    by : (one : Bool) → bytes_eq s (codes "Ingress") ≡ one → (other : Bool) → bytes_eq s (codes "Egress") ≡ other → (read : Direction) →
+        cond one (Some Ingress) (cond other (Some Egress) None) ≡ Some read → is_same read Egress ≡ other
     by true here true there read is =
         let same = (bytes_decides s (codes "Ingress")).0 here in
         let off : bytes_eq (codes "Ingress") (codes "Egress") ≡ true = subst (λ (name : List ℕ). bytes_eq name (codes "Egress") ≡ true) same there in
@@ -91,7 +92,8 @@ net_spec-output value spec is =
     let pods = bind-output (optional (codes "podSelector") selector value) _ spec past in
     let types = bind-output (listed (codes "policyTypes") policy_type value) _ spec pods.after in
     let ingress = bind-output (net_rules Ingress value) _ spec types.after in
-    let egress = bind-output (net_rules Egress value) (λ egress. Ok (record { subject = unwrap_or pods.first everything; types = types.first; ingress = ingress.first; egress = egress })) spec ingress.after in
+    let egress = bind-output (net_rules Egress value) (λ egress. Ok (record { subject = unwrap_or pods.first everything; types = types.first; ingress = ingress.first; egress = egress })) spec
+    ingress.after in
     let made : record { subject = unwrap_or pods.first everything; types = types.first; ingress = ingress.first; egress = egress.first } ≡ spec = let after = egress.after in cc in
     let items = listed-output policy_type (codes "policyTypes") value types.first types.here in
     let rules = listed-output (net_rule Egress) (codes "egress") value egress.first egress.here in

@@ -9,12 +9,14 @@ use Rattle.np_model.specs.Words.{is_name}
 use Rattle.np_json.specs.declared.fault.FaultKind.TheVariants.{BadPriority, DomainPeer, EmptyPeers, NodePeer, PeerShape}
 use Rattle.np_policies.proofs.ReadLemmas.{bind-output, then-output}
 use Rattle.np_policies.proofs.WellLemmas.{both, unbroken_member-output, listed-well, required-well, selector-well, cidr_text-well, admin_port-well}
-use Rattle.np_policies.specs.AdminPolicies.{action, action_by, action_named, admin_peer, admin_peers, admin_policy, admin_rule, admin_rules, admin_spec, all_pods, base_name, base_policy, base_spec, egress_member, egress_peer, ingress_peer, namespace_selector, networks, object_name, pods_member, priority, priority_number, some_pods, subject}
+use Rattle.np_policies.specs.AdminPolicies.{action, action_by, action_named, admin_peer, admin_peers, admin_policy, admin_rule, admin_rules, admin_spec, all_pods, base_name, base_policy, base_spec}
+use Rattle.np_policies.specs.AdminPolicies.{egress_member, egress_peer, ingress_peer, namespace_selector, networks, object_name, pods_member, priority, priority_number, some_pods, subject}
 use Rattle.np_policies.specs.Blocks.{cidr}
 use Rattle.np_policies.specs.NetworkPolicies.{peers_member, rules_member}
 use Rattle.np_policies.specs.Ports.{admin_port}
 use Rattle.np_policies.specs.Selectors.{everything, selector}
-use Rattle.np_model.specs.WellPolicies.{is_decision, is_well_admin_peer, is_well_admin_policy, is_well_admin_port, is_well_admin_rule, is_well_base_policy, is_well_cidr, is_well_selector, is_well_subject}
+use Rattle.np_model.specs.WellPolicies.{is_decision, is_well_admin_peer, is_well_admin_policy, is_well_admin_port, is_well_admin_rule, is_well_base_policy, is_well_cidr, is_well_selector}
+use Rattle.np_model.specs.WellPolicies.{is_well_subject}
 use Rattle.np_model.specs.declared.admin_policy.Action.{Action}
 use Rattle.np_model.specs.declared.admin_policy.Action.TheVariants.{Allow, Deny, Pass}
 use Rattle.np_model.specs.declared.admin_policy.AdminPeer.{AdminPeer}
@@ -200,7 +202,8 @@ admin_spec-well value read is =
     let rank = bind-output (required (codes "priority") priority value) _ read past in
     let pods = bind-output (required (codes "subject") subject value) _ read rank.after in
     let ingress = bind-output (admin_rules tier.Admin Ingress value) _ read pods.after in
-    let egress = bind-output (admin_rules tier.Admin Egress value) (λ egress. Ok (record { priority = rank.first; subject = pods.first; ingress = ingress.first; egress = egress })) read ingress.after in
+    let egress = bind-output (admin_rules tier.Admin Egress value)
+    (λ egress. Ok (record { priority = rank.first; subject = pods.first; ingress = ingress.first; egress = egress })) read ingress.after in
     let made : record { priority = rank.first; subject = pods.first; ingress = ingress.first; egress = egress.first } ≡ read = let after = egress.after in cc in
     let first = required-well priority (λ n. nat_le n 1000) priority-well (codes "priority") value rank.first rank.here in
     let second = required-well subject is_well_subject subject-well (codes "subject") value pods.first pods.here in
@@ -210,7 +213,8 @@ pub admin_policy-well : (value : Data) (read : AdminPolicy) → admin_policy val
 unfolding admin_policy
 admin_policy-well value read is =
     let s = bind-output (required (codes "metadata") object_name value) _ read is in
-    let spec = bind-output (required (codes "spec") admin_spec value) (λ spec. Ok (record { name = s.first; priority = spec.priority; subject = spec.subject; ingress = spec.ingress; egress = spec.egress })) read s.after in
+    let spec = bind-output (required (codes "spec") admin_spec value)
+    (λ spec. Ok (record { name = s.first; priority = spec.priority; subject = spec.subject; ingress = spec.ingress; egress = spec.egress })) read s.after in
     let one = spec.first in
     let made : record { name = s.first; priority = one.priority; subject = one.subject; ingress = one.ingress; egress = one.egress } ≡ read = let after = spec.after in cc in
     let first = required-well object_name is_name object_name-well (codes "metadata") value s.first s.here in

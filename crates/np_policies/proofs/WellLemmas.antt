@@ -1,5 +1,6 @@
 -- What is read by the shapes of selectors, blocks and ports is well formed.
-use Rattle.std.proofs.Common.{◌≡◌, ◌↔◌, ℕ, ℤ, ◌-◌, ◌%◌, ◌^◌, List, [], ◌∷◌, ◌++◌, length, map, Bool, true, false, not, cond, ◌&&◌, ◌==◌, nat_le, nat_lt, is_none, Option, Some, None, unwrap_or, codes, Ok, refl, ◌∙◌, arith}
+use Rattle.std.proofs.Common.{◌≡◌, ◌↔◌, ℕ, ℤ, ◌-◌, ◌%◌, ◌^◌, List, [], ◌∷◌, ◌++◌, length, map, Bool, true, false, not, cond, ◌&&◌, ◌==◌, nat_le, nat_lt, is_none, Option, Some, None, unwrap_or, codes}
+use Rattle.std.proofs.Common.{Ok, refl, ◌∙◌, arith}
 use Rattle.std.proofs.lemmas.Bool.Decides.{nat_tests}
 use Rattle.std.proofs.lemmas.List.Folds.{list_all-append}
 use Rattle.std.specs.List.{list_all}
@@ -26,7 +27,8 @@ use Rattle.np_labels.specs.declared.selector.Selector.{Selector}
 use Rattle.np_policies.proofs.BlockLemmas.{cidr-well}
 use Rattle.np_policies.proofs.ReadLemmas.{bind-output, then-output, required-output, optional-output, listed-output, list_all-each_item}
 use Rattle.np_policies.specs.Blocks.{cidr, ip_block, refuse_except}
-use Rattle.np_policies.specs.Ports.{admin_port, admin_port_member, end_port, may_end, named_port, net_port, net_port_by, number_of, one_port, port_name, port_range, port_value, port_value_by, protocol}
+use Rattle.np_policies.specs.Ports.{admin_port, admin_port_member, end_port, may_end, named_port, net_port, net_port_by, number_of, one_port, port_name, port_range, port_value, port_value_by}
+use Rattle.np_policies.specs.Ports.{protocol}
 use Rattle.np_policies.specs.SelectorMeaning.{all_items, items_at}
 use Rattle.np_policies.specs.Selectors.{expression, fitting, has_other, key, op_named, selector}
 use Rattle.np_model.specs.WellPolicies.{if_there, is_well_admin_port, is_well_block, is_well_cidr, is_well_net_port, is_well_selector, is_worded}
@@ -160,7 +162,8 @@ two_tests (one ∷ ones) is =
     let here = left_of (is_well_one one) (list_all is_well_one ones) is in
     let more = two_tests ones (right_of (is_well_one one) (list_all is_well_one ones) is) in
     both (is_well_requirement one && list_all is_well_requirement ones) (is_worded one && list_all is_worded ones)
-    (both (is_well_requirement one) (list_all is_well_requirement ones) (left_of (is_well_requirement one) (is_worded one) here) (left_of (list_all is_well_requirement ones) (list_all is_worded ones) more))
+    (both (is_well_requirement one) (list_all is_well_requirement ones) (left_of (is_well_requirement one) (is_worded one) here)
+    (left_of (list_all is_well_requirement ones) (list_all is_worded ones) more))
     (both (is_worded one) (list_all is_worded ones) (right_of (is_well_requirement one) (is_worded one) here) (right_of (list_all is_well_requirement ones) (list_all is_worded ones) more))
 
 -- selectors have well formed requirements, of words
@@ -170,7 +173,8 @@ selector-well value read is =
     let past = then-output (must_be_object value) _ read is in
     let known = then-output (refuse_if (has_other (as_object value)) BadSelector) _ read past in
     let pairs = bind-output (optional (codes "matchLabels") labels value) _ read known in
-    let expressions = bind-output (listed (codes "matchExpressions") expression value) (λ found. Ok (record { requirements = map label_requirement (unwrap_or pairs.first []) ++ found })) read pairs.after in
+    let expressions = bind-output (listed (codes "matchExpressions") expression value)
+    (λ found. Ok (record { requirements = map label_requirement (unwrap_or pairs.first []) ++ found })) read pairs.after in
     let made : record { requirements = map label_requirement (unwrap_or pairs.first []) ++ expressions.first } ≡ read = cc in
     let first = or_none-well pairs.first (optional-well labels (λ found. list_all is_label found) labels-well (codes "matchLabels") value pairs.first pairs.here) in
     let second = listed-well expression is_well_one expression-well (codes "matchExpressions") value expressions.first expressions.here in
@@ -210,7 +214,8 @@ unfolding ip_block
 ip_block-well value read is =
     let past = then-output (must_be_object value) _ read is in
     let block = bind-output (required (codes "cidr") cidr value) _ read past in
-    let excepts = bind-output (listed (codes "except") cidr value) (λ excepts. refuse_except (first_bad_except block.first excepts) >> Ok (record { cidr = block.first; excepts = excepts })) read block.after in
+    let excepts = bind-output (listed (codes "except") cidr value)
+    (λ excepts. refuse_except (first_bad_except block.first excepts) >> Ok (record { cidr = block.first; excepts = excepts })) read block.after in
     let end = then-output (refuse_except (first_bad_except block.first excepts.first)) (Ok (record { cidr = block.first; excepts = excepts.first })) read excepts.after in
     let made : record { cidr = block.first; excepts = excepts.first } ≡ read = cc in
     let first = required-well cidr is_well_cidr cidr_text-well (codes "cidr") value block.first block.here in
@@ -262,7 +267,8 @@ end_port-well first value last is =
 at_most_itself : (n : ℕ) → nat_le n n ≡ true
 at_most_itself n = grind (arith, nat_tests)
 
-spans-well : (proto : Proto) (value : Option PortValue) (last : Option ℕ) → if_there is_well_value value ≡ true → if_there (may_end (number_of value)) last ≡ true → is_well_net_port (net_port_by proto value last) ≡ true
+spans-well : (proto : Proto) (value : Option PortValue) (last : Option ℕ) → if_there is_well_value value ≡ true → if_there (may_end (number_of value)) last ≡ true →
+    is_well_net_port (net_port_by proto value last) ≡ true
 spans-well proto None last well ends = refl
 spans-well proto (Some (Number first)) None well ends = at_most_itself first
 spans-well proto (Some (Number first)) (Some last) well ends = ends
@@ -318,7 +324,9 @@ admin_port-well value read is =
     let shaped = then-output (refuse_if (not (has_one_of (codes "portNumber" ∷ codes "portRange" ∷ codes "namedPort" ∷ []) value)) BadPort) (admin_port_member value) read past in
     by (has_member (codes "portNumber") value) (has_member (codes "portRange") value) shaped
   where
-    by : (number range : Bool) → cond number (required (codes "portNumber") one_port value) (cond range (required (codes "portRange") port_range value) (required (codes "namedPort") named_port value)) ≡ Ok read → is_well_admin_port read ≡ true
+    by : (number range : Bool) →
+        cond number (required (codes "portNumber") one_port value) (cond range (required (codes "portRange") port_range value) (required (codes "namedPort") named_port value)) ≡ Ok read →
+        is_well_admin_port read ≡ true
     by true range is = required-well one_port is_well_admin_port one_port-well (codes "portNumber") value read is
     by false true is = required-well port_range is_well_admin_port port_range-well (codes "portRange") value read is
     by false false is = required-well named_port is_well_admin_port named_port-well (codes "namedPort") value read is

@@ -12,7 +12,8 @@ use Rattle.np_labels.specs.declared.selector.Selector.{Selector}
 use Rattle.np_policies.proofs.ReadLemmas.{bind-output, then-output}
 use Rattle.np_policies.proofs.WellLemmas.{both, not_false, unbroken-output, listed-well, required-well, optional-well, selector-well, ip_block-well, net_port-well}
 use Rattle.np_policies.specs.Blocks.{ip_block}
-use Rattle.np_policies.specs.NetworkPolicies.{empty_spec, has_direction, is_misshapen, net_peer, net_peer_by, net_policy, net_policy_by, net_rule, net_rules, net_spec, peers_member, policy_type, rules_if, rules_member}
+use Rattle.np_policies.specs.NetworkPolicies.{empty_spec, has_direction, is_misshapen, net_peer, net_peer_by, net_policy, net_policy_by, net_rule, net_rules, net_spec, peers_member, policy_type}
+use Rattle.np_policies.specs.NetworkPolicies.{rules_if, rules_member}
 use Rattle.np_policies.specs.Ports.{net_port}
 use Rattle.np_policies.specs.Selectors.{everything, selector}
 use Rattle.np_model.specs.WellPolicies.{if_there, is_well_block, is_well_net_peer, is_well_net_policy, is_well_net_port, is_well_net_rule, is_well_selector}
@@ -65,7 +66,8 @@ namespaced_name-well value read is =
 
 -- ---- NetworkPolicies
 
-peer_by-well : (pods namespaces : Option Selector) (block : Option IpBlock) → if_there is_well_selector pods ≡ true → if_there is_well_selector namespaces ≡ true → if_there (λ one. is_well_block one.cidr one.excepts) block ≡ true → is_well_net_peer (net_peer_by pods namespaces block) ≡ true
+peer_by-well : (pods namespaces : Option Selector) (block : Option IpBlock) → if_there is_well_selector pods ≡ true → if_there is_well_selector namespaces ≡ true →
+    if_there (λ one. is_well_block one.cidr one.excepts) block ≡ true → is_well_net_peer (net_peer_by pods namespaces block) ≡ true
 peer_by-well pods namespaces None own spaces is = both (if_there is_well_selector namespaces) (if_there is_well_selector pods) spaces own
 peer_by-well pods namespaces (Some block) own spaces is = is
 
@@ -112,7 +114,8 @@ net_spec-well value read is =
     let pods = bind-output (optional (codes "podSelector") selector value) _ read past in
     let types = bind-output (listed (codes "policyTypes") policy_type value) _ read pods.after in
     let ingress = bind-output (net_rules Ingress value) _ read types.after in
-    let egress = bind-output (net_rules Egress value) (λ egress. Ok (record { subject = unwrap_or pods.first everything; types = types.first; ingress = ingress.first; egress = egress })) read ingress.after in
+    let egress = bind-output (net_rules Egress value) (λ egress. Ok (record { subject = unwrap_or pods.first everything; types = types.first; ingress = ingress.first; egress = egress })) read
+    ingress.after in
     let made : record { subject = unwrap_or pods.first everything; types = types.first; ingress = ingress.first; egress = egress.first } ≡ read = let after = egress.after in cc in
     let first = everything-well pods.first (optional-well selector is_well_selector selector-well (codes "podSelector") value pods.first pods.here) in
     rw (← made) (rw (first, net_rules-well Ingress value ingress.first ingress.here, net_rules-well Egress value egress.first egress.here) refl)
@@ -130,7 +133,8 @@ unfolding net_policy_by
 policy_by-well meta spec named well =
     by (is_well_selector spec.subject) (list_all is_well_net_rule spec.ingress) (list_all is_well_net_rule spec.egress) refl refl refl well
   where
-    by : (subject ingress egress : Bool) → is_well_selector spec.subject ≡ subject → list_all is_well_net_rule spec.ingress ≡ ingress → list_all is_well_net_rule spec.egress ≡ egress → ((subject && ingress) && egress) ≡ true
+    by : (subject ingress egress : Bool) → is_well_selector spec.subject ≡ subject → list_all is_well_net_rule spec.ingress ≡ ingress → list_all is_well_net_rule spec.egress ≡ egress →
+        ((subject && ingress) && egress) ≡ true
         → is_well_net_policy (net_policy_by meta spec) ≡ true
     by true true true first second third all =
         rw (named, first, rules_if-well (has_direction spec Ingress) spec.ingress second, rules_if-well (has_direction spec Egress) spec.egress third) refl

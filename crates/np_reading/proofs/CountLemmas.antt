@@ -24,7 +24,8 @@ maker_at items marks place d are within =
     ∙ get_or-map-range_with_len (makes_pod items) 0 (length items) place place d within (zero-add place)
 
 -- one number more, on top of a total
-count_on-more : (test : ℕ → Bool) (total a n : ℕ) → fold (λ so_far k. so_far + cond (test k) 1 0) total (range_with_len a (suc n)) ≡ fold (λ so_far k. so_far + cond (test k) 1 0) total (range_with_len a n) + cond (test (a + n)) 1 0
+count_on-more : (test : ℕ → Bool) (total a n : ℕ) →
+    fold (λ so_far k. so_far + cond (test k) 1 0) total (range_with_len a (suc n)) ≡ fold (λ so_far k. so_far + cond (test k) 1 0) total (range_with_len a n) + cond (test (a + n)) 1 0
 count_on-more test total a zero = ap (λ k. total + cond (test k) 1 0) (sym (add-zero a))
 count_on-more test total a (suc n) =
     let so_far = fold (λ so_far k. so_far + cond (test k) 1 0) (total + cond (test a) 1 0) (range_with_len (a + 1) n) in
@@ -32,7 +33,8 @@ count_on-more test total a (suc n) =
     count_on-more test (total + cond (test a) 1 0) (a + 1) n ∙ ap (λ k. so_far + cond (test k) 1 0) same
 
 -- whether the item at a place is left out
-pub is_left_out_at : (items : List Item) (why : LeftOut) (place : ℕ) (one : Item) (makes found : Bool) (reason : Option LeftOut) → place < length items → one ≡ get_or items place one → makes ≡ makes_pod items place
+pub is_left_out_at : (items : List Item) (why : LeftOut) (place : ℕ) (one : Item) (makes found : Bool) (reason : Option LeftOut) → place < length items → one ≡ get_or items place one →
+    makes ≡ makes_pod items place
     → reason ≡ left_out makes one → found ≡ option_map_or (is_for why) reason false → found ≡ is_left_out items why place
 is_left_out_at items why place one makes found reason within at marked is whether =
     let there : slice_get items place ≡ Some one = slice_get_read items (length items) place one refl within at in

@@ -24,7 +24,8 @@ use Rattle.np_model.specs.declared.network_policy.NetPolicy.{NetPolicy}
 use Rattle.np_policies.specs.declared.policy.Policy.TheVariants as policy
 
 -- one pair more
-pub with_pairs-push : (so_far : Seen) (number : ℕ) (pairs : List (Item × Option PodContext)) (one : Item) (around : Option PodContext) → with_pairs so_far number (pairs ++ (one, around) ∷ []) ≡ with_item (with_pairs so_far number pairs) (number + length pairs) one around
+pub with_pairs-push : (so_far : Seen) (number : ℕ) (pairs : List (Item × Option PodContext)) (one : Item) (around : Option PodContext) →
+    with_pairs so_far number (pairs ++ (one, around) ∷ []) ≡ with_item (with_pairs so_far number pairs) (number + length pairs) one around
 with_pairs-push so_far number [] one around = ap (λ n. with_item so_far n one around) (sym (add-zero number))
 with_pairs-push so_far number (pair ∷ pairs) one around =
     with_pairs-push (with_item so_far number pair.0 pair.1) (number + 1) pairs one around
@@ -58,7 +59,8 @@ joined-nothing so_far =
     ∙ ap (λ (all : List PlacedIngress). record so_far { ingresses = all }) (append-nil so_far.ingresses)
 
 -- what an item gives may be gathered now, or be left beside
-module _ (so_far : Seen) (number : ℕ) (pods : List Pod) (nets : List NetPolicy) (admins : List AdminPolicy) (bases : List BasePolicy) (services : List ServiceItem) (ingresses : List PlacedIngress) where
+module _ (so_far : Seen) (number : ℕ) (pods : List Pod) (nets : List NetPolicy) (admins : List AdminPolicy) (bases : List BasePolicy) (services : List ServiceItem)
+    (ingresses : List PlacedIngress) where
   joined-pod : (pod : Option Pod) → joined (with_pod so_far pod) pods nets admins bases services ingresses ≡ joined so_far (option_to_list pod ++ pods) nets admins bases services ingresses
   joined-pod None = refl
   joined-pod (Some pod) = ap (λ (all : List Pod). record (joined so_far [] nets admins bases services ingresses) { pods = all }) (append_assoc so_far.pods (pod ∷ []) pods)
@@ -66,11 +68,14 @@ module _ (so_far : Seen) (number : ℕ) (pods : List Pod) (nets : List NetPolicy
   joined-base : (base : BasePolicy) → joined (with_policy so_far (policy.Base base)) pods nets admins bases services ingresses ≡ joined so_far pods nets admins (base ∷ bases) services ingresses
   joined-base base = ap (λ (first : Option BasePolicy). record (joined so_far pods nets admins [] services ingresses) { baseline = first }) (or_first-assoc so_far.baseline base (first_of bases))
 
-  joined-service : (one : ServiceItem) → joined (with_object so_far number (object.Service one) None) pods nets admins bases services ingresses ≡ joined so_far pods nets admins bases (one ∷ services) ingresses
+  joined-service : (one : ServiceItem) →
+      joined (with_object so_far number (object.Service one) None) pods nets admins bases services ingresses ≡ joined so_far pods nets admins bases (one ∷ services) ingresses
   joined-service one = ap (λ (all : List ServiceItem). record (joined so_far pods nets admins bases [] ingresses) { services = all }) (append_assoc so_far.services (one ∷ []) services)
 
-  joined-ingress : (one : IngressItem) → joined (with_object so_far number (object.Ingress one) None) pods nets admins bases services ingresses ≡ joined so_far pods nets admins bases services (placed number (Some one) ++ ingresses)
-  joined-ingress one = ap (λ (all : List PlacedIngress). record (joined so_far pods nets admins bases services []) { ingresses = all }) (append_assoc so_far.ingresses (placed number (Some one)) ingresses)
+  joined-ingress : (one : IngressItem) →
+      joined (with_object so_far number (object.Ingress one) None) pods nets admins bases services ingresses ≡ joined so_far pods nets admins bases services (placed number (Some one) ++ ingresses)
+  joined-ingress one = ap (λ (all : List PlacedIngress). record (joined so_far pods nets admins bases services []) { ingresses = all })
+      (append_assoc so_far.ingresses (placed number (Some one)) ingresses)
 
   joined-item : (one : Item) (around : Option PodContext) → joined (with_item so_far number one around) pods nets admins bases services ingresses
       ≡ joined so_far (option_to_list (option_and_then (end_of one) around) ++ pods) (cons_option (net_policy one) nets) (cons_option (admin_policy one) admins)
@@ -100,7 +105,8 @@ gathers : (all : List Item) (place : ℕ) (so_far : Seen) (number : ℕ) (items 
 gathers all place so_far number [] = sym (joined-nothing so_far)
 gathers all place so_far number (one ∷ items) =
     gathers all (place + 1) (with_item so_far number one (context_at all place one)) (number + 1) items
-    ∙ joined-item so_far number (pods_from all (place + 1) items) (filter_map net_policy items) (filter_map admin_policy items) (filter_map base_policy items) (filter_map service items) (ingresses_from (number + 1) items) one (context_at all place one)
+    ∙ joined-item so_far number (pods_from all (place + 1) items) (filter_map net_policy items) (filter_map admin_policy items) (filter_map base_policy items) (filter_map service items)
+    (ingresses_from (number + 1) items) one (context_at all place one)
 
 -- ---- a loop over items
 

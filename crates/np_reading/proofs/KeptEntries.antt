@@ -14,7 +14,8 @@ module _ {K Y : Type 0} {R : K → K → Ordering} (exact : (a b : K) → R a b 
   IsPermutation-insert_entry [] k y new = IsPermutation-refl ((k, y) ∷ [])
   IsPermutation-insert_entry (first ∷ entries) k y new = by (R k first.0) refl (IsPermutation-insert_entry entries k y (All-tail (λ entry. k ≢ entry.0) first entries new))
     where
-      by : (o : Ordering) → R k first.0 ≡ o → IsPermutation ((k, y) ∷ entries) (insert_entry R entries k y) → IsPermutation ((k, y) ∷ first ∷ entries) (match_ordering o ((k, y) ∷ first ∷ entries) ((first.0, y) ∷ entries) (first ∷ insert_entry R entries k y))
+      by : (o : Ordering) → R k first.0 ≡ o → IsPermutation ((k, y) ∷ entries) (insert_entry R entries k y) →
+          IsPermutation ((k, y) ∷ first ∷ entries) (match_ordering o ((k, y) ∷ first ∷ entries) ((first.0, y) ∷ entries) (first ∷ insert_entry R entries k y))
       by Less is rest = IsPermutation-refl ((k, y) ∷ first ∷ entries)
       by Equal is rest = absurd (All-head (λ entry. k ≢ entry.0) first entries new (exact k first.0 is))
       by Greater is rest =
@@ -29,7 +30,8 @@ module _ {K X Y : Type 0} {R : K → K → Ordering} (exact : (a b : K) → R a 
   with_one entries x = insert_entry R entries (key x) (value x)
 
   -- so are further ones, each under a key of its own
-  kept-behind : (entries : List (K × Y)) (xs : List X) → All (λ x. All (λ entry. key x ≢ entry.0) entries) xs → AllPairs (λ a b. a ≢ b) (map key xs) → IsPermutation (entries ++ map entry_of xs) (fold with_one entries xs)
+  kept-behind : (entries : List (K × Y)) (xs : List X) → All (λ x. All (λ entry. key x ≢ entry.0) entries) xs → AllPairs (λ a b. a ≢ b) (map key xs) →
+      IsPermutation (entries ++ map entry_of xs) (fold with_one entries xs)
   kept-behind entries [] new apart = rw append-nil (IsPermutation-refl entries)
   kept-behind entries (x ∷ xs) new apart =
       IsPermutation-trans (entries ++ entry_of x ∷ map entry_of xs) (entry_of x ∷ (entries ++ map entry_of xs)) (fold with_one (with_one entries x) xs)

@@ -23,7 +23,8 @@ use Rattle.np_policies.specs.declared.policy.Policy.TheVariants as policy
 
 -- ---- pods
 
-pub are_apart-from_items : (a b : Item) (kind namespace name namespace' name' : List ℕ) → bytes_eq kind kind ≡ true → name_of a ≡ named kind namespace name → name_of b ≡ named kind namespace' name' → AreNamedApart a b → are_apart namespace name namespace' name' ≡ true
+pub are_apart-from_items : (a b : Item) (kind namespace name namespace' name' : List ℕ) → bytes_eq kind kind ≡ true → name_of a ≡ named kind namespace name → name_of b ≡ named kind namespace' name' →
+    AreNamedApart a b → are_apart namespace name namespace' name' ≡ true
 are_apart-from_items a b kind namespace name namespace' name' same first second apart =
     not_from_false _ (rw same at (apart (record { kind = kind; namespace = namespace; name = name }) (record { kind = kind; namespace = namespace'; name = name' }) first second))
 

@@ -18,7 +18,8 @@ module _ {K X : Type 0} (R : K → K → Ordering) where
   length-insert_entry-le [] k x = omega arith
   length-insert_entry-le (first ∷ entries) k x = by (R k first.0) (length-insert_entry-le entries k x)
     where
-      by : (o : Ordering) → length (insert_entry R entries k x) ≤ length entries + 1 → length (match_ordering o ((k, x) ∷ first ∷ entries) ((first.0, x) ∷ entries) (first ∷ insert_entry R entries k x)) ≤ length (first ∷ entries) + 1
+      by : (o : Ordering) → length (insert_entry R entries k x) ≤ length entries + 1 →
+          length (match_ordering o ((k, x) ∷ first ∷ entries) ((first.0, x) ∷ entries) (first ∷ insert_entry R entries k x)) ≤ length (first ∷ entries) + 1
       by Less rest = omega arith
       by Equal rest = omega arith
       by Greater rest = omega arith
@@ -27,17 +28,20 @@ module _ {K X : Type 0} (R : K → K → Ordering) where
   all-insert_entry P [] k x all here = (here, tt)
   all-insert_entry P (first ∷ entries) k x all here = by (R k first.0) (all-insert_entry P entries k x all.1 here)
     where
-      by : (o : Ordering) → AllByRecursion P (values_of (insert_entry R entries k x)) → AllByRecursion P (values_of (match_ordering o ((k, x) ∷ first ∷ entries) ((first.0, x) ∷ entries) (first ∷ insert_entry R entries k x)))
+      by : (o : Ordering) → AllByRecursion P (values_of (insert_entry R entries k x)) →
+          AllByRecursion P (values_of (match_ordering o ((k, x) ∷ first ∷ entries) ((first.0, x) ∷ entries) (first ∷ insert_entry R entries k x)))
       by Less rest = (here, all)
       by Equal rest = (here, all.1)
       by Greater rest = (all.0, rest)
 
   -- what stands so to all values stands so to them and to one more
-  later-insert_entry : (S : X → X → Type 0) → ((x y : X) → S x y → S y x) → (entries : List (K × X)) (k : K) (x : X) → AllLater S (values_of entries) → AllByRecursion (S x) (values_of entries) → AllLater S (values_of (insert_entry R entries k x))
+  later-insert_entry : (S : X → X → Type 0) → ((x y : X) → S x y → S y x) → (entries : List (K × X)) (k : K) (x : X) → AllLater S (values_of entries) → AllByRecursion (S x) (values_of entries) →
+      AllLater S (values_of (insert_entry R entries k x))
   later-insert_entry S flips [] k x all here = (tt, tt)
   later-insert_entry S flips (first ∷ entries) k x all here = by (R k first.0) (later-insert_entry S flips entries k x all.1 here.1)
     where
-      by : (o : Ordering) → AllLater S (values_of (insert_entry R entries k x)) → AllLater S (values_of (match_ordering o ((k, x) ∷ first ∷ entries) ((first.0, x) ∷ entries) (first ∷ insert_entry R entries k x)))
+      by : (o : Ordering) → AllLater S (values_of (insert_entry R entries k x)) →
+          AllLater S (values_of (match_ordering o ((k, x) ∷ first ∷ entries) ((first.0, x) ∷ entries) (first ∷ insert_entry R entries k x)))
       by Less rest = (here, all)
       by Equal rest = (here.1, all.1)
       by Greater rest = (all-insert_entry (S first.1) entries k x all.0 (flips x first.1 here.0), rest)
@@ -45,15 +49,18 @@ module _ {K X : Type 0} (R : K → K → Ordering) where
 -- ---- keys in order
 
 -- what is below a key is below all that the key is below
-pub below-trans : {K : Type 0} {R : K → K → Ordering} → IsTotalOrder R → (low k : K) (ks : List K) → R low k ≡ Less → AllByRecursion (λ other. R k other ≡ Less) ks → AllByRecursion (λ other. R low other ≡ Less) ks
+pub below-trans : {K : Type 0} {R : K → K → Ordering} → IsTotalOrder R → (low k : K) (ks : List K) → R low k ≡ Less → AllByRecursion (λ other. R k other ≡ Less) ks →
+    AllByRecursion (λ other. R low other ≡ Less) ks
 below-trans {K} {R} order low k ks below = all_weaker (λ other. R k other ≡ Less) (λ other. R low other ≡ Less) (λ other above. order.trans low k other below above) ks
 
 module _ {K X : Type 0} {R : K → K → Ordering} (order : IsTotalOrder R) where
-  below-insert_entry : (low : K) (entries : List (K × X)) (k : K) (x : X) → AllByRecursion (λ other. R low other ≡ Less) (keys_of entries) → R low k ≡ Less → AllByRecursion (λ other. R low other ≡ Less) (keys_of (insert_entry R entries k x))
+  below-insert_entry : (low : K) (entries : List (K × X)) (k : K) (x : X) → AllByRecursion (λ other. R low other ≡ Less) (keys_of entries) → R low k ≡ Less →
+      AllByRecursion (λ other. R low other ≡ Less) (keys_of (insert_entry R entries k x))
   below-insert_entry low [] k x all below = (below, tt)
   below-insert_entry low (first ∷ entries) k x all below = by (R k first.0) (below-insert_entry low entries k x all.1 below)
     where
-      by : (o : Ordering) → AllByRecursion (λ other. R low other ≡ Less) (keys_of (insert_entry R entries k x)) → AllByRecursion (λ other. R low other ≡ Less) (keys_of (match_ordering o ((k, x) ∷ first ∷ entries) ((first.0, x) ∷ entries) (first ∷ insert_entry R entries k x)))
+      by : (o : Ordering) → AllByRecursion (λ other. R low other ≡ Less) (keys_of (insert_entry R entries k x)) →
+          AllByRecursion (λ other. R low other ≡ Less) (keys_of (match_ordering o ((k, x) ∷ first ∷ entries) ((first.0, x) ∷ entries) (first ∷ insert_entry R entries k x)))
       by Less rest = (below, all)
       by Equal rest = all
       by Greater rest = (all.0, rest)
@@ -63,7 +70,8 @@ module _ {K X : Type 0} {R : K → K → Ordering} (order : IsTotalOrder R) wher
   sorted-insert_entry [] k x sorted = (tt, tt)
   sorted-insert_entry (first ∷ entries) k x sorted = by (R k first.0) refl (sorted-insert_entry entries k x sorted.1)
     where
-      by : (o : Ordering) → R k first.0 ≡ o → IsStrictlySortedBy R (keys_of (insert_entry R entries k x)) → IsStrictlySortedBy R (keys_of (match_ordering o ((k, x) ∷ first ∷ entries) ((first.0, x) ∷ entries) (first ∷ insert_entry R entries k x)))
+      by : (o : Ordering) → R k first.0 ≡ o → IsStrictlySortedBy R (keys_of (insert_entry R entries k x)) →
+          IsStrictlySortedBy R (keys_of (match_ordering o ((k, x) ∷ first ∷ entries) ((first.0, x) ∷ entries) (first ∷ insert_entry R entries k x)))
       by Less is rest = ((is, below-trans order k first.0 (keys_of entries) is sorted.0), sorted)
       by Equal is rest = sorted
       by Greater is rest = (below-insert_entry first.0 entries k x sorted.0 (order.antisymm first.0 k ∙ ap ordering_reverse is), rest)
@@ -71,7 +79,8 @@ module _ {K X : Type 0} {R : K → K → Ordering} (order : IsTotalOrder R) wher
 -- ---- values under keys of their own
 
 module _ {K X : Type 0} {R : K → K → Ordering} (exact : (a b : K) → R a b ≡ Equal → a ≡ b) (key : X → K) where
-  keyed-insert_entry : (entries : List (K × X)) (x : X) → keys_of entries ≡ map key (values_of entries) → keys_of (insert_entry R entries (key x) x) ≡ map key (values_of (insert_entry R entries (key x) x))
+  keyed-insert_entry : (entries : List (K × X)) (x : X) → keys_of entries ≡ map key (values_of entries) →
+      keys_of (insert_entry R entries (key x) x) ≡ map key (values_of (insert_entry R entries (key x) x))
   keyed-insert_entry [] x keyed = refl
   keyed-insert_entry (first ∷ entries) x keyed = by (R (key x) first.0) refl (keyed-insert_entry entries x tail)
     where
@@ -81,7 +90,9 @@ module _ {K X : Type 0} {R : K → K → Ordering} (exact : (a b : K) → R a b 
       tail : keys_of entries ≡ map key (values_of entries)
       tail = cc
 
-      by : (o : Ordering) → R (key x) first.0 ≡ o → keys_of (insert_entry R entries (key x) x) ≡ map key (values_of (insert_entry R entries (key x) x)) → keys_of (match_ordering o ((key x, x) ∷ first ∷ entries) ((first.0, x) ∷ entries) (first ∷ insert_entry R entries (key x) x)) ≡ map key (values_of (match_ordering o ((key x, x) ∷ first ∷ entries) ((first.0, x) ∷ entries) (first ∷ insert_entry R entries (key x) x)))
+      by : (o : Ordering) → R (key x) first.0 ≡ o → keys_of (insert_entry R entries (key x) x) ≡ map key (values_of (insert_entry R entries (key x) x)) →
+          keys_of (match_ordering o ((key x, x) ∷ first ∷ entries) ((first.0, x) ∷ entries) (first ∷ insert_entry R entries (key x) x)) ≡ map key
+          (values_of (match_ordering o ((key x, x) ∷ first ∷ entries) ((first.0, x) ∷ entries) (first ∷ insert_entry R entries (key x) x)))
       by Less is rest = cc
       by Equal is rest = let same : key x ≡ first.0 = exact (key x) first.0 is in cc
       by Greater is rest = cc
@@ -115,12 +126,14 @@ module _ {K X : Type 0} {R : K → K → Ordering} (order : IsTotalOrder R) (exa
   sorted_values xs = subst (IsStrictlySortedBy R) (keyed-with_values [] xs refl) (sorted-with_values [] xs tt)
 
   -- each value stands so to all others
-  pub later-with_values : (S : X → X → Type 0) → ((x y : X) → S x y → S y x) → (entries : List (K × X)) (xs : List X) → AllLater S (values_of entries) → AllByRecursion (λ x. AllByRecursion (S x) (values_of entries)) xs → AllLater S xs → AllLater S (values_of (fold with_value entries xs))
+  pub later-with_values : (S : X → X → Type 0) → ((x y : X) → S x y → S y x) → (entries : List (K × X)) (xs : List X) → AllLater S (values_of entries) →
+      AllByRecursion (λ x. AllByRecursion (S x) (values_of entries)) xs → AllLater S xs → AllLater S (values_of (fold with_value entries xs))
   later-with_values S flips entries [] so_far apart all = so_far
   later-with_values S flips entries (x ∷ xs) so_far apart all =
       later-with_values S flips (with_value entries x) xs (later-insert_entry R S flips entries (key x) x so_far apart.0) (others xs apart.1 all.0) all.1
     where
-      others : (ys : List X) → AllByRecursion (λ y. AllByRecursion (S y) (values_of entries)) ys → AllByRecursion (S x) ys → AllByRecursion (λ y. AllByRecursion (S y) (values_of (with_value entries x))) ys
+      others : (ys : List X) → AllByRecursion (λ y. AllByRecursion (S y) (values_of entries)) ys → AllByRecursion (S x) ys →
+          AllByRecursion (λ y. AllByRecursion (S y) (values_of (with_value entries x))) ys
       others [] far near = tt
       others (y ∷ ys) far near = (all-insert_entry R (S y) entries (key x) x far.0 (flips x y near.0), others ys far.1 near.1)
 

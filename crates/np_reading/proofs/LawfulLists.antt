@@ -76,7 +76,8 @@ module _ {X Y : Type 0} (f : X → Option Y) where
       by None is rest = rest
       by (Some y) is rest = (one x y is all.0, rest)
 
-  pub later-filter_map : (R : X → X → Type 0) (S : Y → Y → Type 0) → ((x x' : X) (y y' : Y) → f x ≡ Some y → f x' ≡ Some y' → R x x' → S y y') → (xs : List X) → AllLater R xs → AllLater S (filter_map f xs)
+  pub later-filter_map : (R : X → X → Type 0) (S : Y → Y → Type 0) → ((x x' : X) (y y' : Y) → f x ≡ Some y → f x' ≡ Some y' → R x x' → S y y') → (xs : List X) → AllLater R xs →
+      AllLater S (filter_map f xs)
   later-filter_map R S one [] all = tt
   later-filter_map R S one (x ∷ xs) all = by (f x) refl (later-filter_map R S one xs all.1)
     where

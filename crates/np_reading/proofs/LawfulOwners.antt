@@ -89,7 +89,8 @@ name_of-well (item.Policy (policy.Base base)) is = refl
 last_owner-well : (one : Item) (owner : Owner) → IsWellItem one → last_owner one ≡ Some owner → is_named_owner owner ≡ true
 last_owner-well one owner all is = by (owner_of one) (name_of one) (owner_of-well one all) (name_of-well one all) is
   where
-    by : (reference : Option OwnerRef) (name : Option ObjectName) → option_all is_well_owner reference ≡ true → option_all has_words name ≡ true → owner_or_itself reference name ≡ Some owner → is_named_owner owner ≡ true
+    by : (reference : Option OwnerRef) (name : Option ObjectName) → option_all is_well_owner reference ≡ true → option_all has_words name ≡ true → owner_or_itself reference name ≡ Some owner →
+        is_named_owner owner ≡ true
     by (Some reference) name reference_well name_well found =
         subst (λ (o : Owner). is_named_owner o ≡ true) (same_Some (by_reference reference) owner found) reference_well
     by None (Some name) reference_well name_well found =

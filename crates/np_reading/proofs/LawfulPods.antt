@@ -55,7 +55,8 @@ IsEndOf-listed listed around = record {
       and_from _ (is_well_ports listed.ports) parts.0 owned.1;
 }
 
-IsEndOf-made : (controller : ControllerItem) (around : PodContext) (template : Template) → controller.template ≡ Some template → IsEndOf (item.Object (object.Controller controller)) around (made_pod controller around template)
+IsEndOf-made : (controller : ControllerItem) (around : PodContext) (template : Template) → controller.template ≡ Some template →
+    IsEndOf (item.Object (object.Controller controller)) around (made_pod controller around template)
 IsEndOf-made controller around template is = record {
   labels = refl;
   owner = refl;
@@ -92,7 +93,8 @@ pub record IsContextOf (items : List Item) (place : ℕ) (one : Item) (around : 
 IsContextOf-context_at : (items : List Item) (place : ℕ) (one : Item) (around : PodContext) → context_at items place one ≡ Some around → IsContextOf items place one around
 IsContextOf-context_at items place one around is = by (gives_end (makes_pod items place) one) is
   where
-    owned : (name : ObjectName) → name_of one ≡ Some name → (o : Option Owner) → top_owner items place ≡ o → option_map (context (namespace_labels items name.namespace)) o ≡ Some around → IsContextOf items place one around
+    owned : (name : ObjectName) → name_of one ≡ Some name → (o : Option Owner) → top_owner items place ≡ o → option_map (context (namespace_labels items name.namespace)) o ≡ Some around →
+        IsContextOf items place one around
     owned name named None top found = absurd (none-some around found)
     owned name named (Some owner) top found =
         let same = same_Some (context (namespace_labels items name.namespace) owner) around found in
@@ -139,7 +141,8 @@ module _ (items : List Item) where
       by None others = omega arith
       by (Some pod) others = omega arith
 
-  pub all-pods_from : (P : Item → Type 0) (Q : Pod → Type 0) → ((one : Item) (pod : Pod) → IsPodOf items one pod → P one → Q pod) → (place : ℕ) (rest : List Item) → AllByRecursion P rest → AllByRecursion Q (pods_from items place rest)
+  pub all-pods_from : (P : Item → Type 0) (Q : Pod → Type 0) → ((one : Item) (pod : Pod) → IsPodOf items one pod → P one → Q pod) → (place : ℕ) (rest : List Item) → AllByRecursion P rest →
+      AllByRecursion Q (pods_from items place rest)
   all-pods_from P Q each place [] all = tt
   all-pods_from P Q each place (one ∷ rest) all = by (pod_at_item items place one) refl (all-pods_from P Q each (place + 1) rest all.1)
     where
@@ -147,7 +150,8 @@ module _ (items : List Item) where
       by None is others = others
       by (Some pod) is others = (each one pod (IsPodOf-pod_at_item items place one pod is) all.0, others)
 
-  pub later-pods_from : (R : Item → Item → Type 0) (S : Pod → Pod → Type 0) → ((a b : Item) (x y : Pod) → IsPodOf items a x → IsPodOf items b y → R a b → S x y) → (place : ℕ) (rest : List Item) → AllLater R rest → AllLater S (pods_from items place rest)
+  pub later-pods_from : (R : Item → Item → Type 0) (S : Pod → Pod → Type 0) → ((a b : Item) (x y : Pod) → IsPodOf items a x → IsPodOf items b y → R a b → S x y) → (place : ℕ) (rest : List Item) →
+      AllLater R rest → AllLater S (pods_from items place rest)
   later-pods_from R S each place [] all = tt
   later-pods_from R S each place (one ∷ rest) all = by (pod_at_item items place one) refl (later-pods_from R S each (place + 1) rest all.1)
     where

@@ -41,11 +41,13 @@ before-from_Less Greater second is = cc
 
 pub length-net_policies-le : (items : List Item) → length (net_policies_of items) ≤ length items
 length-net_policies-le items =
-    rw (length-map (nets_by_name items) (λ entry. entry.1)) (omega (arith, length-with_values-le compare_names-total compare_names-exact net_name [] (filter_map net_policy items), length-filter_map-le net_policy items))
+    rw (length-map (nets_by_name items) (λ entry. entry.1)) (omega
+    (arith, length-with_values-le compare_names-total compare_names-exact net_name [] (filter_map net_policy items), length-filter_map-le net_policy items))
 
 pub net_policies-ascend : (items : List Item) → AllPairs StandsBefore (net_policies_of items)
 net_policies-ascend items i j d before below =
-    before-from_Less _ _ (Less-from_sorted_keys compare_names net_name (net_policies_of items) (sorted_values compare_names-total compare_names-exact net_name (filter_map net_policy items)) i j d before below)
+    before-from_Less _ _ (Less-from_sorted_keys compare_names net_name (net_policies_of items)
+    (sorted_values compare_names-total compare_names-exact net_name (filter_map net_policy items)) i j d before below)
 
 pub all-net_policies : (P : NetPolicy → Type 0) (items : List Item) → AllByRecursion P (filter_map net_policy items) → AllByRecursion P (net_policies_of items)
 all-net_policies P items all = all-with_values compare_names-total compare_names-exact net_name P [] (filter_map net_policy items) tt all
@@ -61,7 +63,8 @@ ascends-from_sorted (n ∷ next ∷ ns) sorted =
 
 pub length-admin_policies-le : (items : List Item) → length (admin_policies_of items) ≤ length items
 length-admin_policies-le items =
-    rw (length-map (admins_by_priority items) (λ entry. entry.1)) (omega (arith, length-with_values-le nat_cmp_total nat_cmp-exact (λ admin. admin.priority) [] (filter_map admin_policy items), length-filter_map-le admin_policy items))
+    rw (length-map (admins_by_priority items) (λ entry. entry.1))
+    (omega (arith, length-with_values-le nat_cmp_total nat_cmp-exact (λ admin. admin.priority) [] (filter_map admin_policy items), length-filter_map-le admin_policy items))
 
 pub admin_policies-ascend : (items : List Item) → HasAscendingPriorities (admin_policies_of items)
 admin_policies-ascend items = ascends-from_sorted _ (sorted_values nat_cmp_total nat_cmp-exact (λ admin. admin.priority) (filter_map admin_policy items))
@@ -69,8 +72,10 @@ admin_policies-ascend items = ascends-from_sorted _ (sorted_values nat_cmp_total
 pub all-admin_policies : (P : AdminPolicy → Type 0) (items : List Item) → AllByRecursion P (filter_map admin_policy items) → AllByRecursion P (admin_policies_of items)
 all-admin_policies P items all = all-with_values nat_cmp_total nat_cmp-exact (λ admin. admin.priority) P [] (filter_map admin_policy items) tt all
 
-pub later-admin_policies : (S : AdminPolicy → AdminPolicy → Type 0) → ((x y : AdminPolicy) → S x y → S y x) → (items : List Item) → AllLater S (filter_map admin_policy items) → AllLater S (admin_policies_of items)
-later-admin_policies S flips items all = later-with_values nat_cmp_total nat_cmp-exact (λ admin. admin.priority) S flips [] (filter_map admin_policy items) tt (none (filter_map admin_policy items)) all
+pub later-admin_policies : (S : AdminPolicy → AdminPolicy → Type 0) → ((x y : AdminPolicy) → S x y → S y x) → (items : List Item) → AllLater S (filter_map admin_policy items) →
+    AllLater S (admin_policies_of items)
+later-admin_policies S flips items all = later-with_values nat_cmp_total nat_cmp-exact (λ admin. admin.priority) S flips [] (filter_map admin_policy items) tt
+    (none (filter_map admin_policy items)) all
   where
     none : (xs : List AdminPolicy) → AllByRecursion (λ x. AllByRecursion (S x) []) xs
     none [] = tt

@@ -33,9 +33,11 @@ length-ingresses_from-le number (one ∷ items) = by (ingress one) (length-ingre
 ingresses_from-above : (number : ℕ) (items : List Item) → AllByRecursion (λ found. number ≤ found.item) (ingresses_from number items)
 ingresses_from-above number [] = tt
 ingresses_from-above number (one ∷ items) =
-    by (ingress one) (all_weaker (λ found. number + 1 ≤ found.item) (λ found. number ≤ found.item) (λ found above. omega (arith, above)) (ingresses_from (number + 1) items) (ingresses_from-above (number + 1) items))
+    by (ingress one) (all_weaker (λ found. number + 1 ≤ found.item) (λ found. number ≤ found.item) (λ found above. omega (arith, above)) (ingresses_from (number + 1) items)
+    (ingresses_from-above (number + 1) items))
   where
-    by : (o : Option IngressItem) → AllByRecursion (λ found. number ≤ found.item) (ingresses_from (number + 1) items) → AllByRecursion (λ found. number ≤ found.item) (placed number o ++ ingresses_from (number + 1) items)
+    by : (o : Option IngressItem) → AllByRecursion (λ found. number ≤ found.item) (ingresses_from (number + 1) items) →
+        AllByRecursion (λ found. number ≤ found.item) (placed number o ++ ingresses_from (number + 1) items)
     by None rest = rest
     by (Some found) rest = (omega arith, rest)
 
@@ -45,8 +47,11 @@ ingresses_from-ascend number (one ∷ items) = by (ingress one) (ingresses_from-
   where
     by : (o : Option IngressItem) → AllLater IsEarlierItem (ingresses_from (number + 1) items) → AllLater IsEarlierItem (placed number o ++ ingresses_from (number + 1) items)
     by None rest = rest
-    by (Some found) rest =
-        (all_weaker (λ later. number + 1 ≤ later.item) (IsEarlierItem (record { item = number; ingress = found })) (λ later above. lt-ltb number later.item (omega (arith, above))) (ingresses_from (number + 1) items) (ingresses_from-above (number + 1) items), rest)
+    by (Some found) rest = (
+      all_weaker (λ later. number + 1 ≤ later.item) (IsEarlierItem (record { item = number; ingress = found })) (λ later above. lt-ltb number later.item (omega (arith, above)))
+          (ingresses_from (number + 1) items) (ingresses_from-above (number + 1) items),
+      rest,
+    )
 
 -- ---- namespaces
 

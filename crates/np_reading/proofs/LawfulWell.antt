@@ -12,7 +12,8 @@ use Rattle.np_reading.proofs.LawfulPods.{IsPodOf, all-pods_from}
 use Rattle.np_reading.proofs.LawfulPolicies.{all-admin_policies, all-net_policies}
 use Rattle.np_reading.specs.Ends.{pods_of}
 use Rattle.np_model.specs.Lawful.{is_well, is_well_pod}
-use Rattle.np_reading.specs.Listed.{admin_policy, admin_policies_of, base_policy, baseline_of, first_of, ingress, ingresses_from, ingresses_of, net_policy, net_policies_of, placed, service, services_of}
+use Rattle.np_reading.specs.Listed.{admin_policy, admin_policies_of, base_policy, baseline_of, first_of, ingress, ingresses_from, ingresses_of, net_policy, net_policies_of, placed, service}
+use Rattle.np_reading.specs.Listed.{services_of}
 use Rattle.np_reading.specs.Reading.{lists_of}
 use Rattle.np_model.specs.declared.pod.Pod.{Pod}
 use Rattle.np_items.specs.WellFormed.{IsWellItem}
@@ -77,7 +78,8 @@ ingresses_from-well : (number : ℕ) (items : List Item) → AllByRecursion IsWe
 ingresses_from-well number [] all = refl
 ingresses_from-well number (one ∷ items) all = by (ingress one) (ingress-well one all.0) (ingresses_from-well (number + 1) items all.1)
   where
-    by : (o : Option IngressItem) → option_all is_well_ingress o ≡ true → list_all (λ placed. is_well_ingress placed.ingress) (ingresses_from (number + 1) items) ≡ true → list_all (λ placed. is_well_ingress placed.ingress) (placed number o ++ ingresses_from (number + 1) items) ≡ true
+    by : (o : Option IngressItem) → option_all is_well_ingress o ≡ true → list_all (λ placed. is_well_ingress placed.ingress) (ingresses_from (number + 1) items) ≡ true →
+        list_all (λ placed. is_well_ingress placed.ingress) (placed number o ++ ingresses_from (number + 1) items) ≡ true
     by None is rest = rest
     by (Some found) is rest = and_from (is_well_ingress found) _ is rest
 
@@ -117,11 +119,13 @@ lists_of-well items all =
     admins : list_all is_well_admin_policy (admin_policies_of items) ≡ true
     admins = list_all-from_all is_well_admin_policy (admin_policies_of items)
         (all-admin_policies (λ admin. is_well_admin_policy admin ≡ true) items
-        (all-filter_map admin_policy IsWellItem (λ admin. is_well_admin_policy admin ≡ true) (λ one admin is well. some_passes is_well_admin_policy (admin_policy one) admin is (admin_policy-well one well)) items each))
+        (all-filter_map admin_policy IsWellItem (λ admin. is_well_admin_policy admin ≡ true)
+        (λ one admin is well. some_passes is_well_admin_policy (admin_policy one) admin is (admin_policy-well one well)) items each))
 
     base : option_map_or is_well_base_policy (baseline_of items) true ≡ true
     base = first_of-well (filter_map base_policy items)
-        (all-filter_map base_policy IsWellItem (λ base. is_well_base_policy base ≡ true) (λ one base is well. some_passes is_well_base_policy (base_policy one) base is (base_policy-well one well)) items each)
+        (all-filter_map base_policy IsWellItem (λ base. is_well_base_policy base ≡ true)
+        (λ one base is well. some_passes is_well_base_policy (base_policy one) base is (base_policy-well one well)) items each)
 
     services : list_all is_well_service (services_of items) ≡ true
     services = list_all-from_all is_well_service (services_of items)

@@ -17,7 +17,8 @@ use Rattle.np_reading.proofs.PriorityLemmas.{priorities-apart}
 use Rattle.np_reading.proofs.ReadingLemmas.{estate_of-passed}
 use Rattle.np_reading.specs.EachOnce.{HoldsEachOnce, IsOfItsItem}
 use Rattle.np_model.specs.Lawful.{are_apart}
-use Rattle.np_reading.specs.Listed.{admin_policies_of, admin_policy, base_policy, first_equal, first_of, ingress, ingresses_from, ingresses_of, net_name, net_policies_of, net_policy, placed, rank_of, ranks_of}
+use Rattle.np_reading.specs.Listed.{admin_policies_of, admin_policy, base_policy, first_equal, first_of, ingress, ingresses_from, ingresses_of, net_name, net_policies_of, net_policy, placed, rank_of}
+use Rattle.np_reading.specs.Listed.{ranks_of}
 use Rattle.np_reading.specs.Reading.{estate_of}
 use Rattle.np_model.specs.declared.lists.EstateLists.{EstateLists}
 use Rattle.np_model.specs.declared.placed_ingress.PlacedIngress.{PlacedIngress}
@@ -113,7 +114,8 @@ ingresses-once : (number : ℕ) (items : List Item) → map (λ found. found.ing
 ingresses-once number [] = refl
 ingresses-once number (one ∷ items) = by (ingress one) (ingresses-once (number + 1) items)
   where
-    by : (o : Option IngressItem) → map (λ (p : PlacedIngress). p.ingress) (ingresses_from (number + 1) items) ≡ filter_map ingress items → map (λ (p : PlacedIngress). p.ingress) (placed number o ++ ingresses_from (number + 1) items) ≡ cons_option o (filter_map ingress items)
+    by : (o : Option IngressItem) → map (λ (p : PlacedIngress). p.ingress) (ingresses_from (number + 1) items) ≡ filter_map ingress items →
+        map (λ (p : PlacedIngress). p.ingress) (placed number o ++ ingresses_from (number + 1) items) ≡ cons_option o (filter_map ingress items)
     by None rest = rest
     by (Some found) rest = ap (λ (others : List IngressItem). found ∷ others) rest
 
@@ -131,7 +133,8 @@ ingresses-numbered number (one ∷ items) =
         let past : found.item - number ≡ suc (found.item - (number + 1)) = omega (arith, of.0) in
         (omega (arith, of.0), rw past of.1)
 
-    by : (o : Option IngressItem) → ingress one ≡ o → AllByRecursion (IsOfItem number (one ∷ items)) (ingresses_from (number + 1) items) → AllByRecursion (IsOfItem number (one ∷ items)) (placed number o ++ ingresses_from (number + 1) items)
+    by : (o : Option IngressItem) → ingress one ≡ o → AllByRecursion (IsOfItem number (one ∷ items)) (ingresses_from (number + 1) items) →
+        AllByRecursion (IsOfItem number (one ∷ items)) (placed number o ++ ingresses_from (number + 1) items)
     by None is rest = rest
     by (Some found) is rest =
         let none : number - number ≡ 0 = omega arith in
@@ -148,5 +151,6 @@ each_once texts items lists read is =
       baseline = baseline-once items passed.0;
       services = refl;
       ingresses = ingresses-once 1 items;
-      ingresses_numbered = All-from_recursion (IsOfItsItem items) (ingresses_of items) (all_weaker (IsOfItem 1 items) (IsOfItsItem items) (λ found of. of.1) (ingresses_of items) (ingresses-numbered 1 items));
+      ingresses_numbered = All-from_recursion (IsOfItsItem items) (ingresses_of items)
+          (all_weaker (IsOfItem 1 items) (IsOfItsItem items) (λ found of. of.1) (ingresses_of items) (ingresses-numbered 1 items));
     })

@@ -68,7 +68,8 @@ priorities-sorted (a ∷ b ∷ ranks) sorted none = by (a.priority == b.priority
     priorities : List ℕ
     priorities = map (λ (rank : Rank). rank.priority) ranks
 
-    by : (t : Bool) → (a.priority == b.priority) ≡ t → cond t (Some (a, b)) (first_equal (b ∷ ranks)) ≡ None → (first_equal (b ∷ ranks) ≡ None → IsStrictlySortedBy nat_cmp (map (λ rank. rank.priority) (b ∷ ranks))) → IsStrictlySortedBy nat_cmp (map (λ rank. rank.priority) (a ∷ b ∷ ranks))
+    by : (t : Bool) → (a.priority == b.priority) ≡ t → cond t (Some (a, b)) (first_equal (b ∷ ranks)) ≡ None →
+        (first_equal (b ∷ ranks) ≡ None → IsStrictlySortedBy nat_cmp (map (λ rank. rank.priority) (b ∷ ranks))) → IsStrictlySortedBy nat_cmp (map (λ rank. rank.priority) (a ∷ b ∷ ranks))
     by true is found rest = absurd (none-some (a, b) (sym found))
     by false is found rest =
         let later = rest found in

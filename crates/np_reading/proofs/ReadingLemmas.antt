@@ -27,7 +27,8 @@ passed (Ok names) (Err refusal) cycles made lists is = cc
 passed (Err refusal) priorities cycles made lists is = cc
 
 -- where an estate is read of items, none repeats a name, no two admin policies have one priority, and it is theirs
-pub estate_of-passed : (texts : List (List ℕ)) (items : List Item) (lists : EstateLists) → items_of texts ≡ Ok items → estate_of texts ≡ Ok lists → (first_repeat items ≡ None) × (first_equal (ranks_of items) ≡ None) × (lists_of items ≡ lists)
+pub estate_of-passed : (texts : List (List ℕ)) (items : List Item) (lists : EstateLists) → items_of texts ≡ Ok items → estate_of texts ≡ Ok lists →
+    (first_repeat items ≡ None) × (first_equal (ranks_of items) ≡ None) × (lists_of items ≡ lists)
 unfolding estate_of
 estate_of-passed texts items lists read is =
     let parts = passed (have_names_apart items) (have_priorities_apart items) (have_no_cycle items) (lists_of items) lists (rw read at is) in

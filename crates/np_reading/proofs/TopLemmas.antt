@@ -28,5 +28,6 @@ last_owner-pod pod = by pod.owner
     by None = refl
     by (Some owner) = refl
 
-pub top_owner-pod : (items : List Item) (place : ℕ) (pod : PodItem) → slice_get items place ≡ Some (item.Object (object.Pod pod)) → owner_place items (item.Object (object.Pod pod)) ≡ None → top_owner items place ≡ Some (named_or_itself pod)
+pub top_owner-pod : (items : List Item) (place : ℕ) (pod : PodItem) → slice_get items place ≡ Some (item.Object (object.Pod pod)) → owner_place items (item.Object (object.Pod pod)) ≡ None →
+    top_owner items place ≡ Some (named_or_itself pod)
 top_owner-pod items place pod at alone = top_owner-unlisted items place (item.Object (object.Pod pod)) at alone ∙ last_owner-pod pod

@@ -17,7 +17,8 @@ escaped-push : (cfg : WriterBuilder) (bytes : List ℕ) (byte : ℕ) → escaped
 unfolding escaped
 escaped-push cfg [] byte = refl
 escaped-push cfg (first ∷ bytes) byte =
-    elim (first == cfg.quote) as (λ is. (if is then (if cfg.double_quote then cfg.quote else cfg.escape) ∷ first ∷ escaped cfg (bytes ++ byte ∷ []) else first ∷ escaped cfg (bytes ++ byte ∷ [])) ≡ (if is then (if cfg.double_quote then cfg.quote else cfg.escape) ∷ first ∷ escaped cfg bytes else first ∷ escaped cfg bytes) ++ escaped cfg (byte ∷ [])) [
+    elim (first == cfg.quote) as (λ is. (if is then (if cfg.double_quote then cfg.quote else cfg.escape) ∷ first ∷ escaped cfg (bytes ++ byte ∷ []) else first ∷ escaped cfg (bytes ++ byte ∷ [])) ≡
+    (if is then (if cfg.double_quote then cfg.quote else cfg.escape) ∷ first ∷ escaped cfg bytes else first ∷ escaped cfg bytes) ++ escaped cfg (byte ∷ [])) [
       | true ↦ ap (λ (rest : List ℕ). (if cfg.double_quote then cfg.quote else cfg.escape) ∷ first ∷ rest) (escaped-push cfg bytes byte)
       | false ↦ ap (λ (rest : List ℕ). first ∷ rest) (escaped-push cfg bytes byte)
     ]
@@ -28,12 +29,14 @@ unfolding escaped
 escaped-none line = sym (append-nil line)
 
 -- a quote is put twice
-pub escaped-quote : (start line : List ℕ) (bytes : List ℕ) (byte : ℕ) → line ≡ start ++ escaped default_writer bytes → byte ≡ 34 → (line ++ 34 ∷ []) ++ byte ∷ [] ≡ start ++ escaped default_writer (bytes ++ byte ∷ [])
+pub escaped-quote : (start line : List ℕ) (bytes : List ℕ) (byte : ℕ) → line ≡ start ++ escaped default_writer bytes → byte ≡ 34 →
+    (line ++ 34 ∷ []) ++ byte ∷ [] ≡ start ++ escaped default_writer (bytes ++ byte ∷ [])
 unfolding escaped
 escaped-quote start line bytes byte put is = rw (put, is, escaped-push default_writer bytes 34) (simp append_assoc)
 
 -- and another byte once
-pub escaped-other : (start line : List ℕ) (bytes : List ℕ) (byte : ℕ) → line ≡ start ++ escaped default_writer bytes → (byte ≡ 34 → ⊥) → line ++ byte ∷ [] ≡ start ++ escaped default_writer (bytes ++ byte ∷ [])
+pub escaped-other : (start line : List ℕ) (bytes : List ℕ) (byte : ℕ) → line ≡ start ++ escaped default_writer bytes → (byte ≡ 34 → ⊥) →
+    line ++ byte ∷ [] ≡ start ++ escaped default_writer (bytes ++ byte ∷ [])
 unfolding escaped
 escaped-other start line bytes byte put other = rw (put, escaped-push default_writer bytes byte, ne_eqb byte 34 other) (simp append_assoc)
 
@@ -46,7 +49,9 @@ joined : (before a b c : List ℕ) → (((((before ++ a) ++ 44 ∷ []) ++ b) ++ 
 joined before a b c = simp append_assoc
 
 -- a row that is put together of its fields
-pub line_is : (before : List ℕ) (row : RowText) → (((((before ++ field_text default_writer row.source) ++ 44 ∷ []) ++ field_text default_writer row.destination) ++ 44 ∷ []) ++ field_text default_writer row.connections) ++ 10 ∷ [] ≡ before ++ csv_line row
+pub line_is : (before : List ℕ) (row : RowText) →
+    (((((before ++ field_text default_writer row.source) ++ 44 ∷ []) ++ field_text default_writer row.destination) ++ 44 ∷ []) ++ field_text default_writer row.connections) ++ 10 ∷ [] ≡ before
+    ++ csv_line row
 unfolding fields_text is_blank
 line_is before row =
     joined before (field_text default_writer row.source) (field_text default_writer row.destination) (field_text default_writer row.connections)

@@ -13,7 +13,8 @@ use Rattle.np_base.specs.Ranges.{IsAscending, holds}
 use Rattle.np_base.specs.declared.range.Range.{Range}
 
 -- ranges that hold no number are none
-pub none_held : {P : Type 0} (number_of : P → ℕ) (from last : ℕ) (ranges : List (Range P)) → IsAscending number_of from last ranges → ((p : P) → holds number_of ranges (number_of p) ≡ false) → ranges ≡ []
+pub none_held : {P : Type 0} (number_of : P → ℕ) (from last : ℕ) (ranges : List (Range P)) → IsAscending number_of from last ranges → ((p : P) → holds number_of ranges (number_of p) ≡ false) →
+    ranges ≡ []
 none_held number_of from last [] ascends none = refl
 none_held number_of from last (range ∷ ranges) ascends none =
     absurd (both_ways _ (none range.lo) (or_left _ _ (is_within-inside number_of range (number_of range.lo) (omega arith) ascends.1)))

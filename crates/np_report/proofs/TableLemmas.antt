@@ -14,7 +14,8 @@ use Rattle.np_routes.specs.ClusterTable.{ClusterTable, all_ingress_rows, cluster
 use Rattle.np_table.proofs.RangeOneList.{walk-agrees}
 use Rattle.np_table.proofs.RangeSets.{conns_of-agrees}
 use Rattle.np_table.specs.Right.{Stretch, conns_of, walk}
-use Rattle.np_table.specs.Rows.{address_row, address_rows, all_address_rows, all_pair_rows, all_rows, four_of, pair_key, pair_rows, row_if, row_of, rows_in, rows_of_both, rows_towards, six_of, workloads}
+use Rattle.np_table.specs.Rows.{address_row, address_rows, all_address_rows, all_pair_rows, all_rows, four_of, pair_key, pair_rows, row_if, row_of, rows_in, rows_of_both, rows_towards, six_of}
+use Rattle.np_table.specs.Rows.{workloads}
 use Rattle.np_table.specs.Table.{Table}
 use Rattle.np_table.specs.declared.rows.Row.{Row}
 use Rattle.np_table.specs.declared.rows.RowKey.{RowKey}
@@ -22,7 +23,8 @@ use Rattle.np_args.specs.declared.format.Format.{Format}
 use Rattle.np_args.specs.declared.report.Report.{Report}
 
 -- lists that are joined for each number of a range are those of another function that agrees there
-flat_map-agrees : {Y : Type 0} (f g : ℕ → List Y) (from count : ℕ) → ((n : ℕ) → from ≤ n → n < from + count → f n ≡ g n) → flat_map f (range_with_len from count) ≡ flat_map g (range_with_len from count)
+flat_map-agrees : {Y : Type 0} (f g : ℕ → List Y) (from count : ℕ) → ((n : ℕ) → from ≤ n → n < from + count → f n ≡ g n) →
+    flat_map f (range_with_len from count) ≡ flat_map g (range_with_len from count)
 flat_map-agrees f g from zero same = refl
 flat_map-agrees {Y} f g from (suc count) same =
     ap (λ (ys : List Y). ys ++ flat_map f (range_with_len (from + 1) count)) (same from (omega arith) (omega arith))
@@ -38,7 +40,8 @@ rows_of_both-agrees : (key : RowKey) (four four' six six' : Conns) → four ≡ 
 rows_of_both-agrees key four four' six six' fours sixes = ap (λ (conns : Conns). rows_of_both key conns six) fours ∙ ap (λ (conns : Conns). rows_of_both key four' conns) sixes
 
 -- rows of families that they tell of
-rows_in-agrees : (families : List Family) (key : RowKey) (conns conns' : Family → Conns) → ((family : Family) → is_shown families family ≡ true → conns family ≡ conns' family) → rows_in families key conns ≡ rows_in families key conns'
+rows_in-agrees : (families : List Family) (key : RowKey) (conns conns' : Family → Conns) → ((family : Family) → is_shown families family ≡ true → conns family ≡ conns' family) →
+    rows_in families key conns ≡ rows_in families key conns'
 rows_in-agrees [] key conns conns' same = rows_of_both-agrees key (conns Four) (conns' Four) (conns Six) (conns' Six) (same Four refl) (same Six refl)
 rows_in-agrees (one ∷ []) key conns conns' same = ap (λ (made : Conns). row_if key None made) (same one (same_family-itself one))
 rows_in-agrees (one ∷ two ∷ more) key conns conns' same = rows_of_both-agrees key (conns Four) (conns' Four) (conns Six) (conns' Six) (same Four refl) (same Six refl)
@@ -50,7 +53,8 @@ module _ (a b : Table) (same : AreSameTables a b) where
       let key = pair_key source destination in
       let conns : Family → Conns = λ family. conns_of (a.pairs source destination family) in
       let conns' : Family → Conns = λ family. conns_of (b.pairs source destination family) in
-      rows_in-agrees a.families key conns conns' (λ family tells. conns_of-agrees (a.pairs source destination family) (b.pairs source destination family) (same.pairs source destination family is is' tells))
+      rows_in-agrees a.families key conns conns' (λ family tells. conns_of-agrees (a.pairs source destination family) (b.pairs source destination family)
+      (same.pairs source destination family is is' tells))
       ∙ ap (λ (families : List Family). rows_in families key conns') same.families
 
   -- the numbers of the workloads are the same
@@ -78,7 +82,8 @@ module _ (a b : Table) (same : AreSameTables a b) where
       ap (λ (stretches : List Stretch). map (address_row four_of) stretches ++ map (address_row six_of) (walk (passes Six) 0 (2 ^ 128 - 1))) four
       ∙ ap (λ (stretches : List Stretch). map (address_row four_of) (walk (passes' Four) 0 (2 ^ 32 - 1)) ++ map (address_row six_of) stretches) six
 
-  rows_of_workload-same : (workload : ℕ) → workload < length a.names → rows_towards a workload Ingress ++ rows_towards a workload Egress ≡ rows_towards b workload Ingress ++ rows_towards b workload Egress
+  rows_of_workload-same : (workload : ℕ) → workload < length a.names →
+      rows_towards a workload Ingress ++ rows_towards a workload Egress ≡ rows_towards b workload Ingress ++ rows_towards b workload Egress
   rows_of_workload-same workload is =
       ap (λ (rows : List Row). rows ++ rows_towards a workload Egress) (ap (map (row_of workload Ingress)) (address_rows-same workload Ingress is))
       ∙ ap (λ (rows : List Row). rows_towards b workload Ingress ++ rows) (ap (map (row_of workload Egress)) (address_rows-same workload Egress is))
@@ -86,7 +91,8 @@ module _ (a b : Table) (same : AreSameTables a b) where
   all_address_rows-same : all_address_rows a ≡ all_address_rows b
   unfolding all_address_rows
   all_address_rows-same =
-      flat_map-agrees (λ workload. rows_towards a workload Ingress ++ rows_towards a workload Egress) (λ workload. rows_towards b workload Ingress ++ rows_towards b workload Egress) 0 (length a.names) (λ workload low is. rows_of_workload-same workload (omega arith))
+      flat_map-agrees (λ workload. rows_towards a workload Ingress ++ rows_towards a workload Egress) (λ workload. rows_towards b workload Ingress ++ rows_towards b workload Egress) 0 (length a.names)
+      (λ workload low is. rows_of_workload-same workload (omega arith))
       ∙ ap (flat_map (λ workload. rows_towards b workload Ingress ++ rows_towards b workload Egress)) workloads-same
 
   -- ---- all of them

@@ -16,7 +16,8 @@ module _ (form : Form) (names : List (List ℕ)) (query : Query) (report : Repor
 
   module _ (row : Row) (rows : List Row) where
     -- of a row that is asked for it is the text of the row, and what comes behind
-    pub rows_to_come-kept : keeps query row.key ≡ true → rows_to_come form names query report came (row ∷ rows) ≡ form.row came (row_text names report row) ++ rows_to_come form names query report true rows
+    pub rows_to_come-kept : keeps query row.key ≡ true →
+        rows_to_come form names query report came (row ∷ rows) ≡ form.row came (row_text names report row) ++ rows_to_come form names query report true rows
     unfolding rows_to_come
     rows_to_come-kept kept = rw kept refl
 

@@ -15,23 +15,28 @@ marks_at-append {S} at xs ys =
     ap (map mark) (filter-append has_it xs ys) ∙ map-append mark (filter has_it xs) (filter has_it ys)
 
 -- pairs within either list, and across
-pub AllPairs-append : {X : Type 0} (R : X → X → Type 0) (P Q : X → Type 0) → ((x y : X) → P x → Q y → R x y) → (xs ys : List X) → AllPairs R xs → AllPairs R ys → All P xs → All Q ys → AllPairs R (xs ++ ys)
+pub AllPairs-append : {X : Type 0} (R : X → X → Type 0) (P Q : X → Type 0) → ((x y : X) → P x → Q y → R x y) → (xs ys : List X) → AllPairs R xs → AllPairs R ys → All P xs → All Q ys →
+    AllPairs R (xs ++ ys)
 AllPairs-append {X} R P Q across xs ys in_xs in_ys of_xs of_ys i j d before inside =
     let total = length-append xs ys in
     elim (cases_lt j (length xs)) [
       | inl left ↦ rw (get_or_append_left xs ys d i (omega arith), get_or_append_left xs ys d j left) (in_xs i j d before left)
       | inr right ↦ elim (cases_lt i (length xs)) [
         | inl first ↦ rw (get_or_append_left xs ys d i first, get_or-append_right xs ys (length xs) j d refl right) (across _ _ (of_xs i d first) (of_ys (j - length xs) d (omega arith)))
-        | inr second ↦ rw (get_or-append_right xs ys (length xs) i d refl second, get_or-append_right xs ys (length xs) j d refl right) (in_ys (i - length xs) (j - length xs) d (omega arith) (omega arith))
+        | inr second ↦ rw (get_or-append_right xs ys (length xs) i d refl second, get_or-append_right xs ys (length xs) j d refl right)
+            (in_ys (i - length xs) (j - length xs) d (omega arith) (omega arith))
       ]
     ]
 
 module _ {S Spot : Type 0} (has : S → Spot → Bool) (IsWell : S → Type 0) where
   -- entries of two kinds whose marks differ
-  pub AreEntries-append : (First Second Kind : Mark → Type 0) → ((m : Mark) → First m → Kind m) → ((m : Mark) → Second m → Kind m) → ((a b : Mark) → First a → Second b → a ≢ b) → (xs ys : List (Marked S)) → AreEntries has IsWell First xs → AreEntries has IsWell Second ys → AreEntries has IsWell Kind (xs ++ ys)
+  pub AreEntries-append : (First Second Kind : Mark → Type 0) → ((m : Mark) → First m → Kind m) → ((m : Mark) → Second m → Kind m) → ((a b : Mark) → First a → Second b → a ≢ b) →
+      (xs ys : List (Marked S)) → AreEntries has IsWell First xs → AreEntries has IsWell Second ys → AreEntries has IsWell Kind (xs ++ ys)
   AreEntries-append First Second Kind first second apart xs ys in_xs in_ys = record {
-    distinct = AllPairs-append (λ a b. a.mark ≢ b.mark) (λ entry. First entry.mark) (λ entry. Second entry.mark) (λ a b. apart a.mark b.mark) xs ys in_xs.distinct in_ys.distinct in_xs.of_kind in_ys.of_kind;
-    of_kind = All-append (λ entry. Kind entry.mark) xs ys (All-weaker (λ entry. First entry.mark) (λ entry. Kind entry.mark) (λ entry. first entry.mark) xs in_xs.of_kind) (All-weaker (λ entry. Second entry.mark) (λ entry. Kind entry.mark) (λ entry. second entry.mark) ys in_ys.of_kind);
+    distinct = AllPairs-append (λ a b. a.mark ≢ b.mark) (λ entry. First entry.mark) (λ entry. Second entry.mark)
+        (λ a b. apart a.mark b.mark) xs ys in_xs.distinct in_ys.distinct in_xs.of_kind in_ys.of_kind;
+    of_kind = All-append (λ entry. Kind entry.mark) xs ys (All-weaker (λ entry. First entry.mark) (λ entry. Kind entry.mark) (λ entry. first entry.mark) xs in_xs.of_kind)
+        (All-weaker (λ entry. Second entry.mark) (λ entry. Kind entry.mark) (λ entry. second entry.mark) ys in_ys.of_kind);
     well = All-append (λ entry. IsWell entry.set) xs ys in_xs.well in_ys.well;
     some_spot = All-append (λ entry. (spot : Spot) × (has entry.set spot ≡ true)) xs ys in_xs.some_spot in_ys.some_spot;
   }
@@ -43,7 +48,10 @@ module _ {S Spot : Type 0} (has : S → Spot → Bool) (IsWell : S → Type 0) w
     pub entries : AreEntries has IsWell Kind begun
 
   -- the entries of one more part
-  pub IsBegun-more : (within : Spot → Bool) (mark_at : Spot → Mark) (left left' : Spot → Bool) (rest_at rest_at' : Spot → Mark) (Kind Found Kind' : Mark → Type 0) → ((m : Mark) → Kind m → Kind' m) → ((m : Mark) → Found m → Kind' m) → ((a b : Mark) → Kind a → Found b → a ≢ b) → (hit : Spot → Bool) (found_at : Spot → Mark) (begun found : List (Marked S)) → IsBegun within mark_at left rest_at Kind begun → IsCarving has IsWell hit found_at Found found → ((spot : Spot) → mark_if (hit spot) (found_at spot) ++ mark_if (left' spot) (rest_at' spot) ≡ mark_if (left spot) (rest_at spot)) → IsBegun within mark_at left' rest_at' Kind' (begun ++ found)
+  pub IsBegun-more : (within : Spot → Bool) (mark_at : Spot → Mark) (left left' : Spot → Bool) (rest_at rest_at' : Spot → Mark) (Kind Found Kind' : Mark → Type 0) → ((m : Mark) → Kind m → Kind' m) →
+      ((m : Mark) → Found m → Kind' m) → ((a b : Mark) → Kind a → Found b → a ≢ b) → (hit : Spot → Bool) (found_at : Spot → Mark) (begun found : List (Marked S)) →
+      IsBegun within mark_at left rest_at Kind begun → IsCarving has IsWell hit found_at Found found →
+      ((spot : Spot) → mark_if (hit spot) (found_at spot) ++ mark_if (left' spot) (rest_at' spot) ≡ mark_if (left spot) (rest_at spot)) → IsBegun within mark_at left' rest_at' Kind' (begun ++ found)
   IsBegun-more within mark_at left left' rest_at rest_at' Kind Found Kind' kept new apart hit found_at begun found so_far one step = record {
     marks = λ spot.
         let at : S → Bool = λ set. has set spot in
@@ -56,7 +64,9 @@ module _ {S Spot : Type 0} (has : S → Spot → Bool) (IsWell : S → Type 0) w
   }
 
   -- the entries of all that is left
-  pub IsBegun-end : (within : Spot → Bool) (mark_at : Spot → Mark) (left : Spot → Bool) (rest_at last_at : Spot → Mark) (Kind Last Kind' : Mark → Type 0) → ((m : Mark) → Kind m → Kind' m) → ((m : Mark) → Last m → Kind' m) → ((a b : Mark) → Kind a → Last b → a ≢ b) → (begun last : List (Marked S)) → IsBegun within mark_at left rest_at Kind begun → IsCarving has IsWell left last_at Last last → ((spot : Spot) → last_at spot ≡ rest_at spot) → IsCarving has IsWell within mark_at Kind' (begun ++ last)
+  pub IsBegun-end : (within : Spot → Bool) (mark_at : Spot → Mark) (left : Spot → Bool) (rest_at last_at : Spot → Mark) (Kind Last Kind' : Mark → Type 0) → ((m : Mark) → Kind m → Kind' m) →
+      ((m : Mark) → Last m → Kind' m) → ((a b : Mark) → Kind a → Last b → a ≢ b) → (begun last : List (Marked S)) → IsBegun within mark_at left rest_at Kind begun →
+      IsCarving has IsWell left last_at Last last → ((spot : Spot) → last_at spot ≡ rest_at spot) → IsCarving has IsWell within mark_at Kind' (begun ++ last)
   IsBegun-end within mark_at left rest_at last_at Kind Last Kind' kept new apart begun last so_far one same = record {
     marks = λ spot.
         let at : S → Bool = λ set. has set spot in

@@ -30,7 +30,8 @@ marks_at-cons at e es true has = rw has refl
 marks_at-cons at e es false has = rw has refl
 
 -- an entry that has the spot gives its mark
-entry_gives : {S : Type 0} (at : S → Bool) (entries : List (Marked S)) (k : ℕ) (d : Marked S) → k < length entries → at (get_or entries k d).set ≡ true → IsIn (get_or entries k d).mark (marks_at at entries)
+entry_gives : {S : Type 0} (at : S → Bool) (entries : List (Marked S)) (k : ℕ) (d : Marked S) → k < length entries → at (get_or entries k d).set ≡ true →
+    IsIn (get_or entries k d).mark (marks_at at entries)
 entry_gives at [] k d inside has = absurd (omega arith)
 entry_gives at (e ∷ es) zero d inside has = rw (marks_at-cons at e es true has) (inl refl)
 entry_gives at (e ∷ es) (suc k) d inside has =
@@ -50,7 +51,8 @@ given_by_entry at (e ∷ es) m is_in =
 
 -- Where the entries that have the spot give the spot's mark alone, if it is of the space, and all marks are distinct,
 -- an entry has the spot exactly where its mark is the spot's.
-pub exact_entry : {S : Type 0} (at : S → Bool) (entries : List (Marked S)) (inside : Bool) (mark : Mark) → marks_at at entries ≡ mark_if inside mark → AllPairs (λ a b. a.mark ≢ b.mark) entries → (k : ℕ) (d : Marked S) → k < length entries → IsTrue (at (get_or entries k d).set) ↔ (IsTrue inside × (mark ≡ (get_or entries k d).mark))
+pub exact_entry : {S : Type 0} (at : S → Bool) (entries : List (Marked S)) (inside : Bool) (mark : Mark) → marks_at at entries ≡ mark_if inside mark → AllPairs (λ a b. a.mark ≢ b.mark) entries →
+    (k : ℕ) (d : Marked S) → k < length entries → IsTrue (at (get_or entries k d).set) ↔ (IsTrue inside × (mark ≡ (get_or entries k d).mark))
 exact_entry {S} at entries inside mark marks distinct k d below = (
   λ has. in_one inside mark _ (rw marks at (entry_gives at entries k d below has)),
   λ decided.

@@ -10,11 +10,14 @@ map_either : {A B : Type 0} (f : A → B) (a b : Option A) → option_map f (opt
 map_either f None b = refl
 map_either f (Some x) b = refl
 
-pub run_of_halves : {S P Spot : Type 0} (has : S → Spot → Bool) (set_of : P → S) (action_of : P → Action) (parts front back : List P) (run : Run S) → front ++ back ≡ parts → IsRun has (λ spot. option_or (first_action set_of action_of (λ set. has set spot) front) (first_action set_of action_of (λ set. has set spot) back)) run → IsRun has (λ spot. first_action set_of action_of (λ set. has set spot) parts) run
+pub run_of_halves : {S P Spot : Type 0} (has : S → Spot → Bool) (set_of : P → S) (action_of : P → Action) (parts front back : List P) (run : Run S) → front ++ back ≡ parts →
+    IsRun has (λ spot. option_or (first_action set_of action_of (λ set. has set spot) front) (first_action set_of action_of (λ set. has set spot) back)) run →
+    IsRun has (λ spot. first_action set_of action_of (λ set. has set spot) parts) run
 run_of_halves {S} {P} {Spot} has set_of action_of parts front back run split halves =
     let first : Spot → List P → Option Action = λ spot. first_action set_of action_of (λ set. has set spot) in
     let either : (spot : Spot) → option_or (first spot front) (first spot back) ≡ first spot parts =
-    λ spot. sym (ap (option_map action_of) (find-append (λ part. has (set_of part) spot) front back) ∙ map_either action_of (find (λ part. has (set_of part) spot) front) (find (λ part. has (set_of part) spot) back)) ∙ ap (first spot) split in
+    λ spot. sym (ap (option_map action_of) (find-append (λ part. has (set_of part) spot) front back) ∙ map_either action_of (find (λ part. has (set_of part) spot) front)
+    (find (λ part. has (set_of part) spot) back)) ∙ ap (first spot) split in
     record {
       allowed = λ spot. halves.allowed spot ∙ ap (λ (first : Option Action). first_allows first false) (either spot);
       denied = λ spot. halves.denied spot ∙ ap (λ (first : Option Action). not (first_allows first true)) (either spot);

@@ -33,6 +33,7 @@ admin_tier layer = record {
   set_of = λ part. part.set;
   mark_from = λ at place parts. admin_mark (find (λ numbered. at numbered.1.set) (enumerate_from place parts)) (lower_mark at layer);
   mark_at = λ at place part. action_mark part.action place (lower_mark at layer);
-  first_decides = λ at place part parts. at_choice (λ first. admin_mark first (lower_mark at layer)) (at part.set) (Some (place, part)) (find (λ numbered. at numbered.1.set) (enumerate_from (place + 1) parts));
+  first_decides = λ at place part parts. at_choice (λ first. admin_mark first (lower_mark at layer)) (at part.set) (Some (place, part))
+      (find (λ numbered. at numbered.1.set) (enumerate_from (place + 1) parts));
   place_of = admin_place;
 }

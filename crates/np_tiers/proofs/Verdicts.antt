@@ -37,7 +37,9 @@ or_choice false x = refl
 
 module _ {S : Type 0} (at : S → Bool) (layer : Layer S) where
   -- what the marks of a tier say is what its parts say, since it is so at each part
-  tier_says : {X : Type 0} (tier : Tier S X) (say : Option X → Bool) (items : List X) → ((place : ℕ) → mark_allows layer (tier.mark_from at place []) ≡ say None) → ((place : ℕ) (item : X) → slice_get items place ≡ Some item → mark_allows layer (tier.mark_at at place item) ≡ say (Some item)) → (place : ℕ) (rest : List X) → StandsAt items place rest → mark_allows layer (tier.mark_from at place rest) ≡ say (find (λ item. at (tier.set_of item)) rest)
+  tier_says : {X : Type 0} (tier : Tier S X) (say : Option X → Bool) (items : List X) → ((place : ℕ) → mark_allows layer (tier.mark_from at place []) ≡ say None) →
+      ((place : ℕ) (item : X) → slice_get items place ≡ Some item → mark_allows layer (tier.mark_at at place item) ≡ say (Some item)) → (place : ℕ) (rest : List X) → StandsAt items place rest →
+      mark_allows layer (tier.mark_from at place rest) ≡ say (find (λ item. at (tier.set_of item)) rest)
   tier_says tier say items at_end at_item place [] stands = at_end place
   tier_says tier say items at_end at_item place (item ∷ rest) stands =
       let has : Bool = at (tier.set_of item) in
@@ -62,13 +64,15 @@ module _ {S : Type 0} (at : S → Bool) (layer : Layer S) where
       ∙ ap (λ (b : Bool). if layer.isolated then list_any at layer.net else b)
       (tier_says (base_tier pass) base_allows layer.base (λ place. refl) (λ place part stands. rw stands refl) 0 layer.base (whole_stands layer.base))
 
-  action_says : (action : Action) (part : AdminPart S) (place : ℕ) → part.action ≡ action → slice_get layer.admin place ≡ Some part → mark_allows layer (action_mark action place (lower_mark at layer)) ≡ action_allows action (lower_allows at layer)
+  action_says : (action : Action) (part : AdminPart S) (place : ℕ) → part.action ≡ action → slice_get layer.admin place ≡ Some part →
+      mark_allows layer (action_mark action place (lower_mark at layer)) ≡ action_allows action (lower_allows at layer)
   action_says Allow part place is stands = rw (stands, is) refl
   action_says Deny part place is stands = rw (stands, is) refl
   action_says Pass part place is stands = lower_says (Some place)
 
   pub mark_says : mark_allows layer (mark_of at layer) ≡ walk_allows at layer
-  mark_says = tier_says (admin_tier layer) (λ first. admin_allows first (lower_allows at layer)) layer.admin (λ place. lower_says None) (λ place part stands. action_says part.action part place refl stands) 0 layer.admin (whole_stands layer.admin)
+  mark_says = tier_says (admin_tier layer) (λ first. admin_allows first (lower_allows at layer)) layer.admin (λ place. lower_says None)
+      (λ place part stands. action_says part.action part place refl stands) 0 layer.admin (whole_stands layer.admin)
 
   -- some entry that has the spot allows, where some mark of theirs does
   any_by_marks : (entries : List (Marked S)) → list_any (λ entry. at entry.set && mark_allows layer entry.mark) entries ≡ list_any (mark_allows layer) (marks_at at entries)

@@ -18,4 +18,5 @@ pub returns : goal.returns
 returns c =
     let signed = starts_char 43 c.args.text.now c.starts_with.result c.starts_with.ensures.cases (omega arith) (omega arith) in
     c.ok.ensures.value
-    ∙ numeral_of-parsed c.args.radix c.args.most c.args.text.now _ c.requires.fits (omega arith) (omega arith) (λ first. both_ways _ c.if-starts_with.false (signed.1 first)) c.from_str_radix.ensures.value
+    ∙ numeral_of-parsed c.args.radix c.args.most c.args.text.now _ c.requires.fits (omega arith) (omega arith)
+    (λ first. both_ways _ c.if-starts_with.false (signed.1 first)) c.from_str_radix.ensures.value

@@ -19,5 +19,6 @@ loop-mark-preserved c =
     let within = up_within ups c.requires.chains _ _ so_far.0 here in (
       within,
       search rules,
-      λ other below. mark_step c.loop-mark.marks ups (length ups - c.loop-mark._mark) (length ups - (c.loop-mark._mark + 1)) c.loop-mark.at c.in-Some.above (omega arith) here (rw so_far.1 within) other ∙ so_far.2 other below,
+      λ other below. mark_step c.loop-mark.marks ups (length ups - c.loop-mark._mark) (length ups - (c.loop-mark._mark + 1)) c.loop-mark.at c.in-Some.above (omega arith) here
+          (rw so_far.1 within) other ∙ so_far.2 other below,
     )

@@ -7,4 +7,5 @@ use Rattle.np_chains.proofs.chains.mark_chain.Given as goal
 abbrev pub invariant-loop-mark : goal.invariant-loop-mark
 invariant-loop-mark l =
     (l.at < length l.ups) × (length l.marks ≡ length l.ups)
-    × ((above : ℕ) → above < length l.ups → (is_marked l.marks above || list_any (λ owner. nat_eq owner above) (chain l.ups (length l.ups - l._mark) l.at)) ≡ (is_marked l.fn.marks above || is_at_or_over l.ups above l.place))
+    × ((above : ℕ) → above < length l.ups → (is_marked l.marks above || list_any (λ owner. nat_eq owner above) (chain l.ups (length l.ups - l._mark) l.at)) ≡
+    (is_marked l.fn.marks above || is_at_or_over l.ups above l.place))

@@ -21,4 +21,5 @@ loop-place-preserved c =
     let kept = c.put.auto.groups ∙ ap length c.deref_mut.ensures.value in
     with_items_is c.loop-place.made c.put.new.groups (kept ∙ sym c.loop-place.made.ok.0)
     ∙ c.in_ok-put.ensures
-    ∙ rw (c.deref_mut.ensures.value, take_more numbers place 0 c.loop-place-test.true) (rw many at (numbered_more so_far c.args.count (get_or numbers place 0) c.loop-place.made.items within c.loop-place.invariant))
+    ∙ rw (c.deref_mut.ensures.value, take_more numbers place 0 c.loop-place-test.true)
+    (rw many at (numbered_more so_far c.args.count (get_or numbers place 0) c.loop-place.made.items within c.loop-place.invariant))

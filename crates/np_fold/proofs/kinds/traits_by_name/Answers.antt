@@ -5,5 +5,6 @@ use Rattle.np_fold.proofs.kinds.traits_by_name.Goals as goal
 pub loop-one-preserved : goal.loop-one-preserved
 loop-one-preserved c =
     ap (map Some) c.in_ok-push.ensures.ok
-    ∙ traits-more c.args.keys.now c.args.cidrs.now c.args.pods.now c.args.firsts.now c.args.named.now c.loop-one.one-index c.one-item.result c.index-pods-first.result c.loop-one.made c.in_ok-kind_traits.field-0
+    ∙ traits-more c.args.keys.now c.args.cidrs.now c.args.pods.now c.args.firsts.now c.args.named.now c.loop-one.one-index c.one-item.result c.index-pods-first.result c.loop-one.made
+    c.in_ok-kind_traits.field-0
     c.requires.named c.requires.firsts c.loop-one-test.true c.one-item.is c.index-pods-first.is c.loop-one.invariant c.in_ok-kind_traits.ensures

@@ -8,7 +8,8 @@ use Rattle.np_fold.proofs.order.compare_port_lists.Goals as goal
 use Rattle.np_model.specs.declared.named_port.NamedPort.{NamedPort}
 
 -- where there is no difference, the lengths tell
-lengths-tell : (ports others : List NamedPort) (place : ℕ) → place ≤ length others → place ≤ length ports → length ports ≤ place → nat_cmp (length ports) (length others) ≡ slice_cmp spec.compare_ports (drop place ports) (drop place others)
+lengths-tell : (ports others : List NamedPort) (place : ℕ) → place ≤ length others → place ≤ length ports → length ports ≤ place →
+    nat_cmp (length ports) (length others) ≡ slice_cmp spec.compare_ports (drop place ports) (drop place others)
 lengths-tell ports others place there within passed = rw (drop_all place ports passed) (by (drop place others) (length-drop place others))
   where
     by : (rest : List NamedPort) → length rest ≡ length others - place → nat_cmp (length ports) (length others) ≡ slice_cmp spec.compare_ports [] rest

@@ -9,7 +9,9 @@ traits-are : (c : goal.After-of) → c.into_vec.result.items ≡ map (traits_of 
 traits-are c = cc (c.into_vec.ensures, c.in_ok-traits.ensures, c.pods.ensures)
 
 pub returns-clause-firsts : goal.returns-clause-firsts
-returns-clause-firsts c = IfOk-weaker c.of.result _ _ (λ made is. is ∙ classes-firsts c.args.estate.now c.args.keys.now c.requires.keys c.args.cidrs.now c.requires.cidrs c.into_vec.result.items (traits-are c)) c.of.ensures.firsts
+returns-clause-firsts c = IfOk-weaker c.of.result _ _ (λ made is. is ∙ classes-firsts c.args.estate.now c.args.keys.now c.requires.keys c.args.cidrs.now c.requires.cidrs c.into_vec.result.items
+    (traits-are c)) c.of.ensures.firsts
 
 pub returns-clause-numbers : goal.returns-clause-numbers
-returns-clause-numbers c = IfOk-weaker c.of.result _ _ (λ made is. is ∙ classes-numbers c.args.estate.now c.args.keys.now c.requires.keys c.args.cidrs.now c.requires.cidrs c.into_vec.result.items (traits-are c)) c.of.ensures.numbers
+returns-clause-numbers c = IfOk-weaker c.of.result _ _ (λ made is. is ∙ classes-numbers c.args.estate.now c.args.keys.now c.requires.keys c.args.cidrs.now c.requires.cidrs c.into_vec.result.items
+    (traits-are c)) c.of.ensures.numbers

@@ -10,10 +10,13 @@ loop-pair-preserved c =
     let pairs = c.args.pairs.now in
     elim c.if-is_listed.branch [
       | then-is_listed+in_ok-try_copy+in_ok-try_copy-2+in_ok-push w ↦
-          let put : c.if-is_listed.labels ≡ c.loop-pair.labels ++ label_of_pair c.pair-item.result ∷ [] = cc (w.labels-is, w.in_ok-push.ensures.ok, w.in_ok-try_copy.ensures, w.in_ok-try_copy-2.ensures) in
-          put ∙ listed-more keys pairs c.loop-pair.pair-index c.pair-item.result c.loop-pair.labels c.loop-pair-test.true c.pair-item.is c.loop-pair.invariant (sym c.is_listed.ensures ∙ w.if-is_listed.true)
+          let put : c.if-is_listed.labels ≡ c.loop-pair.labels ++ label_of_pair c.pair-item.result ∷ [] = cc
+          (w.labels-is, w.in_ok-push.ensures.ok, w.in_ok-try_copy.ensures, w.in_ok-try_copy-2.ensures) in
+          put ∙ listed-more keys pairs c.loop-pair.pair-index c.pair-item.result c.loop-pair.labels c.loop-pair-test.true c.pair-item.is c.loop-pair.invariant
+          (sym c.is_listed.ensures ∙ w.if-is_listed.true)
       | else-is_listed w ↦
-          w.labels-is ∙ unlisted-more keys pairs c.loop-pair.pair-index c.pair-item.result c.loop-pair.labels c.loop-pair-test.true c.pair-item.is c.loop-pair.invariant (sym c.is_listed.ensures ∙ w.if-is_listed.false)
+          w.labels-is ∙ unlisted-more keys pairs c.loop-pair.pair-index c.pair-item.result c.loop-pair.labels c.loop-pair-test.true c.pair-item.is c.loop-pair.invariant
+          (sym c.is_listed.ensures ∙ w.if-is_listed.false)
     ]
 
 pub returns : goal.returns

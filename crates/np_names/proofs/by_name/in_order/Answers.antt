@@ -14,7 +14,8 @@ loop-place-preserved c =
     let place = c.loop-place.place in
     let is_wish : c.index-wishes-place.result ≡ wish_at wishes place = c.index-wishes-place.is ∙ get_or_default wishes place c.index-wishes-place.result [] (omega arith) in
     record {
-      given = HoldsCounts-more wishes place c.index-wishes-place.result c.next_name.new.given.entries (omega arith) is_wish (c.in_ok-name.ensures.given (take place wishes) c.loop-place.invariant.given);
+      given = HoldsCounts-more wishes place c.index-wishes-place.result c.next_name.new.given.entries (omega arith) is_wish
+          (c.in_ok-name.ensures.given (take place wishes) c.loop-place.invariant.given);
       things = things-push wishes c.in_ok-name.name place c.loop-place.things.keys c.put.new.things.keys
           (c.in_ok-name.ensures.name wishes place (omega arith) is_wish c.requires.counts c.loop-place.invariant.given) c.loop-place.invariant.things c.in_ok-put.ensures;
     }

@@ -13,4 +13,5 @@ pub returns-in_ok-full_name-in-Some-clause-cycle : goal.returns-in_ok-full_name-
 returns-in_ok-full_name-in-Some-clause-cycle c =
     let items = c.args.items.now in
     let is = rw (c.of-chains.ensures, c.in_ok-ups.ensures) at (sym c.in-Some.ensures) in
-    cycle_named items c.in-Some.place c.index-items-place.result c.in_ok-full_name-in-Some.field-0 is (first_cycle_within items c.in-Some.place is) c.index-items-place.is c.in_ok-full_name-in-Some.ensures
+    cycle_named items c.in-Some.place c.index-items-place.result c.in_ok-full_name-in-Some.field-0 is
+    (first_cycle_within items c.in-Some.place is) c.index-items-place.is c.in_ok-full_name-in-Some.ensures

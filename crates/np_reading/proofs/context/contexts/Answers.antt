@@ -19,8 +19,10 @@ loop-place-preserved c =
     let place = c.loop-place.place in
     let within = c.loop-place-test.true in
     let owner = owner_at items c.args.owners.now place c.index-owners-place.result c.requires.owners within in
-    let here = context_here items place c.index-items-place.result _ _ c.in_ok-context_if.field-0 c.in_ok-context_if.ensures.context (maker_at items c.args.makers.now place _ c.requires.makers within) (c.index-owners-place.is ∙ owner) in
+    let here = context_here items place c.index-items-place.result _ _ c.in_ok-context_if.field-0 c.in_ok-context_if.ensures.context (maker_at items c.args.makers.now place _ c.requires.makers within)
+    (c.index-owners-place.is ∙ owner) in
     record {
-      contexts = contexts-more items place c.index-items-place.result _ c.loop-place.made.items c.push.new.self.items within c.index-items-place.is here c.in_ok-push.ensures.items c.loop-place.invariant.contexts;
+      contexts = contexts-more items place c.index-items-place.result _ c.loop-place.made.items c.push.new.self.items within c.index-items-place.is here c.in_ok-push.ensures.items
+          c.loop-place.invariant.contexts;
       known = c.in_ok-context_if.ensures.known;
     }

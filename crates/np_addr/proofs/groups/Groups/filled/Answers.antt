@@ -9,7 +9,8 @@ returns-then-self-tail-ge8 c =
 
 pub returns-then-self-eq0 : goal.returns-then-self-eq0
 returns-then-self-eq0 c =
-    rw (← c.self.view_is, ← c.tail.view_is) (sym (filled_of-none c.self.inside.count c.tail.inside.count c.self.inside.number c.tail.inside.number (omega arith) c.if-self-eq0.true c.self.invariant.1 c.tail.invariant.1))
+    rw (← c.self.view_is, ← c.tail.view_is) (sym (filled_of-none c.self.inside.count c.tail.inside.count c.self.inside.number c.tail.inside.number
+    (omega arith) c.if-self-eq0.true c.self.invariant.1 c.tail.invariant.1))
 
 pub overflow_add-result : goal.overflow_add-result
 overflow_add-result c =

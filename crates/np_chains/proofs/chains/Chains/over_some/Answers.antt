@@ -17,7 +17,8 @@ loop-place-preserved c =
           let written : c.if-is_start.marks.items ≡ w.mark_chain.new.marks = rw w.marks-is (with_items_is c.loop-place.marks w.mark_chain.new.marks (long ∙ sym c.loop-place.marks.ok.0)) in
           rw written (
             long ∙ so_far.0,
-            start_step ups w.deref.result.now same starts c.loop-place.marks.items w.deref_mut.result.now w.mark_chain.new.marks w.deref_mut.ensures.value c.loop-place.place w.if-is_start.true w.mark_chain.ensures so_far.1,
+            start_step ups w.deref.result.now same starts c.loop-place.marks.items w.deref_mut.result.now w.mark_chain.new.marks w.deref_mut.ensures.value c.loop-place.place w.if-is_start.true
+                w.mark_chain.ensures so_far.1,
           )
       | else-is_start w ↦ rw w.marks-is (so_far.0, λ above below. so_far.1 above below ∙ sym (over_other ups starts c.loop-place.place above w.if-is_start.false))
     ]

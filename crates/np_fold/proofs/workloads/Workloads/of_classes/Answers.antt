@@ -3,7 +3,8 @@ use Rattle.np_fold.specs.Keys.{keys_of_estate}
 use Rattle.np_fold.specs.steps.Folded.{number_among}
 use Rattle.np_fold.specs.Workloads.{workload_of_entry}
 use Rattle.np_fold.proofs.FoldLemmas.{firsts-in}
-use Rattle.np_fold.proofs.PartLemmas.{classes-in, folding-is, keys-agree, keys-ascend, kinds-few, names-ascend, names-few, numbers-few, numbers-in, numbers-made, places-in, workloads-few, workloads-made}
+use Rattle.np_fold.proofs.PartLemmas.{classes-in, folding-is, keys-agree, keys-ascend, kinds-few, names-ascend, names-few, numbers-few, numbers-in, numbers-made, places-in, workloads-few}
+use Rattle.np_fold.proofs.PartLemmas.{workloads-made}
 use Rattle.np_fold.proofs.workloads.Workloads.of_classes.Goals as goal
 
 pub first_pods_by_name-requires-clause-within : goal.first_pods_by_name-requires-clause-within
@@ -25,7 +26,8 @@ pub numbers_by_name-requires-clause-places : goal.numbers_by_name-requires-claus
 numbers_by_name-requires-clause-places c = places-in c.args.estate.now c.requires.few c.items-4.result.now (c.items-4.ensures ∙ c.in_ok-named.ensures)
 
 pub numbers_by_name-requires-clause-classes : goal.numbers_by_name-requires-clause-classes
-numbers_by_name-requires-clause-classes c = classes-in c.args.estate.now c.requires.few c.items-4.result.now (c.items-4.ensures ∙ c.in_ok-named.ensures) c.items-3.result.now (c.items-3.ensures ∙ c.requires.numbers)
+numbers_by_name-requires-clause-classes c = classes-in c.args.estate.now c.requires.few c.items-4.result.now (c.items-4.ensures ∙ c.in_ok-named.ensures) c.items-3.result.now
+    (c.items-3.ensures ∙ c.requires.numbers)
 
 pub members_by_name-requires-clause-few : goal.members_by_name-requires-clause-few
 members_by_name-requires-clause-few c = names-few c.args.estate.now c.requires.few c.in_ok-named.named c.in_ok-named.ensures

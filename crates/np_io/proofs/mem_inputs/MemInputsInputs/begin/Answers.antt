@@ -28,4 +28,5 @@ pub returns-in-Some-2-clause-counts : goal.returns-in-Some-2-clause-counts
 returns-in-Some-2-clause-counts c = λ other.
     let counts = c.self.inside.faults.items in
     let placed : c.in-Some.place < length counts = search rules in
-    rw (← c.self.view_is) (never_falls counts c.self.inside.other_faults c.in-Some.place c.index_mut.result.now c.count.new.total (place_of c.self.inside.held.items other) placed c.index_mut.ensures.value c.count.ensures.never)
+    rw (← c.self.view_is) (never_falls counts c.self.inside.other_faults c.in-Some.place c.index_mut.result.now c.count.new.total
+    (place_of c.self.inside.held.items other) placed c.index_mut.ensures.value c.count.ensures.never)

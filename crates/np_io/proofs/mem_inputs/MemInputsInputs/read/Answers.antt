@@ -8,7 +8,8 @@ pub returns-then-is_due-clause-counts : goal.returns-then-is_due-clause-counts
 returns-then-is_due-clause-counts c = λ other.
     let counts = c.self.inside.faults.items in
     let placed : c.in-Some.begun.place < length counts = search rules in
-    rw (← c.self.view_is) (never_falls counts c.self.inside.other_faults c.in-Some.begun.place c.index_mut.result.now c.count.new.total (place_of c.self.inside.held.items other) placed c.index_mut.ensures.value c.count.ensures.never)
+    rw (← c.self.view_is) (never_falls counts c.self.inside.other_faults c.in-Some.begun.place c.index_mut.result.now c.count.new.total
+    (place_of c.self.inside.held.items other) placed c.index_mut.ensures.value c.count.ensures.never)
 
 pub returns-clause-next : goal.returns-clause-next
 returns-clause-next c =
