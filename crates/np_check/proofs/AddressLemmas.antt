@@ -28,7 +28,8 @@ use Rattle.np_table.specs.Rows.{address_rows, rows_of_addresses}
 use Rattle.np_table.specs.Table.{address_allows, estate_table, table_of}
 
 -- the rows of a workload are those of what passes between it and each address
-pub table_rows : (lists : EstateLists) (work : ℕ) (direction : Direction) → address_rows (estate_table lists) work direction ≡ rows_of_addresses (address_allows lists (folding_of lists) work direction)
+pub table_rows : (lists : EstateLists) (work : ℕ) (direction : Direction) →
+    address_rows (estate_table lists) work direction ≡ rows_of_addresses (address_allows lists (folding_of lists) work direction)
 unfolding address_rows table_of
 table_rows lists work direction = refl
 
@@ -38,12 +39,14 @@ none_if : {Y : Type 0} (has : Bool) (gives : Option Y) → has ≡ false → (if
 none_if true gives lacks = cc
 none_if false gives lacks = refl
 
-none_family : {Y : Type 0} (set : AddressRanges) (address : ℕ → Address) (gives : Address → Option Y) (count : ℕ) → ((n : ℕ) → set_has set (address n) ≡ false) → first_of gives (addresses_in set address count) ≡ None
+none_family : {Y : Type 0} (set : AddressRanges) (address : ℕ → Address) (gives : Address → Option Y) (count : ℕ) → ((n : ℕ) → set_has set (address n) ≡ false) →
+    first_of gives (addresses_in set address count) ≡ None
 none_family set address gives count none =
     addresses_upto set address gives count ∙ upto-none (λ n. if set_has set (address n) then gives (address n) else None) count (λ n. none_if (set_has set (address n)) (gives (address n)) (none n))
 
 -- where a set has no address, nothing is found
-pub none_of : {Y : Type 0} (set : AddressRanges) (gives : Address → Option Y) → ((n : ℕ) → set_has set (Four n) ≡ false) → ((n : ℕ) → set_has set (Six n) ≡ false) → None ≡ first_of gives (addresses_of set)
+pub none_of : {Y : Type 0} (set : AddressRanges) (gives : Address → Option Y) → ((n : ℕ) → set_has set (Four n) ≡ false) → ((n : ℕ) → set_has set (Six n) ≡ false) →
+    None ≡ first_of gives (addresses_of set)
 none_of set gives no_four no_six =
     sym (first_of-append gives (addresses_in set Four (2 ^ 32)) (addresses_in set Six (2 ^ 128))
     ∙ ap (λ first. option_or first (first_of gives (addresses_in set Six (2 ^ 128)))) (none_family set Four gives (2 ^ 32) no_four)
@@ -64,33 +67,41 @@ counter_by work broken = counter_at (Work work) (At broken.address) (family_of b
 abbrev broken_by : Address → PortSpot → Broken
 broken_by address spot = record { address = address; spot = spot }
 
-between_to : (lists : EstateLists) (wanted : Wanted) (conns : Conns) (work : ℕ) (address : Address) → counter_between lists wanted conns (At address) (Work work) ≡ option_map (counter_to work) (broken_at wanted conns (address_allows lists (folding_of lists) work Ingress) address)
+between_to : (lists : EstateLists) (wanted : Wanted) (conns : Conns) (work : ℕ) (address : Address) →
+    counter_between lists wanted conns (At address) (Work work) ≡ option_map (counter_to work) (broken_at wanted conns (address_allows lists (folding_of lists) work Ingress) address)
 unfolding counter_between
 between_to lists wanted conns work address =
     first_of-one (counter_in lists wanted conns (At address) (Work work)) (family_of address)
     ∙ map_map (counter_to work) (broken_by address) (first_spot (breaks wanted conns (address_allows lists (folding_of lists) work Ingress (family_of address) (number_of_address address))))
 
-between_by : (lists : EstateLists) (wanted : Wanted) (conns : Conns) (work : ℕ) (address : Address) → counter_between lists wanted conns (Work work) (At address) ≡ option_map (counter_by work) (broken_at wanted conns (address_allows lists (folding_of lists) work Egress) address)
+between_by : (lists : EstateLists) (wanted : Wanted) (conns : Conns) (work : ℕ) (address : Address) →
+    counter_between lists wanted conns (Work work) (At address) ≡ option_map (counter_by work) (broken_at wanted conns (address_allows lists (folding_of lists) work Egress) address)
 unfolding counter_between
 between_by lists wanted conns work address =
     first_of-one (counter_in lists wanted conns (Work work) (At address)) (family_of address)
     ∙ map_map (counter_by work) (broken_by address) (first_spot (breaks wanted conns (address_allows lists (folding_of lists) work Egress (family_of address) (number_of_address address))))
 
 -- from addresses to a workload
-pub all_to : (lists : EstateLists) (wanted : Wanted) (conns : Conns) (work : ℕ) (block : AddressRanges) (found : Option Broken) → found ≡ first_broken_of wanted conns block (address_allows lists (folding_of lists) work Ingress) → option_map (counter_to work) found ≡ first_of (λ address. counter_between lists wanted conns (At address) (Work work)) (addresses_of block)
+pub all_to : (lists : EstateLists) (wanted : Wanted) (conns : Conns) (work : ℕ) (block : AddressRanges) (found : Option Broken) →
+    found ≡ first_broken_of wanted conns block (address_allows lists (folding_of lists) work Ingress) →
+    option_map (counter_to work) found ≡ first_of (λ address. counter_between lists wanted conns (At address) (Work work)) (addresses_of block)
 unfolding first_broken_of
 all_to lists wanted conns work block found is =
     ap (option_map (counter_to work)) is
     ∙ sym (first_of-option_map (broken_at wanted conns (address_allows lists (folding_of lists) work Ingress)) (counter_to work) (addresses_of block))
-    ∙ sym (first_of-same (λ address. counter_between lists wanted conns (At address) (Work work)) (λ address. option_map (counter_to work) (broken_at wanted conns (address_allows lists (folding_of lists) work Ingress) address)) (addresses_of block) (between_to lists wanted conns work))
+    ∙ sym (first_of-same (λ address. counter_between lists wanted conns (At address) (Work work))
+    (λ address. option_map (counter_to work) (broken_at wanted conns (address_allows lists (folding_of lists) work Ingress) address)) (addresses_of block) (between_to lists wanted conns work))
 
 -- and from a workload to addresses
-pub all_by : (lists : EstateLists) (wanted : Wanted) (conns : Conns) (work : ℕ) (block : AddressRanges) (found : Option Broken) → found ≡ first_broken_of wanted conns block (address_allows lists (folding_of lists) work Egress) → option_map (counter_by work) found ≡ first_of (λ address. counter_between lists wanted conns (Work work) (At address)) (addresses_of block)
+pub all_by : (lists : EstateLists) (wanted : Wanted) (conns : Conns) (work : ℕ) (block : AddressRanges) (found : Option Broken) →
+    found ≡ first_broken_of wanted conns block (address_allows lists (folding_of lists) work Egress) →
+    option_map (counter_by work) found ≡ first_of (λ address. counter_between lists wanted conns (Work work) (At address)) (addresses_of block)
 unfolding first_broken_of
 all_by lists wanted conns work block found is =
     ap (option_map (counter_by work)) is
     ∙ sym (first_of-option_map (broken_at wanted conns (address_allows lists (folding_of lists) work Egress)) (counter_by work) (addresses_of block))
-    ∙ sym (first_of-same (λ address. counter_between lists wanted conns (Work work) (At address)) (λ address. option_map (counter_by work) (broken_at wanted conns (address_allows lists (folding_of lists) work Egress) address)) (addresses_of block) (between_by lists wanted conns work))
+    ∙ sym (first_of-same (λ address. counter_between lists wanted conns (Work work) (At address))
+    (λ address. option_map (counter_by work) (broken_at wanted conns (address_allows lists (folding_of lists) work Egress) address)) (addresses_of block) (between_by lists wanted conns work))
 
 -- ---- what is found is from its source
 
@@ -100,11 +111,13 @@ none_some counter same = cc
 same_counter : (one other : Counterexample) → Some one ≡ Some other → one ≡ other
 same_counter one other same = cc
 
-source_at : (source destination : PlaceEnd) (family : Family) (found : Option PortSpot) (counter : Counterexample) → option_map (counter_at source destination family) found ≡ Some counter → counter.source ≡ source
+source_at : (source destination : PlaceEnd) (family : Family) (found : Option PortSpot) (counter : Counterexample) → option_map (counter_at source destination family) found ≡ Some counter →
+    counter.source ≡ source
 source_at source destination family None counter is = absurd (none_some counter is)
 source_at source destination family (Some spot) counter is = sym (ap (λ (c : Counterexample). c.source) (same_counter (counter_at source destination family spot) counter is))
 
-source_in : (lists : EstateLists) (wanted : Wanted) (conns : Conns) (source destination : PlaceEnd) (families : List Family) (counter : Counterexample) → first_of (counter_in lists wanted conns source destination) families ≡ Some counter → counter.source ≡ source
+source_in : (lists : EstateLists) (wanted : Wanted) (conns : Conns) (source destination : PlaceEnd) (families : List Family) (counter : Counterexample) →
+    first_of (counter_in lists wanted conns source destination) families ≡ Some counter → counter.source ≡ source
 source_in lists wanted conns source destination [] counter is = absurd (none_some counter is)
 source_in lists wanted conns source destination (family ∷ families) counter is =
     elim (from_either (counter_in lists wanted conns source destination family) (first_of (counter_in lists wanted conns source destination) families) counter is) [
@@ -112,11 +125,13 @@ source_in lists wanted conns source destination (family ∷ families) counter is
       | inr later ↦ source_in lists wanted conns source destination families counter later
     ]
 
-source_of : (lists : EstateLists) (wanted : Wanted) (conns : Conns) (source destination : PlaceEnd) (counter : Counterexample) → counter_between lists wanted conns source destination ≡ Some counter → counter.source ≡ source
+source_of : (lists : EstateLists) (wanted : Wanted) (conns : Conns) (source destination : PlaceEnd) (counter : Counterexample) → counter_between lists wanted conns source destination ≡ Some counter →
+    counter.source ≡ source
 unfolding counter_between
 source_of lists wanted conns source destination counter is = source_in lists wanted conns source destination (families_between lists source destination) counter is
 
-source_of_all : (lists : EstateLists) (wanted : Wanted) (conns : Conns) (source : PlaceEnd) (works : List ℕ) (counter : Counterexample) → first_of (λ work. counter_between lists wanted conns source (Work work)) works ≡ Some counter → counter.source ≡ source
+source_of_all : (lists : EstateLists) (wanted : Wanted) (conns : Conns) (source : PlaceEnd) (works : List ℕ) (counter : Counterexample) →
+    first_of (λ work. counter_between lists wanted conns source (Work work)) works ≡ Some counter → counter.source ≡ source
 source_of_all lists wanted conns source [] counter is = absurd (none_some counter is)
 source_of_all lists wanted conns source (work ∷ works) counter is =
     elim (from_either (counter_between lists wanted conns source (Work work)) (first_of (λ work. counter_between lists wanted conns source (Work work)) works) counter is) [
@@ -126,17 +141,24 @@ source_of_all lists wanted conns source (work ∷ works) counter is =
 
 -- ---- one workload more
 
-pub no_works : (lists : EstateLists) (wanted : Wanted) (conns : Conns) (block : AddressRanges) → None ≡ first_of (λ address. first_of (λ work. counter_between lists wanted conns (At address) (Work work)) []) (addresses_of block)
-no_works lists wanted conns block = sym (first_of-none (λ (address : Address). first_of (λ work. counter_between lists wanted conns (At address) (Work work)) []) (addresses_of block) (λ address. refl))
+pub no_works : (lists : EstateLists) (wanted : Wanted) (conns : Conns) (block : AddressRanges) →
+    None ≡ first_of (λ address. first_of (λ work. counter_between lists wanted conns (At address) (Work work)) []) (addresses_of block)
+no_works lists wanted conns block = sym (first_of-none (λ (address : Address). first_of (λ work. counter_between lists wanted conns (At address) (Work work)) []) (addresses_of block)
+    (λ address. refl))
 
-to_more : (lists : EstateLists) (wanted : Wanted) (conns : Conns) (works : List ℕ) (i : ℕ) (address : Address) → i < length works → option_or (first_of (λ work. counter_between lists wanted conns (At address) (Work work)) (take i works)) (counter_between lists wanted conns (At address) (Work (get_or works i 0))) ≡ first_of (λ work. counter_between lists wanted conns (At address) (Work work)) (take (i + 1) works)
+to_more : (lists : EstateLists) (wanted : Wanted) (conns : Conns) (works : List ℕ) (i : ℕ) (address : Address) → i < length works →
+    option_or (first_of (λ work. counter_between lists wanted conns (At address) (Work work)) (take i works)) (counter_between lists wanted conns (At address) (Work (get_or works i 0))) ≡ first_of
+    (λ work. counter_between lists wanted conns (At address) (Work work)) (take (i + 1) works)
 to_more lists wanted conns works i address within =
     let gives = λ (work : ℕ). counter_between lists wanted conns (At address) (Work work) in
     ap (λ last. option_or (first_of gives (take i works)) last) (sym (first_of-one gives (get_or works i 0)))
     ∙ sym (first_of-append gives (take i works) (get_or works i 0 ∷ []))
     ∙ ap (first_of gives) (sym (take_more works i 0 within))
 
-pub one_work_more : (lists : EstateLists) (wanted : Wanted) (conns : Conns) (block : AddressRanges) (works : List ℕ) (i : ℕ) (first found : Option Counterexample) → i < length works → first ≡ first_of (λ address. first_of (λ work. counter_between lists wanted conns (At address) (Work work)) (take i works)) (addresses_of block) → found ≡ first_of (λ address. counter_between lists wanted conns (At address) (Work (get_or works i 0))) (addresses_of block) → earlier first found ≡ first_of (λ address. first_of (λ work. counter_between lists wanted conns (At address) (Work work)) (take (i + 1) works)) (addresses_of block)
+pub one_work_more : (lists : EstateLists) (wanted : Wanted) (conns : Conns) (block : AddressRanges) (works : List ℕ) (i : ℕ) (first found : Option Counterexample) → i < length works →
+    first ≡ first_of (λ address. first_of (λ work. counter_between lists wanted conns (At address) (Work work)) (take i works)) (addresses_of block) →
+    found ≡ first_of (λ address. counter_between lists wanted conns (At address) (Work (get_or works i 0))) (addresses_of block) →
+    earlier first found ≡ first_of (λ address. first_of (λ work. counter_between lists wanted conns (At address) (Work work)) (take (i + 1) works)) (addresses_of block)
 one_work_more lists wanted conns block works i first found within first_is found_is =
     let before = λ (address : Address). first_of (λ work. counter_between lists wanted conns (At address) (Work work)) (take i works) in
     let own = λ (address : Address). counter_between lists wanted conns (At address) (Work (get_or works i 0)) in
@@ -144,5 +166,6 @@ one_work_more lists wanted conns block works i first found within first_is found
     let both = λ (address : Address). option_or (before address) (own address) in
     ap (λ (one : Option Counterexample). earlier one found) first_is
     ∙ ap (λ (other : Option Counterexample). earlier (first_of before (addresses_of block)) other) found_is
-    ∙ sym (merge before own (addresses_of block) (λ address counter is. source_of_all lists wanted conns (At address) (take i works) counter is) (λ address counter is. source_of lists wanted conns (At address) (Work (get_or works i 0)) counter is) (addresses-ascend block))
+    ∙ sym (merge before own (addresses_of block) (λ address counter is. source_of_all lists wanted conns (At address) (take i works) counter is)
+    (λ address counter is. source_of lists wanted conns (At address) (Work (get_or works i 0)) counter is) (addresses-ascend block))
     ∙ first_of-same both after (addresses_of block) (λ address. to_more lists wanted conns works i address within)

@@ -31,7 +31,8 @@ use Rattle.np_table.specs.Rows.{address_row, four_of, rows_of_addresses, six_of}
 pub upto : {Y : Type 0} → (ℕ → Option Y) → ℕ → Option Y
 upto gives count = first_of gives (range_with_len 0 count)
 
-range_same : {Y : Type 0} (gives gives' : ℕ → Option Y) (low count : ℕ) → ((n : ℕ) → low ≤ n → n < low + count → gives n ≡ gives' n) → first_of gives (range_with_len low count) ≡ first_of gives' (range_with_len low count)
+range_same : {Y : Type 0} (gives gives' : ℕ → Option Y) (low count : ℕ) → ((n : ℕ) → low ≤ n → n < low + count → gives n ≡ gives' n) →
+    first_of gives (range_with_len low count) ≡ first_of gives' (range_with_len low count)
 range_same gives gives' low zero same = refl
 range_same gives gives' low (suc count) same =
     ap (λ first. option_or first (first_of gives (range_with_len (low + 1) count))) (same low (omega arith) (omega arith))
@@ -65,7 +66,8 @@ unfolding upto
 upto-each gives count n none below = range_each gives 0 count n none (omega arith) (omega arith)
 
 -- the addresses of a family in a set
-pub addresses_upto : {Y : Type 0} (set : AddressRanges) (address : ℕ → Address) (gives : Address → Option Y) (count : ℕ) → first_of gives (addresses_in set address count) ≡ upto (λ n. if set_has set (address n) then gives (address n) else None) count
+pub addresses_upto : {Y : Type 0} (set : AddressRanges) (address : ℕ → Address) (gives : Address → Option Y) (count : ℕ) →
+    first_of gives (addresses_in set address count) ≡ upto (λ n. if set_has set (address n) then gives (address n) else None) count
 unfolding upto addresses_in
 addresses_upto set address gives count =
     first_of-filter gives (set_has set) (map address (range_with_len 0 count))
@@ -88,7 +90,8 @@ with_none None = refl
 with_none (Some address) = refl
 
 -- where the same is broken at each number of a range, the first number of the ranges in it is the first address
-in_range : (address : ℕ → Address) (ranges : List (Range ℕ)) (spot : Option PortSpot) (low count : ℕ) → first_of (broken_with address ranges spot) (range_with_len low count) ≡ with_spot (option_map address (find (holds (λ a. a) ranges) (range_with_len low count))) spot
+in_range : (address : ℕ → Address) (ranges : List (Range ℕ)) (spot : Option PortSpot) (low count : ℕ) →
+    first_of (broken_with address ranges spot) (range_with_len low count) ≡ with_spot (option_map address (find (holds (λ a. a) ranges) (range_with_len low count))) spot
 in_range address ranges None low count =
     first_of-none (broken_with address ranges None) (range_with_len low count) (λ n. none_with address n (holds (λ a. a) ranges n))
     ∙ sym (with_none (option_map address (find (holds (λ a. a) ranges) (range_with_len low count))))
@@ -112,7 +115,10 @@ right_ordered passes from to before [] are = omega arith
 right_ordered passes from to before (stretch ∷ stretches) are =
     omega (arith, are.0.start, are.0.filled, right_ordered passes (stretch.hi + 1) to (Some stretch.conns) stretches are.1)
 
-by_stretches : (wanted : Wanted) (conns : Conns) (address : ℕ → Address) (ranges : List (Range ℕ)) (passes : ℕ → PortSpot → Bool) (least last from to count : ℕ) (before : Option Conns) (stretches : List Stretch) → IsAscending (λ a. a) least last ranges → AreRight passes from to before stretches → from + count ≡ to → first_of (broken_stretch wanted conns address ranges) stretches ≡ first_of (broken_number wanted conns address ranges passes) (range_with_len from count)
+by_stretches : (wanted : Wanted) (conns : Conns) (address : ℕ → Address) (ranges : List (Range ℕ)) (passes : ℕ → PortSpot → Bool) (least last from to count : ℕ) (before : Option Conns)
+    (stretches : List Stretch) →
+    IsAscending (λ a. a) least last ranges → AreRight passes from to before stretches → from + count ≡ to →
+    first_of (broken_stretch wanted conns address ranges) stretches ≡ first_of (broken_number wanted conns address ranges passes) (range_with_len from count)
 by_stretches wanted conns address ranges passes least last from to count before [] ascends are ends =
     let none : count ≡ 0 = omega arith in rw none refl
 by_stretches wanted conns address ranges passes least last from to count before (stretch ∷ stretches) ascends are ends =
@@ -126,7 +132,8 @@ by_stretches wanted conns address ranges passes least last from to count before 
     let spot = first_spot (breaks wanted conns (has_spot stretch.conns)) in
     let same : (n : ℕ) → from ≤ n → n < from + own → broken_number wanted conns address ranges passes n ≡ broken_with address ranges spot n = λ n above below.
     ap (λ (s : Option PortSpot). broken_with address ranges s n)
-    (breaks-same wanted conns (passes n) (has_spot stretch.conns) (λ one is. sym (has_spot-conns_of (passes n) one is) ∙ ap (λ (c : Conns). has_spot c one) (are.0.conns n (omega arith) (omega arith)))) in
+    (breaks-same wanted conns (passes n) (has_spot stretch.conns)
+    (λ one is. sym (has_spot-conns_of (passes n) one is) ∙ ap (λ (c : Conns). has_spot c one) (are.0.conns n (omega arith) (omega arith)))) in
     let first : broken_stretch wanted conns address ranges stretch ≡ first_of (broken_number wanted conns address ranges passes) (range_with_len from own) =
     ap (λ (found : Option ℕ). with_spot (option_map address found) spot) (sym (first_number-is ranges least last stretch.lo stretch.hi own (omega arith) ascends))
     ∙ ap (λ (low : ℕ). with_spot (option_map address (find (holds (λ a. a) ranges) (range_with_len low own))) spot) start
@@ -141,27 +148,34 @@ by_stretches wanted conns address ranges passes least last from to count before 
     ∙ ap (first_of (broken_number wanted conns address ranges passes)) (sym (range-append from own others))
     ∙ ap (λ (k : ℕ). first_of (broken_number wanted conns address ranges passes) (range_with_len from k)) (sym sum)
 
-stretches_upto : (wanted : Wanted) (conns : Conns) (address : ℕ → Address) (ranges : List (Range ℕ)) (passes : ℕ → PortSpot → Bool) (least last to count : ℕ) (stretches : List Stretch) → IsAscending (λ a. a) least last ranges → AreRight passes 0 to None stretches → 0 + count ≡ to → first_of (broken_stretch wanted conns address ranges) stretches ≡ upto (broken_number wanted conns address ranges passes) count
+stretches_upto : (wanted : Wanted) (conns : Conns) (address : ℕ → Address) (ranges : List (Range ℕ)) (passes : ℕ → PortSpot → Bool) (least last to count : ℕ) (stretches : List Stretch) →
+    IsAscending (λ a. a) least last ranges → AreRight passes 0 to None stretches → 0 + count ≡ to →
+    first_of (broken_stretch wanted conns address ranges) stretches ≡ upto (broken_number wanted conns address ranges passes) count
 unfolding upto
 stretches_upto wanted conns address ranges passes least last to count stretches ascends are ends =
     by_stretches wanted conns address ranges passes least last 0 to count None stretches ascends are ends
 
 -- ---- both families
 
-four_first : (wanted : Wanted) (conns : Conns) (block : AddressRanges) (passes : Family → ℕ → PortSpot → Bool) → IsAddressSet block → first_of (broken_in wanted conns block) (map (address_row four_of) (walk (passes family.Four) 0 (2 ^ 32 - 1))) ≡ first_of (broken_at wanted conns passes) (addresses_in block Four (2 ^ 32))
+four_first : (wanted : Wanted) (conns : Conns) (block : AddressRanges) (passes : Family → ℕ → PortSpot → Bool) → IsAddressSet block →
+    first_of (broken_in wanted conns block) (map (address_row four_of) (walk (passes family.Four) 0 (2 ^ 32 - 1))) ≡ first_of (broken_at wanted conns passes) (addresses_in block Four (2 ^ 32))
 four_first wanted conns block passes well =
     first_of-map (broken_in wanted conns block) (address_row four_of) (walk (passes family.Four) 0 (2 ^ 32 - 1))
-    ∙ stretches_upto wanted conns Four block.first (passes family.Four) 0 (2 ^ 32 - 1) (2 ^ 32 - 1 + 1) (2 ^ 32) (walk (passes family.Four) 0 (2 ^ 32 - 1)) well.0 (walk-right (passes family.Four) 0 (2 ^ 32 - 1) (omega arith)) refl
+    ∙ stretches_upto wanted conns Four block.first (passes family.Four) 0 (2 ^ 32 - 1) (2 ^ 32 - 1 + 1) (2 ^ 32) (walk (passes family.Four) 0 (2 ^ 32 - 1)) well.0
+    (walk-right (passes family.Four) 0 (2 ^ 32 - 1) (omega arith)) refl
     ∙ sym (addresses_upto block Four (broken_at wanted conns passes) (2 ^ 32))
 
-six_first : (wanted : Wanted) (conns : Conns) (block : AddressRanges) (passes : Family → ℕ → PortSpot → Bool) → IsAddressSet block → first_of (broken_in wanted conns block) (map (address_row six_of) (walk (passes family.Six) 0 (2 ^ 128 - 1))) ≡ first_of (broken_at wanted conns passes) (addresses_in block Six (2 ^ 128))
+six_first : (wanted : Wanted) (conns : Conns) (block : AddressRanges) (passes : Family → ℕ → PortSpot → Bool) → IsAddressSet block →
+    first_of (broken_in wanted conns block) (map (address_row six_of) (walk (passes family.Six) 0 (2 ^ 128 - 1))) ≡ first_of (broken_at wanted conns passes) (addresses_in block Six (2 ^ 128))
 six_first wanted conns block passes well =
     first_of-map (broken_in wanted conns block) (address_row six_of) (walk (passes family.Six) 0 (2 ^ 128 - 1))
-    ∙ stretches_upto wanted conns Six block.second (passes family.Six) 0 (2 ^ 128 - 1) (2 ^ 128 - 1 + 1) (2 ^ 128) (walk (passes family.Six) 0 (2 ^ 128 - 1)) well.1 (walk-right (passes family.Six) 0 (2 ^ 128 - 1) (omega arith)) refl
+    ∙ stretches_upto wanted conns Six block.second (passes family.Six) 0 (2 ^ 128 - 1) (2 ^ 128 - 1 + 1) (2 ^ 128) (walk (passes family.Six) 0 (2 ^ 128 - 1)) well.1
+    (walk-right (passes family.Six) 0 (2 ^ 128 - 1) (omega arith)) refl
     ∙ sym (addresses_upto block Six (broken_at wanted conns passes) (2 ^ 128))
 
 -- range by range the same is found as address by address
-pub first_broken-rows : (wanted : Wanted) (conns : Conns) (block : AddressRanges) (passes : Family → ℕ → PortSpot → Bool) → IsAddressSet block → first_of (broken_in wanted conns block) (rows_of_addresses passes) ≡ first_broken_of wanted conns block passes
+pub first_broken-rows : (wanted : Wanted) (conns : Conns) (block : AddressRanges) (passes : Family → ℕ → PortSpot → Bool) → IsAddressSet block →
+    first_of (broken_in wanted conns block) (rows_of_addresses passes) ≡ first_broken_of wanted conns block passes
 unfolding first_broken_of
 first_broken-rows wanted conns block passes well =
     first_of-append (broken_in wanted conns block) (map (address_row four_of) (walk (passes family.Four) 0 (2 ^ 32 - 1))) (map (address_row six_of) (walk (passes family.Six) 0 (2 ^ 128 - 1)))

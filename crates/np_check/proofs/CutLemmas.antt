@@ -20,7 +20,10 @@ fits : (mark text before after : List ℕ) → text ≡ before ++ (mark ++ after
 fits mark text before after spelled = omega (arith, ap length spelled ∙ length-append before (mark ++ after))
 
 -- what `split_once` finds
-pub found_first : (mark text : List ℕ) (r : Option (Bor (List ℕ) × Bor (List ℕ))) → MatchOption r (FindsText mark text None) (λ x. (i : ℕ) × (j : ℕ) × FindsText mark text (Some (i, j)) × (x.0.now ≡ take i text) × (x.1.now ≡ drop j text) × (i ≤ j) × (length x.0.now ≡ i) × (length x.1.now + j ≡ length text)) → MatchOption r (Lacks text mark) (λ x. IsBehindFirst mark text x.1.now)
+pub found_first : (mark text : List ℕ) (r : Option (Bor (List ℕ) × Bor (List ℕ))) →
+    MatchOption r (FindsText mark text None) (λ x. (i : ℕ) × (j : ℕ) × FindsText mark text (Some (i, j)) × (x.0.now ≡ take i text) × (x.1.now ≡ drop j text) × (i ≤ j) × (length x.0.now ≡ i) ×
+    (length x.1.now + j ≡ length text)) →
+    MatchOption r (Lacks text mark) (λ x. IsBehindFirst mark text x.1.now)
 found_first mark text None finds = λ before after spelled. finds (length before) (fits mark text before after spelled) after (stands_at mark text before after spelled)
 found_first mark text (Some sides) finds =
     let (i, j, found, before_is, after_is, ordered, long, _) = finds in
@@ -68,7 +71,8 @@ at_start mark tail (c ∷ x) rest behind is lacks same =
     ]
 
 -- and where it stands first somewhere
-pub after_first : (mark tail x rest front behind : List ℕ) → IsMark mark tail → Lacks x mark → length front ≤ length x → x ++ (mark ++ rest) ≡ front ++ (mark ++ behind) → (behind ≡ rest) ⊎ (behind ≡ tail ++ rest)
+pub after_first : (mark tail x rest front behind : List ℕ) → IsMark mark tail → Lacks x mark → length front ≤ length x → x ++ (mark ++ rest) ≡ front ++ (mark ++ behind) →
+    (behind ≡ rest) ⊎ (behind ≡ tail ++ rest)
 after_first mark tail x rest [] behind is lacks first same = at_start mark tail x rest behind is lacks same
 after_first mark tail [] rest (f ∷ front) behind is lacks first same = absurd (omega arith)
 after_first mark tail (c ∷ x) rest (f ∷ front) behind is lacks first same =
@@ -81,7 +85,8 @@ pub first_letter : (c : ℕ) (others more : List ℕ) → c ≢ 119 → c ∷ ot
 first_letter c others more other same = other (same_head c 119 others _ same)
 
 -- it lacks the mark, and stands before it
-pub named_side : (mark tail text named end rest : List ℕ) → IsWithout (codes "workload ") text named → IsBefore mark tail end rest → text ≡ end ++ (mark ++ rest) → (x : List ℕ) × Lacks x mark × (named ≡ x ++ (mark ++ rest))
+pub named_side : (mark tail text named end rest : List ℕ) → IsWithout (codes "workload ") text named → IsBefore mark tail end rest → text ≡ end ++ (mark ++ rest) →
+    (x : List ℕ) × Lacks x mark × (named ≡ x ++ (mark ++ rest))
 named_side mark tail text named end rest without is spelled =
     elim is.side [
       | inl (name, end_is, lacks) ↦
@@ -114,7 +119,8 @@ past_tail tail behind rest found apart without at =
     ]
 
 -- behind the mark of an end stands what is found
-pub behind_is : (mark tail text named behind found end rest : List ℕ) → IsMark mark tail → IsWithout (codes "workload ") text named → IsBehindFirst mark named behind → IsWithout tail behind found → IsBefore mark tail end rest → text ≡ end ++ (mark ++ rest) → found ≡ rest
+pub behind_is : (mark tail text named behind found end rest : List ℕ) → IsMark mark tail → IsWithout (codes "workload ") text named → IsBehindFirst mark named behind → IsWithout tail behind found →
+    IsBefore mark tail end rest → text ≡ end ++ (mark ++ rest) → found ≡ rest
 behind_is mark tail text named behind found end rest marked named_first first found_last before spelled =
     let (x, lacks, side) = named_side mark tail text named end rest named_first before spelled in
     past_tail tail behind rest found before.apart found_last

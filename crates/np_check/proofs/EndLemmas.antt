@@ -1,5 +1,6 @@
 -- What the texts of ends and of connections begin with, and what they lack.
-use Rattle.std.proofs.Common.{◌≡◌, ◌≢◌, ℕ, suc, ◌↔◌, MatchBool, get_or, ◌+◌, ◌<◌, ◌≤◌, ◌==◌, ◌&&◌, not, List, [], ◌∷◌, ◌++◌, Bool, true, false, Some, All, length, codes, refl, sym, ap, subst, ◌∙◌, inl, inr, append_assoc, arith, if◌then◌else◌, lit≤}
+use Rattle.std.proofs.Common.{◌≡◌, ◌≢◌, ℕ, suc, ◌↔◌, MatchBool, get_or, ◌+◌, ◌<◌, ◌≤◌, ◌==◌, ◌&&◌, not, List, [], ◌∷◌, ◌++◌, Bool, true, false, Some, All, length, codes, refl, sym, ap, subst, ◌∙◌}
+use Rattle.std.proofs.Common.{inl, inr, append_assoc, arith, if◌then◌else◌, lit≤}
 use Rattle.std.specs.Char.{digit_value}
 use Rattle.std.specs.List.{flat_map, join_by}
 use Rattle.std.specs.Str.Iter.{HasSubslice}
@@ -104,7 +105,8 @@ groups_foreign byte dotted text [] foreign are = absurd are
 groups_foreign byte dotted text (group ∷ groups) foreign (inl (is, last)) = IsOther-from_digits 16 byte text foreign.digit is.numeral.1
 groups_foreign byte dotted text (group ∷ groups) foreign (inr (inl (first, rest, spelled, is, more))) =
     rw (spelled ∙ append_assoc first (codes ":") rest)
-    (All-append (IsOther byte) first (58 ∷ rest) (IsOther-from_digits 16 byte first foreign.digit is.numeral.1) (All-cons (IsOther byte) 58 rest foreign.colon (groups_foreign byte dotted rest groups foreign more)))
+    (All-append (IsOther byte) first (58 ∷ rest) (IsOther-from_digits 16 byte first foreign.digit is.numeral.1)
+    (All-cons (IsOther byte) 58 rest foreign.colon (groups_foreign byte dotted rest groups foreign more)))
 groups_foreign byte dotted text (group ∷ groups) foreign (inr (inr (n, allowed, is, value))) = dotted_foreign byte text n foreign is
 
 side_foreign : (byte : ℕ) (dotted : Bool) (text groups : List ℕ) → IsForeign byte → IsGroupSide dotted text groups → All (IsOther byte) text
@@ -196,7 +198,8 @@ work_arrow text form is name same = let of = subst (λ (f : EndForm). IsEndText 
 work_colon : (text : List ℕ) (form : EndForm) → IsEndText text form → (name : List ℕ) → form ≡ Work name → Lacks name (codes " : ")
 work_colon text form is name same = let of = subst (λ (f : EndForm). IsEndText text f) same is in of.1.no_colon
 
-pub before_arrow : (source destination behind : List ℕ) (form other : EndForm) → IsEndText source form → IsEndText destination other → IsBefore (codes " => ") (codes "=> ") source (destination ++ behind)
+pub before_arrow : (source destination behind : List ℕ) (form other : EndForm) → IsEndText source form → IsEndText destination other →
+    IsBefore (codes " => ") (codes "=> ") source (destination ++ behind)
 before_arrow source destination behind form other of_source of_destination = record {
   side = end_side (codes " => ") (codes "=> ") source form arrow_mark (work_arrow source form of_source) of_source;
   apart = end_apart destination behind other of_destination;
@@ -233,7 +236,8 @@ conns_apart text passes is more same =
     first : (a b : ℕ) (xs ys : List ℕ) → a ∷ xs ≡ b ∷ ys → a ≡ b
     first a b xs ys same = cc
 
-pub before_colon : (destination conns : List ℕ) (form : EndForm) (passes : PortSpot → Bool) → IsEndText destination form → conns ≡ conns_text passes → IsBefore (codes " : ") (codes ": ") destination conns
+pub before_colon : (destination conns : List ℕ) (form : EndForm) (passes : PortSpot → Bool) → IsEndText destination form → conns ≡ conns_text passes →
+    IsBefore (codes " : ") (codes ": ") destination conns
 before_colon destination conns form passes of_destination of_conns = record {
   side = end_side (codes " : ") (codes ": ") destination form colon_mark (work_colon destination form of_destination) of_destination;
   apart = conns_apart conns passes of_conns;

@@ -1,5 +1,6 @@
 -- Nothing is found exactly where the statement holds.
-use Rattle.std.proofs.Common.{◌≡◌, ◌≢◌, ℕ, zero, suc, ◌+◌, ◌<◌, ◌≤◌, ◌==◌, ◌&&◌, nat_le, List, [], ◌∷◌, Bool, true, false, Option, Some, None, All, length, map, slice_index, refl, sym, ap, ◌∙◌, inl, inr, arith, if◌then◌else◌}
+use Rattle.std.proofs.Common.{◌≡◌, ◌≢◌, ℕ, zero, suc, ◌+◌, ◌<◌, ◌≤◌, ◌==◌, ◌&&◌, nat_le, List, [], ◌∷◌, Bool, true, false, Option, Some, None, All, length, map, slice_index, refl, sym, ap, ◌∙◌, inl}
+use Rattle.std.proofs.Common.{inr, arith, if◌then◌else◌}
 use Rattle.std.specs.Prelude.{filter}
 use Rattle.std.specs.List.{range_with_len, slice_get}
 use Rattle.std.specs.Option.{option_map, option_map_or, option_or}
@@ -37,7 +38,9 @@ use Rattle.np_table.specs.Table.{IsWorkload, address_allows, destination_pod, is
 
 -- ---- from a workload
 
-from_parts : (lists : EstateLists) (wanted : Wanted) (conns : Conns) (ends : Ends) (source : ℕ) → counter_from lists wanted conns ends (Work source) ≡ option_or (first_of (λ (work : ℕ). counter_between lists wanted conns (Work source) (Work work)) ends.works) (first_of (λ (address : Address). counter_between lists wanted conns (Work source) (At address)) (addresses_of ends.block))
+from_parts : (lists : EstateLists) (wanted : Wanted) (conns : Conns) (ends : Ends) (source : ℕ) →
+    counter_from lists wanted conns ends (Work source) ≡ option_or (first_of (λ (work : ℕ). counter_between lists wanted conns (Work source) (Work work)) ends.works)
+    (first_of (λ (address : Address). counter_between lists wanted conns (Work source) (At address)) (addresses_of ends.block))
 unfolding counter_from
 from_parts lists wanted conns ends source =
     let gives = counter_between lists wanted conns (Work source) in
@@ -47,20 +50,27 @@ from_parts lists wanted conns ends source =
 
 -- ---- between two ends
 
-none_in : (lists : EstateLists) (wanted : Wanted) (conns : Conns) (source destination : PlaceEnd) (family : Family) (passes : PortSpot → Bool) (spot : PortSpot) → option_map (counter_at source destination family) (first_spot (breaks wanted conns passes)) ≡ None → is_spot spot ≡ true → has_spot conns spot ≡ true → complies wanted (passes spot) ≡ true
+none_in : (lists : EstateLists) (wanted : Wanted) (conns : Conns) (source destination : PlaceEnd) (family : Family) (passes : PortSpot → Bool) (spot : PortSpot) →
+    option_map (counter_at source destination family) (first_spot (breaks wanted conns passes)) ≡ None → is_spot spot ≡ true → has_spot conns spot ≡ true → complies wanted (passes spot) ≡ true
 none_in lists wanted conns source destination family passes spot none is has =
     not_broken wanted conns passes spot (no_spot (breaks wanted conns passes) spot (none_map (counter_at source destination family) (first_spot (breaks wanted conns passes)) none) is) has
 
-all_in : (wanted : Wanted) (conns : Conns) (source destination : PlaceEnd) (family : Family) (passes : PortSpot → Bool) → ((spot : PortSpot) → is_spot spot ≡ true → has_spot conns spot ≡ true → complies wanted (passes spot) ≡ true) → option_map (counter_at source destination family) (first_spot (breaks wanted conns passes)) ≡ None
+all_in : (wanted : Wanted) (conns : Conns) (source destination : PlaceEnd) (family : Family) (passes : PortSpot → Bool) →
+    ((spot : PortSpot) → is_spot spot ≡ true → has_spot conns spot ≡ true → complies wanted (passes spot) ≡ true) →
+    option_map (counter_at source destination family) (first_spot (breaks wanted conns passes)) ≡ None
 all_in wanted conns source destination family passes does =
     ap (option_map (counter_at source destination family)) (no_spots (breaks wanted conns passes) (λ spot is. is_whole wanted conns passes spot (does spot is)))
 
 -- of an address
-to_address : (lists : EstateLists) (wanted : Wanted) (conns : Conns) (a : ℕ) (address : Address) → counter_between lists wanted conns (Work a) (At address) ≡ option_map (counter_at (Work a) (At address) (family_of address)) (first_spot (breaks wanted conns (address_allows lists (folding_of lists) a Egress (family_of address) (number_of_address address))))
+to_address : (lists : EstateLists) (wanted : Wanted) (conns : Conns) (a : ℕ) (address : Address) →
+    counter_between lists wanted conns (Work a) (At address) ≡ option_map (counter_at (Work a) (At address) (family_of address))
+    (first_spot (breaks wanted conns (address_allows lists (folding_of lists) a Egress (family_of address) (number_of_address address))))
 unfolding counter_between
 to_address lists wanted conns a address = first_of-one (counter_in lists wanted conns (Work a) (At address)) (family_of address)
 
-from_address : (lists : EstateLists) (wanted : Wanted) (conns : Conns) (b : ℕ) (address : Address) → counter_between lists wanted conns (At address) (Work b) ≡ option_map (counter_at (At address) (Work b) (family_of address)) (first_spot (breaks wanted conns (address_allows lists (folding_of lists) b Ingress (family_of address) (number_of_address address))))
+from_address : (lists : EstateLists) (wanted : Wanted) (conns : Conns) (b : ℕ) (address : Address) →
+    counter_between lists wanted conns (At address) (Work b) ≡ option_map (counter_at (At address) (Work b) (family_of address))
+    (first_spot (breaks wanted conns (address_allows lists (folding_of lists) b Ingress (family_of address) (number_of_address address))))
 unfolding counter_between
 from_address lists wanted conns b address = first_of-one (counter_in lists wanted conns (At address) (Work b)) (family_of address)
 
@@ -68,8 +78,10 @@ from_address lists wanted conns b address = first_of-one (counter_in lists wante
 
 record AreNone (lists : EstateLists) (question : Question) : Type 0 where
   works : (a b : ℕ) → is_among question.source.works a ≡ true → is_among question.destination.works b ≡ true → counter_between lists question.wanted question.conns (Work a) (Work b) ≡ None
-  egress : (a : ℕ) (address : Address) → is_among question.source.works a ≡ true → HasAddress question.destination address → counter_between lists question.wanted question.conns (Work a) (At address) ≡ None
-  ingress : (address : Address) (b : ℕ) → HasAddress question.source address → is_among question.destination.works b ≡ true → counter_between lists question.wanted question.conns (At address) (Work b) ≡ None
+  egress : (a : ℕ) (address : Address) → is_among question.source.works a ≡ true → HasAddress question.destination address →
+      counter_between lists question.wanted question.conns (Work a) (At address) ≡ None
+  ingress : (address : Address) (b : ℕ) → HasAddress question.source address → is_among question.destination.works b ≡ true →
+      counter_between lists question.wanted question.conns (At address) (Work b) ≡ None
 
 are_none : (lists : EstateLists) (question : Question) → counter_of lists question ≡ None → AreNone lists question
 are_none lists question none =
@@ -77,7 +89,8 @@ are_none lists question none =
     let all = none_both _ _ (sym (of-question lists question) ∙ none) in
     let from = λ (a : ℕ) (among : is_among question.source.works a ≡ true).
     none_both (first_of (λ (work : ℕ). gives (Work a) (Work work)) question.destination.works) (first_of (λ (address : Address). gives (Work a) (At address)) (addresses_of question.destination.block))
-    (sym (from_parts lists question.wanted question.conns question.destination a) ∙ none_among (λ (source : ℕ). counter_from lists question.wanted question.conns question.destination (Work source)) question.source.works a all.0 among) in
+    (sym (from_parts lists question.wanted question.conns question.destination a) ∙ none_among
+    (λ (source : ℕ). counter_from lists question.wanted question.conns question.destination (Work source)) question.source.works a all.0 among) in
     record {
       works = λ a b in_source in_destination. none_among (λ (work : ℕ). gives (Work a) (Work work)) question.destination.works b (from a in_source).0 in_destination;
       egress = λ a address in_source has. no_address question.destination.block (λ (other : Address). gives (Work a) (At other)) address (from a in_source).1 has.0 has.1;
@@ -152,7 +165,8 @@ members_ascend lists number =
     ∙ members_filtered lists (slice_get (named_first_pods lists) number) 0
 
 -- the pods that stand for two workloads differ, unless a workload of one pod meets itself
-stand_apart : (lists : EstateLists) (a b : ℕ) → IsWorkload lists a → IsWorkload lists b → is_alone (folding_of lists) a b ≡ false → source_pod (folding_of lists) a ≢ destination_pod (folding_of lists) a b
+stand_apart : (lists : EstateLists) (a b : ℕ) → IsWorkload lists a → IsWorkload lists b → is_alone (folding_of lists) a b ≡ false →
+    source_pod (folding_of lists) a ≢ destination_pod (folding_of lists) a b
 stand_apart lists a b a_in b_in apart same =
     let folding = folding_of lists in
     let some = members-some lists folding a refl a_in in
@@ -166,20 +180,23 @@ stand_apart lists a b a_in b_in apart same =
           let eq : (a == b) ≡ true = eq-eqb a b one in
           let single : (length (members_of folding a) == 1) ≡ false = sym (ap (λ (first : Bool). first && length (members_of folding a) == 1) eq) ∙ apart in
           let many : 1 < length (members_of folding a) = more_than_one (length (members_of folding a)) some single in
-          let second : destination_pod folding a b ≡ slice_index (members_of folding a) 1 = ap (λ (first : Bool). slice_index (members_of folding b) (if first then 1 else 0)) eq ∙ ap (λ (n : ℕ). slice_index (members_of folding n) 1) (sym one) in
+          let second : destination_pod folding a b ≡ slice_index (members_of folding a) 1 = ap (λ (first : Bool). slice_index (members_of folding b) (if first then 1 else 0)) eq ∙ ap
+          (λ (n : ℕ). slice_index (members_of folding n) 1) (sym one) in
           first_second (members_of folding a) 0 (members_ascend lists a) many (same ∙ second)
     ]
 
 -- ---- where the statement holds nothing is found
 
-pub found_none : (lists : EstateLists) (question : Question) → IsLawful lists → All (IsWorkload lists) question.source.works → All (IsWorkload lists) question.destination.works → Holds lists question → counter_of lists question ≡ None
+pub found_none : (lists : EstateLists) (question : Question) → IsLawful lists → All (IsWorkload lists) question.source.works → All (IsWorkload lists) question.destination.works →
+    Holds lists question → counter_of lists question ≡ None
 found_none lists question lawful sources destinations is =
     let folding = folding_of lists in
     let gives = counter_between lists question.wanted question.conns in
     let near = λ (a : ℕ) (a_in : IsWorkload lists a). source-member folding a (members-some lists folding a refl a_in) in
     let near_in = λ (a : ℕ) (a_in : IsWorkload lists a). members-within lists folding a (source_pod folding a) refl a_in (near a a_in) in
     let near_of = λ (a : ℕ) (a_in : IsWorkload lists a). member-number lists a (source_pod folding a) (near_in a a_in) (near a a_in) in
-    let works : (a b : ℕ) → IsWorkload lists a → IsWorkload lists b → is_among question.source.works a ≡ true → is_among question.destination.works b ≡ true → gives (Work a) (Work b) ≡ None = λ a b a_in b_in in_source in_destination.
+    let works : (a b : ℕ) → IsWorkload lists a → IsWorkload lists b → is_among question.source.works a ≡ true → is_among question.destination.works b ≡ true → gives (Work a) (Work b) ≡ None =
+    λ a b a_in b_in in_source in_destination.
     elim (cases_Bool (is_alone folding a b)) [
       | inl alone ↦ sym (between-alone lists question.wanted question.conns a b alone)
       | inr apart ↦
@@ -190,15 +207,18 @@ found_none lists question lawful sources destinations is =
           ∙ none_all (counter_in lists question.wanted question.conns (Work a) (Work b)) (families_of lists.pods) (λ family listed.
           all_in question.wanted question.conns (Work a) (Work b) family (pair_allows lists folding a b family) (λ spot is_one has.
           ap (complies question.wanted) (pair_allows-between lists folding a b family spot apart)
-          ∙ is.pods (source_pod folding a) (destination_pod folding a b) family spot (near_in a a_in, ap (is_among question.source.works) (near_of a a_in) ∙ in_source) (far_in, ap (is_among question.destination.works) far_of ∙ in_destination) (stand_apart lists a b a_in b_in apart) listed (is_one, has)))
+          ∙ is.pods (source_pod folding a) (destination_pod folding a b) family spot (near_in a a_in, ap (is_among question.source.works) (near_of a a_in) ∙ in_source)
+          (far_in, ap (is_among question.destination.works) far_of ∙ in_destination) (stand_apart lists a b a_in b_in apart) listed (is_one, has)))
     ] in
-    let egress : (a : ℕ) (address : Address) → IsWorkload lists a → is_among question.source.works a ≡ true → HasAddress question.destination address → gives (Work a) (At address) ≡ None = λ a address a_in in_source has.
+    let egress : (a : ℕ) (address : Address) → IsWorkload lists a → is_among question.source.works a ≡ true → HasAddress question.destination address → gives (Work a) (At address) ≡ None =
+    λ a address a_in in_source has.
     to_address lists question.wanted question.conns a address
     ∙ all_in question.wanted question.conns (Work a) (At address) (family_of address) (address_allows lists folding a Egress (family_of address) (number_of_address address)) (λ spot is_one has_it.
     ap (λ (n : ℕ). complies question.wanted (address_allows lists folding n Egress (family_of address) (number_of_address address) spot)) (sym (near_of a a_in))
     ∙ ap (complies question.wanted) (sym (with_address-address_allows lists (source_pod folding a) Egress (family_of address) (number_of_address address) spot lawful (near_in a a_in)))
     ∙ is.to_addresses (source_pod folding a) address spot (near_in a a_in, ap (is_among question.source.works) (near_of a a_in) ∙ in_source) has (is_one, has_it)) in
-    let ingress : (address : Address) (b : ℕ) → IsWorkload lists b → HasAddress question.source address → is_among question.destination.works b ≡ true → gives (At address) (Work b) ≡ None = λ address b b_in has in_destination.
+    let ingress : (address : Address) (b : ℕ) → IsWorkload lists b → HasAddress question.source address → is_among question.destination.works b ≡ true → gives (At address) (Work b) ≡ None =
+    λ address b b_in has in_destination.
     from_address lists question.wanted question.conns b address
     ∙ all_in question.wanted question.conns (At address) (Work b) (family_of address) (address_allows lists folding b Ingress (family_of address) (number_of_address address)) (λ spot is_one has_it.
     ap (λ (n : ℕ). complies question.wanted (address_allows lists folding n Ingress (family_of address) (number_of_address address) spot)) (sym (near_of b b_in))
@@ -209,7 +229,11 @@ found_none lists question lawful sources destinations is =
     (none_all_among (λ (source : ℕ). counter_from lists question.wanted question.conns question.destination (Work source)) question.source.works (λ a in_source.
     from_parts lists question.wanted question.conns question.destination a
     ∙ both_none _ _
-    (none_all_among (λ (work : ℕ). gives (Work a) (Work work)) question.destination.works (λ b in_destination. works a b (among_all (IsWorkload lists) question.source.works a sources in_source) (among_all (IsWorkload lists) question.destination.works b destinations in_destination) in_source in_destination))
-    (no_addresses question.destination.block (λ (address : Address). gives (Work a) (At address)) (λ address is_one has. egress a address (among_all (IsWorkload lists) question.source.works a sources in_source) in_source (is_one, has)))))
+    (none_all_among (λ (work : ℕ). gives (Work a) (Work work)) question.destination.works
+    (λ b in_destination. works a b (among_all (IsWorkload lists) question.source.works a sources in_source)
+    (among_all (IsWorkload lists) question.destination.works b destinations in_destination) in_source in_destination))
+    (no_addresses question.destination.block (λ (address : Address). gives (Work a) (At address))
+    (λ address is_one has. egress a address (among_all (IsWorkload lists) question.source.works a sources in_source) in_source (is_one, has)))))
     (no_addresses question.source.block (λ (address : Address). first_of (λ (work : ℕ). gives (At address) (Work work)) question.destination.works) (λ address is_one has.
-    none_all_among (λ (work : ℕ). gives (At address) (Work work)) question.destination.works (λ b in_destination. ingress address b (among_all (IsWorkload lists) question.destination.works b destinations in_destination) (is_one, has) in_destination)))
+    none_all_among (λ (work : ℕ). gives (At address) (Work work)) question.destination.works
+    (λ b in_destination. ingress address b (among_all (IsWorkload lists) question.destination.works b destinations in_destination) (is_one, has) in_destination)))

@@ -4,7 +4,8 @@ use Rattle.std.proofs.lemmas.Bool.{and_from, and_parts, cases_Bool, cases_lt, le
 use Rattle.np_addr.specs.declared.address.Family.{Family}
 use Rattle.np_check.proofs.FirstLemmas.{IsFound, found-is}
 use Rattle.np_check.proofs.NoneLemmas.{no_port, no_spot, none_at, none_map}
-use Rattle.np_check.proofs.OrderLemmas.{IsIn, between_sorted, contains_in, found_of, in_contains, in_places, none_of_in, places_are, places_sorted, proto_in, protos_sorted, strict_ends, strict_families, strict_protos}
+use Rattle.np_check.proofs.OrderLemmas.{IsIn, between_sorted, contains_in, found_of, in_contains, in_places, none_of_in, places_are, places_sorted, proto_in, protos_sorted, strict_ends}
+use Rattle.np_check.proofs.OrderLemmas.{strict_families, strict_protos}
 use Rattle.np_check.specs.Counters.{allows_between, breaks, counter_at, counter_between, counter_from, counter_in, counter_of, families_between, places_of}
 use Rattle.np_check.specs.FirstPacket.{IsBroken, IsFirstBroken}
 use Rattle.np_check.specs.Firsts.{first_of_ports, first_of_proto, first_spot}
@@ -27,25 +28,32 @@ at_odds b yes_it no_it = true≢false (sym yes_it ∙ no_it)
 spot_none : (passes : PortSpot → Bool) (spot : PortSpot) → first_spot passes ≡ None → is_spot spot ≡ true → passes spot ≡ true → ⊥
 spot_none passes spot none is does = at_odds (passes spot) does (no_spot passes spot none is)
 
-in_none : (lists : EstateLists) (question : Question) (packet : Counterexample) → IsBroken lists question packet → counter_in lists question.wanted question.conns packet.source packet.destination packet.family ≡ None → ⊥
+in_none : (lists : EstateLists) (question : Question) (packet : Counterexample) → IsBroken lists question packet →
+    counter_in lists question.wanted question.conns packet.source packet.destination packet.family ≡ None → ⊥
 in_none lists question packet is none =
     spot_none (breaks question.wanted question.conns (allows_between lists packet.source packet.destination packet.family)) packet.spot
-    (none_map (counter_at packet.source packet.destination packet.family) (first_spot (breaks question.wanted question.conns (allows_between lists packet.source packet.destination packet.family))) none) is.spot is.broken
+    (none_map (counter_at packet.source packet.destination packet.family)
+    (first_spot (breaks question.wanted question.conns (allows_between lists packet.source packet.destination packet.family))) none) is.spot is.broken
 
-between_none : (lists : EstateLists) (question : Question) (packet : Counterexample) → IsBroken lists question packet → counter_between lists question.wanted question.conns packet.source packet.destination ≡ None → ⊥
+between_none : (lists : EstateLists) (question : Question) (packet : Counterexample) → IsBroken lists question packet →
+    counter_between lists question.wanted question.conns packet.source packet.destination ≡ None → ⊥
 unfolding counter_between
 between_none lists question packet is none =
-    in_none lists question packet is (none_at (counter_in lists question.wanted question.conns packet.source packet.destination) (families_between lists packet.source packet.destination) packet.family none is.listed)
+    in_none lists question packet is (none_at (counter_in lists question.wanted question.conns packet.source packet.destination)
+    (families_between lists packet.source packet.destination) packet.family none is.listed)
 
-from_none : (lists : EstateLists) (question : Question) (packet : Counterexample) → IsBroken lists question packet → counter_from lists question.wanted question.conns question.destination packet.source ≡ None → ⊥
+from_none : (lists : EstateLists) (question : Question) (packet : Counterexample) → IsBroken lists question packet →
+    counter_from lists question.wanted question.conns question.destination packet.source ≡ None → ⊥
 unfolding counter_from
 from_none lists question packet is none =
-    between_none lists question packet is (none_of_in (counter_between lists question.wanted question.conns packet.source) (places_of question.destination) packet.destination none (in_places question.destination packet.destination is.to))
+    between_none lists question packet is (none_of_in (counter_between lists question.wanted question.conns packet.source) (places_of question.destination) packet.destination none
+    (in_places question.destination packet.destination is.to))
 
 pub nothing_broken : (lists : EstateLists) (question : Question) (packet : Counterexample) → counter_of lists question ≡ None → IsBroken lists question packet → ⊥
 unfolding counter_of
 nothing_broken lists question packet none is =
-    from_none lists question packet is (none_of_in (counter_from lists question.wanted question.conns question.destination) (places_of question.source) packet.source none (in_places question.source packet.source is.from))
+    from_none lists question packet is (none_of_in (counter_from lists question.wanted question.conns question.destination) (places_of question.source) packet.source none
+    (in_places question.source packet.source is.from))
 
 -- ---- the first protocol and port
 
@@ -103,14 +111,17 @@ spot_first passes spot found =
 not_before : {X : Type 0} (before : X → X → Bool) (one first : X) → (before one first ≡ true → ⊥) → before one first ≡ false
 not_before before one first never = elim (cases_Bool (before one first)) [ inl earlier ↦ absurd (never earlier) | inr later ↦ later ]
 
-moved : (lists : EstateLists) (question : Question) (other : Counterexample) (source destination : PlaceEnd) (family : Family) → other.source ≡ source → other.destination ≡ destination → other.family ≡ family → breaks question.wanted question.conns (allows_between lists other.source other.destination other.family) other.spot ≡ true → breaks question.wanted question.conns (allows_between lists source destination family) other.spot ≡ true
+moved : (lists : EstateLists) (question : Question) (other : Counterexample) (source destination : PlaceEnd) (family : Family) → other.source ≡ source → other.destination ≡ destination →
+    other.family ≡ family → breaks question.wanted question.conns (allows_between lists other.source other.destination other.family) other.spot ≡ true →
+    breaks question.wanted question.conns (allows_between lists source destination family) other.spot ≡ true
 moved lists question other source destination family same same' same'' does =
     sym (ap (λ (end : PlaceEnd). breaks question.wanted question.conns (allows_between lists end other.destination other.family) other.spot) same
     ∙ ap (λ (end : PlaceEnd). breaks question.wanted question.conns (allows_between lists source end other.family) other.spot) same'
     ∙ ap (λ (one : Family). breaks question.wanted question.conns (allows_between lists source destination one) other.spot) same'')
     ∙ does
 
-pub first_broken : (lists : EstateLists) (question : Question) (first : Counterexample) → is_ascending question.source.works ≡ true → is_ascending question.destination.works ≡ true → counter_of lists question ≡ Some first → IsFirstBroken lists question first
+pub first_broken : (lists : EstateLists) (question : Question) (first : Counterexample) → is_ascending question.source.works ≡ true → is_ascending question.destination.works ≡ true →
+    counter_of lists question ≡ Some first → IsFirstBroken lists question first
 unfolding counter_of counter_from counter_between
 first_broken lists question first sources destinations found =
     let wanted = question.wanted in
@@ -132,14 +143,18 @@ first_broken lists question first sources destinations found =
     } in
     subst (IsFirstBroken lists question) (sym is) (record {
       own = own;
-      by_source = λ other broken. not_before comes_before other.source s.item (λ earlier. from_none lists question other broken (s.none other.source (in_places question.source other.source broken.from) earlier));
+      by_source = λ other broken. not_before comes_before other.source s.item
+          (λ earlier. from_none lists question other broken (s.none other.source (in_places question.source other.source broken.from) earlier));
       by_destination = λ other broken same. not_before comes_before other.destination d.item (λ earlier.
-          between_none lists question other broken (ap (λ (end : PlaceEnd). counter_between lists wanted conns end other.destination) same ∙ d.none other.destination (in_places question.destination other.destination broken.to) earlier));
+          between_none lists question other broken (ap (λ (end : PlaceEnd). counter_between lists wanted conns end other.destination) same ∙ d.none other.destination
+          (in_places question.destination other.destination broken.to) earlier));
       by_family = λ other broken same same'. not_before family_before other.family f.item (λ earlier.
           let there = in_contains (families_between lists other.source other.destination) other.family broken.listed in
-          let listed = subst (λ (end : PlaceEnd). IsIn other.family (families_between lists s.item end)) same' (subst (λ (end : PlaceEnd). IsIn other.family (families_between lists end other.destination)) same there) in
+          let listed = subst (λ (end : PlaceEnd). IsIn other.family (families_between lists s.item end)) same'
+          (subst (λ (end : PlaceEnd). IsIn other.family (families_between lists end other.destination)) same there) in
           in_none lists question other broken
-          (ap (λ (end : PlaceEnd). counter_in lists wanted conns end other.destination other.family) same ∙ ap (λ (end : PlaceEnd). counter_in lists wanted conns s.item end other.family) same' ∙ f.none other.family listed earlier));
+          (ap (λ (end : PlaceEnd). counter_in lists wanted conns end other.destination other.family) same ∙ ap (λ (end : PlaceEnd). counter_in lists wanted conns s.item end other.family) same'
+          ∙ f.none other.family listed earlier));
       by_proto = λ other broken same same' same''. p.by_proto other.spot broken.spot (moved lists question other s.item d.item f.item same same' same'' broken.broken);
       by_port = λ other broken same same' same'' proto. p.by_port other.spot broken.spot (moved lists question other s.item d.item f.item same same' same'' broken.broken) proto;
     })

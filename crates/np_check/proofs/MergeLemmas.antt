@@ -94,7 +94,8 @@ IsFrom gives = (address : Address) (counter : Counterexample) → gives address 
 none_some : (counter : Counterexample) → None ≡ Some counter → ⊥
 none_some counter same = cc
 
-from_behind : (gives : Address → Option Counterexample) (x : Address) (xs : List Address) (counter : Counterexample) → IsFrom gives → AllByRecursion (IsBefore x) xs → first_of gives xs ≡ Some counter → (y : Address) × IsBefore x y × (counter.source ≡ At y)
+from_behind : (gives : Address → Option Counterexample) (x : Address) (xs : List Address) (counter : Counterexample) → IsFrom gives → AllByRecursion (IsBefore x) xs →
+    first_of gives xs ≡ Some counter → (y : Address) × IsBefore x y × (counter.source ≡ At y)
 from_behind gives x [] counter from all found = absurd (none_some counter found)
 from_behind gives x (y ∷ ys) counter from all found =
     elim (from_either (gives y) (first_of gives ys) counter found) [
@@ -103,21 +104,26 @@ from_behind gives x (y ∷ ys) counter from all found =
     ]
 
 -- the one that is kept is from x, and the other one from no earlier address
-keep_first : (x : Address) (counter : Counterexample) (other : Option Counterexample) → counter.source ≡ At x → ((found : Counterexample) → other ≡ Some found → comes_before found.source (At x) ≡ false) → earlier (Some counter) other ≡ Some counter
+keep_first : (x : Address) (counter : Counterexample) (other : Option Counterexample) → counter.source ≡ At x →
+    ((found : Counterexample) → other ≡ Some found → comes_before found.source (At x) ≡ false) → earlier (Some counter) other ≡ Some counter
 keep_first x counter None source later = refl
 keep_first x counter (Some found) source later =
     let no : comes_before found.source counter.source ≡ false = ap (λ (end : PlaceEnd). comes_before found.source end) source ∙ later found refl in
     rw no refl
 
-take_second : (x : Address) (counter : Counterexample) (first : Option Counterexample) → counter.source ≡ At x → ((kept : Counterexample) → first ≡ Some kept → comes_before (At x) kept.source ≡ true) → earlier first (Some counter) ≡ Some counter
+take_second : (x : Address) (counter : Counterexample) (first : Option Counterexample) → counter.source ≡ At x →
+    ((kept : Counterexample) → first ≡ Some kept → comes_before (At x) kept.source ≡ true) → earlier first (Some counter) ≡ Some counter
 take_second x counter None source later = refl
 take_second x counter (Some kept) source later =
     let does : comes_before counter.source kept.source ≡ true = ap (λ (end : PlaceEnd). comes_before end kept.source) source ∙ later kept refl in
     rw does refl
 
-merge_here : (gives gives' : Address → Option Counterexample) (x : Address) (xs : List Address) (one other : Option Counterexample) → IsFrom gives → IsFrom gives' → AllByRecursion (IsBefore x) xs → gives x ≡ one → gives' x ≡ other → first_of (λ a. option_or (gives a) (gives' a)) xs ≡ earlier (first_of gives xs) (first_of gives' xs) → option_or (option_or one other) (first_of (λ a. option_or (gives a) (gives' a)) xs) ≡ earlier (option_or one (first_of gives xs)) (option_or other (first_of gives' xs))
+merge_here : (gives gives' : Address → Option Counterexample) (x : Address) (xs : List Address) (one other : Option Counterexample) → IsFrom gives → IsFrom gives' → AllByRecursion (IsBefore x) xs →
+    gives x ≡ one → gives' x ≡ other → first_of (λ a. option_or (gives a) (gives' a)) xs ≡ earlier (first_of gives xs) (first_of gives' xs) →
+    option_or (option_or one other) (first_of (λ a. option_or (gives a) (gives' a)) xs) ≡ earlier (option_or one (first_of gives xs)) (option_or other (first_of gives' xs))
 merge_here gives gives' x xs (Some counter) (Some found) from from' all is is' rest =
-    sym (keep_first x counter (Some found) (from x counter is) (λ other same. ap (λ (c : Counterexample). comes_before c.source (At x)) (sym (same_Some found other same)) ∙ ap (λ (end : PlaceEnd). comes_before end (At x)) (from' x found is') ∙ not_itself x))
+    sym (keep_first x counter (Some found) (from x counter is) (λ other same. ap (λ (c : Counterexample). comes_before c.source (At x)) (sym (same_Some found other same)) ∙ ap
+    (λ (end : PlaceEnd). comes_before end (At x)) (from' x found is') ∙ not_itself x))
 merge_here gives gives' x xs (Some counter) None from from' all is is' rest =
     sym (keep_first x counter (first_of gives' xs) (from x counter is) (λ found later.
     let (y, before, source) = from_behind gives' x xs found from' all later in
@@ -129,7 +135,8 @@ merge_here gives gives' x xs None (Some counter) from from' all is is' rest =
 merge_here gives gives' x xs None None from from' all is is' rest = rest
 
 -- the first by one or the other is the earlier of the first by the one and the first by the other
-pub merge : (gives gives' : Address → Option Counterexample) (xs : List Address) → IsFrom gives → IsFrom gives' → Ascends xs → first_of (λ a. option_or (gives a) (gives' a)) xs ≡ earlier (first_of gives xs) (first_of gives' xs)
+pub merge : (gives gives' : Address → Option Counterexample) (xs : List Address) → IsFrom gives → IsFrom gives' → Ascends xs →
+    first_of (λ a. option_or (gives a) (gives' a)) xs ≡ earlier (first_of gives xs) (first_of gives' xs)
 unfolding Ascends
 merge gives gives' [] from from' ascends = refl
 merge gives gives' (x ∷ xs) from from' ascends =

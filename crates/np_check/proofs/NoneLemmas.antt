@@ -1,5 +1,6 @@
 -- Where nothing is found, nothing is to be found.
-use Rattle.std.proofs.Common.{◌≡◌, ℕ, suc, ◌+◌, ◌^◌, ◌<◌, ◌≤◌, ◌==◌, ◌||◌, ◌&&◌, not, nat_le, List, [], ◌∷◌, Bool, true, false, Option, Some, None, All, Contains, option_map, refl, sym, ap, subst, ◌∙◌, inl, inr, arith, if◌then◌else◌}
+use Rattle.std.proofs.Common.{◌≡◌, ℕ, suc, ◌+◌, ◌^◌, ◌<◌, ◌≤◌, ◌==◌, ◌||◌, ◌&&◌, not, nat_le, List, [], ◌∷◌, Bool, true, false, Option, Some, None, All, Contains, option_map, refl, sym, ap, subst}
+use Rattle.std.proofs.Common.{◌∙◌, inl, inr, arith, if◌then◌else◌}
 use Rattle.std.specs.Option.{option_or}
 use Rattle.std.proofs.lemmas.Bool.{and_from, and_parts, cases_Bool, eq-eqb, eqb-true, le-leb, leb-true, or_left, true≢false}
 use Rattle.std.proofs.lemmas.List.Elements.{All-contains, All-head, All-tail}
@@ -67,12 +68,14 @@ pub none_map : {X Y : Type 0} (to : X → Y) (found : Option X) → option_map t
 none_map to None none = refl
 none_map to (Some x) none = cc
 
-pub no_port : (passes : PortSpot → Bool) (proto : Proto) (first count port : ℕ) → first_of_ports passes proto first count ≡ None → first ≤ port → port < first + count → passes (record { proto = proto; port = port }) ≡ false
+pub no_port : (passes : PortSpot → Bool) (proto : Proto) (first count port : ℕ) → first_of_ports passes proto first count ≡ None → first ≤ port → port < first + count →
+    passes (record { proto = proto; port = port }) ≡ false
 unfolding first_of_ports
 no_port passes proto first count port none above below =
     none-found (λ n. passes (record { proto = proto; port = n })) first count (none_map (λ n. record { proto = proto; port = n }) _ none) port above below
 
-no_ports : (passes : PortSpot → Bool) (proto : Proto) (first count : ℕ) → ((port : ℕ) → first ≤ port → port < first + count → passes (record { proto = proto; port = port }) ≡ false) → first_of_ports passes proto first count ≡ None
+no_ports : (passes : PortSpot → Bool) (proto : Proto) (first count : ℕ) → ((port : ℕ) → first ≤ port → port < first + count → passes (record { proto = proto; port = port }) ≡ false) →
+    first_of_ports passes proto first count ≡ None
 unfolding first_of_ports
 no_ports passes proto first count never = ap (option_map (λ port. record { proto = proto; port = port })) (find-none (λ n. passes (record { proto = proto; port = n })) first count never)
 
@@ -92,7 +95,8 @@ no_spot passes spot none is =
 pub no_spots : (passes : PortSpot → Bool) → ((spot : PortSpot) → is_spot spot ≡ true → passes spot ≡ false) → first_spot passes ≡ None
 unfolding first_spot
 no_spots passes never =
-    let of : (proto : Proto) → first_of_proto passes proto ≡ None = λ proto. no_ports passes proto 1 65535 (λ port above below. never (record { proto = proto; port = port }) (and_from (nat_le 1 port) (nat_le port 65535) (le-leb 1 port above) (le-leb port 65535 (omega arith)))) in
+    let of : (proto : Proto) → first_of_proto passes proto ≡ None = λ proto. no_ports passes proto 1 65535
+    (λ port above below. never (record { proto = proto; port = port }) (and_from (nat_le 1 port) (nat_le port 65535) (le-leb 1 port above) (le-leb port 65535 (omega arith)))) in
     both_none (first_of_proto passes Tcp) _ (of Tcp) (both_none (first_of_proto passes Udp) _ (of Udp) (both_none (first_of_proto passes Sctp) None (of Sctp) refl))
 
 by_complies : (does : Bool) → (true && not does) ≡ false → does ≡ true
@@ -100,10 +104,12 @@ by_complies true whole = refl
 by_complies false whole = cc
 
 -- what does not break the statement complies
-pub not_broken : (wanted : Wanted) (conns : Conns) (allowed : PortSpot → Bool) (spot : PortSpot) → breaks wanted conns allowed spot ≡ false → has_spot conns spot ≡ true → complies wanted (allowed spot) ≡ true
+pub not_broken : (wanted : Wanted) (conns : Conns) (allowed : PortSpot → Bool) (spot : PortSpot) → breaks wanted conns allowed spot ≡ false → has_spot conns spot ≡ true →
+    complies wanted (allowed spot) ≡ true
 not_broken wanted conns allowed spot whole has = by_complies (complies wanted (allowed spot)) (sym (ap (λ (first : Bool). first && not (complies wanted (allowed spot))) has) ∙ whole)
 
-pub is_whole : (wanted : Wanted) (conns : Conns) (allowed : PortSpot → Bool) (spot : PortSpot) → (has_spot conns spot ≡ true → complies wanted (allowed spot) ≡ true) → breaks wanted conns allowed spot ≡ false
+pub is_whole : (wanted : Wanted) (conns : Conns) (allowed : PortSpot → Bool) (spot : PortSpot) → (has_spot conns spot ≡ true → complies wanted (allowed spot) ≡ true) →
+    breaks wanted conns allowed spot ≡ false
 is_whole wanted conns allowed spot does =
     elim (cases_Bool (has_spot conns spot)) [
       | inl has ↦ ap (λ (first : Bool). first && not (complies wanted (allowed spot))) has ∙ ap not (does has)
@@ -120,21 +126,29 @@ then_none : {Y : Type 0} (has : Bool) (gives : Option Y) → (has ≡ true → g
 then_none true gives none = none refl
 then_none false gives none = refl
 
-family_none : {Y : Type 0} (set : AddressRanges) (address : ℕ → Address) (gives : Address → Option Y) (count n : ℕ) → first_of gives (addresses_in set address count) ≡ None → n < count → set_has set (address n) ≡ true → gives (address n) ≡ None
+family_none : {Y : Type 0} (set : AddressRanges) (address : ℕ → Address) (gives : Address → Option Y) (count n : ℕ) → first_of gives (addresses_in set address count) ≡ None → n < count →
+    set_has set (address n) ≡ true → gives (address n) ≡ None
 family_none set address gives count n none below has =
-    none_then (set_has set (address n)) (gives (address n)) (upto-each (λ m. if set_has set (address m) then gives (address m) else None) count n (sym (addresses_upto set address gives count) ∙ none) below) has
+    none_then (set_has set (address n)) (gives (address n)) (upto-each (λ m. if set_has set (address m) then gives (address m) else None) count n
+    (sym (addresses_upto set address gives count) ∙ none) below) has
 
-none_family : {Y : Type 0} (set : AddressRanges) (address : ℕ → Address) (gives : Address → Option Y) (count : ℕ) → ((n : ℕ) → n < count → set_has set (address n) ≡ true → gives (address n) ≡ None) → first_of gives (addresses_in set address count) ≡ None
+none_family : {Y : Type 0} (set : AddressRanges) (address : ℕ → Address) (gives : Address → Option Y) (count : ℕ) → ((n : ℕ) → n < count → set_has set (address n) ≡ true → gives (address n) ≡ None) →
+    first_of gives (addresses_in set address count) ≡ None
 none_family set address gives count never =
-    addresses_upto set address gives count ∙ upto-below (λ n. if set_has set (address n) then gives (address n) else None) count (λ n below. then_none (set_has set (address n)) (gives (address n)) (never n below))
+    addresses_upto set address gives count ∙ upto-below (λ n. if set_has set (address n) then gives (address n) else None) count
+    (λ n below. then_none (set_has set (address n)) (gives (address n)) (never n below))
 
-pub no_address : {Y : Type 0} (set : AddressRanges) (gives : Address → Option Y) (address : Address) → first_of gives (addresses_of set) ≡ None → IsAddress address → set_has set address ≡ true → gives address ≡ None
+pub no_address : {Y : Type 0} (set : AddressRanges) (gives : Address → Option Y) (address : Address) → first_of gives (addresses_of set) ≡ None → IsAddress address → set_has set address ≡ true →
+    gives address ≡ None
 no_address set gives (Four n) none is has =
-    family_none set Four gives (2 ^ 32) n (none_both (first_of gives (addresses_in set Four (2 ^ 32))) (first_of gives (addresses_in set Six (2 ^ 128))) (sym (first_of-append gives (addresses_in set Four (2 ^ 32)) (addresses_in set Six (2 ^ 128))) ∙ none)).0 is has
+    family_none set Four gives (2 ^ 32) n (none_both (first_of gives (addresses_in set Four (2 ^ 32))) (first_of gives (addresses_in set Six (2 ^ 128)))
+    (sym (first_of-append gives (addresses_in set Four (2 ^ 32)) (addresses_in set Six (2 ^ 128))) ∙ none)).0 is has
 no_address set gives (Six n) none is has =
-    family_none set Six gives (2 ^ 128) n (none_both (first_of gives (addresses_in set Four (2 ^ 32))) (first_of gives (addresses_in set Six (2 ^ 128))) (sym (first_of-append gives (addresses_in set Four (2 ^ 32)) (addresses_in set Six (2 ^ 128))) ∙ none)).1 is has
+    family_none set Six gives (2 ^ 128) n (none_both (first_of gives (addresses_in set Four (2 ^ 32))) (first_of gives (addresses_in set Six (2 ^ 128)))
+    (sym (first_of-append gives (addresses_in set Four (2 ^ 32)) (addresses_in set Six (2 ^ 128))) ∙ none)).1 is has
 
-pub no_addresses : {Y : Type 0} (set : AddressRanges) (gives : Address → Option Y) → ((address : Address) → IsAddress address → set_has set address ≡ true → gives address ≡ None) → first_of gives (addresses_of set) ≡ None
+pub no_addresses : {Y : Type 0} (set : AddressRanges) (gives : Address → Option Y) → ((address : Address) → IsAddress address → set_has set address ≡ true → gives address ≡ None) →
+    first_of gives (addresses_of set) ≡ None
 no_addresses set gives never =
     first_of-append gives (addresses_in set Four (2 ^ 32)) (addresses_in set Six (2 ^ 128))
     ∙ both_none (first_of gives (addresses_in set Four (2 ^ 32))) (first_of gives (addresses_in set Six (2 ^ 128)))

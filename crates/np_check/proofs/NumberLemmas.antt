@@ -44,7 +44,8 @@ among-from (one ∷ numbers) low (suc count) ascends within =
           let first : is_among (one ∷ numbers) low ≡ true = or_left (one == low) (is_among numbers low) (eq-eqb one low (sym here)) in
           let rest = filter-same (is_among (one ∷ numbers)) (is_among numbers) (low + 1) count (λ n later. other_among one n numbers (omega arith)) in
           let tail : ascends_from (low + 1) numbers ≡ true = ap (λ (n : ℕ). ascends_from (n + 1) numbers) here ∙ parts.1 in
-          let bound : All (λ n. n < low + 1 + count) numbers = All-weaker (λ n. n < low + suc count) (λ n. n < low + 1 + count) (λ n below. omega arith) numbers (All-tail (λ n. n < low + suc count) one numbers within) in
+          let bound : All (λ n. n < low + 1 + count) numbers = All-weaker (λ n. n < low + suc count) (λ n. n < low + 1 + count) (λ n below. omega arith) numbers
+          (All-tail (λ n. n < low + suc count) one numbers within) in
           rw first (ap (λ (ns : List ℕ). low ∷ ns) (rest ∙ among-from numbers (low + 1) count tail bound) ∙ ap (λ (n : ℕ). n ∷ numbers) here)
       | inr later ↦
           let next : ascends_from (low + 1) (one ∷ numbers) ≡ true = and_from (nat_le (low + 1) one) (ascends_from (one + 1) numbers) (le-leb (low + 1) one (omega arith)) parts.1 in

@@ -1,5 +1,6 @@
 -- A line is the text of one statement at most.
-use Rattle.std.proofs.Common.{◌≡◌, ◌≢◌, ℕ, ◌<◌, ◌==◌, List, [], ◌∷◌, ◌++◌, ◌⊎◌, true, false, Option, Some, None, All, length, drop, codes, slice_index, option_map, refl, sym, ap, subst, ◌∙◌, inl, inr, append_assoc, arith, if◌then◌else◌, lit≤}
+use Rattle.std.proofs.Common.{◌≡◌, ◌≢◌, ℕ, ◌<◌, ◌==◌, List, [], ◌∷◌, ◌++◌, ◌⊎◌, true, false, Option, Some, None, All, length, drop, codes, slice_index, option_map, refl, sym, ap, subst, ◌∙◌, inl, inr}
+use Rattle.std.proofs.Common.{append_assoc, arith, if◌then◌else◌, lit≤}
 use Rattle.std.proofs.lemmas.Bool.{and_from, cases_lt, true≢false}
 use Rattle.std.proofs.lemmas.List.{append_cancel_right}
 use Rattle.std.proofs.lemmas.List.Elements.{All-head, All-tail}
@@ -77,7 +78,8 @@ no_tail tail rest other apart (inl same) = same
 no_tail tail rest other apart (inr longer) = absurd (apart other longer)
 
 -- a text has one end before a mark
-pub one_cut : (mark tail text end rest end' rest' : List ℕ) → IsMark mark tail → IsBefore mark tail end rest → IsBefore mark tail end' rest' → text ≡ end ++ (mark ++ rest) → text ≡ end' ++ (mark ++ rest') → (end ≡ end') × (rest ≡ rest')
+pub one_cut : (mark tail text end rest end' rest' : List ℕ) → IsMark mark tail → IsBefore mark tail end rest → IsBefore mark tail end' rest' → text ≡ end ++ (mark ++ rest) →
+    text ≡ end' ++ (mark ++ rest') → (end ≡ end') × (rest ≡ rest')
 one_cut mark tail text end rest end' rest' marked before before' spelled spelled' =
     let (named, without) = without_word mark tail text end rest before spelled in
     let (x, lacks, side) = named_side mark tail text named end rest without before spelled in
@@ -121,7 +123,8 @@ pub record ArePartsOf (statement : StatementText) (source destination conns : Li
   pub of_destination : IsEndText destination statement.destination
   pub of_conns : conns ≡ conns_text (has_spot statement.conns)
 
-pub parts_are : (line : List ℕ) (statement : StatementText) (wanted : Wanted) (source destination conns : List ℕ) → (is : IsStatementText line statement) → (wanted ≡ statement.wanted) × (source ≡ is.source) × (destination ≡ is.destination) × (conns ≡ is.conns) → ArePartsOf statement source destination conns
+pub parts_are : (line : List ℕ) (statement : StatementText) (wanted : Wanted) (source destination conns : List ℕ) → (is : IsStatementText line statement) →
+    (wanted ≡ statement.wanted) × (source ≡ is.source) × (destination ≡ is.destination) × (conns ≡ is.conns) → ArePartsOf statement source destination conns
 parts_are line statement wanted source destination conns is same = record {
   of_source = subst (λ (text : List ℕ). IsEndText text statement.source) (sym same.1) is.source_text;
   of_destination = subst (λ (text : List ℕ). IsEndText text statement.destination) (sym same.2) is.destination_text;
@@ -135,7 +138,8 @@ pub colon_of : (line : List ℕ) (statement : StatementText) (is : IsStatementTe
 colon_of line statement is = before_colon is.destination is.conns statement.destination (has_spot statement.conns) is.destination_text is.conns_text
 
 -- two address forms are of no statement
-pub two_blocks : (line : List ℕ) (statement : StatementText) (source destination : EndForm) → IsStatementText line statement → source ≡ statement.source → destination ≡ statement.destination → is_address_form source ≡ true → is_address_form destination ≡ true → ⊥
+pub two_blocks : (line : List ℕ) (statement : StatementText) (source destination : EndForm) → IsStatementText line statement → source ≡ statement.source → destination ≡ statement.destination →
+    is_address_form source ≡ true → is_address_form destination ≡ true → ⊥
 two_blocks line statement source destination is same same' first_block second_block =
     let first : is_address_form statement.source ≡ true = ap is_address_form (sym same) ∙ first_block in
     let second : is_address_form statement.destination ≡ true = ap is_address_form (sym same') ∙ second_block in

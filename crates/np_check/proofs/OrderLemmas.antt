@@ -1,5 +1,6 @@
 -- The first of a list whose items stand in an order.
-use Rattle.std.proofs.Common.{◌≡◌, ℕ, zero, suc, ◌+◌, ◌^◌, ◌<◌, ◌≤◌, ◌==◌, nat_le, nat_lt, List, [], ◌∷◌, ◌++◌, ◌⊎◌, Bool, true, false, Option, Some, None, Contains, map, refl, sym, ap, subst, ◌∙◌, inl, inr, arith, if◌then◌else◌}
+use Rattle.std.proofs.Common.{◌≡◌, ℕ, zero, suc, ◌+◌, ◌^◌, ◌<◌, ◌≤◌, ◌==◌, nat_le, nat_lt, List, [], ◌∷◌, ◌++◌, ◌⊎◌, Bool, true, false, Option, Some, None, Contains, map, refl, sym, ap, subst, ◌∙◌}
+use Rattle.std.proofs.Common.{inl, inr, arith, if◌then◌else◌}
 use Rattle.std.specs.Prelude.{filter}
 use Rattle.std.specs.List.{AllByRecursion, range_with_len}
 use Rattle.std.specs.Option.{option_or}
@@ -71,7 +72,8 @@ pub record IsFoundOf {X Y : Type 0} (before : X → X → Bool) (gives : X → O
 none_some : {Y : Type 0} (y : Y) → None ≡ Some y → ⊥
 none_some y same = cc
 
-at_head : {X Y : Type 0} (before : X → X → Bool) (gives : X → Option Y) (x : X) (xs : List X) (y : Y) (own : Option Y) → IsStrict before → SortedBy before (x ∷ xs) → gives x ≡ own → option_or own (first_of gives xs) ≡ Some y → (first_of gives xs ≡ Some y → IsFoundOf before gives xs y) → IsFoundOf before gives (x ∷ xs) y
+at_head : {X Y : Type 0} (before : X → X → Bool) (gives : X → Option Y) (x : X) (xs : List X) (y : Y) (own : Option Y) → IsStrict before → SortedBy before (x ∷ xs) → gives x ≡ own →
+    option_or own (first_of gives xs) ≡ Some y → (first_of gives xs ≡ Some y → IsFoundOf before gives xs y) → IsFoundOf before gives (x ∷ xs) y
 at_head before gives x xs y (Some z) strict sorted is found rest = record {
   item = x;
   one = inl refl;
@@ -276,7 +278,8 @@ addresses_are set a is =
 -- an end of a side is one of its list
 pub in_places : (ends : Ends) (end : PlaceEnd) → IsEndOf ends end → IsIn end (places_of ends)
 in_places ends (Work work) is = in_left (Work work) (map Work ends.works) (map At (addresses_of ends.block)) (in_map Work work ends.works (in_among ends.works work is))
-in_places ends (At address) is = in_right (At address) (map Work ends.works) (map At (addresses_of ends.block)) (in_map At address (addresses_of ends.block) (in_addresses ends.block address is.0 is.1))
+in_places ends (At address) is = in_right (At address) (map Work ends.works) (map At (addresses_of ends.block))
+    (in_map At address (addresses_of ends.block) (in_addresses ends.block address is.0 is.1))
 
 pub places_are : (ends : Ends) (end : PlaceEnd) → IsIn end (places_of ends) → IsEndOf ends end
 places_are ends end is =
@@ -294,7 +297,8 @@ sorted_append before (x ∷ xs) ys in_xs in_ys across = (
   sorted_append before xs ys in_xs.1 in_ys (λ z y one other. across z y (inr one) other),
 )
 
-sorted_map : {X Y : Type 0} (before : X → X → Bool) (before' : Y → Y → Bool) (to : X → Y) (xs : List X) → ((x y : X) → before x y ≡ true → before' (to x) (to y) ≡ true) → SortedBy before xs → SortedBy before' (map to xs)
+sorted_map : {X Y : Type 0} (before : X → X → Bool) (before' : Y → Y → Bool) (to : X → Y) (xs : List X) → ((x y : X) → before x y ≡ true → before' (to x) (to y) ≡ true) → SortedBy before xs →
+    SortedBy before' (map to xs)
 sorted_map before before' to [] keeps sorted = tt
 sorted_map before before' to (x ∷ xs) keeps sorted = (
   λ y is. let (z, of, one) = from_map to y xs is in ap (before' (to x)) of ∙ keeps x z (sorted.0 z one),

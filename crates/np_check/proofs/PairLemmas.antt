@@ -1,5 +1,6 @@
 -- The first packet between two ends.
-use Rattle.std.proofs.Common.{◌≡◌, Bor, ℕ, suc, ◌<◌, ◌≤◌, ◌==◌, ◌&&◌, List, [], ◌∷◌, Bool, true, false, Option, Some, None, drop, get_or, length, map, option_map, is_some, not, refl, sym, ap, ◌∙◌, inl, inr, if◌then◌else◌}
+use Rattle.std.proofs.Common.{◌≡◌, Bor, ℕ, suc, ◌<◌, ◌≤◌, ◌==◌, ◌&&◌, List, [], ◌∷◌, Bool, true, false, Option, Some, None, drop, get_or, length, map, option_map, is_some, not, refl, sym, ap, ◌∙◌}
+use Rattle.std.proofs.Common.{inl, inr, if◌then◌else◌}
 use Rattle.std.specs.List.{find, range_with_len}
 use Rattle.std.specs.Option.{option_copied, option_or}
 use Rattle.std.proofs.Math.Seq.{drop-cons}
@@ -44,7 +45,8 @@ none_or None rest none = refl
 none_or (Some y) rest none = cc
 
 -- what is found at an index is the first, where nothing before it gives anything
-pub found_at : {X Y : Type 0} (gives : X → Option Y) (xs : List X) (i : ℕ) (d : X) (found : Option Y) → i < length xs → first_of gives (drop i xs) ≡ first_of gives xs → found ≡ gives (get_or xs i d) → is_some found ≡ true → found ≡ first_of gives xs
+pub found_at : {X Y : Type 0} (gives : X → Option Y) (xs : List X) (i : ℕ) (d : X) (found : Option Y) → i < length xs → first_of gives (drop i xs) ≡ first_of gives xs → found ≡ gives (get_or xs i d) →
+    is_some found ≡ true → found ≡ first_of gives xs
 found_at gives xs i d found within left is some =
     is ∙ some_or (gives (get_or xs i d)) (first_of gives (drop (suc i) xs)) (ap is_some (sym is) ∙ some) ∙ ap (first_of gives) (sym (drop-cons xs i d within)) ∙ left
 
@@ -80,12 +82,15 @@ passing-is lists source destination family sender receiver sends receives lawful
     ∙ sym (pair_allows-firsts lists source source destination destination family spot lawful from from to to refl refl apart))
 
 -- the first by the set of what passes
-by_set : (lists : EstateLists) (wanted : Wanted) (conns passes : Conns) (a b : ℕ) (family : Family) → passes ≡ conns_of (pair_allows lists (folding_of lists) a b family) → first_spot (breaks wanted conns (has_spot passes)) ≡ first_spot (breaks wanted conns (pair_allows lists (folding_of lists) a b family))
+by_set : (lists : EstateLists) (wanted : Wanted) (conns passes : Conns) (a b : ℕ) (family : Family) → passes ≡ conns_of (pair_allows lists (folding_of lists) a b family) →
+    first_spot (breaks wanted conns (has_spot passes)) ≡ first_spot (breaks wanted conns (pair_allows lists (folding_of lists) a b family))
 by_set lists wanted conns passes a b family is =
     breaks-same wanted conns (has_spot passes) (pair_allows lists (folding_of lists) a b family) (λ spot of.
     ap (λ (set : Conns). has_spot set spot) is ∙ has_spot-conns_of (pair_allows lists (folding_of lists) a b family) spot of)
 
-pub in_family : (lists : EstateLists) (wanted : Wanted) (conns passes : Conns) (a b : ℕ) (family : Family) (found : Option PortSpot) → passes ≡ conns_of (pair_allows lists (folding_of lists) a b family) → found ≡ first_spot (breaks wanted conns (has_spot passes)) → option_map (counter_at (Work a) (Work b) family) found ≡ counter_in lists wanted conns (Work a) (Work b) family
+pub in_family : (lists : EstateLists) (wanted : Wanted) (conns passes : Conns) (a b : ℕ) (family : Family) (found : Option PortSpot) →
+    passes ≡ conns_of (pair_allows lists (folding_of lists) a b family) → found ≡ first_spot (breaks wanted conns (has_spot passes)) →
+    option_map (counter_at (Work a) (Work b) family) found ≡ counter_in lists wanted conns (Work a) (Work b) family
 in_family lists wanted conns passes a b family found is found_is =
     ap (option_map (counter_at (Work a) (Work b) family)) (found_is ∙ by_set lists wanted conns passes a b family is)
 
@@ -95,7 +100,8 @@ pub between-alone : (lists : EstateLists) (wanted : Wanted) (conns : Conns) (a b
 unfolding counter_between
 between-alone lists wanted conns a b alone = rw alone refl
 
-pub between-apart : (lists : EstateLists) (wanted : Wanted) (conns : Conns) (a b : ℕ) (families : List Family) → is_alone (folding_of lists) a b ≡ false → families ≡ families_of lists.pods → first_of (counter_in lists wanted conns (Work a) (Work b)) families ≡ counter_between lists wanted conns (Work a) (Work b)
+pub between-apart : (lists : EstateLists) (wanted : Wanted) (conns : Conns) (a b : ℕ) (families : List Family) → is_alone (folding_of lists) a b ≡ false → families ≡ families_of lists.pods →
+    first_of (counter_in lists wanted conns (Work a) (Work b)) families ≡ counter_between lists wanted conns (Work a) (Work b)
 unfolding counter_between
 between-apart lists wanted conns a b families apart are = rw (apart, are) refl
 
@@ -105,13 +111,17 @@ none_map : {X Y Z : Type 0} (to : X → Y) (to' : X → Z) (found : Option X) �
 none_map to to' None none = refl
 none_map to to' (Some x) none = cc
 
-none_in-kinds : (lists : EstateLists) (wanted : Wanted) (conns : Conns) (a b a' b' : ℕ) (family : Family) → ((spot : PortSpot) → pair_allows lists (folding_of lists) a b family spot ≡ pair_allows lists (folding_of lists) a' b' family spot) → counter_in lists wanted conns (Work a) (Work b) family ≡ None → counter_in lists wanted conns (Work a') (Work b') family ≡ None
+none_in-kinds : (lists : EstateLists) (wanted : Wanted) (conns : Conns) (a b a' b' : ℕ) (family : Family) →
+    ((spot : PortSpot) → pair_allows lists (folding_of lists) a b family spot ≡ pair_allows lists (folding_of lists) a' b' family spot) →
+    counter_in lists wanted conns (Work a) (Work b) family ≡ None → counter_in lists wanted conns (Work a') (Work b') family ≡ None
 none_in-kinds lists wanted conns a b a' b' family same none =
     let spots = breaks-same wanted conns (pair_allows lists (folding_of lists) a b family) (pair_allows lists (folding_of lists) a' b' family) (λ spot is. same spot) in
     none_map (counter_at (Work a) (Work b) family) (counter_at (Work a') (Work b') family) (first_spot (breaks wanted conns (pair_allows lists (folding_of lists) a' b' family)))
     (ap (option_map (counter_at (Work a) (Work b) family)) (sym spots) ∙ none)
 
-none_all-kinds : (lists : EstateLists) (wanted : Wanted) (conns : Conns) (a b a' b' : ℕ) (families : List Family) → ((family : Family) (spot : PortSpot) → pair_allows lists (folding_of lists) a b family spot ≡ pair_allows lists (folding_of lists) a' b' family spot) → first_of (counter_in lists wanted conns (Work a) (Work b)) families ≡ None → first_of (counter_in lists wanted conns (Work a') (Work b')) families ≡ None
+none_all-kinds : (lists : EstateLists) (wanted : Wanted) (conns : Conns) (a b a' b' : ℕ) (families : List Family) →
+    ((family : Family) (spot : PortSpot) → pair_allows lists (folding_of lists) a b family spot ≡ pair_allows lists (folding_of lists) a' b' family spot) →
+    first_of (counter_in lists wanted conns (Work a) (Work b)) families ≡ None → first_of (counter_in lists wanted conns (Work a') (Work b')) families ≡ None
 none_all-kinds lists wanted conns a b a' b' [] same none = refl
 none_all-kinds lists wanted conns a b a' b' (family ∷ families) same none =
     let both = none_both (counter_in lists wanted conns (Work a) (Work b) family) (first_of (counter_in lists wanted conns (Work a) (Work b)) families) none in
@@ -119,7 +129,9 @@ none_all-kinds lists wanted conns a b a' b' (family ∷ families) same none =
     ∙ none_all-kinds lists wanted conns a b a' b' families same both.1
 
 -- where nothing breaks the statement between two workloads, nothing does between two of their kinds
-between-kinds : (lists : EstateLists) (wanted : Wanted) (conns : Conns) (a b a' b' : ℕ) → IsLawful lists → IsWorkload lists a → IsWorkload lists b → IsWorkload lists a' → IsWorkload lists b' → kind_of lists a ≡ kind_of lists a' → kind_of lists b ≡ kind_of lists b' → is_alone (folding_of lists) a b ≡ false → counter_between lists wanted conns (Work a) (Work b) ≡ None → counter_between lists wanted conns (Work a') (Work b') ≡ None
+between-kinds : (lists : EstateLists) (wanted : Wanted) (conns : Conns) (a b a' b' : ℕ) → IsLawful lists → IsWorkload lists a → IsWorkload lists b → IsWorkload lists a' → IsWorkload lists b' →
+    kind_of lists a ≡ kind_of lists a' → kind_of lists b ≡ kind_of lists b' → is_alone (folding_of lists) a b ≡ false → counter_between lists wanted conns (Work a) (Work b) ≡ None →
+    counter_between lists wanted conns (Work a') (Work b') ≡ None
 between-kinds lists wanted conns a b a' b' lawful a_in b_in a'_in b'_in sources destinations apart none =
     let kind = λ (work : ℕ) (within : IsWorkload lists work). kinds-by lists work within in
     elim (cases_Bool (is_alone (folding_of lists) a' b')) [
@@ -133,13 +145,16 @@ between-kinds lists wanted conns a b a' b' lawful a_in b_in a'_in b'_in sources 
     ]
 
 -- so the pair of their kinds is settled
-pub settled-more : (lists : EstateLists) (wanted : Wanted) (conns : Conns) (pairs more : List (ℕ × ℕ)) (a b : ℕ) → IsLawful lists → IsWorkload lists a → IsWorkload lists b → (a ≡ b → ⊥) → counter_between lists wanted conns (Work a) (Work b) ≡ None → ((i j : ℕ) → has_pair more i j ≡ (if (kind_of lists a == i) && (kind_of lists b == j) then true else has_pair pairs i j)) → AreSettled lists wanted conns pairs → AreSettled lists wanted conns more
+pub settled-more : (lists : EstateLists) (wanted : Wanted) (conns : Conns) (pairs more : List (ℕ × ℕ)) (a b : ℕ) → IsLawful lists → IsWorkload lists a → IsWorkload lists b → (a ≡ b → ⊥) →
+    counter_between lists wanted conns (Work a) (Work b) ≡ None → ((i j : ℕ) → has_pair more i j ≡ (if (kind_of lists a == i) && (kind_of lists b == j) then true else has_pair pairs i j)) →
+    AreSettled lists wanted conns pairs → AreSettled lists wanted conns more
 settled-more lists wanted conns pairs more a b lawful a_in b_in differ none has settled a' b' a'_in b'_in yes_there =
     let apart : is_alone (folding_of lists) a b ≡ false = ap (λ same. same && length (members_of (folding_of lists) a) == 1) (ne_eqb a b differ) in
     elim (cases_Bool ((kind_of lists a == kind_of lists a') && (kind_of lists b == kind_of lists b'))) [
       | inl same ↦
           let parts = and_parts (kind_of lists a == kind_of lists a') (kind_of lists b == kind_of lists b') same in
-          between-kinds lists wanted conns a b a' b' lawful a_in b_in a'_in b'_in (eqb-true (kind_of lists a) (kind_of lists a') parts.0) (eqb-true (kind_of lists b) (kind_of lists b') parts.1) apart none
+          between-kinds lists wanted conns a b a' b' lawful a_in b_in a'_in b'_in (eqb-true (kind_of lists a) (kind_of lists a') parts.0)
+          (eqb-true (kind_of lists b) (kind_of lists b') parts.1) apart none
       | inr other ↦ settled a' b' a'_in b'_in (sym (rw other at (has (kind_of lists a') (kind_of lists b'))) ∙ yes_there)
     ]
 
@@ -182,9 +197,11 @@ not_denied true allowed none = rw none refl
 not_denied false allowed none = refl
 
 -- no packet between them breaks a statement that denies
-pub none_denied : (lists : EstateLists) (wanted : Wanted) (conns : Conns) (a b : ℕ) → is_deny wanted ≡ true → ((family : Family) (spot : PortSpot) → pair_allows lists (folding_of lists) a b family spot ≡ false) → None ≡ counter_between lists wanted conns (Work a) (Work b)
+pub none_denied : (lists : EstateLists) (wanted : Wanted) (conns : Conns) (a b : ℕ) → is_deny wanted ≡ true →
+    ((family : Family) (spot : PortSpot) → pair_allows lists (folding_of lists) a b family spot ≡ false) → None ≡ counter_between lists wanted conns (Work a) (Work b)
 unfolding counter_between
 none_denied lists Allow conns a b denies silent = absurd (cc)
 none_denied lists Deny conns a b denies silent =
     sym (first_of-none (counter_in lists Deny conns (Work a) (Work b)) (families_between lists (Work a) (Work b)) (λ family.
-    ap (option_map (counter_at (Work a) (Work b) family)) (first_spot-none (breaks Deny conns (pair_allows lists (folding_of lists) a b family)) (λ spot. not_denied (has_spot conns spot) _ (silent family spot)))))
+    ap (option_map (counter_at (Work a) (Work b) family)) (first_spot-none (breaks Deny conns (pair_allows lists (folding_of lists) a b family))
+    (λ spot. not_denied (has_spot conns spot) _ (silent family spot)))))

@@ -16,7 +16,9 @@ use Rattle.np_conns.specs.declared.port_spot.PortSpot.{PortSpot}
 use Rattle.np_conns.specs.declared.proto.Proto.{Proto}
 use Rattle.np_conns.specs.declared.proto.Proto.TheVariants.{Tcp, Udp, Sctp}
 
-first_of_ports-same : (passes passes' : PortSpot → Bool) (proto : Proto) (first count : ℕ) → ((port : ℕ) → first ≤ port → port < first + count → passes (record { proto = proto; port = port }) ≡ passes' (record { proto = proto; port = port })) → first_of_ports passes proto first count ≡ first_of_ports passes' proto first count
+first_of_ports-same : (passes passes' : PortSpot → Bool) (proto : Proto) (first count : ℕ) →
+    ((port : ℕ) → first ≤ port → port < first + count → passes (record { proto = proto; port = port }) ≡ passes' (record { proto = proto; port = port })) →
+    first_of_ports passes proto first count ≡ first_of_ports passes' proto first count
 unfolding first_of_ports
 first_of_ports-same passes passes' proto first count same =
     ap (option_map (λ port. record { proto = proto; port = port }))
@@ -25,7 +27,8 @@ first_of_ports-same passes passes' proto first count same =
 port_is_spot : (proto : Proto) (port : ℕ) → 1 ≤ port → port < 1 + 65535 → is_spot (record { proto = proto; port = port }) ≡ true
 port_is_spot proto port low high = and_from (nat_le 1 port) (nat_le port 65535) (le-leb 1 port low) (le-leb port 65535 (omega arith))
 
-first_of_proto-same : (passes passes' : PortSpot → Bool) → ((spot : PortSpot) → is_spot spot ≡ true → passes spot ≡ passes' spot) → (proto : Proto) → first_of_proto passes proto ≡ first_of_proto passes' proto
+first_of_proto-same : (passes passes' : PortSpot → Bool) → ((spot : PortSpot) → is_spot spot ≡ true → passes spot ≡ passes' spot) → (proto : Proto) →
+    first_of_proto passes proto ≡ first_of_proto passes' proto
 first_of_proto-same passes passes' same proto =
     first_of_ports-same passes passes' proto 1 65535 (λ port low high. same (record { proto = proto; port = port }) (port_is_spot proto port low high))
 
@@ -35,7 +38,8 @@ unfolding first_spot
 first_spot-same passes passes' same = first_of-same (first_of_proto passes) (first_of_proto passes') (Tcp ∷ Udp ∷ Sctp ∷ []) (first_of_proto-same passes passes' same)
 
 -- what breaks the statement by one test breaks it by another that agrees
-pub breaks-same : (wanted : Wanted) (conns : Conns) (allowed allowed' : PortSpot → Bool) → ((spot : PortSpot) → is_spot spot ≡ true → allowed spot ≡ allowed' spot) → first_spot (breaks wanted conns allowed) ≡ first_spot (breaks wanted conns allowed')
+pub breaks-same : (wanted : Wanted) (conns : Conns) (allowed allowed' : PortSpot → Bool) → ((spot : PortSpot) → is_spot spot ≡ true → allowed spot ≡ allowed' spot) →
+    first_spot (breaks wanted conns allowed) ≡ first_spot (breaks wanted conns allowed')
 breaks-same wanted conns allowed allowed' same =
     first_spot-same (breaks wanted conns allowed) (breaks wanted conns allowed') (λ spot is. ap (λ (yes_or_no : Bool). has_spot conns spot && not (complies wanted yes_or_no)) (same spot is))
 
@@ -46,7 +50,8 @@ abbrev lo_of : Proto → List (Range ℕ) → Option PortSpot
 lo_of proto [] = None
 lo_of proto (range ∷ ranges) = Some (record { proto = proto; port = range.lo })
 
-first_in_ranges : (proto : Proto) (passes : PortSpot → Bool) (ranges : List (Range ℕ)) (first count last : ℕ) → first + count ≡ last + 1 → IsAscending (λ p. p) first last ranges → ((port : ℕ) → passes (record { proto = proto; port = port }) ≡ holds (λ p. p) ranges port) → first_of_ports passes proto first count ≡ lo_of proto ranges
+first_in_ranges : (proto : Proto) (passes : PortSpot → Bool) (ranges : List (Range ℕ)) (first count last : ℕ) → first + count ≡ last + 1 → IsAscending (λ p. p) first last ranges →
+    ((port : ℕ) → passes (record { proto = proto; port = port }) ≡ holds (λ p. p) ranges port) → first_of_ports passes proto first count ≡ lo_of proto ranges
 unfolding first_of_ports
 first_in_ranges proto passes [] first count last ends ascends is =
     ap (option_map (λ port. record { proto = proto; port = port })) (find-none (λ port. passes (record { proto = proto; port = port })) first count (λ port from to. is port))
@@ -61,14 +66,16 @@ first_of_set set proto ranges are ascends =
     first_in_ranges proto (has_spot set) ranges 1 65535 65535 refl ascends (λ port. ap (λ (rs : List (Range ℕ)). holds (λ p. p) rs port) (sym are))
 
 -- what a set has first, by its first range
-pub first_of_none : (set : Conns) (proto : Proto) (ranges : List (Range ℕ)) → ranges ≡ ranges_of set proto → AscendsInPorts ranges → slice_get ranges 0 ≡ None → None ≡ first_of_proto (has_spot set) proto
+pub first_of_none : (set : Conns) (proto : Proto) (ranges : List (Range ℕ)) → ranges ≡ ranges_of set proto → AscendsInPorts ranges → slice_get ranges 0 ≡ None →
+    None ≡ first_of_proto (has_spot set) proto
 first_of_none set proto [] are ascends none = sym (first_of_set set proto [] are ascends)
 first_of_none set proto (range ∷ ranges) are ascends none = absurd (some_none range none)
   where
     some_none : (range : Range ℕ) → Some range ≡ None → ⊥
     some_none range same = cc
 
-pub first_of_some : (set : Conns) (proto : Proto) (ranges : List (Range ℕ)) (first : Range ℕ) → ranges ≡ ranges_of set proto → AscendsInPorts ranges → slice_get ranges 0 ≡ Some first → Some (record { proto = proto; port = first.lo }) ≡ first_of_proto (has_spot set) proto
+pub first_of_some : (set : Conns) (proto : Proto) (ranges : List (Range ℕ)) (first : Range ℕ) → ranges ≡ ranges_of set proto → AscendsInPorts ranges → slice_get ranges 0 ≡ Some first →
+    Some (record { proto = proto; port = first.lo }) ≡ first_of_proto (has_spot set) proto
 first_of_some set proto [] first are ascends some = absurd (none_some first some)
   where
     none_some : (range : Range ℕ) → None ≡ Some range → ⊥

@@ -18,7 +18,8 @@ between_addresses : (lists : EstateLists) (wanted : Wanted) (conns : Conns) (add
 unfolding counter_between
 between_addresses lists wanted conns address other = refl
 
-from-address : (lists : EstateLists) (wanted : Wanted) (conns : Conns) (ends : Ends) (address : Address) → counter_from lists wanted conns ends (At address) ≡ first_of (λ (work : ℕ). counter_between lists wanted conns (At address) (Work work)) ends.works
+from-address : (lists : EstateLists) (wanted : Wanted) (conns : Conns) (ends : Ends) (address : Address) →
+    counter_from lists wanted conns ends (At address) ≡ first_of (λ (work : ℕ). counter_between lists wanted conns (At address) (Work work)) ends.works
 unfolding counter_from
 from-address lists wanted conns ends address =
     let gives = counter_between lists wanted conns (At address) in
@@ -28,7 +29,10 @@ from-address lists wanted conns ends address =
     ∙ or_none (first_of gives (map Work ends.works))
     ∙ first_of-map gives Work ends.works
 
-pub of-question : (lists : EstateLists) (question : Question) → counter_of lists question ≡ option_or (first_of (λ (source : ℕ). counter_from lists question.wanted question.conns question.destination (Work source)) question.source.works) (first_of (λ (address : Address). first_of (λ (work : ℕ). counter_between lists question.wanted question.conns (At address) (Work work)) question.destination.works) (addresses_of question.source.block))
+pub of-question : (lists : EstateLists) (question : Question) →
+    counter_of lists question ≡ option_or (first_of (λ (source : ℕ). counter_from lists question.wanted question.conns question.destination (Work source)) question.source.works)
+    (first_of (λ (address : Address). first_of (λ (work : ℕ). counter_between lists question.wanted question.conns (At address) (Work work)) question.destination.works)
+    (addresses_of question.source.block))
 unfolding counter_of
 of-question lists question =
     let gives = counter_from lists question.wanted question.conns question.destination in
@@ -36,4 +40,6 @@ of-question lists question =
     ∙ ap (λ (first : Option Counterexample). option_or first (first_of gives (map At (addresses_of question.source.block)))) (first_of-map gives Work question.source.works)
     ∙ ap (λ (rest : Option Counterexample). option_or (first_of (λ (source : ℕ). gives (Work source)) question.source.works) rest)
     (first_of-map gives At (addresses_of question.source.block)
-    ∙ first_of-same (λ (address : Address). gives (At address)) (λ (address : Address). first_of (λ (work : ℕ). counter_between lists question.wanted question.conns (At address) (Work work)) question.destination.works) (addresses_of question.source.block) (from-address lists question.wanted question.conns question.destination))
+    ∙ first_of-same (λ (address : Address). gives (At address)) (λ (address : Address). first_of
+    (λ (work : ℕ). counter_between lists question.wanted question.conns (At address) (Work work)) question.destination.works) (addresses_of question.source.block)
+    (from-address lists question.wanted question.conns question.destination))

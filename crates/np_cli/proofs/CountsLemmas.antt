@@ -17,7 +17,9 @@ pub Counted-none : (asked : Option Job) (source : SourceTrace) (out : SinkTrace)
 Counted-none asked source out steps = record { least = omega arith; most = λ job texts is tells. RoseAtMost-still (most_steps job texts) steps }
 
 -- the bytes that were read are those that the source told
-pub Counted-read : (job : Job) (source : SourceTrace) (out : SinkTrace) (texts : List (List ℕ)) (before after : ℕ) → ((told : List (List ℕ)) → AreTold source.holds source.left (names_of job) told → texts ≡ told) → before ≤ after → RoseAtMost (steps_in job (objects_of job texts)) before after → Counted (ran (Some job) source out) before after
+pub Counted-read : (job : Job) (source : SourceTrace) (out : SinkTrace) (texts : List (List ℕ)) (before after : ℕ) →
+    ((told : List (List ℕ)) → AreTold source.holds source.left (names_of job) told → texts ≡ told) → before ≤ after → RoseAtMost (steps_in job (objects_of job texts)) before after →
+    Counted (ran (Some job) source out) before after
 unfolding most_steps
 Counted-read job source out texts before after read least most = record {
   least = least;

@@ -50,7 +50,8 @@ one_fault found fault other is is_other = cc
 among : (source : SourceTrace) (names : List (List ℕ)) (name : List ℕ) → FailedAt source names name → Contains names name
 among source names name at = subst (λ (ns : List (List ℕ)). Contains ns name) (sym at.order) (Contains-middle at.earlier name at.later)
 
-pub completes : (run : Run) (err : SinkTrace) (answer : Status) (outcome : Result Ending Failure) → Cause run outcome → Said err (message outcome) → answer ≡ status_of outcome → Completes run err answer
+pub completes : (run : Run) (err : SinkTrace) (answer : Status) (outcome : Result Ending Failure) → Cause run outcome → Said err (message outcome) → answer ≡ status_of outcome →
+    Completes run err answer
 completes run err answer (Ok ends) cause said answered = λ job texts is told accepted inputs sink.
     let reported = cause.told texts told in
     let same : ends ≡ ending_of job texts = subst (λ (j : Job). ends ≡ ending_of j texts) (one_job run.asked job cause.job is cause.asked) reported.ended in
@@ -65,7 +66,8 @@ completes run err answer (Err CannotWrite) cause said answered = λ job texts is
     absurd (still_or_rose _ _ sink cause.rose)
 completes run err answer (Err NoMemory) cause said answered = λ job texts is told accepted inputs sink. inr answered
 
-pub refuses_too_large : (run : Run) (err : SinkTrace) (answer : Status) (outcome : Result Ending Failure) → Cause run outcome → Said err (message outcome) → answer ≡ status_of outcome → RefusesTooLarge run err answer
+pub refuses_too_large : (run : Run) (err : SinkTrace) (answer : Status) (outcome : Result Ending Failure) → Cause run outcome → Said err (message outcome) → answer ≡ status_of outcome →
+    RefusesTooLarge run err answer
 refuses_too_large run err answer (Ok ends) cause said answered = λ job texts is told large inputs.
     absurd (both_ways _ (cause.told texts told).accepted.fits large)
 refuses_too_large run err answer (Err Usage) cause said answered = λ job texts is told large inputs. asks run.asked job is cause.asked
@@ -79,7 +81,8 @@ refuses_too_large run err answer (Err CannotWrite) cause said answered = λ job 
 refuses_too_large run err answer (Err NoMemory) cause said answered = λ job texts is told large inputs. inr answered
 
 -- where more bytes were handed out than inputs may have, no other outcome has its cause
-pub refuses_more : (run : Run) (err : SinkTrace) (answer : Status) (outcome : Result Ending Failure) → Cause run outcome → Said err (message outcome) → answer ≡ status_of outcome → RefusesMore run err answer
+pub refuses_more : (run : Run) (err : SinkTrace) (answer : Status) (outcome : Result Ending Failure) → Cause run outcome → Said err (message outcome) → answer ≡ status_of outcome →
+    RefusesMore run err answer
 refuses_more run err answer (Ok ends) cause said answered = λ more. absurd (omega (arith, more, cause.read.in_room))
 refuses_more run err answer (Err Usage) cause said answered = λ more. absurd (omega (arith, more, cause.source.handed))
 refuses_more run err answer (Err TooLarge) cause said answered = λ more. inl (answered, cause.kept, said)
@@ -88,14 +91,16 @@ refuses_more run err answer (Err (CannotRead name)) cause said answered = λ mor
 refuses_more run err answer (Err CannotWrite) cause said answered = λ more. absurd (omega (arith, more, cause.read.in_room))
 refuses_more run err answer (Err NoMemory) cause said answered = λ more. inr answered
 
-pub refuses_faults : (run : Run) (err : SinkTrace) (answer : Status) (outcome : Result Ending Failure) → Cause run outcome → Said err (message outcome) → answer ≡ status_of outcome → RefusesFaults run err answer
+pub refuses_faults : (run : Run) (err : SinkTrace) (answer : Status) (outcome : Result Ending Failure) → Cause run outcome → Said err (message outcome) → answer ≡ status_of outcome →
+    RefusesFaults run err answer
 refuses_faults run err answer (Ok ends) cause said answered = λ job texts fault is told fits found inputs.
     no_fault (refusal job texts) fault (subst (λ (j : Job). refusal j texts ≡ None) (one_job run.asked job cause.job is cause.asked) (cause.told texts told).accepted.no_fault) found
 refuses_faults run err answer (Err Usage) cause said answered = λ job texts fault is told fits found inputs. asks run.asked job is cause.asked
 refuses_faults run err answer (Err TooLarge) cause said answered = λ job texts fault is told fits found inputs.
     absurd (both_ways _ fits (cause.over.large texts told))
 refuses_faults run err answer (Err (Refused other)) cause said answered = λ job texts fault is told fits found inputs.
-    let same : other ≡ fault = one_fault (refusal job texts) fault other found (subst (λ (j : Job). refusal j texts ≡ Some other) (one_job run.asked job cause.job is cause.asked) (cause.found texts told)) in
+    let same : other ≡ fault = one_fault (refusal job texts) fault other found
+    (subst (λ (j : Job). refusal j texts ≡ Some other) (one_job run.asked job cause.job is cause.asked) (cause.found texts told)) in
     inl (answered, cause.kept, subst (λ (f : Fault). Said err (message (Err (Refused f)))) same said)
 refuses_faults run err answer (Err (CannotRead name)) cause said answered = λ job texts fault is told fits found inputs.
     absurd (still_or_rose _ _ (inputs name (among run.source (names_asked run.asked) name cause.at)) cause.at.rose)

@@ -72,7 +72,9 @@ text-is : (job : Job) (texts : List (List ℕ)) (reply : Result (List ℕ) Fault
 unfolding text_of
 text-is job texts reply fits is = output-fits job texts fits ∙ ap text_in is
 
-pub Cause-from_answers : (job : Job) (source : SourceTrace) (out : SinkTrace) (texts : List (List ℕ)) (outcome : Result Ending Failure) → ((told : List (List ℕ)) → AreTold source.holds source.left (names_of job) told → texts ≡ told) → total_size texts ≤ SIZE_LIMIT → ReadOnce source (names_of job) → Answers job texts out outcome → Cause (ran (Some job) source out) outcome
+pub Cause-from_answers : (job : Job) (source : SourceTrace) (out : SinkTrace) (texts : List (List ℕ)) (outcome : Result Ending Failure) →
+    ((told : List (List ℕ)) → AreTold source.holds source.left (names_of job) told → texts ≡ told) → total_size texts ≤ SIZE_LIMIT → ReadOnce source (names_of job) → Answers job texts out outcome →
+    Cause (ran (Some job) source out) outcome
 unfolding ending_of
 Cause-from_answers job source out texts (Ok ends) read size once answers =
     let fits = fits_limit texts size in
@@ -104,7 +106,8 @@ Cause-from_answers job source out texts (Err CannotWrite) read size once answers
       front = λ told tells. subst (λ (ts : List (List ℕ)). TookFront out.before out.after (output (Some job) ts)) (read told tells) front;
     }
 Cause-from_answers job source out texts (Err NoMemory) read size once answers =
-    let front : TookFront out.before out.after (output (Some job) texts) = subst (TookFront out.before out.after) (sym (text-is job texts (reply_in job texts (objects_of job texts)) (fits_limit texts size) refl)) answers in
+    let front : TookFront out.before out.after (output (Some job) texts) = subst (TookFront out.before out.after)
+    (sym (text-is job texts (reply_in job texts (objects_of job texts)) (fits_limit texts size) refl)) answers in
     record {
       began = BeganFront-all source (names_of job) once;
       front = λ told tells. subst (λ (ts : List (List ℕ)). TookFront out.before out.after (output (Some job) ts)) (read told tells) front;
@@ -116,7 +119,8 @@ Cause-from_answers job source out texts (Err (CannotRead name)) read size once a
 -- ---- words and inputs that are not read
 
 -- the words ask for nothing, or want memory
-pub Cause-words : (asked : Option Job) (source : SourceTrace) (out : SinkTrace) (fault : WordsFault) → (fault ≡ words.Usage → asked ≡ None) → IsUntouched source → IsKept out → Cause (ran asked source out) (Err (words_failure fault))
+pub Cause-words : (asked : Option Job) (source : SourceTrace) (out : SinkTrace) (fault : WordsFault) → (fault ≡ words.Usage → asked ≡ None) → IsUntouched source → IsKept out →
+    Cause (ran asked source out) (Err (words_failure fault))
 Cause-words asked source out words.Usage nothing untouched kept = record { asked = nothing refl; source = untouched; kept = kept }
 Cause-words asked source out words.NoMemory nothing untouched kept = record {
   began = BeganFront-none source (names_asked asked) untouched;
@@ -128,7 +132,8 @@ pub Cause-unbegun : (job : Job) (source : SourceTrace) (out : SinkTrace) → IsU
 Cause-unbegun job source out untouched kept = record { began = BeganFront-none source (names_of job) untouched; front = λ texts told. TookFront-kept out (output (Some job) texts) kept }
 
 -- the inputs are not read
-pub Cause-unread : (job : Job) (source : SourceTrace) (out : SinkTrace) (fault : SourceFault) → IsKept out → Unread source (names_of job) fault → Cause (ran (Some job) source out) (Err (source_failure fault))
+pub Cause-unread : (job : Job) (source : SourceTrace) (out : SinkTrace) (fault : SourceFault) → IsKept out → Unread source (names_of job) fault →
+    Cause (ran (Some job) source out) (Err (source_failure fault))
 Cause-unread job source out (unread.CannotRead name) kept why = record { at = why; kept = kept }
 Cause-unread job source out unread.TooLarge kept why = record { asked = refl; over = why; kept = kept }
 Cause-unread job source out unread.NoMemory kept why = record { began = why; front = λ texts told. TookFront-kept out (output (Some job) texts) kept }

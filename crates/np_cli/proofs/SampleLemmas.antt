@@ -50,7 +50,8 @@ countable (jobs.Flatten files) texts lists well read = tt
 tells_nothing : (run : Run) (n : ℕ) → run.asked ≡ Some (SampleJob n) → KnowsBytes run []
 tells_nothing run n is = subst (λ (names : List (List ℕ)). AreTold run.source.holds run.source.left names []) (sym (ap names_asked is)) tt
 
-says-counts : (run : Run) (answer : Status) (outcome : Result Ending Failure) (n : ℕ) → Cause run outcome → answer ≡ status_of outcome → n ≤ 1000 → run.asked ≡ Some (SampleJob n) → answer ≡ status.Done → CountsAll run.out n
+says-counts : (run : Run) (answer : Status) (outcome : Result Ending Failure) (n : ℕ) → Cause run outcome → answer ≡ status_of outcome → n ≤ 1000 → run.asked ≡ Some (SampleJob n) →
+    answer ≡ status.Done → CountsAll run.out n
 unfolding reply
 says-counts run answer outcome n cause answered few is done =
     let told_by = (done-told run answer outcome (SampleJob n) [] cause answered is (tells_nothing run n is) done).1 in
@@ -60,7 +61,8 @@ no_refusal : (n : ℕ) → n ≤ 1000 → refusal (SampleJob n) [] ≡ None
 unfolding refusal reply
 no_refusal n few = rw (lists_of-sample n few) refl
 
-never-refused : (run : Run) (answer : Status) (outcome : Result Ending Failure) (n : ℕ) → Cause run outcome → answer ≡ status_of outcome → n ≤ 1000 → run.asked ≡ Some (SampleJob n) → answer ≡ status.Refused → ⊥
+never-refused : (run : Run) (answer : Status) (outcome : Result Ending Failure) (n : ℕ) → Cause run outcome → answer ≡ status_of outcome → n ≤ 1000 → run.asked ≡ Some (SampleJob n) →
+    answer ≡ status.Refused → ⊥
 never-refused run answer (Ok (Done notes)) n cause answered few is refused = cc
 never-refused run answer (Ok Violated) n cause answered few is refused = cc
 never-refused run answer (Err Usage) n cause answered few is refused = cc
@@ -74,5 +76,9 @@ never-refused run answer (Err CannotWrite) n cause answered few is refused = cc
 never-refused run answer (Err NoMemory) n cause answered few is refused = cc
 
 pub says_counts : (run : Run) (answer : Status) (outcome : Result Ending Failure) → Cause run outcome → answer ≡ status_of outcome → SaysCounts run answer
-says_counts run answer outcome cause answered = λ n few is.
-    (record { fits = refl; no_fault = no_refusal n few }, λ done. says-counts run answer outcome n cause answered few is done, λ refused. never-refused run answer outcome n cause answered few is refused)
+says_counts run answer outcome cause answered = λ n few is. (
+  record { fits = refl; no_fault = no_refusal n few },
+  λ done. says-counts run answer outcome n cause answered few is done,
+  λ refused.
+      never-refused run answer outcome n cause answered few is refused,
+)

@@ -1,5 +1,6 @@
 -- Reading the inputs of a job one after another.
-use Rattle.std.proofs.Common.{◌≡◌, ℕ, zero, suc, ◌+◌, ◌^◌, ◌<◌, ◌≤◌, List, [], ◌∷◌, ◌++◌, length, take, drop, get_or, map, Option, Some, None, is_some, IsSome, true, refl, sym, ap, ◌∙◌, subst, inl, inr, arith, Vec, append_assoc, append-nil, add-zero}
+use Rattle.std.proofs.Common.{◌≡◌, ℕ, zero, suc, ◌+◌, ◌^◌, ◌<◌, ◌≤◌, List, [], ◌∷◌, ◌++◌, length, take, drop, get_or, map, Option, Some, None, is_some, IsSome, true, refl, sym, ap, ◌∙◌, subst, inl}
+use Rattle.std.proofs.Common.{inr, arith, Vec, append_assoc, append-nil, add-zero}
 use Rattle.std.specs.Prelude.{◌⊎◌, Contains}
 use Rattle.std.specs.Option.{option_map}
 use Rattle.std.specs.declared.alloc.Global.{Global}
@@ -30,7 +31,8 @@ AreTold-length holds left (name ∷ names) [] told = absurd told
 AreTold-length holds left (name ∷ names) (text ∷ texts) told = ap (λ (n : ℕ). suc n) (AreTold-length holds left names texts told.1)
 
 -- what is told for the name at a place
-pub AreTold-at : (holds : List ℕ → Option (List ℕ)) (left : Option (List ℕ)) (names texts : List (List ℕ)) (i : ℕ) → AreTold holds left names texts → i < length names → IsTold holds left (get_or names i []) (get_or texts i [])
+pub AreTold-at : (holds : List ℕ → Option (List ℕ)) (left : Option (List ℕ)) (names texts : List (List ℕ)) (i : ℕ) → AreTold holds left names texts → i < length names →
+    IsTold holds left (get_or names i []) (get_or texts i [])
 AreTold-at holds left [] [] i told below = absurd (omega arith)
 AreTold-at holds left [] (text ∷ texts) i told below = absurd told
 AreTold-at holds left (name ∷ names) [] i told below = absurd told
@@ -38,7 +40,8 @@ AreTold-at holds left (name ∷ names) (text ∷ texts) zero told below = told.0
 AreTold-at holds left (name ∷ names) (text ∷ texts) (suc i) told below = AreTold-at holds left names texts i told.1 (omega arith)
 
 -- the bytes so far, and those of the next input
-pub bytes_of-more : (texts : List (List ℕ)) (made : List (Vec ℕ Global)) (next : Vec ℕ Global) (i : ℕ) → i < length texts → bytes_of made ≡ take i texts → next.items ≡ get_or texts i [] → bytes_of (made ++ next ∷ []) ≡ take (i + 1) texts
+pub bytes_of-more : (texts : List (List ℕ)) (made : List (Vec ℕ Global)) (next : Vec ℕ Global) (i : ℕ) → i < length texts → bytes_of made ≡ take i texts → next.items ≡ get_or texts i [] →
+    bytes_of (made ++ next ∷ []) ≡ take (i + 1) texts
 bytes_of-more texts made next i below so_far is =
     map-append (λ (text : Vec ℕ Global). text.items) made (next ∷ [])
     ∙ ap (λ (front : List (List ℕ)). front ++ next.items ∷ []) so_far
@@ -65,7 +68,8 @@ RosePast-joined n room limit old mid new whole rose past = elim past [
 ]
 
 -- the inputs so far leave room for fewer bytes than the next one has
-pub is_too_large-told : (texts : List (List ℕ)) (made : List (Vec ℕ Global)) (i room : ℕ) → i < length texts → bytes_of made ≡ take i texts → room + total_size (bytes_of made) ≡ SIZE_LIMIT → room < length (get_or texts i []) → is_too_large texts ≡ true
+pub is_too_large-told : (texts : List (List ℕ)) (made : List (Vec ℕ Global)) (i room : ℕ) → i < length texts → bytes_of made ≡ take i texts → room + total_size (bytes_of made) ≡ SIZE_LIMIT →
+    room < length (get_or texts i []) → is_too_large texts ≡ true
 is_too_large-told texts made i room below so_far counted past =
     let sizes : total_size (bytes_of made) ≡ total_size (take i texts) = ap total_size so_far in
     let more = sum_by_more_le length texts i [] below in
@@ -78,7 +82,8 @@ still_some (Some x) None same is = absurd (true≢false (sym same))
 still_some (Some x) (Some y) same is = refl
 
 -- what the source told of the next name at first, it tells still
-pub told-next : (holds holds_now : List ℕ → Option (List ℕ)) (left left_now : Option (List ℕ)) (names texts : List (List ℕ)) (i : ℕ) (name : List ℕ) → holds_now ≡ holds → is_some left_now ≡ is_some left → i < length names → name ≡ get_or names i name → AreTold holds left names texts → IsTold holds_now left_now name (get_or texts i [])
+pub told-next : (holds holds_now : List ℕ → Option (List ℕ)) (left left_now : Option (List ℕ)) (names texts : List (List ℕ)) (i : ℕ) (name : List ℕ) → holds_now ≡ holds →
+    is_some left_now ≡ is_some left → i < length names → name ≡ get_or names i name → AreTold holds left names texts → IsTold holds_now left_now name (get_or texts i [])
 told-next holds holds_now left left_now names texts i name same_holds same_left below is told =
     let at_first = AreTold-at holds left names texts i told below in
     let here : name ≡ get_or names i [] = get_or_read names i name below is [] in
@@ -104,12 +109,14 @@ BeganNext-more old middle new first second before after = elim after [
   ]
 ]
   where
-    both : (known : Option (List (List ℕ))) → option_map (λ (ns : List (List ℕ)). ns ++ second) (option_map (λ (ns : List (List ℕ)). ns ++ first) known) ≡ option_map (λ (ns : List (List ℕ)). ns ++ (first ++ second)) known
+    both : (known : Option (List (List ℕ))) →
+        option_map (λ (ns : List (List ℕ)). ns ++ second) (option_map (λ (ns : List (List ℕ)). ns ++ first) known) ≡ option_map (λ (ns : List (List ℕ)). ns ++ (first ++ second)) known
     both None = refl
     both (Some names) = ap (λ (ns : List (List ℕ)). Some ns) (append_assoc names first second)
 
 -- the names before a place, and then that of the place
-pub Began-next : (old middle new : Option (List (List ℕ))) (names : List (List ℕ)) (i : ℕ) (name : List ℕ) → i < length names → name ≡ get_or names i name → BeganNext old middle (take i names) → BeganNext middle new (name ∷ []) → BeganNext old new (take (i + 1) names)
+pub Began-next : (old middle new : Option (List (List ℕ))) (names : List (List ℕ)) (i : ℕ) (name : List ℕ) → i < length names → name ≡ get_or names i name → BeganNext old middle (take i names) →
+    BeganNext middle new (name ∷ []) → BeganNext old new (take (i + 1) names)
 Began-next old middle new names i name below is before after =
     let here : name ≡ get_or names i [] = get_or_read names i name below is [] in
     let front : take i names ++ name ∷ [] ≡ take (i + 1) names = ap (λ (n : List ℕ). take i names ++ n ∷ []) here ∙ sym (take_more names i [] below) in
@@ -144,9 +151,26 @@ parted names i name below here =
     ∙ ap (λ (front : List (List ℕ)). front ++ drop (i + 1) names) (take_more names i [] below ∙ ap (λ (n : List ℕ). take i names ++ n ∷ []) (sym here))
     ∙ append_assoc (take i names) (name ∷ []) (drop (i + 1) names)
 
-pub Unread-next : (source : SourceTrace) (holds_now : List ℕ → Option (List ℕ)) (left_now : Option (List ℕ)) (faults_now : List ℕ → ℕ) (handed_now : ℕ) (began_now : Option (List (List ℕ))) (names : List (List ℕ)) (made : List (Vec ℕ Global)) (i room : ℕ) (name : List ℕ) (fault : SourceFault) → holds_now ≡ source.holds → is_some left_now ≡ is_some source.left → faults_now ≡ source.faults_before → i < length names → name ≡ get_or names i name → ((texts : List (List ℕ)) → AreTold source.holds source.left names texts → bytes_of made ≡ take i texts) → room + total_size (bytes_of made) ≡ SIZE_LIMIT → RoseBy (total_size (bytes_of made)) source.handed_before handed_now → HandedOut source.handed_before handed_now (total_size (bytes_of made)) → BeganNext source.began_before began_now (take i names) → BeganNext began_now source.began_after (name ∷ []) → NextUnread (record { holds = holds_now; left = left_now; faults_before = faults_now; faults_after = source.faults_after; handed_before = handed_now; handed_after = source.handed_after; began_before = began_now; began_after = source.began_after }) name room fault → Unread source names fault
+pub Unread-next : (source : SourceTrace) (holds_now : List ℕ → Option (List ℕ)) (left_now : Option (List ℕ)) (faults_now : List ℕ → ℕ) (handed_now : ℕ) (began_now : Option (List (List ℕ)))
+    (names : List (List ℕ)) (made : List (Vec ℕ Global)) (i room : ℕ) (name : List ℕ) (fault : SourceFault) →
+    holds_now ≡ source.holds → is_some left_now ≡ is_some source.left → faults_now ≡ source.faults_before → i < length names → name ≡ get_or names i name →
+    ((texts : List (List ℕ)) → AreTold source.holds source.left names texts → bytes_of made ≡ take i texts) → room + total_size (bytes_of made) ≡ SIZE_LIMIT →
+    RoseBy (total_size (bytes_of made)) source.handed_before handed_now → HandedOut source.handed_before handed_now (total_size (bytes_of made)) →
+    BeganNext source.began_before began_now (take i names) → BeganNext began_now source.began_after (name ∷ []) →
+    NextUnread (record {
+      holds = holds_now;
+      left = left_now;
+      faults_before = faults_now;
+      faults_after = source.faults_after;
+      handed_before = handed_now;
+      handed_after = source.handed_after;
+      began_before = began_now;
+      began_after = source.began_after;
+    }) name room fault →
+    Unread source names fault
 Unread-next source holds_now left_now faults_now handed_now began_now names made i room name (CannotRead named) same_holds same_left same_faults below is so_far counted rose out before after why =
-    let at_name : (n : ℕ) → Rose n (source.faults_after name) → (source.faults_before name ≡ n) → Rose (source.faults_before name) (source.faults_after name) = λ n r e. subst (λ (m : ℕ). Rose m (source.faults_after name)) (sym e) r in
+    let at_name : (n : ℕ) → Rose n (source.faults_after name) → (source.faults_before name ≡ n) → Rose (source.faults_before name) (source.faults_after name) = λ n r e. subst
+    (λ (m : ℕ). Rose m (source.faults_after name)) (sym e) r in
     let here : name ≡ get_or names i [] = get_or_read names i name below is [] in
     let most = out.most in
     let more = why.2 in
@@ -176,7 +200,8 @@ Unread-next source holds_now left_now faults_now handed_now began_now names made
           is_too_large-told texts made i room (omega arith) (so_far texts told) counted
           (why.3 (get_or texts i []) (told-next source.holds holds_now source.left left_now names texts i name same_holds same_left below is told));
       fits = λ texts told.
-          let size : total_size (bytes_of made) ≡ total_size (take (length (take i names)) texts) = ap total_size (so_far texts told ∙ ap (λ (n : ℕ). take n texts) (sym (length-take-le i names (omega (arith, below))))) in
+          let size : total_size (bytes_of made) ≡ total_size (take (length (take i names)) texts) = ap total_size
+          (so_far texts told ∙ ap (λ (n : ℕ). take n texts) (sym (length-take-le i names (omega (arith, below))))) in
           omega (arith, size, counted);
     }
 Unread-next source holds_now left_now faults_now handed_now began_now names made i room name NoMemory same_holds same_left same_faults below is so_far counted rose out before after why =

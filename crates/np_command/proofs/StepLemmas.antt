@@ -13,12 +13,14 @@ use Rattle.std.specs.Prelude.{MatchOption}
 use Rattle.np_table.specs.declared.rows.Row.{Row}
 
 -- what is due for all rows of a cluster
-pub due-within : (lists : EstateLists) (workloads kinds : ℕ) → workloads ≡ length (folding_of lists).workloads → kinds ≤ workloads → (4 * workloads * kinds + 6 * workloads) * most_rules lists (folding_of lists) ≤ list_steps lists
+pub due-within : (lists : EstateLists) (workloads kinds : ℕ) → workloads ≡ length (folding_of lists).workloads → kinds ≤ workloads →
+    (4 * workloads * kinds + 6 * workloads) * most_rules lists (folding_of lists) ≤ list_steps lists
 unfolding list_steps
 due-within lists workloads kinds is fewer =
     let pairs : 4 * workloads * kinds ≤ 4 * workloads * workloads = mul-le-mul_left (4 * workloads) fewer in
     let all : 4 * workloads * kinds + 6 * workloads ≤ 4 * workloads * workloads + 6 * workloads = omega (arith, pairs) in
-    subst (λ (n : ℕ). (4 * workloads * kinds + 6 * workloads) * most_rules lists (folding_of lists) ≤ (4 * n * n + 6 * n) * most_rules lists (folding_of lists)) is (mul-le-mul_right (most_rules lists (folding_of lists)) all)
+    subst (λ (n : ℕ). (4 * workloads * kinds + 6 * workloads) * most_rules lists (folding_of lists) ≤ (4 * n * n + 6 * n) * most_rules lists (folding_of lists)) is
+    (mul-le-mul_right (most_rules lists (folding_of lists)) all)
 
 length-firsts : (alike : ℕ → ℕ → Bool) (count : ℕ) → length (firsts alike count) ≤ count
 unfolding firsts
@@ -29,7 +31,8 @@ unfolding folding_of
 kinds-fewer lists = subst (λ (n : ℕ). length (firsts (kinds_alike lists) (workload_count lists)) ≤ n) (sym (workloads-count lists)) (length-firsts (kinds_alike lists) (workload_count lists))
 
 -- so what is due for all rows of a table is within what a list may count
-pub due_all : (lists : EstateLists) (folding : Folding) → folding ≡ folding_of lists → (4 * length folding.workloads * folding.kind_count + 6 * length folding.workloads) * most_rules lists folding ≤ list_steps lists
+pub due_all : (lists : EstateLists) (folding : Folding) → folding ≡ folding_of lists →
+    (4 * length folding.workloads * folding.kind_count + 6 * length folding.workloads) * most_rules lists folding ≤ list_steps lists
 due_all lists folding is =
     subst (λ (f : Folding). (4 * length f.workloads * f.kind_count + 6 * length f.workloads) * most_rules lists f ≤ list_steps lists) (sym is)
     (due-within lists (length (folding_of lists).workloads) (folding_of lists).kind_count refl (kinds-fewer lists))

@@ -15,7 +15,8 @@ use Rattle.np_command.specs.declared.write_fault.WriteFault.TheVariants as unwri
 use Rattle.np_io.specs.Taken.{TookFront}
 
 -- Where a step finds a fault, nothing is written of a reply that has that fault then.
-pub Wrote-refused : {X : Type 0} (out : SinkTrace) (reply : Result X Fault → Result (List ℕ) Fault) (found : Result X Fault) (failure : Failure) → ((fault : Fault) → reply (Err fault) ≡ Err fault) → Refuses failure found → IsKept out → Wrote out (reply found) (Err failure)
+pub Wrote-refused : {X : Type 0} (out : SinkTrace) (reply : Result X Fault → Result (List ℕ) Fault) (found : Result X Fault) (failure : Failure) → ((fault : Fault) → reply (Err fault) ≡ Err fault) →
+    Refuses failure found → IsKept out → Wrote out (reply found) (Err failure)
 Wrote-refused out reply found (Refused fault) stands refuses kept = (ap reply refuses ∙ stands fault, kept)
 Wrote-refused out reply found NoMemory stands refuses kept = TookFront-kept out (text_in (reply found)) kept
 Wrote-refused out reply found Usage stands refuses kept = absurd refuses
@@ -24,6 +25,7 @@ Wrote-refused out reply found (CannotRead name) stands refuses kept = absurd ref
 Wrote-refused out reply found CannotWrite stands refuses kept = absurd refuses
 
 -- a text that is not written whole
-pub Wrote-unwritten : (out : SinkTrace) (reply : Result (List ℕ) Fault) (text : List ℕ) (fault : WriteFault) → reply ≡ Ok text → Writes out text (Err fault) → Wrote out reply (Err (write_failure fault))
+pub Wrote-unwritten : (out : SinkTrace) (reply : Result (List ℕ) Fault) (text : List ℕ) (fault : WriteFault) → reply ≡ Ok text → Writes out text (Err fault) →
+    Wrote out reply (Err (write_failure fault))
 Wrote-unwritten out reply text unwritten.SinkFailed is wrote = record { text = text; is = is; took = wrote.0; rose = wrote.1 }
 Wrote-unwritten out reply text unwritten.NoMemory is wrote = subst (TookFront out.before out.after) (sym (ap text_in is)) wrote

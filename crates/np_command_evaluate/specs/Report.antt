@@ -12,7 +12,7 @@ use Rattle.np_conns.specs.declared.port_spot.PortSpot.{PortSpot}
 use Rattle.np_model.specs.declared.lists.EstateLists.{EstateLists}
 use Rattle.np_model.specs.declared.pod.Pod.{Pod}
 use Rattle.np_report.specs.RowText.{family_suffix}
-use Rattle.np_rules.specs.Verdict.{allows, packet_of}
+use Rattle.np_rules.specs.model.Verdict.{allows, packet_of}
 use Rattle.np_rules.specs.declared.packet.End.{End}
 use Rattle.np_rules.specs.declared.packet.End.TheVariants as end
 use Rattle.np_args.specs.declared.end_word.EndWord.{EndWord}

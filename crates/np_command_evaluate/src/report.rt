@@ -7,7 +7,7 @@ ghost use Rattle.np_command.specs.Prints.{Wrote};
 ghost use Rattle.np_command.specs.Sinks.{sunk};
 ghost use Rattle.np_explain.specs.Sides.{are_one_pod};
 ghost use Rattle.np_command_evaluate.specs.Report as spec;
-ghost use Rattle.np_rules.specs.Verdict.{IsEndOf};
+ghost use Rattle.np_rules.specs.model.Verdict.{IsEndOf};
 
 use np_addr::Family;
 use np_args::EndWord;

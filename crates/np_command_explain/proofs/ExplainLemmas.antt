@@ -1,5 +1,6 @@
 -- What a report of `explain` says.
-use Rattle.std.proofs.Common.{◌≡◌, ◌≢◌, ◌<◌, ℕ, zero, suc, List, [], ◌∷◌, length, get_or, Bool, true, false, ◌==◌, Less, Equal, inr, Contains, Option, None, Some, Result, Ok, Err, if◌then◌else◌, arith, refl, sym, ap, subst, ◌∙◌}
+use Rattle.std.proofs.Common.{◌≡◌, ◌≢◌, ◌<◌, ℕ, zero, suc, List, [], ◌∷◌, length, get_or, Bool, true, false, ◌==◌, Less, Equal, inr, Contains, Option, None, Some, Result, Ok, Err, if◌then◌else◌}
+use Rattle.std.proofs.Common.{arith, refl, sym, ap, subst, ◌∙◌}
 use Rattle.std.proofs.lemmas.Bool.{eq-eqb, false≢true, ne_eqb}
 use Rattle.std.proofs.lemmas.Map.Keys.{Less-from_sorted}
 use Rattle.std.proofs.lemmas.Cmp.{nat_cmp_total}
@@ -27,7 +28,7 @@ use Rattle.np_explain.specs.declared.explanation.Explanation.{Explanation}
 use Rattle.np_fold.proofs.WorkloadLemmas.{pods-ascend}
 use Rattle.np_fold.specs.Workloads.{Folding, folding_of, members_of, number_named, number_of}
 use Rattle.np_routes.proofs.KindRoutes.{one_workload-alike}
-use Rattle.np_rules.specs.Verdict.{IsEndOf, end_of}
+use Rattle.np_rules.specs.model.Verdict.{IsEndOf, end_of}
 use Rattle.np_rules.specs.declared.packet.End.{End}
 use Rattle.np_rules.specs.declared.packet.End.TheVariants as end
 use Rattle.np_table.proofs.KindVerdicts.{SameKindEnd, SameKindEnd-ends, got-same, sent-same}
@@ -129,7 +130,8 @@ pub ends-far : (lists : EstateLists) (folding : Folding) (source destination : A
     → Some far ≡ (if are_one folding source destination then None else Some (destination_end folding source destination)) → near ≡ source_end folding source
     → AreEnds lists (record { source = near; destination = far })
 ends-far lists folding source destination near far folded source_in destination_in far_is near_is =
-    by (are_one (folding_of lists) source destination) refl (subst (λ (f : Folding). Some far ≡ (if are_one f source destination then None else Some (destination_end f source destination))) folded far_is)
+    by (are_one (folding_of lists) source destination) refl (subst
+    (λ (f : Folding). Some far ≡ (if are_one f source destination then None else Some (destination_end f source destination))) folded far_is)
   where
     near_there : near ≡ source_end (folding_of lists) source
     near_there = near_is ∙ ap (λ (f : Folding). source_end f source) folded
@@ -243,5 +245,7 @@ says-deciders lists from source destination ends lawful source_in destination_in
     one-shown (family_asked lists near far) make family (IsRightFor lists s d family)
     (λ one is. asked-family lists source destination s d one family s_is d_is between is)
     (right-for lists near far s d family (make family) first second (explanation-right lists near far family))
-    (λ same six. right-for lists near far s d family (make Four) first second (subst (λ (f : Family). IsRightFor lists near far f (make Four)) (sym six) (same_sides-right lists near far Four Six same))) in
-    subst (λ (e : Ends). (made : Explanation) × (shown_of family (in_families (family_asked lists e.source e.destination) (explanation_of lists e.source e.destination)) ≡ made ∷ []) × IsRightFor lists s d family made) (sym told.1) right
+    (λ same six. right-for lists near far s d family (make Four) first second
+    (subst (λ (f : Family). IsRightFor lists near far f (make Four)) (sym six) (same_sides-right lists near far Four Six same))) in
+    subst (λ (e : Ends). (made : Explanation) × (shown_of family (in_families (family_asked lists e.source e.destination) (explanation_of lists e.source e.destination)) ≡ made ∷ [])
+    × IsRightFor lists s d family made) (sym told.1) right

@@ -21,7 +21,8 @@ no_fault_at fault is = cc
 no_ends : (fault : Fault) (ends : Ends) → Err fault ≡ Ok ends → ⊥
 no_ends fault ends is = cc
 
-says_ends : (out : SinkTrace) (from to : EndWord) (texts : List (List ℕ)) (lists : EstateLists) (source destination : Result AskedEnd Fault) (ends : Result Ends Fault) → lists_of texts ≡ Ok lists → IsLawful lists
+says_ends : (out : SinkTrace) (from to : EndWord) (texts : List (List ℕ)) (lists : EstateLists) (source destination : Result AskedEnd Fault) (ends : Result Ends Fault) → lists_of texts ≡ Ok lists →
+    IsLawful lists
     → asked_end lists from ≡ source → asked_end lists to ≡ destination → known_ends (folding_of lists) (end_text from) source destination ≡ ends
     → fault_in (explain_ends from to lists ends) ≡ None → TookWhole out (text_in (explain_ends from to lists ends)) → ExplainsAll out from to texts
 says_ends out from to texts lists source destination (Err fault) read lawful from_is to_is are no_fault took = absurd (no_fault_at fault no_fault)

@@ -15,8 +15,10 @@ use Rattle.np_args.specs.declared.format.Format.{Format}
 no_fault_at : (fault : Fault) → Some fault ≡ None → ⊥
 no_fault_at fault is = cc
 
-says_sides : (out : SinkTrace) (workload : Option (List ℕ)) (format : Format) (texts : List (List ℕ)) (lists : EstateLists) (sides : Result (List ShownSide) Fault) → lists_of texts ≡ Ok lists → IsLawful lists
-    → sides_shown workload lists ≡ sides → fault_in (exposure_of_sides format lists sides) ≡ None → TookWhole out (text_in (exposure_of_sides format lists sides)) → ExposesAll out workload format texts
+says_sides : (out : SinkTrace) (workload : Option (List ℕ)) (format : Format) (texts : List (List ℕ)) (lists : EstateLists) (sides : Result (List ShownSide) Fault) → lists_of texts ≡ Ok lists →
+    IsLawful lists
+    → sides_shown workload lists ≡ sides → fault_in (exposure_of_sides format lists sides) ≡ None → TookWhole out (text_in (exposure_of_sides format lists sides)) →
+    ExposesAll out workload format texts
 says_sides out workload format texts lists (Err fault) read lawful are no_fault took = absurd (no_fault_at fault no_fault)
 says_sides out workload format texts lists (Ok sides) read lawful are no_fault took = by (first_fault lists sides) refl no_fault took
   where

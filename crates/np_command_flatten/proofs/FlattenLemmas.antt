@@ -1,5 +1,6 @@
 -- Flat policies, as they are written one after another.
-use Rattle.std.proofs.Common.{◌≡◌, ℕ, zero, suc, ◌+◌, ◌-◌, ◌<◌, ◌≤◌, List, [], ◌∷◌, ◌++◌, flat_map, map, Bool, true, false, Option, None, Some, Result, Ok, Err, arith, codes, inl, inr, refl, ap, sym, subst, ◌∙◌, append_assoc}
+use Rattle.std.proofs.Common.{◌≡◌, ℕ, zero, suc, ◌+◌, ◌-◌, ◌<◌, ◌≤◌, List, [], ◌∷◌, ◌++◌, flat_map, map, Bool, true, false, Option, None, Some, Result, Ok, Err, arith, codes, inl, inr, refl, ap, sym}
+use Rattle.std.proofs.Common.{subst, ◌∙◌, append_assoc}
 use Rattle.std.specs.List.{find, join_by, range_with_len}
 use Rattle.std.specs.Prelude.{◌⊎◌, All, nat_le}
 use Rattle.std.proofs.lemmas.Bool.{ne_eqb}
@@ -44,7 +45,8 @@ item-behind : (lists : EstateLists) (group : ℕ) → 1 ≤ group → item_text 
 unfolding item_text
 item-behind lists group some = rw (ne_eqb group 0 (λ none. absurd (omega (arith, none, some)))) refl
 
-items-behind : (lists : EstateLists) (group count : ℕ) → 1 ≤ group → flat_map (λ policy. codes "," ++ policy_text policy) (map (flat_policy lists) (range_with_len group count)) ≡ items lists group count
+items-behind : (lists : EstateLists) (group count : ℕ) → 1 ≤ group →
+    flat_map (λ policy. codes "," ++ policy_text policy) (map (flat_policy lists) (range_with_len group count)) ≡ items lists group count
 items-behind lists group zero some = refl
 items-behind lists group (suc count) some =
     ap (λ (text : List ℕ). text ++ flat_map (λ policy. codes "," ++ policy_text policy) (map (flat_policy lists) (range_with_len (group + 1) count))) (sym (item-behind lists group some))
@@ -131,7 +133,8 @@ fault-workloads lists fault which = elim which [
     count : ℕ
     count = number_of_workloads lists
 
-    by : (split : Option (ℕ × ℕ)) → first_pair (is_split lists) count ≡ split → (unlike : Option (ℕ × ℕ)) → first_pair (is_unlike lists) count ≡ unlike → fault_by split unlike ≡ Some fault → AreWorkloads lists fault
+    by : (split : Option (ℕ × ℕ)) → first_pair (is_split lists) count ≡ split → (unlike : Option (ℕ × ℕ)) → first_pair (is_unlike lists) count ≡ unlike → fault_by split unlike ≡ Some fault →
+        AreWorkloads lists fault
     by (Some pair) is_one unlike is_other is = subst (AreWorkloads lists) (one_fault (Split pair.0 pair.1) fault is) (pair-within (is_split lists) count pair is_one)
     by None is_one (Some pair) is_other is = subst (AreWorkloads lists) (one_fault (Alike pair.0 pair.1) fault is) (pair-within (is_unlike lists) count pair is_other)
     by None is_one None is_other is = absurd (cc)

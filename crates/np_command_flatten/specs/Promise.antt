@@ -12,8 +12,8 @@ use Rattle.np_reading.specs.Reading.{estate_of}
 use Rattle.np_model.specs.declared.lists.EstateLists.{EstateLists}
 use Rattle.np_manifests.specs.Estates.{estate_with}
 use Rattle.np_model.specs.declared.direction.Direction.{Direction}
-use Rattle.np_rules.specs.Ends.{pod}
-use Rattle.np_rules.specs.Verdict.{pod_at}
+use Rattle.np_rules.specs.model.Ends.{pod}
+use Rattle.np_rules.specs.model.Verdict.{pod_at}
 use Rattle.np_synth.specs.Faults.{flat_fault}
 use Rattle.np_synth.specs.Flat.{flat_policies, flattened}
 use Rattle.np_table.specs.Said.{IsInFamily}

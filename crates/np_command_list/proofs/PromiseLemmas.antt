@@ -75,7 +75,9 @@ says_ingresses lists asked lawful = λ p family spot within is kept.
     ∙ ingress_allows-pods lists asked.controller p spot lawful within
 
 -- a reply that is no fault is the rows that are asked for
-says_rows : (out : SinkTrace) (format : Format) (report : Report) (controller focus : Option (List ℕ)) (side : FocusSide) (texts : List (List ℕ)) (lists : EstateLists) (found : Result Listing Fault) → lists_of texts ≡ Ok lists → IsLawful lists → listing_of controller focus side lists ≡ found → fault_in (listing_text format report lists found) ≡ None → TookWhole out (text_in (listing_text format report lists found)) → SaysAll out format report controller focus side texts
+says_rows : (out : SinkTrace) (format : Format) (report : Report) (controller focus : Option (List ℕ)) (side : FocusSide) (texts : List (List ℕ)) (lists : EstateLists) (found : Result Listing Fault) →
+    lists_of texts ≡ Ok lists → IsLawful lists → listing_of controller focus side lists ≡ found → fault_in (listing_text format report lists found) ≡ None →
+    TookWhole out (text_in (listing_text format report lists found)) → SaysAll out format report controller focus side texts
 says_rows out format report controller focus side texts lists (Err fault) read lawful is no_fault took = cc
 says_rows out format report controller focus side texts lists (Ok asked) read lawful is no_fault took = record {
   lists = lists;

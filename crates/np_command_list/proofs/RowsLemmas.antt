@@ -18,10 +18,13 @@ or_false true = refl
 or_false false = refl
 
 -- the bytes of the next row, if it is asked for, stand before what is left then
-pub rows_to_come-next : (form : Form) (names : List (List ℕ)) (query : Query) (report : Report) (came : Bool) (row : Row) (rows : List Row) → rows_to_come form names query report came (row ∷ rows) ≡ (if keeps query row.key then form.row came (row_text names report row) else []) ++ rows_to_come form names query report (came || keeps query row.key) rows
+pub rows_to_come-next : (form : Form) (names : List (List ℕ)) (query : Query) (report : Report) (came : Bool) (row : Row) (rows : List Row) →
+    rows_to_come form names query report came (row ∷ rows) ≡ (if keeps query row.key then form.row came (row_text names report row) else []) ++ rows_to_come form names query report
+    (came || keeps query row.key) rows
 rows_to_come-next form names query report came row rows = by (keeps query row.key) refl
   where
-    by : (kept : Bool) → keeps query row.key ≡ kept → rows_to_come form names query report came (row ∷ rows) ≡ (if kept then form.row came (row_text names report row) else []) ++ rows_to_come form names query report (came || kept) rows
+    by : (kept : Bool) → keeps query row.key ≡ kept →
+        rows_to_come form names query report came (row ∷ rows) ≡ (if kept then form.row came (row_text names report row) else []) ++ rows_to_come form names query report (came || kept) rows
     by true is =
         rows_to_come-kept form names query report came row rows is
         ∙ ap (λ (c : Bool). form.row came (row_text names report row) ++ rows_to_come form names query report c rows) (sym (or_true came))

@@ -16,8 +16,8 @@ use Rattle.np_report.specs.Keeps.{keeps}
 use Rattle.np_report.specs.TableText.{list_text, shown_rows}
 use Rattle.np_routes.specs.ClusterTable.{cluster_rows, cluster_table, ingress_key, rows_from_controller}
 use Rattle.np_routes.specs.Controllers.{ingress_reaches, is_controller, sender_of}
-use Rattle.np_rules.specs.Ends.{pod}
-use Rattle.np_rules.specs.Verdict.{pod_at}
+use Rattle.np_rules.specs.model.Ends.{pod}
+use Rattle.np_rules.specs.model.Verdict.{pod_at}
 use Rattle.np_table.specs.Rows.{pair_key}
 use Rattle.np_table.specs.Said.{IsInFamily, allows_in, rows_between, rows_of_address}
 use Rattle.np_table.specs.Table.{between_pods, with_address}

@@ -13,7 +13,7 @@ use Rattle.np_lint.specs.Rules.{IsRuleOf}
 use Rattle.np_lint.specs.Used.{IsListedPacket, StandsIn, unused_of}
 use Rattle.np_lint.specs.Without.{without}
 use Rattle.np_lint.specs.declared.rule_ref.RuleRef.{RuleRef}
-use Rattle.np_rules.specs.Verdict.{allows}
+use Rattle.np_rules.specs.model.Verdict.{allows}
 use Rattle.np_rules.specs.declared.packet.End.{End}
 
 -- the rule stands in what decides no packet between two pods, or between a pod and an address

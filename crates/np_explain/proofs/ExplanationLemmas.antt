@@ -109,7 +109,12 @@ module _ (lists : EstateLists) (source destination : End) (family : Family) wher
       meets spot inside ∙ ap₂ (λ (a b : Bool). a && b) (sent_is spot) (received_is spot) ∙ passes-parts egress ingress spot sends receives inside) in
       ap (λ (parts : List Part). record { egress = parts; ingress = ingress; conns = conns }) egress_is
       ∙ ap (λ (parts : List Part). record { egress = parts_of (decider_between lists Egress source destination family); ingress = parts; conns = conns }) ingress_is
-      ∙ ap (λ (one : Conns). record { egress = parts_of (decider_between lists Egress source destination family); ingress = parts_of (decider_between lists Ingress source destination family); conns = one }) set
+      ∙ ap (λ (one : Conns). record {
+        egress = parts_of (decider_between lists Egress source destination family);
+        ingress = parts_of (decider_between lists Ingress source destination family);
+        conns =
+            one;
+      }) set
 
   pub explanation-right : IsRightFor lists source destination family (explanation_of lists source destination family)
   unfolding explanation_of
@@ -236,6 +241,7 @@ same_sides-right lists source destination family other same =
       ingress = receives;
       conns = λ spot inside.
           here.conns spot inside ∙ passes-deciders lists source destination family spot
-          ∙ ap₂ (λ (a b : Bool). a && b) (ap decider_allows (decides-of _ _ made.egress here.egress sends spot inside)) (ap decider_allows (decides-of _ _ made.ingress here.ingress receives spot inside))
+          ∙ ap₂ (λ (a b : Bool). a && b) (ap decider_allows (decides-of _ _ made.egress here.egress sends spot inside))
+          (ap decider_allows (decides-of _ _ made.ingress here.ingress receives spot inside))
           ∙ sym (passes-deciders lists source destination other spot);
     }

@@ -39,7 +39,9 @@ pub record IsFirst (conns : Conns) (number : ℕ) : Type 0 where
   pub least : (other : PortSpot) → has_spot conns other ≡ true → number ≤ spot_number other
 
 -- by the ports of each protocol
-by_protos : (conns : Conns) (proto : Proto) (port number : ℕ) → has_port (ranges_of conns proto) port ≡ true → 65536 * proto_number proto + port ≡ number → ((other : ℕ) → has_port conns.tcp other ≡ true → number ≤ other) → ((other : ℕ) → has_port conns.udp other ≡ true → number ≤ 65536 + other) → ((other : ℕ) → has_port conns.sctp other ≡ true → number ≤ 131072 + other) → IsFirst conns number
+by_protos : (conns : Conns) (proto : Proto) (port number : ℕ) → has_port (ranges_of conns proto) port ≡ true → 65536 * proto_number proto + port ≡ number →
+    ((other : ℕ) → has_port conns.tcp other ≡ true → number ≤ other) → ((other : ℕ) → has_port conns.udp other ≡ true → number ≤ 65536 + other) →
+    ((other : ℕ) → has_port conns.sctp other ≡ true → number ≤ 131072 + other) → IsFirst conns number
 by_protos conns proto port number held is tcp udp sctp = record {
   spot = record { proto = proto; port = port };
   has = held;
@@ -52,7 +54,8 @@ by_protos conns proto port number held is tcp udp sctp = record {
     each Udp other has = omega (arith, udp other has)
     each Sctp other has = omega (arith, sctp other has)
 
-of_lists : (tcp udp sctp : List (Range ℕ)) → AscendsInPorts tcp → AscendsInPorts udp → AscendsInPorts sctp → (spot : PortSpot) → has_spot (record { tcp = tcp; udp = udp; sctp = sctp }) spot ≡ true → IsFirst (record { tcp = tcp; udp = udp; sctp = sctp }) (first_or tcp 0 (first_or udp 65536 (first_or sctp 131072 0)))
+of_lists : (tcp udp sctp : List (Range ℕ)) → AscendsInPorts tcp → AscendsInPorts udp → AscendsInPorts sctp → (spot : PortSpot) → has_spot (record { tcp = tcp; udp = udp; sctp = sctp }) spot ≡ true →
+    IsFirst (record { tcp = tcp; udp = udp; sctp = sctp }) (first_or tcp 0 (first_or udp 65536 (first_or sctp 131072 0)))
 of_lists (run ∷ runs) udp sctp in_tcp in_udp in_sctp spot has =
     by_protos (record { tcp = run ∷ runs; udp = udp; sctp = sctp }) Tcp run.lo (0 + run.lo) (first_held run runs in_tcp) (omega arith)
     (λ other held. omega (arith, first_least run runs other in_tcp held)) (λ other held. omega (arith, in_tcp.1, in_tcp.2)) (λ other held. omega (arith, in_tcp.1, in_tcp.2))

@@ -8,9 +8,9 @@ use Rattle.np_explain.specs.Marks.{IsMarkOf, IsPassOf, admin_rules, base_rules, 
 use Rattle.np_explain.proofs.PlaceLemmas.{at_place, place_told}
 use Rattle.np_explain.proofs.RuleLemmas.{admin_names_apart, base_names_apart, net_names_apart}
 use Rattle.np_rules.specs.Deciders.{admin_rule_name, base_rule_name, net_rule_name}
-use Rattle.np_rules.specs.Places.{PlacedAdminRule}
+use Rattle.np_rules.specs.model.Places.{PlacedAdminRule}
 use Rattle.np_rules.specs.PodSides.{PodSide, near_pod}
-use Rattle.np_rules.specs.Sides.{is_allow}
+use Rattle.np_rules.specs.model.Sides.{is_allow}
 use Rattle.np_rules.specs.declared.decider.Decider.{Decider}
 use Rattle.np_rules.specs.declared.decider.Decider.TheVariants as decider
 use Rattle.np_rules.specs.declared.decider.RuleName.{RuleName}
@@ -77,7 +77,9 @@ met_named side (Some place) there = go (slice_get (admin_rules side) place) refl
     go : (o : Option PlacedAdminRule) → slice_get (admin_rules side) place ≡ o → IsMet side (option_map admin_rule_name o) (Some place)
     go None is = absurd (missing (slice_get_cases (admin_rules side) place).1)
       where
-        missing : ((placed : PlacedAdminRule) × (place < length (admin_rules side)) × (slice_get (admin_rules side) place ≡ Some placed) × (get_or (admin_rules side) place placed ≡ placed)) ⊎ ((length (admin_rules side) ≤ place) × (slice_get (admin_rules side) place ≡ None)) → ⊥
+        missing : ((placed : PlacedAdminRule) × (place < length (admin_rules side)) × (slice_get (admin_rules side) place ≡ Some placed) × (get_or (admin_rules side) place placed ≡ placed)) ⊎
+            ((length (admin_rules side) ≤ place) × (slice_get (admin_rules side) place ≡ None)) →
+            ⊥
         missing (inl found) = none_is_some (sym is ∙ found.2)
         missing (inr past) = absurd (omega (arith, past.0))
     go (Some placed) is = record { placed = placed; is = is; named = refl }
@@ -92,7 +94,8 @@ mark_is_named side (mark.Net met place) there =
     (λ placed is. (met_named side met there.0, record { placed = placed; is = is; named = refl }))
 mark_is_named side (mark.Isolated met) there = met_named side met there
 mark_is_named side (mark.Base met place) there =
-    at_place (λ (d : Decider). IsNamed side d (mark.Base met place)) (λ placed. decider.Base (pass_name side met) (base_rule_name placed) (is_allow placed.rule.action)) decider.NoSide (base_rules side) place there.1
+    at_place (λ (d : Decider). IsNamed side d (mark.Base met place)) (λ placed. decider.Base (pass_name side met) (base_rule_name placed) (is_allow placed.rule.action)) decider.NoSide
+    (base_rules side) place there.1
     (λ placed is. (met_named side met there.0, record { placed = placed; is = is; named = refl }))
 mark_is_named side (mark.Free met) there = met_named side met there
 

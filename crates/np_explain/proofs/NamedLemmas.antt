@@ -1,5 +1,6 @@
 -- What decides at an end is well named, where the policies are well formed.
-use Rattle.std.proofs.Common.{◌≡◌, ◌≢◌, ℕ, ◌+◌, ◌<◌, ◌≤◌, ◌^◌, List, [], ◌∷◌, ◌++◌, length, map, filter, find, Bool, true, false, not, ◌||◌, ◌==◌, codes, Option, Some, None, All, AllPairs, unwrap_or, refl, sym, ◌∙◌, subst, arith, if◌then◌else◌}
+use Rattle.std.proofs.Common.{◌≡◌, ◌≢◌, ℕ, ◌+◌, ◌<◌, ◌≤◌, ◌^◌, List, [], ◌∷◌, ◌++◌, length, map, filter, find, Bool, true, false, not, ◌||◌, ◌==◌, codes, Option, Some, None, All, AllPairs, unwrap_or}
+use Rattle.std.proofs.Common.{refl, sym, ◌∙◌, subst, arith, if◌then◌else◌}
 use Rattle.std.specs.List.{enumerate_from, flat_map, list_all}
 use Rattle.std.specs.Option.{option_map_or}
 use Rattle.std.proofs.lemmas.Bool.{and_from, and_parts, false≢true, lt-ltb}
@@ -34,15 +35,16 @@ use Rattle.np_model.specs.declared.network_policy.NetPolicy.{NetPolicy}
 use Rattle.np_model.specs.declared.network_policy.NetRule.{NetRule}
 use Rattle.np_rules.proofs.DeciderLemmas.{least_is_among}
 use Rattle.np_rules.proofs.PlacesLemmas.{length-numbered}
-use Rattle.np_rules.specs.AdminTier.{admin_decider, admin_precedes, least_by}
-use Rattle.np_rules.specs.BaseTier.{base_decider}
-use Rattle.np_rules.specs.Deciders.{action_decides, admin_decides, admin_rule_name, base_decides, base_rule_name, decider, isolating_names, lower_decider, net_decider, net_decides, net_policy_name, net_precedes, net_rule_name}
-use Rattle.np_rules.specs.Ends.{Contact, End, PodEnd, address, contact_of, pod}
-use Rattle.np_rules.specs.NetTier.{is_isolated, isolates, placed_net_matches}
-use Rattle.np_rules.specs.Places.{PlacedAdminRule, PlacedBaseRule, PlacedNetRule, admin_places, admin_rules_of, base_places, base_rules_of, end_rule_count, net_places, net_rules_of, rule_count}
-use Rattle.np_rules.specs.Rules.{admin_rule_matches}
-use Rattle.np_rules.specs.Selection.{net_selects, subject_selects}
-use Rattle.np_rules.specs.Verdict.{end_of}
+use Rattle.np_rules.specs.model.AdminTier.{admin_decider, admin_precedes, least_by}
+use Rattle.np_rules.specs.model.BaseTier.{base_decider}
+use Rattle.np_rules.specs.Deciders.{action_decides, admin_decides, admin_rule_name, base_decides, base_rule_name, decider, isolating_names, lower_decider, net_decider, net_decides, net_policy_name}
+use Rattle.np_rules.specs.Deciders.{net_precedes, net_rule_name}
+use Rattle.np_rules.specs.model.Ends.{Contact, End, PodEnd, address, contact_of, pod}
+use Rattle.np_rules.specs.model.NetTier.{is_isolated, isolates, placed_net_matches}
+use Rattle.np_rules.specs.model.Places.{PlacedAdminRule, PlacedBaseRule, PlacedNetRule, admin_places, admin_rules_of, base_places, base_rules_of, end_rule_count, net_places, net_rules_of, rule_count}
+use Rattle.np_rules.specs.model.Rules.{admin_rule_matches}
+use Rattle.np_rules.specs.model.Selection.{net_selects, subject_selects}
+use Rattle.np_rules.specs.model.Verdict.{end_of}
 use Rattle.np_rules.specs.declared.decider.Decider.{Decider}
 use Rattle.np_rules.specs.declared.decider.RuleName.{RuleName}
 use Rattle.np_rules.specs.declared.packet.End.{End as PlacedEnd}

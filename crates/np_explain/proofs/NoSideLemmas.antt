@@ -6,12 +6,12 @@ use Rattle.np_explain.specs.Sides.{is_address}
 use Rattle.np_model.specs.declared.admin_policy.Action.{Action}
 use Rattle.np_model.specs.declared.admin_policy.Action.TheVariants.{Allow, Deny, Pass}
 use Rattle.np_model.specs.declared.direction.Direction.{Direction}
-use Rattle.np_rules.specs.AdminTier.{admin_decider}
-use Rattle.np_rules.specs.BaseTier.{base_decider}
+use Rattle.np_rules.specs.model.AdminTier.{admin_decider}
+use Rattle.np_rules.specs.model.BaseTier.{base_decider}
 use Rattle.np_rules.specs.Deciders.{action_decides, admin_decides, admin_rule_name, base_decides, decider, isolating_names, lower_decider, net_decider, net_decides}
-use Rattle.np_rules.specs.Ends.{Contact, End, PodEnd, address, pod}
-use Rattle.np_rules.specs.NetTier.{is_isolated}
-use Rattle.np_rules.specs.Places.{PlacedAdminRule, PlacedBaseRule, PlacedNetRule}
+use Rattle.np_rules.specs.model.Ends.{Contact, End, PodEnd, address, pod}
+use Rattle.np_rules.specs.model.NetTier.{is_isolated}
+use Rattle.np_rules.specs.model.Places.{PlacedAdminRule, PlacedBaseRule, PlacedNetRule}
 use Rattle.np_rules.specs.declared.decider.Decider.{Decider}
 use Rattle.np_rules.specs.declared.decider.Decider.TheVariants as decider
 use Rattle.np_rules.specs.declared.decider.RuleName.{RuleName}
@@ -35,16 +35,20 @@ base_decides_it pass (Some placed) = refl
 lower_decides_it : (lists : EstateLists) (direction : Direction) (p : PodEnd) (contact : Contact) (pass : Option RuleName) → has_no_side (lower_decider lists direction p contact pass) ≡ false
 lower_decides_it lists direction p contact pass = go (is_isolated lists.net_policies direction p)
   where
-    go : (b : Bool) → has_no_side (if b then net_decides pass (isolating_names lists.net_policies direction p) (net_decider lists.net_policies direction p contact) else base_decides pass (base_decider lists.baseline direction p contact)) ≡ false
+    go : (b : Bool) →
+        has_no_side (if b then net_decides pass (isolating_names lists.net_policies direction p) (net_decider lists.net_policies direction p contact) else base_decides pass
+        (base_decider lists.baseline direction p contact)) ≡ false
     go true = net_decides_it pass (isolating_names lists.net_policies direction p) (net_decider lists.net_policies direction p contact)
     go false = base_decides_it pass (base_decider lists.baseline direction p contact)
 
-action_decides_it : (action : Action) (rule : RuleName) (lower : Option RuleName → Decider) → ((pass : Option RuleName) → has_no_side (lower pass) ≡ false) → has_no_side (action_decides action rule lower) ≡ false
+action_decides_it : (action : Action) (rule : RuleName) (lower : Option RuleName → Decider) → ((pass : Option RuleName) → has_no_side (lower pass) ≡ false) →
+    has_no_side (action_decides action rule lower) ≡ false
 action_decides_it Allow rule lower lowers = refl
 action_decides_it Deny rule lower lowers = refl
 action_decides_it Pass rule lower lowers = lowers (Some rule)
 
-admin_decides_it : (found : Option PlacedAdminRule) (lower : Option RuleName → Decider) → ((pass : Option RuleName) → has_no_side (lower pass) ≡ false) → has_no_side (admin_decides found lower) ≡ false
+admin_decides_it : (found : Option PlacedAdminRule) (lower : Option RuleName → Decider) → ((pass : Option RuleName) → has_no_side (lower pass) ≡ false) →
+    has_no_side (admin_decides found lower) ≡ false
 admin_decides_it None lower lowers = lowers None
 admin_decides_it (Some placed) lower lowers = action_decides_it placed.rule.action (admin_rule_name placed) lower lowers
 
@@ -52,5 +56,6 @@ pub no_side : (lists : EstateLists) (direction : Direction) (end : End) (contact
 no_side lists direction (address a) contact = (λ is. refl, λ same. refl)
 no_side lists direction (pod p) contact = (
   λ is. absurd (false≢true is),
-  λ same. absurd (false≢true (sym (admin_decides_it (admin_decider lists.admin_policies direction p contact) (lower_decider lists direction p contact) (lower_decides_it lists direction p contact)) ∙ ap has_no_side same)),
+  λ same. absurd (false≢true (sym (admin_decides_it (admin_decider lists.admin_policies direction p contact) (lower_decider lists direction p contact) (lower_decides_it lists direction p contact))
+      ∙ ap has_no_side same)),
 )

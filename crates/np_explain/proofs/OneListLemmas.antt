@@ -17,9 +17,9 @@ use Rattle.np_model.specs.declared.direction.Direction.{Direction}
 use Rattle.np_model.specs.declared.direction.Direction.TheVariants.{Ingress, Egress}
 use Rattle.np_rules.proofs.DeciderLemmas.{decider_says}
 use Rattle.np_rules.specs.Deciders.{decider_allows}
-use Rattle.np_rules.specs.Ends.{Packet, contact_of}
+use Rattle.np_rules.specs.model.Ends.{Packet, contact_of}
 use Rattle.np_rules.specs.Laws.{IsAmong}
-use Rattle.np_rules.specs.Verdict.{allows, end_allows}
+use Rattle.np_rules.specs.model.Verdict.{allows, end_allows}
 use Rattle.np_rules.specs.declared.decider.Decider.{Decider}
 use Rattle.np_rules.specs.declared.packet.End.{End}
 
@@ -35,12 +35,14 @@ among_all P (y ∷ ys) all x (inl same) = subst P (sym same) (All-head P y ys al
 among_all P (y ∷ ys) all x (inr later) = among_all P ys (All-tail P y ys all) x later
 
 -- lists in a strict order that have the same items are equal
-one_list : {X : Type 0} (R : X → X → Type 0) → IsStrict R → (xs ys : List X) → AllPairs R xs → AllPairs R ys → ((z : X) → IsAmong z xs → IsAmong z ys) → ((z : X) → IsAmong z ys → IsAmong z xs) → xs ≡ ys
+one_list : {X : Type 0} (R : X → X → Type 0) → IsStrict R → (xs ys : List X) → AllPairs R xs → AllPairs R ys → ((z : X) → IsAmong z xs → IsAmong z ys) → ((z : X) → IsAmong z ys → IsAmong z xs) →
+    xs ≡ ys
 one_list R strict [] [] in_xs in_ys forth back = refl
 one_list R strict [] (y ∷ ys) in_xs in_ys forth back = absurd (back y (inl refl))
 one_list R strict (x ∷ xs) [] in_xs in_ys forth back = absurd (forth x (inl refl))
 one_list {X} R strict (x ∷ xs) (y ∷ ys) in_xs in_ys forth back =
-    ap (λ z. z ∷ xs) first ∙ ap (λ (zs : List X). y ∷ zs) (one_list R strict xs ys (AllPairs-tail R x xs in_xs) (AllPairs-tail R y ys in_ys) (λ z among. keep z among (forth z (inr among))) (λ z among. kept z among (back z (inr among))))
+    ap (λ z. z ∷ xs) first ∙ ap (λ (zs : List X). y ∷ zs) (one_list R strict xs ys (AllPairs-tail R x xs in_xs) (AllPairs-tail R y ys in_ys) (λ z among. keep z among (forth z (inr among)))
+    (λ z among. kept z among (back z (inr among))))
   where
     after_x : (z : X) → IsAmong z xs → R x z
     after_x = among_all (R x) xs (AllPairs-head R x xs in_xs)
@@ -77,7 +79,8 @@ some_among : (spot : PortSpot) (parts : List Part) → some_has spot parts ≡ t
 some_among spot [] has = absurd (false≢true has)
 some_among spot (part ∷ parts) has = go (has_spot part.conns spot) refl has (λ some. some_among spot parts some)
   where
-    go : (b : Bool) → has_spot part.conns spot ≡ b → (b || some_has spot parts) ≡ true → (some_has spot parts ≡ true → (one : Part) × IsAmong one parts × (has_spot one.conns spot ≡ true)) → (one : Part) × IsAmong one (part ∷ parts) × (has_spot one.conns spot ≡ true)
+    go : (b : Bool) → has_spot part.conns spot ≡ b → (b || some_has spot parts) ≡ true → (some_has spot parts ≡ true → (one : Part) × IsAmong one parts × (has_spot one.conns spot ≡ true)) →
+        (one : Part) × IsAmong one (part ∷ parts) × (has_spot one.conns spot ≡ true)
     go true is some later = (part, inl refl, is)
     go false is some later = let found = later some in (found.0, inr found.1, found.2)
 
@@ -126,7 +129,8 @@ module _ (decides : PortSpot → Decider) where
 
   pub one_is_right : (parts others : List Part) → AreRightParts decides parts → AreRightParts decides others → parts ≡ others
   one_is_right parts others right_parts right_others =
-      one_list (λ a b. StartsBefore a.conns b.conns) starts_strictly parts others right_parts.ordered right_others.ordered (shared parts others right_parts right_others) (shared others parts right_others right_parts)
+      one_list (λ a b. StartsBefore a.conns b.conns) starts_strictly parts others right_parts.ordered right_others.ordered (shared parts others right_parts right_others)
+      (shared others parts right_others right_parts)
 
 -- ---- each spot
 
@@ -138,12 +142,15 @@ none_kept {X} test (x ∷ xs) none = go (test x) refl (none_kept test xs (All-ta
     go true is rest = absurd (All-head (λ y. test y ≡ true → ⊥) x xs none is)
     go false is rest = rest
 
-one_kept : (test : Part → Bool) (d : Decider) (parts : List Part) → AllPairs (λ a b. test a ≡ true → test b ≡ true → ⊥) parts → All (λ a. test a ≡ true → d ≡ a.decider) parts → list_any test parts ≡ true → map (λ part. part.decider) (filter test parts) ≡ d ∷ []
+one_kept : (test : Part → Bool) (d : Decider) (parts : List Part) → AllPairs (λ a b. test a ≡ true → test b ≡ true → ⊥) parts → All (λ a. test a ≡ true → d ≡ a.decider) parts →
+    list_any test parts ≡ true → map (λ part. part.decider) (filter test parts) ≡ d ∷ []
 one_kept test d [] apart are some = absurd (false≢true some)
 one_kept test d (part ∷ parts) apart are some =
-    go (test part) refl some (λ any. one_kept test d parts (AllPairs-tail (λ a b. test a ≡ true → test b ≡ true → ⊥) part parts apart) (All-tail (λ a. test a ≡ true → d ≡ a.decider) part parts are) any)
+    go (test part) refl some (λ any. one_kept test d parts (AllPairs-tail (λ a b. test a ≡ true → test b ≡ true → ⊥) part parts apart)
+    (All-tail (λ a. test a ≡ true → d ≡ a.decider) part parts are) any)
   where
-    go : (b : Bool) → test part ≡ b → (b || list_any test parts) ≡ true → (list_any test parts ≡ true → map (λ p. p.decider) (filter test parts) ≡ d ∷ []) → map (λ p. p.decider) (if b then part ∷ filter test parts else filter test parts) ≡ d ∷ []
+    go : (b : Bool) → test part ≡ b → (b || list_any test parts) ≡ true → (list_any test parts ≡ true → map (λ p. p.decider) (filter test parts) ≡ d ∷ []) →
+        map (λ p. p.decider) (if b then part ∷ filter test parts else filter test parts) ≡ d ∷ []
     go true is any later =
         let others : List Part → List Decider = λ ps. part.decider ∷ map (λ p. p.decider) ps in
         let single : Decider → List Decider = λ e. e ∷ [] in
@@ -151,7 +158,8 @@ one_kept test d (part ∷ parts) apart are some =
         ∙ ap single (sym (All-head (λ a. test a ≡ true → d ≡ a.decider) part parts are is))
     go false is any later = later any
 
-pub one_part : (decides : PortSpot → Decider) (parts : List Part) (spot : PortSpot) → AreRightParts decides parts → is_spot spot ≡ true → map (λ part. part.decider) (filter (λ part. has_spot part.conns spot) parts) ≡ decides spot ∷ []
+pub one_part : (decides : PortSpot → Decider) (parts : List Part) (spot : PortSpot) → AreRightParts decides parts → is_spot spot ≡ true →
+    map (λ part. part.decider) (filter (λ part. has_spot part.conns spot) parts) ≡ decides spot ∷ []
 one_part decides parts spot right inside =
     one_kept (λ part. has_spot part.conns spot) (decides spot) parts
     (λ i j d earlier within has_a has_b. right.distinct i j d earlier within (sym ((right.spots i d (omega arith) spot inside).0 has_a) ∙ (right.spots j d within spot inside).0 has_b))
@@ -160,7 +168,10 @@ one_part decides parts spot right inside =
 
 -- ---- verdicts
 
-pub parts_say : (lists : EstateLists) (direction : Direction) (source destination : End) (family : Family) (parts : List Part) → AreRightParts (decider_between lists direction source destination family) parts → All (λ part. (spot : PortSpot) → has_spot part.conns spot ≡ true → decider_allows part.decider ≡ end_allows lists direction (end_at direction (packet_between lists source destination family spot)) (contact_of direction (packet_between lists source destination family spot))) parts
+pub parts_say : (lists : EstateLists) (direction : Direction) (source destination : End) (family : Family) (parts : List Part) →
+    AreRightParts (decider_between lists direction source destination family) parts →
+    All (λ part. (spot : PortSpot) → has_spot part.conns spot ≡ true → decider_allows part.decider ≡ end_allows lists direction (end_at direction (packet_between lists source destination family spot))
+    (contact_of direction (packet_between lists source destination family spot))) parts
 parts_say lists direction source destination family parts right = λ k d within spot has.
     let inside = has_spot-is_spot _ spot (right.well k d within) has in
     let packet = packet_between lists source destination family spot in

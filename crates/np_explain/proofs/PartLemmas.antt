@@ -1,5 +1,6 @@
 -- The carved sets, named and in order, are the right parts.
-use Rattle.std.proofs.Common.{◌≡◌, ◌≢◌, ◌↔◌, ℕ, ◌<◌, ◌≤◌, List, [], ◌∷◌, ◌++◌, Bool, true, false, ◌||◌, IsTrue, eqb, length, get_or, map, filter, All, AllPairs, refl, sym, ap, append_assoc, ◌∙◌, subst, arith, inl, inr, if◌then◌else◌}
+use Rattle.std.proofs.Common.{◌≡◌, ◌≢◌, ◌↔◌, ℕ, ◌<◌, ◌≤◌, List, [], ◌∷◌, ◌++◌, Bool, true, false, ◌||◌, IsTrue, eqb, length, get_or, map, filter, All, AllPairs, refl, sym, ap, append_assoc, ◌∙◌}
+use Rattle.std.proofs.Common.{subst, arith, inl, inr, if◌then◌else◌}
 use Rattle.std.specs.List.{IsDistinct}
 use Rattle.std.specs.List.Sorted.{IsNonDecreasing, IsNonDecreasingBy, IsPermutation}
 use Rattle.std.proofs.lemmas.Bool.Decides.{nat_tests}
@@ -21,7 +22,7 @@ use Rattle.np_explain.proofs.FirstLemmas.{first_is, numbers_tell}
 use Rattle.np_explain.proofs.MarkLemmas.{marks_told}
 use Rattle.np_explain.proofs.WalkLemmas.{mark_named}
 use Rattle.np_rules.specs.Deciders.{decider}
-use Rattle.np_rules.specs.Ends.{Contact, pod}
+use Rattle.np_rules.specs.model.Ends.{Contact, pod}
 use Rattle.np_rules.specs.Layers.{IsLayer}
 use Rattle.np_rules.specs.PodSides.{PodSide, near_pod}
 use Rattle.np_rules.specs.declared.decider.Decider.{Decider}
@@ -40,16 +41,20 @@ pub record IsCarved (layer : Layer Conns) (entries : List (Marked Conns)) : Type
   pub well : All (λ entry. IsConns entry.set) entries
 
 -- where the marks at a spot are not none, some part has it
-some_marked : (side : PodSide) (spot : PortSpot) (m : Mark) (entries : List (Marked Conns)) → marks_at (λ set. has_spot set spot) entries ≡ m ∷ [] → some_has spot (map (named_part side) entries) ≡ true
+some_marked : (side : PodSide) (spot : PortSpot) (m : Mark) (entries : List (Marked Conns)) → marks_at (λ set. has_spot set spot) entries ≡ m ∷ [] →
+    some_has spot (map (named_part side) entries) ≡ true
 some_marked side spot m [] marks = cc
 some_marked side spot m (entry ∷ entries) marks = go (has_spot entry.set spot) marks (λ is. some_marked side spot m entries is)
   where
-    go : (b : Bool) → map (λ e. e.mark) (if b then entry ∷ filter (λ e. has_spot e.set spot) entries else filter (λ e. has_spot e.set spot) entries) ≡ m ∷ [] → (map (λ e. e.mark) (filter (λ e. has_spot e.set spot) entries) ≡ m ∷ [] → some_has spot (map (named_part side) entries) ≡ true) → (b || some_has spot (map (named_part side) entries)) ≡ true
+    go : (b : Bool) → map (λ e. e.mark) (if b then entry ∷ filter (λ e. has_spot e.set spot) entries else filter (λ e. has_spot e.set spot) entries) ≡ m ∷ [] →
+        (map (λ e. e.mark) (filter (λ e. has_spot e.set spot) entries) ≡ m ∷ [] → some_has spot (map (named_part side) entries) ≡ true) → (b || some_has spot (map (named_part side) entries)) ≡ true
     go true is later = refl
     go false is later = later is
 
 -- one part more is made, of the first of the entries that are left
-pub parts_more : (side : PodSide) (before made : List Part) (entry : Marked Conns) (rest left : List (Marked Conns)) (decider : Decider) (all : List Part) → left ≡ entry ∷ rest → decider ≡ mark_decider side entry.mark → made ≡ before ++ record { decider = decider; conns = entry.set } ∷ [] → before ++ map (named_part side) left ≡ all → made ++ map (named_part side) rest ≡ all
+pub parts_more : (side : PodSide) (before made : List Part) (entry : Marked Conns) (rest left : List (Marked Conns)) (decider : Decider) (all : List Part) → left ≡ entry ∷ rest →
+    decider ≡ mark_decider side entry.mark → made ≡ before ++ record { decider = decider; conns = entry.set } ∷ [] → before ++ map (named_part side) left ≡ all →
+    made ++ map (named_part side) rest ≡ all
 parts_more side before made entry rest left decider all is decides pushed so_far =
     let others : List Part = map (named_part side) rest in
     let of_decider : Decider → List Part = λ d. before ++ record { decider = d; conns = entry.set } ∷ others in
@@ -109,14 +114,16 @@ strictly parts ordered distinct i j d earlier within =
 
 -- ---- all of it
 
-module _ (side : PodSide) (looks_at : PortSpot → Contact) (layer : Layer Conns) (entries : List (Marked Conns)) (lawful : IsLawful side.lists) (is : IsLayer has_spot is_spot looks_at side.lists side.direction (near_pod side) layer) (carved : IsCarved layer entries) where
+module _ (side : PodSide) (looks_at : PortSpot → Contact) (layer : Layer Conns) (entries : List (Marked Conns)) (lawful : IsLawful side.lists)
+    (is : IsLayer has_spot is_spot looks_at side.lists side.direction (near_pod side) layer) (carved : IsCarved layer entries) where
   pub entry_marks : All (λ entry. IsMarkOf side entry.mark) entries
   entry_marks k d within =
       let filled = carved.some_spot k d within in
       let exact = (carved.exact k d within filled.0).0 filled.1 in
       subst (IsMarkOf side) exact.1 (mark_named side looks_at layer lawful is filled.0 exact.0).1
 
-  entry_spots : All (λ entry. (spot : PortSpot) → is_spot spot ≡ true → IsTrue (has_spot entry.set spot) ↔ (decider side.lists side.direction (pod (near_pod side)) (looks_at spot) ≡ mark_decider side entry.mark)) entries
+  entry_spots : All (λ entry. (spot : PortSpot) → is_spot spot ≡ true → IsTrue (has_spot entry.set spot) ↔
+      (decider side.lists side.direction (pod (near_pod side)) (looks_at spot) ≡ mark_decider side entry.mark)) entries
   entry_spots k d within = λ spot inside.
       let named = mark_named side looks_at layer lawful is spot inside in
       let exact = carved.exact k d within spot in (
@@ -129,11 +136,13 @@ module _ (side : PodSide) (looks_at : PortSpot → Contact) (layer : Layer Conns
       let before : i < length entries = omega arith in
       let one = first_is (get_or entries i d).set (carved.well i d before) (carved.some_spot i d before).0 (carved.some_spot i d before).1 in
       let other = first_is (get_or entries j d).set (carved.well j d within) (carved.some_spot j d within).0 (carved.some_spot j d within).1 in
-      let spots : one.spot ≡ other.spot = numbers_tell one.spot other.spot (has_spot-is_spot _ one.spot (carved.well i d before) one.has) (has_spot-is_spot _ other.spot (carved.well j d within) other.has) (one.is ∙ same ∙ sym other.is) in
+      let spots : one.spot ≡ other.spot = numbers_tell one.spot other.spot (has_spot-is_spot _ one.spot (carved.well i d before) one.has)
+      (has_spot-is_spot _ other.spot (carved.well j d within) other.has) (one.is ∙ same ∙ sym other.is) in
       let marked : PortSpot → Mark = λ spot. mark_of (λ set. has_spot set spot) layer in
       carved.distinct i j d earlier within (sym ((carved.exact i d before one.spot).0 one.has).1 ∙ ap marked spots ∙ ((carved.exact j d within other.spot).0 other.has).1)
 
-  pub right_parts : (parts : List Part) → IsPermutation (map (named_part side) entries) parts → IsNonDecreasingBy (λ part. first_number part.conns) parts → AreRightParts (λ spot. decider side.lists side.direction (pod (near_pod side)) (looks_at spot)) parts
+  pub right_parts : (parts : List Part) → IsPermutation (map (named_part side) entries) parts → IsNonDecreasingBy (λ part. first_number part.conns) parts →
+      AreRightParts (λ spot. decider side.lists side.direction (pod (near_pod side)) (looks_at spot)) parts
   right_parts parts moved ordered = record {
     spots = spots;
     all = λ spot inside. sym (list_any-IsPermutation (λ part. has_spot part.conns spot) (map (named_part side) entries) parts moved) ∙ some_marked side spot _ entries (carved.marks spot inside);
@@ -152,8 +161,10 @@ module _ (side : PodSide) (looks_at : PortSpot → Contact) (layer : Layer Conns
 
       spots : All (λ part. (spot : PortSpot) → is_spot spot ≡ true → IsTrue (has_spot part.conns spot) ↔ (decider side.lists side.direction (pod (near_pod side)) (looks_at spot) ≡ part.decider)) parts
       spots =
-          All-permutation (λ part. (spot : PortSpot) → is_spot spot ≡ true → IsTrue (has_spot part.conns spot) ↔ (decider side.lists side.direction (pod (near_pod side)) (looks_at spot) ≡ part.decider)) (map (named_part side) entries) parts moved
-          (All-map (λ part. (spot : PortSpot) → is_spot spot ≡ true → IsTrue (has_spot part.conns spot) ↔ (decider side.lists side.direction (pod (near_pod side)) (looks_at spot) ≡ part.decider)) (named_part side) entries entry_spots)
+          All-permutation (λ part. (spot : PortSpot) → is_spot spot ≡ true → IsTrue (has_spot part.conns spot) ↔
+          (decider side.lists side.direction (pod (near_pod side)) (looks_at spot) ≡ part.decider)) (map (named_part side) entries) parts moved
+          (All-map (λ part. (spot : PortSpot) → is_spot spot ≡ true → IsTrue (has_spot part.conns spot) ↔ (decider side.lists side.direction (pod (near_pod side)) (looks_at spot) ≡ part.decider))
+          (named_part side) entries entry_spots)
 
       filled : All (λ part. (spot : PortSpot) × (has_spot part.conns spot ≡ true)) parts
       filled =

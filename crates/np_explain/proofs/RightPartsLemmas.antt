@@ -1,5 +1,6 @@
 -- The parts that are made from what decides each spot are right.
-use Rattle.std.proofs.Common.{◌≡◌, ◌≢◌, ◌↔◌, ℕ, zero, suc, ◌<◌, ◌≤◌, nat_le, List, [], ◌∷◌, Bool, true, false, not, IsTrue, get_or, map, filter, All, AllPairs, refl, sym, ap, ◌∙◌, arith, if◌then◌else◌}
+use Rattle.std.proofs.Common.{◌≡◌, ◌≢◌, ◌↔◌, ℕ, zero, suc, ◌<◌, ◌≤◌, nat_le, List, [], ◌∷◌, Bool, true, false, not, IsTrue, get_or, map, filter, All, AllPairs, refl, sym, ap, ◌∙◌, arith}
+use Rattle.std.proofs.Common.{if◌then◌else◌}
 use Rattle.std.proofs.lemmas.Bool.{and_parts, leb-true, or_left, or_right}
 use Rattle.std.proofs.lemmas.Bool.Decides.{Decides-not}
 use Rattle.std.proofs.lemmas.List.Elements.{All-cons, All-contains, All-filter, All-map, All-nil, All-weaker, filter_passes}
@@ -59,7 +60,8 @@ module _ (decides : PortSpot → Decider) where
   once_ordered [] ascend = AllPairs-nil (LeadsIn [])
   once_ordered (spot ∷ spots) ascend =
       AllPairs-cons (LeadsIn (spot ∷ spots)) (decides spot) (filter other_test others)
-      (All-weaker (λ other. other_test other ≡ true) (LeadsIn (spot ∷ spots) (decides spot)) (λ other passes. leads other (differs (decides spot) other passes)) (filter other_test others) (filter_passes other_test others))
+      (All-weaker (λ other. other_test other ≡ true) (LeadsIn (spot ∷ spots) (decides spot)) (λ other passes. leads other (differs (decides spot) other passes)) (filter other_test others)
+      (filter_passes other_test others))
       (λ i j d earlier below. onto _ _ (AllPairs-filter (LeadsIn spots) other_test others (once_ordered spots (AllPairs-tail IsBefore spot spots ascend)) i j d earlier below)
       (differs (decides spot) _ (filter_passes other_test others j d below)))
     where
@@ -100,7 +102,8 @@ module _ (decides : PortSpot → Decider) where
   once_has (next ∷ spots) spot (zero, within, is) = (zero, omega arith, ap decides is)
   once_has (next ∷ spots) spot (suc k, within, is) = go (same_decider (decides next) (decides spot)) refl (once_has spots spot (k, omega arith, is))
     where
-      go : (b : Bool) → same_decider (decides next) (decides spot) ≡ b → Contains (each_once (map decides spots)) (decides spot) → Contains (decides next ∷ filter (λ other. not (same_decider (decides next) other)) (each_once (map decides spots))) (decides spot)
+      go : (b : Bool) → same_decider (decides next) (decides spot) ≡ b → Contains (each_once (map decides spots)) (decides spot) →
+          Contains (decides next ∷ filter (λ other. not (same_decider (decides next) other)) (each_once (map decides spots))) (decides spot)
       go true same has = (zero, omega arith, (same_decider-Decides (decides next) (decides spot)).0 same)
       go false other has = Contains-cons (decides spot) (decides next) _ (Contains-filter (λ d. not (same_decider (decides next) d)) (decides spot) (each_once (map decides spots)) has (ap not other))
 
@@ -112,7 +115,8 @@ module _ (decides : PortSpot → Decider) where
       All-cons (λ decider. (spot : PortSpot) × Contains (next ∷ spots) spot × (decides spot ≡ decider)) (decides next) _
       (next, (zero, omega arith, refl), refl)
       (All-filter _ (λ decider. (spot : PortSpot) × Contains (next ∷ spots) spot × (decides spot ≡ decider)) (each_once (map decides spots))
-      (All-weaker (λ decider. (spot : PortSpot) × Contains spots spot × (decides spot ≡ decider)) (λ decider. (spot : PortSpot) × Contains (next ∷ spots) spot × (decides spot ≡ decider)) (λ decider found. (found.0, Contains-cons found.0 next spots found.1, found.2)) (each_once (map decides spots)) (once_decide spots)))
+      (All-weaker (λ decider. (spot : PortSpot) × Contains spots spot × (decides spot ≡ decider)) (λ decider. (spot : PortSpot) × Contains (next ∷ spots) spot × (decides spot ≡ decider))
+      (λ decider found. (found.0, Contains-cons found.0 next spots found.1, found.2)) (each_once (map decides spots)) (once_decide spots)))
 
 -- ---- connections
 
@@ -161,8 +165,10 @@ module _ (decides : PortSpot → Decider) where
   pub made_are_right : AreRightParts decides (parts_of decides)
   unfolding parts_of deciders
   made_are_right = record {
-    spots = All-map (λ part. (spot : PortSpot) → is_spot spot ≡ true → IsTrue (has_spot part.conns spot) ↔ (decides spot ≡ part.decider)) (part_of decides) deciders (λ k d within. part_spots (get_or deciders k d));
-    all = λ spot inside. list_any-map (λ part. has_spot part.conns spot) (part_of decides) (decides spot) deciders (once_has decides all_spots spot (all_spots-has spot inside)) ((part_spots (decides spot) spot inside).1 refl);
+    spots = All-map (λ part. (spot : PortSpot) → is_spot spot ≡ true → IsTrue (has_spot part.conns spot) ↔ (decides spot ≡ part.decider)) (part_of decides) deciders
+        (λ k d within. part_spots (get_or deciders k d));
+    all = λ spot inside. list_any-map (λ part. has_spot part.conns spot) (part_of decides) (decides spot) deciders (once_has decides all_spots spot (all_spots-has spot inside))
+        ((part_spots (decides spot) spot inside).1 refl);
     distinct = AllPairs-map (λ a b. a.decider ≢ b.decider) (part_of decides) deciders
         (λ i j d earlier below same.
         let lead = leads i j d earlier below in

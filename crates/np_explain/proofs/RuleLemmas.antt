@@ -1,5 +1,6 @@
 -- The rules of a pod's side: those of NetworkPolicies stand in order, and no two of one tier have one name.
-use Rattle.std.proofs.Common.{◌≡◌, ◌≢◌, ℕ, ◌<◌, List, [], ◌∷◌, ◌++◌, Bool, true, false, not, codes, nat_lt, find, map, Some, None, Option, All, AllPairs, Ordering, Less, Equal, Greater, refl, sym, ◌∙◌, ap, arith, unwrap_or, if◌then◌else◌}
+use Rattle.std.proofs.Common.{◌≡◌, ◌≢◌, ℕ, ◌<◌, List, [], ◌∷◌, ◌++◌, Bool, true, false, not, codes, nat_lt, find, map, Some, None, Option, All, AllPairs, Ordering, Less, Equal, Greater, refl, sym}
+use Rattle.std.proofs.Common.{◌∙◌, ap, arith, unwrap_or, if◌then◌else◌}
 use Rattle.std.specs.Cmp.Lexicographic.{slice_cmp}
 use Rattle.std.specs.List.{enumerate_from}
 use Rattle.std.specs.Ordering.{match_ordering, nat_cmp, ordering_reverse}
@@ -16,10 +17,10 @@ use Rattle.np_model.specs.declared.admin_policy.BasePolicy.{BasePolicy}
 use Rattle.np_model.specs.declared.direction.Direction.{Direction}
 use Rattle.np_model.specs.declared.network_policy.NetPolicy.{NetPolicy}
 use Rattle.np_rules.specs.Deciders.{admin_rule_name, base_rule_name, net_decider, net_precedes, net_rule_name}
-use Rattle.np_rules.specs.Ends.{Contact, PodEnd}
-use Rattle.np_rules.specs.NetTier.{placed_net_matches}
-use Rattle.np_rules.specs.Places.{PlacedAdminRule, PlacedNetRule, admin_places, admin_places_of, admin_rules_of, base_places, base_rules_of, net_places, net_places_of, net_rules_of}
-use Rattle.np_rules.specs.Selection.{net_selects, subject_selects}
+use Rattle.np_rules.specs.model.Ends.{Contact, PodEnd}
+use Rattle.np_rules.specs.model.NetTier.{placed_net_matches}
+use Rattle.np_rules.specs.model.Places.{PlacedAdminRule, PlacedNetRule, admin_places, admin_places_of, admin_rules_of, base_places, base_rules_of, net_places, net_places_of, net_rules_of}
+use Rattle.np_rules.specs.model.Selection.{net_selects, subject_selects}
 use Rattle.np_rules.specs.declared.decider.RuleName.{RuleName}
 use Rattle.np_rules.proofs.AdminTierLemmas.{IsInOrder, least_is_first}
 use Rattle.np_explain.proofs.PlaceLemmas.{all_made, numbered_pairs, pairs_flat}
@@ -87,7 +88,8 @@ two_nets p a b x y stands of_x of_y =
     let spaces : a.namespace ≡ b.namespace = of_x.namespace ∙ sym of_y.namespace in
     let equal : slice_cmp nat_cmp a.namespace b.namespace ≡ Equal = ap (slice_cmp nat_cmp a.namespace) (sym spaces) ∙ tied_itself nat_list_cmp_total a.namespace in
     let less : slice_cmp nat_cmp a.name b.name ≡ Less = stands_less _ _ equal stands in
-    let names : slice_cmp nat_cmp x.policy.name y.policy.name ≡ slice_cmp nat_cmp a.name b.name = ap (λ n. slice_cmp nat_cmp n y.policy.name) (ap name of_x.owner) ∙ ap (slice_cmp nat_cmp a.name) (ap name of_y.owner) in
+    let names : slice_cmp nat_cmp x.policy.name y.policy.name ≡ slice_cmp nat_cmp a.name b.name = ap (λ n. slice_cmp nat_cmp n y.policy.name) (ap name of_x.owner) ∙ ap (slice_cmp nat_cmp a.name)
+    (ap name of_y.owner) in
     record {
       precedes = precedes_by x y Less (names ∙ less) refl;
       namespace = ap space of_x.owner ∙ spaces ∙ sym (ap space of_y.owner);
@@ -122,7 +124,8 @@ in_order (x ∷ xs) pairs =
     (recursion_from_All (λ y. net_precedes y x ≡ false) xs (λ k d within. before_holds x _ (AllPairs-head Before x xs pairs k d within)), in_order xs (AllPairs-tail Before x xs pairs))
 
 -- The rule that decides is the first in the order of the policies that matches.
-pub net_decider_is_first : (policies : List NetPolicy) (direction : Direction) (p : PodEnd) (contact : Contact) → AllPairs StandsBefore policies → net_decider policies direction p contact ≡ find (placed_net_matches contact) (net_places policies direction p)
+pub net_decider_is_first : (policies : List NetPolicy) (direction : Direction) (p : PodEnd) (contact : Contact) → AllPairs StandsBefore policies →
+    net_decider policies direction p contact ≡ find (placed_net_matches contact) (net_places policies direction p)
 net_decider_is_first policies direction p contact ascend =
     least_is_first net_precedes (placed_net_matches contact) (net_places policies direction p) (in_order (net_places policies direction p) (all_nets policies direction p ascend))
 
@@ -140,7 +143,8 @@ net_named_apart x y before same =
     let below : nat_lt x.place y.place ≡ true = ap (λ (r : Ordering). match_ordering r true (nat_lt x.place y.place) false) (sym equal) ∙ before.precedes in
     lt_never y.place (ap (λ n. nat_lt n y.place) (sym (ap place_of same)) ∙ below)
 
-pub net_names_apart : (policies : List NetPolicy) (direction : Direction) (p : PodEnd) → AllPairs StandsBefore policies → AllPairs (λ x y. net_rule_name x ≢ net_rule_name y) (net_places policies direction p)
+pub net_names_apart : (policies : List NetPolicy) (direction : Direction) (p : PodEnd) → AllPairs StandsBefore policies →
+    AllPairs (λ x y. net_rule_name x ≢ net_rule_name y) (net_places policies direction p)
 net_names_apart policies direction p ascend = λ i j d before within. net_named_apart _ _ (all_nets policies direction p ascend i j d before within)
 
 -- ---- admin policies
@@ -167,11 +171,13 @@ two_admins a b x y apart of_x of_y same =
     let names : a.name ≡ b.name = sym (ap name of_x) ∙ ap policy_of same ∙ ap name of_y in
     absurd (false≢true (ap not (sym ((bytes_eq-Decides a.name b.name).1 names)) ∙ apart))
 
-pub admin_names_apart : (policies : List AdminPolicy) (direction : Direction) (p : PodEnd) → AllPairs AreNamesApart policies → AllPairs (λ x y. admin_rule_name x ≢ admin_rule_name y) (admin_places policies direction p)
+pub admin_names_apart : (policies : List AdminPolicy) (direction : Direction) (p : PodEnd) → AllPairs AreNamesApart policies →
+    AllPairs (λ x y. admin_rule_name x ≢ admin_rule_name y) (admin_places policies direction p)
 admin_names_apart policies direction p apart =
     pairs_flat (λ x y. admin_rule_name x ≢ admin_rule_name y) AreNamesApart IsAdminOf (admin_by direction p) (admin_of direction p)
     (λ policy. if_any (AllPairs (λ x y. admin_rule_name x ≢ admin_rule_name y)) (subject_selects policy.subject p) (admin_places_of direction policy)
-    (λ selects i j d before within. places_differ _ _ (numbered_pairs (λ placed. placed.place) (λ numbered. record { policy = policy; place = numbered.0; rule = numbered.1 }) (λ numbered. refl) 0 (admin_rules_of direction policy) i j d before within))
+    (λ selects i j d before within. places_differ _ _ (numbered_pairs (λ placed. placed.place) (λ numbered. record { policy = policy; place = numbered.0; rule = numbered.1 }) (λ numbered. refl) 0
+    (admin_rules_of direction policy) i j d before within))
     (AllPairs-nil (λ x y. admin_rule_name x ≢ admin_rule_name y)))
     two_admins policies apart
 
@@ -180,6 +186,8 @@ admin_names_apart policies direction p apart =
 pub base_names_apart : (baseline : Option BasePolicy) (direction : Direction) (p : PodEnd) → AllPairs (λ x y. base_rule_name x ≢ base_rule_name y) (base_places baseline direction p)
 base_names_apart None direction p = AllPairs-nil (λ x y. base_rule_name x ≢ base_rule_name y)
 base_names_apart (Some policy) direction p =
-    if_any (AllPairs (λ x y. base_rule_name x ≢ base_rule_name y)) (subject_selects policy.subject p) (map (λ numbered. record { place = numbered.0; rule = numbered.1 }) (enumerate_from 0 (base_rules_of direction policy)))
-    (λ selects i j d before within. places_differ _ _ (numbered_pairs (λ placed. placed.place) (λ numbered. record { place = numbered.0; rule = numbered.1 }) (λ numbered. refl) 0 (base_rules_of direction policy) i j d before within))
+    if_any (AllPairs (λ x y. base_rule_name x ≢ base_rule_name y)) (subject_selects policy.subject p)
+    (map (λ numbered. record { place = numbered.0; rule = numbered.1 }) (enumerate_from 0 (base_rules_of direction policy)))
+    (λ selects i j d before within. places_differ _ _ (numbered_pairs (λ placed. placed.place) (λ numbered. record { place = numbered.0; rule = numbered.1 }) (λ numbered. refl) 0
+    (base_rules_of direction policy) i j d before within))
     (AllPairs-nil (λ x y. base_rule_name x ≢ base_rule_name y))

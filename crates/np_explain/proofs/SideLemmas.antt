@@ -12,10 +12,10 @@ use Rattle.np_model.specs.declared.network_policy.NetPolicy.{NetPolicy}
 use Rattle.np_rules.specs.Deciders.{admin_rule_name, base_rule_name, isolating_names, net_policy_name, net_rule_name}
 use Rattle.np_rules.specs.LayerRules.{NamesAdmin, NamesBase, NamesNet}
 use Rattle.np_rules.specs.Layers.{Pairwise, tier_action}
-use Rattle.np_rules.specs.NetTier.{isolates}
-use Rattle.np_rules.specs.Places.{PlacedAdminRule, PlacedBaseRule, PlacedNetRule}
+use Rattle.np_rules.specs.model.NetTier.{isolates}
+use Rattle.np_rules.specs.model.Places.{PlacedAdminRule, PlacedBaseRule, PlacedNetRule}
 use Rattle.np_rules.specs.PodSides.{PodSide, near_pod}
-use Rattle.np_rules.specs.Sides.{is_allow}
+use Rattle.np_rules.specs.model.Sides.{is_allow}
 use Rattle.np_rules.specs.declared.decider.Decider.{Decider}
 use Rattle.np_rules.specs.declared.decider.Decider.TheVariants as decider
 use Rattle.np_rules.specs.declared.decider.RuleName.{RuleName}
@@ -47,7 +47,8 @@ related_at R (a ∷ xs) (b ∷ ys) (suc k) d y related at = related_at R xs ys k
 
 -- ---- the policies at places
 
-pub names-at : (policies : List NetPolicy) (places : List ℕ) (named : List NetPolicy) → Pairwise (λ place policy. slice_get policies place ≡ Some policy) places named → map (policy_name_at policies) places ≡ map net_policy_name named
+pub names-at : (policies : List NetPolicy) (places : List ℕ) (named : List NetPolicy) → Pairwise (λ place policy. slice_get policies place ≡ Some policy) places named →
+    map (policy_name_at policies) places ≡ map net_policy_name named
 names-at policies [] [] related = refl
 names-at policies [] (policy ∷ named) related = absurd related
 names-at policies (place ∷ places) [] related = absurd related
@@ -55,7 +56,8 @@ names-at policies (place ∷ places) (policy ∷ named) related =
     let name : Option NetPolicy → List ℕ = λ o. option_map_or net_policy_name o [] in
     ap (λ (text : List ℕ). text ∷ map (policy_name_at policies) places) (ap name related.0) ∙ ap (λ (texts : List (List ℕ)). net_policy_name policy ∷ texts) (names-at policies places named related.1)
 
-pub all-within : (policies : List NetPolicy) (places : List ℕ) (named : List NetPolicy) → Pairwise (λ place policy. slice_get policies place ≡ Some policy) places named → All (λ place. place < length policies) places
+pub all-within : (policies : List NetPolicy) (places : List ℕ) (named : List NetPolicy) → Pairwise (λ place policy. slice_get policies place ≡ Some policy) places named →
+    All (λ place. place < length policies) places
 all-within policies [] [] related = All-nil (λ place. place < length policies)
 all-within policies [] (policy ∷ named) related = absurd related
 all-within policies (place ∷ places) [] related = absurd related
@@ -63,7 +65,9 @@ all-within policies (place ∷ places) (policy ∷ named) related =
     All-cons (λ place'. place' < length policies) place places (slice_get_within policies place policy related.0) (all-within policies places named related.1)
 
 -- one name more
-pub names_more : (policies : List NetPolicy) (places : List ℕ) (i : ℕ) (policy : NetPolicy) (before made : List (List ℕ)) (name : List ℕ) → i < length places → get_or places i 0 < length policies → policy ≡ get_or policies (get_or places i 0) policy → name ≡ net_policy_name policy → before ≡ map (policy_name_at policies) (take i places) → made ≡ before ++ name ∷ [] → made ≡ map (policy_name_at policies) (take (i + 1) places)
+pub names_more : (policies : List NetPolicy) (places : List ℕ) (i : ℕ) (policy : NetPolicy) (before made : List (List ℕ)) (name : List ℕ) → i < length places → get_or places i 0 < length policies →
+    policy ≡ get_or policies (get_or places i 0) policy → name ≡ net_policy_name policy → before ≡ map (policy_name_at policies) (take i places) → made ≡ before ++ name ∷ [] →
+    made ≡ map (policy_name_at policies) (take (i + 1) places)
 names_more policies places i policy before made name within there is named so_far pushed =
     let read : Option NetPolicy → List ℕ = λ o. option_map_or net_policy_name o [] in
     let longer : List (List ℕ) → List (List ℕ) = λ names. names ++ name ∷ [] in
@@ -95,19 +99,23 @@ module _ {S : Type 0} {side : PodSide} {layer : Layer S} {rules : LayerRules} (n
   allows_within parts are there = rw are (omega (arith, length-pairwise (λ part placed. part.allow ≡ is_allow placed.rule.action) layer.base (base_rules side) names.says.base))
 
   -- and what stands there is that of the rule
-  pub admin_at : (ids : List RuleId) (d : RuleId) (policies : List AdminPolicy) → ids ≡ rules.admin → policies ≡ side.lists.admin_policies → (placed : PlacedAdminRule) → slice_get (admin_rules side) place ≡ Some placed → NamesAdmin policies (get_or ids place d) placed
+  pub admin_at : (ids : List RuleId) (d : RuleId) (policies : List AdminPolicy) → ids ≡ rules.admin → policies ≡ side.lists.admin_policies → (placed : PlacedAdminRule) →
+      slice_get (admin_rules side) place ≡ Some placed → NamesAdmin policies (get_or ids place d) placed
   admin_at ids d policies are same placed is = rw (are, same) (related_at (NamesAdmin side.lists.admin_policies) rules.admin (admin_rules side) place d placed names.admin is)
 
-  pub net_at : (ids : List RuleId) (d : RuleId) (policies : List NetPolicy) → ids ≡ rules.net → policies ≡ side.lists.net_policies → (placed : PlacedNetRule) → slice_get (net_rules side) place ≡ Some placed → NamesNet policies (get_or ids place d) placed
+  pub net_at : (ids : List RuleId) (d : RuleId) (policies : List NetPolicy) → ids ≡ rules.net → policies ≡ side.lists.net_policies → (placed : PlacedNetRule) →
+      slice_get (net_rules side) place ≡ Some placed → NamesNet policies (get_or ids place d) placed
   net_at ids d policies are same placed is = rw (are, same) (related_at (NamesNet side.lists.net_policies) rules.net (net_rules side) place d placed names.net is)
 
   pub base_at : (ids : List RuleId) (d : RuleId) → ids ≡ rules.base → (placed : PlacedBaseRule) → slice_get (base_rules side) place ≡ Some placed → NamesBase (get_or ids place d) placed
   base_at ids d are placed is = rw are (related_at NamesBase rules.base (base_rules side) place d placed names.base is)
 
-  pub action_at : (parts : List (AdminPart S)) (d : AdminPart S) → parts ≡ layer.admin → (placed : PlacedAdminRule) → slice_get (admin_rules side) place ≡ Some placed → (get_or parts place d).action ≡ tier_action placed.rule.action
+  pub action_at : (parts : List (AdminPart S)) (d : AdminPart S) → parts ≡ layer.admin → (placed : PlacedAdminRule) → slice_get (admin_rules side) place ≡ Some placed →
+      (get_or parts place d).action ≡ tier_action placed.rule.action
   action_at parts d are placed is = rw are (related_at (λ part p. part.action ≡ tier_action p.rule.action) layer.admin (admin_rules side) place d placed names.says.admin is)
 
-  pub allow_at : (parts : List (BasePart S)) (d : BasePart S) → parts ≡ layer.base → (placed : PlacedBaseRule) → slice_get (base_rules side) place ≡ Some placed → (get_or parts place d).allow ≡ is_allow placed.rule.action
+  pub allow_at : (parts : List (BasePart S)) (d : BasePart S) → parts ≡ layer.base → (placed : PlacedBaseRule) → slice_get (base_rules side) place ≡ Some placed →
+      (get_or parts place d).allow ≡ is_allow placed.rule.action
   allow_at parts d are placed is = rw are (related_at (λ part p. part.allow ≡ is_allow p.rule.action) layer.base (base_rules side) place d placed names.says.base is)
 
 -- there is a rule at each place
@@ -119,22 +127,30 @@ there_is rules place within =
     ]
 
 -- so the policy of the name that is kept is there too
-pub admin_policy_within : {S : Type 0} {side : PodSide} {layer : Layer S} {rules : LayerRules} (names : KeepsNames side layer rules) (place : ℕ) (ids : List RuleId) (d : RuleId) (policies : List AdminPolicy) → ids ≡ rules.admin → policies ≡ side.lists.admin_policies → place < length (admin_rules side) → (get_or ids place d).policy < length policies
+pub admin_policy_within : {S : Type 0} {side : PodSide} {layer : Layer S} {rules : LayerRules} (names : KeepsNames side layer rules) (place : ℕ) (ids : List RuleId) (d : RuleId)
+    (policies : List AdminPolicy) →
+    ids ≡ rules.admin → policies ≡ side.lists.admin_policies → place < length (admin_rules side) → (get_or ids place d).policy < length policies
 admin_policy_within {S} {side} names place ids d policies are same there =
     let rule = there_is (admin_rules side) place there in
     slice_get_within policies (get_or ids place d).policy rule.0.policy (admin_at names place ids d policies are same rule.0 rule.1).policy
 
-pub net_policy_within : {S : Type 0} {side : PodSide} {layer : Layer S} {rules : LayerRules} (names : KeepsNames side layer rules) (place : ℕ) (ids : List RuleId) (d : RuleId) (policies : List NetPolicy) → ids ≡ rules.net → policies ≡ side.lists.net_policies → place < length (net_rules side) → (get_or ids place d).policy < length policies
+pub net_policy_within : {S : Type 0} {side : PodSide} {layer : Layer S} {rules : LayerRules} (names : KeepsNames side layer rules) (place : ℕ) (ids : List RuleId) (d : RuleId)
+    (policies : List NetPolicy) →
+    ids ≡ rules.net → policies ≡ side.lists.net_policies → place < length (net_rules side) → (get_or ids place d).policy < length policies
 net_policy_within {S} {side} names place ids d policies are same there =
     let rule = there_is (net_rules side) place there in
     slice_get_within policies (get_or ids place d).policy rule.0.policy (net_at names place ids d policies are same rule.0 rule.1).policy
 
 -- the NetworkPolicies that isolate the pod are there, and these are their names
-pub isolating_within : (side : PodSide) (isolating places : List ℕ) (policies : List NetPolicy) → Pairwise (λ place policy. slice_get side.lists.net_policies place ≡ Some policy) isolating (filter (isolates side.direction (near_pod side)) side.lists.net_policies) → places ≡ isolating → policies ≡ side.lists.net_policies → All (λ place. place < length policies) places
+pub isolating_within : (side : PodSide) (isolating places : List ℕ) (policies : List NetPolicy) →
+    Pairwise (λ place policy. slice_get side.lists.net_policies place ≡ Some policy) isolating (filter (isolates side.direction (near_pod side)) side.lists.net_policies) → places ≡ isolating →
+    policies ≡ side.lists.net_policies → All (λ place. place < length policies) places
 isolating_within side isolating places policies named are same =
     rw (are, same) (all-within side.lists.net_policies isolating (filter (isolates side.direction (near_pod side)) side.lists.net_policies) named)
 
-pub isolating_named : (side : PodSide) (isolating places : List ℕ) (policies : List NetPolicy) → Pairwise (λ place policy. slice_get side.lists.net_policies place ≡ Some policy) isolating (filter (isolates side.direction (near_pod side)) side.lists.net_policies) → places ≡ isolating → policies ≡ side.lists.net_policies → map (policy_name_at policies) places ≡ isolating_names side.lists.net_policies side.direction (near_pod side)
+pub isolating_named : (side : PodSide) (isolating places : List ℕ) (policies : List NetPolicy) →
+    Pairwise (λ place policy. slice_get side.lists.net_policies place ≡ Some policy) isolating (filter (isolates side.direction (near_pod side)) side.lists.net_policies) → places ≡ isolating →
+    policies ≡ side.lists.net_policies → map (policy_name_at policies) places ≡ isolating_names side.lists.net_policies side.direction (near_pod side)
 isolating_named side isolating places policies named are same =
     rw (are, same) (names-at side.lists.net_policies isolating (filter (isolates side.direction (near_pod side)) side.lists.net_policies) named)
 
@@ -147,24 +163,32 @@ base_name policy id placed is named =
 
 -- ---- what is found at the places of a mark
 
-pub pass_found : (side : PodSide) (place : ℕ) (rule : RuleName) → place < length (admin_rules side) → ((placed : PlacedAdminRule) → slice_get (admin_rules side) place ≡ Some placed → rule ≡ admin_rule_name placed) → Some rule ≡ pass_name side (Some place)
+pub pass_found : (side : PodSide) (place : ℕ) (rule : RuleName) → place < length (admin_rules side) →
+    ((placed : PlacedAdminRule) → slice_get (admin_rules side) place ≡ Some placed → rule ≡ admin_rule_name placed) → Some rule ≡ pass_name side (Some place)
 pass_found side place rule within named =
     elim (slice_get_cases (admin_rules side) place).1 [
       | inl there ↦ ap {A = RuleName} Some (named there.0 there.2) ∙ ap (option_map admin_rule_name) (sym there.2)
       | inr past ↦ absurd (omega (arith, past.0))
     ]
 
-pub admin_found : (side : PodSide) (place : ℕ) (rule : RuleName) (allow : Bool) → place < length (admin_rules side) → ((placed : PlacedAdminRule) → slice_get (admin_rules side) place ≡ Some placed → rule ≡ admin_rule_name placed) → ((placed : PlacedAdminRule) → slice_get (admin_rules side) place ≡ Some placed → allow ≡ is_allow placed.rule.action) → decider.Admin rule allow ≡ mark_decider side (mark.Admin place)
+pub admin_found : (side : PodSide) (place : ℕ) (rule : RuleName) (allow : Bool) → place < length (admin_rules side) →
+    ((placed : PlacedAdminRule) → slice_get (admin_rules side) place ≡ Some placed → rule ≡ admin_rule_name placed) →
+    ((placed : PlacedAdminRule) → slice_get (admin_rules side) place ≡ Some placed → allow ≡ is_allow placed.rule.action) → decider.Admin rule allow ≡ mark_decider side (mark.Admin place)
 admin_found side place rule allow within named says =
     at_place (λ (d : Decider). decider.Admin rule allow ≡ d) (λ placed. decider.Admin (admin_rule_name placed) (is_allow placed.rule.action)) decider.NoSide (admin_rules side) place within
     (λ placed is. ap (λ r. decider.Admin r allow) (named placed is) ∙ ap (decider.Admin (admin_rule_name placed)) (says placed is))
 
-pub net_found : (side : PodSide) (met : Option ℕ) (place : ℕ) (pass : Option RuleName) (rule : RuleName) → place < length (net_rules side) → pass ≡ pass_name side met → ((placed : PlacedNetRule) → slice_get (net_rules side) place ≡ Some placed → rule ≡ net_rule_name placed) → decider.Net pass rule ≡ mark_decider side (mark.Net met place)
+pub net_found : (side : PodSide) (met : Option ℕ) (place : ℕ) (pass : Option RuleName) (rule : RuleName) → place < length (net_rules side) → pass ≡ pass_name side met →
+    ((placed : PlacedNetRule) → slice_get (net_rules side) place ≡ Some placed → rule ≡ net_rule_name placed) → decider.Net pass rule ≡ mark_decider side (mark.Net met place)
 net_found side met place pass rule within passed named =
     at_place (λ (d : Decider). decider.Net pass rule ≡ d) (λ placed. decider.Net (pass_name side met) (net_rule_name placed)) decider.NoSide (net_rules side) place within
     (λ placed is. ap (λ p. decider.Net p rule) passed ∙ ap (decider.Net (pass_name side met)) (named placed is))
 
-pub base_found : (side : PodSide) (met : Option ℕ) (place : ℕ) (pass : Option RuleName) (rule : RuleName) (allow : Bool) → place < length (base_rules side) → pass ≡ pass_name side met → ((placed : PlacedBaseRule) → slice_get (base_rules side) place ≡ Some placed → rule ≡ base_rule_name placed) → ((placed : PlacedBaseRule) → slice_get (base_rules side) place ≡ Some placed → allow ≡ is_allow placed.rule.action) → decider.Base pass rule allow ≡ mark_decider side (mark.Base met place)
+pub base_found : (side : PodSide) (met : Option ℕ) (place : ℕ) (pass : Option RuleName) (rule : RuleName) (allow : Bool) → place < length (base_rules side) → pass ≡ pass_name side met →
+    ((placed : PlacedBaseRule) → slice_get (base_rules side) place ≡ Some placed → rule ≡ base_rule_name placed) →
+    ((placed : PlacedBaseRule) → slice_get (base_rules side) place ≡ Some placed → allow ≡ is_allow placed.rule.action) → decider.Base pass rule allow ≡ mark_decider side (mark.Base met place)
 base_found side met place pass rule allow within passed named says =
-    at_place (λ (d : Decider). decider.Base pass rule allow ≡ d) (λ placed. decider.Base (pass_name side met) (base_rule_name placed) (is_allow placed.rule.action)) decider.NoSide (base_rules side) place within
-    (λ placed is. ap (λ p. decider.Base p rule allow) passed ∙ ap (λ r. decider.Base (pass_name side met) r allow) (named placed is) ∙ ap (decider.Base (pass_name side met) (base_rule_name placed)) (says placed is))
+    at_place (λ (d : Decider). decider.Base pass rule allow ≡ d) (λ placed. decider.Base (pass_name side met) (base_rule_name placed) (is_allow placed.rule.action)) decider.NoSide
+    (base_rules side) place within
+    (λ placed is. ap (λ p. decider.Base p rule allow) passed ∙ ap (λ r. decider.Base (pass_name side met) r allow) (named placed is) ∙ ap (decider.Base (pass_name side met) (base_rule_name placed))
+    (says placed is))

@@ -29,8 +29,12 @@ module _ (proto : Proto) (first count : ℕ) where
 
   from_has : (port : ℕ) → first ≤ port → port < first + count → Contains (spots_from proto first count) (spot_at proto port)
   unfolding spots_from
-  from_has port low high =
-      (port - first, omega (arith, length-map-range_with_len (spot_at proto) first count), get_or-map-range_with_len (spot_at proto) first count (port - first) port (spot_at proto port) (omega arith) (omega arith))
+  from_has port low high = (
+    port - first,
+    omega (arith, length-map-range_with_len (spot_at proto) first count),
+    get_or-map-range_with_len (spot_at proto) first count (port - first) port (spot_at proto port) (omega arith)
+        (omega arith),
+  )
 
   from_ascends : AllPairs IsBefore (spots_from proto first count)
   unfolding spots_from
@@ -92,4 +96,5 @@ all_spots-has spot inside = by_proto spot.proto spot.port (leb-true 1 spot.port 
     by_proto Udp port low high =
         Contains-append_right (spots_from Tcp 1 65535) _ _ (Contains-append_left (spots_from Udp 1 65535) _ _ (from_has Udp 1 65535 port low (omega arith)))
     by_proto Sctp port low high =
-        Contains-append_right (spots_from Tcp 1 65535) _ _ (Contains-append_right (spots_from Udp 1 65535) _ _ (Contains-append_left (spots_from Sctp 1 65535) [] _ (from_has Sctp 1 65535 port low (omega arith))))
+        Contains-append_right (spots_from Tcp 1 65535) _ _ (Contains-append_right (spots_from Udp 1 65535) _ _
+        (Contains-append_left (spots_from Sctp 1 65535) [] _ (from_has Sctp 1 65535 port low (omega arith))))

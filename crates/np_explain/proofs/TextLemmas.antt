@@ -1,5 +1,6 @@
 -- A text of what decides belongs to one decider.
-use Rattle.std.proofs.Common.{◌≡◌, ℕ, ◌+◌, ◌*◌, ◌<◌, ◌^◌, List, [], ◌∷◌, ◌++◌, length, flat_map, get_or, Bool, true, false, not, ◌&&◌, ◌==◌, nat_lt, codes, decimal, Option, Some, None, is_some, refl, sym, ap, ◌∙◌, append_assoc, arith}
+use Rattle.std.proofs.Common.{◌≡◌, ℕ, ◌+◌, ◌*◌, ◌<◌, ◌^◌, List, [], ◌∷◌, ◌++◌, length, flat_map, get_or, Bool, true, false, not, ◌&&◌, ◌==◌, nat_lt, codes, decimal, Option, Some, None, is_some, refl}
+use Rattle.std.proofs.Common.{sym, ap, ◌∙◌, append_assoc, arith}
 use Rattle.std.specs.Int.{IsInRange}
 use Rattle.std.specs.List.{list_all}
 use Rattle.std.specs.Str.Parse.{AllDigits}
@@ -227,7 +228,8 @@ isolated-one a b pass passed names others well well' same =
     let first = pass-begins a pass in
     let second = pass-begins b passed in
     let both = go_on (codes " since isolated by NetworkPolicy ") (names_text names) (names_text others) (pass_text a pass) (pass_text b passed) same in
-    let parts = listed-one first.byte second.byte first.rest second.rest first.no_word second.no_word first.no_comma second.no_comma names others (not-true _ some.1) (not-true _ some'.1) here.1 there.1
+    let parts = listed-one first.byte second.byte first.rest second.rest first.no_word second.no_word first.no_comma second.no_comma names others (not-true _ some.1)
+    (not-true _ some'.1) here.1 there.1
     (sym (ap (λ (text : List ℕ). names_text names ++ text) first.is) ∙ both ∙ ap (λ (text : List ℕ). names_text others ++ text) second.is) in
     let passes = pass-one a b pass passed some.0 some'.0 (first.is ∙ parts.1 ∙ sym second.is) in
     (cc (parts.0, passes.0), passes.1)

@@ -12,14 +12,14 @@ use Rattle.np_model.specs.declared.admin_policy.Action.{Action}
 use Rattle.np_model.specs.declared.admin_policy.Action.TheVariants as policy
 use Rattle.np_rules.proofs.AdminTierLemmas.{decider_is_first}
 use Rattle.np_rules.specs.Deciders.{action_decides, admin_decides, admin_rule_name, base_decides, base_rule_name, decider, isolating_names, lower_decider, net_decider, net_decides, net_rule_name}
-use Rattle.np_rules.specs.BaseTier.{base_decider}
-use Rattle.np_rules.specs.Ends.{Contact, pod}
+use Rattle.np_rules.specs.model.BaseTier.{base_decider}
+use Rattle.np_rules.specs.model.Ends.{Contact, pod}
 use Rattle.np_rules.specs.Layers.{IsAdminPart, IsBasePart, IsLayer, IsSetOf, Pairwise, matches_of, tier_action}
-use Rattle.np_rules.specs.NetTier.{is_isolated, placed_net_matches}
-use Rattle.np_rules.specs.Places.{PlacedAdminRule, PlacedBaseRule, PlacedNetRule}
+use Rattle.np_rules.specs.model.NetTier.{is_isolated, placed_net_matches}
+use Rattle.np_rules.specs.model.Places.{PlacedAdminRule, PlacedBaseRule, PlacedNetRule}
 use Rattle.np_rules.specs.PodSides.{PodSide, near_pod}
-use Rattle.np_rules.specs.Rules.{admin_rule_matches}
-use Rattle.np_rules.specs.Sides.{is_allow}
+use Rattle.np_rules.specs.model.Rules.{admin_rule_matches}
+use Rattle.np_rules.specs.model.Sides.{is_allow}
 use Rattle.np_rules.specs.declared.decider.Decider.{Decider}
 use Rattle.np_rules.specs.declared.decider.Decider.TheVariants as decider
 use Rattle.np_rules.specs.declared.decider.RuleName.{RuleName}
@@ -45,14 +45,16 @@ stands_rest : {X : Type 0} (all : List X) (n : ℕ) (x : X) (items : List X) →
 stands_rest all n x items stands k = let same : n + 1 + k ≡ n + suc k = omega arith in ap (slice_get all) same ∙ stands (suc k)
 
 -- the first set that has a spot stands at the place of the first item that passes
-found : {S X : Type 0} (at : S → Bool) (test : X → Bool) (all : List X) (n : ℕ) (sets : List S) (items : List X) → Pairwise (λ set item. at set ≡ test item) sets items → StandsFrom all n items → option_map (slice_get all) (position_from at n sets) ≡ option_map Some (find test items)
+found : {S X : Type 0} (at : S → Bool) (test : X → Bool) (all : List X) (n : ℕ) (sets : List S) (items : List X) → Pairwise (λ set item. at set ≡ test item) sets items → StandsFrom all n items →
+    option_map (slice_get all) (position_from at n sets) ≡ option_map Some (find test items)
 found at test all n [] [] related stands = refl
 found at test all n [] (x ∷ items) related stands = absurd related
 found at test all n (set ∷ sets) [] related stands = absurd related
 found {S} {X} at test all n (set ∷ sets) (x ∷ items) related stands =
     rw related.0 (go (test x) (found at test all (n + 1) sets items related.1 (stands_rest all n x items stands)))
   where
-    go : (b : Bool) → option_map (slice_get all) (position_from at (n + 1) sets) ≡ option_map Some (find test items) → option_map (slice_get all) (if b then Some n else position_from at (n + 1) sets) ≡ option_map Some (if b then Some x else find test items)
+    go : (b : Bool) → option_map (slice_get all) (position_from at (n + 1) sets) ≡ option_map Some (find test items) →
+        option_map (slice_get all) (if b then Some n else position_from at (n + 1) sets) ≡ option_map Some (if b then Some x else find test items)
     go true rest = ap {A = Option X} Some (stands_first all n x items stands)
     go false rest = rest
 
@@ -64,14 +66,17 @@ abbrev spoken : PlacedAdminRule → Option PlacedAdminRule × TierAction
 spoken placed = (Some placed, tier_action placed.rule.action)
 
 -- so it is for the admin parts, of which each says what its rule says
-admin_found : (at : Conns → Bool) (test : PlacedAdminRule → Bool) (all : List PlacedAdminRule) (n : ℕ) (parts : List (AdminPart Conns)) (items : List PlacedAdminRule) → Pairwise (λ part placed. (part.action ≡ tier_action placed.rule.action) × (at part.set ≡ test placed)) parts items → StandsFrom all n items → option_map (seen all) (find (λ numbered. at numbered.1.set) (enumerate_from n parts)) ≡ option_map spoken (find test items)
+admin_found : (at : Conns → Bool) (test : PlacedAdminRule → Bool) (all : List PlacedAdminRule) (n : ℕ) (parts : List (AdminPart Conns)) (items : List PlacedAdminRule) →
+    Pairwise (λ part placed. (part.action ≡ tier_action placed.rule.action) × (at part.set ≡ test placed)) parts items → StandsFrom all n items →
+    option_map (seen all) (find (λ numbered. at numbered.1.set) (enumerate_from n parts)) ≡ option_map spoken (find test items)
 admin_found at test all n [] [] related stands = refl
 admin_found at test all n [] (placed ∷ items) related stands = absurd related
 admin_found at test all n (part ∷ parts) [] related stands = absurd related
 admin_found at test all n (part ∷ parts) (placed ∷ items) related stands =
     rw related.0.1 (go (test placed) (admin_found at test all (n + 1) parts items related.1 (stands_rest all n placed items stands)))
   where
-    go : (b : Bool) → option_map (seen all) (find (λ numbered. at numbered.1.set) (enumerate_from (n + 1) parts)) ≡ option_map spoken (find test items) → option_map (seen all) (if b then Some (n, part) else find (λ numbered. at numbered.1.set) (enumerate_from (n + 1) parts)) ≡ option_map spoken (if b then Some placed else find test items)
+    go : (b : Bool) → option_map (seen all) (find (λ numbered. at numbered.1.set) (enumerate_from (n + 1) parts)) ≡ option_map spoken (find test items) →
+        option_map (seen all) (if b then Some (n, part) else find (λ numbered. at numbered.1.set) (enumerate_from (n + 1) parts)) ≡ option_map spoken (if b then Some placed else find test items)
     go true rest = cc (stands_first all n placed items stands, related.0.0)
     go false rest = rest
 
@@ -86,7 +91,8 @@ some_is_none x same = cc
 
 -- ---- what the marks of each tier stand for, and that their places are there
 
-net_named : (side : PodSide) (pass : Option ℕ) (place : Option ℕ) (decides : Option PlacedNetRule) → IsPassOf side pass → option_map (slice_get (net_rules side)) place ≡ option_map Some decides → (mark_decider side (net_mark pass place) ≡ net_decides (pass_name side pass) (isolating_names side.lists.net_policies side.direction (near_pod side)) decides) × IsMarkOf side (net_mark pass place)
+net_named : (side : PodSide) (pass : Option ℕ) (place : Option ℕ) (decides : Option PlacedNetRule) → IsPassOf side pass → option_map (slice_get (net_rules side)) place ≡ option_map Some decides →
+    (mark_decider side (net_mark pass place) ≡ net_decides (pass_name side pass) (isolating_names side.lists.net_policies side.direction (near_pod side)) decides) × IsMarkOf side (net_mark pass place)
 net_named side pass None None there same = (refl, there)
 net_named side pass None (Some placed) there same = none_is_some _ same
 net_named side pass (Some place) None there same = some_is_none _ same
@@ -95,7 +101,8 @@ net_named side pass (Some place) (Some placed) there same =
     let named : Option PlacedNetRule → Decider = λ o. option_map_or (λ p. decider.Net (pass_name side pass) (net_rule_name p)) o decider.NoSide in
     (ap named is, (there, slice_get_within (net_rules side) place placed is))
 
-base_named : (side : PodSide) (pass : Option ℕ) (place : Option ℕ) (decides : Option PlacedBaseRule) → IsPassOf side pass → option_map (slice_get (base_rules side)) place ≡ option_map Some decides → (mark_decider side (base_mark pass place) ≡ base_decides (pass_name side pass) decides) × IsMarkOf side (base_mark pass place)
+base_named : (side : PodSide) (pass : Option ℕ) (place : Option ℕ) (decides : Option PlacedBaseRule) → IsPassOf side pass → option_map (slice_get (base_rules side)) place ≡ option_map Some decides →
+    (mark_decider side (base_mark pass place) ≡ base_decides (pass_name side pass) decides) × IsMarkOf side (base_mark pass place)
 base_named side pass None None there same = (refl, there)
 base_named side pass None (Some placed) there same = none_is_some _ same
 base_named side pass (Some place) None there same = some_is_none _ same
@@ -105,7 +112,10 @@ base_named side pass (Some place) (Some placed) there same =
     (ap named is, (there, slice_get_within (base_rules side) place placed is))
 
 -- the rule at a place, with what it says: where it passes, the tiers below decide
-action_named : (side : PodSide) (place : ℕ) (placed : PlacedAdminRule) (action : Action) (lower : Option ℕ → Mark) (decides : Option RuleName → Decider) → slice_get (admin_rules side) place ≡ Some placed → placed.rule.action ≡ action → ((pass : Option ℕ) → IsPassOf side pass → (mark_decider side (lower pass) ≡ decides (pass_name side pass)) × IsMarkOf side (lower pass)) → (mark_decider side (action_mark (tier_action action) place lower) ≡ action_decides action (admin_rule_name placed) decides) × IsMarkOf side (action_mark (tier_action action) place lower)
+action_named : (side : PodSide) (place : ℕ) (placed : PlacedAdminRule) (action : Action) (lower : Option ℕ → Mark) (decides : Option RuleName → Decider) →
+    slice_get (admin_rules side) place ≡ Some placed → placed.rule.action ≡ action →
+    ((pass : Option ℕ) → IsPassOf side pass → (mark_decider side (lower pass) ≡ decides (pass_name side pass)) × IsMarkOf side (lower pass)) →
+    (mark_decider side (action_mark (tier_action action) place lower) ≡ action_decides action (admin_rule_name placed) decides) × IsMarkOf side (action_mark (tier_action action) place lower)
 action_named side place placed policy.Allow lower decides is says below =
     let named : Option PlacedAdminRule → Decider = λ o. option_map_or (λ p. decider.Admin (admin_rule_name p) (is_allow p.rule.action)) o decider.NoSide in
     let allows : Action → Decider = λ a. decider.Admin (admin_rule_name placed) (is_allow a) in
@@ -119,7 +129,10 @@ action_named side place placed policy.Pass lower decides is says below =
     let passed = below (Some place) (slice_get_within (admin_rules side) place placed is) in
     (passed.0 ∙ ap met is, passed.1)
 
-admin_named : (side : PodSide) (numbered : Option (ℕ × AdminPart Conns)) (decides : Option PlacedAdminRule) (lower : Option ℕ → Mark) (below : Option RuleName → Decider) → option_map (seen (admin_rules side)) numbered ≡ option_map spoken decides → ((pass : Option ℕ) → IsPassOf side pass → (mark_decider side (lower pass) ≡ below (pass_name side pass)) × IsMarkOf side (lower pass)) → (mark_decider side (admin_mark numbered lower) ≡ admin_decides decides below) × IsMarkOf side (admin_mark numbered lower)
+admin_named : (side : PodSide) (numbered : Option (ℕ × AdminPart Conns)) (decides : Option PlacedAdminRule) (lower : Option ℕ → Mark) (below : Option RuleName → Decider) →
+    option_map (seen (admin_rules side)) numbered ≡ option_map spoken decides →
+    ((pass : Option ℕ) → IsPassOf side pass → (mark_decider side (lower pass) ≡ below (pass_name side pass)) × IsMarkOf side (lower pass)) →
+    (mark_decider side (admin_mark numbered lower) ≡ admin_decides decides below) × IsMarkOf side (admin_mark numbered lower)
 admin_named side None None lower below same lowers = lowers None tt
 admin_named side None (Some placed) lower below same lowers = none_is_some _ same
 admin_named side (Some numbered) None lower below same lowers = some_is_none _ same
@@ -127,7 +140,8 @@ admin_named side (Some numbered) (Some placed) lower below same lowers =
     let pair : (slice_get (admin_rules side) numbered.0, numbered.1.action) ≡ (Some placed, tier_action placed.rule.action) = some_is _ _ same in
     let is : slice_get (admin_rules side) numbered.0 ≡ Some placed = ap (λ (p : Option PlacedAdminRule × TierAction). p.0) pair in
     let says : numbered.1.action ≡ tier_action placed.rule.action = ap (λ (p : Option PlacedAdminRule × TierAction). p.1) pair in
-    subst (λ (action : TierAction). (mark_decider side (action_mark action numbered.0 lower) ≡ action_decides placed.rule.action (admin_rule_name placed) below) × IsMarkOf side (action_mark action numbered.0 lower)) (sym says)
+    subst (λ (action : TierAction). (mark_decider side (action_mark action numbered.0 lower) ≡ action_decides placed.rule.action (admin_rule_name placed) below) × IsMarkOf side
+    (action_mark action numbered.0 lower)) (sym says)
     (action_named side numbered.0 placed placed.rule.action lower below is refl lowers)
 
 -- ---- the whole walk
@@ -141,50 +155,71 @@ Pairwise-weaker R S weaker (x ∷ xs) (y ∷ ys) related = (weaker x y related.0
 -- the parts of a layer say what the rules at their places say
 pub says_of : (side : PodSide) (looks_at : PortSpot → Contact) (layer : Layer Conns) → IsLayer has_spot is_spot looks_at side.lists side.direction (near_pod side) layer → SaysActions side layer
 says_of side looks_at layer is = record {
-  admin = Pairwise-weaker (λ part placed. IsAdminPart has_spot is_spot looks_at part placed.rule) (λ part placed. part.action ≡ tier_action placed.rule.action) (λ part placed one. one.action) layer.admin (admin_rules side) is.admin;
-  base = Pairwise-weaker (λ part placed. IsBasePart has_spot is_spot looks_at part placed.rule) (λ part placed. part.allow ≡ is_allow placed.rule.action) (λ part placed one. one.allow) layer.base (base_rules side) is.base;
+  admin = Pairwise-weaker (λ part placed. IsAdminPart has_spot is_spot looks_at part placed.rule) (λ part placed. part.action ≡ tier_action placed.rule.action)
+      (λ part placed one. one.action) layer.admin (admin_rules side) is.admin;
+  base = Pairwise-weaker (λ part placed. IsBasePart has_spot is_spot looks_at part placed.rule) (λ part placed. part.allow ≡ is_allow placed.rule.action) (λ part placed one. one.allow) layer.base
+      (base_rules side) is.base;
 }
 
-module _ (side : PodSide) (looks_at : PortSpot → Contact) (layer : Layer Conns) (lawful : IsLawful side.lists) (is : IsLayer has_spot is_spot looks_at side.lists side.direction (near_pod side) layer) (spot : PortSpot) (within : is_spot spot ≡ true) where
+module _ (side : PodSide) (looks_at : PortSpot → Contact) (layer : Layer Conns) (lawful : IsLawful side.lists) (is : IsLayer has_spot is_spot looks_at side.lists side.direction (near_pod side) layer)
+    (spot : PortSpot) (within : is_spot spot ≡ true) where
   at : Conns → Bool
   at set = has_spot set spot
 
   nets : option_map (slice_get (net_rules side)) (position_from (λ set. has_spot set spot) 0 layer.net) ≡ option_map Some (find (placed_net_matches (looks_at spot)) (net_rules side))
   nets =
       found (λ set. has_spot set spot) (placed_net_matches (looks_at spot)) (net_rules side) 0 layer.net (net_rules side)
-      (Pairwise-weaker (λ set placed. IsSetOf has_spot is_spot looks_at set (matches_of placed)) (λ set placed. has_spot set spot ≡ placed_net_matches (looks_at spot) placed) (λ set placed members. members spot within) layer.net (net_rules side) is.net)
+      (Pairwise-weaker (λ set placed. IsSetOf has_spot is_spot looks_at set (matches_of placed)) (λ set placed. has_spot set spot ≡ placed_net_matches (looks_at spot) placed)
+      (λ set placed members. members spot within) layer.net (net_rules side) is.net)
       (stands_all (net_rules side))
 
-  bases : option_map (slice_get (base_rules side)) (position_from (λ part. has_spot part.set spot) 0 layer.base) ≡ option_map Some (find (λ placed. admin_rule_matches placed.rule (looks_at spot)) (base_rules side))
+  bases : option_map (slice_get (base_rules side)) (position_from (λ part. has_spot part.set spot) 0 layer.base) ≡ option_map Some
+      (find (λ placed. admin_rule_matches placed.rule (looks_at spot)) (base_rules side))
   bases =
       found (λ part. has_spot part.set spot) (λ placed. admin_rule_matches placed.rule (looks_at spot)) (base_rules side) 0 layer.base (base_rules side)
-      (Pairwise-weaker (λ part placed. IsBasePart has_spot is_spot looks_at part placed.rule) (λ part placed. has_spot part.set spot ≡ admin_rule_matches placed.rule (looks_at spot)) (λ part placed one. one.members spot within) layer.base (base_rules side) is.base)
+      (Pairwise-weaker (λ part placed. IsBasePart has_spot is_spot looks_at part placed.rule) (λ part placed. has_spot part.set spot ≡ admin_rule_matches placed.rule (looks_at spot))
+      (λ part placed one. one.members spot within) layer.base (base_rules side) is.base)
       (stands_all (base_rules side))
 
-  admins : option_map (seen (admin_rules side)) (find (λ n. has_spot n.1.set spot) (enumerate_from 0 layer.admin)) ≡ option_map spoken (find (λ placed. admin_rule_matches placed.rule (looks_at spot)) (admin_rules side))
+  admins : option_map (seen (admin_rules side)) (find (λ n. has_spot n.1.set spot) (enumerate_from 0 layer.admin)) ≡ option_map spoken
+      (find (λ placed. admin_rule_matches placed.rule (looks_at spot)) (admin_rules side))
   admins =
       admin_found (λ set. has_spot set spot) (λ placed. admin_rule_matches placed.rule (looks_at spot)) (admin_rules side) 0 layer.admin (admin_rules side)
-      (Pairwise-weaker (λ part placed. IsAdminPart has_spot is_spot looks_at part placed.rule) (λ part placed. (part.action ≡ tier_action placed.rule.action) × (has_spot part.set spot ≡ admin_rule_matches placed.rule (looks_at spot))) (λ part placed one. (one.action, one.members spot within)) layer.admin (admin_rules side) is.admin)
+      (Pairwise-weaker (λ part placed. IsAdminPart has_spot is_spot looks_at part placed.rule)
+      (λ part placed. (part.action ≡ tier_action placed.rule.action) × (has_spot part.set spot ≡ admin_rule_matches placed.rule (looks_at spot)))
+      (λ part placed one. (one.action, one.members spot within)) layer.admin (admin_rules side) is.admin)
       (stands_all (admin_rules side))
 
   -- below the admin tier
-  lower_named : (pass : Option ℕ) → IsPassOf side pass → (mark_decider side (lower_mark (λ set. has_spot set spot) layer pass) ≡ lower_decider side.lists side.direction (near_pod side) (looks_at spot) (pass_name side pass)) × IsMarkOf side (lower_mark (λ set. has_spot set spot) layer pass)
+  lower_named : (pass : Option ℕ) → IsPassOf side pass →
+      (mark_decider side (lower_mark (λ set. has_spot set spot) layer pass) ≡ lower_decider side.lists side.direction (near_pod side) (looks_at spot) (pass_name side pass)) × IsMarkOf side
+      (lower_mark (λ set. has_spot set spot) layer pass)
   lower_named pass there =
       by (is_isolated side.lists.net_policies side.direction (near_pod side)) layer.isolated is.isolated
     where
       names : List (List ℕ)
       names = isolating_names side.lists.net_policies side.direction (near_pod side)
 
-      by : (isolated made : Bool) → made ≡ isolated → (mark_decider side (if made then net_mark pass (position_from (λ set. has_spot set spot) 0 layer.net) else base_mark pass (position_from (λ part. has_spot part.set spot) 0 layer.base)) ≡ (if isolated then net_decides (pass_name side pass) names (net_decider side.lists.net_policies side.direction (near_pod side) (looks_at spot)) else base_decides (pass_name side pass) (base_decider side.lists.baseline side.direction (near_pod side) (looks_at spot)))) × IsMarkOf side (if made then net_mark pass (position_from (λ set. has_spot set spot) 0 layer.net) else base_mark pass (position_from (λ part. has_spot part.set spot) 0 layer.base))
+      by : (isolated made : Bool) → made ≡ isolated →
+          (mark_decider side (if made then net_mark pass (position_from (λ set. has_spot set spot) 0 layer.net) else base_mark pass (position_from (λ part. has_spot part.set spot) 0 layer.base)) ≡
+          (if isolated then net_decides (pass_name side pass) names (net_decider side.lists.net_policies side.direction (near_pod side) (looks_at spot)) else base_decides (pass_name side pass)
+          (base_decider side.lists.baseline side.direction (near_pod side) (looks_at spot)))) × IsMarkOf side
+          (if made then net_mark pass (position_from (λ set. has_spot set spot) 0 layer.net) else base_mark pass (position_from (λ part. has_spot part.set spot) 0 layer.base))
       by true true same =
           let one = net_named side pass (position_from (λ set. has_spot set spot) 0 layer.net) (find (placed_net_matches (looks_at spot)) (net_rules side)) there nets in
           (one.0 ∙ ap (net_decides (pass_name side pass) names) (sym (net_decider_is_first side.lists.net_policies side.direction (near_pod side) (looks_at spot) lawful.net_policies_ascend)), one.1)
-      by false false same = base_named side pass (position_from (λ part. has_spot part.set spot) 0 layer.base) (find (λ placed. admin_rule_matches placed.rule (looks_at spot)) (base_rules side)) there bases
+      by false false same = base_named side pass (position_from (λ part. has_spot part.set spot) 0 layer.base)
+          (find (λ placed. admin_rule_matches placed.rule (looks_at spot)) (base_rules side)) there bases
       by true false same = cc
       by false true same = cc
 
   -- What the mark of a spot stands for decides it, and the rules at its places are there.
-  pub mark_named : (mark_decider side (mark_of (λ set. has_spot set spot) layer) ≡ decider side.lists side.direction (pod (near_pod side)) (looks_at spot)) × IsMarkOf side (mark_of (λ set. has_spot set spot) layer)
+  pub mark_named : (mark_decider side (mark_of (λ set. has_spot set spot) layer) ≡ decider side.lists side.direction (pod (near_pod side)) (looks_at spot)) × IsMarkOf side
+      (mark_of (λ set. has_spot set spot) layer)
   mark_named =
-      let one = admin_named side (find (λ n. has_spot n.1.set spot) (enumerate_from 0 layer.admin)) (find (λ placed. admin_rule_matches placed.rule (looks_at spot)) (admin_rules side)) (lower_mark (λ set. has_spot set spot) layer) (lower_decider side.lists side.direction (near_pod side) (looks_at spot)) admins lower_named in
-      (one.0 ∙ ap (λ decides. admin_decides decides (lower_decider side.lists side.direction (near_pod side) (looks_at spot))) (sym (decider_is_first side.lists.admin_policies side.direction (near_pod side) (looks_at spot) lawful.admin_policies_ascend)), one.1)
+      let one = admin_named side (find (λ n. has_spot n.1.set spot) (enumerate_from 0 layer.admin)) (find (λ placed. admin_rule_matches placed.rule (looks_at spot)) (admin_rules side))
+      (lower_mark (λ set. has_spot set spot) layer) (lower_decider side.lists side.direction (near_pod side) (looks_at spot)) admins lower_named in (
+        one.0 ∙ ap (λ decides. admin_decides decides (lower_decider side.lists side.direction (near_pod side) (looks_at spot)))
+            (sym (decider_is_first side.lists.admin_policies side.direction (near_pod side) (looks_at spot) lawful.admin_policies_ascend)),
+        one.1,
+      )

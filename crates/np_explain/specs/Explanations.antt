@@ -14,7 +14,7 @@ use Rattle.np_explain.specs.declared.explanation.Explanation.{Explanation}
 use Rattle.np_explain.specs.declared.part.Part.{Part}
 use Rattle.np_model.specs.declared.direction.Direction.TheVariants.{Ingress, Egress}
 use Rattle.np_rules.specs.Deciders.{decider_allows}
-use Rattle.np_rules.specs.Verdict.{allows}
+use Rattle.np_rules.specs.model.Verdict.{allows}
 use Rattle.np_rules.specs.declared.packet.End.{End}
 
 -- ---- the explanation of two ends

@@ -7,9 +7,9 @@ use Rattle.np_model.specs.declared.lists.EstateLists.{EstateLists}
 use Rattle.np_model.specs.declared.direction.Direction.{Direction}
 use Rattle.np_model.specs.declared.direction.Direction.TheVariants.{Ingress, Egress}
 use Rattle.np_rules.specs.Deciders.{decider}
-use Rattle.np_rules.specs.Ends.{Contact, End, Packet, address, contact, contact_of, pod}
+use Rattle.np_rules.specs.model.Ends.{Contact, End, Packet, address, contact, contact_of, pod}
 use Rattle.np_rules.specs.PodSides.{PodSide, near_pod}
-use Rattle.np_rules.specs.Verdict.{end_of}
+use Rattle.np_rules.specs.model.Verdict.{end_of}
 use Rattle.np_rules.specs.declared.decider.Decider.{Decider}
 use Rattle.np_rules.specs.declared.packet.End.{End as PlacedEnd}
 use Rattle.np_rules.specs.declared.packet.End.TheVariants.{Pod, At}

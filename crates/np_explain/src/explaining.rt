@@ -6,9 +6,9 @@ ghost use Rattle.np_explain.specs.Marks.{IsMarkOf, named_part};
 ghost use Rattle.np_explain.specs.Parts.{AreRightParts};
 ghost use Rattle.np_explain.specs.RightParts.{parts_of};
 ghost use Rattle.np_explain.specs.Sides.{IsFamilyAt, IsFamilyOf, IsFamilyWith, are_one_pod, decider_between, decider_near, placed_at, with_end};
-ghost use Rattle.np_rules.specs.Places.{end_rule_count};
+ghost use Rattle.np_rules.specs.model.Places.{end_rule_count};
 ghost use Rattle.np_rules.specs.PodSides.{IsSideLayer, side_of, side_rule_count};
-ghost use Rattle.np_rules.specs.Verdict.{IsEndOf, end_of};
+ghost use Rattle.np_rules.specs.model.Verdict.{IsEndOf, end_of};
 
 use crate::order::first_number;
 use crate::part::Part;
@@ -17,7 +17,7 @@ use np_addr::Family;
 use np_base::{Cells, NoMemory, Seq};
 use np_conns::ConnSet;
 use np_model::{Direction, Estate};
-use np_rules::{Decider, End, pod_layer, point_layer};
+use np_rules::{Decider, End, PodRules};
 use np_steps::Steps;
 use np_tiers::{Layer, Marked, carve};
 use std::alloc::Global;
@@ -149,9 +149,10 @@ fn layer_with<L: Ledger>(
     ensures least { steps.old ≤ steps.new }
     ensures most { steps.new ≤ steps.old + side_rule_count (side_of estate.now pod direction) }
 {
+    let rules = PodRules::of(alloc, estate, pod, direction)?;
     match far {
-        End::Pod(peer) => pod_layer(alloc, estate, pod, direction, peer, family, steps),
-        End::At(address) => point_layer(alloc, estate, pod, direction, address, steps),
+        End::Pod(peer) => rules.pod_layer(alloc, peer, family, steps),
+        End::At(address) => rules.point_layer(alloc, address, steps),
     }
 }
 

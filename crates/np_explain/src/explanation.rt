@@ -6,7 +6,7 @@ ghost use Rattle.np_model.specs.Lawful.{IsLawful};
 ghost use Rattle.np_explain.specs.Explanations as spec;
 ghost use Rattle.np_explain.specs.Sides.{IsFamilyOf, are_one_pod};
 ghost use Rattle.np_rules.specs.Deciders.{decider_allows};
-ghost use Rattle.np_rules.specs.Verdict.{IsEndOf};
+ghost use Rattle.np_rules.specs.model.Verdict.{IsEndOf};
 
 use crate::explaining::explain;
 use crate::part::Part;

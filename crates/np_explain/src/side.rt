@@ -6,9 +6,9 @@ ghost use Rattle.np_explain.specs.Marks.{IsMarkOf, IsPassOf, SaysActions, admin_
 ghost use Rattle.np_model.specs.declared.admin_policy.Action.{Action as PolicyAction};
 ghost use Rattle.np_rules.specs.Deciders.{admin_rule_name, base_rule_name, net_rule_name};
 ghost use Rattle.np_rules.specs.Layers.{tier_action};
-ghost use Rattle.np_rules.specs.Places.{PlacedAdminRule, PlacedBaseRule, PlacedNetRule};
+ghost use Rattle.np_rules.specs.model.Places.{PlacedAdminRule, PlacedBaseRule, PlacedNetRule};
 ghost use Rattle.np_rules.specs.PodSides.{side_of};
-ghost use Rattle.np_rules.specs.Sides.{is_allow};
+ghost use Rattle.np_rules.specs.model.Sides.{is_allow};
 
 use crate::rule_names::{admin_rule_name, net_policy_names, net_rule_name};
 use np_base::{NoMemory, Text};

@@ -19,8 +19,8 @@ use Rattle.np_lint.specs.declared.rule_ref.Tier.TheVariants.{Admin, Net, Base}
 use Rattle.np_lint.specs.steps.Search.{ref_of}
 use Rattle.np_model.specs.declared.direction.Direction.{Direction}
 use Rattle.np_model.specs.declared.direction.Direction.TheVariants.{Ingress, Egress}
-use Rattle.np_rules.specs.Ends.{contact_of}
-use Rattle.np_rules.specs.Verdict.{allows, end_allows, end_of, pod_at}
+use Rattle.np_rules.specs.model.Ends.{contact_of}
+use Rattle.np_rules.specs.model.Verdict.{allows, end_allows, end_of, pod_at}
 use Rattle.np_rules.specs.declared.packet.End.{End}
 use Rattle.np_rules.specs.declared.packet.End.TheVariants.{Pod, At}
 
@@ -52,13 +52,16 @@ ref_same a b same =
     let of_policy : ℕ → RuleRef = λ n. record { tier = b.tier; policy = n; direction = a.direction; place = a.place } in
     let of_direction : Direction → RuleRef = λ d. record { tier = b.tier; policy = b.policy; direction = d; place = a.place } in
     let of_place : ℕ → RuleRef = λ n. record { tier = b.tier; policy = b.policy; direction = b.direction; place = n } in
-    ap of_tier (tier_same a.tier b.tier first.0) ∙ ap of_policy (eqb-true a.policy b.policy first.1) ∙ ap of_direction (direction_same a.direction b.direction middle.1) ∙ ap of_place (eqb-true a.place b.place front.1)
+    ap of_tier (tier_same a.tier b.tier first.0) ∙ ap of_policy (eqb-true a.policy b.policy first.1) ∙ ap of_direction (direction_same a.direction b.direction middle.1) ∙ ap of_place
+    (eqb-true a.place b.place front.1)
 
 -- ---- a packet
 
 module _ (lists : EstateLists) (source destination : End) (family : Family) (spot : PortSpot) (listed : IsListedPacket lists source destination family spot) where
   -- a rule that stands in what decides is not among the unused ones
-  not_gone : (one : Tier) (policy place : ℕ) (direction : Direction) → rule_in one (decider_between lists direction source destination family spot) ≡ Some (rule_name lists (ref_of direction one policy place)) → goes (unused_of lists) one policy direction place ≡ false
+  not_gone : (one : Tier) (policy place : ℕ) (direction : Direction) →
+      rule_in one (decider_between lists direction source destination family spot) ≡ Some (rule_name lists (ref_of direction one policy place)) →
+      goes (unused_of lists) one policy direction place ≡ false
   not_gone one policy place direction stands = go (goes (unused_of lists) one policy direction place) refl
     where
       go : (b : Bool) → goes (unused_of lists) one policy direction place ≡ b → b ≡ false
@@ -66,24 +69,30 @@ module _ (lists : EstateLists) (source destination : End) (family : Family) (spo
       go true is =
           let found = any_gives (same_ref (ref_of direction one policy place)) (unused_of lists) is in
           let has = subst (λ (rule : RuleRef). Contains (unused_of lists) rule) (sym (ref_same (ref_of direction one policy place) found.0 found.2)) found.1 in
-          absurd (false≢true (sym (unused_is lists (ref_of direction one policy place) has).1 ∙ is_used_by lists (ref_of direction one policy place) source destination family spot listed (stands_by_name (rule_name lists (ref_of direction one policy place)) _ stands)))
+          absurd (false≢true (sym (unused_is lists (ref_of direction one policy place) has).1 ∙ is_used_by lists (ref_of direction one policy place) source destination family spot listed
+          (stands_by_name (rule_name lists (ref_of direction one policy place)) _ stands)))
 
 -- its two sides
-egress_same : (lists : EstateLists) → IsLawful lists → (source destination : End) (family : Family) (spot : PortSpot) → IsListedPacket lists source destination family spot → end_allows (without lists (unused_of lists)) Egress (end_of lists source) (contact_of Egress (packet_between lists source destination family spot)) ≡ end_allows lists Egress (end_of lists source) (contact_of Egress (packet_between lists source destination family spot))
+egress_same : (lists : EstateLists) → IsLawful lists → (source destination : End) (family : Family) (spot : PortSpot) → IsListedPacket lists source destination family spot →
+    end_allows (without lists (unused_of lists)) Egress (end_of lists source) (contact_of Egress (packet_between lists source destination family spot)) ≡ end_allows lists Egress (end_of lists source)
+    (contact_of Egress (packet_between lists source destination family spot))
 unfolding Stays
 egress_same lists lawful (At a) destination family spot listed = refl
 egress_same lists lawful (Pod p) destination family spot listed =
     side_same lists lawful (unused_of lists) Egress (pod_at lists p) (contact_of Egress (packet_between lists (Pod p) destination family spot))
     (λ one policy place valid stands. not_gone lists (Pod p) destination family spot listed one policy place Egress stands)
 
-ingress_same : (lists : EstateLists) → IsLawful lists → (source destination : End) (family : Family) (spot : PortSpot) → IsListedPacket lists source destination family spot → end_allows (without lists (unused_of lists)) Ingress (end_of lists destination) (contact_of Ingress (packet_between lists source destination family spot)) ≡ end_allows lists Ingress (end_of lists destination) (contact_of Ingress (packet_between lists source destination family spot))
+ingress_same : (lists : EstateLists) → IsLawful lists → (source destination : End) (family : Family) (spot : PortSpot) → IsListedPacket lists source destination family spot →
+    end_allows (without lists (unused_of lists)) Ingress (end_of lists destination) (contact_of Ingress (packet_between lists source destination family spot)) ≡ end_allows lists Ingress
+    (end_of lists destination) (contact_of Ingress (packet_between lists source destination family spot))
 unfolding Stays
 ingress_same lists lawful source (At a) family spot listed = refl
 ingress_same lists lawful source (Pod p) family spot listed =
     side_same lists lawful (unused_of lists) Ingress (pod_at lists p) (contact_of Ingress (packet_between lists source (Pod p) family spot))
     (λ one policy place valid stands. not_gone lists source (Pod p) family spot listed one policy place Ingress stands)
 
-pub change_nothing : (lists : EstateLists) → IsLawful lists → (source destination : End) (family : Family) (spot : PortSpot) → IsListedPacket lists source destination family spot → allows (without lists (unused_of lists)) (packet_between lists source destination family spot) ≡ allows lists (packet_between lists source destination family spot)
+pub change_nothing : (lists : EstateLists) → IsLawful lists → (source destination : End) (family : Family) (spot : PortSpot) → IsListedPacket lists source destination family spot →
+    allows (without lists (unused_of lists)) (packet_between lists source destination family spot) ≡ allows lists (packet_between lists source destination family spot)
 unfolding allows
 change_nothing lists lawful source destination family spot listed =
     let packet = packet_between lists source destination family spot in

@@ -6,7 +6,8 @@ use Rattle.np_model.specs.Lawful.{IsLawful}
 use Rattle.np_model.specs.declared.lists.EstateLists.{EstateLists}
 use Rattle.np_explain.proofs.RuleLemmas.{net_decider_is_first}
 use Rattle.np_lint.proofs.StayLemmas.{any_found, any_map, find_map, first_stays, found_is, stands_all}
-use Rattle.np_lint.proofs.WithoutLemmas.{IsAdminAt, IsBaseAt, IsNetAt, admin_are, admin_from, admin_left, admin_placed, admin_stays, ascending_left, base_are, base_from, base_left, base_placed, base_stays, isolated_left, net_are, net_from, net_left, net_placed, net_stays, spaced}
+use Rattle.np_lint.proofs.WithoutLemmas.{IsAdminAt, IsBaseAt, IsNetAt, admin_are, admin_from, admin_left, admin_placed, admin_stays, ascending_left, base_are, base_from, base_left, base_placed}
+use Rattle.np_lint.proofs.WithoutLemmas.{base_stays, isolated_left, net_are, net_from, net_left, net_placed, net_stays, spaced}
 use Rattle.np_lint.specs.Rules.{admin_count, net_count, rule_count_at, rule_name}
 use Rattle.np_lint.specs.Used.{admin_rule_in, base_rule_in, net_rule_in, rule_in}
 use Rattle.np_lint.specs.Without.{admin_without, base_without, goes, net_without, without}
@@ -24,14 +25,14 @@ use Rattle.np_model.specs.declared.network_policy.NetPolicy.{NetPolicy}
 use Rattle.np_model.specs.declared.network_policy.NetRule.{NetRule}
 use Rattle.np_rules.proofs.AdminTierLemmas.{decider_is_first}
 use Rattle.np_rules.proofs.PairwiseLemmas.{map-map}
-use Rattle.np_rules.specs.AdminTier.{admin_decider}
-use Rattle.np_rules.specs.BaseTier.{base_decider}
+use Rattle.np_rules.specs.model.AdminTier.{admin_decider}
+use Rattle.np_rules.specs.model.BaseTier.{base_decider}
 use Rattle.np_rules.specs.Deciders.{action_decides, admin_decides, admin_rule_name, base_decides, decider, isolating_names, lower_decider, net_decider, net_decides, net_policy_name, net_rule_name}
-use Rattle.np_rules.specs.Ends.{Contact, PodEnd, pod}
-use Rattle.np_rules.specs.NetTier.{is_isolated, permits, placed_net_matches}
-use Rattle.np_rules.specs.Places.{PlacedAdminRule, PlacedBaseRule, PlacedNetRule, admin_places, base_places, net_places}
-use Rattle.np_rules.specs.Rules.{admin_rule_matches, net_rule_matches}
-use Rattle.np_rules.specs.Sides.{action_says, admin_says, base_says, is_allow, lower_allows, side_allows}
+use Rattle.np_rules.specs.model.Ends.{Contact, PodEnd, pod}
+use Rattle.np_rules.specs.model.NetTier.{is_isolated, permits, placed_net_matches}
+use Rattle.np_rules.specs.model.Places.{PlacedAdminRule, PlacedBaseRule, PlacedNetRule, admin_places, base_places, net_places}
+use Rattle.np_rules.specs.model.Rules.{admin_rule_matches, net_rule_matches}
+use Rattle.np_rules.specs.model.Sides.{action_says, admin_says, base_says, is_allow, lower_allows, side_allows}
 use Rattle.np_rules.specs.declared.decider.Decider.{Decider}
 use Rattle.np_rules.specs.declared.decider.RuleName.{RuleName}
 
@@ -73,7 +74,9 @@ module _ (lists : EstateLists) (direction : Direction) (p : PodEnd) (contact : C
   lower_in : (pass : Option RuleName) → admin_rule_in (lower_decider lists direction p contact pass) ≡ pass
   lower_in pass = go (is_isolated lists.net_policies direction p)
     where
-      go : (b : Bool) → admin_rule_in (if b then net_decides pass (isolating_names lists.net_policies direction p) (net_decider lists.net_policies direction p contact) else base_decides pass (base_decider lists.baseline direction p contact)) ≡ pass
+      go : (b : Bool) →
+          admin_rule_in (if b then net_decides pass (isolating_names lists.net_policies direction p) (net_decider lists.net_policies direction p contact) else base_decides pass
+          (base_decider lists.baseline direction p contact)) ≡ pass
       go true = net_admin pass (net_decider lists.net_policies direction p contact)
       go false = base_admin pass (base_decider lists.baseline direction p contact)
 
@@ -94,7 +97,8 @@ module _ (lists : EstateLists) (lawful : IsLawful lists) (gone : List RuleRef) (
 
   -- a rule of the estate stays where it stands in what decides
   unfoldable pub Stays : Type 0
-  Stays = (one : Tier) (policy place : ℕ) → place < rule_count_at lists one direction policy → rule_in one (decider lists direction (pod p) contact) ≡ Some (rule_name lists (ref_of direction one policy place)) → goes gone one policy direction place ≡ false
+  Stays = (one : Tier) (policy place : ℕ) → place < rule_count_at lists one direction policy → rule_in one (decider lists direction (pod p) contact) ≡ Some
+      (rule_name lists (ref_of direction one policy place)) → goes gone one policy direction place ≡ false
 
   abbrev matches : AdminRule → Bool
   matches rule = admin_rule_matches rule contact
@@ -113,7 +117,8 @@ module _ (lists : EstateLists) (lawful : IsLawful lists) (gone : List RuleRef) (
       ∙ ap (find (λ placed. admin_rule_matches placed.rule contact)) (sym (admin_placed gone direction p 0 lists.admin_policies))
       ∙ find_map (λ x. x.1) (λ placed. admin_rule_matches placed.rule contact) admins
 
-  some_name : (policy place : ℕ) (names : Option AdminPolicy) (placed : PlacedAdminRule) → names ≡ Some placed.policy → place ≡ placed.place → ◌≡◌ {A = RuleName} (record { policy = option_map_or (λ one. one.name) names []; place = place }) (admin_rule_name placed)
+  some_name : (policy place : ℕ) (names : Option AdminPolicy) (placed : PlacedAdminRule) → names ≡ Some placed.policy → place ≡ placed.place →
+      ◌≡◌ {A = RuleName} (record { policy = option_map_or (λ one. one.name) names []; place = place }) (admin_rule_name placed)
   some_name policy place names placed is at =
       let of_names : Option AdminPolicy → RuleName = λ found. record { policy = option_map_or (λ one. one.name) found []; place = place } in
       let of_place : ℕ → RuleName = λ n. record { policy = placed.policy.name; place = n } in
@@ -122,18 +127,22 @@ module _ (lists : EstateLists) (lawful : IsLawful lists) (gone : List RuleRef) (
   admin_first_stays : Stays → (x : ℕ × PlacedAdminRule) → find admin_test admins ≡ Some x → admin_stays gone direction p x ≡ true
   unfolding Stays
   admin_first_stays stays x found =
-      let at = found_is (IsAdminAt gone direction p lists.admin_policies) admin_test admins (admin_are gone direction p lists.admin_policies 0 lists.admin_policies (stands_all lists.admin_policies)) x found in
+      let at = found_is (IsAdminAt gone direction p lists.admin_policies) admin_test admins
+      (admin_are gone direction p lists.admin_policies 0 lists.admin_policies (stands_all lists.admin_policies)) x found in
       let count : Option AdminPolicy → ℕ = λ one. option_map_or (admin_count direction) one 0 in
       let valid : x.1.place < rule_count_at lists tier.Admin direction x.0 = subst (λ (n : ℕ). x.1.place < n) (sym (ap count at.0)) at.1 in
       let decides : admin_decider lists.admin_policies direction p contact ≡ Some x.1 = admin_found ∙ ap (option_map (λ y. y.1)) found in
       let stands = admin_in lists direction p contact (admin_decider lists.admin_policies direction p contact) ∙ ap (option_map admin_rule_name) decides in
       ap not (stays tier.Admin x.0 x.1.place valid (stands ∙ ap {A = RuleName} Some (sym (some_name x.0 x.1.place (slice_get lists.admin_policies x.0) x.1 at.0 refl))))
 
-  admin_rule_found : (policies : List AdminPolicy) → admin_decider policies direction p contact ≡ find (λ placed. admin_rule_matches placed.rule contact) (admin_places policies direction p) → option_map (λ placed. placed.rule) (admin_decider policies direction p contact) ≡ find matches (map (λ placed. placed.rule) (admin_places policies direction p))
+  admin_rule_found : (policies : List AdminPolicy) → admin_decider policies direction p contact ≡ find (λ placed. admin_rule_matches placed.rule contact) (admin_places policies direction p) →
+      option_map (λ placed. placed.rule) (admin_decider policies direction p contact) ≡ find matches (map (λ placed. placed.rule) (admin_places policies direction p))
   admin_rule_found policies first = ap (option_map (λ placed. placed.rule)) first ∙ sym (find_map (λ placed. placed.rule) matches (admin_places policies direction p))
 
   -- the first admin rule that matches is the same
-  admin_same : Stays → option_map (λ placed. placed.rule) (admin_decider (map (admin_without gone) (enumerate_from 0 lists.admin_policies)) direction p contact) ≡ option_map (λ placed. placed.rule) (admin_decider lists.admin_policies direction p contact)
+  admin_same : Stays →
+      option_map (λ placed. placed.rule) (admin_decider (map (admin_without gone) (enumerate_from 0 lists.admin_policies)) direction p contact) ≡ option_map (λ placed. placed.rule)
+      (admin_decider lists.admin_policies direction p contact)
   admin_same stays =
       let policies = map (admin_without gone) (enumerate_from 0 lists.admin_policies) in
       admin_rule_found policies (decider_is_first policies direction p contact (ascending_left gone direction p lists.admin_policies lawful.admin_policies_ascend))
@@ -161,27 +170,32 @@ module _ (lists : EstateLists) (lawful : IsLawful lists) (gone : List RuleRef) (
       ∙ ap (find (placed_net_matches contact)) (sym (net_placed gone direction p 0 lists.net_policies))
       ∙ find_map (λ x. x.1) (placed_net_matches contact) nets
 
-  net_name : (place : ℕ) (names : Option NetPolicy) (placed : PlacedNetRule) → names ≡ Some placed.policy → place ≡ placed.place → ◌≡◌ {A = RuleName} (record { policy = option_map_or net_policy_name names []; place = place }) (net_rule_name placed)
+  net_name : (place : ℕ) (names : Option NetPolicy) (placed : PlacedNetRule) → names ≡ Some placed.policy → place ≡ placed.place →
+      ◌≡◌ {A = RuleName} (record { policy = option_map_or net_policy_name names []; place = place }) (net_rule_name placed)
   net_name place names placed is at =
       let of_names : Option NetPolicy → RuleName = λ found. record { policy = option_map_or net_policy_name found []; place = place } in
       let of_place : ℕ → RuleName = λ n. record { policy = net_policy_name placed.policy; place = n } in
       ap of_names is ∙ ap of_place at
 
-  net_first_stays : Stays → (pass : Option RuleName) → decider lists direction (pod p) contact ≡ lower_decider lists direction p contact pass → is_isolated lists.net_policies direction p ≡ true → (x : ℕ × PlacedNetRule) → find net_test nets ≡ Some x → net_stays gone direction p x ≡ true
+  net_first_stays : Stays → (pass : Option RuleName) → decider lists direction (pod p) contact ≡ lower_decider lists direction p contact pass → is_isolated lists.net_policies direction p ≡ true →
+      (x : ℕ × PlacedNetRule) → find net_test nets ≡ Some x → net_stays gone direction p x ≡ true
   unfolding Stays
   net_first_stays stays pass lower isolated x found =
       let at = found_is (IsNetAt gone direction p lists.net_policies) net_test nets (net_are gone direction p lists.net_policies 0 lists.net_policies (stands_all lists.net_policies)) x found in
       let count : Option NetPolicy → ℕ = λ one. option_map_or (net_count direction) one 0 in
       let valid : x.1.place < rule_count_at lists tier.Net direction x.0 = subst (λ (n : ℕ). x.1.place < n) (sym (ap count at.0)) at.1 in
       let decides : net_decider lists.net_policies direction p contact ≡ Some x.1 = net_found ∙ ap (option_map (λ y. y.1)) found in
-      let by : Bool → Decider = λ b. if b then net_decides pass (isolating_names lists.net_policies direction p) (net_decider lists.net_policies direction p contact) else base_decides pass (base_decider lists.baseline direction p contact) in
-      let here : decider lists direction (pod p) contact ≡ net_decides pass (isolating_names lists.net_policies direction p) (Some x.1) = lower ∙ ap by isolated ∙ ap (net_decides pass (isolating_names lists.net_policies direction p)) decides in
+      let by : Bool → Decider = λ b. if b then net_decides pass (isolating_names lists.net_policies direction p) (net_decider lists.net_policies direction p contact) else base_decides pass
+      (base_decider lists.baseline direction p contact) in
+      let here : decider lists direction (pod p) contact ≡ net_decides pass (isolating_names lists.net_policies direction p) (Some x.1) = lower ∙ ap by isolated ∙ ap
+      (net_decides pass (isolating_names lists.net_policies direction p)) decides in
       ap not (stays tier.Net x.0 x.1.place valid (ap net_rule_in here ∙ ap {A = RuleName} Some (sym (net_name x.1.place (slice_get lists.net_policies x.0) x.1 at.0 refl))))
 
   permits_spaced : (policies : List NetPolicy) → permits policies direction p contact ≡ list_any spaced_test (map spaced (net_places policies direction p))
   permits_spaced policies = sym (any_map spaced spaced_test (net_places policies direction p))
 
-  net_same : Stays → (pass : Option RuleName) → decider lists direction (pod p) contact ≡ lower_decider lists direction p contact pass → is_isolated lists.net_policies direction p ≡ true → permits (map (net_without gone) (enumerate_from 0 lists.net_policies)) direction p contact ≡ permits lists.net_policies direction p contact
+  net_same : Stays → (pass : Option RuleName) → decider lists direction (pod p) contact ≡ lower_decider lists direction p contact pass → is_isolated lists.net_policies direction p ≡ true →
+      permits (map (net_without gone) (enumerate_from 0 lists.net_policies)) direction p contact ≡ permits lists.net_policies direction p contact
   net_same stays pass lower isolated =
       permits_spaced (map (net_without gone) (enumerate_from 0 lists.net_policies))
       ∙ ap (list_any spaced_test) (net_left gone direction p 0 lists.net_policies)
@@ -205,20 +219,24 @@ module _ (lists : EstateLists) (lawful : IsLawful lists) (gone : List RuleRef) (
       ap (find (λ placed. admin_rule_matches placed.rule contact)) (sym (base_placed gone direction p lists.baseline))
       ∙ find_map (λ x. x.1) (λ placed. admin_rule_matches placed.rule contact) bases
 
-  base_first_stays : Stays → (pass : Option RuleName) → decider lists direction (pod p) contact ≡ lower_decider lists direction p contact pass → is_isolated lists.net_policies direction p ≡ false → (x : ℕ × PlacedBaseRule) → find base_test bases ≡ Some x → base_stays gone direction p x ≡ true
+  base_first_stays : Stays → (pass : Option RuleName) → decider lists direction (pod p) contact ≡ lower_decider lists direction p contact pass → is_isolated lists.net_policies direction p ≡ false →
+      (x : ℕ × PlacedBaseRule) → find base_test bases ≡ Some x → base_stays gone direction p x ≡ true
   unfolding Stays
   base_first_stays stays pass lower free x found =
       let at = found_is (IsBaseAt gone direction p lists.baseline) base_test bases (base_are gone direction p lists.baseline) x found in
       let valid : x.1.place < rule_count_at lists tier.Base direction x.0 = subst (λ (n : ℕ). x.1.place < rule_count_at lists tier.Base direction n) (sym at.0) at.1 in
       let decides : base_decider lists.baseline direction p contact ≡ Some x.1 = base_found ∙ ap (option_map (λ y. y.1)) found in
-      let by : Bool → Decider = λ b. if b then net_decides pass (isolating_names lists.net_policies direction p) (net_decider lists.net_policies direction p contact) else base_decides pass (base_decider lists.baseline direction p contact) in
+      let by : Bool → Decider = λ b. if b then net_decides pass (isolating_names lists.net_policies direction p) (net_decider lists.net_policies direction p contact) else base_decides pass
+      (base_decider lists.baseline direction p contact) in
       let here : decider lists direction (pod p) contact ≡ base_decides pass (Some x.1) = lower ∙ ap by free ∙ ap (base_decides pass) decides in
       ap not (stays tier.Base x.0 x.1.place valid (ap base_rule_in here))
 
-  base_rule_found : (baseline : Option BasePolicy) → option_map (λ placed. placed.rule) (base_decider baseline direction p contact) ≡ find matches (map (λ placed. placed.rule) (base_places baseline direction p))
+  base_rule_found : (baseline : Option BasePolicy) →
+      option_map (λ placed. placed.rule) (base_decider baseline direction p contact) ≡ find matches (map (λ placed. placed.rule) (base_places baseline direction p))
   base_rule_found baseline = sym (find_map (λ placed. placed.rule) matches (base_places baseline direction p))
 
-  base_same : Stays → (pass : Option RuleName) → decider lists direction (pod p) contact ≡ lower_decider lists direction p contact pass → is_isolated lists.net_policies direction p ≡ false → base_says (base_decider (option_map (base_without gone) lists.baseline) direction p contact) ≡ base_says (base_decider lists.baseline direction p contact)
+  base_same : Stays → (pass : Option RuleName) → decider lists direction (pod p) contact ≡ lower_decider lists direction p contact pass → is_isolated lists.net_policies direction p ≡ false →
+      base_says (base_decider (option_map (base_without gone) lists.baseline) direction p contact) ≡ base_says (base_decider lists.baseline direction p contact)
   base_same stays pass lower free =
       base_rule_says (base_decider (option_map (base_without gone) lists.baseline) direction p contact)
       ∙ ap base_says_by
@@ -234,7 +252,8 @@ module _ (lists : EstateLists) (lawful : IsLawful lists) (gone : List RuleRef) (
   -- ---- all tiers
 
   -- below the admin tier, where that decides nothing
-  lower_same : Stays → (pass : Option RuleName) → decider lists direction (pod p) contact ≡ lower_decider lists direction p contact pass → lower_allows (without lists gone) direction p contact ≡ lower_allows lists direction p contact
+  lower_same : Stays → (pass : Option RuleName) → decider lists direction (pod p) contact ≡ lower_decider lists direction p contact pass →
+      lower_allows (without lists gone) direction p contact ≡ lower_allows lists direction p contact
   unfolding without
   lower_same stays pass lower =
       choose_same (is_isolated (map (net_without gone) (enumerate_from 0 lists.net_policies)) direction p) (is_isolated lists.net_policies direction p)
@@ -243,7 +262,9 @@ module _ (lists : EstateLists) (lawful : IsLawful lists) (gone : List RuleRef) (
       (isolated_left gone direction p 0 lists.net_policies) (net_same stays pass lower) (base_same stays pass lower)
 
   -- what the first admin rule says, where the tiers below say the same if they are asked
-  says_same : (found : Option PlacedAdminRule) (below' below : Bool) → ((pass : Option RuleName) → admin_decides found (lower_decider lists direction p contact) ≡ lower_decider lists direction p contact pass → below' ≡ below) → says_by (option_map (λ placed. placed.rule) found) below' ≡ says_by (option_map (λ placed. placed.rule) found) below
+  says_same : (found : Option PlacedAdminRule) (below' below : Bool) →
+      ((pass : Option RuleName) → admin_decides found (lower_decider lists direction p contact) ≡ lower_decider lists direction p contact pass → below' ≡ below) →
+      says_by (option_map (λ placed. placed.rule) found) below' ≡ says_by (option_map (λ placed. placed.rule) found) below
   says_same None below' below same = same None refl
   says_same (Some placed) below' below same = by placed.rule.action refl
     where

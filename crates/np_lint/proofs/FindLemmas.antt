@@ -1,5 +1,6 @@
 -- What is found by the sides of all kinds is what is used.
-use Rattle.std.proofs.Common.{◌≡◌, ◌≢◌, ℕ, zero, suc, get_or, ◌+◌, ◌-◌, ◌^◌, ◌<◌, List, [], ◌∷◌, Bool, true, false, ◌||◌, ◌==◌, not, length, slice_get, Some, refl, sym, ap, ◌∙◌, subst, inl, inr, arith}
+use Rattle.std.proofs.Common.{◌≡◌, ◌≢◌, ℕ, zero, suc, get_or, ◌+◌, ◌-◌, ◌^◌, ◌<◌, List, [], ◌∷◌, Bool, true, false, ◌||◌, ◌==◌, not, length, slice_get, Some, refl, sym, ap, ◌∙◌, subst, inl, inr}
+use Rattle.std.proofs.Common.{arith}
 use Rattle.std.specs.Cmp.{both_ways}
 use Rattle.std.specs.List.{Contains}
 use Rattle.std.proofs.lemmas.Bool.{and_from, eqb-false, false≢true, ne_eqb}
@@ -28,10 +29,10 @@ use Rattle.np_lint.specs.steps.Known.{is_known}
 use Rattle.np_lint.specs.steps.Search.{AllAreUsed, AreUsed, Finds, IsSound, Knows, KnowsPods, KnowsSide, KnowsSides, PodsAreUsed, ref_of}
 use Rattle.np_model.specs.declared.direction.Direction.{Direction}
 use Rattle.np_rules.proofs.AddressLemmas.{place_parts}
-use Rattle.np_rules.specs.Ends.{address, pod}
+use Rattle.np_rules.specs.model.Ends.{address, pod}
 use Rattle.np_rules.specs.EveryAddress.{AddressSpot, address_of, is_place, spot_of}
 use Rattle.np_rules.specs.PodSides.{side_of, with_addresses}
-use Rattle.np_rules.specs.Verdict.{pod_at}
+use Rattle.np_rules.specs.model.Verdict.{pod_at}
 use Rattle.np_rules.specs.declared.packet.End.{End}
 use Rattle.np_rules.specs.declared.packet.End.TheVariants.{Pod, At}
 use Rattle.np_sets.specs.Space.{is_between}
@@ -51,13 +52,15 @@ module _ (lists : EstateLists) (lawful : IsLawful lists) (kinds : List KindPod) 
   unfolding AreUsed
   addresses_listed near one at place inside tier policy number valid stands =
       let parts = place_parts place inside in
-      used_near lists direction tier policy number one.pod (At (address_of place)) (family_of (address_of place)) (spot_of place) (own_kind lists lawful kinds are near one at).0 parts.0 refl (one_of (family_of (address_of place))) parts.1 stands
+      used_near lists direction tier policy number one.pod (At (address_of place)) (family_of (address_of place)) (spot_of place) (own_kind lists lawful kinds are near one at).0 parts.0 refl
+      (one_of (family_of (address_of place))) parts.1 stands
 
   apart_by : (p q : ℕ) → p ≢ q → are_one_pod (Pod p) (Pod q) ≡ false
   apart_by p q differ = ne_eqb p q differ
 
   -- so is what decides between pods of two kinds, or of one that has two pods, in a family of the estate
-  pub pods_listed : (near : ℕ) (one : KindPod) → slice_get kinds near ≡ Some one → (family : Family) → Contains (families_of lists.pods) family → PodsAreUsed (side_of lists one.pod direction) kinds near family
+  pub pods_listed : (near : ℕ) (one : KindPod) → slice_get kinds near ≡ Some one → (family : Family) → Contains (families_of lists.pods) family →
+      PodsAreUsed (side_of lists one.pod direction) kinds near family
   unfolding AreUsed PodsAreUsed
   pods_listed near one at family of_family kind far far_at asked spot inside tier policy number valid stands =
       elim (eqb_tells kind near) [ inl same ↦ own same.0 same.1 | inr other ↦ others other.1 ]
@@ -115,7 +118,8 @@ module _ (lists : EstateLists) (lawful : IsLawful lists) (kinds : List KindPod) 
     unfolding KnowsSides
     side_knows near one at = knows near one at
 
-    with_address : (p : ℕ) (a : Address) (family : Family) (spot : PortSpot) → p < length lists.pods → IsAddress a → family ≡ family_of a → is_spot spot ≡ true → stands_in lists (ref_of direction tier policy number) (decider_near lists direction (Pod p) (At a) family spot) ≡ true → is_known used tier policy number ≡ true
+    with_address : (p : ℕ) (a : Address) (family : Family) (spot : PortSpot) → p < length lists.pods → IsAddress a → family ≡ family_of a → is_spot spot ≡ true →
+        stands_in lists (ref_of direction tier policy number) (decider_near lists direction (Pod p) (At a) family spot) ≡ true → is_known used tier policy number ≡ true
     unfolding Knows
     with_address p a family spot within below of_family inside stands =
         let stand = kind_pod lists lawful kinds are p within in
@@ -127,13 +131,15 @@ module _ (lists : EstateLists) (lawful : IsLawful lists) (kinds : List KindPod) 
         ∙ ap (λ (f : Family). decider_near lists direction (Pod stand.0.pod) (At a) f spot) (sym of_family)
         ∙ sym (stand.2.near direction (address a) family spot)) ∙ stands)
 
-    with_peer : (p q : ℕ) (family : Family) (spot : PortSpot) → p < length lists.pods → q < length lists.pods → are_one_pod (Pod p) (Pod q) ≡ false → Contains (families_of lists.pods) family → is_spot spot ≡ true → stands_in lists (ref_of direction tier policy number) (decider_near lists direction (Pod p) (Pod q) family spot) ≡ true → is_known used tier policy number ≡ true
+    with_peer : (p q : ℕ) (family : Family) (spot : PortSpot) → p < length lists.pods → q < length lists.pods → are_one_pod (Pod p) (Pod q) ≡ false → Contains (families_of lists.pods) family →
+        is_spot spot ≡ true → stands_in lists (ref_of direction tier policy number) (decider_near lists direction (Pod p) (Pod q) family spot) ≡ true → is_known used tier policy number ≡ true
     unfolding Knows KnowsPods
     with_peer p q family spot p_in q_in apart of_family inside stands =
         let one = kind_pod lists lawful kinds are p p_in in
         let far = kind_pod lists lawful kinds are q q_in in
         (side_knows (pod_kind lists p) one.0 one.1).pods family of_family (pod_kind lists q) far.0 far.1 (asked one.0 one.1 far.0 far.1) spot inside tier policy number valid
-        (ap (stands_in lists (ref_of direction tier policy number)) (sym (one.2.near direction (pod (pod_at lists q)) family spot ∙ far.2.far direction (pod (pod_at lists one.0.pod)) family spot)) ∙ stands)
+        (ap (stands_in lists (ref_of direction tier policy number)) (sym (one.2.near direction (pod (pod_at lists q)) family spot ∙ far.2.far direction (pod (pod_at lists one.0.pod)) family spot))
+        ∙ stands)
       where
         alone : (a b : KindPod) → slice_get kinds (pod_kind lists p) ≡ Some a → slice_get kinds (pod_kind lists q) ≡ Some b → pod_kind lists q ≡ pod_kind lists p → b.is_shared ≡ false → ⊥
         alone a b at_a at_b same unshared =
@@ -162,7 +168,9 @@ module _ (lists : EstateLists) (lawful : IsLawful lists) (kinds : List KindPod) 
         family_is : (a : Address) (family : Family) → Contains (family_of a ∷ []) family → family ≡ family_of a
         family_is a family has = one_gives (family_of a) family has.0 has.1 has.2
 
-        go : (p : ℕ) (far : End) (family : Family) (spot : PortSpot) → p < length lists.pods → IsListed lists far → are_one_pod (Pod p) far ≡ false → Contains (families_between lists (Pod p) far) family → is_spot spot ≡ true → stands_in lists (ref_of direction tier policy number) (decider_near lists direction (Pod p) far family spot) ≡ true → is_known used tier policy number ≡ true
+        go : (p : ℕ) (far : End) (family : Family) (spot : PortSpot) → p < length lists.pods → IsListed lists far → are_one_pod (Pod p) far ≡ false →
+            Contains (families_between lists (Pod p) far) family → is_spot spot ≡ true →
+            stands_in lists (ref_of direction tier policy number) (decider_near lists direction (Pod p) far family spot) ≡ true → is_known used tier policy number ≡ true
         go p (Pod q) family spot near_in far_in apart of_family inside stands = with_peer p q family spot near_in far_in apart of_family inside stands
         go p (At a) family spot near_in far_in apart of_family inside stands = with_address p a family spot near_in far_in (family_is a family of_family) inside stands
 

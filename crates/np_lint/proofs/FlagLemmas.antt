@@ -39,7 +39,8 @@ get-set_other (y ∷ xs) zero (suc j) x other = refl
 get-set_other (y ∷ xs) (suc i) zero x other = refl
 get-set_other (y ∷ xs) (suc i) (suc j) x other = get-set_other xs i j x (λ same. other (omega arith))
 
-pub flag_in-set : (rows : List (Vec Bool Global)) (policy place : ℕ) (old row : Vec Bool Global) → policy < length rows → old ≡ get_or rows policy old → ((n : ℕ) → flag_of row.items n ≡ (flag_of old.items n || n == place)) → (p n : ℕ) → flag_in (set rows policy row) p n ≡ (flag_in rows p n || (p == policy && n == place))
+pub flag_in-set : (rows : List (Vec Bool Global)) (policy place : ℕ) (old row : Vec Bool Global) → policy < length rows → old ≡ get_or rows policy old →
+    ((n : ℕ) → flag_of row.items n ≡ (flag_of old.items n || n == place)) → (p n : ℕ) → flag_in (set rows policy row) p n ≡ (flag_in rows p n || (p == policy && n == place))
 flag_in-set rows policy place old row within is sets p n =
     elim (eqb_tells p policy) [ inl same ↦ here same.0 same.1 | inr other ↦ there other.0 other.1 ]
   where

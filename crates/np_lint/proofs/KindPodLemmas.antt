@@ -19,8 +19,8 @@ use Rattle.np_lint.specs.steps.Kinds.{AreKindPods, pod_kind}
 use Rattle.np_model.specs.declared.direction.Direction.{Direction}
 use Rattle.np_model.specs.declared.direction.Direction.TheVariants.{Ingress, Egress}
 use Rattle.np_rules.specs.Deciders.{decider}
-use Rattle.np_rules.specs.Ends.{End, contact, pod}
-use Rattle.np_rules.specs.Verdict.{pod_at, pod_or_none}
+use Rattle.np_rules.specs.model.Ends.{End, contact, pod}
+use Rattle.np_rules.specs.model.Verdict.{pod_at, pod_or_none}
 use Rattle.np_table.proofs.KindLemmas.{first_pod-there, kinds-by}
 use Rattle.np_table.proofs.KindVerdicts.{SameKindEnd-ends, got-same, sent-same}
 use Rattle.np_table.proofs.MemberLemmas.{member-number, members-some, source-member}
@@ -33,19 +33,28 @@ use Rattle.np_table.specs.Table.{source_pod}
 
 -- what decides is the same with the one and with the other, at either end
 pub record StandsFor (lists : EstateLists) (p q : ℕ) : Type 0 where
-  pub near : (direction : Direction) (far : End) (family : Family) (spot : PortSpot) → decider lists direction (pod (pod_at lists p)) (contact direction (pod (pod_at lists p)) far family spot) ≡ decider lists direction (pod (pod_at lists q)) (contact direction (pod (pod_at lists q)) far family spot)
-  pub far : (direction : Direction) (near_end : End) (family : Family) (spot : PortSpot) → decider lists direction near_end (contact direction near_end (pod (pod_at lists p)) family spot) ≡ decider lists direction near_end (contact direction near_end (pod (pod_at lists q)) family spot)
+  pub near : (direction : Direction) (far : End) (family : Family) (spot : PortSpot) →
+      decider lists direction (pod (pod_at lists p)) (contact direction (pod (pod_at lists p)) far family spot) ≡ decider lists direction (pod (pod_at lists q))
+      (contact direction (pod (pod_at lists q)) far family spot)
+  pub far : (direction : Direction) (near_end : End) (family : Family) (spot : PortSpot) →
+      decider lists direction near_end (contact direction near_end (pod (pod_at lists p)) family spot) ≡ decider lists direction near_end
+      (contact direction near_end (pod (pod_at lists q)) family spot)
 
 of_one_kind : (lists : EstateLists) (p q : ℕ) → AreOneKind lists (pod (pod_at lists p)) (pod (pod_at lists q)) → StandsFor lists p q
 of_one_kind lists p q kind = record { near = near_same; far = far_same }
   where
-    near_same : (direction : Direction) (far : End) (family : Family) (spot : PortSpot) → decider lists direction (pod (pod_at lists p)) (contact direction (pod (pod_at lists p)) far family spot) ≡ decider lists direction (pod (pod_at lists q)) (contact direction (pod (pod_at lists q)) far family spot)
+    near_same : (direction : Direction) (far : End) (family : Family) (spot : PortSpot) →
+        decider lists direction (pod (pod_at lists p)) (contact direction (pod (pod_at lists p)) far family spot) ≡ decider lists direction (pod (pod_at lists q))
+        (contact direction (pod (pod_at lists q)) far family spot)
     near_same Egress far family spot = sent-same lists family spot (pod (pod_at lists p)) (pod (pod_at lists q)) far far (SameKindEnd-ends lists _ _ kind) (SameKindEnd-ends lists far far (inr refl))
     near_same Ingress far family spot = got-same lists family spot far far (pod (pod_at lists p)) (pod (pod_at lists q)) (SameKindEnd-ends lists far far (inr refl)) (SameKindEnd-ends lists _ _ kind)
 
-    far_same : (direction : Direction) (near : End) (family : Family) (spot : PortSpot) → decider lists direction near (contact direction near (pod (pod_at lists p)) family spot) ≡ decider lists direction near (contact direction near (pod (pod_at lists q)) family spot)
-    far_same Egress near family spot = sent-same lists family spot near near (pod (pod_at lists p)) (pod (pod_at lists q)) (SameKindEnd-ends lists near near (inr refl)) (SameKindEnd-ends lists _ _ kind)
-    far_same Ingress near family spot = got-same lists family spot (pod (pod_at lists p)) (pod (pod_at lists q)) near near (SameKindEnd-ends lists _ _ kind) (SameKindEnd-ends lists near near (inr refl))
+    far_same : (direction : Direction) (near : End) (family : Family) (spot : PortSpot) →
+        decider lists direction near (contact direction near (pod (pod_at lists p)) family spot) ≡ decider lists direction near (contact direction near (pod (pod_at lists q)) family spot)
+    far_same Egress near family spot = sent-same lists family spot near near (pod (pod_at lists p)) (pod (pod_at lists q)) (SameKindEnd-ends lists near near (inr refl))
+        (SameKindEnd-ends lists _ _ kind)
+    far_same Ingress near family spot = got-same lists family spot (pod (pod_at lists p)) (pod (pod_at lists q)) near near (SameKindEnd-ends lists _ _ kind)
+        (SameKindEnd-ends lists near near (inr refl))
 
 onward : (lists : EstateLists) (p q r : ℕ) → StandsFor lists p q → StandsFor lists q r → StandsFor lists p r
 onward lists p q r one other = record {
@@ -65,7 +74,8 @@ number_within lists p within = number-in_workloads lists p within
 
 -- the first workload of a kind, by a workload of it
 kind_first : (lists : EstateLists) (w : ℕ) → w < workload_count lists
-    → (first : ℕ) × (slice_get (folding_of lists).first_of_kinds (class_of (kinds_alike lists) (workload_count lists) w) ≡ Some first) × (first < workload_count lists) × (class_of (kinds_alike lists) (workload_count lists) w ≡ class_of (kinds_alike lists) (workload_count lists) first)
+    → (first : ℕ) × (slice_get (folding_of lists).first_of_kinds (class_of (kinds_alike lists) (workload_count lists) w) ≡ Some first) × (first < workload_count lists) ×
+    (class_of (kinds_alike lists) (workload_count lists) w ≡ class_of (kinds_alike lists) (workload_count lists) first)
 unfolding folding_of
 kind_first lists w within =
     let lawful = kinds-are lists (workload_count lists) (first_pod-there lists) in
@@ -77,7 +87,8 @@ unfolding folding_of
 kind_of_first lists kind first is = class_of_first (kinds_alike lists) (workload_count lists) (kinds-are lists (workload_count lists) (first_pod-there lists)) kind first is
 
 -- the kind of a pod is that of its workload
-kind_by_number : (lists : EstateLists) (p : ℕ) → p < length lists.pods → (number_of lists p < workload_count lists) × (pod_kind lists p ≡ class_of (kinds_alike lists) (workload_count lists) (number_of lists p))
+kind_by_number : (lists : EstateLists) (p : ℕ) → p < length lists.pods →
+    (number_of lists p < workload_count lists) × (pod_kind lists p ≡ class_of (kinds_alike lists) (workload_count lists) (number_of lists p))
 kind_by_number lists p within =
     let kind = kinds-by lists (number_of lists p) (number_within lists p within) in
     (kind.0, ap (slice_index (folding_of lists).kinds) (number_is lists p within) ∙ kind.2)
@@ -99,7 +110,8 @@ same_some : (found : Option Pod) (a b : Pod) → found ≡ Some a → found ≡ 
 same_some found a b is is' = cc
 
 -- and so in whatever order they stand
-labels_agree : (lists : EstateLists) (i j : ℕ) (a b : Pod) → IsLawful lists → slice_get lists.pods i ≡ Some a → slice_get lists.pods j ≡ Some b → a.namespace ≡ b.namespace → a.namespace_labels ≡ b.namespace_labels
+labels_agree : (lists : EstateLists) (i j : ℕ) (a b : Pod) → IsLawful lists → slice_get lists.pods i ≡ Some a → slice_get lists.pods j ≡ Some b → a.namespace ≡ b.namespace →
+    a.namespace_labels ≡ b.namespace_labels
 labels_agree lists i j a b lawful is is' same =
     elim (cases_order i j) [
       | inl equal ↦ ap (λ (p : Pod). p.namespace_labels) (same_some (slice_get lists.pods j) a b (subst (λ (k : ℕ). slice_get lists.pods k ≡ Some a) equal is) is')
@@ -108,7 +120,8 @@ labels_agree lists i j a b lawful is is' same =
     ]
 
 -- pods of one kind are ends of one kind
-one_kind-by : (lists : EstateLists) (i j : ℕ) (a b : Pod) → IsLawful lists → slice_get lists.pods i ≡ Some a → slice_get lists.pods j ≡ Some b → IsSameKind lists a b → AreOneKind lists (pod (pod_at lists i)) (pod (pod_at lists j))
+one_kind-by : (lists : EstateLists) (i j : ℕ) (a b : Pod) → IsLawful lists → slice_get lists.pods i ≡ Some a → slice_get lists.pods j ≡ Some b → IsSameKind lists a b →
+    AreOneKind lists (pod (pod_at lists i)) (pod (pod_at lists j))
 one_kind-by lists i j a b lawful is is' kind =
     inl (record {
       first = a;
@@ -146,7 +159,8 @@ module _ (lists : EstateLists) (lawful : IsLawful lists) (kinds : List KindPod) 
       let there : slice_get kinds kind ≡ Some one = slice_get-get_or kinds kind nothing inside in
       let is = are.each kind one there in
       let pod_is : one.pod ≡ source_pod (folding_of lists) first.0 = is.pod ∙ ap (source_pod (folding_of lists)) (get_or_from_slice_get (folding_of lists).first_of_kinds kind first.0 0 at) in
-      let stands = onward lists p (source_pod (folding_of lists) number) (source_pod (folding_of lists) first.0) (first_stands lists p lawful within) (of_one_kind lists (source_pod (folding_of lists) number) (source_pod (folding_of lists) first.0) (one_kind-sources lists number first.0 lawful by.0 first.2 first.3)) in
+      let stands = onward lists p (source_pod (folding_of lists) number) (source_pod (folding_of lists) first.0) (first_stands lists p lawful within)
+      (of_one_kind lists (source_pod (folding_of lists) number) (source_pod (folding_of lists) first.0) (one_kind-sources lists number first.0 lawful by.0 first.2 first.3)) in
       (one, there, subst (StandsFor lists p) (sym pod_is) stands)
 
   -- it is a pod of the estate, and of its kind

@@ -35,7 +35,8 @@ number_of_workload : (lists : EstateLists) (place : ℕ) → place < length list
 unfolding folding_of
 number_of_workload lists place within = number-in_workloads lists place within
 
-pub kind_there : (lists : EstateLists) (folding : Folding) (pods : List Pod) (place number : ℕ) → folding ≡ folding_of lists → pods ≡ lists.pods → place < length pods → number ≡ slice_index folding.numbers place → number < length folding.kinds
+pub kind_there : (lists : EstateLists) (folding : Folding) (pods : List Pod) (place number : ℕ) → folding ≡ folding_of lists → pods ≡ lists.pods → place < length pods →
+    number ≡ slice_index folding.numbers place → number < length folding.kinds
 kind_there lists folding pods place number folded are within is =
     let inside : place < length lists.pods = subst (λ (all : List Pod). place < length all) are within in
     let same : number ≡ number_of lists place = is ∙ ap (λ (f : Folding). slice_index f.numbers place) folded ∙ number_at lists place inside in
@@ -43,20 +44,23 @@ kind_there lists folding pods place number folded are within is =
     kind-there lists folding number folded low
 
 -- the kind that was looked up is that of the pod
-pub kind_looked_up : (lists : EstateLists) (folding : Folding) (place number kind : ℕ) → folding ≡ folding_of lists → number ≡ slice_index folding.numbers place → kind ≡ slice_index folding.kinds number → kind ≡ pod_kind lists place
+pub kind_looked_up : (lists : EstateLists) (folding : Folding) (place number kind : ℕ) → folding ≡ folding_of lists → number ≡ slice_index folding.numbers place →
+    kind ≡ slice_index folding.kinds number → kind ≡ pod_kind lists place
 kind_looked_up lists folding place number kind folded numbered is =
     is ∙ ap (slice_index folding.kinds) numbered ∙ ap (λ (f : Folding). slice_index f.kinds (slice_index f.numbers place)) folded
 
 -- ---- one pod more is looked at
 
 -- its kind has a pod
-pub kind_in : (lists : EstateLists) (folding : Folding) (pods : List Pod) (place number kind : ℕ) (kinds : List KindPod) → folding ≡ folding_of lists → pods ≡ lists.pods → place < length pods → number ≡ slice_index folding.numbers place → kind ≡ slice_index folding.kinds number → AreKindPodsOf lists place kinds → kind < length kinds
+pub kind_in : (lists : EstateLists) (folding : Folding) (pods : List Pod) (place number kind : ℕ) (kinds : List KindPod) → folding ≡ folding_of lists → pods ≡ lists.pods → place < length pods →
+    number ≡ slice_index folding.numbers place → kind ≡ slice_index folding.kinds number → AreKindPodsOf lists place kinds → kind < length kinds
 kind_in lists folding pods place number kind kinds folded are within numbered is pods_of =
     let inside : place < length lists.pods = subst (λ (all : List Pod). place < length all) are within in
     let same : kind ≡ pod_kind lists place = kind_looked_up lists folding place number kind folded numbered is in
     omega (arith, same, pods_of.count, kind_within lists place inside)
 
-module _ (lists : EstateLists) (place kind : ℕ) (kinds : List KindPod) (one : KindPod) (kind_is : kind ≡ pod_kind lists place) (at : slice_get kinds kind ≡ Some one) (are : AreKindPodsOf lists place kinds) where
+module _ (lists : EstateLists) (place kind : ℕ) (kinds : List KindPod) (one : KindPod) (kind_is : kind ≡ pod_kind lists place) (at : slice_get kinds kind ≡ Some one)
+    (are : AreKindPodsOf lists place kinds) where
   -- it is the pod of its kind
   pub own_seen : one.pod ≡ place → AreKindPodsOf lists (place + 1) kinds
   own_seen own = record {
@@ -100,7 +104,9 @@ module _ (lists : EstateLists) (place kind : ℕ) (kinds : List KindPod) (one : 
   other_seen within other_pod = record {
     count = length-set kinds kind noted ∙ are.count;
     each = λ k other at_k. elim (cases_eq k kind) [
-      | inl same ↦ subst (λ (n : ℕ). IsKindPodOf lists (place + 1) n other) (sym same) (subst (IsKindPodOf lists (place + 1) kind) (same_Some noted other (sym (get-set_same kinds kind noted (slice_get_within kinds kind one at)) ∙ ap (slice_get (set kinds kind noted)) (sym same) ∙ at_k)) (noted_is within other_pod))
+      | inl same ↦ subst (λ (n : ℕ). IsKindPodOf lists (place + 1) n other) (sym same)
+          (subst (IsKindPodOf lists (place + 1) kind) (same_Some noted other
+          (sym (get-set_same kinds kind noted (slice_get_within kinds kind one at)) ∙ ap (slice_get (set kinds kind noted)) (sym same) ∙ at_k)) (noted_is within other_pod))
       | inr apart ↦ other_is k other apart (sym (get-set_other kinds kind k noted apart) ∙ at_k)
     ];
   }
@@ -116,27 +122,33 @@ all_seen lists pods kinds past are = record {
 
 -- ---- one kind more
 
-pub first_workload : (lists : EstateLists) (folding : Folding) (firsts : List ℕ) (kind : ℕ) → folding ≡ folding_of lists → firsts ≡ folding.first_of_kinds → kind < length firsts → get_or firsts kind 0 < length folding.workloads
+pub first_workload : (lists : EstateLists) (folding : Folding) (firsts : List ℕ) (kind : ℕ) → folding ≡ folding_of lists → firsts ≡ folding.first_of_kinds → kind < length firsts →
+    get_or firsts kind 0 < length folding.workloads
 first_workload lists folding firsts kind folded are within =
     let same : firsts ≡ (folding_of lists).first_of_kinds = are ∙ ap (λ (f : Folding). f.first_of_kinds) folded in
     let inside : kind < length (folding_of lists).first_of_kinds = subst (λ (all : List ℕ). kind < length all) same within in
     let low : get_or (folding_of lists).first_of_kinds kind 0 < length (folding_of lists).workloads = firsts-workloads lists kind 0 inside in
     subst (λ (all : List ℕ). get_or all kind 0 < length folding.workloads) (sym same) (subst (λ (f : Folding). get_or (folding_of lists).first_of_kinds kind 0 < length f.workloads) (sym folded) low)
 
-pub members_there : (lists : EstateLists) (folding : Folding) (members : List ℕ) (workload : ℕ) → folding ≡ folding_of lists → members ≡ members_of folding workload → workload < length folding.workloads → 0 < length members
+pub members_there : (lists : EstateLists) (folding : Folding) (members : List ℕ) (workload : ℕ) → folding ≡ folding_of lists → members ≡ members_of folding workload →
+    workload < length folding.workloads → 0 < length members
 members_there lists folding members workload folded are within = subst (λ (all : List ℕ). 0 < length all) (sym are) (members-some lists folding workload folded within)
 
-pub first_pod_is : (lists : EstateLists) (folding : Folding) (firsts members : List ℕ) (kind : ℕ) → folding ≡ folding_of lists → firsts ≡ folding.first_of_kinds → members ≡ members_of folding (get_or firsts kind 0) → get_or members 0 0 ≡ first_of_kind lists kind
+pub first_pod_is : (lists : EstateLists) (folding : Folding) (firsts members : List ℕ) (kind : ℕ) → folding ≡ folding_of lists → firsts ≡ folding.first_of_kinds →
+    members ≡ members_of folding (get_or firsts kind 0) → get_or members 0 0 ≡ first_of_kind lists kind
 first_pod_is lists folding firsts members kind folded are members_are =
     let same : firsts ≡ (folding_of lists).first_of_kinds = are ∙ ap (λ (f : Folding). f.first_of_kinds) folded in
     ap (λ (all : List ℕ). get_or all 0 0) members_are
     ∙ ap (λ (f : Folding). get_or (members_of f (get_or firsts kind 0)) 0 0) folded
     ∙ ap (λ (all : List ℕ). get_or (members_of (folding_of lists) (get_or all kind 0)) 0 0) same
 
-pub each_more : (lists : EstateLists) (pods : ℕ) (kinds made : List KindPod) (one : KindPod) (kind : ℕ) → length kinds ≡ kind → ((k : ℕ) (other : KindPod) → slice_get kinds k ≡ Some other → IsKindPodOf lists pods k other) → IsKindPodOf lists pods kind one → made ≡ kinds ++ one ∷ [] → (k : ℕ) (other : KindPod) → slice_get made k ≡ Some other → IsKindPodOf lists pods k other
+pub each_more : (lists : EstateLists) (pods : ℕ) (kinds made : List KindPod) (one : KindPod) (kind : ℕ) → length kinds ≡ kind →
+    ((k : ℕ) (other : KindPod) → slice_get kinds k ≡ Some other → IsKindPodOf lists pods k other) → IsKindPodOf lists pods kind one → made ≡ kinds ++ one ∷ [] → (k : ℕ) (other : KindPod) →
+    slice_get made k ≡ Some other → IsKindPodOf lists pods k other
 each_more lists pods kinds made one kind count each is pushed k other at =
     elim (cases_order k kind) [
-      | inl equal ↦ subst (λ (n : ℕ). IsKindPodOf lists pods n other) (sym equal) (subst (IsKindPodOf lists pods kind) (same_Some one other (sym (slice_get-last kinds one) ∙ ap (slice_get (kinds ++ one ∷ [])) (count ∙ sym equal) ∙ here)) is)
+      | inl equal ↦ subst (λ (n : ℕ). IsKindPodOf lists pods n other) (sym equal)
+          (subst (IsKindPodOf lists pods kind) (same_Some one other (sym (slice_get-last kinds one) ∙ ap (slice_get (kinds ++ one ∷ [])) (count ∙ sym equal) ∙ here)) is)
       | inr (inl before) ↦ each k other (sym (slice_get-front kinds one k (omega arith)) ∙ here)
       | inr (inr after) ↦ absurd (none-some other (sym (slice_get_past (kinds ++ one ∷ []) k (omega (arith, length-append kinds (one ∷ [])))) ∙ here))
     ]

@@ -57,18 +57,23 @@ module _ {S : Type 0} (at : S → Bool) (layer : Layer S) where
   admin_from k [] = admin_below layer.isolated net_at base_at None
   admin_from k (part ∷ parts) = by (at part.set) part.action (admin_from (k + 1) parts)
     where
-      by : (b : Bool) (action : Action) → admin_place (mark_from (k + 1) parts) ≡ position_from (λ (p : AdminPart S). at p.set) (k + 1) parts → admin_place (admin_mark (if b then Some (k, record part { action = action }) else find (λ numbered. at numbered.1.set) (enumerate_from (k + 1) parts)) (lower_mark at layer)) ≡ (if b then Some k else position_from (λ (p : AdminPart S). at p.set) (k + 1) parts)
+      by : (b : Bool) (action : Action) → admin_place (mark_from (k + 1) parts) ≡ position_from (λ (p : AdminPart S). at p.set) (k + 1) parts →
+          admin_place (admin_mark (if b then Some (k, record part { action = action }) else find (λ numbered. at numbered.1.set) (enumerate_from (k + 1) parts)) (lower_mark at layer)) ≡
+          (if b then Some k else position_from (λ (p : AdminPart S). at p.set) (k + 1) parts)
       by false action later = later
       by true Allow later = refl
       by true Deny later = refl
       by true Pass later = admin_below layer.isolated net_at base_at (Some k)
 
   -- a place below the admin tier, which is the same whatever was passed on
-  lower_from : (place_of : Mark → Option ℕ) (below : Option ℕ) → ((k : ℕ) → place_of (Admin k) ≡ None) → ((pass : Option ℕ) → place_of (lower_mark at layer pass) ≡ below) → (k : ℕ) (parts : List (AdminPart S)) → place_of (mark_from k parts) ≡ (if hands_down at parts then below else None)
+  lower_from : (place_of : Mark → Option ℕ) (below : Option ℕ) → ((k : ℕ) → place_of (Admin k) ≡ None) → ((pass : Option ℕ) → place_of (lower_mark at layer pass) ≡ below) →
+      (k : ℕ) (parts : List (AdminPart S)) → place_of (mark_from k parts) ≡ (if hands_down at parts then below else None)
   lower_from place_of below of_admin of_lower k [] = of_lower None
   lower_from place_of below of_admin of_lower k (part ∷ parts) = by (at part.set) part.action (lower_from place_of below of_admin of_lower (k + 1) parts)
     where
-      by : (b : Bool) (action : Action) → place_of (mark_from (k + 1) parts) ≡ (if hands_down at parts then below else None) → place_of (admin_mark (if b then Some (k, record part { action = action }) else find (λ numbered. at numbered.1.set) (enumerate_from (k + 1) parts)) (lower_mark at layer)) ≡ (if option_map_or (λ (p : AdminPart S). is_pass p.action) (if b then Some (record part { action = action }) else find (λ (p : AdminPart S). at p.set) parts) true then below else None)
+      by : (b : Bool) (action : Action) → place_of (mark_from (k + 1) parts) ≡ (if hands_down at parts then below else None) →
+          place_of (admin_mark (if b then Some (k, record part { action = action }) else find (λ numbered. at numbered.1.set) (enumerate_from (k + 1) parts)) (lower_mark at layer)) ≡
+          (if option_map_or (λ (p : AdminPart S). is_pass p.action) (if b then Some (record part { action = action }) else find (λ (p : AdminPart S). at p.set) parts) true then below else None)
       by false action later = later
       by true Allow later = of_admin k
       by true Deny later = of_admin k
@@ -76,7 +81,8 @@ module _ {S : Type 0} (at : S → Bool) (layer : Layer S) where
 
   -- ---- the rules that a mark names
 
-  named_at : (ids : List RuleId) (hands here : Bool) (found : Option ℕ) (first : Option RuleId) (policy place : ℕ) → option_and_then (slice_get ids) found ≡ first → is_met ids (if hands then (if here then found else None) else None) policy place ≡ (hands && (here && names first policy place))
+  named_at : (ids : List RuleId) (hands here : Bool) (found : Option ℕ) (first : Option RuleId) (policy place : ℕ) → option_and_then (slice_get ids) found ≡ first →
+      is_met ids (if hands then (if here then found else None) else None) policy place ≡ (hands && (here && names first policy place))
   named_at ids false here found first policy place is = refl
   named_at ids true false found first policy place is = refl
   named_at ids true true found first policy place is = ap (λ (id : Option RuleId). names id policy place) is
@@ -91,14 +97,18 @@ module _ {S : Type 0} (at : S → Bool) (layer : Layer S) where
     pub marks_net : marks rules tier.Net policy place (mark_of at layer) ≡ (hands_down at layer.admin && (layer.isolated && names (first_at at layer.net rules.net) policy place))
     unfolding marks
     marks_net =
-        ap (λ (found : Option ℕ). is_met rules.net found policy place) (lower_from net_place (if layer.isolated then net_at else None) (λ k. refl) (net_below layer.isolated net_at base_at) 0 layer.admin)
+        ap (λ (found : Option ℕ). is_met rules.net found policy place)
+        (lower_from net_place (if layer.isolated then net_at else None) (λ k. refl) (net_below layer.isolated net_at base_at) 0 layer.admin)
         ∙ named_at rules.net (hands_down at layer.admin) layer.isolated net_at (first_at at layer.net rules.net) policy place (first_at-position at layer.net rules.net)
 
-    pub marks_base : marks rules tier.Base policy place (mark_of at layer) ≡ (hands_down at layer.admin && (not layer.isolated && names (first_at (λ part. at part.set) layer.base rules.base) policy place))
+    pub marks_base : marks rules tier.Base policy place (mark_of at layer) ≡
+        (hands_down at layer.admin && (not layer.isolated && names (first_at (λ part. at part.set) layer.base rules.base) policy place))
     unfolding marks
     marks_base =
-        ap (λ (found : Option ℕ). is_met rules.base found policy place) (lower_from base_place (if not layer.isolated then base_at else None) (λ k. refl) (base_below layer.isolated net_at base_at) 0 layer.admin)
-        ∙ named_at rules.base (hands_down at layer.admin) (not layer.isolated) base_at (first_at (λ part. at part.set) layer.base rules.base) policy place (first_at-position (λ part. at part.set) layer.base rules.base)
+        ap (λ (found : Option ℕ). is_met rules.base found policy place)
+        (lower_from base_place (if not layer.isolated then base_at else None) (λ k. refl) (base_below layer.isolated net_at base_at) 0 layer.admin)
+        ∙ named_at rules.base (hands_down at layer.admin) (not layer.isolated) base_at (first_at (λ part. at part.set) layer.base rules.base) policy place
+        (first_at-position (λ part. at part.set) layer.base rules.base)
 
 -- ---- a layer
 
@@ -129,20 +139,31 @@ module _ {S Spot : Type 0} (has : S → Spot → Bool) (in_space : Spot → Bool
 
   module _ (old new : UsedRules) (admin : Notes (handed_test (λ part. part.set) [] layer.admin rules.admin) old.admin new.admin) where
     admin_noted : Notes (marks_test tier.Admin) old.admin new.admin
-    admin_noted = notes_same (marks_test tier.Admin) _ old.admin new.admin (λ spot policy place. ap (λ (b : Bool). in_space spot && b) (marks_admin (λ set. has set spot) layer rules policy place) ∙ admin_same (in_space spot) _) admin
+    admin_noted = notes_same (marks_test tier.Admin) _ old.admin new.admin
+        (λ spot policy place. ap (λ (b : Bool). in_space spot && b) (marks_admin (λ set. has set spot) layer rules policy place) ∙ admin_same (in_space spot) _) admin
 
     -- a tier that is not looked at names nothing
-    pub isolated_noted : layer.isolated ≡ true → Notes (handed_test (λ set. set) layer.admin layer.net rules.net) old.net new.net → new.base ≡ old.base → (one : Tier) → Notes (marks_test one) (flags_of old one) (flags_of new one)
+    pub isolated_noted : layer.isolated ≡ true → Notes (handed_test (λ set. set) layer.admin layer.net rules.net) old.net new.net → new.base ≡ old.base → (one : Tier) →
+        Notes (marks_test one) (flags_of old one) (flags_of new one)
     isolated_noted isolated net kept tier.Admin = admin_noted
-    isolated_noted isolated net kept tier.Net = notes_same (marks_test tier.Net) _ old.net new.net (λ spot policy place. ap (λ (b : Bool). in_space spot && b) (marks_net (λ set. has set spot) layer rules policy place) ∙ lower_same (in_space spot) (hands_down (λ set. has set spot) layer.admin) layer.isolated _ isolated) net
+    isolated_noted isolated net kept tier.Net = notes_same (marks_test tier.Net) _ old.net new.net
+        (λ spot policy place. ap (λ (b : Bool). in_space spot && b) (marks_net (λ set. has set spot) layer rules policy place) ∙ lower_same (in_space spot)
+        (hands_down (λ set. has set spot) layer.admin) layer.isolated _ isolated) net
     isolated_noted isolated net kept tier.Base =
-        rw kept (notes_none (marks_test tier.Base) old.base (λ spot policy place is. absurd (unheard (in_space spot) (hands_down (λ set. has set spot) layer.admin) (not layer.isolated) _ (ap not isolated) (sym (ap (λ (b : Bool). in_space spot && b) (marks_base (λ set. has set spot) layer rules policy place)) ∙ is))))
+        rw kept (notes_none (marks_test tier.Base) old.base (λ spot policy place is. absurd
+        (unheard (in_space spot) (hands_down (λ set. has set spot) layer.admin) (not layer.isolated) _ (ap not isolated)
+        (sym (ap (λ (b : Bool). in_space spot && b) (marks_base (λ set. has set spot) layer rules policy place)) ∙ is))))
 
-    pub open_noted : layer.isolated ≡ false → Notes (handed_test (λ part. part.set) layer.admin layer.base rules.base) old.base new.base → new.net ≡ old.net → (one : Tier) → Notes (marks_test one) (flags_of old one) (flags_of new one)
+    pub open_noted : layer.isolated ≡ false → Notes (handed_test (λ part. part.set) layer.admin layer.base rules.base) old.base new.base → new.net ≡ old.net → (one : Tier) →
+        Notes (marks_test one) (flags_of old one) (flags_of new one)
     open_noted unisolated base kept tier.Admin = admin_noted
-    open_noted unisolated base kept tier.Base = notes_same (marks_test tier.Base) _ old.base new.base (λ spot policy place. ap (λ (b : Bool). in_space spot && b) (marks_base (λ set. has set spot) layer rules policy place) ∙ lower_same (in_space spot) (hands_down (λ set. has set spot) layer.admin) (not layer.isolated) _ (ap not unisolated)) base
+    open_noted unisolated base kept tier.Base = notes_same (marks_test tier.Base) _ old.base new.base
+        (λ spot policy place. ap (λ (b : Bool). in_space spot && b) (marks_base (λ set. has set spot) layer rules policy place) ∙ lower_same (in_space spot)
+        (hands_down (λ set. has set spot) layer.admin) (not layer.isolated) _ (ap not unisolated)) base
     open_noted unisolated base kept tier.Net =
-        rw kept (notes_none (marks_test tier.Net) old.net (λ spot policy place is. absurd (unheard (in_space spot) (hands_down (λ set. has set spot) layer.admin) layer.isolated _ unisolated (sym (ap (λ (b : Bool). in_space spot && b) (marks_net (λ set. has set spot) layer rules policy place)) ∙ is))))
+        rw kept (notes_none (marks_test tier.Net) old.net (λ spot policy place is. absurd
+        (unheard (in_space spot) (hands_down (λ set. has set spot) layer.admin) layer.isolated _ unisolated
+        (sym (ap (λ (b : Bool). in_space spot && b) (marks_net (λ set. has set spot) layer rules policy place)) ∙ is))))
 
   module _ (old new : UsedRules) (noted : (one : Tier) → Notes (marks_test one) (flags_of old one) (flags_of new one)) (one : Tier) (policy place : ℕ) where
     pub layer_grows : is_known old one policy place ≡ true → is_known new one policy place ≡ true
@@ -153,10 +174,12 @@ module _ {S Spot : Type 0} (has : S → Spot → Bool) (in_space : Spot → Bool
     unfolding is_known
     layer_finds spot inside named = (noted one).finds spot policy place (and_from (in_space spot) _ inside named)
 
-    pub layer_only : is_known new one policy place ≡ true → (is_known old one policy place ≡ true) ⊎ ((spot : Spot) × (in_space spot ≡ true) × (marks rules one policy place (mark_of (λ set. has set spot) layer) ≡ true))
+    pub layer_only : is_known new one policy place ≡ true →
+        (is_known old one policy place ≡ true) ⊎ ((spot : Spot) × (in_space spot ≡ true) × (marks rules one policy place (mark_of (λ set. has set spot) layer) ≡ true))
     unfolding is_known
     layer_only known = by ((noted one).only policy place known)
       where
-        by : (flag_at (flags_of old one) policy place ≡ true) ⊎ ((spot : Spot) × (marks_test one spot policy place ≡ true)) → (flag_at (flags_of old one) policy place ≡ true) ⊎ ((spot : Spot) × (in_space spot ≡ true) × (marks rules one policy place (mark_of (λ set. has set spot) layer) ≡ true))
+        by : (flag_at (flags_of old one) policy place ≡ true) ⊎ ((spot : Spot) × (marks_test one spot policy place ≡ true)) →
+            (flag_at (flags_of old one) policy place ≡ true) ⊎ ((spot : Spot) × (in_space spot ≡ true) × (marks rules one policy place (mark_of (λ set. has set spot) layer) ≡ true))
         by (inl before) = inl before
         by (inr found) = let both = and_parts (in_space found.0) _ found.1 in inr (found.0, both.0, both.1)

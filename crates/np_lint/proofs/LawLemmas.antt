@@ -69,7 +69,8 @@ name_by_stands name (Some other) stands = ap {A = RuleName} Some (sym ((same_rul
 pub unused_is : (lists : EstateLists) (rule : RuleRef) → Contains (unused_of lists) rule → IsRuleOf lists rule × (is_used lists rule ≡ false)
 unfolding unused_of
 unused_is lists rule has =
-    let both = All-contains (λ other. IsRuleOf lists other × (not (is_used lists other) ≡ true)) (filter (λ other. not (is_used lists other)) (all_rules lists)) rule (filter_all (IsRuleOf lists) (λ other. not (is_used lists other)) (all_rules lists) (rules_are_rules lists)) has in
+    let both = All-contains (λ other. IsRuleOf lists other × (not (is_used lists other) ≡ true)) (filter (λ other. not (is_used lists other)) (all_rules lists)) rule
+    (filter_all (IsRuleOf lists) (λ other. not (is_used lists other)) (all_rules lists) (rules_are_rules lists)) has in
     (both.0, not-true _ both.1)
 
 is_unused : (lists : EstateLists) (rule : RuleRef) → IsRuleOf lists rule → is_used lists rule ≡ false → Contains (unused_of lists) rule
@@ -78,17 +79,25 @@ is_unused lists rule valid unused =
     let there = rule_is_listed lists rule.tier rule.policy rule.direction rule.place valid in
     filter_has_at (λ other. not (is_used lists other)) (all_rules lists) there.0 rule there.1 there.2 (ap not unused)
 
-pub decide_nothing : (lists : EstateLists) (rule : RuleRef) → Contains (unused_of lists) rule ↔ (IsRuleOf lists rule × ((source destination : End) (family : Family) (spot : PortSpot) → IsListedPacket lists source destination family spot → StandsIn lists rule source destination family spot → ⊥))
+pub decide_nothing : (lists : EstateLists) (rule : RuleRef) →
+    Contains (unused_of lists) rule ↔ (IsRuleOf lists rule × ((source destination : End) (family : Family) (spot : PortSpot) → IsListedPacket lists source destination family spot →
+    StandsIn lists rule source destination family spot → ⊥))
 decide_nothing lists rule = (to, from)
   where
-    to : Contains (unused_of lists) rule → IsRuleOf lists rule × ((source destination : End) (family : Family) (spot : PortSpot) → IsListedPacket lists source destination family spot → StandsIn lists rule source destination family spot → ⊥)
+    to : Contains (unused_of lists) rule →
+        IsRuleOf lists rule × ((source destination : End) (family : Family) (spot : PortSpot) → IsListedPacket lists source destination family spot →
+        StandsIn lists rule source destination family spot → ⊥)
     to has =
         let both = unused_is lists rule has in
         (both.0, λ source destination family spot listed stands. false≢true (sym both.1 ∙ is_used_by lists rule source destination family spot listed (stands_by_name (rule_name lists rule) _ stands)))
 
-    unused_by : ((source destination : End) (family : Family) (spot : PortSpot) → IsListedPacket lists source destination family spot → StandsIn lists rule source destination family spot → ⊥) → (b : Bool) → is_used lists rule ≡ b → is_used lists rule ≡ false
-    unused_by none true is = let by = used_by lists rule is in absurd (none by.from by.to by.family by.spot by.listed (name_by_stands (rule_name lists rule) (rule_in rule.tier (decider_between lists rule.direction by.from by.to by.family by.spot)) by.stands))
+    unused_by : ((source destination : End) (family : Family) (spot : PortSpot) → IsListedPacket lists source destination family spot → StandsIn lists rule source destination family spot → ⊥) →
+        (b : Bool) → is_used lists rule ≡ b → is_used lists rule ≡ false
+    unused_by none true is = let by = used_by lists rule is in absurd
+        (none by.from by.to by.family by.spot by.listed (name_by_stands (rule_name lists rule) (rule_in rule.tier (decider_between lists rule.direction by.from by.to by.family by.spot)) by.stands))
     unused_by none false is = is
 
-    from : IsRuleOf lists rule × ((source destination : End) (family : Family) (spot : PortSpot) → IsListedPacket lists source destination family spot → StandsIn lists rule source destination family spot → ⊥) → Contains (unused_of lists) rule
+    from : IsRuleOf lists rule × ((source destination : End) (family : Family) (spot : PortSpot) → IsListedPacket lists source destination family spot →
+        StandsIn lists rule source destination family spot → ⊥) →
+        Contains (unused_of lists) rule
     from both = is_unused lists rule both.0 (unused_by both.1 (is_used lists rule) refl)

@@ -42,29 +42,41 @@ module _ (lists : EstateLists) (tier : Tier) where
   of_direction policy direction = rules_from tier policy direction (rule_count_at lists tier direction policy)
 
   direction_of : (policy : ℕ) (direction : Direction) → All (IsOf tier policy direction) (of_direction policy direction)
-  direction_of policy direction = numbered_all (IsOf tier policy direction) (λ place. record { tier = tier; policy = policy; direction = direction; place = place }) (rule_count_at lists tier direction policy) (λ n below. record { in_tier = refl; of_policy = refl; towards = refl })
+  direction_of policy direction = numbered_all (IsOf tier policy direction) (λ place. record { tier = tier; policy = policy; direction = direction; place = place })
+      (rule_count_at lists tier direction policy) (λ n below. record { in_tier = refl; of_policy = refl; towards = refl })
 
   direction_pairs : (policy : ℕ) (direction : Direction) → AllPairs StandsBefore (of_direction policy direction)
-  direction_pairs policy direction = numbered_pairs StandsBefore (λ place. record { tier = tier; policy = policy; direction = direction; place = place }) (rule_count_at lists tier direction policy) (λ m n less. inr (refl, inr (refl, inr (refl, less))))
+  direction_pairs policy direction = numbered_pairs StandsBefore (λ place. record { tier = tier; policy = policy; direction = direction; place = place }) (rule_count_at lists tier direction policy)
+      (λ m n less. inr (refl, inr (refl, inr (refl, less))))
 
   -- ingress stands before egress
   policy_pairs : (policy : ℕ) → AllPairs StandsBefore (rules_of_policy lists tier policy)
   policy_pairs policy =
       AllPairs-append StandsBefore (IsOf tier policy Ingress) (IsOf tier policy Egress)
-      (λ one other is is'. inr (same_tier one other tier is.in_tier is'.in_tier, inr (is.of_policy ∙ sym is'.of_policy, inl (let low : direction_number one.direction ≡ 0 = ap direction_number is.towards in let high : direction_number other.direction ≡ 1 = ap direction_number is'.towards in omega (arith, low, high)))))
+      (λ one other is is'. inr (
+        same_tier one other tier is.in_tier is'.in_tier,
+        inr (
+          is.of_policy ∙ sym is'.of_policy,
+          inl (let low : direction_number one.direction ≡ 0 = ap direction_number is.towards in let high : direction_number other.direction ≡ 1 =
+              ap direction_number is'.towards in omega (arith, low, high)),
+        ),
+      ))
       (of_direction policy Ingress) (of_direction policy Egress) (direction_pairs policy Ingress) (direction_pairs policy Egress) (direction_of policy Ingress) (direction_of policy Egress)
 
   policy_from : (policy : ℕ) → All (IsFrom tier policy) (rules_of_policy lists tier policy)
   policy_from policy =
       All-append (IsFrom tier policy) (of_direction policy Ingress) (of_direction policy Egress)
-      (All-weaker (IsOf tier policy Ingress) (IsFrom tier policy) (λ rule is. record { in_tier = is.in_tier; from = omega (arith, is.of_policy) }) (of_direction policy Ingress) (direction_of policy Ingress))
-      (All-weaker (IsOf tier policy Egress) (IsFrom tier policy) (λ rule is. record { in_tier = is.in_tier; from = omega (arith, is.of_policy) }) (of_direction policy Egress) (direction_of policy Egress))
+      (All-weaker (IsOf tier policy Ingress) (IsFrom tier policy) (λ rule is. record { in_tier = is.in_tier; from = omega (arith, is.of_policy) }) (of_direction policy Ingress)
+      (direction_of policy Ingress))
+      (All-weaker (IsOf tier policy Egress) (IsFrom tier policy) (λ rule is. record { in_tier = is.in_tier; from = omega (arith, is.of_policy) }) (of_direction policy Egress)
+      (direction_of policy Egress))
 
   later_from : (policy count : ℕ) → All (IsFrom tier policy) (flat_map (rules_of_policy lists tier) (range_with_len policy count))
   later_from policy zero = All-nil (IsFrom tier policy)
   later_from policy (suc count) =
       All-append (IsFrom tier policy) (rules_of_policy lists tier policy) (flat_map (rules_of_policy lists tier) (range_with_len (policy + 1) count)) (policy_from policy)
-      (All-weaker (IsFrom tier (policy + 1)) (IsFrom tier policy) (λ rule is. record { in_tier = is.in_tier; from = omega (arith, is.from) }) (flat_map (rules_of_policy lists tier) (range_with_len (policy + 1) count)) (later_from (policy + 1) count))
+      (All-weaker (IsFrom tier (policy + 1)) (IsFrom tier policy) (λ rule is. record { in_tier = is.in_tier; from = omega (arith, is.from) })
+      (flat_map (rules_of_policy lists tier) (range_with_len (policy + 1) count)) (later_from (policy + 1) count))
 
   -- the rules of a policy are of its place
   policy_at : (policy : ℕ) → All (λ rule. (rule.tier ≡ tier) × (rule.policy ≡ policy)) (rules_of_policy lists tier policy)
@@ -78,7 +90,8 @@ module _ (lists : EstateLists) (tier : Tier) where
   policies_pairs policy (suc count) =
       AllPairs-append StandsBefore (λ rule. (rule.tier ≡ tier) × (rule.policy ≡ policy)) (IsFrom tier (policy + 1))
       (λ one other is is'. inr (same_tier one other tier is.0 is'.in_tier, inl (let at : one.policy ≡ policy = is.1 in omega (arith, at, is'.from))))
-      (rules_of_policy lists tier policy) (flat_map (rules_of_policy lists tier) (range_with_len (policy + 1) count)) (policy_pairs policy) (policies_pairs (policy + 1) count) (policy_at policy) (later_from (policy + 1) count)
+      (rules_of_policy lists tier policy) (flat_map (rules_of_policy lists tier) (range_with_len (policy + 1) count)) (policy_pairs policy) (policies_pairs (policy + 1) count) (policy_at policy)
+      (later_from (policy + 1) count)
 
   tier_pairs : AllPairs StandsBefore (rules_of_tier lists tier)
   tier_pairs = policies_pairs 0 (policy_count lists tier)
@@ -98,8 +111,10 @@ rules_in_order lists =
     (rules_of_tier lists Admin) (rules_of_tier lists Net) (tier_pairs lists Admin) (tier_pairs lists Net) (of_tier lists Admin) (of_tier lists Net))
     (tier_pairs lists Base)
     (All-append (λ rule. tier_number rule.tier < 2) (rules_of_tier lists Admin) (rules_of_tier lists Net)
-    (All-weaker (λ rule. rule.tier ≡ Admin) (λ rule. tier_number rule.tier < 2) (λ rule is. let first : tier_number rule.tier ≡ 0 = ap tier_number is in omega (arith, first)) (rules_of_tier lists Admin) (of_tier lists Admin))
-    (All-weaker (λ rule. rule.tier ≡ Net) (λ rule. tier_number rule.tier < 2) (λ rule is. let second : tier_number rule.tier ≡ 1 = ap tier_number is in omega (arith, second)) (rules_of_tier lists Net) (of_tier lists Net)))
+    (All-weaker (λ rule. rule.tier ≡ Admin) (λ rule. tier_number rule.tier < 2) (λ rule is. let first : tier_number rule.tier ≡ 0 = ap tier_number is in omega (arith, first))
+    (rules_of_tier lists Admin) (of_tier lists Admin))
+    (All-weaker (λ rule. rule.tier ≡ Net) (λ rule. tier_number rule.tier < 2) (λ rule is. let second : tier_number rule.tier ≡ 1 = ap tier_number is in omega (arith, second)) (rules_of_tier lists Net)
+    (of_tier lists Net)))
     (of_tier lists Base)
 
 -- and so do those that are not used

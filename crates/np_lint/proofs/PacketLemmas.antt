@@ -60,7 +60,8 @@ module _ (lists : EstateLists) where
   unfolding listed_ends
   ends_are_listed end has =
       All-contains (IsListed lists) (pod_ends (length lists.pods) ++ four_ends (2 ^ 32) ++ six_ends (2 ^ 128)) end
-      (All-append (IsListed lists) (pod_ends (length lists.pods) ++ four_ends (2 ^ 32)) (six_ends (2 ^ 128)) (All-append (IsListed lists) (pod_ends (length lists.pods)) (four_ends (2 ^ 32)) pods_listed fours_listed) sixes_listed)
+      (All-append (IsListed lists) (pod_ends (length lists.pods) ++ four_ends (2 ^ 32)) (six_ends (2 ^ 128))
+      (All-append (IsListed lists) (pod_ends (length lists.pods)) (four_ends (2 ^ 32)) pods_listed fours_listed) sixes_listed)
       has
 
   has_pod : (p : ℕ) → p < length lists.pods → Contains (pod_ends (length lists.pods)) (Pod p)
@@ -77,8 +78,10 @@ module _ (lists : EstateLists) where
 
   listed_is_end : (end : End) → IsListed lists end → Contains (listed_ends lists) end
   unfolding listed_ends
-  listed_is_end (Pod p) below = Contains-append_left (pod_ends (length lists.pods) ++ four_ends (2 ^ 32)) (six_ends (2 ^ 128)) (Pod p) (Contains-append_left (pod_ends (length lists.pods)) (four_ends (2 ^ 32)) (Pod p) (has_pod p below))
-  listed_is_end (At (Four n)) below = Contains-append_left (pod_ends (length lists.pods) ++ four_ends (2 ^ 32)) (six_ends (2 ^ 128)) (At (Four n)) (Contains-append_right (pod_ends (length lists.pods)) (four_ends (2 ^ 32)) (At (Four n)) (has_four n below))
+  listed_is_end (Pod p) below = Contains-append_left (pod_ends (length lists.pods) ++ four_ends (2 ^ 32)) (six_ends (2 ^ 128)) (Pod p)
+      (Contains-append_left (pod_ends (length lists.pods)) (four_ends (2 ^ 32)) (Pod p) (has_pod p below))
+  listed_is_end (At (Four n)) below = Contains-append_left (pod_ends (length lists.pods) ++ four_ends (2 ^ 32)) (six_ends (2 ^ 128)) (At (Four n))
+      (Contains-append_right (pod_ends (length lists.pods)) (four_ends (2 ^ 32)) (At (Four n)) (has_four n below))
   listed_is_end (At (Six n)) below = Contains-append_right (pod_ends (length lists.pods) ++ four_ends (2 ^ 32)) (six_ends (2 ^ 128)) (At (Six n)) (has_six n below)
 
 -- ---- used rules
@@ -114,7 +117,8 @@ not_false : (b : Bool) → b ≡ false → not b ≡ true
 not_false true is = absurd (false≢true (sym is))
 not_false false is = refl
 
-pub is_used_by : (lists : EstateLists) (rule : RuleRef) (source destination : End) (family : Family) (spot : PortSpot) → IsListedPacket lists source destination family spot → stands_in lists rule (decider_between lists rule.direction source destination family spot) ≡ true → is_used lists rule ≡ true
+pub is_used_by : (lists : EstateLists) (rule : RuleRef) (source destination : End) (family : Family) (spot : PortSpot) → IsListedPacket lists source destination family spot →
+    stands_in lists rule (decider_between lists rule.direction source destination family spot) ≡ true → is_used lists rule ≡ true
 unfolding is_used
 is_used_by lists rule source destination family spot listed stands =
     let ends = listed_ends lists in
@@ -144,11 +148,14 @@ families_back lists p (Pod q) family has = has
 families_back lists p (At a) family has = has
 
 -- what decides at a pod, in packets with a listed far end, is used
-pub used_near : (lists : EstateLists) (direction : Direction) (one : Tier) (policy place p : ℕ) (far : End) (family : Family) (spot : PortSpot) → p < length lists.pods → IsListed lists far → are_one_pod (Pod p) far ≡ false → Contains (families_between lists (Pod p) far) family → is_spot spot ≡ true → stands_in lists (ref_of direction one policy place) (decider_near lists direction (Pod p) far family spot) ≡ true → is_used lists (ref_of direction one policy place) ≡ true
+pub used_near : (lists : EstateLists) (direction : Direction) (one : Tier) (policy place p : ℕ) (far : End) (family : Family) (spot : PortSpot) → p < length lists.pods → IsListed lists far →
+    are_one_pod (Pod p) far ≡ false → Contains (families_between lists (Pod p) far) family → is_spot spot ≡ true →
+    stands_in lists (ref_of direction one policy place) (decider_near lists direction (Pod p) far family spot) ≡ true → is_used lists (ref_of direction one policy place) ≡ true
 used_near lists Egress one policy place p far family spot near_in far_in apart of_family at stands =
     is_used_by lists (ref_of Egress one policy place) (Pod p) far family spot (record { source = near_in; destination = far_in; apart = apart; of_family = of_family; at_spot = at }) stands
 used_near lists Ingress one policy place p far family spot near_in far_in apart of_family at stands =
-    is_used_by lists (ref_of Ingress one policy place) far (Pod p) family spot (record { source = far_in; destination = near_in; apart = one_pod_flips (Pod p) far apart; of_family = families_flip lists p far family of_family; at_spot = at }) stands
+    is_used_by lists (ref_of Ingress one policy place) far (Pod p) family spot
+    (record { source = far_in; destination = near_in; apart = one_pod_flips (Pod p) far apart; of_family = families_flip lists p far family of_family; at_spot = at }) stands
 
 -- a used rule stands in what decides at a pod
 pub record UsedNear (lists : EstateLists) (direction : Direction) (one : Tier) (policy place : ℕ) : Type 0 where
@@ -173,13 +180,39 @@ near_used lists Egress one policy place used =
     let by = used_by lists (ref_of Egress one policy place) used in
     go by.from by.to by.family by.spot by.listed by.stands
   where
-    go : (near far : End) (family : Family) (spot : PortSpot) → IsListedPacket lists near far family spot → stands_in lists (ref_of Egress one policy place) (decider_near lists Egress near far family spot) ≡ true → UsedNear lists Egress one policy place
-    go (Pod p) far family spot listed stands = record { pod = p; far = far; family = family; spot = spot; near_in = listed.source; far_in = listed.destination; apart = listed.apart; of_family = listed.of_family; at_spot = listed.at_spot; stands = stands }
+    go : (near far : End) (family : Family) (spot : PortSpot) → IsListedPacket lists near far family spot →
+        stands_in lists (ref_of Egress one policy place) (decider_near lists Egress near far family spot) ≡ true → UsedNear lists Egress one policy place
+    go (Pod p) far family spot listed stands = record {
+      pod = p;
+      far = far;
+      family = family;
+      spot = spot;
+      near_in = listed.source;
+      far_in = listed.destination;
+      apart = listed.apart;
+      of_family =
+          listed.of_family;
+      at_spot = listed.at_spot;
+      stands = stands;
+    }
     go (At a) far family spot listed stands = absurd (none_stands lists Egress one policy place stands)
 near_used lists Ingress one policy place used =
     let by = used_by lists (ref_of Ingress one policy place) used in
     go by.to by.from by.family by.spot by.listed by.stands
   where
-    go : (near far : End) (family : Family) (spot : PortSpot) → IsListedPacket lists far near family spot → stands_in lists (ref_of Ingress one policy place) (decider_near lists Ingress near far family spot) ≡ true → UsedNear lists Ingress one policy place
-    go (Pod p) far family spot listed stands = record { pod = p; far = far; family = family; spot = spot; near_in = listed.destination; far_in = listed.source; apart = one_pod_flips far (Pod p) listed.apart; of_family = families_back lists p far family listed.of_family; at_spot = listed.at_spot; stands = stands }
+    go : (near far : End) (family : Family) (spot : PortSpot) → IsListedPacket lists far near family spot →
+        stands_in lists (ref_of Ingress one policy place) (decider_near lists Ingress near far family spot) ≡ true → UsedNear lists Ingress one policy place
+    go (Pod p) far family spot listed stands = record {
+      pod = p;
+      far = far;
+      family = family;
+      spot = spot;
+      near_in = listed.destination;
+      far_in = listed.source;
+      apart = one_pod_flips far
+          (Pod p) listed.apart;
+      of_family = families_back lists p far family listed.of_family;
+      at_spot = listed.at_spot;
+      stands = stands;
+    }
     go (At a) far family spot listed stands = absurd (none_stands lists Ingress one policy place stands)

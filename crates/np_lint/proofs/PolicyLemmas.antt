@@ -1,5 +1,6 @@
 -- Rules are told by the names of their policies and their places.
-use Rattle.std.proofs.Common.{◌≡◌, ◌≢◌, ℕ, zero, suc, ◌<◌, List, [], ◌∷◌, ◌++◌, Bool, true, false, not, ◌==◌, get_or, Some, AllPairs, Ordering, Equal, append_assoc, eq-eqb, refl, sym, ◌∙◌, ap, inl, inr}
+use Rattle.std.proofs.Common.{◌≡◌, ◌≢◌, ℕ, zero, suc, ◌<◌, List, [], ◌∷◌, ◌++◌, Bool, true, false, not, ◌==◌, get_or, Some, AllPairs, Ordering, Equal, append_assoc, eq-eqb, refl, sym, ◌∙◌, ap, inl}
+use Rattle.std.proofs.Common.{inr}
 use Rattle.std.specs.Cmp.Lexicographic.{slice_cmp}
 use Rattle.std.specs.List.{list_all, list_any, slice_get}
 use Rattle.std.specs.Ordering.{nat_cmp}
@@ -27,7 +28,8 @@ one_place {X} {N} name xs apart p q x y at_p at_q same =
     ]
   where
     pair : (i j : ℕ) (a b : X) → i < j → slice_get xs i ≡ Some a → slice_get xs j ≡ Some b → name a ≡ name b → ⊥
-    pair i j a b before at_i at_j equal = apart i j a before (slice_get_within xs j b at_j) (ap name (get_or_from_slice_get xs i a a at_i) ∙ equal ∙ ap name (sym (get_or_from_slice_get xs j b a at_j)))
+    pair i j a b before at_i at_j equal = apart i j a before (slice_get_within xs j b at_j)
+        (ap name (get_or_from_slice_get xs i a a at_i) ∙ equal ∙ ap name (sym (get_or_from_slice_get xs j b a at_j)))
 
 -- ---- admin policies
 
@@ -35,7 +37,8 @@ admin_names_differ : (policies : List AdminPolicy) → AllPairs AreNamesApart po
 admin_names_differ policies apart = λ i j d before within same.
     absurd (false≢true (ap not (sym ((bytes_eq-Decides (get_or policies i d).name (get_or policies j d).name).1 same)) ∙ apart i j d before within))
 
-pub one_admin_policy : (lists : EstateLists) → IsLawful lists → (p q : ℕ) (a b : AdminPolicy) → slice_get lists.admin_policies p ≡ Some a → slice_get lists.admin_policies q ≡ Some b → a.name ≡ b.name → p ≡ q
+pub one_admin_policy : (lists : EstateLists) → IsLawful lists → (p q : ℕ) (a b : AdminPolicy) → slice_get lists.admin_policies p ≡ Some a → slice_get lists.admin_policies q ≡ Some b →
+    a.name ≡ b.name → p ≡ q
 one_admin_policy lists lawful = one_place (λ policy. policy.name) lists.admin_policies (admin_names_differ lists.admin_policies lawful.admin_policies_apart)
 
 -- ---- NetworkPolicies
@@ -89,10 +92,12 @@ not_before a b before same =
     let equal' : slice_cmp nat_cmp a.name b.name ≡ Equal = ap (slice_cmp nat_cmp a.name) (sym names) ∙ tied_itself nat_list_cmp_total a.name in
     false≢true (sym (ap (λ (o : Ordering). comes_before o (slice_cmp nat_cmp a.name b.name)) equal ∙ ap (comes_before Equal) equal') ∙ before)
 
-pub one_net_policy : (lists : EstateLists) → IsLawful lists → (p q : ℕ) (a b : NetPolicy) → slice_get lists.net_policies p ≡ Some a → slice_get lists.net_policies q ≡ Some b → net_policy_name a ≡ net_policy_name b → p ≡ q
+pub one_net_policy : (lists : EstateLists) → IsLawful lists → (p q : ℕ) (a b : NetPolicy) → slice_get lists.net_policies p ≡ Some a → slice_get lists.net_policies q ≡ Some b →
+    net_policy_name a ≡ net_policy_name b → p ≡ q
 one_net_policy lists lawful p q a b at_p at_q same =
     let well = net_policies_well lists lawful.well in
     let name_a = lacks_slash a.namespace (namespace_is_name a (passes_at is_well_net_policy lists.net_policies p a well at_p)) in
     let name_b = lacks_slash b.namespace (namespace_is_name b (passes_at is_well_net_policy lists.net_policies q b well at_q)) in
     let parts = cut 47 a.namespace b.namespace a.name b.name name_a name_b (sym (spelled a) ∙ same ∙ spelled b) in
-    one_place full_name lists.net_policies (λ i j d before within. not_before (get_or lists.net_policies i d) (get_or lists.net_policies j d) (lawful.net_policies_ascend i j d before within)) p q a b at_p at_q (rw (parts.0, parts.1) refl)
+    one_place full_name lists.net_policies (λ i j d before within. not_before (get_or lists.net_policies i d) (get_or lists.net_policies j d) (lawful.net_policies_ascend i j d before within)) p q a b
+    at_p at_q (rw (parts.0, parts.1) refl)

@@ -12,10 +12,12 @@ use Rattle.np_model.specs.declared.network_policy.NetPolicy.{NetPolicy}
 use Rattle.np_rules.specs.Deciders.{net_policy_name}
 
 -- the name of a NetworkPolicy that was read
-pub net_name : (lists : EstateLists) (tier : Tier) (place : ℕ) (policies : List NetPolicy) (policy : NetPolicy) (text : List ℕ) → tier ≡ Net → policies ≡ lists.net_policies → place < length policies → policy ≡ get_or policies place policy → text ≡ net_policy_name policy → text ≡ policy_name_at lists tier place
+pub net_name : (lists : EstateLists) (tier : Tier) (place : ℕ) (policies : List NetPolicy) (policy : NetPolicy) (text : List ℕ) → tier ≡ Net → policies ≡ lists.net_policies → place < length policies →
+    policy ≡ get_or policies place policy → text ≡ net_policy_name policy → text ≡ policy_name_at lists tier place
 net_name lists tier place policies policy text is are within read named =
     let name : Option NetPolicy → List ℕ = λ found. option_map_or net_policy_name found [] in
-    named ∙ ap name (sym (slice_get_read policies (length policies) place policy refl within read)) ∙ ap (λ (all : List NetPolicy). name (slice_get all place)) are ∙ ap (λ (one : Tier). policy_name_at lists one place) (sym is)
+    named ∙ ap name (sym (slice_get_read policies (length policies) place policy refl within read)) ∙ ap (λ (all : List NetPolicy). name (slice_get all place)) are ∙ ap
+    (λ (one : Tier). policy_name_at lists one place) (sym is)
 
 -- the policy of a rule of a NetworkPolicy is there
 pub net_within : (lists : EstateLists) (rule : RuleRef) (policies : List NetPolicy) → rule.tier ≡ Net → policies ≡ lists.net_policies → IsRuleOf lists rule → rule.policy < length policies

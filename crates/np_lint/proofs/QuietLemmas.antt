@@ -26,14 +26,14 @@ use Rattle.np_model.specs.declared.direction.Direction.{Direction}
 use Rattle.np_reach.proofs.MarkLemmas.{may_at-of}
 use Rattle.np_reach.proofs.ReachLemmas.{isolated-out_of_reach, unmatched-out_of_reach}
 use Rattle.np_reach.specs.Reach.{may_at, may_reach, reach_of}
-use Rattle.np_rules.specs.AdminTier.{admin_decider, least_by}
-use Rattle.np_rules.specs.BaseTier.{base_decider}
+use Rattle.np_rules.specs.model.AdminTier.{admin_decider, least_by}
+use Rattle.np_rules.specs.model.BaseTier.{base_decider}
 use Rattle.np_rules.specs.Deciders.{action_decides, admin_decides, admin_rule_name, base_decides, decider, isolating_names, lower_decider, net_decider, net_decides, net_precedes}
-use Rattle.np_rules.specs.Ends.{Contact, PodEnd, pod}
-use Rattle.np_rules.specs.NetTier.{placed_net_matches}
-use Rattle.np_rules.specs.Places.{PlacedAdminRule, PlacedNetRule, net_places}
+use Rattle.np_rules.specs.model.Ends.{Contact, PodEnd, pod}
+use Rattle.np_rules.specs.model.NetTier.{placed_net_matches}
+use Rattle.np_rules.specs.model.Places.{PlacedAdminRule, PlacedNetRule, net_places}
 use Rattle.np_rules.specs.PodSides.{PodSide, near_pod, with_pod}
-use Rattle.np_rules.specs.Verdict.{pod_at}
+use Rattle.np_rules.specs.model.Verdict.{pod_at}
 use Rattle.np_rules.specs.declared.decider.Decider.{Decider}
 use Rattle.np_rules.specs.declared.decider.Decider.TheVariants as decides
 use Rattle.np_rules.specs.declared.decider.RuleName.{RuleName}
@@ -53,11 +53,14 @@ module _ (lists : EstateLists) (direction : Direction) (near : PodEnd) (contact 
   lower_isolated : (pass : Option RuleName) → lower_decider lists direction near contact pass ≡ decides.Isolated pass (isolating_names lists.net_policies direction near)
   lower_isolated pass =
       let names = isolating_names lists.net_policies direction near in
-      ap (λ (b : Bool). if b then net_decides pass names (net_decider lists.net_policies direction near contact) else base_decides pass (base_decider lists.baseline direction near contact)) (isolated-out_of_reach lists direction near contact.far out)
-      ∙ ap (λ (found : List PlacedNetRule). net_decides pass names (least_by net_precedes found)) (filter_nothing (placed_net_matches contact) (net_places lists.net_policies direction near) (unmatched-out_of_reach lists direction near contact out))
+      ap (λ (b : Bool). if b then net_decides pass names (net_decider lists.net_policies direction near contact) else base_decides pass (base_decider lists.baseline direction near contact))
+      (isolated-out_of_reach lists direction near contact.far out)
+      ∙ ap (λ (found : List PlacedNetRule). net_decides pass names (least_by net_precedes found))
+      (filter_nothing (placed_net_matches contact) (net_places lists.net_policies direction near) (unmatched-out_of_reach lists direction near contact out))
 
   -- so that a rule of the lower tiers stands in nothing that decides
-  no_rule : (rule_of : Decider → Option RuleName) → ((rule : RuleName) (allow : Bool) → rule_of (decides.Admin rule allow) ≡ None) → ((pass : Option RuleName) (names : List (List ℕ)) → rule_of (decides.Isolated pass names) ≡ None) → rule_of (decider lists direction (pod near) contact) ≡ None
+  no_rule : (rule_of : Decider → Option RuleName) → ((rule : RuleName) (allow : Bool) → rule_of (decides.Admin rule allow) ≡ None) →
+      ((pass : Option RuleName) (names : List (List ℕ)) → rule_of (decides.Isolated pass names) ≡ None) → rule_of (decider lists direction (pod near) contact) ≡ None
   no_rule rule_of of_admin of_isolated = by_admin (admin_decider lists.admin_policies direction near contact)
     where
       lower : (pass : Option RuleName) → rule_of (lower_decider lists direction near contact pass) ≡ None
@@ -75,21 +78,25 @@ module _ (lists : EstateLists) (direction : Direction) (near : PodEnd) (contact 
 -- ---- a kind that is out of reach
 
 -- where the admin rules of a side are known, so is whatever stands in what decides with a pod that is out of its reach
-quiet_known : (side : PodSide) → IsLawful side.lists → (rules : LayerRules) → AreRulesOf side rules → (used : UsedRules) → are_known used.admin rules.admin ≡ true → (far : ℕ) (family : Family) → may_reach side.lists side.direction (near_pod side) (pod (pod_at side.lists far)) ≡ false → KnowsAll is_spot side (with_pod far family) used
+quiet_known : (side : PodSide) → IsLawful side.lists → (rules : LayerRules) → AreRulesOf side rules → (used : UsedRules) → are_known used.admin rules.admin ≡ true → (far : ℕ) (family : Family) →
+    may_reach side.lists side.direction (near_pod side) (pod (pod_at side.lists far)) ≡ false → KnowsAll is_spot side (with_pod far family) used
 unfolding Knows
 quiet_known side lawful rules are used all far family out spot inside tier.Admin policy place valid stands =
     knows_admin side lawful rules are used all (with_pod far family side spot) policy place valid stands
 quiet_known side lawful rules are used all far family out spot inside tier.Net policy place valid stands =
-    absurd (false≢true (sym (ap (λ (found : Option RuleName). option_map_or (same_rule (rule_name side.lists (ref_of side.direction tier.Net policy place))) found false) (no_rule side.lists side.direction (near_pod side) (with_pod far family side spot) out net_rule_in (λ rule allow. refl) (λ pass names. refl))) ∙ stands))
+    absurd (false≢true (sym (ap (λ (found : Option RuleName). option_map_or (same_rule (rule_name side.lists (ref_of side.direction tier.Net policy place))) found false)
+    (no_rule side.lists side.direction (near_pod side) (with_pod far family side spot) out net_rule_in (λ rule allow. refl) (λ pass names. refl))) ∙ stands))
 quiet_known side lawful rules are used all far family out spot inside tier.Base policy place valid stands =
-    absurd (false≢true (sym (ap (λ (found : Option RuleName). option_map_or (same_rule (rule_name side.lists (ref_of side.direction tier.Base policy place))) found false) (no_rule side.lists side.direction (near_pod side) (with_pod far family side spot) out base_rule_in (λ rule allow. refl) (λ pass names. refl))) ∙ stands))
+    absurd (false≢true (sym (ap (λ (found : Option RuleName). option_map_or (same_rule (rule_name side.lists (ref_of side.direction tier.Base policy place))) found false)
+    (no_rule side.lists side.direction (near_pod side) (with_pod far family side spot) out base_rule_in (λ rule allow. refl) (λ pass names. refl))) ∙ stands))
 
 not_false : (b : Bool) → not b ≡ false → b ≡ true
 not_false true is = refl
 not_false false is = sym is
 
 -- a kind that tells of nothing may be passed over
-pub quiet_kind : (search : Search) → IsSearch search → (used : UsedRules) (kind : ℕ) (far : KindPod) → slice_get search.kinds.pods.now kind ≡ Some far → may_tell search used kind far ≡ false → is_asked search.near kind far ≡ true → (family : Family) → KnowsAll is_spot search.side.now (with_pod far.pod family) used
+pub quiet_kind : (search : Search) → IsSearch search → (used : UsedRules) (kind : ℕ) (far : KindPod) → slice_get search.kinds.pods.now kind ≡ Some far → may_tell search used kind far ≡ false →
+    is_asked search.near kind far ≡ true → (family : Family) → KnowsAll is_spot search.side.now (with_pod far.pod family) used
 quiet_kind search is used kind far at silent asked family =
     let reaches = may_at search.kinds.reach.now search.near kind in
     let known = are_known used.admin search.rules.now.admin in
@@ -98,7 +105,8 @@ quiet_kind search is used kind far at silent asked family =
 
 -- ---- what the first pods of the kinds may let through
 
-first_of : (lists : EstateLists) (kinds : List KindPod) → AreKindPods lists kinds → (kind : ℕ) (one : KindPod) → slice_get kinds kind ≡ Some one → slice_get (first_ends lists) kind ≡ Some (pod_at lists one.pod)
+first_of : (lists : EstateLists) (kinds : List KindPod) → AreKindPods lists kinds → (kind : ℕ) (one : KindPod) → slice_get kinds kind ≡ Some one →
+    slice_get (first_ends lists) kind ≡ Some (pod_at lists one.pod)
 first_of lists kinds are kind one at =
     let firsts = (folding_of lists).first_of_kinds in
     let within : kind < length firsts = omega (arith, are.count, slice_get_within kinds kind one at) in
@@ -107,7 +115,9 @@ first_of lists kinds are kind one at =
     ∙ ap (λ (place : ℕ). Some (pod_at lists place)) (sym (are.each kind one at).pod)
 
 -- what a search goes by is right
-pub search_is : (lists : EstateLists) (direction : Direction) (kinds : List KindPod) (reach : List (List Bool)) (near : ℕ) (first : KindPod) (rules : LayerRules) → IsLawful lists → AreKindPods lists kinds → reach ≡ reach_of lists direction (first_ends lists) → slice_get kinds near ≡ Some first → AreRulesOf (record { lists = lists; pod = first.pod; direction = direction }) rules → IsSearchOf (record { lists = lists; pod = first.pod; direction = direction }) kinds reach near rules
+pub search_is : (lists : EstateLists) (direction : Direction) (kinds : List KindPod) (reach : List (List Bool)) (near : ℕ) (first : KindPod) (rules : LayerRules) → IsLawful lists →
+    AreKindPods lists kinds → reach ≡ reach_of lists direction (first_ends lists) → slice_get kinds near ≡ Some first →
+    AreRulesOf (record { lists = lists; pod = first.pod; direction = direction }) rules → IsSearchOf (record { lists = lists; pod = first.pod; direction = direction }) kinds reach near rules
 search_is lists direction kinds reach near first rules lawful are is at of_side = record {
   lawful = lawful;
   kinds = are;

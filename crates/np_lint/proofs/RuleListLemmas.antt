@@ -1,5 +1,6 @@
 -- All rules of an estate, and those that are not used.
-use Rattle.std.proofs.Common.{◌≡◌, ℕ, zero, suc, ◌<◌, List, [], ◌∷◌, ◌++◌, Bool, true, false, ◌==◌, not, map, filter, length, get_or, slice_get, Option, Some, None, All, refl, sym, ap, ◌∙◌, subst, arith, if◌then◌else◌}
+use Rattle.std.proofs.Common.{◌≡◌, ℕ, zero, suc, ◌<◌, List, [], ◌∷◌, ◌++◌, Bool, true, false, ◌==◌, not, map, filter, length, get_or, slice_get, Option, Some, None, All, refl, sym, ap, ◌∙◌, subst}
+use Rattle.std.proofs.Common.{arith, if◌then◌else◌}
 use Rattle.std.specs.List.{Contains, flat_map, range_with_len}
 use Rattle.std.specs.Option.{option_map_or}
 use Rattle.std.proofs.lemmas.Bool.{eqb-true}
@@ -79,28 +80,43 @@ module _ (lists : EstateLists) where
       go n true is some = omega (arith, eqb-true policy 0 is)
       go n false is none = absurd (omega arith)
 
-  policy_has : (tier : Tier) (policy : ℕ) (direction : Direction) (place : ℕ) → place < rule_count_at lists tier direction policy → Contains (rules_of_policy lists tier policy) (record { tier = tier; policy = policy; direction = direction; place = place })
-  policy_has tier policy Ingress place below = Contains-append_left (rules_from tier policy Ingress (rule_count_at lists tier Ingress policy)) (rules_from tier policy Egress (rule_count_at lists tier Egress policy)) _ (numbered_has (λ n. record { tier = tier; policy = policy; direction = Ingress; place = n }) (rule_count_at lists tier Ingress policy) place below)
-  policy_has tier policy Egress place below = Contains-append_right (rules_from tier policy Ingress (rule_count_at lists tier Ingress policy)) (rules_from tier policy Egress (rule_count_at lists tier Egress policy)) _ (numbered_has (λ n. record { tier = tier; policy = policy; direction = Egress; place = n }) (rule_count_at lists tier Egress policy) place below)
+  policy_has : (tier : Tier) (policy : ℕ) (direction : Direction) (place : ℕ) → place < rule_count_at lists tier direction policy →
+      Contains (rules_of_policy lists tier policy) (record { tier = tier; policy = policy; direction = direction; place = place })
+  policy_has tier policy Ingress place below = Contains-append_left (rules_from tier policy Ingress (rule_count_at lists tier Ingress policy))
+      (rules_from tier policy Egress (rule_count_at lists tier Egress policy)) _
+      (numbered_has (λ n. record { tier = tier; policy = policy; direction = Ingress; place = n }) (rule_count_at lists tier Ingress policy) place below)
+  policy_has tier policy Egress place below = Contains-append_right (rules_from tier policy Ingress (rule_count_at lists tier Ingress policy))
+      (rules_from tier policy Egress (rule_count_at lists tier Egress policy)) _
+      (numbered_has (λ n. record { tier = tier; policy = policy; direction = Egress; place = n }) (rule_count_at lists tier Egress policy) place below)
 
-  tier_has : (tier : Tier) (policy : ℕ) (direction : Direction) (place : ℕ) → place < rule_count_at lists tier direction policy → Contains (rules_of_tier lists tier) (record { tier = tier; policy = policy; direction = direction; place = place })
+  tier_has : (tier : Tier) (policy : ℕ) (direction : Direction) (place : ℕ) → place < rule_count_at lists tier direction policy →
+      Contains (rules_of_tier lists tier) (record { tier = tier; policy = policy; direction = direction; place = place })
   tier_has tier policy direction place below =
-      flat_has (rules_of_policy lists tier) (range_with_len 0 (policy_count lists tier)) policy _ (range_has (policy_count lists tier) policy (policy_within tier policy direction place below)) (policy_has tier policy direction place below)
+      flat_has (rules_of_policy lists tier) (range_with_len 0 (policy_count lists tier)) policy _ (range_has (policy_count lists tier) policy (policy_within tier policy direction place below))
+      (policy_has tier policy direction place below)
 
-  pub rule_is_listed : (tier : Tier) (policy : ℕ) (direction : Direction) (place : ℕ) → place < rule_count_at lists tier direction policy → Contains (all_rules lists) (record { tier = tier; policy = policy; direction = direction; place = place })
+  pub rule_is_listed : (tier : Tier) (policy : ℕ) (direction : Direction) (place : ℕ) → place < rule_count_at lists tier direction policy →
+      Contains (all_rules lists) (record { tier = tier; policy = policy; direction = direction; place = place })
   unfolding all_rules
-  rule_is_listed Admin policy direction place below = Contains-append_left (rules_of_tier lists Admin ++ rules_of_tier lists Net) (rules_of_tier lists Base) _ (Contains-append_left (rules_of_tier lists Admin) (rules_of_tier lists Net) _ (tier_has Admin policy direction place below))
-  rule_is_listed Net policy direction place below = Contains-append_left (rules_of_tier lists Admin ++ rules_of_tier lists Net) (rules_of_tier lists Base) _ (Contains-append_right (rules_of_tier lists Admin) (rules_of_tier lists Net) _ (tier_has Net policy direction place below))
-  rule_is_listed Base policy direction place below = Contains-append_right (rules_of_tier lists Admin ++ rules_of_tier lists Net) (rules_of_tier lists Base) _ (tier_has Base policy direction place below)
+  rule_is_listed Admin policy direction place below = Contains-append_left (rules_of_tier lists Admin ++ rules_of_tier lists Net) (rules_of_tier lists Base) _
+      (Contains-append_left (rules_of_tier lists Admin) (rules_of_tier lists Net) _ (tier_has Admin policy direction place below))
+  rule_is_listed Net policy direction place below = Contains-append_left (rules_of_tier lists Admin ++ rules_of_tier lists Net) (rules_of_tier lists Base) _
+      (Contains-append_right (rules_of_tier lists Admin) (rules_of_tier lists Net) _ (tier_has Net policy direction place below))
+  rule_is_listed Base policy direction place below = Contains-append_right (rules_of_tier lists Admin ++ rules_of_tier lists Net) (rules_of_tier lists Base) _
+      (tier_has Base policy direction place below)
 
   -- ---- unused rules
 
-  known_is_used : (ingress egress : UsedRules) → Finds lists Ingress ingress → Finds lists Egress egress → (tier : Tier) (policy : ℕ) (direction : Direction) (place : ℕ) → place < rule_count_at lists tier direction policy → is_known_by ingress egress (record { tier = tier; policy = policy; direction = direction; place = place }) ≡ is_used lists (record { tier = tier; policy = policy; direction = direction; place = place })
+  known_is_used : (ingress egress : UsedRules) → Finds lists Ingress ingress → Finds lists Egress egress → (tier : Tier) (policy : ℕ) (direction : Direction) (place : ℕ) →
+      place < rule_count_at lists tier direction policy →
+      is_known_by ingress egress (record { tier = tier; policy = policy; direction = direction; place = place }) ≡ is_used lists
+      (record { tier = tier; policy = policy; direction = direction; place = place })
   unfolding Finds
   known_is_used ingress egress finds_in finds_out tier policy Ingress place below = finds_in tier policy place below
   known_is_used ingress egress finds_in finds_out tier policy Egress place below = finds_out tier policy place below
 
-  pub unknown_is_unused : (ingress egress : UsedRules) → Finds lists Ingress ingress → Finds lists Egress egress → filter (λ rule. not (is_known_by ingress egress rule)) (all_rules lists) ≡ unused_of lists
+  pub unknown_is_unused : (ingress egress : UsedRules) → Finds lists Ingress ingress → Finds lists Egress egress →
+      filter (λ rule. not (is_known_by ingress egress rule)) (all_rules lists) ≡ unused_of lists
   unfolding unused_of
   unknown_is_unused ingress egress finds_in finds_out =
       filter_agree_on (λ rule. not (is_known_by ingress egress rule)) (λ rule. not (is_used lists rule)) (all_rules lists)

@@ -14,12 +14,12 @@ use Rattle.np_lint.specs.declared.rule_ref.Tier.TheVariants as tier
 use Rattle.np_lint.specs.declared.used_rules.UsedRules.{UsedRules}
 use Rattle.np_lint.specs.steps.Known.{all_known, are_known, flag_at, flags_of, ids_of, is_known, is_met, marks, place_in}
 use Rattle.np_lint.specs.steps.Search.{AllAreUsed, AreRulesOf, AreUsed, IsSound, Knows, KnowsAll, ref_of, side_decider}
-use Rattle.np_rules.specs.Ends.{Contact}
+use Rattle.np_rules.specs.model.Ends.{Contact}
 use Rattle.np_rules.specs.Layers.{IsAdminPart, IsBasePart, IsLayer, IsSetOf, Pairwise, matches_of, tier_action}
-use Rattle.np_rules.specs.NetTier.{is_isolated}
+use Rattle.np_rules.specs.model.NetTier.{is_isolated}
 use Rattle.np_rules.specs.PodSides.{PodSide, near_pod}
-use Rattle.np_rules.specs.Rules.{admin_rule_matches}
-use Rattle.np_rules.specs.Sides.{is_allow}
+use Rattle.np_rules.specs.model.Rules.{admin_rule_matches}
+use Rattle.np_rules.specs.model.Sides.{is_allow}
 use Rattle.np_rules.specs.declared.rule_ids.LayerRules.{LayerRules}
 use Rattle.np_tiers.specs.Marks.{mark_of}
 use Rattle.np_tiers.specs.declared.layer.Layer.{Layer}
@@ -28,20 +28,26 @@ use Rattle.np_tiers.specs.declared.mark.Mark.{Mark}
 -- ---- marks and rules
 
 -- a rule of the estate stands in what decides at a mark exactly where the mark names it
-stands_marked : (side : PodSide) → IsLawful side.lists → (rules : LayerRules) → AreRulesOf side rules → (m : Mark) → IsMarkOf side m → (one : Tier) (policy place : ℕ) → place < rule_count_at side.lists one side.direction policy → stands_in side.lists (ref_of side.direction one policy place) (mark_decider side m) ≡ marks rules one policy place m
+stands_marked : (side : PodSide) → IsLawful side.lists → (rules : LayerRules) → AreRulesOf side rules → (m : Mark) → IsMarkOf side m → (one : Tier) (policy place : ℕ) →
+    place < rule_count_at side.lists one side.direction policy → stands_in side.lists (ref_of side.direction one policy place) (mark_decider side m) ≡ marks rules one policy place m
 unfolding marks
 stands_marked side lawful rules are m there one policy place valid =
     ap (λ found. option_map_or (same_rule (rule_name side.lists (ref_of side.direction one policy place))) found false) (mark_rule side one m there)
     ∙ sym (met_named side lawful rules are policy place one (place_in one m) valid)
 
-module _ {S Spot : Type 0} (has : S → Spot → Bool) (in_space : Spot → Bool) (side : PodSide) (looks_at : PodSide → Spot → Contact) (layer : Layer S) (lawful : IsLawful side.lists) (is : IsLayer has in_space (looks_at side) side.lists side.direction (near_pod side) layer) (rules : LayerRules) (are : AreRulesOf side rules) where
-  stands_at : (spot : Spot) → in_space spot ≡ true → (one : Tier) (policy place : ℕ) → place < rule_count_at side.lists one side.direction policy → stands_in side.lists (ref_of side.direction one policy place) (side_decider side (looks_at side spot)) ≡ marks rules one policy place (mark_of (λ set. has set spot) layer)
+module _ {S Spot : Type 0} (has : S → Spot → Bool) (in_space : Spot → Bool) (side : PodSide) (looks_at : PodSide → Spot → Contact) (layer : Layer S) (lawful : IsLawful side.lists)
+    (is : IsLayer has in_space (looks_at side) side.lists side.direction (near_pod side) layer) (rules : LayerRules) (are : AreRulesOf side rules) where
+  stands_at : (spot : Spot) → in_space spot ≡ true → (one : Tier) (policy place : ℕ) → place < rule_count_at side.lists one side.direction policy →
+      stands_in side.lists (ref_of side.direction one policy place) (side_decider side (looks_at side spot)) ≡ marks rules one policy place (mark_of (λ set. has set spot) layer)
   stands_at spot inside one policy place valid =
       let named = mark_named has in_space side (looks_at side) layer lawful is spot inside in
       ap (stands_in side.lists (ref_of side.direction one policy place)) (sym named.0) ∙ stands_marked side lawful rules are (mark_of (λ set. has set spot) layer) named.1 one policy place valid
 
   -- what the marks of a layer name is used
-  pub layer_sound : (old new : UsedRules) → AllAreUsed in_space side looks_at → IsSound side.lists side.direction old → ((one : Tier) (policy place : ℕ) → is_known new one policy place ≡ true → (is_known old one policy place ≡ true) ⊎ ((spot : Spot) × (in_space spot ≡ true) × (marks rules one policy place (mark_of (λ set. has set spot) layer) ≡ true))) → IsSound side.lists side.direction new
+  pub layer_sound : (old new : UsedRules) → AllAreUsed in_space side looks_at → IsSound side.lists side.direction old →
+      ((one : Tier) (policy place : ℕ) → is_known new one policy place ≡ true → (is_known old one policy place ≡ true) ⊎
+      ((spot : Spot) × (in_space spot ≡ true) × (marks rules one policy place (mark_of (λ set. has set spot) layer) ≡ true))) →
+      IsSound side.lists side.direction new
   unfolding IsSound AreUsed
   layer_sound old new listed sound only one policy place valid known =
       elim (only one policy place known) [
@@ -50,7 +56,9 @@ module _ {S Spot : Type 0} (has : S → Spot → Bool) (in_space : Spot → Bool
       ]
 
   -- whatever stands in what decides is found
-  pub layer_finds : (new : UsedRules) → ((one : Tier) (policy place : ℕ) (spot : Spot) → in_space spot ≡ true → marks rules one policy place (mark_of (λ set. has set spot) layer) ≡ true → is_known new one policy place ≡ true) → KnowsAll in_space side looks_at new
+  pub layer_finds : (new : UsedRules) →
+      ((one : Tier) (policy place : ℕ) (spot : Spot) → in_space spot ≡ true → marks rules one policy place (mark_of (λ set. has set spot) layer) ≡ true → is_known new one policy place ≡ true) →
+      KnowsAll in_space side looks_at new
   unfolding Knows
   layer_finds new finds spot inside one policy place valid stands = finds one policy place spot inside (sym (stands_at spot inside one policy place valid) ∙ stands)
 
@@ -76,14 +84,17 @@ module _ (side : PodSide) (lawful : IsLawful side.lists) where
   is_layer : IsLayer has_contact (λ _. true) (λ looks_at. looks_at) side.lists side.direction (near_pod side) tests
   unfolding tests has_contact
   is_layer = record {
-    admin = Pairwise-made (λ part placed. IsAdminPart has_contact (λ _. true) (λ looks_at. looks_at) part placed.rule) (λ placed. record { action = tier_action placed.rule.action; set = admin_rule_matches placed.rule }) (λ placed. record { action = refl; members = λ spot inside. refl }) (admin_rules side);
+    admin = Pairwise-made (λ part placed. IsAdminPart has_contact (λ _. true) (λ looks_at. looks_at) part placed.rule)
+        (λ placed. record { action = tier_action placed.rule.action; set = admin_rule_matches placed.rule }) (λ placed. record { action = refl; members = λ spot inside. refl }) (admin_rules side);
     isolated = refl;
     net = Pairwise-made (λ set placed. IsSetOf has_contact (λ _. true) (λ looks_at. looks_at) set (matches_of placed)) matches_of (λ placed spot inside. refl) (net_rules side);
-    base = Pairwise-made (λ part placed. IsBasePart has_contact (λ _. true) (λ looks_at. looks_at) part placed.rule) (λ placed. record { allow = is_allow placed.rule.action; set = admin_rule_matches placed.rule }) (λ placed. record { allow = refl; members = λ spot inside. refl }) (base_rules side);
+    base = Pairwise-made (λ part placed. IsBasePart has_contact (λ _. true) (λ looks_at. looks_at) part placed.rule)
+        (λ placed. record { allow = is_allow placed.rule.action; set = admin_rule_matches placed.rule }) (λ placed. record { allow = refl; members = λ spot inside. refl }) (base_rules side);
   }
 
   -- where all rules of the side are known, so is whatever stands in what decides
-  pub knows_side : (rules : LayerRules) → AreRulesOf side rules → (used : UsedRules) → all_known used rules ≡ true → (looks_at : Contact) → Knows side.lists side.direction used (side_decider side looks_at)
+  pub knows_side : (rules : LayerRules) → AreRulesOf side rules → (used : UsedRules) → all_known used rules ≡ true → (looks_at : Contact) →
+      Knows side.lists side.direction used (side_decider side looks_at)
   unfolding Knows all_known is_known marks
   knows_side rules are used all looks_at one policy place valid stands =
       flagged one (sym (stands_at has_contact (λ _. true) side (λ _ contact. contact) tests lawful is_layer rules are looks_at refl one policy place valid) ∙ stands)
@@ -94,7 +105,9 @@ module _ (side : PodSide) (lawful : IsLawful side.lists) where
       flagged tier.Base met = met_flagged (flag_at used.base) rules.base _ policy place (and_parts _ _ all).1 met
 
   -- where the admin rules of the side are known, so is the one that stands in what decides
-  pub knows_admin : (rules : LayerRules) → AreRulesOf side rules → (used : UsedRules) → are_known used.admin rules.admin ≡ true → (looks_at : Contact) (policy place : ℕ) → place < rule_count_at side.lists tier.Admin side.direction policy → stands_in side.lists (ref_of side.direction tier.Admin policy place) (side_decider side looks_at) ≡ true → is_known used tier.Admin policy place ≡ true
+  pub knows_admin : (rules : LayerRules) → AreRulesOf side rules → (used : UsedRules) → are_known used.admin rules.admin ≡ true → (looks_at : Contact) (policy place : ℕ) →
+      place < rule_count_at side.lists tier.Admin side.direction policy → stands_in side.lists (ref_of side.direction tier.Admin policy place) (side_decider side looks_at) ≡ true →
+      is_known used tier.Admin policy place ≡ true
   unfolding is_known marks
   knows_admin rules are used all looks_at policy place valid stands =
       met_flagged (flag_at used.admin) rules.admin (place_in tier.Admin (mark_of (λ set. has_contact set looks_at) tests)) policy place all

@@ -13,7 +13,8 @@ first_stays {X} test keep (x ∷ xs) stays = go (test x) refl (keep x) refl (fir
     choice : Bool → Option X
     choice b = if b then Some x else find test xs
 
-    go : (b : Bool) → test x ≡ b → (c : Bool) → keep x ≡ c → (((y : X) → find test xs ≡ Some y → keep y ≡ true) → find test (filter keep xs) ≡ find test xs) → find test (if c then x ∷ filter keep xs else filter keep xs) ≡ choice b
+    go : (b : Bool) → test x ≡ b → (c : Bool) → keep x ≡ c → (((y : X) → find test xs ≡ Some y → keep y ≡ true) → find test (filter keep xs) ≡ find test xs) →
+        find test (if c then x ∷ filter keep xs else filter keep xs) ≡ choice b
     go true is true kept later = ap (λ (b : Bool). if b then Some x else find test (filter keep xs)) is
     go true is false gone later = absurd (false≢true (sym gone ∙ stays x (ap choice is)))
     go false is true kept later = ap (λ (b : Bool). if b then Some x else find test (filter keep xs)) is ∙ later (λ y found. stays y (ap choice is ∙ found))
@@ -23,7 +24,8 @@ pub find_map : {X Y : Type 0} (f : X → Y) (test : Y → Bool) (xs : List X) �
 find_map f test [] = refl
 find_map {X} {Y} f test (x ∷ xs) = go (test (f x)) (find_map f test xs)
   where
-    go : (b : Bool) → find test (map f xs) ≡ option_map f (find (λ y. test (f y)) xs) → (if b then Some (f x) else find test (map f xs)) ≡ option_map f (if b then Some x else find (λ y. test (f y)) xs)
+    go : (b : Bool) → find test (map f xs) ≡ option_map f (find (λ y. test (f y)) xs) →
+        (if b then Some (f x) else find test (map f xs)) ≡ option_map f (if b then Some x else find (λ y. test (f y)) xs)
     go true rest = refl
     go false rest = rest
 
@@ -31,7 +33,8 @@ pub filter_map : {X Y : Type 0} (f : X → Y) (test : Y → Bool) (xs : List X) 
 filter_map f test [] = refl
 filter_map {X} {Y} f test (x ∷ xs) = go (test (f x)) (filter_map f test xs)
   where
-    go : (b : Bool) → filter test (map f xs) ≡ map f (filter (λ y. test (f y)) xs) → (if b then f x ∷ filter test (map f xs) else filter test (map f xs)) ≡ map f (if b then x ∷ filter (λ y. test (f y)) xs else filter (λ y. test (f y)) xs)
+    go : (b : Bool) → filter test (map f xs) ≡ map f (filter (λ y. test (f y)) xs) →
+        (if b then f x ∷ filter test (map f xs) else filter test (map f xs)) ≡ map f (if b then x ∷ filter (λ y. test (f y)) xs else filter (λ y. test (f y)) xs)
     go true rest = ap (λ (ys : List Y). f x ∷ ys) rest
     go false rest = rest
 

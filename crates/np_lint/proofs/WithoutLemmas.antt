@@ -1,5 +1,6 @@
 -- The rules of a side, where some are taken out of the estate.
-use Rattle.std.proofs.Common.{◌≡◌, ℕ, ◌+◌, ◌<◌, List, [], ◌∷◌, ◌++◌, Bool, true, false, ◌&&◌, ◌||◌, not, map, filter, is_some, length, Option, Some, None, All, refl, sym, ap, ◌∙◌, arith, unwrap_or, if◌then◌else◌}
+use Rattle.std.proofs.Common.{◌≡◌, ℕ, ◌+◌, ◌<◌, List, [], ◌∷◌, ◌++◌, Bool, true, false, ◌&&◌, ◌||◌, not, map, filter, is_some, length, Option, Some, None, All, refl, sym, ap, ◌∙◌, arith, unwrap_or}
+use Rattle.std.proofs.Common.{if◌then◌else◌}
 use Rattle.std.specs.List.{enumerate_from, flat_map, slice_get}
 use Rattle.std.specs.Option.{option_map, option_map_or}
 use Rattle.std.proofs.lemmas.List.{map-append}
@@ -18,10 +19,10 @@ use Rattle.np_model.specs.declared.direction.Direction.TheVariants.{Ingress, Egr
 use Rattle.np_model.specs.declared.network_policy.NetPolicy.{NetPolicy}
 use Rattle.np_model.specs.declared.network_policy.NetRule.{NetRule}
 use Rattle.np_rules.proofs.PlacesLemmas.{map-numbered}
-use Rattle.np_rules.specs.Ends.{PodEnd}
-use Rattle.np_rules.specs.NetTier.{is_isolated, isolates}
-use Rattle.np_rules.specs.Places.{PlacedAdminRule, PlacedBaseRule, PlacedNetRule, admin_places, admin_places_of, admin_rules_of, base_places, base_rules_of, net_places, net_places_of, net_rules_of}
-use Rattle.np_rules.specs.Selection.{net_selects, subject_selects}
+use Rattle.np_rules.specs.model.Ends.{PodEnd}
+use Rattle.np_rules.specs.model.NetTier.{is_isolated, isolates}
+use Rattle.np_rules.specs.model.Places.{PlacedAdminRule, PlacedBaseRule, PlacedNetRule, admin_places, admin_places_of, admin_rules_of, base_places, base_rules_of, net_places, net_places_of, net_rules_of}
+use Rattle.np_rules.specs.model.Selection.{net_selects, subject_selects}
 
 -- ---- any kind of placed rules
 
@@ -34,19 +35,27 @@ unpaired n [] = refl
 unpaired {Y} n (y ∷ ys) = ap (λ (zs : List Y). y ∷ zs) (unpaired n ys)
 
 -- the rules of one policy that stay: their numbers are not among those that go
-stay_in_one : {X Y Z : Type 0} (make : ℕ × X → Y) (seen : Y → Z) (see : X → Z) (number : ℕ) (keep : ℕ × Y → Bool) (gone : ℕ → Bool) → ((e : ℕ × X) → seen (make e) ≡ see e.1) → ((e : ℕ × X) → keep (number, make e) ≡ not (gone e.0)) → (items : List X) → map see (without_places gone items) ≡ map (λ x. seen x.1) (filter keep (map (beside number) (map make (enumerate_from 0 items))))
+stay_in_one : {X Y Z : Type 0} (make : ℕ × X → Y) (seen : Y → Z) (see : X → Z) (number : ℕ) (keep : ℕ × Y → Bool) (gone : ℕ → Bool) → ((e : ℕ × X) → seen (make e) ≡ see e.1) →
+    ((e : ℕ × X) → keep (number, make e) ≡ not (gone e.0)) → (items : List X) →
+    map see (without_places gone items) ≡ map (λ x. seen x.1) (filter keep (map (beside number) (map make (enumerate_from 0 items))))
 stay_in_one {X} {Y} {Z} make seen see number keep gone sees keeps items = go 0 items
   where
-    go : (n : ℕ) (xs : List X) → map see (map (λ e. e.1) (filter (λ e. not (gone e.0)) (enumerate_from n xs))) ≡ map (λ x. seen x.1) (filter keep (map (beside number) (map make (enumerate_from n xs))))
+    go : (n : ℕ) (xs : List X) →
+        map see (map (λ e. e.1) (filter (λ e. not (gone e.0)) (enumerate_from n xs))) ≡ map (λ x. seen x.1) (filter keep (map (beside number) (map make (enumerate_from n xs))))
     go n [] = refl
     go n (x ∷ xs) = rw (keeps (n, x)) (by (not (gone n)) (go (n + 1) xs))
       where
-        by : (b : Bool) → map see (map (λ e. e.1) (filter (λ e. not (gone e.0)) (enumerate_from (n + 1) xs))) ≡ map (λ y. seen y.1) (filter keep (map (beside number) (map make (enumerate_from (n + 1) xs)))) → map see (map (λ e. e.1) (if b then (n, x) ∷ filter (λ e. not (gone e.0)) (enumerate_from (n + 1) xs) else filter (λ e. not (gone e.0)) (enumerate_from (n + 1) xs))) ≡ map (λ y. seen y.1) (if b then (number, make (n, x)) ∷ filter keep (map (beside number) (map make (enumerate_from (n + 1) xs))) else filter keep (map (beside number) (map make (enumerate_from (n + 1) xs))))
+        by : (b : Bool) →
+            map see (map (λ e. e.1) (filter (λ e. not (gone e.0)) (enumerate_from (n + 1) xs))) ≡ map (λ y. seen y.1) (filter keep (map (beside number) (map make (enumerate_from (n + 1) xs)))) →
+            map see (map (λ e. e.1) (if b then (n, x) ∷ filter (λ e. not (gone e.0)) (enumerate_from (n + 1) xs) else filter (λ e. not (gone e.0)) (enumerate_from (n + 1) xs))) ≡ map (λ y. seen y.1)
+            (if b then (number, make (n, x)) ∷ filter keep (map (beside number) (map make (enumerate_from (n + 1) xs))) else filter keep
+            (map (beside number) (map make (enumerate_from (n + 1) xs))))
         by true rest = ap (λ (zs : List Z). see x ∷ zs) rest ∙ ap (λ (z : Z). z ∷ map (λ y. seen y.1) (filter keep (map (beside number) (map make (enumerate_from (n + 1) xs))))) (sym (sees (n, x)))
         by false rest = rest
 
 -- what holds of each numbered item holds of all of them
-numbered_in : {X Y : Type 0} (P : ℕ × Y → Type 0) (number : ℕ) (make : ℕ × X → Y) (items : List X) → ((e : ℕ × X) → e.0 < length items → P (number, make e)) → All P (map (beside number) (map make (enumerate_from 0 items)))
+numbered_in : {X Y : Type 0} (P : ℕ × Y → Type 0) (number : ℕ) (make : ℕ × X → Y) (items : List X) → ((e : ℕ × X) → e.0 < length items → P (number, make e)) →
+    All P (map (beside number) (map make (enumerate_from 0 items)))
 numbered_in {X} {Y} P number make items each = go 0 items (λ e below. each e (omega arith))
   where
     go : (n : ℕ) (xs : List X) → ((e : ℕ × X) → e.0 < n + length xs → P (number, make e)) → All P (map (beside number) (map make (enumerate_from n xs)))
@@ -91,16 +100,21 @@ module _ (rules : List RuleRef) (direction : Direction) (p : PodEnd) where
   same_rule_of [] = refl
   same_rule_of {X} (x ∷ xs) = ap (λ (ys : List X). x ∷ ys) (same_rule_of xs)
 
-  pub admin_left : (n : ℕ) (policies : List AdminPolicy) → map (λ placed. placed.rule) (admin_places (map (admin_without rules) (enumerate_from n policies)) direction p) ≡ map (λ x. x.1.rule) (filter admin_stays (admin_from n policies))
+  pub admin_left : (n : ℕ) (policies : List AdminPolicy) →
+      map (λ placed. placed.rule) (admin_places (map (admin_without rules) (enumerate_from n policies)) direction p) ≡ map (λ x. x.1.rule) (filter admin_stays (admin_from n policies))
   admin_left n [] = refl
   admin_left n (policy ∷ policies) =
-      map-append (λ placed. placed.rule) (if subject_selects policy.subject p then admin_places_of direction (admin_without rules (n, policy)) else []) (admin_places (map (admin_without rules) (enumerate_from (n + 1) policies)) direction p)
-      ∙ ap (λ (ys : List AdminRule). ys ++ map (λ placed. placed.rule) (admin_places (map (admin_without rules) (enumerate_from (n + 1) policies)) direction p)) (one (subject_selects policy.subject p))
+      map-append (λ placed. placed.rule) (if subject_selects policy.subject p then admin_places_of direction (admin_without rules (n, policy)) else [])
+      (admin_places (map (admin_without rules) (enumerate_from (n + 1) policies)) direction p)
+      ∙ ap (λ (ys : List AdminRule). ys ++ map (λ placed. placed.rule) (admin_places (map (admin_without rules) (enumerate_from (n + 1) policies)) direction p))
+      (one (subject_selects policy.subject p))
       ∙ ap (λ (ys : List AdminRule). map (λ x. x.1.rule) (filter admin_stays (admin_by (n, policy))) ++ ys) (admin_left (n + 1) policies)
       ∙ sym (map-append (λ x. x.1.rule) (filter admin_stays (admin_by (n, policy))) (filter admin_stays (admin_from (n + 1) policies)))
       ∙ ap (map (λ x. x.1.rule)) (sym (filter-append admin_stays (admin_by (n, policy)) (admin_from (n + 1) policies)))
     where
-      one : (b : Bool) → map (λ placed. placed.rule) (if b then admin_places_of direction (admin_without rules (n, policy)) else []) ≡ map (λ x. x.1.rule) (filter admin_stays (if b then map (beside n) (admin_places_of direction policy) else []))
+      one : (b : Bool) →
+          map (λ placed. placed.rule) (if b then admin_places_of direction (admin_without rules (n, policy)) else []) ≡ map (λ x. x.1.rule)
+          (filter admin_stays (if b then map (beside n) (admin_places_of direction policy) else []))
       one true =
           map-numbered (admin_place_at (admin_without rules (n, policy))) (λ placed. placed.rule) (λ e. refl) 0 (admin_rules_of direction (admin_without rules (n, policy)))
           ∙ admin_rules_left n policy
@@ -123,10 +137,12 @@ module _ (rules : List RuleRef) (direction : Direction) (p : PodEnd) where
   pub admin_are : (all : List AdminPolicy) (n : ℕ) (policies : List AdminPolicy) → StandsFrom all n policies → All (IsAdminAt all) (admin_from n policies)
   admin_are all n [] stands = All-nil (IsAdminAt all)
   admin_are all n (policy ∷ policies) stands =
-      All-append (IsAdminAt all) (admin_by (n, policy)) (admin_from (n + 1) policies) (one (subject_selects policy.subject p)) (admin_are all (n + 1) policies (stands_rest all n policy policies stands))
+      All-append (IsAdminAt all) (admin_by (n, policy)) (admin_from (n + 1) policies) (one (subject_selects policy.subject p))
+      (admin_are all (n + 1) policies (stands_rest all n policy policies stands))
     where
       one : (b : Bool) → All (IsAdminAt all) (if b then map (beside n) (admin_places_of direction policy) else [])
-      one true = numbered_in (IsAdminAt all) n (λ e. record { policy = policy; place = e.0; rule = e.1 }) (admin_rules_of direction policy) (λ e below. (stands_first all n policy policies stands, below))
+      one true = numbered_in (IsAdminAt all) n (λ e. record { policy = policy; place = e.0; rule = e.1 }) (admin_rules_of direction policy)
+          (λ e below. (stands_first all n policy policies stands, below))
       one false = All-nil (IsAdminAt all)
 
 -- ---- NetworkPolicies
@@ -177,16 +193,20 @@ module _ (rules : List RuleRef) (direction : Direction) (p : PodEnd) where
       by Ingress = refl
       by Egress = refl
 
-  pub net_left : (n : ℕ) (policies : List NetPolicy) → map spaced (net_places (map (net_without rules) (enumerate_from n policies)) direction p) ≡ map (λ x. spaced x.1) (filter net_stays (net_from n policies))
+  pub net_left : (n : ℕ) (policies : List NetPolicy) →
+      map spaced (net_places (map (net_without rules) (enumerate_from n policies)) direction p) ≡ map (λ x. spaced x.1) (filter net_stays (net_from n policies))
   net_left n [] = refl
   net_left n (policy ∷ policies) =
-      map-append spaced (if net_selects policy p then net_places_of direction (net_without rules (n, policy)) else []) (net_places (map (net_without rules) (enumerate_from (n + 1) policies)) direction p)
+      map-append spaced (if net_selects policy p then net_places_of direction (net_without rules (n, policy)) else [])
+      (net_places (map (net_without rules) (enumerate_from (n + 1) policies)) direction p)
       ∙ ap (λ (ys : List (List ℕ × NetRule)). ys ++ map spaced (net_places (map (net_without rules) (enumerate_from (n + 1) policies)) direction p)) (one (net_selects policy p))
       ∙ ap (λ (ys : List (List ℕ × NetRule)). map (λ x. spaced x.1) (filter net_stays (net_by (n, policy))) ++ ys) (net_left (n + 1) policies)
       ∙ sym (map-append (λ x. spaced x.1) (filter net_stays (net_by (n, policy))) (filter net_stays (net_from (n + 1) policies)))
       ∙ ap (map (λ x. spaced x.1)) (sym (filter-append net_stays (net_by (n, policy)) (net_from (n + 1) policies)))
     where
-      one : (b : Bool) → map spaced (if b then net_places_of direction (net_without rules (n, policy)) else []) ≡ map (λ x. spaced x.1) (filter net_stays (if b then map (beside n) (net_places_of direction policy) else []))
+      one : (b : Bool) →
+          map spaced (if b then net_places_of direction (net_without rules (n, policy)) else []) ≡ map (λ x. spaced x.1)
+          (filter net_stays (if b then map (beside n) (net_places_of direction policy) else []))
       one true =
           spaced_numbered (net_without rules (n, policy)) 0 (unwrap_or (net_rules_of direction (net_without rules (n, policy))) [])
           ∙ ap (λ (found : Option (List NetRule)). map (in_space policy.namespace) (unwrap_or found [])) (net_rules_left n policy)
@@ -203,7 +223,8 @@ module _ (rules : List RuleRef) (direction : Direction) (p : PodEnd) where
       All-append (IsNetAt all) (net_by (n, policy)) (net_from (n + 1) policies) (one (net_selects policy p)) (net_are all (n + 1) policies (stands_rest all n policy policies stands))
     where
       one : (b : Bool) → All (IsNetAt all) (if b then map (beside n) (net_places_of direction policy) else [])
-      one true = numbered_in (IsNetAt all) n (λ e. record { policy = policy; place = e.0; rule = e.1 }) (unwrap_or (net_rules_of direction policy) []) (λ e below. (stands_first all n policy policies stands, below))
+      one true = numbered_in (IsNetAt all) n (λ e. record { policy = policy; place = e.0; rule = e.1 }) (unwrap_or (net_rules_of direction policy) [])
+          (λ e below. (stands_first all n policy policies stands, below))
       one false = All-nil (IsNetAt all)
 
   -- the isolation stays
@@ -212,7 +233,8 @@ module _ (rules : List RuleRef) (direction : Direction) (p : PodEnd) where
   some_left f (Some x) = refl
 
   isolates_left : (n : ℕ) (policy : NetPolicy) → isolates direction p (net_without rules (n, policy)) ≡ isolates direction p policy
-  isolates_left n policy = ap (λ (found : Option (List NetRule)). net_selects policy p && is_some found) (net_rules_left n policy) ∙ ap (λ (b : Bool). net_selects policy p && b) (some_left (without_places (goes rules Net n direction)) (net_rules_of direction policy))
+  isolates_left n policy = ap (λ (found : Option (List NetRule)). net_selects policy p && is_some found) (net_rules_left n policy) ∙ ap (λ (b : Bool). net_selects policy p && b)
+      (some_left (without_places (goes rules Net n direction)) (net_rules_of direction policy))
 
   pub isolated_left : (n : ℕ) (policies : List NetPolicy) → is_isolated (map (net_without rules) (enumerate_from n policies)) direction p ≡ is_isolated policies direction p
   isolated_left n [] = refl
@@ -246,11 +268,14 @@ module _ (rules : List RuleRef) (direction : Direction) (p : PodEnd) where
   base_same [] = refl
   base_same {X} (x ∷ xs) = ap (λ (ys : List X). x ∷ ys) (base_same xs)
 
-  pub base_left : (baseline : Option BasePolicy) → map (λ placed. placed.rule) (base_places (option_map (base_without rules) baseline) direction p) ≡ map (λ x. x.1.rule) (filter base_stays (base_from baseline))
+  pub base_left : (baseline : Option BasePolicy) →
+      map (λ placed. placed.rule) (base_places (option_map (base_without rules) baseline) direction p) ≡ map (λ x. x.1.rule) (filter base_stays (base_from baseline))
   base_left None = refl
   base_left (Some policy) = one (subject_selects policy.subject p)
     where
-      one : (b : Bool) → map (λ (placed : PlacedBaseRule). placed.rule) (if b then map base_place_at (enumerate_from 0 (base_rules_of direction (base_without rules policy))) else []) ≡ map (λ (x : ℕ × PlacedBaseRule). x.1.rule) (filter base_stays (map (beside 0) (if b then map base_place_at (enumerate_from 0 (base_rules_of direction policy)) else [])))
+      one : (b : Bool) →
+          map (λ (placed : PlacedBaseRule). placed.rule) (if b then map base_place_at (enumerate_from 0 (base_rules_of direction (base_without rules policy))) else []) ≡ map
+          (λ (x : ℕ × PlacedBaseRule). x.1.rule) (filter base_stays (map (beside 0) (if b then map base_place_at (enumerate_from 0 (base_rules_of direction policy)) else [])))
       one true =
           map-numbered base_place_at (λ placed. placed.rule) (λ e. refl) 0 (base_rules_of direction (base_without rules policy))
           ∙ base_rules_left policy

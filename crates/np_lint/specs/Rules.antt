@@ -13,7 +13,7 @@ use Rattle.np_model.specs.declared.direction.Direction.{Direction}
 use Rattle.np_model.specs.declared.direction.Direction.TheVariants.{Ingress, Egress}
 use Rattle.np_model.specs.declared.network_policy.NetPolicy.{NetPolicy}
 use Rattle.np_rules.specs.Deciders.{net_policy_name}
-use Rattle.np_rules.specs.Places.{admin_rules_of, base_rules_of, net_rules_of}
+use Rattle.np_rules.specs.model.Places.{admin_rules_of, base_rules_of, net_rules_of}
 use Rattle.np_rules.specs.declared.decider.RuleName.{RuleName}
 
 -- ---- how many

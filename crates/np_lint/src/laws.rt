@@ -11,7 +11,7 @@ ghost use Rattle.np_lint.specs.Rules.{IsRuleOf};
 ghost use Rattle.np_lint.specs.Used.{IsListedPacket, StandsIn, unused_of};
 ghost use Rattle.np_lint.specs.Without.{without};
 ghost use Rattle.np_lint.specs.declared.rule_ref.RuleRef.{RuleRef};
-ghost use Rattle.np_rules.specs.Verdict.{allows};
+ghost use Rattle.np_rules.specs.model.Verdict.{allows};
 ghost use Rattle.np_rules.specs.declared.packet.End.{End};
 
 /// A rule is among the unused ones exactly where it is a rule of the estate and stands in what decides no packet between

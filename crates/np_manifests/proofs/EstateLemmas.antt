@@ -7,7 +7,8 @@ use Rattle.np_chains.proofs.Walks.{chain_none}
 use Rattle.np_chains.specs.Chains.{owns_itself, places, up}
 use Rattle.np_reading.specs.Ends.{pods_from, pods_of}
 use Rattle.np_reading.specs.LeftOut.{count_left_out, is_for, is_left_out, left_out}
-use Rattle.np_reading.specs.Listed.{admin_policies_of, admin_policy, base_policy, baseline_of, first_equal, first_of, ingresses_from, ingresses_of, net_policies_of, net_policy, ranks_of, service, services_of, with_admin, with_rank}
+use Rattle.np_reading.specs.Listed.{admin_policies_of, admin_policy, base_policy, baseline_of, first_equal, first_of, ingresses_from, ingresses_of, net_policies_of, net_policy, ranks_of, service}
+use Rattle.np_reading.specs.Listed.{services_of, with_admin, with_rank}
 use Rattle.np_reading.specs.Reading.{estate_of, lists_of, notes_of}
 use Rattle.np_model.specs.declared.notes.Notes.{Notes}
 use Rattle.np_reading.proofs.OnceLemmas.{net_policies-once}
@@ -78,20 +79,23 @@ no-ranks policies = ap (λ found. first_equal (map (λ entry. entry.0) (fold wit
 no-baseline : (policies : List NetPolicy) → baseline_of (net_items policies) ≡ None
 no-baseline policies = ap first_of (nothing-given base_policy (λ one. refl) policies)
 
-same-notes : (a b c d : ℕ) → a ≡ 0 → b ≡ 0 → c ≡ 0 → d ≡ 0 → let made : Notes = record { host = a; finished = b; skipped = c; unaddressed = d } in made ≡ record { host = 0; finished = 0; skipped = 0; unaddressed = 0 }
+same-notes : (a b c d : ℕ) → a ≡ 0 → b ≡ 0 → c ≡ 0 → d ≡ 0 → let made : Notes = record { host = a; finished = b; skipped = c; unaddressed = d } in made
+    ≡ record { host = 0; finished = 0; skipped = 0; unaddressed = 0 }
 same-notes a b c d first second third fourth = rw (first, second, third, fourth) refl
 
 no-notes : (policies : List NetPolicy) → notes_of (net_items policies) ≡ record { host = 0; finished = 0; skipped = 0; unaddressed = 0 }
 no-notes policies =
     same-notes _ _ _ _ (search none-left_out) (search none-left_out) (search none-left_out) (rw (no-admins policies, no-baseline policies) refl)
 
-same-lists : (items : List Item) (notes : Notes) → notes_of items ≡ notes → pods_of items ≡ [] → admin_policies_of items ≡ [] → baseline_of items ≡ None → services_of items ≡ [] → ingresses_of items ≡ []
+same-lists : (items : List Item) (notes : Notes) → notes_of items ≡ notes → pods_of items ≡ [] → admin_policies_of items ≡ [] → baseline_of items ≡ None → services_of items ≡ [] →
+    ingresses_of items ≡ []
     → lists_of items ≡ record { pods = []; net_policies = net_policies_of items; admin_policies = []; baseline = None; services = []; ingresses = []; notes = notes }
 same-lists items notes counted pods admins baseline services ingresses = rw (counted, pods, admins, baseline, services, ingresses) refl
 
 lists-are : (policies : List NetPolicy) → lists_of (net_items policies) ≡ estate_with policies
 lists-are policies =
-    same-lists (net_items policies) _ (no-notes policies) (no-pods (net_items policies) 0 policies) (no-admins policies) (no-baseline policies) (nothing-given service (λ one. refl) policies) (no-ingresses 1 policies)
+    same-lists (net_items policies) _ (no-notes policies) (no-pods (net_items policies) 0 policies) (no-admins policies) (no-baseline policies) (nothing-given service (λ one. refl) policies)
+    (no-ingresses 1 policies)
 
 nets-given : (policies : List NetPolicy) → filter_map net_policy (net_items policies) ≡ policies
 nets-given [] = refl
@@ -102,10 +106,12 @@ pub policies-once : (policies : List NetPolicy) → AllPairs AreApart policies �
 policies-once policies apart =
     subst (λ (nets : List NetPolicy). IsPermutation nets (net_policies_of (net_items policies))) (nets-given policies) (net_policies-once (net_items policies) (first_repeat-none policies apart))
 
-estate-read : (texts : List (List ℕ)) (items : List Item) → items_of texts ≡ Ok items → first_repeat items ≡ None → first_equal (ranks_of items) ≡ None → first_in_cycle items ≡ None → estate_of texts ≡ Ok (lists_of items)
+estate-read : (texts : List (List ℕ)) (items : List Item) → items_of texts ≡ Ok items → first_repeat items ≡ None → first_equal (ranks_of items) ≡ None → first_in_cycle items ≡ None →
+    estate_of texts ≡ Ok (lists_of items)
 unfolding estate_of
 estate-read texts items read apart priorities cycles = rw (read, apart, priorities, cycles) refl
 
-pub estate_of-list : (text : List ℕ) (policies : List NetPolicy) → json_of text ≡ Some (list_data policies) → list_all is_printable policies ≡ true → AllPairs AreApart policies → length policies ≤ 20000 → estate_of (text ∷ []) ≡ Ok (estate_with policies)
+pub estate_of-list : (text : List ℕ) (policies : List NetPolicy) → json_of text ≡ Some (list_data policies) → list_all is_printable policies ≡ true → AllPairs AreApart policies →
+    length policies ≤ 20000 → estate_of (text ∷ []) ≡ Ok (estate_with policies)
 estate_of-list text policies parsed all apart few =
     estate-read (text ∷ []) (net_items policies) (items_of-list text policies parsed all few) (first_repeat-none policies apart) (no-ranks policies) (no-cycle policies) ∙ ap Ok (lists-are policies)

@@ -1,5 +1,6 @@
 -- Flat policies are as the API has them, and no two have one name.
-use Rattle.std.proofs.Common.{◌≡◌, ◌≢◌, ℕ, zero, suc, ◌+◌, ◌^◌, ◌<◌, ◌≤◌, List, [], ◌∷◌, ◌++◌, Bool, true, false, not, ◌&&◌, ◌==◌, flat_map, length, map, Option, Some, None, Ok, codes, decimal, option_map, refl, sym, ap, subst, ◌∙◌, arith, le-leb, ne_eqb}
+use Rattle.std.proofs.Common.{◌≡◌, ◌≢◌, ℕ, zero, suc, ◌+◌, ◌^◌, ◌<◌, ◌≤◌, List, [], ◌∷◌, ◌++◌, Bool, true, false, not, ◌&&◌, ◌==◌, flat_map, length, map, Option, Some, None, Ok, codes, decimal}
+use Rattle.std.proofs.Common.{option_map, refl, sym, ap, subst, ◌∙◌, arith, le-leb, ne_eqb}
 use Rattle.std.proofs.lemmas.Bool.{and_from, and_parts, cond_both, lt-leb}
 use Rattle.std.proofs.lemmas.Fmt.{decimal_injective, decimal_is_IsNumeral}
 use Rattle.std.proofs.lemmas.List.{length-map}
@@ -45,12 +46,13 @@ use Rattle.np_model.specs.declared.direction.Direction.TheVariants.{Ingress, Egr
 use Rattle.np_model.specs.declared.network_policy.NetPeer.{NetPeer}
 use Rattle.np_model.specs.declared.network_policy.NetPeer.TheVariants.{Block}
 use Rattle.np_model.specs.declared.network_policy.NetRule.{NetRule}
-use Rattle.np_rules.specs.Verdict.{pod_or_none}
+use Rattle.np_rules.specs.model.Verdict.{pod_or_none}
 use Rattle.np_synth.proofs.AddressVerdicts.{IsWellSpan, rows-well}
 use Rattle.np_synth.proofs.KindGroups.{in_count}
 use Rattle.np_synth.proofs.ReceiverFacts.{group-first-in, groups-le}
 use Rattle.np_synth.specs.Faults.{family_of_list, set_in, set_of}
-use Rattle.np_synth.specs.Flat.{blocks_of_span, flat_name, flat_policies, flat_policy, group_namespace, group_peer, group_rows, group_selector, ingress_rules, ranges_of_span, receiver_in, rule_if, rules_from_group, rules_from_groups, rules_of_addresses, rules_of_set, set_from}
+use Rattle.np_synth.specs.Flat.{blocks_of_span, flat_name, flat_policies, flat_policy, group_namespace, group_peer, group_rows, group_selector, ingress_rules, ranges_of_span, receiver_in, rule_if}
+use Rattle.np_synth.specs.Flat.{rules_from_group, rules_from_groups, rules_of_addresses, rules_of_set, set_from}
 use Rattle.np_synth.specs.Groups.{first_of_group, group_count, group_firsts, relevant}
 use Rattle.np_synth.specs.Ports.{ports_of, span_of, spans_of_all}
 use Rattle.np_synth.specs.Selecting.{namespace_named, requirement_at, requirement_of_key}
@@ -107,14 +109,16 @@ value-word (pair ∷ own) key value well found =
     by true same here rest = let one : Some pair.value ≡ Some value = rw same at found in ap is_word (sym (same_Some pair.value value one)) ∙ here
     by false other here rest = rest (rw other at found)
 
-requirement-well : (own : List Pair) (key : List ℕ) → is_key key ≡ true → is_well_labels own ≡ true → (labels.is_well_requirement (requirement_of_key own key) ≡ true) × (is_worded (requirement_of_key own key) ≡ true)
+requirement-well : (own : List Pair) (key : List ℕ) → is_key key ≡ true → is_well_labels own ≡ true →
+    (labels.is_well_requirement (requirement_of_key own key) ≡ true) × (is_worded (requirement_of_key own key) ≡ true)
 requirement-well own key is well = by (value_of own key) refl
   where
     by : (o : Option (List ℕ)) → value_of own key ≡ o → (labels.is_well_requirement (requirement_at key o) ≡ true) × (is_worded (requirement_at key o) ≡ true)
     by None found = (refl, and_from (is_key key) true is refl)
     by (Some value) found = (refl, and_from (is_key key) (is_word value && true) is (and_from (is_word value) true (value-word own key value well found) refl))
 
-requirements-well : (own : List Pair) (keys : List (List ℕ)) → is_well_labels own ≡ true → list_all is_key keys ≡ true → (list_all labels.is_well_requirement (map (requirement_of_key own) keys) ≡ true) × (list_all is_worded (map (requirement_of_key own) keys) ≡ true)
+requirements-well : (own : List Pair) (keys : List (List ℕ)) → is_well_labels own ≡ true → list_all is_key keys ≡ true →
+    (list_all labels.is_well_requirement (map (requirement_of_key own) keys) ≡ true) × (list_all is_worded (map (requirement_of_key own) keys) ≡ true)
 requirements-well own [] well all = (refl, refl)
 requirements-well own (key ∷ keys) well all =
     let parts = and_parts (is_key key) (list_all is_key keys) all in
@@ -145,7 +149,8 @@ ports-printable conns are =
     let tcp = map (span_of Tcp) conns.tcp in
     let udp = map (span_of Udp) conns.udp in
     let sctp = map (span_of Sctp) conns.sctp in
-    let all = all-both is_printable_port (tcp ++ udp) sctp (all-both is_printable_port tcp udp (spans-printable Tcp conns.tcp are.tcp) (spans-printable Udp conns.udp are.udp)) (spans-printable Sctp conns.sctp are.sctp) in
+    let all = all-both is_printable_port (tcp ++ udp) sctp (all-both is_printable_port tcp udp (spans-printable Tcp conns.tcp are.tcp) (spans-printable Udp conns.udp are.udp))
+    (spans-printable Sctp conns.sctp are.sctp) in
     cond_both (is_whole conns.tcp && is_whole conns.udp && is_whole conns.sctp) [] (spans_of_all conns) (λ ports. list_all is_printable_port ports ≡ true) (λ yes. refl) (λ no. all)
 
 -- ---- rules
@@ -172,11 +177,13 @@ blocks-printable (block ∷ blocks) all =
     let parts = and_parts (is_printable_block block) (list_all is_printable_block blocks) all in
     rw (parts.0, blocks-printable blocks parts.1) refl
 
-rows-printable : (rows : List AddressRow) → AllByRecursion (λ row. IsWellSpan row.span) rows → AllByRecursion (λ row. AreRuns row.conns) rows → list_all is_printable_rule (rules_of_addresses rows) ≡ true
+rows-printable : (rows : List AddressRow) → AllByRecursion (λ row. IsWellSpan row.span) rows → AllByRecursion (λ row. AreRuns row.conns) rows →
+    list_all is_printable_rule (rules_of_addresses rows) ≡ true
 rows-printable [] wells runs = refl
 rows-printable (row ∷ rows) wells runs =
     let peers = blocks-printable (prefixes_of (ranges_of_span row.span)) (prefixes-printable (ranges_of_span row.span) (span-set row.span wells.0)) in
-    all-both is_printable_rule (rule_if (blocks_of_span row.span) row.conns) (rules_of_addresses rows) (rule-printable (blocks_of_span row.span) row.conns peers runs.0) (rows-printable rows wells.1 runs.1)
+    all-both is_printable_rule (rule_if (blocks_of_span row.span) row.conns) (rules_of_addresses rows) (rule-printable (blocks_of_span row.span) row.conns peers runs.0)
+    (rows-printable rows wells.1 runs.1)
 
 group_rows-printable : (lists : EstateLists) (group : ℕ) (direction : Direction) → list_all is_printable_rule (rules_of_addresses (group_rows lists group direction)) ≡ true
 unfolding address_rows
@@ -212,7 +219,8 @@ module _ (lists : EstateLists) (well : is_well lists ≡ true) where
 
   peer-printable : (group : ℕ) → group < group_count lists → is_printable_peer (group_peer lists group) ≡ true
   peer-printable group within =
-      and_from (is_well_selector (namespace_named (group_namespace lists group))) (is_well_selector (group_selector lists group)) (named-well (group_namespace lists group) (group-end group within).0) (selector-printable group within)
+      and_from (is_well_selector (namespace_named (group_namespace lists group))) (is_well_selector (group_selector lists group)) (named-well (group_namespace lists group) (group-end group within).0)
+      (selector-printable group within)
 
   from-printable : (group sender : ℕ) → sender < group_count lists → list_all is_printable_rule (rules_from_group lists group sender) ≡ true
   from-printable group sender within = by (set_from lists sender group) (set_from-runs lists sender group)
@@ -225,7 +233,8 @@ module _ (lists : EstateLists) (well : is_well lists ≡ true) where
   ingress-printable group =
       let passes : ℕ → Type 0 = λ sender. list_all is_printable_rule (rules_from_group lists group sender) ≡ true in
       let each = recursion_from_All passes (places (group_count lists)) (All-places passes (group_count lists) (from-printable group)) in
-      all-both is_printable_rule (rules_from_groups lists group) (rules_of_addresses (group_rows lists group Ingress)) (flat-printable (rules_from_group lists group) (places (group_count lists)) each) (group_rows-printable lists group Ingress)
+      all-both is_printable_rule (rules_from_groups lists group) (rules_of_addresses (group_rows lists group Ingress)) (flat-printable (rules_from_group lists group) (places (group_count lists)) each)
+      (group_rows-printable lists group Ingress)
 
 -- ---- names
 
@@ -303,7 +312,8 @@ policies-apart lists lawful = AllPairs-from_later AreApart (flat_policies lists)
 
 -- ---- reading
 
-pub estate_of-flat : (texts : List (List ℕ)) (lists : EstateLists) (text : List ℕ) → estate_of texts ≡ Ok lists → json_of text ≡ Some (list_data (flat_policies lists)) → estate_of (text ∷ []) ≡ Ok (estate_with (flat_policies lists))
+pub estate_of-flat : (texts : List (List ℕ)) (lists : EstateLists) (text : List ℕ) → estate_of texts ≡ Ok lists → json_of text ≡ Some (list_data (flat_policies lists)) →
+    estate_of (text ∷ []) ≡ Ok (estate_with (flat_policies lists))
 estate_of-flat texts lists text read parsed =
     let lawful = estate-lawful texts lists read in
     estate_of-list text (flat_policies lists) parsed (policies-printable lists lawful) (policies-apart lists lawful) (policies-few lists lawful)

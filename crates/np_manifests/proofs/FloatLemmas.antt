@@ -86,7 +86,8 @@ spec-none one =
     let egress = if_given (codes "egress") (option_map (manifests.rules Egress) one.egress) in
     let ingress = if_given (codes "ingress") (option_map (manifests.rules Ingress) one.ingress) in
     none-append (egress ++ ingress) ((codes "podSelector", manifests.selector one.subject) ∷ (codes "policyTypes", manifests.types one) ∷ [])
-    (none-append egress ingress (none-given (codes "egress") (manifests.rules Egress) (rules-none Egress) one.egress) (none-given (codes "ingress") (manifests.rules Ingress) (rules-none Ingress) one.ingress))
+    (none-append egress ingress (none-given (codes "egress") (manifests.rules Egress) (rules-none Egress) one.egress)
+    (none-given (codes "ingress") (manifests.rules Ingress) (rules-none Ingress) one.ingress))
     (rw (selector-none one.subject, types-none (is_some one.ingress) (is_some one.egress)) refl)
 
 pub has_float-policy : (one : NetPolicy) → has_float (manifests.policy one) ≡ false

@@ -35,7 +35,8 @@ unfolding items_in items_by
 listed policies = rw (values-items_of (map manifests.policy policies)) refl
 
 -- what gives the value of the list gives its items
-pub items_of-list : (text : List ℕ) (policies : List NetPolicy) → json_of text ≡ Some (list_data policies) → list_all is_printable policies ≡ true → length policies ≤ 20000 → items_of (text ∷ []) ≡ Ok (net_items policies)
+pub items_of-list : (text : List ℕ) (policies : List NetPolicy) → json_of text ≡ Some (list_data policies) → list_all is_printable policies ≡ true → length policies ≤ 20000 →
+    items_of (text ∷ []) ≡ Ok (net_items policies)
 unfolding items_of input_values must_be_few
 items_of-list text policies parsed all few =
     let values = map manifests.policy policies in
@@ -80,7 +81,8 @@ before-append : (earlier : List NetPolicy) (one other : NetPolicy) → AllBefore
 before-append [] one other all apart = (apart, tt)
 before-append (before ∷ earlier) one other all apart = (all.0, before-append earlier one other all.1 apart)
 
-all-behind : (earlier : List NetPolicy) (one : NetPolicy) (rest : List NetPolicy) → AllByRecursion (AllBefore earlier) rest → AllByRecursion (AreApart one) rest → AllByRecursion (AllBefore (earlier ++ one ∷ [])) rest
+all-behind : (earlier : List NetPolicy) (one : NetPolicy) (rest : List NetPolicy) → AllByRecursion (AllBefore earlier) rest → AllByRecursion (AreApart one) rest →
+    AllByRecursion (AllBefore (earlier ++ one ∷ [])) rest
 all-behind earlier one [] all apart = tt
 all-behind earlier one (other ∷ rest) all apart = (before-append earlier one other all.0 apart.0, all-behind earlier one rest all.1 apart.1)
 

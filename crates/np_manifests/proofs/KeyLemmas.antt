@@ -6,14 +6,16 @@ use Rattle.std.specs.List.{list_all}
 use Rattle.std.specs.Option.{option_map_or}
 use Rattle.np_model.specs.Lawful.{is_well, is_well_pod}
 use Rattle.np_model.specs.declared.lists.EstateLists.{EstateLists}
-use Rattle.np_fold.specs.Keys.{keys_of_admin_peer, keys_of_admin_policy, keys_of_admin_rule, keys_of_baseline, keys_of_estate, keys_of_net_direction, keys_of_net_peer, keys_of_net_policy, keys_of_net_rule, keys_of_optional, keys_of_selector, keys_of_service, keys_of_subject}
+use Rattle.np_fold.specs.Keys.{keys_of_admin_peer, keys_of_admin_policy, keys_of_admin_rule, keys_of_baseline, keys_of_estate, keys_of_net_direction, keys_of_net_peer, keys_of_net_policy}
+use Rattle.np_fold.specs.Keys.{keys_of_net_rule, keys_of_optional, keys_of_selector, keys_of_service, keys_of_subject}
 use Rattle.np_model.specs.Words.{is_name, is_word, is_key}
 use Rattle.np_labels.specs.WellFormed as labels
 use Rattle.np_labels.specs.declared.requirement.Requirement.{Requirement}
 use Rattle.np_labels.specs.declared.selector.Selector.{Selector}
 use Rattle.np_model.specs.WellObjects as objects
 use Rattle.np_model.specs.declared.service.ServiceItem.{ServiceItem}
-use Rattle.np_model.specs.WellPolicies.{if_there, is_well_admin_peer, is_well_admin_policy, is_well_admin_port, is_well_admin_rule, is_well_base_policy, is_well_base_rule, is_well_net_peer, is_well_net_policy, is_well_net_port, is_well_net_rule, is_well_selector, is_well_subject, is_worded}
+use Rattle.np_model.specs.WellPolicies.{if_there, is_well_admin_peer, is_well_admin_policy, is_well_admin_port, is_well_admin_rule, is_well_base_policy, is_well_base_rule, is_well_net_peer}
+use Rattle.np_model.specs.WellPolicies.{is_well_net_policy, is_well_net_port, is_well_net_rule, is_well_selector, is_well_subject, is_worded}
 use Rattle.np_model.specs.declared.admin_policy.AdminPeer.{AdminPeer}
 use Rattle.np_model.specs.declared.admin_policy.AdminPeer.TheVariants as admin
 use Rattle.np_model.specs.declared.admin_policy.AdminPolicy.{AdminPolicy}
@@ -102,7 +104,8 @@ admin_policy-keys policy well =
     let ingress = and_parts _ (list_all is_well_admin_rule policy.ingress) egress.0 in
     let subject = and_parts _ (is_well_subject policy.subject) ingress.0 in
     keys-append (keys_of_subject policy.subject ++ flat_map keys_of_admin_rule policy.ingress) (flat_map keys_of_admin_rule policy.egress)
-    (keys-append (keys_of_subject policy.subject) (flat_map keys_of_admin_rule policy.ingress) (subject-keys policy.subject subject.1) (keys-flat is_well_admin_rule keys_of_admin_rule admin_rule-keys policy.ingress ingress.1))
+    (keys-append (keys_of_subject policy.subject) (flat_map keys_of_admin_rule policy.ingress) (subject-keys policy.subject subject.1)
+    (keys-flat is_well_admin_rule keys_of_admin_rule admin_rule-keys policy.ingress ingress.1))
     (keys-flat is_well_admin_rule keys_of_admin_rule admin_rule-keys policy.egress egress.1)
 
 base_rule-keys : (rule : AdminRule) → is_well_base_rule rule ≡ true → AreKeys (keys_of_admin_rule rule)
@@ -114,7 +117,8 @@ baseline-keys (Some policy) well =
     let egress = and_parts _ (list_all is_well_base_rule policy.egress) well in
     let ingress = and_parts (is_well_subject policy.subject) (list_all is_well_base_rule policy.ingress) egress.0 in
     keys-append (keys_of_subject policy.subject ++ flat_map keys_of_admin_rule policy.ingress) (flat_map keys_of_admin_rule policy.egress)
-    (keys-append (keys_of_subject policy.subject) (flat_map keys_of_admin_rule policy.ingress) (subject-keys policy.subject ingress.0) (keys-flat is_well_base_rule keys_of_admin_rule base_rule-keys policy.ingress ingress.1))
+    (keys-append (keys_of_subject policy.subject) (flat_map keys_of_admin_rule policy.ingress) (subject-keys policy.subject ingress.0)
+    (keys-flat is_well_base_rule keys_of_admin_rule base_rule-keys policy.ingress ingress.1))
     (keys-flat is_well_base_rule keys_of_admin_rule base_rule-keys policy.egress egress.1)
 
 -- ---- services
@@ -146,6 +150,8 @@ estate-keys lists well =
     let nets = and_parts (list_all is_well_pod lists.pods) (list_all is_well_net_policy lists.net_policies) admins.0 in
     keys-append (flat_map keys_of_net_policy lists.net_policies ++ flat_map keys_of_admin_policy lists.admin_policies ++ keys_of_baseline lists.baseline) (flat_map keys_of_service lists.services)
     (keys-append (flat_map keys_of_net_policy lists.net_policies ++ flat_map keys_of_admin_policy lists.admin_policies) (keys_of_baseline lists.baseline)
-    (keys-append (flat_map keys_of_net_policy lists.net_policies) (flat_map keys_of_admin_policy lists.admin_policies) (keys-flat is_well_net_policy keys_of_net_policy net_policy-keys lists.net_policies nets.1) (keys-flat is_well_admin_policy keys_of_admin_policy admin_policy-keys lists.admin_policies admins.1))
+    (keys-append (flat_map keys_of_net_policy lists.net_policies) (flat_map keys_of_admin_policy lists.admin_policies)
+    (keys-flat is_well_net_policy keys_of_net_policy net_policy-keys lists.net_policies nets.1)
+    (keys-flat is_well_admin_policy keys_of_admin_policy admin_policy-keys lists.admin_policies admins.1))
     (baseline-keys lists.baseline base.1))
     (keys-flat objects.is_well_service keys_of_service service-keys lists.services services.1)

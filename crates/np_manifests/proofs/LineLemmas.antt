@@ -48,22 +48,27 @@ mutual
   value-alike (array items) numbers text other alike = ap (λ l. token begin_array ∷ l) (items-alike false items numbers text other alike)
   value-alike (object members) numbers text other alike = ap (λ l. token begin_object ∷ l) (members-alike false members numbers text other alike)
 
-  items-alike : (later : Bool) (items : Items) → ItemsHaveNumbers (items_outline items) → (text other : List ℕ) → AreAlike text other → lex between (items_text later items ++ text) ≡ lex between (items_text later items ++ other)
+  items-alike : (later : Bool) (items : Items) → ItemsHaveNumbers (items_outline items) → (text other : List ℕ) → AreAlike text other →
+      lex between (items_text later items ++ text) ≡ lex between (items_text later items ++ other)
   items-alike later no_items numbers text other alike = ap (λ l. token end_array ∷ l) alike.same
   items-alike later (item value items) numbers text other alike =
       let rest = items_text true items in
       let behind : AreAlike (rest ++ text) (rest ++ other) = record { ends = items-end items text; other_ends = items-end items other; same = items-alike true items numbers.1 text other alike } in
-      let both = ap (lex between) (append_assoc (compact_text value) rest text) ∙ value-alike value numbers.0 (rest ++ text) (rest ++ other) behind ∙ ap (lex between) (sym (append_assoc (compact_text value) rest other)) in
+      let both = ap (lex between) (append_assoc (compact_text value) rest text) ∙ value-alike value numbers.0 (rest ++ text) (rest ++ other) behind ∙ ap (lex between)
+      (sym (append_assoc (compact_text value) rest other)) in
       ap (lex between) (append_assoc (comma_if later) (compact_text value ++ rest) text)
       ∙ comma-alike later ((compact_text value ++ rest) ++ text) ((compact_text value ++ rest) ++ other) both
       ∙ ap (lex between) (sym (append_assoc (comma_if later) (compact_text value ++ rest) other))
 
-  members-alike : (later : Bool) (members : Members) → MembersHaveNumbers (members_outline members) → (text other : List ℕ) → AreAlike text other → lex between (members_text later members ++ text) ≡ lex between (members_text later members ++ other)
+  members-alike : (later : Bool) (members : Members) → MembersHaveNumbers (members_outline members) → (text other : List ℕ) → AreAlike text other →
+      lex between (members_text later members ++ text) ≡ lex between (members_text later members ++ other)
   members-alike later no_members numbers text other alike = ap (λ l. token end_object ∷ l) alike.same
   members-alike later (member name value members) numbers text other alike =
       let rest = members_text true members in
-      let behind : AreAlike (rest ++ text) (rest ++ other) = record { ends = members-end members text; other_ends = members-end members other; same = members-alike true members numbers.1 text other alike } in
-      let both = ap (lex between) (append_assoc (compact_text value) rest text) ∙ value-alike value numbers.0 (rest ++ text) (rest ++ other) behind ∙ ap (lex between) (sym (append_assoc (compact_text value) rest other)) in
+      let behind : AreAlike (rest ++ text) (rest ++ other) = record
+      { ends = members-end members text; other_ends = members-end members other; same = members-alike true members numbers.1 text other alike } in
+      let both = ap (lex between) (append_assoc (compact_text value) rest text) ∙ value-alike value numbers.0 (rest ++ text) (rest ++ other) behind ∙ ap (lex between)
+      (sym (append_assoc (compact_text value) rest other)) in
       let named : lex between ((quoted name ++ 58 ∷ (compact_text value ++ rest)) ++ text) ≡ lex between ((quoted name ++ 58 ∷ (compact_text value ++ rest)) ++ other) =
       ap (lex between) (append_assoc (quoted name) (58 ∷ (compact_text value ++ rest)) text)
       ∙ lex-quoted name (58 ∷ ((compact_text value ++ rest) ++ text))

@@ -23,7 +23,8 @@ use Rattle.np_manifests.proofs.ShapeLemmas.{all-mapped, all-passed}
 list_data-readable : (policies : List NetPolicy) → list_all is_printable policies ≡ true → IsReadable 12 (list_data policies)
 list_data-readable policies all =
     let entries : List Entry = (codes "apiVersion", string (codes "v1")) ∷ (codes "items", list_with (map manifests.policy policies)) ∷ (codes "kind", string (codes "List")) ∷ [] in
-    let items = list-readable 10 (map manifests.policy policies) (all-mapped (IsReadable 10) manifests.policy policies (all-passed is_printable (λ one. IsReadable 10 (manifests.policy one)) policy-readable policies all)) in
+    let items = list-readable 10 (map manifests.policy policies) (all-mapped (IsReadable 10) manifests.policy policies
+    (all-passed is_printable (λ one. IsReadable 10 (manifests.policy one)) policy-readable policies all)) in
     object-readable 11 entries refl (string-readable 11 (codes "v1") (IsUtf8-are_ascii _ refl), (items, (string-readable 11 (codes "List") (IsUtf8-are_ascii _ refl), tt)))
 
 pub json_of-list_text : (policies : List NetPolicy) → list_all is_printable policies ≡ true → json_of (list_text policies) ≡ Some (list_data policies)

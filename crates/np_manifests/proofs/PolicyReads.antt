@@ -71,8 +71,10 @@ rules-read direction all is = all-passed is_printable_rule (λ rule. net_rule di
 abbrev policy_with : NetPolicy → Option (List NetRule) → Option (List NetRule) → NetPolicy
 policy_with one ingress egress = record { namespace = one.namespace; name = one.name; subject = one.subject; ingress = ingress; egress = egress }
 
-spec-read : (one : NetPolicy) (ingress egress : Option (List NetRule)) → is_well_selector one.subject ≡ true → (is_some ingress || is_some egress) ≡ true → are_printable_rules ingress ≡ true → are_printable_rules egress ≡ true
-    → net_spec (manifests.spec (policy_with one ingress egress)) ≡ Ok (record { subject = one.subject; types = types_of (is_some ingress) (is_some egress); ingress = unwrap_or ingress []; egress = unwrap_or egress [] })
+spec-read : (one : NetPolicy) (ingress egress : Option (List NetRule)) → is_well_selector one.subject ≡ true → (is_some ingress || is_some egress) ≡ true → are_printable_rules ingress ≡ true →
+    are_printable_rules egress ≡ true
+    → net_spec (manifests.spec (policy_with one ingress egress)) ≡ Ok
+    (record { subject = one.subject; types = types_of (is_some ingress) (is_some egress); ingress = unwrap_or ingress []; egress = unwrap_or egress [] })
 unfolding net_spec net_rules must_be_object refuse_if
 spec-read one None None subject some first second = cc
 spec-read one (Some ingress) None subject some first second =
@@ -102,7 +104,8 @@ spec-read one (Some ingress) (Some egress) subject some first second =
 
 -- the policy of a name, and of a spec with these directions
 made-policy : (one : NetPolicy) (ingress egress : Option (List NetRule)) → (is_some ingress || is_some egress) ≡ true
-    → net_policy_by (record { namespace = one.namespace; name = one.name }) (record { subject = one.subject; types = types_of (is_some ingress) (is_some egress); ingress = unwrap_or ingress []; egress = unwrap_or egress [] }) ≡ policy_with one ingress egress
+    → net_policy_by (record { namespace = one.namespace; name = one.name })
+    (record { subject = one.subject; types = types_of (is_some ingress) (is_some egress); ingress = unwrap_or ingress []; egress = unwrap_or egress [] }) ≡ policy_with one ingress egress
 unfolding net_policy_by
 made-policy one None None some = cc
 made-policy one (Some ingress) None some = refl

@@ -36,7 +36,8 @@ set-address set (address.Six n) well has = omega (arith, holds-last 0 (2 ^ 128 -
 -- a block has its first address
 has-base : (block : Cidr) → cidr_has block (base_of block) ≡ true
 has-base (Four base len) = and_from (nat_le base base) (nat_lt base (base + 2 ^ (32 - len))) (le-leb base base (omega arith)) (lt-ltb base (base + 2 ^ (32 - len)) (omega (arith, pow_pos (32 - len))))
-has-base (Six base len) = and_from (nat_le base base) (nat_lt base (base + 2 ^ (128 - len))) (le-leb base base (omega arith)) (lt-ltb base (base + 2 ^ (128 - len)) (omega (arith, pow_pos (128 - len))))
+has-base (Six base len) = and_from (nat_le base base) (nat_lt base (base + 2 ^ (128 - len))) (le-leb base base (omega arith))
+    (lt-ltb base (base + 2 ^ (128 - len)) (omega (arith, pow_pos (128 - len))))
 
 block-printable : (block : Cidr) → IsAddress (base_of block) → IsCidr block → is_printable_block block ≡ true
 block-printable (Four base len) within well =
@@ -47,7 +48,8 @@ block-printable (Six base len) within well =
     (and_from (nat_le len 128) (base % 2 ^ (128 - len) == 0) (le-leb len 128 well.0) (eq-eqb (base % 2 ^ (128 - len)) 0 well.1))
 
 -- blocks whose addresses are all in a set
-blocks-printable : (set : AddressRanges) (blocks : List Cidr) → IsAddressSet set → AllByRecursion IsCidr blocks → ((a : Address) → some_has blocks a ≡ true → set_has set a ≡ true) → list_all is_printable_block blocks ≡ true
+blocks-printable : (set : AddressRanges) (blocks : List Cidr) → IsAddressSet set → AllByRecursion IsCidr blocks → ((a : Address) → some_has blocks a ≡ true → set_has set a ≡ true) →
+    list_all is_printable_block blocks ≡ true
 blocks-printable set [] well all within = refl
 blocks-printable set (block ∷ blocks) well all within =
     let base = set-address set (base_of block) well (within (base_of block) (or_left (cidr_has block (base_of block)) (some_has blocks (base_of block)) (has-base block))) in

@@ -1,5 +1,6 @@
 -- The parts of a policy are written in UTF-8, and are read of their texts.
-use Rattle.std.proofs.Common.{◌≡◌, ℕ, suc, ◌≤◌, List, [], ◌∷◌, ◌++◌, Bool, true, false, ◌&&◌, ◌||◌, ◌==◌, nat_le, is_none, is_some, map, IsUtf8, Option, Some, None, codes, if◌then◌else◌, option_map, refl, arith}
+use Rattle.std.proofs.Common.{◌≡◌, ℕ, suc, ◌≤◌, List, [], ◌∷◌, ◌++◌, Bool, true, false, ◌&&◌, ◌||◌, ◌==◌, nat_le, is_none, is_some, map, IsUtf8, Option, Some, None, codes, if◌then◌else◌, option_map}
+use Rattle.std.proofs.Common.{refl, arith}
 use Rattle.std.proofs.lemmas.Bool.{and_parts, leb-true}
 use Rattle.std.specs.List.{AllByRecursion, list_all}
 use Rattle.json.proofs.Printed.Utf8.{IsUtf8-are_ascii}
@@ -40,14 +41,17 @@ entries-append : (most : ℕ) (entries others : List Entry) → AllReadable most
 entries-append most entries others first second = all-append (λ (entry : Entry). IsReadable most entry.1) entries others first second
 
 -- a list of what is readable
-mapped-readable : {X : Type 0} (most : ℕ) (test : X → Bool) (f : X → Data) → ((x : X) → test x ≡ true → IsReadable most (f x)) → (xs : List X) → list_all test xs ≡ true → IsReadable (suc most) (list_with (map f xs))
+mapped-readable : {X : Type 0} (most : ℕ) (test : X → Bool) (f : X → Data) → ((x : X) → test x ≡ true → IsReadable most (f x)) → (xs : List X) → list_all test xs ≡ true →
+    IsReadable (suc most) (list_with (map f xs))
 mapped-readable most test f each xs all = list-readable most (map f xs) (all-mapped (IsReadable most) f xs (all-passed test (λ x. IsReadable most (f x)) each xs all))
 
-some-readable : {X : Type 0} (most : ℕ) (name : List ℕ) (test : X → Bool) (f : X → Data) → ((x : X) → test x ≡ true → IsReadable most (f x)) → (xs : List X) → list_all test xs ≡ true → AllReadable (suc most) (if_some name (map f xs))
+some-readable : {X : Type 0} (most : ℕ) (name : List ℕ) (test : X → Bool) (f : X → Data) → ((x : X) → test x ≡ true → IsReadable most (f x)) → (xs : List X) → list_all test xs ≡ true →
+    AllReadable (suc most) (if_some name (map f xs))
 some-readable most name test f each [] all = tt
 some-readable most name test f each (x ∷ xs) all = (mapped-readable most test f each (x ∷ xs) all, tt)
 
-given-readable : {X : Type 0} (most : ℕ) (name : List ℕ) (test : X → Bool) (f : X → Data) → ((x : X) → test x ≡ true → IsReadable most (f x)) → (o : Option X) → if_there test o ≡ true → AllReadable most (if_given name (option_map f o))
+given-readable : {X : Type 0} (most : ℕ) (name : List ℕ) (test : X → Bool) (f : X → Data) → ((x : X) → test x ≡ true → IsReadable most (f x)) → (o : Option X) → if_there test o ≡ true →
+    AllReadable most (if_given name (option_map f o))
 given-readable most name test f each None is = tt
 given-readable most name test f each (Some x) is = (each x is, tt)
 
@@ -79,7 +83,8 @@ selector-names (value ∷ values) = refl
 selector-readable : (one : Selector) → is_well_selector one ≡ true → IsReadable 4 (manifests.selector one)
 selector-readable one is =
     let parts = and_parts (well.is_well_selector one) (list_all is_worded one.requirements) is in
-    object-readable 3 _ (selector-names (map manifests.expression one.requirements)) (some-readable 2 (codes "matchExpressions") is_worded manifests.expression expression-readable one.requirements parts.1)
+    object-readable 3 _ (selector-names (map manifests.expression one.requirements))
+    (some-readable 2 (codes "matchExpressions") is_worded manifests.expression expression-readable one.requirements parts.1)
 
 -- ---- ports
 
@@ -134,12 +139,14 @@ peer-readable (Pods namespaces pods) is =
     let second = and_parts _ (if_there is_well_selector pods) is in
     let first = and_parts (is_some namespaces || is_some pods) (if_there is_well_selector namespaces) second.0 in
     object-readable 4 _ (pods-names (option_map manifests.selector namespaces) (option_map manifests.selector pods))
-    (entries-append 4 _ _ (given-readable 4 (codes "namespaceSelector") is_well_selector manifests.selector selector-readable namespaces first.1) (given-readable 4 (codes "podSelector") is_well_selector manifests.selector selector-readable pods second.1))
+    (entries-append 4 _ _ (given-readable 4 (codes "namespaceSelector") is_well_selector manifests.selector selector-readable namespaces first.1)
+    (given-readable 4 (codes "podSelector") is_well_selector manifests.selector selector-readable pods second.1))
 peer-readable (Block block excepts) is =
     let parts = and_parts (is_printable_block block && list_all is_printable_block excepts) (is_none (first_bad_except block excepts)) is in
     let blocks = and_parts (is_printable_block block) (list_all is_printable_block excepts) parts.0 in
     let entries : List Entry = (codes "cidr", manifests.block block) ∷ if_some (codes "except") (map manifests.block excepts) in
-    let inner = object-readable 3 entries (block-names (manifests.block block) (map manifests.block excepts)) (block-readable 3 block blocks.0, some-readable 2 (codes "except") is_printable_block manifests.block (block-readable 2) excepts blocks.1) in
+    let inner = object-readable 3 entries (block-names (manifests.block block) (map manifests.block excepts))
+    (block-readable 3 block blocks.0, some-readable 2 (codes "except") is_printable_block manifests.block (block-readable 2) excepts blocks.1) in
     object-readable 4 ((codes "ipBlock", manifests.ip_block block excepts) ∷ []) refl (inner, tt)
 
 -- ---- rules
@@ -189,7 +196,8 @@ types-readable ingress egress = list-readable 7 _ (by ingress egress)
     by false true = (named.1, tt)
     by false false = tt
 
-spec-names : (egress ingress : Option Data) (subject types : Data) → are_names (if_given (codes "egress") egress ++ if_given (codes "ingress") ingress ++ (codes "podSelector", subject) ∷ (codes "policyTypes", types) ∷ []) ≡ true
+spec-names : (egress ingress : Option Data) (subject types : Data) →
+    are_names (if_given (codes "egress") egress ++ if_given (codes "ingress") ingress ++ (codes "podSelector", subject) ∷ (codes "policyTypes", types) ∷ []) ≡ true
 spec-names None None subject types = refl
 spec-names None (Some ingress) subject types = refl
 spec-names (Some egress) None subject types = refl
@@ -205,12 +213,14 @@ policy-readable one is =
     let of_egress = given-readable 8 (codes "egress") (λ all. list_all is_printable_rule all) (manifests.rules Egress) (rules-readable Egress) one.egress egress.1 in
     let of_ingress = given-readable 8 (codes "ingress") (λ all. list_all is_printable_rule all) (manifests.rules Ingress) (rules-readable Ingress) one.ingress ingress.1 in
     let of_subject = deeper 4 8 (manifests.selector one.subject) (omega arith) (selector-readable one.subject subject.1) in
-    let spec = object-readable 8 _ (spec-names (option_map (manifests.rules Egress) one.egress) (option_map (manifests.rules Ingress) one.ingress) (manifests.selector one.subject) (manifests.types one))
+    let spec = object-readable 8 _ (spec-names (option_map (manifests.rules Egress) one.egress) (option_map (manifests.rules Ingress) one.ingress) (manifests.selector one.subject)
+    (manifests.types one))
     (entries-append 8 (if_given (codes "egress") (option_map (manifests.rules Egress) one.egress) ++ if_given (codes "ingress") (option_map (manifests.rules Ingress) one.ingress)) _
     (entries-append 8 _ _ of_egress of_ingress) (of_subject, (types-readable (is_some one.ingress) (is_some one.egress), tt))) in
     let metadata_entries : List Entry = (codes "name", string one.name) ∷ (codes "namespace", string one.namespace) ∷ [] in
     let metadata = object-readable 8 metadata_entries refl (string-readable 8 one.name (name-utf8 one.name names.1), (string-readable 8 one.namespace (name-utf8 one.namespace names.0), tt)) in
-    let entries : List Entry = (codes "apiVersion", string (codes "networking.k8s.io/v1")) ∷ (codes "kind", string (codes "NetworkPolicy")) ∷ (codes "metadata", manifests.metadata one) ∷ (codes "spec", manifests.spec one) ∷ [] in
+    let entries : List Entry = (codes "apiVersion", string (codes "networking.k8s.io/v1")) ∷ (codes "kind", string (codes "NetworkPolicy")) ∷ (codes "metadata", manifests.metadata one) ∷
+    (codes "spec", manifests.spec one) ∷ [] in
     object-readable 9 entries refl (
       string-readable 9 (codes "networking.k8s.io/v1") (IsUtf8-are_ascii _ refl),
       (string-readable 9 (codes "NetworkPolicy") (IsUtf8-are_ascii _ refl), (metadata, (spec, tt))),

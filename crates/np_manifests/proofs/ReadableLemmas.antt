@@ -106,11 +106,13 @@ put-last : (before : List Entry) (entry : Entry) → IsAbove entry.0 (names_of b
 put-last [] entry above = refl
 put-last (first ∷ before) entry above = rw above.0 (ap (member first.0 first.1) (put-last before entry above.1))
 
-members-given : (before entries : List Entry) → is_ascending (names_of before ++ names_of entries) ≡ true → AllByRecursion (λ entry. of_json (outline entry.1) ≡ Some entry.1) entries → of_members (members_outline (members_with entries)) (members_with before) ≡ Some (members_with (before ++ entries))
+members-given : (before entries : List Entry) → is_ascending (names_of before ++ names_of entries) ≡ true → AllByRecursion (λ entry. of_json (outline entry.1) ≡ Some entry.1) entries →
+    of_members (members_outline (members_with entries)) (members_with before) ≡ Some (members_with (before ++ entries))
 members-given before [] ascending all = ap (λ (entries : List Entry). Some (members_with entries)) (sym (append-nil before))
 members-given before (entry ∷ entries) ascending all =
     let moved = append_assoc before (entry ∷ []) entries in
-    let names = ap (λ (front : List (List ℕ)). front ++ names_of entries) (map-append (λ (one : Entry). one.0) before (entry ∷ [])) ∙ append_assoc (names_of before) (entry.0 ∷ []) (names_of entries) in
+    let names = ap (λ (front : List (List ℕ)). front ++ names_of entries) (map-append (λ (one : Entry). one.0) before (entry ∷ [])) ∙ append_assoc (names_of before) (entry.0 ∷ [])
+    (names_of entries) in
     let rest = members-given (before ++ entry ∷ []) entries (rw names ascending) all.1 in
     rw (all.0, put-last before entry (above-before (names_of before) (names_of entries) entry.0 ascending)) (rest ∙ ap (λ (entries : List Entry). Some (members_with entries)) moved)
 

@@ -1,5 +1,6 @@
 -- Ports, peers and rules are read as they are.
-use Rattle.std.proofs.Common.{◌≡◌, ℕ, ◌-◌, ◌%◌, ◌^◌, ◌≤◌, List, [], ◌∷◌, ◌++◌, Bool, true, false, not, ◌&&◌, ◌==◌, nat_le, nat_lt, is_none, length, map, Option, Some, None, Ok, codes, if◌then◌else◌, refl, ap, arith, eqb-true, le-leb, lt-ltb}
+use Rattle.std.proofs.Common.{◌≡◌, ℕ, ◌-◌, ◌%◌, ◌^◌, ◌≤◌, List, [], ◌∷◌, ◌++◌, Bool, true, false, not, ◌&&◌, ◌==◌, nat_le, nat_lt, is_none, length, map, Option, Some, None, Ok, codes, if◌then◌else◌}
+use Rattle.std.proofs.Common.{refl, ap, arith, eqb-true, le-leb, lt-ltb}
 use Rattle.std.proofs.lemmas.Bool.{and_parts, leb-true, ltb-true, not-true}
 use Rattle.std.specs.List.{AllByRecursion, list_all}
 use Rattle.serde_json.specs.Data.{Data, number, string, unsigned}
@@ -114,7 +115,8 @@ ip_block-read block excepts is =
     let value = manifests.ip_block block excepts in
     let first : required (codes "cidr") cidr value ≡ Ok block = required-read (codes "cidr") cidr value (manifests.block block) block refl (block-read block blocks.0) in
     let others : listed (codes "except") cidr value ≡ Ok excepts =
-    some-read (codes "except") cidr manifests.block value excepts (excepts-member (manifests.block block) (map manifests.block excepts)) (all-passed is_printable_block (λ one. cidr (manifests.block one) ≡ Ok one) block-read excepts blocks.1) in
+    some-read (codes "except") cidr manifests.block value excepts (excepts-member (manifests.block block) (map manifests.block excepts))
+    (all-passed is_printable_block (λ one. cidr (manifests.block one) ≡ Ok one) block-read excepts blocks.1) in
     let none : first_bad_except block excepts ≡ None = by (first_bad_except block excepts) parts.1 in
     rw (first, others, none) refl
   where
@@ -162,13 +164,17 @@ peer-read (Block block excepts) is =
 
 -- ---- rules
 
-from-member : (peers ports : List Data) → (member_of (codes "from") (object_with (if_some (codes "from") peers ++ if_some (codes "ports") ports)) ≡ some_member peers) × (member_of (codes "ports") (object_with (if_some (codes "from") peers ++ if_some (codes "ports") ports)) ≡ some_member ports)
+from-member : (peers ports : List Data) →
+    (member_of (codes "from") (object_with (if_some (codes "from") peers ++ if_some (codes "ports") ports)) ≡ some_member peers) ×
+    (member_of (codes "ports") (object_with (if_some (codes "from") peers ++ if_some (codes "ports") ports)) ≡ some_member ports)
 from-member [] [] = (refl, refl)
 from-member [] (port ∷ ports) = (refl, refl)
 from-member (peer ∷ peers) [] = (refl, refl)
 from-member (peer ∷ peers) (port ∷ ports) = (refl, refl)
 
-to-member : (peers ports : List Data) → (member_of (codes "to") (object_with (if_some (codes "ports") ports ++ if_some (codes "to") peers)) ≡ some_member peers) × (member_of (codes "ports") (object_with (if_some (codes "ports") ports ++ if_some (codes "to") peers)) ≡ some_member ports)
+to-member : (peers ports : List Data) →
+    (member_of (codes "to") (object_with (if_some (codes "ports") ports ++ if_some (codes "to") peers)) ≡ some_member peers) ×
+    (member_of (codes "ports") (object_with (if_some (codes "ports") ports ++ if_some (codes "to") peers)) ≡ some_member ports)
 to-member [] [] = (refl, refl)
 to-member [] (port ∷ ports) = (refl, refl)
 to-member (peer ∷ peers) [] = (refl, refl)

@@ -28,7 +28,8 @@ conns_of-runs passes = record {
 }
 
 -- each stretch of a right list has the connections of its first number
-stretches-runs : (passes : ℕ → PortSpot → Bool) (from to : ℕ) (before : Option Conns) (stretches : List Stretch) → AreRight passes from to before stretches → AllByRecursion (λ stretch. AreRuns stretch.conns) stretches
+stretches-runs : (passes : ℕ → PortSpot → Bool) (from to : ℕ) (before : Option Conns) (stretches : List Stretch) → AreRight passes from to before stretches →
+    AllByRecursion (λ stretch. AreRuns stretch.conns) stretches
 stretches-runs passes from to before [] are = tt
 stretches-runs passes from to before (stretch ∷ stretches) are =
     (subst AreRuns (are.0.conns stretch.lo (omega arith) are.0.filled) (conns_of-runs (passes stretch.lo)), stretches-runs passes (stretch.hi + 1) to (Some stretch.conns) stretches are.1)

@@ -37,7 +37,8 @@ distinct-behind before (value ∷ values) ascending =
 requirement-itself : (one : Requirement) → requirement_of one.key one.op one.values ≡ one
 requirement-itself one =
     let P : List (List ℕ) → Type 0 = λ values. (ascending : is_ascending values ≡ true) → record { key = one.key; op = one.op; values = values; ascending = ascending } ≡ one in
-    let here : P one.values = λ ascending. ap (λ (p : is_ascending one.values ≡ true). record { key = one.key; op = one.op; values = one.values; ascending = p }) (Bool-set (is_ascending one.values) true ascending one.ascending) in
+    let here : P one.values = λ ascending. ap (λ (p : is_ascending one.values ≡ true). record { key = one.key; op = one.op; values = one.values; ascending = p })
+    (Bool-set (is_ascending one.values) true ascending one.ascending) in
     subst P (sym (distinct-behind [] one.values one.ascending)) here _
 
 -- ---- expressions
@@ -56,7 +57,8 @@ operator-read NoneOf has fits = rw fits refl
 operator-read Present has fits = rw fits refl
 operator-read Absent has fits = rw fits refl
 
-values-member : (of_key of_operator : Data) (values : List Data) → member_of (codes "values") (object_with ((codes "key", of_key) ∷ (codes "operator", of_operator) ∷ if_some (codes "values") values)) ≡ some_member values
+values-member : (of_key of_operator : Data) (values : List Data) →
+    member_of (codes "values") (object_with ((codes "key", of_key) ∷ (codes "operator", of_operator) ∷ if_some (codes "values") values)) ≡ some_member values
 values-member of_key of_operator [] = refl
 values-member of_key of_operator (value ∷ values) = refl
 
@@ -67,9 +69,11 @@ expression-read one is_well words =
     let parts = and_parts (is_key one.key) (list_all is_word one.values) words in
     let value = manifests.expression one in
     let keys : required (codes "key") key value ≡ Ok one.key = required-read (codes "key") key value (string one.key) one.key refl (key-read one.key parts.0) in
-    let operators : required (codes "operator") text value ≡ Ok (manifests.operator one.op) = required-read (codes "operator") text value (string (manifests.operator one.op)) (manifests.operator one.op) refl refl in
+    let operators : required (codes "operator") text value ≡ Ok (manifests.operator one.op) = required-read (codes "operator") text value (string (manifests.operator one.op))
+    (manifests.operator one.op) refl refl in
     let values : listed (codes "values") word value ≡ Ok one.values =
-    some-read (codes "values") word string value one.values (values-member (string one.key) (string (manifests.operator one.op)) (map string one.values)) (all-passed is_word (λ s. word (string s) ≡ Ok s) word-read one.values parts.1) in
+    some-read (codes "values") word string value one.values (values-member (string one.key) (string (manifests.operator one.op)) (map string one.values))
+    (all-passed is_word (λ s. word (string s) ≡ Ok s) word-read one.values parts.1) in
     rw (keys, operators, values, operator-read one.op (not (length one.values == 0)) fits.1) (ap Ok (requirement-itself one))
 
 -- ---- selectors
@@ -87,7 +91,8 @@ selector-read one is_well =
     let parts = and_parts (well.is_well_selector one) (list_all is_worded one.requirements) is_well in
     by one.requirements (expressions-read one.requirements parts.0 parts.1)
   where
-    by : (all : List Requirement) → AllByRecursion (λ requirement. expression (manifests.expression requirement) ≡ Ok requirement) all → selector (manifests.selector (record { requirements = all })) ≡ Ok (record { requirements = all })
+    by : (all : List Requirement) → AllByRecursion (λ requirement. expression (manifests.expression requirement) ≡ Ok requirement) all →
+        selector (manifests.selector (record { requirements = all })) ≡ Ok (record { requirements = all })
     by [] reads =
         let value = manifests.selector (record { requirements = [] }) in
         rw (optional-none (codes "matchLabels") labels value refl, listed-none (codes "matchExpressions") expression value refl) refl

@@ -36,12 +36,14 @@ optional-none name shape value missing = rw missing refl
 
 -- ---- lists
 
-each-read : {A : Type 0} (shape : Data → Read A) (written : A → Data) (xs : List A) → AllByRecursion (λ x. shape (written x) ≡ Ok x) xs → (place : ℕ) → each_item shape place (items_of (map written xs)) ≡ Ok xs
+each-read : {A : Type 0} (shape : Data → Read A) (written : A → Data) (xs : List A) → AllByRecursion (λ x. shape (written x) ≡ Ok x) xs → (place : ℕ) →
+    each_item shape place (items_of (map written xs)) ≡ Ok xs
 unfolding under
 each-read shape written [] all place = refl
 each-read shape written (x ∷ xs) all place = rw (all.0, each-read shape written xs all.1 (place + 1)) refl
 
-pub listed-read : {A : Type 0} (name : List ℕ) (shape : Data → Read A) (written : A → Data) (value : Data) (xs : List A) → member_of name value ≡ Some (list_with (map written xs)) → AllByRecursion (λ x. shape (written x) ≡ Ok x) xs → listed name shape value ≡ Ok xs
+pub listed-read : {A : Type 0} (name : List ℕ) (shape : Data → Read A) (written : A → Data) (value : Data) (xs : List A) → member_of name value ≡ Some (list_with (map written xs)) →
+    AllByRecursion (λ x. shape (written x) ≡ Ok x) xs → listed name shape value ≡ Ok xs
 unfolding listed under
 listed-read name shape written value xs there all = rw (there, each-read shape written xs all 0) refl
 
@@ -54,6 +56,7 @@ abbrev pub some_member : List Data → Option Data
 some_member [] = None
 some_member (value ∷ values) = Some (list_with (value ∷ values))
 
-pub some-read : {A : Type 0} (name : List ℕ) (shape : Data → Read A) (written : A → Data) (value : Data) (xs : List A) → member_of name value ≡ some_member (map written xs) → AllByRecursion (λ x. shape (written x) ≡ Ok x) xs → listed name shape value ≡ Ok xs
+pub some-read : {A : Type 0} (name : List ℕ) (shape : Data → Read A) (written : A → Data) (value : Data) (xs : List A) → member_of name value ≡ some_member (map written xs) →
+    AllByRecursion (λ x. shape (written x) ≡ Ok x) xs → listed name shape value ≡ Ok xs
 some-read name shape written value [] missing all = listed-none name shape value missing
 some-read name shape written value (x ∷ xs) there all = listed-read name shape written value (x ∷ xs) there all

@@ -1,5 +1,6 @@
 -- Marks of pods by their places.
-use Rattle.std.proofs.Common.{◌≡◌, ℕ, zero, suc, ◌+◌, ◌-◌, ◌<◌, ◌≤◌, List, [], ◌∷◌, ◌++◌, Bool, true, false, ◌&&◌, ◌||◌, map, length, replicate, take, get_or, slice_get, unwrap_or, Option, Some, arith, refl, sym, ap, subst, inl, inr, ◌∙◌, if◌then◌else◌}
+use Rattle.std.proofs.Common.{◌≡◌, ℕ, zero, suc, ◌+◌, ◌-◌, ◌<◌, ◌≤◌, List, [], ◌∷◌, ◌++◌, Bool, true, false, ◌&&◌, ◌||◌, map, length, replicate, take, get_or, slice_get, unwrap_or, Option, Some}
+use Rattle.std.proofs.Common.{arith, refl, sym, ap, subst, inl, inr, ◌∙◌, if◌then◌else◌}
 use Rattle.std.specs.Prelude.{All}
 use Rattle.std.specs.List.{list_any, range_with_len}
 use Rattle.std.specs.Option.{option_map}
@@ -93,11 +94,14 @@ module _ {X : Type 0} (speaks : X → Bool) (front pods : List X) (far : List Ma
   -- where marks are made of them
   pub marked_more : (from : ℕ) (marks : List Bool) → from ≡ length front → marks ≡ map speaks pods → IsSpoken speaks (front ++ pods) (far ++ from_on from marks ∷ [])
   marked_more from marks from_is made = record {
-    within = All-push (λ (m : Marks). m.from + length m.pods ≤ length (front ++ pods)) far (from_on from marks) (within_more far (length front) (length (front ++ pods)) (omega (arith, whole)) is.within) (let last : from + length marks ≤ length (front ++ pods) = omega (arith, whole, from_is, ap length made, length-map pods speaks) in last);
+    within = All-push (λ (m : Marks). m.from + length m.pods ≤ length (front ++ pods)) far (from_on from marks)
+        (within_more far (length front) (length (front ++ pods)) (omega (arith, whole)) is.within)
+        (let last : from + length marks ≤ length (front ++ pods) = omega (arith, whole, from_is, ap length made, length-map pods speaks) in last);
     say = λ place x at.
         list_any-append (λ m. marks_at m place) far (from_on from marks ∷ [])
         ∙ elim (cases_lt place (length front)) [
-          | inl low ↦ or_none (speaks_at far place) (marks_at (from_on from marks) place) (speaks x) (say_front place x at low) (before from marks place (let less : place < from = omega (arith, low, from_is) in less))
+          | inl low ↦ or_none (speaks_at far place) (marks_at (from_on from marks) place) (speaks x) (say_front place x at low)
+              (before from marks place (let less : place < from = omega (arith, low, from_is) in less))
           | inr up ↦
               let k = place - length front in
               let place_is : place ≡ length front + k = omega (arith, up) in
@@ -129,9 +133,11 @@ row_is f row count is seen = from 0 row (λ k low. seen k (omega (arith, low, is
         ∙ ap (λ (rest : List Bool). f n ∷ rest) (from (n + 1) flags (λ k low. seen (suc k) (omega (arith, low)) ∙ ap f (let same : n + suc k ≡ n + 1 + k = omega arith in same)))
 
 -- what is marked in a row that was filled, by the ones and then by the others
-pub twice_marked : (filled first second : List Bool) (start : Bool) (count place : ℕ) (by_net by_admin : Bool) → filled ≡ replicate count start → place < count → has_place first place ≡ (has_place filled place || by_net) → has_place second place ≡ (has_place first place || by_admin) → has_place second place ≡ (start || (by_net || by_admin))
+pub twice_marked : (filled first second : List Bool) (start : Bool) (count place : ℕ) (by_net by_admin : Bool) → filled ≡ replicate count start → place < count →
+    has_place first place ≡ (has_place filled place || by_net) → has_place second place ≡ (has_place first place || by_admin) → has_place second place ≡ (start || (by_net || by_admin))
 twice_marked filled first second start count place by_net by_admin is low one other =
-    other ∙ ap (λ (b : Bool). b || by_admin) (one ∙ ap (λ (b : Bool). b || by_net) (ap (λ (all : List Bool). has_place all place) is ∙ unwrap_or-slice_get (replicate count start) place false ∙ get_or-replicate count place start false low))
+    other ∙ ap (λ (b : Bool). b || by_admin) (one ∙ ap (λ (b : Bool). b || by_net)
+    (ap (λ (all : List Bool). has_place all place) is ∙ unwrap_or-slice_get (replicate count start) place false ∙ get_or-replicate count place start false low))
     ∙ assoc start by_net by_admin
   where
     assoc : (a b c : Bool) → ((a || b) || c) ≡ (a || (b || c))
@@ -139,14 +145,16 @@ twice_marked filled first second start count place by_net by_admin is low one ot
     assoc false b c = refl
 
 -- one policy more, which is picked or is not
-pub policy_chosen : {O : Type 0} (test : O → Bool) (policies : List O) (i : ℕ) (one : O) (so_far new : Bool) → i < length policies → one ≡ get_or policies i one → so_far ≡ list_any test (take i policies) → new ≡ (so_far || test one) → new ≡ list_any test (take (i + 1) policies)
+pub policy_chosen : {O : Type 0} (test : O → Bool) (policies : List O) (i : ℕ) (one : O) (so_far new : Bool) → i < length policies → one ≡ get_or policies i one →
+    so_far ≡ list_any test (take i policies) → new ≡ (so_far || test one) → new ≡ list_any test (take (i + 1) policies)
 policy_chosen {O} test policies i one so_far new within at before is =
     is ∙ ap (λ (b : Bool). b || test one) before
     ∙ ap (λ (b : Bool). list_any test (take i policies) || b) (sym (or_false (test one)))
     ∙ sym (ap (list_any test) (take_more policies i one within ∙ ap (λ (last : O). take i policies ++ last ∷ []) (sym at)) ∙ list_any-append test (take i policies) (one ∷ []))
 
 -- where it is picked, what it speaks of stands last
-pub last_chosen : {C : Type 0} (says : C → Bool) (chosen new : List C) (far : C) (picked : Bool) → new ≡ chosen ++ far ∷ [] → picked ≡ true → list_any says new ≡ (list_any says chosen || (picked && says far))
+pub last_chosen : {C : Type 0} (says : C → Bool) (chosen new : List C) (far : C) (picked : Bool) → new ≡ chosen ++ far ∷ [] → picked ≡ true →
+    list_any says new ≡ (list_any says chosen || (picked && says far))
 last_chosen says chosen new far picked pushed is =
     ap (list_any says) pushed ∙ list_any-append says chosen (far ∷ []) ∙ ap (λ (b : Bool). list_any says chosen || b) (or_false (says far) ∙ ap (λ (b : Bool). b && says far) (sym is))
 
@@ -154,5 +162,6 @@ pub none_chosen : (so_far picked speaks : Bool) → picked ≡ false → so_far 
 none_chosen so_far picked speaks is = rw is (sym (or_false so_far))
 
 -- what policies speak of is of so many pods
-pub all_within : {X O : Type 0} (far_of : O → List Marks) (speaks : O → X → Bool) (xs ys : List X) (made : List O) → xs ≡ ys → All (λ one. IsSpoken (speaks one) xs (far_of one)) made → All (λ one. AreWithin (length ys) (far_of one)) made
+pub all_within : {X O : Type 0} (far_of : O → List Marks) (speaks : O → X → Bool) (xs ys : List X) (made : List O) → xs ≡ ys → All (λ one. IsSpoken (speaks one) xs (far_of one)) made →
+    All (λ one. AreWithin (length ys) (far_of one)) made
 all_within far_of speaks xs ys made same all k d low = subst (λ (n : ℕ). AreWithin n (far_of (get_or made k d))) (ap length same) ((all k d low).within)

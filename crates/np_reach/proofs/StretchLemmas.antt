@@ -1,6 +1,7 @@
 -- Pods that stand together.
 use lib.Pointwise.{pointwise}
-use Rattle.std.proofs.Common.{◌≡◌, ℕ, nat_eq, true, ◌&&◌, zero, suc, ◌+◌, ◌<◌, ◌≤◌, ◌-◌, List, [], ◌∷◌, ◌++◌, Some, flat_map, get_or, length, slice_get, take, drop, arith, refl, sym, ap, subst, inl, inr, ◌∙◌}
+use Rattle.std.proofs.Common.{◌≡◌, ℕ, nat_eq, true, ◌&&◌, zero, suc, ◌+◌, ◌<◌, ◌≤◌, ◌-◌, List, [], ◌∷◌, ◌++◌, Some, flat_map, get_or, length, slice_get, take, drop, arith, refl, sym, ap, subst, inl}
+use Rattle.std.proofs.Common.{inr, ◌∙◌}
 use Rattle.std.specs.Prelude.{All}
 use Rattle.std.specs.Cmp.Lexicographic.{bytes_decides}
 use Rattle.std.proofs.Math.Seq.{take-add}
@@ -13,7 +14,8 @@ use Rattle.np_labels.specs.declared.pair.Pair.{Pair}
 use Rattle.np_reach.proofs.SpokenLemmas.{in_back, in_front}
 
 -- one stretch more
-pub stretch_more : {S X : Type 0} (pods_of : S → List X) (made new : List S) (stretch : S) (pods rest own : List X) (from count : ℕ) → new ≡ made ++ stretch ∷ [] → pods_of stretch ≡ own → rest ≡ drop from pods → own ≡ take count rest → flat_map pods_of made ≡ take from pods → flat_map pods_of new ≡ take (from + count) pods
+pub stretch_more : {S X : Type 0} (pods_of : S → List X) (made new : List S) (stretch : S) (pods rest own : List X) (from count : ℕ) → new ≡ made ++ stretch ∷ [] → pods_of stretch ≡ own →
+    rest ≡ drop from pods → own ≡ take count rest → flat_map pods_of made ≡ take from pods → flat_map pods_of new ≡ take (from + count) pods
 stretch_more {S} {X} pods_of made new stretch pods rest own from count pushed is rest_is own_is so_far =
     ap (flat_map pods_of) pushed
     ∙ flat_map-append pods_of made (stretch ∷ [])
@@ -22,7 +24,9 @@ stretch_more {S} {X} pods_of made new stretch pods rest own from count pushed is
     ∙ sym (take-add from count pods)
 
 -- which begins where those before it end
-pub follow_more : {S X : Type 0} (pods_of : S → List X) (from_of : S → ℕ) (made new : List S) (stretch : S) (pods : List X) (from : ℕ) → new ≡ made ++ stretch ∷ [] → from_of stretch ≡ from → flat_map pods_of made ≡ take from pods → from ≤ length pods → ((k : ℕ) (s : S) → slice_get made k ≡ Some s → from_of s ≡ length (flat_map pods_of (take k made))) → (k : ℕ) (s : S) → slice_get new k ≡ Some s → from_of s ≡ length (flat_map pods_of (take k new))
+pub follow_more : {S X : Type 0} (pods_of : S → List X) (from_of : S → ℕ) (made new : List S) (stretch : S) (pods : List X) (from : ℕ) → new ≡ made ++ stretch ∷ [] → from_of stretch ≡ from →
+    flat_map pods_of made ≡ take from pods → from ≤ length pods → ((k : ℕ) (s : S) → slice_get made k ≡ Some s → from_of s ≡ length (flat_map pods_of (take k made))) → (k : ℕ) (s : S) →
+    slice_get new k ≡ Some s → from_of s ≡ length (flat_map pods_of (take k new))
 follow_more {S} {X} pods_of from_of made new stretch pods from pushed is so_far within follow k s at =
     elim (cases_lt k (length made)) [
       | inl low ↦ follow k s (sym (in_front made (stretch ∷ []) k low) ∙ here) ∙ ap (λ (all : List S). length (flat_map pods_of all)) (sym (front k (omega (arith, low))))
@@ -49,9 +53,11 @@ follow_more {S} {X} pods_of from_of made new stretch pods from pushed is so_far 
     last (suc j) place = absurd (none-some s (sym (in_back made (stretch ∷ []) k (suc j) place) ∙ here))
 
 -- what holds of an item and of some behind it holds of all of these
-pub first_and : {X : Type 0} (P : X → Type 0) (xs rest others own : List X) (from count : ℕ) (one : X) → from < length xs → one ≡ get_or xs from one → rest ≡ drop from xs → others ≡ drop (from + 1) xs → own ≡ take (1 + count) rest → P one → All P (take count others) → All P own
+pub first_and : {X : Type 0} (P : X → Type 0) (xs rest others own : List X) (from count : ℕ) (one : X) → from < length xs → one ≡ get_or xs from one → rest ≡ drop from xs →
+    others ≡ drop (from + 1) xs → own ≡ take (1 + count) rest → P one → All P (take count others) → All P own
 first_and {X} P xs rest others own from count one within at rest_is others_is own_is here behind =
-    subst (All P) (sym (own_is ∙ ap (take (1 + count)) (rest_is ∙ drop_more xs from one within ∙ ap (λ (first : X). first ∷ drop (from + 1) xs) (sym at) ∙ ap (λ (more : List X). one ∷ more) (sym others_is)) ∙ ap (λ (n : ℕ). take n (one ∷ others)) (let same : 1 + count ≡ suc count = omega arith in same))) all
+    subst (All P) (sym (own_is ∙ ap (take (1 + count)) (rest_is ∙ drop_more xs from one within ∙ ap (λ (first : X). first ∷ drop (from + 1) xs) (sym at) ∙ ap (λ (more : List X). one ∷ more)
+    (sym others_is)) ∙ ap (λ (n : ℕ). take n (one ∷ others)) (let same : 1 + count ≡ suc count = omega arith in same))) all
   where
     all : All P (one ∷ take count others)
     all zero d low = here

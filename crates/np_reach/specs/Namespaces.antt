@@ -18,12 +18,12 @@ use Rattle.np_model.specs.declared.network_policy.NetPolicy.{NetPolicy}
 use Rattle.np_model.specs.declared.network_policy.NetRule.{NetRule}
 use Rattle.np_reach.specs.Reach.{admin_reaches, admin_rule_reaches, net_reaches}
 use Rattle.np_rules.proofs.KeptLemmas.{none_quieter, quieter}
-use Rattle.np_rules.specs.Ends.{PodEnd, pod}
-use Rattle.np_rules.specs.Peers.{admin_peer_matches, net_peer_matches}
-use Rattle.np_rules.specs.Places.{admin_rules_of, net_rules_of}
-use Rattle.np_rules.specs.Rules.{none_or_any}
-use Rattle.np_rules.specs.Selection.{net_selects, subject_selects}
-use Rattle.np_rules.specs.Sides.{is_allow}
+use Rattle.np_rules.specs.model.Ends.{PodEnd, pod}
+use Rattle.np_rules.specs.model.Peers.{admin_peer_matches, net_peer_matches}
+use Rattle.np_rules.specs.model.Places.{admin_rules_of, net_rules_of}
+use Rattle.np_rules.specs.model.Rules.{none_or_any}
+use Rattle.np_rules.specs.model.Selection.{net_selects, subject_selects}
+use Rattle.np_rules.specs.model.Sides.{is_allow}
 
 -- two pods are of one namespace, as rules see them
 pub record AreOfOneNamespace (one far : PodEnd) : Type 0 where

@@ -7,13 +7,13 @@ use Rattle.np_model.specs.declared.admin_policy.AdminPolicy.{AdminPolicy}
 use Rattle.np_model.specs.declared.admin_policy.AdminRule.{AdminRule}
 use Rattle.np_model.specs.declared.direction.Direction.{Direction}
 use Rattle.np_model.specs.declared.network_policy.NetPolicy.{NetPolicy}
-use Rattle.np_rules.specs.Ends.{End, PodEnd, pod}
-use Rattle.np_rules.specs.NetTier.{is_isolated}
-use Rattle.np_rules.specs.Peers.{admin_peer_matches, net_peer_matches}
-use Rattle.np_rules.specs.Places.{admin_rules_of, net_rules_of}
-use Rattle.np_rules.specs.Rules.{none_or_any}
-use Rattle.np_rules.specs.Selection.{net_selects, subject_selects}
-use Rattle.np_rules.specs.Sides.{is_allow}
+use Rattle.np_rules.specs.model.Ends.{End, PodEnd, pod}
+use Rattle.np_rules.specs.model.NetTier.{is_isolated}
+use Rattle.np_rules.specs.model.Peers.{admin_peer_matches, net_peer_matches}
+use Rattle.np_rules.specs.model.Places.{admin_rules_of, net_rules_of}
+use Rattle.np_rules.specs.model.Rules.{none_or_any}
+use Rattle.np_rules.specs.model.Selection.{net_selects, subject_selects}
+use Rattle.np_rules.specs.model.Sides.{is_allow}
 
 -- whether some rule of a NetworkPolicy speaks of a far end, whatever the port is
 abbrev pub net_reaches : Direction → End → NetPolicy → Bool

@@ -4,7 +4,7 @@ ghost use Rattle.std.specs.List.{list_any};
 ghost use Rattle.np_model.specs.declared.direction.Direction.{Direction};
 ghost use Rattle.np_reach.specs.Reach as spec;
 ghost use Rattle.np_reach.specs.Namespaces.{AreOfOneNamespace};
-ghost use Rattle.np_rules.specs.Ends.{End, PodEnd, pod, pod_end};
+ghost use Rattle.np_rules.specs.model.Ends.{End, PodEnd, pod, pod_end};
 
 use crate::concerns::{admin_rule_concerns, net_rule_concerns};
 use np_addr::Family;
@@ -56,7 +56,7 @@ pub(crate) trait Speaker {
 impl Speaker for NetPolicy {
     ghost use Rattle.np_reach.specs.Namespaces.{is_of_namespace, net_concerns, net_silent_elsewhere, net_unpicked_elsewhere};
     ghost use Rattle.np_reach.specs.Reach.{net_reaches};
-    ghost use Rattle.np_rules.specs.Selection.{net_selects};
+    ghost use Rattle.np_rules.specs.model.Selection.{net_selects};
 
     ghost picks = { net_selects };
 
@@ -104,7 +104,7 @@ impl Speaker for NetPolicy {
 impl Speaker for AdminPolicy {
     ghost use Rattle.np_reach.specs.Namespaces.{admin_concerns, admin_silent_elsewhere, admin_unpicked_elsewhere, selects_namespace};
     ghost use Rattle.np_reach.specs.Reach.{admin_reaches};
-    ghost use Rattle.np_rules.specs.Selection.{subject_selects};
+    ghost use Rattle.np_rules.specs.model.Selection.{subject_selects};
 
     ghost picks = { λ policy near. subject_selects policy.subject near };
 

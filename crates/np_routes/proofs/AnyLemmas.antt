@@ -73,10 +73,12 @@ list_any-none f (x ∷ xs) none = ap (λ (b : Bool). b || list_any f xs) (none x
 -- a test that holds where one of two does
 pub list_any-or : {X : Type 0} (f g both : X → Bool) (xs : List X) → ((x : X) → both x ≡ (f x || g x)) → list_any both xs ≡ (list_any f xs || list_any g xs)
 list_any-or f g both [] is = refl
-list_any-or f g both (x ∷ xs) is = ap (λ (b : Bool). b || list_any both xs) (is x) ∙ ap (λ (b : Bool). (f x || g x) || b) (list_any-or f g both xs is) ∙ or-swap (f x) (g x) (list_any f xs) (list_any g xs)
+list_any-or f g both (x ∷ xs) is = ap (λ (b : Bool). b || list_any both xs) (is x) ∙ ap (λ (b : Bool). (f x || g x) || b) (list_any-or f g both xs is) ∙ or-swap (f x) (g x) (list_any f xs)
+    (list_any g xs)
 
 -- an item in the place of another passes where that does, or where more holds
-pub list_any-set : {X : Type 0} (f : X → Bool) (xs : List X) (i : ℕ) (x y : X) (more : Bool) → i < length xs → x ≡ get_or xs i x → f y ≡ (f x || more) → list_any f (set xs i y) ≡ (list_any f xs || more)
+pub list_any-set : {X : Type 0} (f : X → Bool) (xs : List X) (i : ℕ) (x y : X) (more : Bool) → i < length xs → x ≡ get_or xs i x → f y ≡ (f x || more) →
+    list_any f (set xs i y) ≡ (list_any f xs || more)
 list_any-set f [] i x y more within is passes = absurd (omega (arith, within))
 list_any-set {X} f (z ∷ zs) zero x y more within is passes =
     ap (λ (b : Bool). b || list_any f zs) (passes ∙ ap (λ (one : X). f one || more) is) ∙ or-last (f z) more (list_any f zs)
@@ -84,6 +86,7 @@ list_any-set f (z ∷ zs) (suc i) x y more within is passes =
     ap (λ (b : Bool). f z || b) (list_any-set f zs i x y more (omega (arith, within)) is passes) ∙ sym (or-assoc (f z) (list_any f zs) more)
 
 -- the items so far and one more
-pub any-next : {X : Type 0} (f : X → Bool) (xs : List X) (i : ℕ) (x : X) (before after : Bool) → i < length xs → x ≡ get_or xs i x → before ≡ list_any f (take i xs) → after ≡ (before || f x) → after ≡ list_any f (take (i + 1) xs)
+pub any-next : {X : Type 0} (f : X → Bool) (xs : List X) (i : ℕ) (x : X) (before after : Bool) → i < length xs → x ≡ get_or xs i x → before ≡ list_any f (take i xs) → after ≡ (before || f x) →
+    after ≡ list_any f (take (i + 1) xs)
 any-next {X} f xs i x before after within is held put =
     put ∙ ap (λ (b : Bool). b || f x) held ∙ ap (λ (one : X). list_any f (take i xs) || f one) is ∙ sym (list_any_more f xs i x within)

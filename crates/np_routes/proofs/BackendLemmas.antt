@@ -16,7 +16,7 @@ use Rattle.np_routes.proofs.TargetLemmas.{serves-outside, through-unserved}
 use Rattle.np_routes.specs.Routes.{is_in_namespace, leads_to, routes_in, routes_of_ingress, routes_through}
 use Rattle.np_routes.specs.Services.{is_service, service_named}
 use Rattle.np_rules.proofs.PlacesLemmas.{list_any-next}
-use Rattle.np_rules.specs.Ends.{PodEnd}
+use Rattle.np_rules.specs.model.Ends.{PodEnd}
 
 -- what is found passes
 find-passes : {X : Type 0} (test : X → Bool) (xs : List X) (x : X) → find test xs ≡ Some x → test x ≡ true
@@ -39,14 +39,16 @@ module _ (lists : EstateLists) (p : PodEnd) (number : ℕ) where
       by : (found : Option ServiceItem) → service_named lists.services namespace name ≡ found → list_any (leads_to p number) (routes_through named found) ≡ false
       by None is = refl
       by (Some service) is =
-          let own = (bytes_decides service.namespace namespace).0 (and_parts (bytes_eq service.namespace namespace) (bytes_eq service.name name) (find-passes (is_service namespace name) lists.services service is)).0 in
+          let own = (bytes_decides service.namespace namespace).0 (and_parts (bytes_eq service.namespace namespace) (bytes_eq service.name name)
+          (find-passes (is_service namespace name) lists.services service is)).0 in
           through-unserved p number named service (serves-outside service p (ap (λ (text : List ℕ). bytes_eq text p.namespace) own ∙ other))
 
   -- nor does such an ingress
   ingress-outside : (placed : PlacedIngress) → list_any (leads_to p number) (routes_of_ingress lists.services placed.ingress) ≡ ingress_leads lists p number placed
   ingress-outside placed = by (is_in_namespace p.namespace placed) refl
     where
-      by : (here : Bool) → is_in_namespace p.namespace placed ≡ here → list_any (leads_to p number) (routes_of_ingress lists.services placed.ingress) ≡ (here && list_any (leads_to p number) (routes_of_ingress lists.services placed.ingress))
+      by : (here : Bool) → is_in_namespace p.namespace placed ≡ here →
+          list_any (leads_to p number) (routes_of_ingress lists.services placed.ingress) ≡ (here && list_any (leads_to p number) (routes_of_ingress lists.services placed.ingress))
       by true is = refl
       by false is = by_backends lists p number placed ∙ list_any-none (backend_leads lists p number placed.ingress.namespace) placed.ingress.backends (backend-outside placed.ingress.namespace is)
 
@@ -58,11 +60,14 @@ module _ (lists : EstateLists) (p : PodEnd) (number : ℕ) where
       ∙ sym (by_ingresses lists p number)
 
 -- the routes of one ingress more
-pub routes-next : (services listed : List ServiceItem) (ingresses : List PlacedIngress) (i : ℕ) (placed : PlacedIngress) (p : PodEnd) (number : ℕ) (before after : Bool) → i < length ingresses → placed ≡ get_or ingresses i placed → services ≡ listed
-    → before ≡ list_any (leads_to p number) (flat_map (λ one. routes_of_ingress listed one.ingress) (take i ingresses)) → after ≡ (before || list_any (leads_to p number) (routes_of_ingress services placed.ingress))
+pub routes-next : (services listed : List ServiceItem) (ingresses : List PlacedIngress) (i : ℕ) (placed : PlacedIngress) (p : PodEnd) (number : ℕ) (before after : Bool) → i < length ingresses →
+    placed ≡ get_or ingresses i placed → services ≡ listed
+    → before ≡ list_any (leads_to p number) (flat_map (λ one. routes_of_ingress listed one.ingress) (take i ingresses)) → after ≡
+    (before || list_any (leads_to p number) (routes_of_ingress services placed.ingress))
     → after ≡ list_any (leads_to p number) (flat_map (λ one. routes_of_ingress listed one.ingress) (take (i + 1) ingresses))
 routes-next services listed ingresses i placed p number before after within item same held put =
     put
     ∙ ap (λ (b : Bool). b || list_any (leads_to p number) (routes_of_ingress services placed.ingress)) held
-    ∙ ap (λ (some : List ServiceItem). list_any (leads_to p number) (flat_map (λ one. routes_of_ingress listed one.ingress) (take i ingresses)) || list_any (leads_to p number) (routes_of_ingress some placed.ingress)) same
+    ∙ ap (λ (some : List ServiceItem). list_any (leads_to p number) (flat_map (λ one. routes_of_ingress listed one.ingress) (take i ingresses)) || list_any (leads_to p number)
+    (routes_of_ingress some placed.ingress)) same
     ∙ sym (list_any-next (leads_to p number) (λ one. routes_of_ingress listed one.ingress) ingresses i placed within item)

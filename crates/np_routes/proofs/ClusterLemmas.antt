@@ -1,5 +1,6 @@
 -- The rows of a cluster, and what they say.
-use Rattle.std.proofs.Common.{◌≡◌, ◌≢◌, ◌<◌, ◌≤◌, ℕ, List, [], ◌∷◌, ◌++◌, Bool, true, false, ◌&&◌, ◌||◌, Option, None, flat_map, length, append-nil, eq-eqb, arith, refl, sym, ap, subst, ◌∙◌, if◌then◌else◌}
+use Rattle.std.proofs.Common.{◌≡◌, ◌≢◌, ◌<◌, ◌≤◌, ℕ, List, [], ◌∷◌, ◌++◌, Bool, true, false, ◌&&◌, ◌||◌, Option, None, flat_map, length, append-nil, eq-eqb, arith, refl, sym, ap, subst, ◌∙◌}
+use Rattle.std.proofs.Common.{if◌then◌else◌}
 use Rattle.std.specs.Prelude.{filter}
 use Rattle.std.proofs.lemmas.Bool.{and_parts, eqb-true, false≢true, ne_eqb}
 use Rattle.std.proofs.lemmas.List.{length-map}
@@ -43,19 +44,23 @@ row_if-none test key conns fails = by (is_nothing conns)
 row_if-kept : (test : Row → Bool) (key : RowKey) (conns : Conns) → test (record { key = key; family = None; conns = conns }) ≡ true → filter test (row_if key None conns) ≡ row_if key None conns
 row_if-kept test key conns passes = by (is_nothing conns)
   where
-    by : (nothing : Bool) → filter {X = Row} test (if nothing then [] else record { key = key; family = None; conns = conns } ∷ []) ≡ (if nothing then [] else record { key = key; family = None; conns = conns } ∷ [])
+    by : (nothing : Bool) →
+        filter {X = Row} test (if nothing then [] else record { key = key; family = None; conns = conns } ∷ []) ≡ (if nothing then [] else record { key = key; family = None; conns = conns } ∷ [])
     by true = refl
     by false = rw passes refl
 
 -- rows of ingresses of which a test keeps none
-ingress_rows-none : (test : Row → Bool) (cluster : ClusterTable) → ((workload : ℕ) (conns : Conns) → test (record { key = ingress_key workload; family = None; conns = conns }) ≡ false) → filter test (all_ingress_rows cluster) ≡ []
+ingress_rows-none : (test : Row → Bool) (cluster : ClusterTable) → ((workload : ℕ) (conns : Conns) → test (record { key = ingress_key workload; family = None; conns = conns }) ≡ false) →
+    filter test (all_ingress_rows cluster) ≡ []
 unfolding all_ingress_rows ingress_row
 ingress_rows-none test cluster fails =
     filter-flat_map test (ingress_row cluster) (workloads cluster.table)
-    ∙ range-none (λ workload. filter test (ingress_row cluster workload)) 0 (length cluster.table.names) (λ workload _. row_if-none test (ingress_key workload) (conns_of (cluster.ingresses workload)) (fails workload (conns_of (cluster.ingresses workload))))
+    ∙ range-none (λ workload. filter test (ingress_row cluster workload)) 0 (length cluster.table.names)
+    (λ workload _. row_if-none test (ingress_key workload) (conns_of (cluster.ingresses workload)) (fails workload (conns_of (cluster.ingresses workload))))
 
 -- so the test keeps those of the table alone
-cluster-others : (test : Row → Bool) (cluster : ClusterTable) → ((workload : ℕ) (conns : Conns) → test (record { key = ingress_key workload; family = None; conns = conns }) ≡ false) → filter test (cluster_rows cluster) ≡ filter test (all_rows cluster.table)
+cluster-others : (test : Row → Bool) (cluster : ClusterTable) → ((workload : ℕ) (conns : Conns) → test (record { key = ingress_key workload; family = None; conns = conns }) ≡ false) →
+    filter test (cluster_rows cluster) ≡ filter test (all_rows cluster.table)
 cluster-others test cluster fails =
     filter-append test (all_rows cluster.table) (all_ingress_rows cluster)
     ∙ ap (λ (rows : List Row). filter test (all_rows cluster.table) ++ rows) (ingress_rows-none test cluster fails)
@@ -68,7 +73,8 @@ pub rows_between-cluster : (cluster : ClusterTable) (source destination : ℕ) �
 rows_between-cluster cluster source destination = cluster-others (is_between source destination) cluster (λ workload conns. refl)
 
 -- and so are those of an address
-pub rows_of_address-cluster : (cluster : ClusterTable) (workload : ℕ) (direction : Direction) (family : Family) (number : ℕ) → rows_of_address workload direction family number (cluster_rows cluster) ≡ rows_of_address workload direction family number (all_rows cluster.table)
+pub rows_of_address-cluster : (cluster : ClusterTable) (workload : ℕ) (direction : Direction) (family : Family) (number : ℕ) →
+    rows_of_address workload direction family number (cluster_rows cluster) ≡ rows_of_address workload direction family number (all_rows cluster.table)
 rows_of_address-cluster cluster workload Ingress family number = cluster-others (is_of_address workload Ingress family number) cluster (λ other conns. refl)
 rows_of_address-cluster cluster workload Egress family number = cluster-others (is_of_address workload Egress family number) cluster (λ other conns. refl)
 
@@ -77,7 +83,9 @@ rows_of_address-cluster cluster workload Egress family number = cluster-others (
 -- none of a pair of workloads
 pairs-none : (workload : ℕ) (table : Table) (source destination : ℕ) → rows_from_controller workload (pair_rows table source destination) ≡ []
 pairs-none workload table source destination =
-    filter-by (is_from_controller workload) false (pair_rows table source destination) (All-weaker (HasKey (pair_key source destination)) (λ row. is_from_controller workload row ≡ false) (λ row is. ap (λ (key : RowKey). is_ingress_controller key.source && is_workload workload key.destination) is) (pair_rows table source destination) (pair_rows-key table source destination))
+    filter-by (is_from_controller workload) false (pair_rows table source destination)
+    (All-weaker (HasKey (pair_key source destination)) (λ row. is_from_controller workload row ≡ false)
+    (λ row is. ap (λ (key : RowKey). is_ingress_controller key.source && is_workload workload key.destination) is) (pair_rows table source destination) (pair_rows-key table source destination))
 
 all_pairs-none : (workload : ℕ) (table : Table) → rows_from_controller workload (all_pair_rows table) ≡ []
 unfolding all_pair_rows
@@ -114,7 +122,8 @@ ingresses-own : (workload : ℕ) (cluster : ClusterTable) → workload < length 
 unfolding all_ingress_rows
 ingresses-own workload cluster within =
     filter-flat_map (is_from_controller workload) (ingress_row cluster) (workloads cluster.table)
-    ∙ range-only (λ other. rows_from_controller workload (ingress_row cluster other)) 0 (length cluster.table.names) workload (omega arith) (omega arith) (λ other apart. other_row workload other cluster apart)
+    ∙ range-only (λ other. rows_from_controller workload (ingress_row cluster other)) 0 (length cluster.table.names) workload (omega arith) (omega arith)
+    (λ other apart. other_row workload other cluster apart)
     ∙ own_row workload cluster
 
 -- the rows of a cluster from the controller to a workload are the row of the workload
@@ -123,7 +132,9 @@ rows_from_controller-cluster cluster workload within =
     let test = is_from_controller workload in
     let table = cluster.table in
     filter-append test (all_rows table) (all_ingress_rows cluster)
-    ∙ ap (λ (rows : List Row). rows ++ rows_from_controller workload (all_ingress_rows cluster)) (filter-append test (all_pair_rows table) (all_address_rows table) ∙ ap (λ (rows : List Row). rows ++ rows_from_controller workload (all_address_rows table)) (all_pairs-none workload table) ∙ all_addresses-none workload table)
+    ∙ ap (λ (rows : List Row). rows ++ rows_from_controller workload (all_ingress_rows cluster))
+    (filter-append test (all_pair_rows table) (all_address_rows table) ∙ ap (λ (rows : List Row). rows ++ rows_from_controller workload (all_address_rows table)) (all_pairs-none workload table)
+    ∙ all_addresses-none workload table)
     ∙ ingresses-own workload cluster within
 
 -- ---- what they say
@@ -161,7 +172,8 @@ row_if-one key conns = by (is_nothing conns)
     by true = omega arith
     by false = omega arith
 
-ingress_row-says : (cluster : ClusterTable) (workload : ℕ) (family : Family) (spot : PortSpot) → is_spot spot ≡ true → allows_in (ingress_row cluster workload) family spot ≡ cluster.ingresses workload spot
+ingress_row-says : (cluster : ClusterTable) (workload : ℕ) (family : Family) (spot : PortSpot) → is_spot spot ≡ true →
+    allows_in (ingress_row cluster workload) family spot ≡ cluster.ingresses workload spot
 unfolding ingress_row
 ingress_row-says cluster workload family spot is = row_if-says (ingress_key workload) (conns_of (cluster.ingresses workload)) family spot ∙ has_spot-conns_of (cluster.ingresses workload) spot is
 
@@ -170,7 +182,8 @@ unfolding ingress_row
 ingress_row-one cluster workload = row_if-one (ingress_key workload) (conns_of (cluster.ingresses workload))
 
 -- the rows from the controller to a workload say what is reached of it
-pub allows_in-cluster : (cluster : ClusterTable) (workload : ℕ) (family : Family) (spot : PortSpot) → workload < length cluster.table.names → is_spot spot ≡ true → allows_in (rows_from_controller workload (cluster_rows cluster)) family spot ≡ cluster.ingresses workload spot
+pub allows_in-cluster : (cluster : ClusterTable) (workload : ℕ) (family : Family) (spot : PortSpot) → workload < length cluster.table.names → is_spot spot ≡ true →
+    allows_in (rows_from_controller workload (cluster_rows cluster)) family spot ≡ cluster.ingresses workload spot
 allows_in-cluster cluster workload family spot within is =
     ap (λ (rows : List Row). allows_in rows family spot) (rows_from_controller-cluster cluster workload within) ∙ ingress_row-says cluster workload family spot is
 
@@ -189,18 +202,22 @@ pub cluster-names : (lists : EstateLists) (controller : Option ℕ) → length (
 unfolding cluster_table
 cluster-names lists controller = names-count lists (folding_of lists)
 
-cluster-allows : (lists : EstateLists) (controller : Option ℕ) (workload : ℕ) (spot : PortSpot) → (cluster_table lists controller).ingresses workload spot ≡ ingress_allows lists (folding_of lists) controller workload spot
+cluster-allows : (lists : EstateLists) (controller : Option ℕ) (workload : ℕ) (spot : PortSpot) →
+    (cluster_table lists controller).ingresses workload spot ≡ ingress_allows lists (folding_of lists) controller workload spot
 unfolding cluster_table
 cluster-allows lists controller workload spot = refl
 
 -- its rows say what is reached of a workload
-pub allows_in-workloads : (lists : EstateLists) (controller : Option ℕ) (workload : ℕ) (family : Family) (spot : PortSpot) → IsWorkload lists workload → is_spot spot ≡ true → allows_in (rows_from_controller workload (cluster_rows (cluster_table lists controller))) family spot ≡ ingress_allows lists (folding_of lists) controller workload spot
+pub allows_in-workloads : (lists : EstateLists) (controller : Option ℕ) (workload : ℕ) (family : Family) (spot : PortSpot) → IsWorkload lists workload → is_spot spot ≡ true →
+    allows_in (rows_from_controller workload (cluster_rows (cluster_table lists controller))) family spot ≡ ingress_allows lists (folding_of lists) controller workload spot
 allows_in-workloads lists controller workload family spot within is =
     allows_in-cluster (cluster_table lists controller) workload family spot (subst (λ (n : ℕ). workload < n) (sym (cluster-names lists controller)) within) is
     ∙ cluster-allows lists controller workload spot
 
 -- and so of each pod of it
-pub allows_in-pods : (lists : EstateLists) (controller : Option ℕ) (p : ℕ) (family : Family) (spot : PortSpot) → IsLawful lists → p < length lists.pods → is_controller controller (number_of lists p) ≡ false → is_spot spot ≡ true → allows_in (rows_from_controller (number_of lists p) (cluster_rows (cluster_table lists controller))) family spot ≡ ingress_reaches lists (sender_of (folding_of lists) controller) p spot
+pub allows_in-pods : (lists : EstateLists) (controller : Option ℕ) (p : ℕ) (family : Family) (spot : PortSpot) → IsLawful lists → p < length lists.pods →
+    is_controller controller (number_of lists p) ≡ false → is_spot spot ≡ true →
+    allows_in (rows_from_controller (number_of lists p) (cluster_rows (cluster_table lists controller))) family spot ≡ ingress_reaches lists (sender_of (folding_of lists) controller) p spot
 allows_in-pods lists controller p family spot lawful p_in other is =
     allows_in-workloads lists controller (number_of lists p) family spot (number-workload lists p p_in) is ∙ sym (reaches-allows lists controller p spot lawful p_in other)
 
@@ -210,7 +227,8 @@ filter-swap : (p q : Row → Bool) (rows : List Row) → filter p (filter q rows
 filter-swap p q [] = refl
 filter-swap p q (row ∷ rows) = by (p row) (q row) refl refl (filter-swap p q rows)
   where
-    by : (first second : Bool) → p row ≡ first → q row ≡ second → filter p (filter q rows) ≡ filter q (filter p rows) → filter p (if second then row ∷ filter q rows else filter q rows) ≡ filter q (if first then row ∷ filter p rows else filter p rows)
+    by : (first second : Bool) → p row ≡ first → q row ≡ second → filter p (filter q rows) ≡ filter q (filter p rows) →
+        filter p (if second then row ∷ filter q rows else filter q rows) ≡ filter q (if first then row ∷ filter p rows else filter p rows)
     by true true is is' rest = rw (is, is') (ap (λ (more : List Row). row ∷ more) rest)
     by true false is is' rest = rw is' rest
     by false true is is' rest = rw is rest
@@ -234,7 +252,8 @@ from_controller-key workload row is =
     ap from (controller-end row.key.source ends.0) ∙ ap to (workload-end workload row.key.destination ends.1)
 
 -- it keeps all rows from the controller to a workload, or none
-pub rows_from_controller-kept : (workload : ℕ) (keep : RowKey → Bool) (rows : List Row) → rows_from_controller workload (filter (λ (row : Row). keep row.key) rows) ≡ (if keep (ingress_key workload) then rows_from_controller workload rows else [])
+pub rows_from_controller-kept : (workload : ℕ) (keep : RowKey → Bool) (rows : List Row) →
+    rows_from_controller workload (filter (λ (row : Row). keep row.key) rows) ≡ (if keep (ingress_key workload) then rows_from_controller workload rows else [])
 rows_from_controller-kept workload keep rows =
     filter-swap (is_from_controller workload) (λ (row : Row). keep row.key) rows
     ∙ filter-by (λ (row : Row). keep row.key) (keep (ingress_key workload)) (rows_from_controller workload rows)

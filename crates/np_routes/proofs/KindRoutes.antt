@@ -1,5 +1,6 @@
 -- Pods that no service and no rule tells apart.
-use Rattle.std.proofs.Common.{◌≡◌, ◌<◌, ℕ, List, [], ◌∷◌, ◌++◌, Bool, true, false, not, ◌&&◌, ◌==◌, AllPairs, Option, Some, None, IfSome, length, map, flat_map, slice_get, get_or, refl, sym, ap, subst, ◌∙◌, inl, inr, if◌then◌else◌}
+use Rattle.std.proofs.Common.{◌≡◌, ◌<◌, ℕ, List, [], ◌∷◌, ◌++◌, Bool, true, false, not, ◌&&◌, ◌==◌, AllPairs, Option, Some, None, IfSome, length, map, flat_map, slice_get, get_or, refl, sym, ap}
+use Rattle.std.proofs.Common.{subst, ◌∙◌, inl, inr, if◌then◌else◌}
 use Rattle.std.specs.Prelude.{filter}
 use Rattle.std.specs.List.{AllByRecursion, find, list_any}
 use Rattle.std.specs.Option.{option_map_or}
@@ -33,9 +34,9 @@ use Rattle.np_routes.specs.Routes.{Route, is_in_namespace, is_routed, leads_to, 
 use Rattle.np_routes.specs.Services.{is_backend_port, is_pod_port, is_service, is_target, service_named, serves}
 use Rattle.np_rules.proofs.DeciderLemmas.{decider_says}
 use Rattle.np_rules.specs.Deciders.{decider_allows}
-use Rattle.np_rules.specs.Ends.{Contact, End, PodEnd, contact, pod, pod_end, stranger_end}
-use Rattle.np_rules.specs.PortEntries.{is_named}
-use Rattle.np_rules.specs.Verdict.{pod_at, pod_or_none}
+use Rattle.np_rules.specs.model.Ends.{Contact, End, PodEnd, contact, pod, pod_end, stranger_end}
+use Rattle.np_rules.specs.model.PortEntries.{is_named}
+use Rattle.np_rules.specs.model.Verdict.{pod_at, pod_or_none}
 use Rattle.np_table.proofs.KindLists.{All-append, All-each, All-flat, All-parts, list_any-same}
 use Rattle.np_table.proofs.KindSelectors.{AgreeOn, All-from_listed, selector-same}
 use Rattle.np_table.proofs.KindVerdicts.{SameKindEnd-ends, got-same, packet-same}
@@ -71,7 +72,8 @@ pub record AreServedAlike (services : List ServiceItem) (p q : PodEnd) : Type 0 
   labels : AllByRecursion (λ service. AllByRecursion (AgreeOn p.labels q.labels) (keys_of_service service)) services
 
 module _ (lists : EstateLists) (p q : PodEnd) (alike : AreServedAlike lists.services p q) where
-  selected-same : (selector : Option Selector) → AllByRecursion (AgreeOn p.labels q.labels) (keys_of_optional selector) → option_map_or (λ asked. meets_selector asked p.labels) selector false ≡ option_map_or (λ asked. meets_selector asked q.labels) selector false
+  selected-same : (selector : Option Selector) → AllByRecursion (AgreeOn p.labels q.labels) (keys_of_optional selector) →
+      option_map_or (λ asked. meets_selector asked p.labels) selector false ≡ option_map_or (λ asked. meets_selector asked q.labels) selector false
   selected-same None agree = refl
   selected-same (Some selector) agree = selector-same p.labels q.labels selector agree
 
@@ -93,7 +95,8 @@ module _ (lists : EstateLists) (p q : PodEnd) (alike : AreServedAlike lists.serv
   abbrev LeadsAlike : ℕ → Route → Type 0
   LeadsAlike number route = leads_to p number route ≡ leads_to q number route
 
-  through-same : (number : ℕ) (named : PortName) (found : Option ServiceItem) → IfSome found (λ service. AllByRecursion (AgreeOn p.labels q.labels) (keys_of_service service)) → AllByRecursion (LeadsAlike number) (routes_through named found)
+  through-same : (number : ℕ) (named : PortName) (found : Option ServiceItem) → IfSome found (λ service. AllByRecursion (AgreeOn p.labels q.labels) (keys_of_service service)) →
+      AllByRecursion (LeadsAlike number) (routes_through named found)
   through-same number named None agree = tt
   through-same number named (Some service) agree =
       All-map (LeadsAlike number) (λ port. record { service = service; port = port }) (λ port.
@@ -101,13 +104,16 @@ module _ (lists : EstateLists) (p q : PodEnd) (alike : AreServedAlike lists.serv
       ∙ ap (λ (b : Bool). serves service q && b) (target-same service port number)) (filter (is_backend_port named) service.ports)
 
   backend-same : (number : ℕ) (namespace : List ℕ) (one : Backend) → AllByRecursion (LeadsAlike number) (routes_of_backend lists.services namespace one)
-  backend-same number namespace (backend.Service name named) = through-same number named (service_named lists.services namespace name) (found-among (λ service. AllByRecursion (AgreeOn p.labels q.labels) (keys_of_service service)) (is_service namespace name) lists.services alike.labels)
+  backend-same number namespace (backend.Service name named) = through-same number named (service_named lists.services namespace name)
+      (found-among (λ service. AllByRecursion (AgreeOn p.labels q.labels) (keys_of_service service)) (is_service namespace name) lists.services alike.labels)
   backend-same number namespace backend.Resource = tt
 
   routes-same : (number : ℕ) (namespace : List ℕ) → AllByRecursion (LeadsAlike number) (routes_in lists namespace)
   unfolding routes_in
   routes-same number namespace =
-      All-flat_map (LeadsAlike number) (λ placed. routes_of_ingress lists.services placed.ingress) (λ placed. All-flat_map (LeadsAlike number) (routes_of_backend lists.services placed.ingress.namespace) (backend-same number placed.ingress.namespace) placed.ingress.backends) (filter (is_in_namespace namespace) lists.ingresses)
+      All-flat_map (LeadsAlike number) (λ placed. routes_of_ingress lists.services placed.ingress)
+      (λ placed. All-flat_map (LeadsAlike number) (routes_of_backend lists.services placed.ingress.namespace) (backend-same number placed.ingress.namespace) placed.ingress.backends)
+      (filter (is_in_namespace namespace) lists.ingresses)
 
   -- the same ports of both are routed
   pub routed-same : (spot : PortSpot) → is_routed lists p spot ≡ is_routed lists q spot
@@ -120,7 +126,8 @@ module _ (lists : EstateLists) (p q : PodEnd) (alike : AreServedAlike lists.serv
 served-pods : (lists : EstateLists) (a b : Pod) → IsSameKind lists a b → AreServedAlike lists.services (pod_end a) (pod_end b)
 served-pods lists a b kind =
     let all = All-from_listed (AgreeOn a.labels b.labels) (keys_of_estate lists) kind.labels in
-    let services = (All-parts (AgreeOn a.labels b.labels) (flat_map keys_of_net_policy lists.net_policies ++ flat_map keys_of_admin_policy lists.admin_policies ++ keys_of_baseline lists.baseline) (flat_map keys_of_service lists.services) all).1 in
+    let services = (All-parts (AgreeOn a.labels b.labels) (flat_map keys_of_net_policy lists.net_policies ++ flat_map keys_of_admin_policy lists.admin_policies ++ keys_of_baseline lists.baseline)
+    (flat_map keys_of_service lists.services) all).1 in
     record { namespace = kind.namespace; ports = kind.ports; labels = All-flat (AgreeOn a.labels b.labels) keys_of_service lists.services services }
 
 -- pods that stand in order and are of one namespace have the same labels of it
@@ -133,7 +140,8 @@ same_some : (found : Option Pod) (a b : Pod) → found ≡ Some a → found ≡ 
 same_some found a b is is' = cc
 
 -- and so in whatever order they stand
-labels_agree : (lists : EstateLists) (i j : ℕ) (a b : Pod) → IsLawful lists → slice_get lists.pods i ≡ Some a → slice_get lists.pods j ≡ Some b → a.namespace ≡ b.namespace → a.namespace_labels ≡ b.namespace_labels
+labels_agree : (lists : EstateLists) (i j : ℕ) (a b : Pod) → IsLawful lists → slice_get lists.pods i ≡ Some a → slice_get lists.pods j ≡ Some b → a.namespace ≡ b.namespace →
+    a.namespace_labels ≡ b.namespace_labels
 labels_agree lists i j a b lawful is is' same =
     elim (cases_order i j) [
       | inl equal ↦ ap (λ (p : Pod). p.namespace_labels) (same_some (slice_get lists.pods j) a b (subst (λ (k : ℕ). slice_get lists.pods k ≡ Some a) equal is) is')
@@ -152,7 +160,8 @@ alike-by lists p q a b lawful is is' kind =
     let other_is : pod_at lists q ≡ pod_end b = ap pod_or_none is' in
     record {
       kind = inl (record { first = a; second = b; one_is = ap pod one_is; other_is = ap pod other_is; kind = kind; namespace = labels_agree lists p q a b lawful is is' kind.namespace });
-      served = subst (λ (x : PodEnd). AreServedAlike lists.services x (pod_at lists q)) (sym one_is) (subst (λ (y : PodEnd). AreServedAlike lists.services (pod_end a) y) (sym other_is) (served-pods lists a b kind));
+      served = subst (λ (x : PodEnd). AreServedAlike lists.services x (pod_at lists q)) (sym one_is)
+          (subst (λ (y : PodEnd). AreServedAlike lists.services (pod_end a) y) (sym other_is) (served-pods lists a b kind));
     }
 
 -- so are those of one workload
@@ -172,12 +181,15 @@ anyone-same lists p q spot kind =
     ∙ ap decider_allows (got-same lists Four spot anyone anyone (pod p) (pod q) (SameKindEnd-ends lists anyone anyone (inr refl)) (SameKindEnd-ends lists (pod p) (pod q) kind))
     ∙ decider_says lists Ingress (pod q) (at q)
 
-sent-same : (lists : EstateLists) (sender : Option ℕ) (p q : ℕ) (spot : PortSpot) → AreOneKind lists (pod (pod_at lists p)) (pod (pod_at lists q)) → may_send lists sender p spot ≡ may_send lists sender q spot
+sent-same : (lists : EstateLists) (sender : Option ℕ) (p q : ℕ) (spot : PortSpot) → AreOneKind lists (pod (pod_at lists p)) (pod (pod_at lists q)) →
+    may_send lists sender p spot ≡ may_send lists sender q spot
 sent-same lists None p q spot kind = anyone-same lists (pod_at lists p) (pod_at lists q) spot kind
 sent-same lists (Some sender) p q spot kind =
     let from : End = pod (pod_at lists sender) in
     list_any-same (λ family. between_pods lists sender p family spot) (λ family. between_pods lists sender q family spot) (families_of lists.pods)
-    (All-each (λ family. between_pods lists sender p family spot ≡ between_pods lists sender q family spot) (λ family. packet-same lists family spot from from (pod (pod_at lists p)) (pod (pod_at lists q)) (SameKindEnd-ends lists from from (inr refl)) (SameKindEnd-ends lists _ _ kind)) (families_of lists.pods))
+    (All-each (λ family. between_pods lists sender p family spot ≡ between_pods lists sender q family spot)
+    (λ family. packet-same lists family spot from from (pod (pod_at lists p)) (pod (pod_at lists q)) (SameKindEnd-ends lists from from (inr refl)) (SameKindEnd-ends lists _ _ kind))
+    (families_of lists.pods))
 
 -- the same ports of two such pods are reached
 pub reaches-same : (lists : EstateLists) (sender : Option ℕ) (p q : ℕ) (spot : PortSpot) → AreAlikeAt lists p q → ingress_reaches lists sender p spot ≡ ingress_reaches lists sender q spot

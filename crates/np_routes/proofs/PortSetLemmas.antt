@@ -17,7 +17,7 @@ use Rattle.np_routes.proofs.AnyLemmas.{bytes-swap, list_any-none, list_any-or, l
 use Rattle.np_routes.specs.Services.{is_named_by, is_pod_port}
 use Rattle.np_routes.specs.declared.port_set.PortSet.{PortSet}
 use Rattle.np_routes.specs.steps.PortSets.{at_pod, has_own, has_port, has_text, held_at, is_named_in, is_same_port}
-use Rattle.np_rules.specs.Ends.{PodEnd}
+use Rattle.np_rules.specs.model.Ends.{PodEnd}
 
 -- ---- what is added
 
@@ -35,7 +35,8 @@ or-here false true = refl
 or-here false false = refl
 
 -- a set of names and one more
-pub name-added : (numbers : BTreeSet ℕ) (before after : BTreeSet (Bor (List ℕ))) (name : Bor (List ℕ)) → ((q : Bor (List ℕ)) → contains compare_texts after q ≡ cond (is_eq (compare_texts name q)) true (contains compare_texts before q))
+pub name-added : (numbers : BTreeSet ℕ) (before after : BTreeSet (Bor (List ℕ))) (name : Bor (List ℕ)) →
+    ((q : Bor (List ℕ)) → contains compare_texts after q ≡ cond (is_eq (compare_texts name q)) true (contains compare_texts before q))
     → (other : PortName) → has_port (record { numbers = numbers; names = after }) other ≡ (has_port (record { numbers = numbers; names = before }) other || is_same_port (Named name.now) other)
 name-added numbers before after name updates (Number other) = sym (or_false (contains nat_cmp numbers other))
 name-added numbers before after name updates (Named other) =
@@ -44,7 +45,8 @@ name-added numbers before after name updates (Named other) =
     ∙ or-here (bytes_eq name.now other) (has_text before other)
 
 -- two sets together
-pub sets-joined : (before other after : PortSet) → ((number : ℕ) → contains nat_cmp after.numbers number ≡ (contains nat_cmp before.numbers number || contains nat_cmp other.numbers number)) → ((name : List ℕ) → has_text after.names name ≡ (has_text before.names name || has_text other.names name))
+pub sets-joined : (before other after : PortSet) → ((number : ℕ) → contains nat_cmp after.numbers number ≡ (contains nat_cmp before.numbers number || contains nat_cmp other.numbers number)) →
+    ((name : List ℕ) → has_text after.names name ≡ (has_text before.names name || has_text other.names name))
     → (port : PortName) → has_port after port ≡ (has_port before port || has_port other port)
 sets-joined before other after numbers names (Number number) = numbers number
 sets-joined before other after numbers names (Named name) = names name
@@ -62,9 +64,11 @@ named_own (Named named) number name = option_map_or (λ own. bytes_eq own named)
 pub number-own : (before middle : PortName → Bool) (port : ServicePort) → port.name ≡ None → ((other : PortName) → middle other ≡ (before other || is_same_port (Number port.port) other))
     → (other : PortName) → middle other ≡ (before other || is_named_by other port)
 number-own before middle port none number (Number other) = number (Number other)
-number-own before middle port none number (Named other) = number (Named other) ∙ ap (λ (own : Option (List ℕ)). before (Named other) || option_map_or (λ text. bytes_eq text other) own false) (sym none)
+number-own before middle port none number (Named other) = number (Named other) ∙ ap (λ (own : Option (List ℕ)). before (Named other) || option_map_or (λ text. bytes_eq text other) own false)
+    (sym none)
 
-pub name-own : (before middle after : PortName → Bool) (port : ServicePort) (name : List ℕ) → port.name ≡ Some name → ((other : PortName) → middle other ≡ (before other || is_same_port (Number port.port) other)) → ((other : PortName) → after other ≡ (middle other || is_same_port (Named name) other))
+pub name-own : (before middle after : PortName → Bool) (port : ServicePort) (name : List ℕ) → port.name ≡ Some name →
+    ((other : PortName) → middle other ≡ (before other || is_same_port (Number port.port) other)) → ((other : PortName) → after other ≡ (middle other || is_same_port (Named name) other))
     → (other : PortName) → after other ≡ (before other || is_named_by other port)
 name-own before middle after port name is number named (Number other) = named (Number other) ∙ or_false (middle (Number other)) ∙ number (Number other)
 name-own before middle after port name is number named (Named other) =
@@ -95,7 +99,8 @@ named-own : (named : PortName) (port : ServicePort) → named_own named port.por
 named-own (Number named) port = refl
 named-own (Named named) port = refl
 
-pub own-added : (before after : PortSet) (named : PortName) (port : ServicePort) → ((other : PortName) → has_port after other ≡ (has_port before other || is_same_port named other)) → has_own after port ≡ (has_own before port || is_named_by named port)
+pub own-added : (before after : PortSet) (named : PortName) (port : ServicePort) → ((other : PortName) → has_port after other ≡ (has_port before other || is_same_port named other)) →
+    has_own after port ≡ (has_own before port || is_named_by named port)
 own-added before after named port added =
     own-held (has_port before) (has_port after) named port.port port.name added ∙ ap (λ (b : Bool). has_own before port || b) (named-own named port)
 
@@ -117,14 +122,17 @@ and-split true false false = refl
 and-split false b t = refl
 
 -- what is held in one way or another leads where one or the other does
-held-or : (one other both : PortName → Bool) (p : PodEnd) (number : ℕ) → ((port : PortName) → both port ≡ (one port || other port)) → held_at both p number ≡ (held_at one p number || held_at other p number)
+held-or : (one other both : PortName → Bool) (p : PodEnd) (number : ℕ) → ((port : PortName) → both port ≡ (one port || other port)) →
+    held_at both p number ≡ (held_at one p number || held_at other p number)
 held-or one other both p number is =
     ap (λ (b : Bool). b || list_any (is_named_in both number) p.ports) (is (Number number))
     ∙ ap (λ (b : Bool). (one (Number number) || other (Number number)) || b) (list_any-or (is_named_in one number) (is_named_in other number) (is_named_in both number) p.ports (λ port.
-    ap (λ (b : Bool). b && (same_proto Tcp port.proto && (number == port.number))) (is (Named port.name)) ∙ and-split (one (Named port.name)) (other (Named port.name)) (same_proto Tcp port.proto && (number == port.number))))
+    ap (λ (b : Bool). b && (same_proto Tcp port.proto && (number == port.number))) (is (Named port.name)) ∙ and-split (one (Named port.name)) (other (Named port.name))
+    (same_proto Tcp port.proto && (number == port.number))))
     ∙ or-swap (one (Number number)) (other (Number number)) (list_any (is_named_in one number) p.ports) (list_any (is_named_in other number) p.ports)
 
-pub at_pod-joined : (before other after : PortSet) (p : PodEnd) (number : ℕ) → ((port : PortName) → has_port after port ≡ (has_port before port || has_port other port)) → at_pod after p number ≡ (at_pod before p number || at_pod other p number)
+pub at_pod-joined : (before other after : PortSet) (p : PodEnd) (number : ℕ) → ((port : PortName) → has_port after port ≡ (has_port before port || has_port other port)) →
+    at_pod after p number ≡ (at_pod before p number || at_pod other p number)
 at_pod-joined before other after p number is = held-or (has_port before) (has_port other) (has_port after) p number is
 
 -- one alone leads where it names a port of the pod
@@ -134,7 +142,8 @@ held-one (Named name) p number =
     list_any-same (is_named_in (is_same_port (Named name)) number) (λ port. bytes_eq port.name name && (same_proto Tcp port.proto && (number == port.number))) p.ports
     (λ port. ap (λ (b : Bool). b && (same_proto Tcp port.proto && (number == port.number))) (bytes-swap name port.name))
 
-pub at_pod-added : (before after : PortSet) (named : PortName) (p : PodEnd) (number : ℕ) → ((other : PortName) → has_port after other ≡ (has_port before other || is_same_port named other)) → at_pod after p number ≡ (at_pod before p number || is_pod_port named p number)
+pub at_pod-added : (before after : PortSet) (named : PortName) (p : PodEnd) (number : ℕ) → ((other : PortName) → has_port after other ≡ (has_port before other || is_same_port named other)) →
+    at_pod after p number ≡ (at_pod before p number || is_pod_port named p number)
 at_pod-added before after named p number added =
     held-or (has_port before) (is_same_port named) (has_port after) p number added ∙ ap (λ (b : Bool). at_pod before p number || b) (held-one named p number)
 

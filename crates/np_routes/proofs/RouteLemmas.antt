@@ -18,7 +18,7 @@ use Rattle.np_model.specs.declared.service.ServiceItem.{ServiceItem}
 use Rattle.np_model.specs.declared.service.ServicePort.{ServicePort}
 use Rattle.np_routes.specs.Routes.{LeadsTo, is_in_namespace, is_routed, leads_to, routes_in, routes_of_backend, routes_of_ingress, routes_through}
 use Rattle.np_routes.specs.Services.{is_backend_port, is_target, service_named, serves}
-use Rattle.np_rules.specs.Ends.{PodEnd}
+use Rattle.np_rules.specs.model.Ends.{PodEnd}
 
 -- ---- lists of which some item passes
 
@@ -40,7 +40,8 @@ list_any-filter : {X : Type 0} (test keep : X → Bool) (xs : List X) → list_a
 list_any-filter test keep [] = refl
 list_any-filter {X} test keep (x ∷ xs) = by (keep x) (list_any-filter test keep xs)
   where
-    by : (kept : Bool) → list_any test (filter keep xs) ≡ list_any (λ x. keep x && test x) xs → list_any test (if kept then x ∷ filter keep xs else filter keep xs) ≡ ((kept && test x) || list_any (λ x. keep x && test x) xs)
+    by : (kept : Bool) → list_any test (filter keep xs) ≡ list_any (λ x. keep x && test x) xs →
+        list_any test (if kept then x ∷ filter keep xs else filter keep xs) ≡ ((kept && test x) || list_any (λ x. keep x && test x) xs)
     by true rest = ap (λ (b : Bool). test x || b) rest
     by false rest = rest
 
@@ -54,7 +55,8 @@ list_any-map test f (x ∷ xs) = ap (λ (b : Bool). test (f x) || b) (list_any-m
 abbrev pub port_leads : PodEnd → ℕ → PortName → ServiceItem → ServicePort → Bool
 port_leads p number named service port = is_backend_port named port && leads_to p number (record { service = service; port = port })
 
-pub through-ports : (p : PodEnd) (number : ℕ) (named : PortName) (service : ServiceItem) → list_any (leads_to p number) (routes_through named (Some service)) ≡ list_any (port_leads p number named service) service.ports
+pub through-ports : (p : PodEnd) (number : ℕ) (named : PortName) (service : ServiceItem) →
+    list_any (leads_to p number) (routes_through named (Some service)) ≡ list_any (port_leads p number named service) service.ports
 through-ports p number named service =
     list_any-map (leads_to p number) (λ port. record { service = service; port = port }) (filter (is_backend_port named) service.ports)
     ∙ list_any-filter (λ port. leads_to p number (record { service = service; port = port })) (is_backend_port named) service.ports
@@ -72,13 +74,15 @@ module _ (lists : EstateLists) (p : PodEnd) (number : ℕ) where
       list_any-flat_map (leads_to p number) (λ placed. routes_of_ingress lists.services placed.ingress) (filter (is_in_namespace p.namespace) lists.ingresses)
       ∙ list_any-filter (λ placed. list_any (leads_to p number) (routes_of_ingress lists.services placed.ingress)) (is_in_namespace p.namespace) lists.ingresses
 
-  pub by_backends : (placed : PlacedIngress) → list_any (leads_to p number) (routes_of_ingress lists.services placed.ingress) ≡ list_any (backend_leads placed.ingress.namespace) placed.ingress.backends
+  pub by_backends : (placed : PlacedIngress) →
+      list_any (leads_to p number) (routes_of_ingress lists.services placed.ingress) ≡ list_any (backend_leads placed.ingress.namespace) placed.ingress.backends
   by_backends placed = list_any-flat_map (leads_to p number) (routes_of_backend lists.services placed.ingress.namespace) placed.ingress.backends
 
   -- ---- a route in the words of the API
 
   module _ (placed : PlacedIngress) (listed : Contains lists.ingresses placed) (own : placed.ingress.namespace ≡ p.namespace) where
-    of_service : (name : List ℕ) (named : PortName) (found : Option ServiceItem) → Contains placed.ingress.backends (backend.Service name named) → service_named lists.services placed.ingress.namespace name ≡ found → list_any (leads_to p number) (routes_through named found) ≡ true → LeadsTo lists p number
+    of_service : (name : List ℕ) (named : PortName) (found : Option ServiceItem) → Contains placed.ingress.backends (backend.Service name named) →
+        service_named lists.services placed.ingress.namespace name ≡ found → list_any (leads_to p number) (routes_through named found) ≡ true → LeadsTo lists p number
     of_service name named None has is leads = absurd (false≢true leads)
     of_service name named (Some service) has is leads =
         let port = some_passes (port_leads p number named service) service.ports (sym (through-ports p number named service) ∙ leads) in
@@ -119,7 +123,8 @@ module _ (lists : EstateLists) (p : PodEnd) (number : ℕ) where
       let service = ap (λ (namespace : List ℕ). service_named lists.services namespace route.name) route.in_namespace ∙ route.is_service in
       let through = ap (λ (found : Option ServiceItem). list_any (leads_to p number) (routes_through route.named found)) service ∙ through-ports p number route.named route.service ∙ port in
       let one = passes_some (backend_leads route.placed.ingress.namespace) route.placed.ingress.backends (backend.Service route.name route.named) route.is_backend through in
-      by_ingresses ∙ passes_some ingress_leads lists.ingresses route.placed route.is_listed (and_from _ _ ((bytes_decides route.placed.ingress.namespace p.namespace).1 route.in_namespace) (by_backends route.placed ∙ one))
+      by_ingresses ∙ passes_some ingress_leads lists.ingresses route.placed route.is_listed
+      (and_from _ _ ((bytes_decides route.placed.ingress.namespace p.namespace).1 route.in_namespace) (by_backends route.placed ∙ one))
 
 -- ---- TCP ports
 

@@ -1,5 +1,6 @@
 -- Places of services that are kept by namespace and name.
-use Rattle.std.proofs.Common.{◌≡◌, ◌<◌, ◌+◌, ℕ, List, [], ◌∷◌, Bool, true, false, ◌&&◌, Option, Some, None, Bor, Less, Equal, Greater, Ordering, length, get_or, take, is_some, refl, sym, ap, ◌∙◌, if◌then◌else◌, cond}
+use Rattle.std.proofs.Common.{◌≡◌, ◌<◌, ◌+◌, ℕ, List, [], ◌∷◌, Bool, true, false, ◌&&◌, Option, Some, None, Bor, Less, Equal, Greater, Ordering, length, get_or, take, is_some, refl, sym, ap, ◌∙◌}
+use Rattle.std.proofs.Common.{if◌then◌else◌, cond}
 use Rattle.std.specs.BTreeMap.{BTreeMap, Updates}
 use Rattle.std.specs.Cmp.Lexicographic.{bytes_decides, slice_cmp}
 use Rattle.std.specs.Option.{option_or}
@@ -24,7 +25,8 @@ is_eq-then Equal second = refl
 is_eq-then Greater second = refl
 
 -- two names compare equal where they are equal
-names-equal : (namespace name namespace' name' : List ℕ) → is_eq (ordering_then (slice_cmp nat_cmp namespace namespace') (slice_cmp nat_cmp name name')) ≡ (bytes_eq namespace namespace' && bytes_eq name name')
+names-equal : (namespace name namespace' name' : List ℕ) →
+    is_eq (ordering_then (slice_cmp nat_cmp namespace namespace') (slice_cmp nat_cmp name name')) ≡ (bytes_eq namespace namespace' && bytes_eq name name')
 names-equal namespace name namespace' name' =
     is_eq-then (slice_cmp nat_cmp namespace namespace') (slice_cmp nat_cmp name name')
     ∙ ap (λ (b : Bool). b && is_eq (slice_cmp nat_cmp name name')) (is_eq-slice_cmp namespace namespace')
@@ -56,7 +58,8 @@ module _ (places : BTreeMap (Bor (List ℕ) × Bor (List ℕ)) ℕ) (service : S
   not_some (Some one) is = cc
 
   -- where an earlier one stands there nothing changes
-  pub place-stays : is_some (place_at places service.namespace service.name) ≡ true → place_at places namespace name ≡ option_or (place_at places namespace name) (if is_service namespace name service then Some place else None)
+  pub place-stays : is_some (place_at places service.namespace service.name) ≡ true →
+      place_at places namespace name ≡ option_or (place_at places namespace name) (if is_service namespace name service then Some place else None)
   place-stays there = by (is_service namespace name service) refl
     where
       by : (here : Bool) → is_service namespace name service ≡ here → place_at places namespace name ≡ option_or (place_at places namespace name) (if here then Some place else None)
@@ -64,7 +67,8 @@ module _ (places : BTreeMap (Bor (List ℕ) × Bor (List ℕ)) ℕ) (service : S
       by false is = or_none (place_at places namespace name)
 
   -- and else it is put there
-  pub place-put : (after : BTreeMap (Bor (List ℕ) × Bor (List ℕ)) ℕ) (own_namespace own_name : Bor (List ℕ)) → own_namespace.now ≡ service.namespace → own_name.now ≡ service.name → is_some (place_at places own_namespace.now own_name.now) ≡ false → Updates compare_keys places after (own_namespace, own_name) (Some place)
+  pub place-put : (after : BTreeMap (Bor (List ℕ) × Bor (List ℕ)) ℕ) (own_namespace own_name : Bor (List ℕ)) → own_namespace.now ≡ service.namespace → own_name.now ≡ service.name →
+      is_some (place_at places own_namespace.now own_name.now) ≡ false → Updates compare_keys places after (own_namespace, own_name) (Some place)
       → place_at after namespace name ≡ option_or (place_at places namespace name) (if is_service namespace name service then Some place else None)
   place-put after own_namespace own_name of_namespace of_name absent updates =
       updates.0 (lent namespace, lent name)
@@ -76,25 +80,29 @@ module _ (places : BTreeMap (Bor (List ℕ) × Bor (List ℕ)) ℕ) (service : S
       none : is_some (place_at places service.namespace service.name) ≡ false
       none = ap (λ (text : List ℕ). is_some (place_at places service.namespace text)) (sym of_name) ∙ ap (λ (text : List ℕ). is_some (place_at places text own_name.now)) (sym of_namespace) ∙ absent
 
-      by : (here : Bool) → is_service namespace name service ≡ here → cond here (Some place) (place_at places namespace name) ≡ option_or (place_at places namespace name) (if here then Some place else None)
+      by : (here : Bool) → is_service namespace name service ≡ here →
+          cond here (Some place) (place_at places namespace name) ≡ option_or (place_at places namespace name) (if here then Some place else None)
       by true is = not_some (place_at places namespace name) (ap is_some (own-place is) ∙ none)
       by false is = or_none (place_at places namespace name)
 
 -- ---- the first services of a list
 
 -- the first of one service more
-named-more : (listed : List ServiceItem) (i : ℕ) (service : ServiceItem) (namespace name : List ℕ) → i < length listed → service ≡ get_or listed i service → service_named (take (i + 1) listed) namespace name ≡ option_or (service_named (take i listed) namespace name) (if is_service namespace name service then Some service else None)
+named-more : (listed : List ServiceItem) (i : ℕ) (service : ServiceItem) (namespace name : List ℕ) → i < length listed → service ≡ get_or listed i service →
+    service_named (take (i + 1) listed) namespace name ≡ option_or (service_named (take i listed) namespace name) (if is_service namespace name service then Some service else None)
 named-more listed i service namespace name within item =
     ap (λ (services : List ServiceItem). service_named services namespace name) (take_more listed i service within)
     ∙ find-append (is_service namespace name) (take i listed) (get_or listed i service ∷ [])
     ∙ ap (λ (one : ServiceItem). option_or (service_named (take i listed) namespace name) (if is_service namespace name one then Some one else None)) (sym item)
 
-pub place-next : (listed : List ServiceItem) (i : ℕ) (service : ServiceItem) (namespace name : List ℕ) (before after : Option ℕ) → i < length listed → service ≡ get_or listed i service → IsPlaceOf listed (service_named (take i listed) namespace name) before → after ≡ option_or before (if is_service namespace name service then Some i else None)
+pub place-next : (listed : List ServiceItem) (i : ℕ) (service : ServiceItem) (namespace name : List ℕ) (before after : Option ℕ) → i < length listed → service ≡ get_or listed i service →
+    IsPlaceOf listed (service_named (take i listed) namespace name) before → after ≡ option_or before (if is_service namespace name service then Some i else None)
     → IsPlaceOf listed (service_named (take (i + 1) listed) namespace name) after
 place-next listed i service namespace name before after within item held put =
     rw (put, named-more listed i service namespace name within item) (by before (is_service namespace name service) (service_named (take i listed) namespace name) held)
   where
-    by : (kept : Option ℕ) (here : Bool) (found : Option ServiceItem) → IsPlaceOf listed found kept → IsPlaceOf listed (option_or found (if here then Some service else None)) (option_or kept (if here then Some i else None))
+    by : (kept : Option ℕ) (here : Bool) (found : Option ServiceItem) → IsPlaceOf listed found kept →
+        IsPlaceOf listed (option_or found (if here then Some service else None)) (option_or kept (if here then Some i else None))
     by None true found none = rw none (within, sym (slice_get-get_or listed i service within ∙ ap Some (sym item)))
     by None false found none = rw none refl
     by (Some place) here found is =

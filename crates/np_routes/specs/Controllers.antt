@@ -9,10 +9,10 @@ use Rattle.np_model.specs.declared.lists.EstateLists.{EstateLists}
 use Rattle.np_fold.specs.Workloads.{Folding}
 use Rattle.np_model.specs.declared.direction.Direction.TheVariants.{Ingress}
 use Rattle.np_routes.specs.Routes.{is_routed}
-use Rattle.np_rules.specs.Ends.{PodEnd, contact, pod, stranger_end}
+use Rattle.np_rules.specs.model.Ends.{PodEnd, contact, pod, stranger_end}
 use Rattle.np_rules.specs.PodSides.{side_rule_count}
-use Rattle.np_rules.specs.Sides.{side_allows}
-use Rattle.np_rules.specs.Verdict.{pod_at}
+use Rattle.np_rules.specs.model.Sides.{side_allows}
+use Rattle.np_rules.specs.model.Verdict.{pod_at}
 use Rattle.np_rules.specs.declared.stranger.Stranger.{Stranger}
 use Rattle.np_table.specs.PairRules.{first_side, rules_of_pair}
 use Rattle.np_table.specs.Table.{between_pods, source_pod}

@@ -9,8 +9,8 @@ use Rattle.np_model.specs.declared.service.PortName.{PortName}
 use Rattle.np_model.specs.declared.service.PortName.TheVariants.{Number, Named}
 use Rattle.np_model.specs.declared.service.ServiceItem.{ServiceItem}
 use Rattle.np_model.specs.declared.service.ServicePort.{ServicePort}
-use Rattle.np_rules.specs.Ends.{PodEnd, pod}
-use Rattle.np_rules.specs.PortEntries.{has_named}
+use Rattle.np_rules.specs.model.Ends.{PodEnd, pod}
+use Rattle.np_rules.specs.model.PortEntries.{has_named}
 
 -- ---- services
 

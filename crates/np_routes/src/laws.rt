@@ -11,7 +11,7 @@ ghost use Rattle.np_model.specs.declared.direction.Direction.{Direction};
 ghost use Rattle.np_routes.specs.ClusterTable.{ClusterTable, cluster_rows, cluster_table, rows_from_controller};
 ghost use Rattle.np_routes.specs.Controllers.{ingress_allows, ingress_reaches, is_controller, sender_of};
 ghost use Rattle.np_routes.specs.Routes.{LeadsTo, is_routed};
-ghost use Rattle.np_rules.specs.Ends.{PodEnd};
+ghost use Rattle.np_rules.specs.model.Ends.{PodEnd};
 ghost use Rattle.np_table.specs.Rows.{all_rows};
 ghost use Rattle.np_table.specs.Said.{allows_in, rows_between, rows_of_address};
 ghost use Rattle.np_table.specs.Table.{IsWorkload};

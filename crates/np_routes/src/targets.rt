@@ -9,8 +9,8 @@ ghost use Rattle.np_routes.specs.Routes.{is_routed};
 ghost use Rattle.np_routes.specs.steps.PortSets.{at_pod, has_port, is_named_in};
 ghost use Rattle.np_routes.specs.steps.Targets.{has_target};
 ghost use Rattle.np_routes.specs.steps.TargetsByNamespace.{target_leads};
-ghost use Rattle.np_rules.specs.Ends.{pod_end};
-ghost use Rattle.np_rules.specs.Verdict.{pod_at};
+ghost use Rattle.np_rules.specs.model.Ends.{pod_end};
+ghost use Rattle.np_rules.specs.model.Verdict.{pod_at};
 
 use crate::backends::Backends;
 use crate::port_set::PortSet;

@@ -21,11 +21,11 @@ use Rattle.np_model.specs.declared.direction.Direction.{Direction}
 use Rattle.np_model.specs.declared.network_policy.NetPeer.{NetPeer}
 use Rattle.np_model.specs.declared.network_policy.NetPeer.TheVariants as net
 use Rattle.np_model.specs.declared.network_policy.NetRule.{NetRule}
-use Rattle.np_rules.specs.Ends.{End, address, destination_of}
+use Rattle.np_rules.specs.model.Ends.{End, address, destination_of}
 use Rattle.np_rules.specs.EveryAddress.{AddressSpot, address_contact, address_of, admin_peer_has, has_place, is_place, net_peer_has, spot_of}
-use Rattle.np_rules.specs.Peers.{net_peer_matches}
-use Rattle.np_rules.specs.PortEntries.{admin_entry_matches, net_entry_matches}
-use Rattle.np_rules.specs.Rules.{admin_rule_matches, net_rule_matches, none_or_any}
+use Rattle.np_rules.specs.model.Peers.{net_peer_matches}
+use Rattle.np_rules.specs.model.PortEntries.{admin_entry_matches, net_entry_matches}
+use Rattle.np_rules.specs.model.Rules.{admin_rule_matches, net_rule_matches, none_or_any}
 use Rattle.np_sets.specs.Space.{is_between}
 
 -- the spots of both families
@@ -33,17 +33,25 @@ abbrev pub ranges_have : AddressRanges → Which ℕ ℕ → Bool
 ranges_have set = by_side (λ n. holds (λ a. a) set.first n) (λ n. holds (λ a. a) set.second n)
 
 -- an address is in the joined set where it is in either
-pub set_has-join : (set more made : AddressRanges) → ((spot : Which ℕ ℕ) → ranges_have made spot ≡ (ranges_have set spot || ranges_have more spot)) → (a : Address) → set_has made a ≡ (set_has set a || set_has more a)
+pub set_has-join : (set more made : AddressRanges) → ((spot : Which ℕ ℕ) → ranges_have made spot ≡ (ranges_have set spot || ranges_have more spot)) → (a : Address) →
+    set_has made a ≡ (set_has set a || set_has more a)
 set_has-join set more made joined (Four n) = joined (First n)
 set_has-join set more made joined (Six n) = joined (Second n)
 
 -- what one or the other set has, where the other has nothing
-either : (between inside : Bool) (conns none : Conns) (spot : PortSpot) → between ≡ true → has_spot none spot ≡ false → (between && has_spot (if inside then conns else none) spot) ≡ (inside && has_spot conns spot)
+either : (between inside : Bool) (conns none : Conns) (spot : PortSpot) → between ≡ true → has_spot none spot ≡ false →
+    (between && has_spot (if inside then conns else none) spot) ≡ (inside && has_spot conns spot)
 either between true conns none spot within empty = ap (λ b. b && has_spot conns spot) within
 either between false conns none spot within empty = ap (λ b. b && has_spot none spot) within ∙ empty
 
 -- connections at some addresses and none at others
-pub has_place-over : (addresses : AddressRanges) (conns inside inside' none none' : Conns) (first second : List (Piece ℕ Conns)) → inside ≡ conns → inside' ≡ conns → ((spot : PortSpot) → has_spot none spot ≡ false) → ((spot : PortSpot) → has_spot none' spot ≡ false) → ((place : At ℕ PortSpot) → pieces.has_spot (λ a. a) has_spot first place ≡ (is_between 0 (2 ^ 32 - 1) place.point && has_spot (if holds (λ a. a) addresses.first place.point then inside else none) place.spot)) → ((place : At ℕ PortSpot) → pieces.has_spot (λ a. a) has_spot second place ≡ (is_between 0 (2 ^ 128 - 1) place.point && has_spot (if holds (λ a. a) addresses.second place.point then inside' else none') place.spot)) → (place : AddressSpot) → is_place place ≡ true → has_place (record { first = first; second = second }) place ≡ (set_has addresses (address_of place) && has_spot conns (spot_of place))
+pub has_place-over : (addresses : AddressRanges) (conns inside inside' none none' : Conns) (first second : List (Piece ℕ Conns)) → inside ≡ conns → inside' ≡ conns →
+    ((spot : PortSpot) → has_spot none spot ≡ false) → ((spot : PortSpot) → has_spot none' spot ≡ false) →
+    ((place : At ℕ PortSpot) → pieces.has_spot (λ a. a) has_spot first place ≡
+    (is_between 0 (2 ^ 32 - 1) place.point && has_spot (if holds (λ a. a) addresses.first place.point then inside else none) place.spot)) →
+    ((place : At ℕ PortSpot) → pieces.has_spot (λ a. a) has_spot second place ≡
+    (is_between 0 (2 ^ 128 - 1) place.point && has_spot (if holds (λ a. a) addresses.second place.point then inside' else none') place.spot)) →
+    (place : AddressSpot) → is_place place ≡ true → has_place (record { first = first; second = second }) place ≡ (set_has addresses (address_of place) && has_spot conns (spot_of place))
 has_place-over addresses conns inside inside' none none' first second same same' empty empty' in_first in_second (First place) within =
     in_first place
     ∙ either (is_between 0 (2 ^ 32 - 1) place.point) (holds (λ a. a) addresses.first place.point) inside none place.spot (and_parts _ _ within).0 (empty place.spot)
@@ -53,7 +61,8 @@ has_place-over addresses conns inside inside' none none' first second same same'
     ∙ either (is_between 0 (2 ^ 128 - 1) place.point) (holds (λ a. a) addresses.second place.point) inside' none' place.spot (and_parts _ _ within).0 (empty' place.spot)
     ∙ ap (λ set. holds (λ a. a) addresses.second place.point && has_spot set place.spot) same'
 
-pub set_has-minus : (set part made : AddressRanges) → ((spot : Which ℕ ℕ) → ranges_have made spot ≡ (ranges_have set spot && not (ranges_have part spot))) → (a : Address) → set_has made a ≡ (set_has set a && not (set_has part a))
+pub set_has-minus : (set part made : AddressRanges) → ((spot : Which ℕ ℕ) → ranges_have made spot ≡ (ranges_have set spot && not (ranges_have part spot))) → (a : Address) →
+    set_has made a ≡ (set_has set a && not (set_has part a))
 set_has-minus set part made taken (Four n) = taken (First n)
 set_has-minus set part made taken (Six n) = taken (Second n)
 
@@ -65,7 +74,8 @@ set_has-nothing made none (Six n) = none (Second n)
 between : (n last : ℕ) → n < last + 1 → is_between 0 last n ≡ true
 between n last below = grind (arith, nat_tests)
 
-pub set_has-everything : (made : AddressRanges) → ((spot : Which ℕ ℕ) → ranges_have made spot ≡ by_side (is_between 0 (2 ^ 32 - 1)) (is_between 0 (2 ^ 128 - 1)) spot) → (a : Address) → IsAddress a → set_has made a ≡ true
+pub set_has-everything : (made : AddressRanges) → ((spot : Which ℕ ℕ) → ranges_have made spot ≡ by_side (is_between 0 (2 ^ 32 - 1)) (is_between 0 (2 ^ 128 - 1)) spot) → (a : Address) → IsAddress a →
+    set_has made a ≡ true
 set_has-everything made all (Four n) below = all (First n) ∙ between n (2 ^ 32 - 1) (omega arith)
 set_has-everything made all (Six n) below = all (Second n) ∙ between n (2 ^ 128 - 1) (omega arith)
 
@@ -96,15 +106,22 @@ none_or_any-same f g same [] = refl
 none_or_any-same f g same (x ∷ xs) = list_any-same f g same (x ∷ xs)
 
 -- what a rule of a NetworkPolicy matches at a place: its addresses, with the spots of its port entries
-pub net_at_place : (namespace : List ℕ) (rule : NetRule) (direction : Direction) (near : End) (addresses : AddressRanges) (conns : Conns) → ((a : Address) → IsAddress a → set_has addresses a ≡ none_or_any (λ peer. net_peer_has peer a) rule.peers) → ((a : Address) (spot : PortSpot) → is_spot spot ≡ true → has_spot conns spot ≡ none_or_any (λ entry. net_entry_matches entry (destination_of direction near (address a)) spot) rule.ports) → (place : AddressSpot) → is_place place ≡ true → (set_has addresses (address_of place) && has_spot conns (spot_of place)) ≡ net_rule_matches namespace rule (address_contact direction near place)
+pub net_at_place : (namespace : List ℕ) (rule : NetRule) (direction : Direction) (near : End) (addresses : AddressRanges) (conns : Conns) →
+    ((a : Address) → IsAddress a → set_has addresses a ≡ none_or_any (λ peer. net_peer_has peer a) rule.peers) →
+    ((a : Address) (spot : PortSpot) → is_spot spot ≡ true → has_spot conns spot ≡ none_or_any (λ entry. net_entry_matches entry (destination_of direction near (address a)) spot) rule.ports) →
+    (place : AddressSpot) → is_place place ≡ true → (set_has addresses (address_of place) && has_spot conns (spot_of place)) ≡ net_rule_matches namespace rule (address_contact direction near place)
 net_at_place namespace rule direction near addresses conns peers ports place within =
     let parts = place_parts place within in
     let a = address_of place in
-    ap (λ b. b && has_spot conns (spot_of place)) (peers a parts.0 ∙ none_or_any-same (λ peer. net_peer_has peer a) (λ peer. net_peer_matches namespace peer (address a)) (λ peer. net_peer_anywhere namespace peer a) rule.peers)
+    ap (λ b. b && has_spot conns (spot_of place)) (peers a parts.0 ∙ none_or_any-same (λ peer. net_peer_has peer a) (λ peer. net_peer_matches namespace peer (address a))
+    (λ peer. net_peer_anywhere namespace peer a) rule.peers)
     ∙ ap (λ b. none_or_any (λ peer. net_peer_matches namespace peer (address a)) rule.peers && b) (ports a (spot_of place) parts.1)
 
 -- what an admin rule matches at a place
-pub admin_at_place : (rule : AdminRule) (direction : Direction) (near : End) (addresses : AddressRanges) (conns : Conns) → ((a : Address) → IsAddress a → set_has addresses a ≡ list_any (λ peer. admin_peer_has peer a) rule.peers) → ((a : Address) (spot : PortSpot) → is_spot spot ≡ true → has_spot conns spot ≡ none_or_any (λ entry. admin_entry_matches entry (destination_of direction near (address a)) spot) rule.ports) → (place : AddressSpot) → is_place place ≡ true → (set_has addresses (address_of place) && has_spot conns (spot_of place)) ≡ admin_rule_matches rule (address_contact direction near place)
+pub admin_at_place : (rule : AdminRule) (direction : Direction) (near : End) (addresses : AddressRanges) (conns : Conns) →
+    ((a : Address) → IsAddress a → set_has addresses a ≡ list_any (λ peer. admin_peer_has peer a) rule.peers) →
+    ((a : Address) (spot : PortSpot) → is_spot spot ≡ true → has_spot conns spot ≡ none_or_any (λ entry. admin_entry_matches entry (destination_of direction near (address a)) spot) rule.ports) →
+    (place : AddressSpot) → is_place place ≡ true → (set_has addresses (address_of place) && has_spot conns (spot_of place)) ≡ admin_rule_matches rule (address_contact direction near place)
 admin_at_place rule direction near addresses conns peers ports place within =
     let parts = place_parts place within in
     let a = address_of place in
@@ -114,7 +131,9 @@ admin_at_place rule direction near addresses conns peers ports place within =
 -- ---- what a rule matches that has no address
 
 -- a rule of a NetworkPolicy without addresses matches nothing
-pub net_nowhere : (namespace : List ℕ) (rule : NetRule) (direction : Direction) (near : End) (addresses : AddressRanges) → ((spot : Which ℕ ℕ) → ranges_have addresses spot ≡ false) → ((a : Address) → IsAddress a → set_has addresses a ≡ none_or_any (λ peer. net_peer_has peer a) rule.peers) → (place : AddressSpot) → is_place place ≡ true → net_rule_matches namespace rule (address_contact direction near place) ≡ false
+pub net_nowhere : (namespace : List ℕ) (rule : NetRule) (direction : Direction) (near : End) (addresses : AddressRanges) → ((spot : Which ℕ ℕ) → ranges_have addresses spot ≡ false) →
+    ((a : Address) → IsAddress a → set_has addresses a ≡ none_or_any (λ peer. net_peer_has peer a) rule.peers) → (place : AddressSpot) → is_place place ≡ true →
+    net_rule_matches namespace rule (address_contact direction near place) ≡ false
 net_nowhere namespace rule direction near addresses none peers place within =
     let a = address_of place in
     and_left _ _ (
@@ -123,7 +142,9 @@ net_nowhere namespace rule direction near addresses none peers place within =
     ∙ set_has-nothing addresses none a)
 
 -- nor does an admin rule
-pub admin_nowhere : (rule : AdminRule) (direction : Direction) (near : End) (addresses : AddressRanges) → ((spot : Which ℕ ℕ) → ranges_have addresses spot ≡ false) → ((a : Address) → IsAddress a → set_has addresses a ≡ list_any (λ peer. admin_peer_has peer a) rule.peers) → (place : AddressSpot) → is_place place ≡ true → admin_rule_matches rule (address_contact direction near place) ≡ false
+pub admin_nowhere : (rule : AdminRule) (direction : Direction) (near : End) (addresses : AddressRanges) → ((spot : Which ℕ ℕ) → ranges_have addresses spot ≡ false) →
+    ((a : Address) → IsAddress a → set_has addresses a ≡ list_any (λ peer. admin_peer_has peer a) rule.peers) → (place : AddressSpot) → is_place place ≡ true →
+    admin_rule_matches rule (address_contact direction near place) ≡ false
 admin_nowhere rule direction near addresses none peers place within =
     let a = address_of place in
     and_left _ _ (sym (peers a (place_parts place within).0) ∙ set_has-nothing addresses none a)

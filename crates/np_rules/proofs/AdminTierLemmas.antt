@@ -1,5 +1,6 @@
 -- The first matching rule in the order of the policies is the one that decides.
-use Rattle.std.proofs.Common.{◌≡◌, ℕ, ◌+◌, ◌<◌, ◌≤◌, List, [], ◌∷◌, ◌++◌, Bool, true, false, ◌&&◌, ◌||◌, ◌==◌, nat_lt, map, filter, length, take, get_or, Option, Some, refl, sym, ap, ◌∙◌, arith, if◌then◌else◌}
+use Rattle.std.proofs.Common.{◌≡◌, ℕ, ◌+◌, ◌<◌, ◌≤◌, List, [], ◌∷◌, ◌++◌, Bool, true, false, ◌&&◌, ◌||◌, ◌==◌, nat_lt, map, filter, length, take, get_or, Option, Some, refl, sym, ap, ◌∙◌, arith}
+use Rattle.std.proofs.Common.{if◌then◌else◌}
 use Rattle.std.specs.List.{AllByRecursion, enumerate_from, find}
 use Rattle.std.specs.Option.{option_map, option_or}
 use Rattle.std.proofs.lemmas.Bool.Decides.{nat_tests}
@@ -10,11 +11,11 @@ use Rattle.np_model.specs.declared.admin_policy.Action.{Action}
 use Rattle.np_model.specs.declared.admin_policy.AdminPolicy.{AdminPolicy}
 use Rattle.np_model.specs.declared.admin_policy.AdminRule.{AdminRule}
 use Rattle.np_model.specs.declared.direction.Direction.{Direction}
-use Rattle.np_rules.specs.AdminTier.{least_by, sooner, admin_precedes, admin_decider}
-use Rattle.np_rules.specs.Ends.{Contact, PodEnd}
-use Rattle.np_rules.specs.Places.{PlacedAdminRule, admin_places, admin_places_of, admin_rules_of}
-use Rattle.np_rules.specs.Rules.{admin_rule_matches}
-use Rattle.np_rules.specs.Selection.{subject_selects}
+use Rattle.np_rules.specs.model.AdminTier.{least_by, sooner, admin_precedes, admin_decider}
+use Rattle.np_rules.specs.model.Ends.{Contact, PodEnd}
+use Rattle.np_rules.specs.model.Places.{PlacedAdminRule, admin_places, admin_places_of, admin_rules_of}
+use Rattle.np_rules.specs.model.Rules.{admin_rule_matches}
+use Rattle.np_rules.specs.model.Selection.{subject_selects}
 use Rattle.np_rules.proofs.PlacesLemmas.{find-next, find-numbered, option_map-or, if_both, counted, length-numbered}
 
 -- ---- lists in order
@@ -51,7 +52,8 @@ All-weaker P Q weaker [] all = tt
 All-weaker P Q weaker (x ∷ xs) all = (weaker x all.0, All-weaker P Q weaker xs all.1)
 
 -- lists in order, one after another
-InOrder-append : {X : Type 0} (precedes : X → X → Bool) (xs ys : List X) → IsInOrder precedes xs → IsInOrder precedes ys → AllByRecursion (λ x. AllByRecursion (λ y. precedes y x ≡ false) ys) xs → IsInOrder precedes (xs ++ ys)
+InOrder-append : {X : Type 0} (precedes : X → X → Bool) (xs ys : List X) → IsInOrder precedes xs → IsInOrder precedes ys → AllByRecursion (λ x. AllByRecursion (λ y. precedes y x ≡ false) ys) xs →
+    IsInOrder precedes (xs ++ ys)
 InOrder-append precedes [] ys left right across = right
 InOrder-append precedes (x ∷ xs) ys left right across =
     (All-append (λ y. precedes y x ≡ false) xs ys left.0 across.0, InOrder-append precedes xs ys left.1 right across.1)
@@ -71,7 +73,8 @@ later_policy : (priority priority' n m : ℕ) → priority < priority' → (nat_
 later_policy priority priority' n m below = grind (arith, nat_tests)
 
 -- the rules from a later place on do not precede one at an earlier place
-later_places : (policy : AdminPolicy) (rule : AdminRule) (n m : ℕ) (rules : List AdminRule) → n < m → AllByRecursion (λ y. admin_precedes y (record { policy = policy; place = n; rule = rule }) ≡ false) (placed_from policy m rules)
+later_places : (policy : AdminPolicy) (rule : AdminRule) (n m : ℕ) (rules : List AdminRule) → n < m →
+    AllByRecursion (λ y. admin_precedes y (record { policy = policy; place = n; rule = rule }) ≡ false) (placed_from policy m rules)
 later_places policy rule n m [] below = tt
 later_places policy rule n m (next ∷ rules) below = (same_policy policy.priority n m below, later_places policy rule n (m + 1) rules (omega arith))
 
@@ -96,49 +99,64 @@ if_any P true xs some none = some
 if_any P false xs some none = none
 
 -- the rules of policies above a priority are above it
-above : (direction : Direction) (p : PodEnd) (n : ℕ) (policies : List AdminPolicy) → ascends (n ∷ map (λ policy. policy.priority) policies) ≡ true → AllByRecursion (λ y. n < y.policy.priority) (admin_places policies direction p)
+above : (direction : Direction) (p : PodEnd) (n : ℕ) (policies : List AdminPolicy) → ascends (n ∷ map (λ policy. policy.priority) policies) ≡ true →
+    AllByRecursion (λ y. n < y.policy.priority) (admin_places policies direction p)
 above direction p n [] ascending = tt
 above direction p n (policy ∷ policies) ascending =
     let parts = and_parts _ _ ascending in
     let below : n < policy.priority = ltb-true _ _ parts.0 in
     All-append (λ y. n < y.policy.priority) (places_by direction p policy) (admin_places policies direction p)
-    (if_any (AllByRecursion (λ y. n < y.policy.priority)) (subject_selects policy.subject p) (admin_places_of direction policy) (of_policy (λ k. n < k) policy 0 (admin_rules_of direction policy) below) tt)
-    (All-weaker (λ y. policy.priority < y.policy.priority) (λ y. n < y.policy.priority) (λ y more. omega arith) (admin_places policies direction p) (above direction p policy.priority policies parts.1))
+    (if_any (AllByRecursion (λ y. n < y.policy.priority)) (subject_selects policy.subject p) (admin_places_of direction policy)
+    (of_policy (λ k. n < k) policy 0 (admin_rules_of direction policy) below) tt)
+    (All-weaker (λ y. policy.priority < y.policy.priority) (λ y. n < y.policy.priority) (λ y more. omega arith) (admin_places policies direction p)
+    (above direction p policy.priority policies parts.1))
 
 -- no rule above a priority precedes one of a policy of it
-across : (direction : Direction) (policy : AdminPolicy) (n : ℕ) (rules : List AdminRule) (others : List PlacedAdminRule) → AllByRecursion (λ y. policy.priority < y.policy.priority) others → AllByRecursion (λ x. AllByRecursion (λ y. admin_precedes y x ≡ false) others) (placed_from policy n rules)
+across : (direction : Direction) (policy : AdminPolicy) (n : ℕ) (rules : List AdminRule) (others : List PlacedAdminRule) → AllByRecursion (λ y. policy.priority < y.policy.priority) others →
+    AllByRecursion (λ x. AllByRecursion (λ y. admin_precedes y x ≡ false) others) (placed_from policy n rules)
 across direction policy n [] others later = tt
 across direction policy n (rule ∷ rules) others later = (
-  All-weaker (λ y. policy.priority < y.policy.priority) (λ y. admin_precedes y (record { policy = policy; place = n; rule = rule }) ≡ false) (λ y more. later_policy policy.priority y.policy.priority n y.place more) others later,
+  All-weaker (λ y. policy.priority < y.policy.priority) (λ y. admin_precedes y (record { policy = policy; place = n; rule = rule }) ≡ false)
+      (λ y more. later_policy policy.priority y.policy.priority n y.place more) others later,
   across direction policy (n + 1) rules others later,
 )
 
-all_in_order : (direction : Direction) (p : PodEnd) (policies : List AdminPolicy) → ascends (map (λ policy. policy.priority) policies) ≡ true → IsInOrder admin_precedes (admin_places policies direction p)
+all_in_order : (direction : Direction) (p : PodEnd) (policies : List AdminPolicy) → ascends (map (λ policy. policy.priority) policies) ≡ true →
+    IsInOrder admin_precedes (admin_places policies direction p)
 all_in_order direction p [] ascending = tt
 all_in_order direction p (policy ∷ policies) ascending =
     let rest = admin_places policies direction p in
     InOrder-append admin_precedes (places_by direction p policy) rest
     (if_any (IsInOrder admin_precedes) (subject_selects policy.subject p) (admin_places_of direction policy) (places_in_order policy 0 (admin_rules_of direction policy)) tt)
     (all_in_order direction p policies (ascends_rest policy.priority (map (λ q. q.priority) policies) ascending))
-    (if_any (AllByRecursion (λ x. AllByRecursion (λ y. admin_precedes y x ≡ false) rest)) (subject_selects policy.subject p) (admin_places_of direction policy) (across direction policy 0 (admin_rules_of direction policy) rest (above direction p policy.priority policies ascending)) tt)
+    (if_any (AllByRecursion (λ x. AllByRecursion (λ y. admin_precedes y x ≡ false) rest)) (subject_selects policy.subject p) (admin_places_of direction policy)
+    (across direction policy 0 (admin_rules_of direction policy) rest (above direction p policy.priority policies ascending)) tt)
   where
     ascends_rest : (n : ℕ) (ns : List ℕ) → ascends (n ∷ ns) ≡ true → ascends ns ≡ true
     ascends_rest n [] asc = refl
     ascends_rest n (m ∷ ns) asc = (and_parts _ _ asc).1
 
 -- The rule that decides is the first in the order of the policies that matches.
-pub decider_is_first : (policies : List AdminPolicy) (direction : Direction) (p : PodEnd) (contact : Contact) → HasAscendingPriorities policies → admin_decider policies direction p contact ≡ find (λ placed. admin_rule_matches placed.rule contact) (admin_places policies direction p)
+pub decider_is_first : (policies : List AdminPolicy) (direction : Direction) (p : PodEnd) (contact : Contact) → HasAscendingPriorities policies →
+    admin_decider policies direction p contact ≡ find (λ placed. admin_rule_matches placed.rule contact) (admin_places policies direction p)
 decider_is_first policies direction p contact ascending =
     least_is_first admin_precedes (λ placed. admin_rule_matches placed.rule contact) (admin_places policies direction p) (all_in_order direction p policies ascending)
 
 -- ---- one policy more
 
 -- what the first matching rule of one policy more says
-pub action-next : (policies : List AdminPolicy) (direction : Direction) (p : PodEnd) (contact : Contact) (i : ℕ) (policy : AdminPolicy) (decided here made : Option Action) → i < length policies → policy ≡ get_or policies i policy → decided ≡ option_map (λ placed. placed.rule.action) (find (λ placed. admin_rule_matches placed.rule contact) (admin_places (take i policies) direction p)) → here ≡ option_map (λ rule. rule.action) (find (λ rule. admin_rule_matches rule contact) (if subject_selects policy.subject p then admin_rules_of direction policy else [])) → made ≡ option_or decided here → made ≡ option_map (λ placed. placed.rule.action) (find (λ placed. admin_rule_matches placed.rule contact) (admin_places (take (i + 1) policies) direction p))
+pub action-next : (policies : List AdminPolicy) (direction : Direction) (p : PodEnd) (contact : Contact) (i : ℕ) (policy : AdminPolicy) (decided here made : Option Action) → i < length policies →
+    policy ≡ get_or policies i policy → decided ≡ option_map (λ placed. placed.rule.action) (find (λ placed. admin_rule_matches placed.rule contact) (admin_places (take i policies) direction p)) →
+    here ≡ option_map (λ rule. rule.action) (find (λ rule. admin_rule_matches rule contact) (if subject_selects policy.subject p then admin_rules_of direction policy else [])) →
+    made ≡ option_or decided here → made ≡ option_map (λ placed. placed.rule.action) (find (λ placed. admin_rule_matches placed.rule contact) (admin_places (take (i + 1) policies) direction p))
 action-next policies direction p contact i policy decided here made within is so_far is_here joined =
     let test : PlacedAdminRule → Bool = λ placed. admin_rule_matches placed.rule contact in
     let says : PlacedAdminRule → Action = λ placed. placed.rule.action in
-    let found : option_map says (find test (places_by direction p policy)) ≡ here = if_both (λ xs ys. option_map says (find test xs) ≡ option_map (λ rule. rule.action) (find (λ rule. admin_rule_matches rule contact) ys)) (subject_selects policy.subject p) (admin_places_of direction policy) (admin_rules_of direction policy) (find-numbered (λ numbered. record { policy = policy; place = numbered.0; rule = numbered.1 }) (λ rule. admin_rule_matches rule contact) test (λ rule. rule.action) says (λ numbered. refl) (λ numbered. refl) 0 (admin_rules_of direction policy)) refl ∙ sym is_here in
+    let found : option_map says (find test (places_by direction p policy)) ≡ here = if_both
+    (λ xs ys. option_map says (find test xs) ≡ option_map (λ rule. rule.action) (find (λ rule. admin_rule_matches rule contact) ys)) (subject_selects policy.subject p)
+    (admin_places_of direction policy) (admin_rules_of direction policy)
+    (find-numbered (λ numbered. record { policy = policy; place = numbered.0; rule = numbered.1 }) (λ rule. admin_rule_matches rule contact) test (λ rule. rule.action) says (λ numbered. refl)
+    (λ numbered. refl) 0 (admin_rules_of direction policy)) refl ∙ sym is_here in
     sym (ap (option_map says) (find-next test (places_by direction p) policies i policy within is)
     ∙ option_map-or says (find test (admin_places (take i policies) direction p)) (find test (places_by direction p policy))
     ∙ ap (λ a. option_or a (option_map says (find test (places_by direction p policy)))) (sym so_far)
@@ -146,15 +164,23 @@ action-next policies direction p contact i policy decided here made within is so
     ∙ sym joined)
 
 -- how many rules a policy has, where it selects the pod
-pub length_by : (direction : Direction) (p : PodEnd) (policy : AdminPolicy) → length (places_by direction p policy) ≡ length (if subject_selects policy.subject p then admin_rules_of direction policy else [])
-length_by direction p policy = if_both (λ xs ys. length xs ≡ length ys) (subject_selects policy.subject p) (admin_places_of direction policy) (admin_rules_of direction policy) (length-numbered (λ numbered. record { policy = policy; place = numbered.0; rule = numbered.1 }) 0 (admin_rules_of direction policy)) refl
+pub length_by : (direction : Direction) (p : PodEnd) (policy : AdminPolicy) →
+    length (places_by direction p policy) ≡ length (if subject_selects policy.subject p then admin_rules_of direction policy else [])
+length_by direction p policy = if_both (λ xs ys. length xs ≡ length ys) (subject_selects policy.subject p) (admin_places_of direction policy) (admin_rules_of direction policy)
+    (length-numbered (λ numbered. record { policy = policy; place = numbered.0; rule = numbered.1 }) 0 (admin_rules_of direction policy)) refl
 
 -- how many rules one policy more has
-pub cost-next : (policies : List AdminPolicy) (direction : Direction) (p : PodEnd) (i : ℕ) (policy : AdminPolicy) (start before after : ℕ) → i < length policies → policy ≡ get_or policies i policy → before ≡ start + length (admin_places (take i policies) direction p) → after ≡ before + length (if subject_selects policy.subject p then admin_rules_of direction policy else []) → after ≡ start + length (admin_places (take (i + 1) policies) direction p)
-cost-next policies direction p i policy start before after within is so_far more = (counted (places_by direction p) policies i policy (if subject_selects policy.subject p then admin_rules_of direction policy else []) start before after within is (length_by direction p policy) so_far more).0
+pub cost-next : (policies : List AdminPolicy) (direction : Direction) (p : PodEnd) (i : ℕ) (policy : AdminPolicy) (start before after : ℕ) → i < length policies → policy ≡ get_or policies i policy →
+    before ≡ start + length (admin_places (take i policies) direction p) → after ≡ before + length (if subject_selects policy.subject p then admin_rules_of direction policy else []) →
+    after ≡ start + length (admin_places (take (i + 1) policies) direction p)
+cost-next policies direction p i policy start before after within is so_far more =
+    (counted (places_by direction p) policies i policy (if subject_selects policy.subject p then admin_rules_of direction policy else []) start before after within is
+    (length_by direction p policy) so_far more).0
 
 -- after the last policy
-pub action-all : (policies : List AdminPolicy) (direction : Direction) (p : PodEnd) (contact : Contact) (i : ℕ) (decided : Option Action) → HasAscendingPriorities policies → i ≤ length policies → length policies ≤ i → decided ≡ option_map (λ placed. placed.rule.action) (find (λ placed. admin_rule_matches placed.rule contact) (admin_places (take i policies) direction p)) → decided ≡ option_map (λ placed. placed.rule.action) (admin_decider policies direction p contact)
+pub action-all : (policies : List AdminPolicy) (direction : Direction) (p : PodEnd) (contact : Contact) (i : ℕ) (decided : Option Action) → HasAscendingPriorities policies → i ≤ length policies →
+    length policies ≤ i → decided ≡ option_map (λ placed. placed.rule.action) (find (λ placed. admin_rule_matches placed.rule contact) (admin_places (take i policies) direction p)) →
+    decided ≡ option_map (λ placed. placed.rule.action) (admin_decider policies direction p contact)
 action-all policies direction p contact i decided ascending within past so_far =
     let whole : take i policies ≡ policies = ap (λ k. take k policies) (le_antisym within past) ∙ take-length policies in
     so_far

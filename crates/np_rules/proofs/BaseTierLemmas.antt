@@ -6,17 +6,22 @@ use Rattle.np_model.specs.declared.admin_policy.Action.{Action}
 use Rattle.np_model.specs.declared.admin_policy.AdminRule.{AdminRule}
 use Rattle.np_model.specs.declared.admin_policy.BasePolicy.{BasePolicy}
 use Rattle.np_model.specs.declared.direction.Direction.{Direction}
-use Rattle.np_rules.specs.Ends.{Contact, PodEnd}
-use Rattle.np_rules.specs.Places.{PlacedBaseRule, base_places, base_rules_of}
-use Rattle.np_rules.specs.Rules.{admin_rule_matches}
-use Rattle.np_rules.specs.Selection.{subject_selects}
+use Rattle.np_rules.specs.model.Ends.{Contact, PodEnd}
+use Rattle.np_rules.specs.model.Places.{PlacedBaseRule, base_places, base_rules_of}
+use Rattle.np_rules.specs.model.Rules.{admin_rule_matches}
+use Rattle.np_rules.specs.model.Selection.{subject_selects}
 use Rattle.np_rules.proofs.PlacesLemmas.{find-map, map-numbered}
 
 -- the rules of a baseline that selects the pod
-pub rules_selected : (policy : BasePolicy) (direction : Direction) (p : PodEnd) → true ≡ subject_selects policy.subject p → map (λ placed. placed.rule) (base_places (Some policy) direction p) ≡ base_rules_of direction policy
-rules_selected policy direction p selected = rw (← selected) (map-numbered (λ numbered. record { place = numbered.0; rule = numbered.1 }) (λ placed. placed.rule) (λ numbered. refl) 0 (base_rules_of direction policy))
+pub rules_selected : (policy : BasePolicy) (direction : Direction) (p : PodEnd) → true ≡ subject_selects policy.subject p →
+    map (λ placed. placed.rule) (base_places (Some policy) direction p) ≡ base_rules_of direction policy
+rules_selected policy direction p selected = rw (← selected) (map-numbered (λ numbered. record { place = numbered.0; rule = numbered.1 }) (λ placed. placed.rule) (λ numbered. refl) 0
+    (base_rules_of direction policy))
 
 -- what the first matching rule says is what the rule that decides says
-pub action_placed : (rules : List AdminRule) (places : List PlacedBaseRule) (contact : Contact) (found : Option Action) → rules ≡ map (λ placed. placed.rule) places → found ≡ option_map (λ rule. rule.action) (find (λ rule. admin_rule_matches rule contact) rules) → found ≡ option_map (λ placed. placed.rule.action) (find (λ placed. admin_rule_matches placed.rule contact) places)
+pub action_placed : (rules : List AdminRule) (places : List PlacedBaseRule) (contact : Contact) (found : Option Action) → rules ≡ map (λ placed. placed.rule) places →
+    found ≡ option_map (λ rule. rule.action) (find (λ rule. admin_rule_matches rule contact) rules) →
+    found ≡ option_map (λ placed. placed.rule.action) (find (λ placed. admin_rule_matches placed.rule contact) places)
 action_placed rules places contact found are is =
-    is ∙ ap (λ rs. option_map (λ rule. rule.action) (find (λ rule. admin_rule_matches rule contact) rs)) are ∙ find-map (λ placed. placed.rule) (λ rule. admin_rule_matches rule contact) (λ rule. rule.action) places
+    is ∙ ap (λ rs. option_map (λ rule. rule.action) (find (λ rule. admin_rule_matches rule contact) rs)) are ∙ find-map (λ placed. placed.rule) (λ rule. admin_rule_matches rule contact)
+    (λ rule. rule.action) places

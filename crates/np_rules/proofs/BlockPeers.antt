@@ -10,7 +10,7 @@ use Rattle.np_addr.specs.declared.cidr.Cidr.{Cidr}
 use Rattle.np_addr.specs.declared.cidr.Cidr.TheVariants as block
 use Rattle.np_model.specs.Families.{is_of, same_family}
 use Rattle.np_rules.specs.BlockFamilies.{is_block_of, some_inside}
-use Rattle.np_rules.specs.Peers.{in_some}
+use Rattle.np_rules.specs.model.Peers.{in_some}
 
 and_false : (x y : Bool) → (x && false) ≡ (y && false)
 and_false true true = refl
@@ -44,7 +44,8 @@ inside_none family (cidr ∷ cidrs) = by (is_block_of family cidr) (inside_none 
     by true rest = rest
     by false rest = rest
 
-inside_more : (family : Family) (a : Address) (addresses : List Address) (cidrs : List Cidr) → ((is_of family a && in_some cidrs a) || some_inside family cidrs addresses) ≡ some_inside family cidrs (a ∷ addresses)
+inside_more : (family : Family) (a : Address) (addresses : List Address) (cidrs : List Cidr) →
+    ((is_of family a && in_some cidrs a) || some_inside family cidrs addresses) ≡ some_inside family cidrs (a ∷ addresses)
 inside_more family a addresses [] = by (is_of family a)
   where
     by : (b : Bool) → ((b && false) || false) ≡ false

@@ -6,26 +6,28 @@ use Rattle.np_model.specs.declared.lists.EstateLists.{EstateLists}
 use Rattle.np_model.specs.declared.admin_policy.Action.{Action}
 use Rattle.np_model.specs.declared.admin_policy.Action.TheVariants.{Allow, Deny, Pass}
 use Rattle.np_model.specs.declared.direction.Direction.{Direction}
-use Rattle.np_rules.specs.AdminTier.{admin_decider, admin_precedes, least_by, sooner}
-use Rattle.np_rules.specs.BaseTier.{base_decider}
+use Rattle.np_rules.specs.model.AdminTier.{admin_decider, admin_precedes, least_by, sooner}
+use Rattle.np_rules.specs.model.BaseTier.{base_decider}
 use Rattle.np_rules.specs.Deciders.{action_decides, admin_decides, admin_rule_name, base_decides, decider, decider_allows, isolating_names, lower_decider, net_decider, net_decides, net_precedes}
-use Rattle.np_rules.specs.Ends.{Contact, End, PodEnd, pod, address}
+use Rattle.np_rules.specs.model.Ends.{Contact, End, PodEnd, pod, address}
 use Rattle.np_rules.specs.Laws.{IsAmong}
-use Rattle.np_rules.specs.NetTier.{is_isolated, permits, placed_net_matches}
-use Rattle.np_rules.specs.Places.{PlacedAdminRule, PlacedBaseRule, PlacedNetRule, net_places}
-use Rattle.np_rules.specs.Sides.{action_says, admin_says, base_says, lower_allows, side_allows}
-use Rattle.np_rules.specs.Verdict.{end_allows}
+use Rattle.np_rules.specs.model.NetTier.{is_isolated, permits, placed_net_matches}
+use Rattle.np_rules.specs.model.Places.{PlacedAdminRule, PlacedBaseRule, PlacedNetRule, net_places}
+use Rattle.np_rules.specs.model.Sides.{action_says, admin_says, base_says, lower_allows, side_allows}
+use Rattle.np_rules.specs.model.Verdict.{end_allows}
 use Rattle.np_rules.specs.declared.decider.Decider.{Decider}
 use Rattle.np_rules.specs.declared.decider.RuleName.{RuleName}
 
 -- ---- what decides says what the side says
 
-action_part : (action : Action) (rule : RuleName) (lower : Option RuleName → Decider) (below : Bool) → ((pass : Option RuleName) → decider_allows (lower pass) ≡ below) → decider_allows (action_decides action rule lower) ≡ action_says action below
+action_part : (action : Action) (rule : RuleName) (lower : Option RuleName → Decider) (below : Bool) → ((pass : Option RuleName) → decider_allows (lower pass) ≡ below) →
+    decider_allows (action_decides action rule lower) ≡ action_says action below
 action_part Allow rule lower below lowers = refl
 action_part Deny rule lower below lowers = refl
 action_part Pass rule lower below lowers = lowers (Some rule)
 
-admin_part : (decides : Option PlacedAdminRule) (lower : Option RuleName → Decider) (below : Bool) → ((pass : Option RuleName) → decider_allows (lower pass) ≡ below) → decider_allows (admin_decides decides lower) ≡ admin_says decides below
+admin_part : (decides : Option PlacedAdminRule) (lower : Option RuleName → Decider) (below : Bool) → ((pass : Option RuleName) → decider_allows (lower pass) ≡ below) →
+    decider_allows (admin_decides decides lower) ≡ admin_says decides below
 admin_part None lower below lowers = lowers None
 admin_part (Some placed) lower below lowers = action_part placed.rule.action (admin_rule_name placed) lower below lowers
 
@@ -46,19 +48,23 @@ least_some {X} precedes test (x ∷ xs) = go (test x) (least_some precedes test 
     go true rest = refl
     go false rest = rest
 
-lower_part : (lists : EstateLists) (direction : Direction) (p : PodEnd) (contact : Contact) (pass : Option RuleName) → decider_allows (lower_decider lists direction p contact pass) ≡ lower_allows lists direction p contact
+lower_part : (lists : EstateLists) (direction : Direction) (p : PodEnd) (contact : Contact) (pass : Option RuleName) →
+    decider_allows (lower_decider lists direction p contact pass) ≡ lower_allows lists direction p contact
 lower_part lists direction p contact pass = go (is_isolated lists.net_policies direction p)
   where
     names : List (List ℕ)
     names = isolating_names lists.net_policies direction p
 
-    go : (b : Bool) → decider_allows (if b then net_decides pass names (net_decider lists.net_policies direction p contact) else base_decides pass (base_decider lists.baseline direction p contact)) ≡ (if b then permits lists.net_policies direction p contact else base_says (base_decider lists.baseline direction p contact))
+    go : (b : Bool) →
+        decider_allows (if b then net_decides pass names (net_decider lists.net_policies direction p contact) else base_decides pass (base_decider lists.baseline direction p contact)) ≡
+        (if b then permits lists.net_policies direction p contact else base_says (base_decider lists.baseline direction p contact))
     go true = net_part pass names (net_decider lists.net_policies direction p contact) ∙ least_some net_precedes (placed_net_matches contact) (net_places lists.net_policies direction p)
     go false = base_part pass (base_decider lists.baseline direction p contact)
 
 pub decider_says : (lists : EstateLists) (direction : Direction) (end : End) (contact : Contact) → decider_allows (decider lists direction end contact) ≡ end_allows lists direction end contact
 unfolding side_allows
-decider_says lists direction (pod p) contact = admin_part (admin_decider lists.admin_policies direction p contact) (lower_decider lists direction p contact) (lower_allows lists direction p contact) (lower_part lists direction p contact)
+decider_says lists direction (pod p) contact = admin_part (admin_decider lists.admin_policies direction p contact) (lower_decider lists direction p contact) (lower_allows lists direction p contact)
+    (lower_part lists direction p contact)
 decider_says lists direction (address a) contact = refl
 
 -- ---- the first matching admin rule decides
@@ -80,7 +86,8 @@ least_is_among precedes [] least is = absurd (nothing is)
     nothing same = cc
 least_is_among {X} precedes (item ∷ items) least is = go (least_by precedes items) refl (least_is_among precedes items) (some_is _ _ is)
   where
-    go : (rest : Option X) → least_by precedes items ≡ rest → ((other : X) → least_by precedes items ≡ Some other → IsAmong other items) → sooner precedes item rest ≡ least → IsAmong least (item ∷ items)
+    go : (rest : Option X) → least_by precedes items ≡ rest → ((other : X) → least_by precedes items ≡ Some other → IsAmong other items) → sooner precedes item rest ≡ least →
+        IsAmong least (item ∷ items)
     go None found among chosen = inl (sym chosen)
     go (Some other) found among chosen = pick (precedes other item) chosen
       where
@@ -98,17 +105,21 @@ pub record IsOrder {X : Type 0} (precedes : X → X → Bool) : Type 0 where
   pub never : (a : X) → precedes a a ≡ false
   pub along : (a b c : X) → precedes a b ≡ false → precedes b c ≡ false → precedes a c ≡ false
 
-pub least_is_first : {X : Type 0} (precedes : X → X → Bool) → IsOrder precedes → (items : List X) (least : X) → least_by precedes items ≡ Some least → AllByRecursion (λ other. precedes other least ≡ false) items
+pub least_is_first : {X : Type 0} (precedes : X → X → Bool) → IsOrder precedes → (items : List X) (least : X) → least_by precedes items ≡ Some least →
+    AllByRecursion (λ other. precedes other least ≡ false) items
 least_is_first precedes order [] least is = tt
 least_is_first {X} precedes order (item ∷ items) least is = go (least_by precedes items) refl (least_is_first precedes order items) (some_is _ _ is)
   where
-    go : (rest : Option X) → least_by precedes items ≡ rest → ((other : X) → least_by precedes items ≡ Some other → AllByRecursion (λ o. precedes o other ≡ false) items) → sooner precedes item rest ≡ least → AllByRecursion (λ other. precedes other least ≡ false) (item ∷ items)
-    go None found first chosen = subst (λ (x : X). AllByRecursion (λ other. precedes other x ≡ false) (item ∷ items)) chosen (order.never item, subst (λ (xs : List X). AllByRecursion (λ other. precedes other item ≡ false) xs) (sym (none_is_empty precedes items found)) tt)
+    go : (rest : Option X) → least_by precedes items ≡ rest → ((other : X) → least_by precedes items ≡ Some other → AllByRecursion (λ o. precedes o other ≡ false) items) →
+        sooner precedes item rest ≡ least → AllByRecursion (λ other. precedes other least ≡ false) (item ∷ items)
+    go None found first chosen = subst (λ (x : X). AllByRecursion (λ other. precedes other x ≡ false) (item ∷ items)) chosen
+        (order.never item, subst (λ (xs : List X). AllByRecursion (λ other. precedes other item ≡ false) xs) (sym (none_is_empty precedes items found)) tt)
     go (Some other) found first chosen = pick (precedes other item) refl chosen
       where
         pick : (b : Bool) → precedes other item ≡ b → (if b then other else item) ≡ least → AllByRecursion (λ o. precedes o least ≡ false) (item ∷ items)
         pick true before same = subst (λ (x : X). AllByRecursion (λ o. precedes o x ≡ false) (item ∷ items)) same (order.apart other item before, first other found)
-        pick false before same = subst (λ (x : X). AllByRecursion (λ o. precedes o x ≡ false) (item ∷ items)) same (order.never item, All-weaker (λ o. precedes o other ≡ false) (λ o. precedes o item ≡ false) (λ o behind. order.along o other item behind before) items (first other found))
+        pick false before same = subst (λ (x : X). AllByRecursion (λ o. precedes o x ≡ false) (item ∷ items)) same
+            (order.never item, All-weaker (λ o. precedes o other ≡ false) (λ o. precedes o item ≡ false) (λ o behind. order.along o other item behind before) items (first other found))
 
 -- ---- the order of admin rules
 

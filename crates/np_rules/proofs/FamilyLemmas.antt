@@ -12,18 +12,18 @@ use Rattle.np_model.specs.declared.admin_policy.AdminRule.{AdminRule}
 use Rattle.np_model.specs.declared.admin_policy.BasePolicy.{BasePolicy}
 use Rattle.np_model.specs.declared.direction.Direction.{Direction}
 use Rattle.np_model.specs.declared.direction.Direction.TheVariants.{Ingress, Egress}
-use Rattle.np_rules.specs.AdminTier.{admin_decider, admin_precedes, least_by}
-use Rattle.np_rules.specs.BaseTier.{base_decider}
-use Rattle.np_rules.specs.Ends.{Contact, End, Packet, PodEnd, pod, address, contact_of}
+use Rattle.np_rules.specs.model.AdminTier.{admin_decider, admin_precedes, least_by}
+use Rattle.np_rules.specs.model.BaseTier.{base_decider}
+use Rattle.np_rules.specs.model.Ends.{Contact, End, Packet, PodEnd, pod, address, contact_of}
 use Rattle.np_rules.specs.Laws.{has_networks, is_networks, rules_list_networks}
-use Rattle.np_rules.specs.NetTier.{is_isolated, permits}
-use Rattle.np_rules.specs.Peers.{admin_peer_matches}
-use Rattle.np_rules.specs.Places.{admin_places, admin_places_of, admin_rules_of, base_places, base_rules_of}
-use Rattle.np_rules.specs.PortEntries.{admin_entry_matches}
-use Rattle.np_rules.specs.Rules.{admin_rule_matches, none_or_any}
-use Rattle.np_rules.specs.Selection.{subject_selects}
-use Rattle.np_rules.specs.Sides.{admin_says, base_says, side_allows}
-use Rattle.np_rules.specs.Verdict.{allows, end_allows}
+use Rattle.np_rules.specs.model.NetTier.{is_isolated, permits}
+use Rattle.np_rules.specs.model.Peers.{admin_peer_matches}
+use Rattle.np_rules.specs.model.Places.{admin_places, admin_places_of, admin_rules_of, base_places, base_rules_of}
+use Rattle.np_rules.specs.model.PortEntries.{admin_entry_matches}
+use Rattle.np_rules.specs.model.Rules.{admin_rule_matches, none_or_any}
+use Rattle.np_rules.specs.model.Selection.{subject_selects}
+use Rattle.np_rules.specs.model.Sides.{admin_says, base_says, side_allows}
+use Rattle.np_rules.specs.model.Verdict.{allows, end_allows}
 
 -- ---- peers and rules
 
@@ -35,7 +35,8 @@ peer_other (Networks cidrs) far one other plain = absurd (impossible plain)
     impossible : true ≡ false → ⊥
     impossible same = cc
 
-peers_other : (peers : List AdminPeer) (far : End) (one other : Family) → list_any is_networks peers ≡ false → list_any (λ peer. admin_peer_matches peer far one) peers ≡ list_any (λ peer. admin_peer_matches peer far other) peers
+peers_other : (peers : List AdminPeer) (far : End) (one other : Family) → list_any is_networks peers ≡ false →
+    list_any (λ peer. admin_peer_matches peer far one) peers ≡ list_any (λ peer. admin_peer_matches peer far other) peers
 peers_other [] far one other plain = refl
 peers_other (peer ∷ peers) far one other plain =
     let parts = or_parts (is_networks peer) (list_any is_networks peers) plain in
@@ -47,7 +48,8 @@ abbrev IsPlain : AdminRule → Type 0
 IsPlain rule = list_any is_networks rule.peers ≡ false
 
 rule_other : (rule : AdminRule) (contact : Contact) (other : Family) → IsPlain rule → admin_rule_matches rule (record contact { family = other }) ≡ admin_rule_matches rule contact
-rule_other rule contact other plain = ap (λ b. b && none_or_any (λ entry. admin_entry_matches entry contact.destination contact.spot) rule.ports) (peers_other rule.peers contact.far other contact.family plain)
+rule_other rule contact other plain = ap (λ b. b && none_or_any (λ entry. admin_entry_matches entry contact.destination contact.spot) rule.ports)
+    (peers_other rule.peers contact.far other contact.family plain)
 
 -- ---- all rules of the lists
 
@@ -57,7 +59,8 @@ all_plain (rule ∷ rules) plain =
     let parts = or_parts (list_any is_networks rule.peers) (rules_list_networks rules) plain in
     (parts.0, all_plain rules parts.1)
 
-numbered_all : {Y : Type 0} (make : ℕ × AdminRule → Y) (rule_of : Y → AdminRule) → ((numbered : ℕ × AdminRule) → rule_of (make numbered) ≡ numbered.1) → (n : ℕ) (rules : List AdminRule) → AllByRecursion IsPlain rules → AllByRecursion (λ y. IsPlain (rule_of y)) (map make (enumerate_from n rules))
+numbered_all : {Y : Type 0} (make : ℕ × AdminRule → Y) (rule_of : Y → AdminRule) → ((numbered : ℕ × AdminRule) → rule_of (make numbered) ≡ numbered.1) → (n : ℕ) (rules : List AdminRule) →
+    AllByRecursion IsPlain rules → AllByRecursion (λ y. IsPlain (rule_of y)) (map make (enumerate_from n rules))
 numbered_all make rule_of same n [] all = tt
 numbered_all make rule_of same n (rule ∷ rules) all = (ap (λ r. list_any is_networks r.peers) (same (n, rule)) ∙ all.0, numbered_all make rule_of same (n + 1) rules all.1)
 
@@ -77,20 +80,29 @@ of_direction : (direction : Direction) (policy : AdminPolicy) → lists_networks
 of_direction Ingress policy plain = (or_parts (rules_list_networks policy.ingress) (rules_list_networks policy.egress) plain).0
 of_direction Egress policy plain = (or_parts (rules_list_networks policy.ingress) (rules_list_networks policy.egress) plain).1
 
-of_base : (direction : Direction) (policy : BasePolicy) → (rules_list_networks policy.ingress || rules_list_networks policy.egress) ≡ false → rules_list_networks (base_rules_of direction policy) ≡ false
+of_base : (direction : Direction) (policy : BasePolicy) → (rules_list_networks policy.ingress || rules_list_networks policy.egress) ≡ false →
+    rules_list_networks (base_rules_of direction policy) ≡ false
 of_base Ingress policy plain = (or_parts (rules_list_networks policy.ingress) (rules_list_networks policy.egress) plain).0
 of_base Egress policy plain = (or_parts (rules_list_networks policy.ingress) (rules_list_networks policy.egress) plain).1
 
-admin_plain : (policies : List AdminPolicy) (direction : Direction) (p : PodEnd) → list_any lists_networks policies ≡ false → AllByRecursion (λ placed. IsPlain placed.rule) (admin_places policies direction p)
+admin_plain : (policies : List AdminPolicy) (direction : Direction) (p : PodEnd) → list_any lists_networks policies ≡ false →
+    AllByRecursion (λ placed. IsPlain placed.rule) (admin_places policies direction p)
 admin_plain [] direction p plain = tt
 admin_plain (policy ∷ policies) direction p plain =
     let parts = or_parts (lists_networks policy) (list_any lists_networks policies) plain in
-    let here = numbered_all (λ numbered. record { policy = policy; place = numbered.0; rule = numbered.1 }) (λ placed. placed.rule) (λ numbered. refl) 0 (admin_rules_of direction policy) (all_plain (admin_rules_of direction policy) (of_direction direction policy parts.0)) in
-    All-append (λ placed. IsPlain placed.rule) (if subject_selects policy.subject p then admin_places_of direction policy else []) (admin_places policies direction p) (if_all (λ placed. IsPlain placed.rule) (subject_selects policy.subject p) (admin_places_of direction policy) here) (admin_plain policies direction p parts.1)
+    let here = numbered_all (λ numbered. record { policy = policy; place = numbered.0; rule = numbered.1 }) (λ placed. placed.rule) (λ numbered. refl) 0 (admin_rules_of direction policy)
+    (all_plain (admin_rules_of direction policy) (of_direction direction policy parts.0)) in
+    All-append (λ placed. IsPlain placed.rule) (if subject_selects policy.subject p then admin_places_of direction policy else []) (admin_places policies direction p)
+    (if_all (λ placed. IsPlain placed.rule) (subject_selects policy.subject p) (admin_places_of direction policy) here) (admin_plain policies direction p parts.1)
 
-base_plain : (baseline : Option BasePolicy) (direction : Direction) (p : PodEnd) → option_map_or (λ policy. rules_list_networks policy.ingress || rules_list_networks policy.egress) baseline false ≡ false → AllByRecursion (λ placed. IsPlain placed.rule) (base_places baseline direction p)
+base_plain : (baseline : Option BasePolicy) (direction : Direction) (p : PodEnd) →
+    option_map_or (λ policy. rules_list_networks policy.ingress || rules_list_networks policy.egress) baseline false ≡ false →
+    AllByRecursion (λ placed. IsPlain placed.rule) (base_places baseline direction p)
 base_plain None direction p plain = tt
-base_plain (Some policy) direction p plain = if_all (λ placed. IsPlain placed.rule) (subject_selects policy.subject p) (map (λ numbered. record { place = numbered.0; rule = numbered.1 }) (enumerate_from 0 (base_rules_of direction policy))) (numbered_all (λ numbered. record { place = numbered.0; rule = numbered.1 }) (λ placed. placed.rule) (λ numbered. refl) 0 (base_rules_of direction policy) (all_plain (base_rules_of direction policy) (of_base direction policy plain)))
+base_plain (Some policy) direction p plain = if_all (λ placed. IsPlain placed.rule) (subject_selects policy.subject p)
+    (map (λ numbered. record { place = numbered.0; rule = numbered.1 }) (enumerate_from 0 (base_rules_of direction policy)))
+    (numbered_all (λ numbered. record { place = numbered.0; rule = numbered.1 }) (λ placed. placed.rule) (λ numbered. refl) 0 (base_rules_of direction policy)
+    (all_plain (base_rules_of direction policy) (of_base direction policy plain)))
 
 -- ---- what decides
 
@@ -108,17 +120,28 @@ All-weaker : {X : Type 0} (P Q : X → Type 0) → ((x : X) → P x → Q x) →
 All-weaker P Q weaker [] all = tt
 All-weaker P Q weaker (x ∷ xs) all = (weaker x all.0, All-weaker P Q weaker xs all.1)
 
-side_other : (lists : EstateLists) (direction : Direction) (p : PodEnd) (contact : Contact) (other : Family) → has_networks lists ≡ false → side_allows lists direction p (record contact { family = other }) ≡ side_allows lists direction p contact
+side_other : (lists : EstateLists) (direction : Direction) (p : PodEnd) (contact : Contact) (other : Family) → has_networks lists ≡ false →
+    side_allows lists direction p (record contact { family = other }) ≡ side_allows lists direction p contact
 unfolding side_allows
 side_other lists direction p contact other plain =
-    let parts = or_parts (list_any lists_networks lists.admin_policies) (option_map_or (λ policy. rules_list_networks policy.ingress || rules_list_networks policy.egress) lists.baseline false) plain in
+    let parts = or_parts (list_any lists_networks lists.admin_policies)
+    (option_map_or (λ policy. rules_list_networks policy.ingress || rules_list_networks policy.egress) lists.baseline false) plain in
     let contact' : Contact = record contact { family = other } in
-    let admin : admin_decider lists.admin_policies direction p contact' ≡ admin_decider lists.admin_policies direction p contact = ap (least_by admin_precedes) (filter-same (λ placed. admin_rule_matches placed.rule contact') (λ placed. admin_rule_matches placed.rule contact) (admin_places lists.admin_policies direction p) (All-weaker (λ placed. IsPlain placed.rule) (λ placed. admin_rule_matches placed.rule contact' ≡ admin_rule_matches placed.rule contact) (λ placed is. rule_other placed.rule contact other is) (admin_places lists.admin_policies direction p) (admin_plain lists.admin_policies direction p parts.0))) in
-    let base : base_decider lists.baseline direction p contact' ≡ base_decider lists.baseline direction p contact = find-same (λ placed. admin_rule_matches placed.rule contact') (λ placed. admin_rule_matches placed.rule contact) (base_places lists.baseline direction p) (All-weaker (λ placed. IsPlain placed.rule) (λ placed. admin_rule_matches placed.rule contact' ≡ admin_rule_matches placed.rule contact) (λ placed is. rule_other placed.rule contact other is) (base_places lists.baseline direction p) (base_plain lists.baseline direction p parts.1)) in
-    ap (λ decides. admin_says decides (if is_isolated lists.net_policies direction p then permits lists.net_policies direction p contact else base_says (base_decider lists.baseline direction p contact'))) admin
-    ∙ ap (λ decides. admin_says (admin_decider lists.admin_policies direction p contact) (if is_isolated lists.net_policies direction p then permits lists.net_policies direction p contact else base_says decides)) base
+    let admin : admin_decider lists.admin_policies direction p contact' ≡ admin_decider lists.admin_policies direction p contact = ap (least_by admin_precedes)
+    (filter-same (λ placed. admin_rule_matches placed.rule contact') (λ placed. admin_rule_matches placed.rule contact) (admin_places lists.admin_policies direction p)
+    (All-weaker (λ placed. IsPlain placed.rule) (λ placed. admin_rule_matches placed.rule contact' ≡ admin_rule_matches placed.rule contact) (λ placed is. rule_other placed.rule contact other is)
+    (admin_places lists.admin_policies direction p) (admin_plain lists.admin_policies direction p parts.0))) in
+    let base : base_decider lists.baseline direction p contact' ≡ base_decider lists.baseline direction p contact = find-same (λ placed. admin_rule_matches placed.rule contact')
+    (λ placed. admin_rule_matches placed.rule contact) (base_places lists.baseline direction p)
+    (All-weaker (λ placed. IsPlain placed.rule) (λ placed. admin_rule_matches placed.rule contact' ≡ admin_rule_matches placed.rule contact) (λ placed is. rule_other placed.rule contact other is)
+    (base_places lists.baseline direction p) (base_plain lists.baseline direction p parts.1)) in
+    ap (λ decides. admin_says decides (if is_isolated lists.net_policies direction p then permits lists.net_policies direction p contact else base_says
+    (base_decider lists.baseline direction p contact'))) admin
+    ∙ ap (λ decides. admin_says (admin_decider lists.admin_policies direction p contact)
+    (if is_isolated lists.net_policies direction p then permits lists.net_policies direction p contact else base_says decides)) base
 
-end_other : (lists : EstateLists) (direction : Direction) (end : End) (contact : Contact) (other : Family) → has_networks lists ≡ false → end_allows lists direction end (record contact { family = other }) ≡ end_allows lists direction end contact
+end_other : (lists : EstateLists) (direction : Direction) (end : End) (contact : Contact) (other : Family) → has_networks lists ≡ false →
+    end_allows lists direction end (record contact { family = other }) ≡ end_allows lists direction end contact
 end_other lists direction (pod p) contact other plain = side_other lists direction p contact other plain
 end_other lists direction (address a) contact other plain = refl
 

@@ -1,5 +1,6 @@
 -- Rules that match no address may be left out of a layer for addresses.
-use Rattle.std.proofs.Common.{◌≡◌, ℕ, ◌+◌, ◌<◌, List, [], ◌∷◌, ◌++◌, Bool, true, false, ◌||◌, append-nil, filter, find, get_or, length, map, take, Option, Some, refl, sym, ap, subst, ◌∙◌, if◌then◌else◌}
+use Rattle.std.proofs.Common.{◌≡◌, ℕ, ◌+◌, ◌<◌, List, [], ◌∷◌, ◌++◌, Bool, true, false, ◌||◌, append-nil, filter, find, get_or, length, map, take, Option, Some, refl, sym, ap, subst, ◌∙◌}
+use Rattle.std.proofs.Common.{if◌then◌else◌}
 use Rattle.std.specs.List.{list_any}
 use Rattle.std.proofs.lemmas.Bool.{and_left, false≢true, or_from, or_parts}
 use Rattle.std.proofs.lemmas.List.{map-append, take_more}
@@ -15,15 +16,15 @@ use Rattle.np_model.specs.declared.network_policy.NetRule.{NetRule}
 use Rattle.np_rules.proofs.LayerLemmas.{admin_same, base_same, matches_in, matches_in_namespace, net_same, walk_by_tiers}
 use Rattle.np_rules.proofs.PairwiseLemmas.{Pairwise-map, map-map}
 use Rattle.np_rules.specs.AddressRules.{admin_rule_of_addresses, is_block, is_networks, net_rule_of_addresses}
-use Rattle.np_rules.specs.Ends.{Contact, End, address}
+use Rattle.np_rules.specs.model.Ends.{Contact, End, address}
 use Rattle.np_rules.specs.Layers.{IsAdminPart, IsBasePart, IsSetOf, Pairwise, matches_of}
-use Rattle.np_rules.specs.NetTier.{placed_net_matches}
-use Rattle.np_rules.specs.Peers.{admin_peer_matches, net_peer_matches}
-use Rattle.np_rules.specs.Places.{PlacedAdminRule, PlacedNetRule, admin_places, base_places, net_places}
+use Rattle.np_rules.specs.model.NetTier.{placed_net_matches}
+use Rattle.np_rules.specs.model.Peers.{admin_peer_matches, net_peer_matches}
+use Rattle.np_rules.specs.model.Places.{PlacedAdminRule, PlacedNetRule, admin_places, base_places, net_places}
 use Rattle.np_rules.specs.PodSides.{KeepsRules, PodSide, near_pod}
-use Rattle.np_rules.specs.PortEntries.{admin_entry_matches, net_entry_matches}
-use Rattle.np_rules.specs.Rules.{admin_rule_matches, net_rule_matches, none_or_any}
-use Rattle.np_rules.specs.Sides.{admin_says, base_says, side_allows}
+use Rattle.np_rules.specs.model.PortEntries.{admin_entry_matches, net_entry_matches}
+use Rattle.np_rules.specs.model.Rules.{admin_rule_matches, net_rule_matches, none_or_any}
+use Rattle.np_rules.specs.model.Sides.{admin_says, base_says, side_allows}
 use Rattle.np_tiers.specs.Walk.{admin_allows, base_allows, walk_allows}
 use Rattle.np_tiers.specs.declared.layer.Layer.{Layer}
 
@@ -48,7 +49,8 @@ admin_peer_nowhere : (a : Address) (family : Family) (peer : AdminPeer) → is_n
 admin_peer_nowhere a family (admin.Pods namespaces pods) none = refl
 admin_peer_nowhere a family (admin.Networks cidrs) none = absurd (false≢true (sym none))
 
-net_rule_nowhere : (namespace : List ℕ) (contact : Contact) (a : Address) → contact.far ≡ address a → (rule : NetRule) → net_rule_of_addresses rule ≡ false → net_rule_matches namespace rule contact ≡ false
+net_rule_nowhere : (namespace : List ℕ) (contact : Contact) (a : Address) → contact.far ≡ address a → (rule : NetRule) → net_rule_of_addresses rule ≡ false →
+    net_rule_matches namespace rule contact ≡ false
 net_rule_nowhere namespace contact a far rule none =
     and_left _ (none_or_any (λ entry. net_entry_matches entry contact.destination contact.spot) rule.ports)
     (ap (λ (end : End). none_or_any (λ peer. net_peer_matches namespace peer end) rule.peers) far
@@ -67,7 +69,8 @@ find_kept : {X : Type 0} (test keep : X → Bool) (xs : List X) → ((x : X) →
 find_kept test keep [] fails = refl
 find_kept {X} test keep (x ∷ xs) fails = go (keep x) (fails x) (find_kept test keep xs fails)
   where
-    go : (b : Bool) → (b ≡ false → test x ≡ false) → find test (filter keep xs) ≡ find test xs → find test (if b then x ∷ filter keep xs else filter keep xs) ≡ (if test x then Some x else find test xs)
+    go : (b : Bool) → (b ≡ false → test x ≡ false) → find test (filter keep xs) ≡ find test xs →
+        find test (if b then x ∷ filter keep xs else filter keep xs) ≡ (if test x then Some x else find test xs)
     go true is rest = ap (λ (found : Option X). if test x then Some x else found) rest
     go false is rest = rest ∙ sym (ap (λ (b : Bool). if b then Some x else find test xs) (is refl))
 
@@ -83,7 +86,8 @@ filter-map : {X Y : Type 0} (f : X → Y) (keep : Y → Bool) (xs : List X) → 
 filter-map f keep [] = refl
 filter-map {X} {Y} f keep (x ∷ xs) = go (keep (f x)) (filter-map f keep xs)
   where
-    go : (b : Bool) → filter keep (map f xs) ≡ map f (filter (λ y. keep (f y)) xs) → (if b then f x ∷ filter keep (map f xs) else filter keep (map f xs)) ≡ map f (if b then x ∷ filter (λ y. keep (f y)) xs else filter (λ y. keep (f y)) xs)
+    go : (b : Bool) → filter keep (map f xs) ≡ map f (filter (λ y. keep (f y)) xs) →
+        (if b then f x ∷ filter keep (map f xs) else filter keep (map f xs)) ≡ map f (if b then x ∷ filter (λ y. keep (f y)) xs else filter (λ y. keep (f y)) xs)
     go true rest = ap (λ (ys : List Y). f x ∷ ys) rest
     go false rest = rest
 
@@ -100,13 +104,15 @@ images_kept {X} {Y} f g keep (x ∷ xs) same = go (keep x) (images_kept f g keep
     go false rest = rest
 
 -- one rule more that is kept, and one that is left out
-next_is : {X Y : Type 0} (see : X → Y) (keep : Y → Bool) (xs : List X) (i : ℕ) (x : X) → i < length xs → x ≡ get_or xs i x → filter keep (map see (take (i + 1) xs)) ≡ filter keep (map see (take i xs)) ++ (if keep (see x) then see x ∷ [] else [])
+next_is : {X Y : Type 0} (see : X → Y) (keep : Y → Bool) (xs : List X) (i : ℕ) (x : X) → i < length xs → x ≡ get_or xs i x →
+    filter keep (map see (take (i + 1) xs)) ≡ filter keep (map see (take i xs)) ++ (if keep (see x) then see x ∷ [] else [])
 next_is {X} see keep xs i x within is =
     ap (λ (front : List X). filter keep (map see front)) (take_more xs i x within ∙ ap (λ (last : X). take i xs ++ last ∷ []) (sym is))
     ∙ ap (filter keep) (map-append see (take i xs) (x ∷ []))
     ∙ filter-append keep (map see (take i xs)) (see x ∷ [])
 
-pub kept_next : {X Y : Type 0} (see : X → Y) (keep : Y → Bool) (xs : List X) (i : ℕ) (x : X) (made new : List X) → i < length xs → x ≡ get_or xs i x → new ≡ made ++ x ∷ [] → keep (see x) ≡ true → map see made ≡ filter keep (map see (take i xs)) → map see new ≡ filter keep (map see (take (i + 1) xs))
+pub kept_next : {X Y : Type 0} (see : X → Y) (keep : Y → Bool) (xs : List X) (i : ℕ) (x : X) (made new : List X) → i < length xs → x ≡ get_or xs i x → new ≡ made ++ x ∷ [] → keep (see x) ≡ true →
+    map see made ≡ filter keep (map see (take i xs)) → map see new ≡ filter keep (map see (take (i + 1) xs))
 kept_next {X} {Y} see keep xs i x made new within is pushed passes so_far =
     ap (map see) pushed
     ∙ map-append see made (x ∷ [])
@@ -114,7 +120,8 @@ kept_next {X} {Y} see keep xs i x made new within is pushed passes so_far =
     ∙ ap (λ (b : Bool). filter keep (map see (take i xs)) ++ (if b then see x ∷ [] else [])) (sym passes)
     ∙ sym (next_is see keep xs i x within is)
 
-pub left_next : {X Y : Type 0} (see : X → Y) (keep : Y → Bool) (xs : List X) (i : ℕ) (x : X) (made : List X) → i < length xs → x ≡ get_or xs i x → keep (see x) ≡ false → map see made ≡ filter keep (map see (take i xs)) → map see made ≡ filter keep (map see (take (i + 1) xs))
+pub left_next : {X Y : Type 0} (see : X → Y) (keep : Y → Bool) (xs : List X) (i : ℕ) (x : X) (made : List X) → i < length xs → x ≡ get_or xs i x → keep (see x) ≡ false →
+    map see made ≡ filter keep (map see (take i xs)) → map see made ≡ filter keep (map see (take (i + 1) xs))
 left_next {X} {Y} see keep xs i x made within is fails so_far =
     so_far
     ∙ sym (append-nil (filter keep (map see (take i xs))))
@@ -124,8 +131,16 @@ left_next {X} {Y} see keep xs i x made within is fails so_far =
 -- ---- the layer
 
 -- A layer whose parts are those of the rules of a side that may match an address says at each spot that stands for one what the side says.
-pub walk_of_kept : {S Spot Admin Kept : Type 0} (has : S → Spot → Bool) (in_space : Spot → Bool) (contact_at : Spot → Contact) (address_at : Spot → Address) → ((spot : Spot) → (contact_at spot).far ≡ address (address_at spot)) → (side : PodSide) (admin : List AdminRule) (isolated : Bool) (net : List NetRule) (base : List AdminRule) (kept_admin : List Admin) (admin_of : Admin → AdminRule) (kept_net : List Kept) (net_of : Kept → NetRule) (namespace : List ℕ) (made : Layer S) → KeepsRules side admin isolated net base → map admin_of kept_admin ≡ filter admin_rule_of_addresses admin → map net_of kept_net ≡ filter net_rule_of_addresses net → namespace ≡ (near_pod side).namespace → Pairwise (IsAdminPart has in_space contact_at) made.admin (map admin_of kept_admin) → made.isolated ≡ isolated → Pairwise (IsSetOf has in_space contact_at) made.net (map (λ kept. net_rule_matches namespace (net_of kept)) kept_net) → Pairwise (IsBasePart has in_space contact_at) made.base base → (spot : Spot) → in_space spot ≡ true → walk_allows (λ set. has set spot) made ≡ side_allows side.lists side.direction (near_pod side) (contact_at spot)
-walk_of_kept {S} {Spot} {Admin} {Kept} has in_space contact_at address_at far side admin isolated net base kept_admin admin_of kept_net net_of namespace made keeps admin_kept net_kept named are_admin same are_net are_base spot within =
+pub walk_of_kept : {S Spot Admin Kept : Type 0} (has : S → Spot → Bool) (in_space : Spot → Bool) (contact_at : Spot → Contact) (address_at : Spot → Address) →
+    ((spot : Spot) → (contact_at spot).far ≡ address (address_at spot)) →
+    (side : PodSide) (admin : List AdminRule) (isolated : Bool) (net : List NetRule) (base : List AdminRule) (kept_admin : List Admin) (admin_of : Admin → AdminRule) (kept_net : List Kept)
+    (net_of : Kept → NetRule) (namespace : List ℕ) (made : Layer S) →
+    KeepsRules side admin isolated net base → map admin_of kept_admin ≡ filter admin_rule_of_addresses admin → map net_of kept_net ≡ filter net_rule_of_addresses net →
+    namespace ≡ (near_pod side).namespace → Pairwise (IsAdminPart has in_space contact_at) made.admin (map admin_of kept_admin) → made.isolated ≡ isolated →
+    Pairwise (IsSetOf has in_space contact_at) made.net (map (λ kept. net_rule_matches namespace (net_of kept)) kept_net) → Pairwise (IsBasePart has in_space contact_at) made.base base →
+    (spot : Spot) → in_space spot ≡ true → walk_allows (λ set. has set spot) made ≡ side_allows side.lists side.direction (near_pod side) (contact_at spot)
+walk_of_kept {S} {Spot} {Admin} {Kept} has in_space contact_at address_at far side admin isolated net base kept_admin admin_of kept_net net_of namespace made keeps admin_kept net_kept named are_admin
+    same are_net are_base spot within =
     walk_by_tiers has side.lists side.direction (near_pod side) at made spot keeps.ascending (same ∙ keeps.isolation) net_says base_is admin_is
   where
     at : Contact
@@ -149,8 +164,10 @@ walk_of_kept {S} {Spot} {Admin} {Kept} has in_space contact_at address_at far si
     admin_is : (below : Bool) → admin_allows (find (λ part. has part.set spot) made.admin) below ≡ admin_says (find (λ placed. admin_rule_matches placed.rule at) admins) below
     admin_is below =
         admin_same has in_space contact_at spot within below made.admin (filter keep_admin admins)
-        (Pairwise-map (IsAdminPart has in_space contact_at) (λ placed. placed.rule) made.admin (filter keep_admin admins) (subst (λ (rules : List AdminRule). Pairwise (IsAdminPart has in_space contact_at) made.admin rules) admin_rules are_admin))
-        ∙ ap (λ (found : Option PlacedAdminRule). admin_says found below) (find_kept (λ placed. admin_rule_matches placed.rule at) keep_admin admins (λ placed none. admin_rule_nowhere at (address_at spot) (far spot) placed.rule none))
+        (Pairwise-map (IsAdminPart has in_space contact_at) (λ placed. placed.rule) made.admin (filter keep_admin admins)
+        (subst (λ (rules : List AdminRule). Pairwise (IsAdminPart has in_space contact_at) made.admin rules) admin_rules are_admin))
+        ∙ ap (λ (found : Option PlacedAdminRule). admin_says found below)
+        (find_kept (λ placed. admin_rule_matches placed.rule at) keep_admin admins (λ placed none. admin_rule_nowhere at (address_at spot) (far spot) placed.rule none))
 
     in_namespace : NetRule → Contact → Bool
     in_namespace = net_rule_matches (near_pod side).namespace
@@ -169,10 +186,12 @@ walk_of_kept {S} {Spot} {Admin} {Kept} has in_space contact_at address_at far si
     net_says : list_any (λ set. has set spot) made.net ≡ list_any (placed_net_matches at) nets
     net_says =
         net_same has in_space contact_at spot within made.net (filter keep_net nets)
-        (Pairwise-map (IsSetOf has in_space contact_at) matches_of made.net (filter keep_net nets) (subst (λ (matches : List (Contact → Bool)). Pairwise (IsSetOf has in_space contact_at) made.net matches) net_matches are_net))
+        (Pairwise-map (IsSetOf has in_space contact_at) matches_of made.net (filter keep_net nets)
+        (subst (λ (matches : List (Contact → Bool)). Pairwise (IsSetOf has in_space contact_at) made.net matches) net_matches are_net))
         ∙ any_kept (placed_net_matches at) keep_net nets (λ placed none. net_rule_nowhere placed.policy.namespace at (address_at spot) (far spot) placed.rule none)
 
     base_is : base_allows (find (λ part. has part.set spot) made.base) ≡ base_says (find (λ placed. admin_rule_matches placed.rule at) (base_places side.lists.baseline side.direction (near_pod side)))
     base_is =
         base_same has in_space contact_at spot within made.base (base_places side.lists.baseline side.direction (near_pod side))
-        (Pairwise-map (IsBasePart has in_space contact_at) (λ placed. placed.rule) made.base (base_places side.lists.baseline side.direction (near_pod side)) (subst (λ (rules : List AdminRule). Pairwise (IsBasePart has in_space contact_at) made.base rules) keeps.base_rules are_base))
+        (Pairwise-map (IsBasePart has in_space contact_at) (λ placed. placed.rule) made.base (base_places side.lists.baseline side.direction (near_pod side))
+        (subst (λ (rules : List AdminRule). Pairwise (IsBasePart has in_space contact_at) made.base rules) keeps.base_rules are_base))

@@ -19,14 +19,14 @@ use Rattle.np_tiers.specs.Walk.{action_allows, admin_allows, base_allows, lower_
 use Rattle.np_tiers.specs.declared.layer.AdminPart.{AdminPart}
 use Rattle.np_tiers.specs.declared.layer.BasePart.{BasePart}
 use Rattle.np_tiers.specs.declared.layer.Layer.{Layer}
-use Rattle.np_rules.specs.Ends.{Contact, PodEnd}
+use Rattle.np_rules.specs.model.Ends.{Contact, PodEnd}
 use Rattle.np_rules.specs.Layers.{Pairwise, IsSetOf, IsAdminPart, IsBasePart, IsLayer, tier_action, matches_of}
-use Rattle.np_rules.specs.NetTier.{is_isolated, placed_net_matches}
-use Rattle.np_rules.specs.Places.{PlacedAdminRule, PlacedBaseRule, PlacedNetRule, admin_places, admin_places_of, admin_rules_of, base_places, net_places, net_places_of, net_rules_of}
-use Rattle.np_rules.specs.Rules.{admin_rule_matches, net_rule_matches}
-use Rattle.np_rules.specs.Selection.{net_selects, subject_selects}
-use Rattle.np_rules.specs.Sides as sides
-use Rattle.np_rules.specs.Sides.{action_says, admin_says, base_says, side_allows}
+use Rattle.np_rules.specs.model.NetTier.{is_isolated, placed_net_matches}
+use Rattle.np_rules.specs.model.Places.{PlacedAdminRule, PlacedBaseRule, PlacedNetRule, admin_places, admin_places_of, admin_rules_of, base_places, net_places, net_places_of, net_rules_of}
+use Rattle.np_rules.specs.model.Rules.{admin_rule_matches, net_rule_matches}
+use Rattle.np_rules.specs.model.Selection.{net_selects, subject_selects}
+use Rattle.np_rules.specs.model.Sides as sides
+use Rattle.np_rules.specs.model.Sides.{action_says, admin_says, base_says, side_allows}
 use Rattle.np_rules.proofs.AdminTierLemmas as admin
 use Rattle.np_rules.proofs.AdminTierLemmas.{decider_is_first}
 use Rattle.np_rules.proofs.NetTierLemmas as net
@@ -35,22 +35,28 @@ use Rattle.np_rules.proofs.PlacesLemmas.{flat_map-next, if_both, map-numbered}
 -- ---- the rules of one policy more
 
 -- the rules of the admin policies, with those of one more
-pub admin_rules-next : (policies : List AdminPolicy) (direction : Direction) (p : PodEnd) (i : ℕ) (policy : AdminPolicy) → i < length policies → policy ≡ get_or policies i policy → map (λ placed. placed.rule) (admin_places (take (i + 1) policies) direction p) ≡ map (λ placed. placed.rule) (admin_places (take i policies) direction p) ++ (if subject_selects policy.subject p then admin_rules_of direction policy else [])
+pub admin_rules-next : (policies : List AdminPolicy) (direction : Direction) (p : PodEnd) (i : ℕ) (policy : AdminPolicy) → i < length policies → policy ≡ get_or policies i policy →
+    map (λ placed. placed.rule) (admin_places (take (i + 1) policies) direction p) ≡ map (λ placed. placed.rule) (admin_places (take i policies) direction p) ++
+    (if subject_selects policy.subject p then admin_rules_of direction policy else [])
 admin_rules-next policies direction p i policy within is =
     let rule_of : PlacedAdminRule → AdminRule = λ placed. placed.rule in
     let before = map rule_of (admin_places (take i policies) direction p) in
     ap (map rule_of) (flat_map-next (admin.places_by direction p) policies i policy within is)
     ∙ map-append rule_of (admin_places (take i policies) direction p) (admin.places_by direction p policy)
-    ∙ ap (λ rules. before ++ rules) (if_both (λ places rules. map rule_of places ≡ rules) (subject_selects policy.subject p) (admin_places_of direction policy) (admin_rules_of direction policy) (map-numbered (λ numbered. record { policy = policy; place = numbered.0; rule = numbered.1 }) rule_of (λ numbered. refl) 0 (admin_rules_of direction policy)) refl)
+    ∙ ap (λ rules. before ++ rules) (if_both (λ places rules. map rule_of places ≡ rules) (subject_selects policy.subject p) (admin_places_of direction policy) (admin_rules_of direction policy)
+    (map-numbered (λ numbered. record { policy = policy; place = numbered.0; rule = numbered.1 }) rule_of (λ numbered. refl) 0 (admin_rules_of direction policy)) refl)
 
 -- the rules of the NetworkPolicies, with those of one more
-pub net_rules-next : (policies : List NetPolicy) (direction : Direction) (p : PodEnd) (i : ℕ) (policy : NetPolicy) → i < length policies → policy ≡ get_or policies i policy → map (λ placed. placed.rule) (net_places (take (i + 1) policies) direction p) ≡ map (λ placed. placed.rule) (net_places (take i policies) direction p) ++ (if net_selects policy p then unwrap_or (net_rules_of direction policy) [] else [])
+pub net_rules-next : (policies : List NetPolicy) (direction : Direction) (p : PodEnd) (i : ℕ) (policy : NetPolicy) → i < length policies → policy ≡ get_or policies i policy →
+    map (λ placed. placed.rule) (net_places (take (i + 1) policies) direction p) ≡ map (λ placed. placed.rule) (net_places (take i policies) direction p) ++
+    (if net_selects policy p then unwrap_or (net_rules_of direction policy) [] else [])
 net_rules-next policies direction p i policy within is =
     let rule_of : PlacedNetRule → NetRule = λ placed. placed.rule in
     let before = map rule_of (net_places (take i policies) direction p) in
     ap (map rule_of) (flat_map-next (net.places_by direction p) policies i policy within is)
     ∙ map-append rule_of (net_places (take i policies) direction p) (net.places_by direction p policy)
-    ∙ ap (λ rules. before ++ rules) (if_both (λ places rules. map rule_of places ≡ rules) (net_selects policy p) (net_places_of direction policy) (unwrap_or (net_rules_of direction policy) []) (map-numbered (λ numbered. record { policy = policy; place = numbered.0; rule = numbered.1 }) rule_of (λ numbered. refl) 0 (unwrap_or (net_rules_of direction policy) [])) refl)
+    ∙ ap (λ rules. before ++ rules) (if_both (λ places rules. map rule_of places ≡ rules) (net_selects policy p) (net_places_of direction policy) (unwrap_or (net_rules_of direction policy) [])
+    (map-numbered (λ numbered. record { policy = policy; place = numbered.0; rule = numbered.1 }) rule_of (λ numbered. refl) 0 (unwrap_or (net_rules_of direction policy) [])) refl)
 
 -- ---- the namespace of the policies that select a pod
 
@@ -63,14 +69,16 @@ abbrev pub matches_in : List ℕ → PlacedNetRule → Contact → Bool
 matches_in namespace placed = net_rule_matches namespace placed.rule
 
 -- what the rules of one policy match, as rules of its namespace
-matches_of_one : (namespace : List ℕ) (policy : NetPolicy) → policy.namespace ≡ namespace → (n : ℕ) (rules : List NetRule) → map matches_of (map (placed_in policy) (enumerate_from n rules)) ≡ map (matches_in namespace) (map (placed_in policy) (enumerate_from n rules))
+matches_of_one : (namespace : List ℕ) (policy : NetPolicy) → policy.namespace ≡ namespace → (n : ℕ) (rules : List NetRule) →
+    map matches_of (map (placed_in policy) (enumerate_from n rules)) ≡ map (matches_in namespace) (map (placed_in policy) (enumerate_from n rules))
 matches_of_one namespace policy same n [] = refl
 matches_of_one namespace policy same n (rule ∷ rules) =
     let first : List ℕ → List (Contact → Bool) = λ name. net_rule_matches name rule ∷ map matches_of (map (placed_in policy) (enumerate_from (n + 1) rules)) in
     ap first same ∙ ap (λ matches. net_rule_matches namespace rule ∷ matches) (matches_of_one namespace policy same (n + 1) rules)
 
 -- A policy that selects a pod is of the pod's namespace, so its rules match as rules of that.
-pub matches_in_namespace : (policies : List NetPolicy) (direction : Direction) (p : PodEnd) → map matches_of (net_places policies direction p) ≡ map (matches_in p.namespace) (net_places policies direction p)
+pub matches_in_namespace : (policies : List NetPolicy) (direction : Direction) (p : PodEnd) →
+    map matches_of (net_places policies direction p) ≡ map (matches_in p.namespace) (net_places policies direction p)
 matches_in_namespace [] direction p = refl
 matches_in_namespace (policy ∷ policies) direction p =
     map-append matches_of (net.places_by direction p policy) (net_places policies direction p)
@@ -79,7 +87,8 @@ matches_in_namespace (policy ∷ policies) direction p =
     ∙ sym (map-append (matches_in p.namespace) (net.places_by direction p policy) (net_places policies direction p))
   where
     here : (b : Bool) → net_selects policy p ≡ b → map matches_of (if b then net_places_of direction policy else []) ≡ map (matches_in p.namespace) (if b then net_places_of direction policy else [])
-    here true selects = matches_of_one p.namespace policy ((bytes_eq-Decides policy.namespace p.namespace).0 (and_parts (bytes_eq policy.namespace p.namespace) (meets_selector policy.subject p.labels) selects).0) 0 (unwrap_or (net_rules_of direction policy) [])
+    here true selects = matches_of_one p.namespace policy ((bytes_eq-Decides policy.namespace p.namespace).0
+        (and_parts (bytes_eq policy.namespace p.namespace) (meets_selector policy.subject p.labels) selects).0) 0 (unwrap_or (net_rules_of direction policy) [])
     here false selects = refl
 
 -- ---- what the walk of a layer says
@@ -90,39 +99,54 @@ action_same policy.Deny below = refl
 action_same policy.Pass below = refl
 
 -- the first admin part that has the spot says what the first matching rule says
-pub admin_same : {S Spot : Type 0} (has : S → Spot → Bool) (in_space : Spot → Bool) (contact_at : Spot → Contact) (spot : Spot) → in_space spot ≡ true → (below : Bool) (parts : List (AdminPart S)) (places : List PlacedAdminRule) → Pairwise (λ part placed. IsAdminPart has in_space contact_at part placed.rule) parts places → admin_allows (find (λ part. has part.set spot) parts) below ≡ admin_says (find (λ placed. admin_rule_matches placed.rule (contact_at spot)) places) below
+pub admin_same : {S Spot : Type 0} (has : S → Spot → Bool) (in_space : Spot → Bool) (contact_at : Spot → Contact) (spot : Spot) → in_space spot ≡ true →
+    (below : Bool) (parts : List (AdminPart S)) (places : List PlacedAdminRule) → Pairwise (λ part placed. IsAdminPart has in_space contact_at part placed.rule) parts places →
+    admin_allows (find (λ part. has part.set spot) parts) below ≡ admin_says (find (λ placed. admin_rule_matches placed.rule (contact_at spot)) places) below
 admin_same has in_space contact_at spot within below [] [] related = refl
 admin_same has in_space contact_at spot within below [] (placed ∷ places) related = absurd related
 admin_same has in_space contact_at spot within below (part ∷ parts) [] related = absurd related
 admin_same has in_space contact_at spot within below (part ∷ parts) (placed ∷ places) related =
     rw (related.0.members spot within) (go (admin_rule_matches placed.rule (contact_at spot)) (admin_same has in_space contact_at spot within below parts places related.1))
   where
-    go : (b : Bool) → admin_allows (find (λ part. has part.set spot) parts) below ≡ admin_says (find (λ placed. admin_rule_matches placed.rule (contact_at spot)) places) below → admin_allows (if b then Some part else find (λ part. has part.set spot) parts) below ≡ admin_says (if b then Some placed else find (λ placed. admin_rule_matches placed.rule (contact_at spot)) places) below
+    go : (b : Bool) → admin_allows (find (λ part. has part.set spot) parts) below ≡ admin_says (find (λ placed. admin_rule_matches placed.rule (contact_at spot)) places) below →
+        admin_allows (if b then Some part else find (λ part. has part.set spot) parts) below ≡ admin_says
+        (if b then Some placed else find (λ placed. admin_rule_matches placed.rule (contact_at spot)) places) below
     go true rest = ap (λ a. action_allows a below) related.0.action ∙ action_same placed.rule.action below
     go false rest = rest
 
 -- some set has the spot where some rule matches
-pub net_same : {S Spot : Type 0} (has : S → Spot → Bool) (in_space : Spot → Bool) (contact_at : Spot → Contact) (spot : Spot) → in_space spot ≡ true → (sets : List S) (places : List PlacedNetRule) → Pairwise (λ set placed. IsSetOf has in_space contact_at set (matches_of placed)) sets places → list_any (λ set. has set spot) sets ≡ list_any (placed_net_matches (contact_at spot)) places
+pub net_same : {S Spot : Type 0} (has : S → Spot → Bool) (in_space : Spot → Bool) (contact_at : Spot → Contact) (spot : Spot) → in_space spot ≡ true → (sets : List S) (places : List PlacedNetRule) →
+    Pairwise (λ set placed. IsSetOf has in_space contact_at set (matches_of placed)) sets places → list_any (λ set. has set spot) sets ≡ list_any (placed_net_matches (contact_at spot)) places
 net_same has in_space contact_at spot within [] [] related = refl
 net_same has in_space contact_at spot within [] (placed ∷ places) related = absurd related
 net_same has in_space contact_at spot within (set ∷ sets) [] related = absurd related
 net_same has in_space contact_at spot within (set ∷ sets) (placed ∷ places) related =
-    ap (λ b. b || list_any (λ s. has s spot) sets) (related.0 spot within) ∙ ap (λ b. placed_net_matches (contact_at spot) placed || b) (net_same has in_space contact_at spot within sets places related.1)
+    ap (λ b. b || list_any (λ s. has s spot) sets) (related.0 spot within) ∙ ap (λ b. placed_net_matches (contact_at spot) placed || b)
+    (net_same has in_space contact_at spot within sets places related.1)
 
 -- the first base part that has the spot says what the first matching rule says
-pub base_same : {S Spot : Type 0} (has : S → Spot → Bool) (in_space : Spot → Bool) (contact_at : Spot → Contact) (spot : Spot) → in_space spot ≡ true → (parts : List (BasePart S)) (places : List PlacedBaseRule) → Pairwise (λ part placed. IsBasePart has in_space contact_at part placed.rule) parts places → base_allows (find (λ part. has part.set spot) parts) ≡ base_says (find (λ placed. admin_rule_matches placed.rule (contact_at spot)) places)
+pub base_same : {S Spot : Type 0} (has : S → Spot → Bool) (in_space : Spot → Bool) (contact_at : Spot → Contact) (spot : Spot) → in_space spot ≡ true →
+    (parts : List (BasePart S)) (places : List PlacedBaseRule) → Pairwise (λ part placed. IsBasePart has in_space contact_at part placed.rule) parts places →
+    base_allows (find (λ part. has part.set spot) parts) ≡ base_says (find (λ placed. admin_rule_matches placed.rule (contact_at spot)) places)
 base_same has in_space contact_at spot within [] [] related = refl
 base_same has in_space contact_at spot within [] (placed ∷ places) related = absurd related
 base_same has in_space contact_at spot within (part ∷ parts) [] related = absurd related
 base_same has in_space contact_at spot within (part ∷ parts) (placed ∷ places) related =
     rw (related.0.members spot within) (go (admin_rule_matches placed.rule (contact_at spot)) (base_same has in_space contact_at spot within parts places related.1))
   where
-    go : (b : Bool) → base_allows (find (λ part. has part.set spot) parts) ≡ base_says (find (λ placed. admin_rule_matches placed.rule (contact_at spot)) places) → base_allows (if b then Some part else find (λ part. has part.set spot) parts) ≡ base_says (if b then Some placed else find (λ placed. admin_rule_matches placed.rule (contact_at spot)) places)
+    go : (b : Bool) → base_allows (find (λ part. has part.set spot) parts) ≡ base_says (find (λ placed. admin_rule_matches placed.rule (contact_at spot)) places) →
+        base_allows (if b then Some part else find (λ part. has part.set spot) parts) ≡ base_says (if b then Some placed else find (λ placed. admin_rule_matches placed.rule (contact_at spot)) places)
     go true rest = related.0.allow
     go false rest = rest
 
 -- A layer whose tiers say at a spot what the rules of the side say of what it stands for, says what the side says.
-pub walk_by_tiers : {S Spot : Type 0} (has : S → Spot → Bool) (lists : EstateLists) (direction : Direction) (p : PodEnd) (at : Contact) (made : Layer S) (spot : Spot) → HasAscendingPriorities lists.admin_policies → made.isolated ≡ is_isolated lists.net_policies direction p → list_any (λ set. has set spot) made.net ≡ list_any (placed_net_matches at) (net_places lists.net_policies direction p) → base_allows (find (λ part. has part.set spot) made.base) ≡ base_says (find (λ placed. admin_rule_matches placed.rule at) (base_places lists.baseline direction p)) → ((below : Bool) → admin_allows (find (λ part. has part.set spot) made.admin) below ≡ admin_says (find (λ placed. admin_rule_matches placed.rule at) (admin_places lists.admin_policies direction p)) below) → walk_allows (λ set. has set spot) made ≡ side_allows lists direction p at
+pub walk_by_tiers : {S Spot : Type 0} (has : S → Spot → Bool) (lists : EstateLists) (direction : Direction) (p : PodEnd) (at : Contact) (made : Layer S) (spot : Spot) →
+    HasAscendingPriorities lists.admin_policies → made.isolated ≡ is_isolated lists.net_policies direction p →
+    list_any (λ set. has set spot) made.net ≡ list_any (placed_net_matches at) (net_places lists.net_policies direction p) →
+    base_allows (find (λ part. has part.set spot) made.base) ≡ base_says (find (λ placed. admin_rule_matches placed.rule at) (base_places lists.baseline direction p)) →
+    ((below : Bool) → admin_allows (find (λ part. has part.set spot) made.admin) below ≡ admin_says
+    (find (λ placed. admin_rule_matches placed.rule at) (admin_places lists.admin_policies direction p)) below) →
+    walk_allows (λ set. has set spot) made ≡ side_allows lists direction p at
 unfolding side_allows
 walk_by_tiers has lists direction p at made spot ascending isolated net base admin =
     let lower : lower_allows (λ set. has set spot) made ≡ sides.lower_allows lists direction p at = lower_same (is_isolated lists.net_policies direction p) made.isolated isolated net base in
@@ -134,7 +158,9 @@ walk_by_tiers has lists direction p at made spot ascending isolated net base adm
     lower_same isolated made_isolated same {a} {b} {c} {d} first second = ap (λ i. if i then a else c) same ∙ ap (λ x. if isolated then x else c) first ∙ ap (λ x. if isolated then b else x) second
 
 -- The walk of a layer says at each spot what the side says of what the spot stands for.
-pub walk_is_side : {S Spot : Type 0} (has : S → Spot → Bool) (in_space : Spot → Bool) (contact_at : Spot → Contact) (lists : EstateLists) (direction : Direction) (p : PodEnd) (made : Layer S) → HasAscendingPriorities lists.admin_policies → IsLayer has in_space contact_at lists direction p made → (spot : Spot) → in_space spot ≡ true → walk_allows (λ set. has set spot) made ≡ side_allows lists direction p (contact_at spot)
+pub walk_is_side : {S Spot : Type 0} (has : S → Spot → Bool) (in_space : Spot → Bool) (contact_at : Spot → Contact) (lists : EstateLists) (direction : Direction) (p : PodEnd) (made : Layer S) →
+    HasAscendingPriorities lists.admin_policies → IsLayer has in_space contact_at lists direction p made → (spot : Spot) → in_space spot ≡ true →
+    walk_allows (λ set. has set spot) made ≡ side_allows lists direction p (contact_at spot)
 walk_is_side has in_space contact_at lists direction p made ascending is spot within =
     walk_by_tiers has lists direction p (contact_at spot) made spot ascending is.isolated
     (net_same has in_space contact_at spot within made.net (net_places lists.net_policies direction p) is.net)

@@ -15,4 +15,5 @@ pub mod LayerRulesLemmas
 pub mod PodSideLemmas
 pub mod OwnPolicies
 pub mod KeptLemmas
+pub mod Protocols
 pub mod StrangerLemmas

@@ -3,7 +3,7 @@ use Rattle.std.proofs.Common.{◌≡◌, ap, ◌∙◌}
 use Rattle.np_addr.specs.declared.address.Family.{Family}
 use Rattle.np_conns.specs.declared.port_spot.PortSpot.{PortSpot}
 use Rattle.np_model.specs.declared.direction.Direction.{Direction}
-use Rattle.np_rules.specs.Ends.{Contact, End, contact, destination_of}
+use Rattle.np_rules.specs.model.Ends.{Contact, End, contact, destination_of}
 use Rattle.np_rules.specs.OneEnd.{one_contact}
 use Rattle.np_rules.specs.Views.{end_view}
 use Rattle.np_rules.specs.declared.one_end.OneEnd.{OneEnd}
@@ -12,6 +12,7 @@ abbrev contacts : End → End → Family → PortSpot → Contact
 contacts far destination family spot = record { far = far; destination = destination; family = family; spot = spot }
 
 -- what the spots stand for, between a near end and a far one
-pub same_contacts : (ends : OneEnd) (direction : Direction) (near far : End) (family : Family) → end_view ends.far ≡ far → end_view ends.destination ≡ destination_of direction near far → ends.family ≡ family → one_contact ends ≡ contact direction near far family
+pub same_contacts : (ends : OneEnd) (direction : Direction) (near far : End) (family : Family) → end_view ends.far ≡ far → end_view ends.destination ≡ destination_of direction near far →
+    ends.family ≡ family → one_contact ends ≡ contact direction near far family
 same_contacts ends direction near far family is_far is_destination is_family =
     ap (λ f. contacts f (end_view ends.destination) ends.family) is_far ∙ ap (λ d. contacts far d ends.family) is_destination ∙ ap (contacts far (destination_of direction near far)) is_family

@@ -15,34 +15,38 @@ use Rattle.std.proofs.lemmas.Map.Text.{is_eq-slice_cmp}
 use Rattle.np_model.specs.Lawful.{StandsBefore, comes_before}
 use Rattle.np_model.specs.declared.direction.Direction.{Direction}
 use Rattle.np_model.specs.declared.network_policy.NetPolicy.{NetPolicy}
-use Rattle.np_rules.specs.Ends.{PodEnd}
-use Rattle.np_rules.specs.NetTier.{is_isolated, isolates}
-use Rattle.np_rules.specs.Places.{PlacedNetRule, net_places, net_places_of}
-use Rattle.np_rules.specs.Selection.{net_selects}
+use Rattle.np_rules.specs.model.Ends.{PodEnd}
+use Rattle.np_rules.specs.model.NetTier.{is_isolated, isolates}
+use Rattle.np_rules.specs.model.Places.{PlacedNetRule, net_places, net_places_of}
+use Rattle.np_rules.specs.model.Selection.{net_selects}
 
 -- ---- what they say of the pods of the namespace
 
 -- the policies of a pod's namespace have the rules that speak of it
-pub own-net_places : (direction : Direction) (p : PodEnd) (policies : List NetPolicy) → net_places (filter (λ policy. bytes_eq policy.namespace p.namespace) policies) direction p ≡ net_places policies direction p
+pub own-net_places : (direction : Direction) (p : PodEnd) (policies : List NetPolicy) →
+    net_places (filter (λ policy. bytes_eq policy.namespace p.namespace) policies) direction p ≡ net_places policies direction p
 own-net_places direction p [] = refl
 own-net_places direction p (policy ∷ policies) = go (bytes_eq policy.namespace p.namespace) refl (own-net_places direction p policies)
   where
     own : NetPolicy → Bool
     own one = bytes_eq one.namespace p.namespace
 
-    go : (b : Bool) → bytes_eq policy.namespace p.namespace ≡ b → net_places (filter own policies) direction p ≡ net_places policies direction p → net_places (if b then policy ∷ filter own policies else filter own policies) direction p ≡ net_places (policy ∷ policies) direction p
+    go : (b : Bool) → bytes_eq policy.namespace p.namespace ≡ b → net_places (filter own policies) direction p ≡ net_places policies direction p →
+        net_places (if b then policy ∷ filter own policies else filter own policies) direction p ≡ net_places (policy ∷ policies) direction p
     go true is rest = ap (λ (rules : List PlacedNetRule). (if net_selects policy p then net_places_of direction policy else []) ++ rules) rest
     go false is rest = rw is rest
 
 -- and isolate it where some do
-pub own-is_isolated : (direction : Direction) (p : PodEnd) (policies : List NetPolicy) → is_isolated (filter (λ policy. bytes_eq policy.namespace p.namespace) policies) direction p ≡ is_isolated policies direction p
+pub own-is_isolated : (direction : Direction) (p : PodEnd) (policies : List NetPolicy) →
+    is_isolated (filter (λ policy. bytes_eq policy.namespace p.namespace) policies) direction p ≡ is_isolated policies direction p
 own-is_isolated direction p [] = refl
 own-is_isolated direction p (policy ∷ policies) = go (bytes_eq policy.namespace p.namespace) refl (own-is_isolated direction p policies)
   where
     own : NetPolicy → Bool
     own one = bytes_eq one.namespace p.namespace
 
-    go : (b : Bool) → bytes_eq policy.namespace p.namespace ≡ b → is_isolated (filter own policies) direction p ≡ is_isolated policies direction p → is_isolated (if b then policy ∷ filter own policies else filter own policies) direction p ≡ is_isolated (policy ∷ policies) direction p
+    go : (b : Bool) → bytes_eq policy.namespace p.namespace ≡ b → is_isolated (filter own policies) direction p ≡ is_isolated policies direction p →
+        is_isolated (if b then policy ∷ filter own policies else filter own policies) direction p ≡ is_isolated (policy ∷ policies) direction p
     go true is rest = ap (λ (b : Bool). isolates direction p policy || b) rest
     go false is rest = rw is rest
 
@@ -85,7 +89,8 @@ module _ (policies : List NetPolicy) (ascending : AllPairs StandsBefore policies
   upto-first first i j d before within is =
       let place : ℕ → NetPolicy = λ n. get_or policies (first + n) d in
       ap (λ (policy : NetPolicy). is_le (compared namespace policy)) (get_or-drop first policies i d)
-      ∙ upto (compared namespace (place i)) (compared namespace (place j)) (rising (first + i) (first + j) d (omega arith) (let length_is = length-drop first policies in omega arith)) (ap (λ (policy : NetPolicy). is_le (compared namespace policy)) (sym (get_or-drop first policies j d)) ∙ is)
+      ∙ upto (compared namespace (place i)) (compared namespace (place j)) (rising (first + i) (first + j) d (omega arith) (let length_is = length-drop first policies in omega arith))
+      (ap (λ (policy : NetPolicy). is_le (compared namespace policy)) (sym (get_or-drop first policies j d)) ∙ is)
     where
       upto : (a b : Ordering) → ordering_index a ≤ ordering_index b → is_le b ≡ true → is_le a ≡ true
       upto Less b least is = refl
@@ -118,7 +123,10 @@ equal-between Equal lower upto = refl
 equal-between Greater lower upto = absurd (false≢true upto)
 
 -- those between the two places that searches by halves gave are the policies of the namespace
-pub own-between : (policies : List NetPolicy) (namespace : List ℕ) (first count : ℕ) → first ≤ length policies → count ≤ length (drop first policies) → IsPartitionPoint (λ policy. is_lt (compared namespace policy) ≡ true) (λ policy. is_lt (compared namespace policy) ≡ false) policies first → IsPartitionPoint (λ policy. is_le (compared namespace policy) ≡ true) (λ policy. is_le (compared namespace policy) ≡ false) (drop first policies) count → take count (drop first policies) ≡ filter (λ policy. bytes_eq policy.namespace namespace) policies
+pub own-between : (policies : List NetPolicy) (namespace : List ℕ) (first count : ℕ) → first ≤ length policies → count ≤ length (drop first policies) →
+    IsPartitionPoint (λ policy. is_lt (compared namespace policy) ≡ true) (λ policy. is_lt (compared namespace policy) ≡ false) policies first →
+    IsPartitionPoint (λ policy. is_le (compared namespace policy) ≡ true) (λ policy. is_le (compared namespace policy) ≡ false) (drop first policies) count →
+    take count (drop first policies) ≡ filter (λ policy. bytes_eq policy.namespace namespace) policies
 own-between policies namespace first count within within' lower upto =
     sym (
     ap (filter own) (sym (take-append-drop first policies))
@@ -147,7 +155,8 @@ own-between policies namespace first count within within' lower upto =
         let rest_is = length-drop first policies in
         ap own (get_or-take count (drop first policies) k d (omega arith))
         ∙ as_compared (get_or (drop first policies) k d)
-        ∙ equal-between _ (ap (λ (policy : NetPolicy). is_lt (compared namespace policy)) (get_or-drop first policies k d) ∙ lower.1 (first + k) d (omega arith) (omega arith)) (upto.0 k d (omega arith) (omega arith))
+        ∙ equal-between _ (ap (λ (policy : NetPolicy). is_lt (compared namespace policy)) (get_or-drop first policies k d) ∙ lower.1 (first + k) d (omega arith) (omega arith))
+        (upto.0 k d (omega arith) (omega arith))
 
     back : (k : ℕ) (d : NetPolicy) → k < length (drop count (drop first policies)) → own (get_or (drop count (drop first policies)) k d) ≡ false
     back k d below =
@@ -155,9 +164,14 @@ own-between policies namespace first count within within' lower upto =
         ap own (get_or-drop count (drop first policies) k d) ∙ as_compared (get_or (drop first policies) (count + k) d) ∙ not_equal-higher _ (upto.1 (count + k) d (omega arith) (omega arith))
 
 -- the same of what two splits gave
-pub own-split : (policies : List NetPolicy) (namespace : List ℕ) (first count : ℕ) (rest own : List NetPolicy) → first ≤ length policies → rest ≡ drop first policies → count ≤ length rest → own ≡ take count rest → IsPartitionPoint (λ policy. is_lt (compared namespace policy) ≡ true) (λ policy. is_lt (compared namespace policy) ≡ false) policies first → (IsPartitionedBy (λ policy. is_le (compared namespace policy)) rest → IsPartitionPoint (λ policy. is_le (compared namespace policy) ≡ true) (λ policy. is_le (compared namespace policy) ≡ false) rest count) → ((n : ℕ) → IsPartitionedBy (λ policy. is_le (compared namespace policy)) (drop n policies)) → own ≡ filter (λ policy. bytes_eq policy.namespace namespace) policies
+pub own-split : (policies : List NetPolicy) (namespace : List ℕ) (first count : ℕ) (rest own : List NetPolicy) → first ≤ length policies → rest ≡ drop first policies → count ≤ length rest →
+    own ≡ take count rest → IsPartitionPoint (λ policy. is_lt (compared namespace policy) ≡ true) (λ policy. is_lt (compared namespace policy) ≡ false) policies first →
+    (IsPartitionedBy (λ policy. is_le (compared namespace policy)) rest → IsPartitionPoint (λ policy. is_le (compared namespace policy) ≡ true)
+    (λ policy. is_le (compared namespace policy) ≡ false) rest count) →
+    ((n : ℕ) → IsPartitionedBy (λ policy. is_le (compared namespace policy)) (drop n policies)) → own ≡ filter (λ policy. bytes_eq policy.namespace namespace) policies
 own-split policies namespace first count rest own within rest_is within' own_is lower upto parted =
     own_is
     ∙ ap (take count) rest_is
     ∙ own-between policies namespace first count within (subst (λ (r : List NetPolicy). count ≤ length r) rest_is within') lower
-    (subst (λ (r : List NetPolicy). IsPartitionPoint (λ policy. is_le (compared namespace policy) ≡ true) (λ policy. is_le (compared namespace policy) ≡ false) r count) rest_is (upto (subst (λ (r : List NetPolicy). IsPartitionedBy (λ policy. is_le (compared namespace policy)) r) (sym rest_is) (parted first))))
+    (subst (λ (r : List NetPolicy). IsPartitionPoint (λ policy. is_le (compared namespace policy) ≡ true) (λ policy. is_le (compared namespace policy) ≡ false) r count) rest_is
+    (upto (subst (λ (r : List NetPolicy). IsPartitionedBy (λ policy. is_le (compared namespace policy)) r) (sym rest_is) (parted first))))

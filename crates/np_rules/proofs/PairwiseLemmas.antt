@@ -23,15 +23,20 @@ Pairwise-map R f (a ∷ xs) [] related = absurd related
 Pairwise-map R f (a ∷ xs) (b ∷ ys) related = (related.0, Pairwise-map R f xs ys related.1)
 
 -- after so many items of the second list, one more
-pub Pairwise-next : {A B : Type 0} (R : A → B → Type 0) (xs : List A) (before ys : List B) (i : ℕ) (x : A) (y : B) (made : List A) → i < length ys → y ≡ get_or ys i y → made ≡ xs ++ x ∷ [] → Pairwise R xs (before ++ take i ys) → R x y → Pairwise R made (before ++ take (i + 1) ys)
+pub Pairwise-next : {A B : Type 0} (R : A → B → Type 0) (xs : List A) (before ys : List B) (i : ℕ) (x : A) (y : B) (made : List A) → i < length ys → y ≡ get_or ys i y → made ≡ xs ++ x ∷ [] →
+    Pairwise R xs (before ++ take i ys) → R x y → Pairwise R made (before ++ take (i + 1) ys)
 Pairwise-next {A} {B} R xs before ys i x y made within is pushed related here =
     let item : B → List B = λ b. take i ys ++ b ∷ [] in
     let front : before ++ take (i + 1) ys ≡ (before ++ take i ys) ++ y ∷ [] = ap (λ bs. before ++ bs) (take_more ys i y within ∙ ap item (sym is)) ∙ sym (append_assoc before (take i ys) (y ∷ [])) in
-    subst (λ (made' : List A). Pairwise R made' (before ++ take (i + 1) ys)) (sym pushed) (subst (λ (bs : List B). Pairwise R (xs ++ x ∷ []) bs) (sym front) (Pairwise-push R xs (before ++ take i ys) x y related here))
+    subst (λ (made' : List A). Pairwise R made' (before ++ take (i + 1) ys)) (sym pushed)
+    (subst (λ (bs : List B). Pairwise R (xs ++ x ∷ []) bs) (sym front) (Pairwise-push R xs (before ++ take i ys) x y related here))
 
 -- the same where the second list is that of images
-pub Pairwise-next-map : {A B C : Type 0} (R : A → C → Type 0) (f : B → C) (xs : List A) (before : List C) (ys : List B) (i : ℕ) (x : A) (y : B) (made : List A) → i < length ys → y ≡ get_or ys i y → made ≡ xs ++ x ∷ [] → Pairwise R xs (before ++ map f (take i ys)) → R x (f y) → Pairwise R made (before ++ map f (take (i + 1) ys))
+pub Pairwise-next-map : {A B C : Type 0} (R : A → C → Type 0) (f : B → C) (xs : List A) (before : List C) (ys : List B) (i : ℕ) (x : A) (y : B) (made : List A) → i < length ys → y ≡ get_or ys i y →
+    made ≡ xs ++ x ∷ [] → Pairwise R xs (before ++ map f (take i ys)) → R x (f y) → Pairwise R made (before ++ map f (take (i + 1) ys))
 Pairwise-next-map {A} {B} {C} R f xs before ys i x y made within is pushed related here =
     let item : B → List B = λ b. take i ys ++ b ∷ [] in
-    let front : before ++ map f (take (i + 1) ys) ≡ (before ++ map f (take i ys)) ++ f y ∷ [] = ap (λ bs. before ++ map f bs) (take_more ys i y within ∙ ap item (sym is)) ∙ ap (λ cs. before ++ cs) (map-append f (take i ys) (y ∷ [])) ∙ sym (append_assoc before (map f (take i ys)) (f y ∷ [])) in
-    subst (λ (made' : List A). Pairwise R made' (before ++ map f (take (i + 1) ys))) (sym pushed) (subst (λ (cs : List C). Pairwise R (xs ++ x ∷ []) cs) (sym front) (Pairwise-push R xs (before ++ map f (take i ys)) x (f y) related here))
+    let front : before ++ map f (take (i + 1) ys) ≡ (before ++ map f (take i ys)) ++ f y ∷ [] = ap (λ bs. before ++ map f bs) (take_more ys i y within ∙ ap item (sym is)) ∙ ap (λ cs. before ++ cs)
+    (map-append f (take i ys) (y ∷ [])) ∙ sym (append_assoc before (map f (take i ys)) (f y ∷ [])) in
+    subst (λ (made' : List A). Pairwise R made' (before ++ map f (take (i + 1) ys))) (sym pushed)
+    (subst (λ (cs : List C). Pairwise R (xs ++ x ∷ []) cs) (sym front) (Pairwise-push R xs (before ++ map f (take i ys)) x (f y) related here))

@@ -1,5 +1,5 @@
 -- What the rules that are kept for strangers say of one.
-use Rattle.std.proofs.Common.{◌≡◌, ℕ, ◌+◌, ◌<◌, List, [], ◌∷◌, ◌++◌, Bool, true, ◌&&◌, ◌||◌, find, get_or, length, map, take, refl, sym, ap, ◌∙◌, subst}
+use Rattle.std.proofs.Common.{◌≡◌, ℕ, ◌+◌, ◌<◌, List, [], ◌∷◌, ◌++◌, Bool, true, false, ◌&&◌, ◌||◌, find, get_or, length, map, take, refl, sym, ap, ◌∙◌, subst}
 use Rattle.std.specs.List.{AllByRecursion, list_any}
 use Rattle.std.proofs.lemmas.List.{map-append, take_more}
 use Rattle.np_addr.specs.declared.address.Address.{Address}
@@ -14,18 +14,18 @@ use Rattle.np_model.specs.declared.network_policy.NetPort.TheVariants as net
 use Rattle.np_model.specs.declared.network_policy.NetRule.{NetRule}
 use Rattle.np_rules.proofs.LayerLemmas.{admin_same, base_same, matches_in, matches_in_namespace, walk_by_tiers}
 use Rattle.np_rules.proofs.PairwiseLemmas.{Pairwise-map}
-use Rattle.np_rules.specs.Ends.{Contact, End, address, destination_of, pod, stranger_end}
+use Rattle.np_rules.specs.model.Ends.{Contact, End, address, destination_of, pod, stranger_end}
 use Rattle.np_rules.specs.Layers.{IsAdminPart, IsBasePart, Pairwise, matches_of}
-use Rattle.np_rules.specs.NetTier.{placed_net_matches}
-use Rattle.np_rules.specs.Peers.{net_peer_matches}
-use Rattle.np_rules.specs.Places.{PlacedNetRule, admin_places, base_places, net_places}
+use Rattle.np_rules.specs.model.NetTier.{placed_net_matches}
+use Rattle.np_rules.specs.model.Peers.{net_peer_matches}
+use Rattle.np_rules.specs.model.Places.{PlacedNetRule, admin_places, base_places, net_places}
 use Rattle.np_rules.specs.PodSides.{KeepsRules, PodSide, SaysVerdicts, near_pod, with_stranger}
-use Rattle.np_rules.specs.PortEntries.{net_entry_matches}
-use Rattle.np_rules.specs.Rules.{admin_rule_matches, net_rule_matches, none_or_any}
-use Rattle.np_rules.specs.StrangerRules.{HasPorts, HavePorts, kept_matches, rule_of}
+use Rattle.np_rules.specs.model.PortEntries.{net_entry_matches}
+use Rattle.np_rules.specs.model.Rules.{admin_rule_matches, net_rule_matches, none_or_any}
+use Rattle.np_rules.specs.StrangerRules.{ArePermitted, HasPorts, HavePorts, IsNetOf, kept_matches, rule_of}
 use Rattle.np_rules.specs.declared.stranger.Stranger.{Stranger}
 use Rattle.np_rules.specs.declared.stranger_rules.RuleConns.{RuleConns}
-use Rattle.np_rules.specs.Sides.{admin_says, base_says}
+use Rattle.np_rules.specs.model.Sides.{admin_says, base_says}
 use Rattle.np_tiers.specs.Walk.{admin_allows, base_allows}
 use Rattle.np_tiers.specs.declared.layer.Layer.{Layer}
 
@@ -72,6 +72,10 @@ any-map : {X Y : Type 0} (f : Y → Bool) (g : X → Y) (xs : List X) → list_a
 any-map f g [] = refl
 any-map f g (x ∷ xs) = ap (λ b. f (g x) || b) (any-map f g xs)
 
+or_none : (b : Bool) → (b || false) ≡ b
+or_none true = refl
+or_none false = refl
+
 -- the kept rules match what they match as rules
 kept_same : (side : PodSide) (s : Stranger) (namespace : List ℕ) (spot : PortSpot) → is_spot spot ≡ true → (kept : List RuleConns) → HavePorts side kept → list_any (kept_matches namespace (pod (stranger_end s)) spot) kept ≡ list_any (λ k. net_rule_matches namespace (rule_of k) (with_stranger s side spot)) kept
 kept_same side s namespace spot within [] have = refl
@@ -81,35 +85,36 @@ kept_same side s namespace spot within (k ∷ kept) have =
     ap (λ b. (peers && b) || list_any (kept_matches namespace (pod (stranger_end s)) spot) kept) (have.0 s spot within)
     ∙ ap (λ b. rule_matches k || b) (kept_same side s namespace spot within kept have.1)
 
--- A layer whose parts are those of the kept rules, and whose sets have together what some kept rule matches, says what the side says of the stranger.
-pub says_of_stranger : (side : PodSide) (s : Stranger) (admin : List AdminRule) (isolated : Bool) (kept : List RuleConns) (base : List AdminRule) (namespace : List ℕ) (at : PortSpot → Contact) (far : End) (made : Layer Conns) → at ≡ with_stranger s side → far ≡ pod (stranger_end s) → KeepsRules side admin isolated (map rule_of kept) base → HavePorts side kept → namespace ≡ (near_pod side).namespace → Pairwise (IsAdminPart has_spot is_spot at) made.admin admin → made.isolated ≡ isolated → ((spot : PortSpot) → list_any (λ set. has_spot set spot) made.net ≡ list_any (kept_matches namespace far spot) kept) → Pairwise (IsBasePart has_spot is_spot at) made.base base → SaysVerdicts has_spot is_spot side (with_stranger s) made
-says_of_stranger side s admin isolated kept base namespace at far made is_at is_far keeps have named are_admin same are_net are_base spot within =
+-- some kept rule matches a stranger where NetworkPolicies permit that
+pub net_of_kept : (side : PodSide) (admin : List AdminRule) (isolated : Bool) (kept : List RuleConns) (base : List AdminRule) → KeepsRules side admin isolated (map rule_of kept) base → HavePorts side kept → IsNetOf side kept
+net_of_kept side admin isolated kept base keeps have s spot within =
+    kept_same side s (near_pod side).namespace spot within kept have
+    ∙ sym (any-map by_rule rule_of kept)
+    ∙ ap (list_any by_rule) keeps.net_rules
+    ∙ any-map by_rule (λ placed. placed.rule) nets
+    ∙ sym (any-map passes (matches_in (near_pod side).namespace) nets)
+    ∙ ap (list_any passes) (sym (matches_in_namespace side.lists.net_policies side.direction (near_pod side)))
+    ∙ any-map passes matches_of nets
+  where
+    nets : List PlacedNetRule
+    nets = net_places side.lists.net_policies side.direction (near_pod side)
+
+    by_rule : NetRule → Bool
+    by_rule rule = net_rule_matches (near_pod side).namespace rule (with_stranger s side spot)
+
+    passes : (Contact → Bool) → Bool
+    passes matches = matches (with_stranger s side spot)
+
+-- A layer whose parts are those of the kept rules, and whose only set has what NetworkPolicies permit the stranger, says what the side says of it.
+pub says_of_stranger : (side : PodSide) (s : Stranger) (admin : List AdminRule) (isolated : Bool) (net : List NetRule) (base : List AdminRule) (at : PortSpot → Contact) (permitted : Conns) (made : Layer Conns) → at ≡ with_stranger s side → KeepsRules side admin isolated net base → ArePermitted side s permitted → Pairwise (IsAdminPart has_spot is_spot at) made.admin admin → made.isolated ≡ isolated → made.net ≡ permitted ∷ [] → Pairwise (IsBasePart has_spot is_spot at) made.base base → SaysVerdicts has_spot is_spot side (with_stranger s) made
+says_of_stranger side s admin isolated net base at permitted made is_at keeps are_permitted are_admin same is_net are_base spot within =
     walk_by_tiers has_spot side.lists side.direction (near_pod side) (contacts spot) made spot keeps.ascending (same ∙ keeps.isolation) net_says base_is admin_is
   where
     contacts : PortSpot → Contact
     contacts = with_stranger s side
 
-    nets : List PlacedNetRule
-    nets = net_places side.lists.net_policies side.direction (near_pod side)
-
-    by_name : List ℕ → NetRule → Bool
-    by_name name rule = net_rule_matches name rule (contacts spot)
-
-    passes : (Contact → Bool) → Bool
-    passes matches = matches (contacts spot)
-
-    net_says : list_any (λ set. has_spot set spot) made.net ≡ list_any (placed_net_matches (contacts spot)) nets
-    net_says =
-        are_net spot
-        ∙ ap (λ (end : End). list_any (kept_matches namespace end spot) kept) is_far
-        ∙ kept_same side s namespace spot within kept have
-        ∙ sym (any-map (by_name namespace) rule_of kept)
-        ∙ ap (list_any (by_name namespace)) keeps.net_rules
-        ∙ ap (λ (name : List ℕ). list_any (by_name name) (map (λ placed. placed.rule) nets)) named
-        ∙ any-map (by_name (near_pod side).namespace) (λ placed. placed.rule) nets
-        ∙ sym (any-map passes (matches_in (near_pod side).namespace) nets)
-        ∙ ap (list_any passes) (sym (matches_in_namespace side.lists.net_policies side.direction (near_pod side)))
-        ∙ any-map passes matches_of nets
+    net_says : list_any (λ set. has_spot set spot) made.net ≡ list_any (placed_net_matches (contacts spot)) (net_places side.lists.net_policies side.direction (near_pod side))
+    net_says = ap (list_any (λ set. has_spot set spot)) is_net ∙ or_none (has_spot permitted spot) ∙ are_permitted spot within
 
     base_is : base_allows (find (λ part. has_spot part.set spot) made.base) ≡ base_says (find (λ placed. admin_rule_matches placed.rule (contacts spot)) (base_places side.lists.baseline side.direction (near_pod side)))
     base_is =

@@ -13,7 +13,7 @@ use Rattle.np_model.specs.declared.network_policy.NetPeer.{NetPeer}
 use Rattle.np_model.specs.declared.network_policy.NetPeer.TheVariants as net
 use Rattle.np_model.specs.declared.network_policy.NetRule.{NetRule}
 use Rattle.np_rules.specs.EveryAddress.{admin_peer_has, net_peer_has}
-use Rattle.np_rules.specs.Rules.{none_or_any}
+use Rattle.np_rules.specs.model.Rules.{none_or_any}
 
 -- ---- kinds
 

@@ -7,12 +7,12 @@ use Rattle.np_model.specs.declared.admin_policy.Action.{Action}
 use Rattle.np_model.specs.declared.admin_policy.Action.TheVariants.{Allow, Deny, Pass}
 use Rattle.np_model.specs.declared.direction.Direction.{Direction}
 use Rattle.np_model.specs.declared.network_policy.NetPolicy.{NetPolicy}
-use Rattle.np_rules.specs.AdminTier.{admin_decider, least_by}
-use Rattle.np_rules.specs.BaseTier.{base_decider}
-use Rattle.np_rules.specs.Ends.{End, Contact, PodEnd, pod, address}
-use Rattle.np_rules.specs.NetTier.{isolates, is_isolated, net_candidates}
-use Rattle.np_rules.specs.Places.{PlacedAdminRule, PlacedBaseRule, PlacedNetRule}
-use Rattle.np_rules.specs.Sides.{is_allow}
+use Rattle.np_rules.specs.model.AdminTier.{admin_decider, least_by}
+use Rattle.np_rules.specs.model.BaseTier.{base_decider}
+use Rattle.np_rules.specs.model.Ends.{End, Contact, PodEnd, pod, address}
+use Rattle.np_rules.specs.model.NetTier.{isolates, is_isolated, net_candidates}
+use Rattle.np_rules.specs.model.Places.{PlacedAdminRule, PlacedBaseRule, PlacedNetRule}
+use Rattle.np_rules.specs.model.Sides.{is_allow}
 use Rattle.np_rules.specs.declared.decider.Decider.{Decider}
 use Rattle.np_rules.specs.declared.decider.Decider.TheVariants.{NoSide, Admin, Net, Isolated, Base, Free}
 use Rattle.np_rules.specs.declared.decider.RuleName.{RuleName}

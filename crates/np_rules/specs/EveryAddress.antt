@@ -15,8 +15,8 @@ use Rattle.np_pieces.specs.declared.piece.Piece.{Piece}
 use Rattle.np_model.specs.declared.admin_policy.AdminPeer.{AdminPeer}
 use Rattle.np_model.specs.declared.direction.Direction.{Direction}
 use Rattle.np_model.specs.declared.network_policy.NetPeer.{NetPeer}
-use Rattle.np_rules.specs.Ends.{Contact, End, address, contact}
-use Rattle.np_rules.specs.Peers.{admin_peer_matches, net_peer_matches}
+use Rattle.np_rules.specs.model.Ends.{Contact, End, address, contact}
+use Rattle.np_rules.specs.model.Peers.{admin_peer_matches, net_peer_matches}
 use Rattle.np_rules.specs.Views.{end_view}
 use Rattle.np_rules.specs.declared.every_address.EveryAddress.{EveryAddress}
 use Rattle.np_sets.specs.Space.{is_between}

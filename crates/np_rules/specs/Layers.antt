@@ -11,11 +11,11 @@ use Rattle.np_tiers.specs.declared.layer.Action.TheVariants as tier
 use Rattle.np_tiers.specs.declared.layer.AdminPart.{AdminPart}
 use Rattle.np_tiers.specs.declared.layer.BasePart.{BasePart}
 use Rattle.np_tiers.specs.declared.layer.Layer.{Layer}
-use Rattle.np_rules.specs.Ends.{Contact, PodEnd}
-use Rattle.np_rules.specs.NetTier.{is_isolated}
-use Rattle.np_rules.specs.Places.{PlacedNetRule, admin_places, base_places, net_places}
-use Rattle.np_rules.specs.Rules.{admin_rule_matches, net_rule_matches}
-use Rattle.np_rules.specs.Sides.{is_allow}
+use Rattle.np_rules.specs.model.Ends.{Contact, PodEnd}
+use Rattle.np_rules.specs.model.NetTier.{is_isolated}
+use Rattle.np_rules.specs.model.Places.{PlacedNetRule, admin_places, base_places, net_places}
+use Rattle.np_rules.specs.model.Rules.{admin_rule_matches, net_rule_matches}
+use Rattle.np_rules.specs.model.Sides.{is_allow}
 
 -- the lists are as long, and what stands at the same place is related
 abbrev pub Pairwise : {A B : Type 0} → (A → B → Type 0) → List A → List B → Type 0

@@ -1,6 +1,6 @@
 -- One far end.
 use Rattle.np_conns.specs.declared.port_spot.PortSpot.{PortSpot}
-use Rattle.np_rules.specs.Ends.{Contact}
+use Rattle.np_rules.specs.model.Ends.{Contact}
 use Rattle.np_rules.specs.Views.{end_view}
 use Rattle.np_rules.specs.declared.one_end.OneEnd.{OneEnd}
 

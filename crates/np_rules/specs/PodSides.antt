@@ -10,13 +10,13 @@ use Rattle.np_model.specs.declared.lists.EstateLists.{EstateLists}
 use Rattle.np_model.specs.declared.admin_policy.AdminRule.{AdminRule}
 use Rattle.np_model.specs.declared.direction.Direction.{Direction}
 use Rattle.np_model.specs.declared.network_policy.NetRule.{NetRule}
-use Rattle.np_rules.specs.Ends.{Contact, PodEnd, pod, address, contact, stranger_end}
+use Rattle.np_rules.specs.model.Ends.{Contact, PodEnd, pod, address, contact, stranger_end}
 use Rattle.np_rules.specs.EveryAddress.{AddressSpot, address_contact}
 use Rattle.np_rules.specs.Layers.{IsLayer}
-use Rattle.np_rules.specs.NetTier.{is_isolated}
-use Rattle.np_rules.specs.Places.{admin_places, base_places, net_places, rule_count}
-use Rattle.np_rules.specs.Sides.{side_allows}
-use Rattle.np_rules.specs.Verdict.{pod_at}
+use Rattle.np_rules.specs.model.NetTier.{is_isolated}
+use Rattle.np_rules.specs.model.Places.{admin_places, base_places, net_places, rule_count}
+use Rattle.np_rules.specs.model.Sides.{side_allows}
+use Rattle.np_rules.specs.model.Verdict.{pod_at}
 use Rattle.np_rules.specs.declared.stranger.Stranger.{Stranger}
 use Rattle.np_tiers.specs.Walk.{walk_allows}
 use Rattle.np_tiers.specs.declared.layer.Layer.{Layer}

@@ -1,16 +1,17 @@
 -- The rules of NetworkPolicies that are kept for pods that nobody has written yet, each with a set of what its port entries
 -- match.
 use Rattle.std.specs.Prelude.{◌≡◌, ℕ, List, Bool, true, ◌&&◌}
-use Rattle.std.specs.List.{AllByRecursion}
-use Rattle.np_conns.specs.Conns.{has_spot, is_spot}
+use Rattle.std.specs.List.{AllByRecursion, list_any}
+use Rattle.np_conns.specs.Conns.{Conns, has_spot, is_spot}
 use Rattle.np_conns.specs.declared.port_spot.PortSpot.{PortSpot}
 use Rattle.np_model.specs.declared.direction.Direction.{Direction}
 use Rattle.np_model.specs.declared.network_policy.NetRule.{NetRule}
-use Rattle.np_rules.specs.Ends.{End, destination_of, pod, stranger_end}
-use Rattle.np_rules.specs.Peers.{net_peer_matches}
-use Rattle.np_rules.specs.PodSides.{PodSide, near_pod}
-use Rattle.np_rules.specs.PortEntries.{net_entry_matches}
-use Rattle.np_rules.specs.Rules.{none_or_any}
+use Rattle.np_rules.specs.model.Ends.{End, destination_of, pod, stranger_end}
+use Rattle.np_rules.specs.model.NetTier.{permits}
+use Rattle.np_rules.specs.model.Peers.{net_peer_matches}
+use Rattle.np_rules.specs.PodSides.{PodSide, near_pod, with_stranger}
+use Rattle.np_rules.specs.model.PortEntries.{net_entry_matches}
+use Rattle.np_rules.specs.model.Rules.{none_or_any}
 use Rattle.np_rules.specs.declared.stranger.Stranger.{Stranger}
 use Rattle.np_rules.specs.declared.stranger_rules.RuleConns.{RuleConns}
 
@@ -26,6 +27,25 @@ HasPorts direction near kept = (s : Stranger) (spot : PortSpot) → is_spot spot
 abbrev pub HavePorts : PodSide → List RuleConns → Type 0
 HavePorts side kept = AllByRecursion (HasPorts side.direction (pod (near_pod side))) kept
 
--- whether a rule of this namespace matches the far end, and its set has the spot
+-- whether the peers of a rule of this namespace match the far end
+abbrev pub kept_reaches : List ℕ → End → RuleConns → Bool
+kept_reaches namespace far kept = none_or_any (λ peer. net_peer_matches namespace peer far) (rule_of kept).peers
+
+-- whether such a rule matches the far end, and its set has the spot
 abbrev pub kept_matches : List ℕ → End → PortSpot → RuleConns → Bool
-kept_matches namespace far spot kept = none_or_any (λ peer. net_peer_matches namespace peer far) (rule_of kept).peers && has_spot kept.conns spot
+kept_matches namespace far spot kept = kept_reaches namespace far kept && has_spot kept.conns spot
+
+-- ---- what NetworkPolicies permit a stranger
+
+-- whether some rule of a NetworkPolicy that selects the pod matches the stranger, at a spot
+abbrev pub permits_stranger : PodSide → Stranger → PortSpot → Bool
+permits_stranger side s spot = permits side.lists.net_policies side.direction (near_pod side) (with_stranger s side spot)
+
+-- Whichever stranger is the far end, some of the kept rules matches it at a spot where NetworkPolicies permit that.
+abbrev pub IsNetOf : PodSide → List RuleConns → Type 0
+IsNetOf side kept = (s : Stranger) (spot : PortSpot) → is_spot spot ≡ true →
+    list_any (kept_matches (near_pod side).namespace (pod (stranger_end s)) spot) kept ≡ permits_stranger side s spot
+
+-- the set has exactly the spots that NetworkPolicies permit the stranger
+abbrev pub ArePermitted : PodSide → Stranger → Conns → Type 0
+ArePermitted side s conns = (spot : PortSpot) → is_spot spot ≡ true → has_spot conns spot ≡ permits_stranger side s spot

@@ -1,7 +1,7 @@
 -- What the ends that the code looks at stand for.
 use Rattle.std.specs.Prelude.{[], unwrap_or}
 use Rattle.std.specs.Option.{option_copied}
-use Rattle.np_rules.specs.Ends.{End, PodEnd, Contact, pod, address}
+use Rattle.np_rules.specs.model.Ends.{End, PodEnd, Contact, pod, address}
 use Rattle.np_rules.specs.declared.views.ContactView.{ContactView}
 use Rattle.np_rules.specs.declared.views.EndView.{EndView}
 use Rattle.np_rules.specs.declared.views.EndView.TheVariants as seen

@@ -5,7 +5,7 @@ ghost use Rattle.np_addr.specs.Addresses.{IsAddress};
 ghost use Rattle.np_addr.specs.Blocks.{set_has, block_has};
 ghost use Rattle.np_addr.specs.declared.address.Address.{Address};
 ghost use Rattle.np_rules.specs.EveryAddress.{net_peer_has, admin_peer_has};
-ghost use Rattle.np_rules.specs.Rules.{none_or_any};
+ghost use Rattle.np_rules.specs.model.Rules.{none_or_any};
 
 use np_addr::{AddrSet, Cidr, cidr_set};
 use np_base::{Cells, NoMemory};

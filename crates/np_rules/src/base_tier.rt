@@ -1,9 +1,9 @@
 //! What the baseline says of one packet.
 ghost use Rattle.std.specs.Prelude.{◌≡◌, ◌+◌, length, map, Some};
 ghost use Rattle.std.specs.Option.{option_map, option_copied};
-ghost use Rattle.np_rules.specs.BaseTier.{base_decider};
-ghost use Rattle.np_rules.specs.Places.{base_places};
-ghost use Rattle.np_rules.specs.Places as spec;
+ghost use Rattle.np_rules.specs.model.BaseTier.{base_decider};
+ghost use Rattle.np_rules.specs.model.Places.{base_places};
+ghost use Rattle.np_rules.specs.model.Places as spec;
 ghost use Rattle.np_rules.specs.Views.{pod_view, contact_view};
 
 use crate::admin_tier::first_action;

@@ -2,11 +2,11 @@
 ghost use Rattle.std.specs.Prelude.{◌≡◌, AllPairs};
 ghost use Rattle.std.specs.List.{list_any};
 ghost use Rattle.np_model.specs.Lawful.{StandsBefore};
-ghost use Rattle.np_rules.specs.Ends.{pod, pod_end};
-ghost use Rattle.np_rules.specs.NetTier.{is_isolated};
-ghost use Rattle.np_rules.specs.Peers.{admin_peer_matches, net_peer_matches};
-ghost use Rattle.np_rules.specs.Rules.{none_or_any};
-ghost use Rattle.np_rules.specs.Selection as spec;
+ghost use Rattle.np_rules.specs.model.Ends.{pod, pod_end};
+ghost use Rattle.np_rules.specs.model.NetTier.{is_isolated};
+ghost use Rattle.np_rules.specs.model.Peers.{admin_peer_matches, net_peer_matches};
+ghost use Rattle.np_rules.specs.model.Rules.{none_or_any};
+ghost use Rattle.np_rules.specs.model.Selection as spec;
 
 use crate::net_tier::is_isolated;
 use crate::own_policies::own_policies;

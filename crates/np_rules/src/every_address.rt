@@ -63,8 +63,8 @@ impl FarEnds<AddrConns> for EveryAddress<'_> {
 impl EveryAddress<'_> {
     ghost use Rattle.std.specs.Prelude.{◌≡◌, true, IfOk};
     ghost use Rattle.np_conns.specs.Conns.{is_spot, has_spot};
-    ghost use Rattle.np_rules.specs.Ends.{address, destination_of};
-    ghost use Rattle.np_rules.specs.Rules.{none_or_any};
+    ghost use Rattle.np_rules.specs.model.Ends.{address, destination_of};
+    ghost use Rattle.np_rules.specs.model.Rules.{none_or_any};
     ghost use Rattle.np_rules.specs.Views.{end_view};
 
     /// The spots that some port entry matches, whatever the address is. No entries at all stand for every spot.

@@ -1,8 +1,8 @@
 //! The far ends that a layer is made for.
 ghost use Rattle.std.specs.Prelude.{IfOk};
-ghost use Rattle.np_rules.specs.Ends.{Contact};
+ghost use Rattle.np_rules.specs.model.Ends.{Contact};
 ghost use Rattle.np_rules.specs.Layers.{IsSetOf};
-ghost use Rattle.np_rules.specs.Rules.{admin_rule_matches, net_rule_matches};
+ghost use Rattle.np_rules.specs.model.Rules.{admin_rule_matches, net_rule_matches};
 
 use np_base::{Cells, NoMemory};
 use np_model::{AdminRule, NetRule};

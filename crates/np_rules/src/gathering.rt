@@ -2,9 +2,9 @@
 ghost use Rattle.std.specs.Prelude.{◌≡◌, ◌++◌, None, map, if◌then◌else◌, AllPairs, IfOk, OnOk};
 ghost use Rattle.std.specs.Option.{option_map};
 ghost use Rattle.np_model.specs.Lawful.{StandsBefore};
-ghost use Rattle.np_rules.specs.NetTier.{is_isolated};
-ghost use Rattle.np_rules.specs.Places.{admin_places, net_places, net_rules_of};
-ghost use Rattle.np_rules.specs.Selection.{net_selects};
+ghost use Rattle.np_rules.specs.model.NetTier.{is_isolated};
+ghost use Rattle.np_rules.specs.model.Places.{admin_places, net_places, net_rules_of};
+ghost use Rattle.np_rules.specs.model.Selection.{net_selects};
 ghost use Rattle.np_rules.specs.Views.{pod_view};
 
 use crate::admin_tier::admin_rules_for;

@@ -2,8 +2,8 @@
 ghost use Rattle.std.specs.Prelude.{◌≡◌, map, IfOk};
 ghost use Rattle.np_rules.specs.Layers as spec;
 ghost use Rattle.np_rules.specs.Layers.{Pairwise, IsAdminPart, IsBasePart, IsSetOf};
-ghost use Rattle.np_rules.specs.Rules.{net_rule_matches};
-ghost use Rattle.np_rules.specs.Sides.{is_allow};
+ghost use Rattle.np_rules.specs.model.Rules.{net_rule_matches};
+ghost use Rattle.np_rules.specs.model.Sides.{is_allow};
 
 use crate::far_ends::FarEnds;
 use np_base::{Cells, NoMemory, Seq};

@@ -13,7 +13,6 @@ mod far_ends;
 mod gathering;
 mod laws;
 mod layer_parts;
-mod layers;
 mod near_ends;
 mod net_tier;
 mod one_end;
@@ -43,13 +42,12 @@ pub use laws::{
     decider_gives_the_verdict, first_admin_rule_decides, network_policies_alone_isolate,
     networks_alone_tell_families, policies_add_up, rules_add_up, unselected_pods_are_free,
 };
-pub use layers::{address_layer, pod_layer, point_layer, stranger_layer};
 pub use net_tier::net_rules_of;
 pub use packet::{End, Packet};
 pub use pod_rules::PodRules;
 pub use policy_names::PolicyNames;
 pub use rule_ids::{LayerRules, RuleId, layer_rules};
 pub use stranger::Stranger;
-pub use stranger_rules::StrangerRules;
+pub use stranger_rules::{RuleConns, StrangerRules, joined_set};
 pub use texts::{direction_text, said_text, verdict_text};
 pub use verdict::allows;

@@ -2,9 +2,9 @@
 ghost use Rattle.std.specs.Prelude.{◌≡◌, ◌<◌, length};
 ghost use Rattle.np_addr.specs.Addresses.{family_of};
 ghost use Rattle.np_addr.specs.declared.address.Family.TheVariants.{Four};
-ghost use Rattle.np_rules.specs.Ends as ends;
-ghost use Rattle.np_rules.specs.Ends.{destination_of, stranger_end};
-ghost use Rattle.np_rules.specs.Verdict.{pod_at};
+ghost use Rattle.np_rules.specs.model.Ends as ends;
+ghost use Rattle.np_rules.specs.model.Ends.{destination_of, stranger_end};
+ghost use Rattle.np_rules.specs.model.Verdict.{pod_at};
 ghost use Rattle.np_rules.specs.Views.{end_view, pod_view};
 
 use crate::one_end::OneEnd;

@@ -2,10 +2,10 @@
 ghost use Rattle.std.specs.Prelude.{◌≡◌, ◌+◌, [], None, length, if◌then◌else◌, unwrap_or};
 ghost use Rattle.std.specs.List.{list_any};
 ghost use Rattle.std.specs.Option.{option_map};
-ghost use Rattle.np_rules.specs.NetTier as spec;
-ghost use Rattle.np_rules.specs.Places.{net_places, net_rules_of};
-ghost use Rattle.np_rules.specs.Rules.{net_rule_matches};
-ghost use Rattle.np_rules.specs.Selection.{net_selects};
+ghost use Rattle.np_rules.specs.model.NetTier as spec;
+ghost use Rattle.np_rules.specs.model.Places.{net_places, net_rules_of};
+ghost use Rattle.np_rules.specs.model.Rules.{net_rule_matches};
+ghost use Rattle.np_rules.specs.model.Selection.{net_selects};
 ghost use Rattle.np_rules.specs.Views.{pod_view, contact_view};
 
 use crate::rules::net_rule_matches;

@@ -6,8 +6,8 @@ ghost use Rattle.np_addr.specs.Addresses.{cidr_has};
 ghost use Rattle.np_addr.specs.Blocks.{block_has};
 ghost use Rattle.np_model.specs.Families.{is_of};
 ghost use Rattle.np_rules.specs.BlockFamilies.{is_block_of, some_inside};
-ghost use Rattle.np_rules.specs.Peers as spec;
-ghost use Rattle.np_rules.specs.Rules.{none_or_any};
+ghost use Rattle.np_rules.specs.model.Peers as spec;
+ghost use Rattle.np_rules.specs.model.Rules.{none_or_any};
 ghost use Rattle.np_rules.specs.Views.{pod_view, end_view};
 
 use crate::views::{EndView, PodView};

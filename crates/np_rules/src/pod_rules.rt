@@ -5,7 +5,7 @@ ghost use Rattle.np_pieces.specs.Pieces.{Covers};
 ghost use Rattle.np_rules.specs.EveryAddress.{AddressSpot, has_place, is_place};
 ghost use Rattle.np_rules.specs.PodSides.{IsSideLayer, SaysVerdicts, near_pod, side_of, side_rule_count};
 ghost use Rattle.np_rules.specs.PodSides.{with_addresses, with_pod, with_point, with_stranger};
-ghost use Rattle.np_rules.specs.Sides.{side_allows};
+ghost use Rattle.np_rules.specs.model.Sides.{side_allows};
 
 use crate::address_rules::rules_of_addresses;
 use crate::base_tier::base_rules_for;

@@ -1,8 +1,8 @@
 //! Whether a port entry matches a protocol and a port.
 ghost use Rattle.std.specs.Prelude.{◌≡◌};
 ghost use Rattle.std.specs.List.{list_any};
-ghost use Rattle.np_rules.specs.PortEntries as spec;
-ghost use Rattle.np_rules.specs.Rules.{none_or_any};
+ghost use Rattle.np_rules.specs.model.PortEntries as spec;
+ghost use Rattle.np_rules.specs.model.Rules.{none_or_any};
 ghost use Rattle.np_rules.specs.Views.{end_view};
 
 use crate::views::EndView;

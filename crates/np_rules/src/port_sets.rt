@@ -1,12 +1,12 @@
 //! The protocols and ports of port entries, as sets.
-ghost use Rattle.std.specs.Prelude.{◌≡◌, Bool, true, ◌&&◌, IfOk};
+ghost use Rattle.std.specs.Prelude.{◌≡◌, Bool, true, ◌&&◌, ◌||◌, ◌==◌, IfOk};
 ghost use Rattle.std.specs.List.{list_any};
 ghost use Rattle.np_conns.specs.Conns.{is_spot, has_spot, same_proto};
 ghost use Rattle.np_conns.specs.declared.port_spot.PortSpot.{PortSpot};
 ghost use Rattle.np_addr.specs.declared.address.Address.{Address};
-ghost use Rattle.np_rules.specs.Ends.{End, address};
-ghost use Rattle.np_rules.specs.PortEntries as spec;
-ghost use Rattle.np_rules.specs.Rules.{none_or_any};
+ghost use Rattle.np_rules.specs.model.Ends.{End, address};
+ghost use Rattle.np_rules.specs.model.PortEntries as spec;
+ghost use Rattle.np_rules.specs.model.Rules.{none_or_any};
 ghost use Rattle.np_rules.specs.Views.{end_view};
 
 use crate::views::EndView;
@@ -31,7 +31,7 @@ pub(crate) trait PortEntry {
 }
 
 impl PortEntry for NetPort {
-    ghost use Rattle.np_rules.specs.PortEntries.{net_entry_matches, net_same_at_addresses};
+    ghost use Rattle.np_rules.specs.model.PortEntries.{net_entry_matches, net_same_at_addresses};
 
     ghost matches = { net_entry_matches };
 
@@ -48,7 +48,7 @@ impl PortEntry for NetPort {
 }
 
 impl PortEntry for AdminPort {
-    ghost use Rattle.np_rules.specs.PortEntries.{admin_entry_matches, admin_same_at_addresses};
+    ghost use Rattle.np_rules.specs.model.PortEntries.{admin_entry_matches, admin_same_at_addresses};
 
     ghost matches = { admin_entry_matches };
 
@@ -134,91 +134,58 @@ fn named_of_protocol(
     name: &str,
     end: &EndView<'_>,
 ) -> Result<ConnSet, NoMemory>
-    ensures { IfOk result (λ made. (spot : PortSpot) → is_spot spot ≡ true →
+    ensures { IfOk result (λ made. (spot : PortSpot) →
         has_spot made spot ≡ (same_proto spot.proto proto && spec.has_named name.now spot (end_view end.now))) }
 {
     match end {
-        EndView::Pod(pod) => named_set(alloc, Some(proto), name, pod.ports),
+        EndView::Pod(pod) => {
+            let numbers = numbers_named(alloc, proto, name, pod.ports)?;
+            ConnSet::of_ports(alloc, proto, numbers)
+        }
         EndView::At(_) => ConnSet::nothing(alloc),
     }
 }
 
-// The ports of that name at the end.
+// The ports of that name at the end, of every protocol.
 fn named_at(alloc: Global, name: &str, end: &EndView<'_>) -> Result<ConnSet, NoMemory>
     ensures { IfOk result (λ made. (spot : PortSpot) → has_spot made spot ≡ spec.has_named name.now spot (end_view end.now)) }
 {
-    match end {
-        EndView::Pod(pod) => named_set(alloc, None, name, pod.ports),
-        EndView::At(_) => ConnSet::nothing(alloc),
-    }
+    let tcp = named_of_protocol(alloc, Proto::Tcp, name, end)?;
+    let more = with_named(alloc, tcp, Proto::Udp, name, end)?;
+    with_named(alloc, more, Proto::Sctp, name, end)
 }
 
-// The ports of that name, of one protocol where it is asked for. They are gathered before they are joined, since most ports
-// have another name.
-fn named_set(
+// A set with the ports of that name at the end, of one protocol, beside its own.
+fn with_named(
     alloc: Global,
-    asked: Option<Proto>,
+    set: ConnSet,
+    proto: Proto,
+    name: &str,
+    end: &EndView<'_>,
+) -> Result<ConnSet, NoMemory>
+    ensures { IfOk result (λ made. (spot : PortSpot) → has_spot made spot
+        ≡ (has_spot set spot || (same_proto spot.proto proto && spec.has_named name.now spot (end_view end.now)))) }
+{
+    let named = named_of_protocol(alloc, proto, name, end)?;
+    let joined = set.join(&named)?;
+    Ok(joined)
+}
+
+// The numbers of the ports of that name and protocol.
+fn numbers_named(
+    alloc: Global,
+    proto: Proto,
     name: &str,
     ports: &[NamedPort],
-) -> Result<ConnSet, NoMemory>
-    ensures { IfOk result (λ made. (spot : PortSpot) →
-        has_spot made spot ≡ (spec.is_asked asked spot.proto && list_any (spec.is_named name.now spot) ports.now)) }
+) -> Result<Vec<PortNum>, NoMemory>
+    ensures { IfOk result (λ made. (spot : PortSpot) → same_proto spot.proto proto ≡ true →
+        list_any (λ number. number == spot.port) made.items ≡ list_any (spec.is_named name.now spot) ports.now) }
 {
-    let named = ports_named(alloc, asked, name, ports)?;
-    ports_set(alloc, &named)
-}
-
-// Those ports, in order.
-fn ports_named<'a>(
-    alloc: Global,
-    asked: Option<Proto>,
-    name: &str,
-    ports: &'a [NamedPort],
-) -> Result<Vec<&'a NamedPort>, NoMemory>
-    ensures { IfOk result (λ made. (spot : PortSpot) → list_any (λ port. spec.is_port spot port.now) made.items
-        ≡ (spec.is_asked asked spot.proto && list_any (spec.is_named name.now spot) ports.now)) }
-{
-    let mut named = Vec::new(alloc);
+    let mut numbers = Vec::new(alloc);
     for port in ports {
-        if is_asked(asked, port.proto) && port.name.as_str() == name {
-            named.push(port)?;
+        if port.proto == proto && port.name.as_str() == name {
+            numbers.push(port.number)?;
         }
     }
-    Ok(named)
-}
-
-// Whether it is the protocol that is asked for. Where none is, each is.
-fn is_asked(asked: Option<Proto>, proto: Proto) -> bool
-    ensures { result ≡ spec.is_asked asked proto }
-{
-    match asked {
-        Some(asked) => proto == asked,
-        None => true,
-    }
-}
-
-// The ports, whatever their names are. The sets of both halves are joined, so that n ports take time n log n.
-fn ports_set(alloc: Global, ports: &[&NamedPort]) -> Result<ConnSet, NoMemory>
-    ensures { IfOk result (λ made. (spot : PortSpot) → has_spot made spot
-        ≡ list_any (λ port. spec.is_port spot port.now) ports.now) }
-{
-    match ports {
-        [] => ConnSet::nothing(alloc),
-        [port] => port_set(alloc, port),
-        _ => {
-            let (front, back) = ports.split_at(ports.len() / 2);
-            let first = ports_set(alloc, front)?;
-            let second = ports_set(alloc, back)?;
-            let joined = first.join(&second)?;
-            Ok(joined)
-        }
-    }
-}
-
-// The port alone.
-fn port_set(alloc: Global, port: &NamedPort) -> Result<ConnSet, NoMemory>
-    ensures { IfOk result (λ made. (spot : PortSpot) →
-        has_spot made spot ≡ spec.is_port spot port.now) }
-{
-    ConnSet::of(alloc, port.proto, port.number, port.number)
+    Ok(numbers)
 }

@@ -4,9 +4,9 @@ ghost use Rattle.std.specs.List.{slice_get};
 ghost use Rattle.np_model.specs.Lawful.{IsFew};
 ghost use Rattle.np_rules.specs.LayerRules as spec;
 ghost use Rattle.np_rules.specs.Layers.{Pairwise};
-ghost use Rattle.np_rules.specs.NetTier.{isolates};
-ghost use Rattle.np_rules.specs.Places.{admin_places, base_places, net_places};
-ghost use Rattle.np_rules.specs.Verdict.{pod_at};
+ghost use Rattle.np_rules.specs.model.NetTier.{isolates};
+ghost use Rattle.np_rules.specs.model.Places.{admin_places, base_places, net_places};
+ghost use Rattle.np_rules.specs.model.Verdict.{pod_at};
 ghost use Rattle.np_rules.specs.Views.{pod_view};
 
 use crate::admin_tier::admin_rules_for;

@@ -1,6 +1,6 @@
 //! Whether a rule matches.
 ghost use Rattle.std.specs.Prelude.{◌≡◌};
-ghost use Rattle.np_rules.specs.Rules as spec;
+ghost use Rattle.np_rules.specs.model.Rules as spec;
 ghost use Rattle.np_rules.specs.Views.{contact_view};
 
 use crate::peers::{admin_peers_match, net_peers_match};

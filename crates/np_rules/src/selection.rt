@@ -1,6 +1,6 @@
 //! Which pods a policy is about.
 ghost use Rattle.std.specs.Prelude.{◌≡◌};
-ghost use Rattle.np_rules.specs.Selection as spec;
+ghost use Rattle.np_rules.specs.model.Selection as spec;
 ghost use Rattle.np_rules.specs.Views.{pod_view};
 
 use crate::views::PodView;

@@ -3,8 +3,9 @@ ghost use Rattle.std.specs.Prelude.{◌≡◌, ◌+◌, ◌≤◌, ◌<◌, leng
 ghost use Rattle.std.specs.List.{AllByRecursion, list_any};
 ghost use Rattle.np_conns.specs.Conns.{has_spot, is_spot};
 ghost use Rattle.np_conns.specs.declared.port_spot.PortSpot.{PortSpot};
-ghost use Rattle.np_rules.specs.PodSides.{SaysVerdicts, side_of, side_rule_count, with_stranger};
-ghost use Rattle.np_rules.specs.StrangerRules.{HasPorts, kept_matches, rule_of};
+ghost use Rattle.np_rules.specs.model.Ends.{pod, stranger_end};
+ghost use Rattle.np_rules.specs.PodSides.{SaysVerdicts, near_pod, side_of, side_rule_count, with_stranger};
+ghost use Rattle.np_rules.specs.StrangerRules.{ArePermitted, HasPorts, IsNetOf, kept_reaches, rule_of};
 ghost use Rattle.np_rules.specs.Views.{end_view};
 
 use crate::base_tier::base_rules_for;
@@ -14,7 +15,7 @@ use crate::layer_parts::{admin_parts, base_parts};
 use crate::near_ends::{view_at, with_stranger};
 use crate::peers::net_peers_match;
 use crate::stranger::Stranger;
-use crate::views::EndView;
+use crate::views::{EndView, view_of_stranger};
 use np_base::{Cells, NoMemory, Seq};
 use np_conns::ConnSet;
 use np_model::{AdminRule, Direction, Estate, NetRule};
@@ -26,9 +27,19 @@ use std::sync::ledger::Ledger;
 
 /// A rule of a NetworkPolicy, with the protocols and ports that its entries match.
 #[derive(Drop)]
-pub(crate) struct RuleConns<'a> {
+pub struct RuleConns<'a> {
     pub rule: &'a NetRule,
     pub conns: ConnSet,
+}
+
+impl<'a> RuleConns<'a> {
+    /// Whether the peers of the rule, in a policy of this namespace, match a pod that nobody has written yet.
+    pub fn reaches(&self, namespace: &str, stranger: &Stranger) -> bool
+        ensures { result ≡ kept_reaches namespace.now (pod (stranger_end stranger.now)) self.now }
+    {
+        let far = EndView::Pod(view_of_stranger(stranger));
+        net_peers_match(namespace, self.rule.peers.items(), &far)
+    }
 }
 
 /// The rules that speak of a pod in a direction, found once, to be looked at with many pods that nobody has written yet.
@@ -90,14 +101,31 @@ impl<'a> StrangerRules<'a> {
         })
     }
 
-    /// The rules as sets of the protocols and ports that they match with such a pod as the far end. All of them are
-    /// counted. Those of NetworkPolicies that match are one set together.
+    /// The namespace of the pod, which is that of the NetworkPolicies that select it.
+    pub fn namespace(&self) -> &str
+        ensures { result.now ≡ (near_pod self.now).namespace }
+    {
+        view_at(self.estate, self.pod).namespace
+    }
+
+    /// The rules of the NetworkPolicies. Who asks all of them about such a pod, and joins the sets of those that reach it,
+    /// has what the NetworkPolicies permit.
+    pub fn net(&self) -> &[RuleConns<'a>]
+        ensures { IsNetOf self.now result.now }
+    {
+        &self.net
+    }
+
+    /// The rules as sets of the protocols and ports that they match with such a pod as the far end, where `net` is what
+    /// the NetworkPolicies permit. All of the rules are counted.
     pub fn layer<L: Ledger>(
         &self,
         alloc: Global,
         stranger: &Stranger,
+        net: ConnSet,
         steps: &mut Steps<L>,
     ) -> Result<Layer<ConnSet>, NoMemory>
+        requires { ArePermitted self.now stranger.now net }
         ensures verdict { IfOk result (SaysVerdicts has_spot is_spot self.now (with_stranger stranger.now)) }
         ensures cost { OnOk result (steps.new ≡ steps.old + side_rule_count self.now) }
         ensures least { steps.old ≤ steps.new }
@@ -105,14 +133,14 @@ impl<'a> StrangerRules<'a> {
     {
         self.count(steps);
         let ends = with_stranger(self.estate, self.direction, self.pod, stranger);
-        let near = view_at(self.estate, self.pod);
         let admin = admin_parts(alloc, &self.admin, &ends)?;
-        let net = net_set(alloc, near.namespace, &self.net, &ends.far)?;
         let base = base_parts(alloc, self.base, &ends)?;
+        let mut sets = Seq::new(alloc);
+        sets.push(net)?;
         Ok(Layer {
             admin,
             isolated: self.isolated,
-            net,
+            net: sets,
             base,
         })
     }
@@ -145,43 +173,8 @@ fn rules_with_conns<'a>(
     Ok(made)
 }
 
-// One set of all that the rules of this namespace match with a far end.
-fn net_set(
-    alloc: Global,
-    namespace: &str,
-    rules: &[RuleConns<'_>],
-    far: &EndView<'_>,
-) -> Result<Seq<ConnSet>, NoMemory>
-    ensures { IfOk result (λ made. (spot : PortSpot) → list_any (λ set. has_spot set spot) made
-        ≡ list_any (kept_matches namespace.now (end_view far.now) spot) rules.now) }
-{
-    let matching = matching_sets(alloc, namespace, rules, far)?;
-    let mut sets = Vec::new(alloc);
-    sets.push(joined_set(alloc, &matching)?)?;
-    Ok(Seq::from_vec(sets))
-}
-
-// The sets of the rules that match the far end.
-fn matching_sets<'a>(
-    alloc: Global,
-    namespace: &str,
-    rules: &'a [RuleConns<'_>],
-    far: &EndView<'_>,
-) -> Result<Vec<&'a ConnSet>, NoMemory>
-    ensures { IfOk result (λ made. (spot : PortSpot) → list_any (λ set. has_spot set.now spot) made.items
-        ≡ list_any (kept_matches namespace.now (end_view far.now) spot) rules.now) }
-{
-    let mut sets = Vec::new(alloc);
-    for kept in rules {
-        if net_peers_match(namespace, kept.rule.peers.items(), far) {
-            sets.push(&kept.conns)?;
-        }
-    }
-    Ok(sets)
-}
-
-// The spots that some of the sets has. The sets of both halves are joined, so that n sets take time n log n.
-fn joined_set(alloc: Global, sets: &[&ConnSet]) -> Result<ConnSet, NoMemory>
+/// The spots that some of the sets has. The sets of both halves are joined, so that n sets take time n log n.
+pub fn joined_set(alloc: Global, sets: &[&ConnSet]) -> Result<ConnSet, NoMemory>
     ensures { IfOk result (λ made. (spot : PortSpot) → has_spot made spot ≡ list_any (λ set. has_spot set.now spot) sets.now) }
 {
     match sets {

@@ -1,10 +1,10 @@
 //! Whether one packet is allowed.
 ghost use Rattle.std.specs.Prelude.{◌≡◌, ◌+◌, Option};
 ghost use Rattle.std.specs.Option.{option_map};
-ghost use Rattle.np_rules.specs.Ends.{pod_end};
-ghost use Rattle.np_rules.specs.Places.{rule_count, end_rule_count, PlacedAdminRule, PlacedBaseRule};
-ghost use Rattle.np_rules.specs.Sides as spec;
-ghost use Rattle.np_rules.specs.Verdict.{allows, end_allows, end_of, packet_of, packet_rule_count, IsEndOf};
+ghost use Rattle.np_rules.specs.model.Ends.{pod_end};
+ghost use Rattle.np_rules.specs.model.Places.{rule_count, end_rule_count, PlacedAdminRule, PlacedBaseRule};
+ghost use Rattle.np_rules.specs.model.Sides as spec;
+ghost use Rattle.np_rules.specs.model.Verdict.{allows, end_allows, end_of, packet_of, packet_rule_count, IsEndOf};
 ghost use Rattle.np_rules.specs.Views.{pod_view, end_view, contact_view};
 
 use crate::admin_tier::admin_action;
@@ -20,7 +20,7 @@ use std::sync::ledger::Ledger;
 /// Whether a packet is allowed: by the egress side of its source, if that is a pod, and by the ingress side of its
 /// destination, if that is a pod. It takes no memory. All rules of the policies that select a side's pod are counted, of
 /// both sides, whatever they say.
-#[tactic(auto, unfolding(crate::specs::Verdict::allows))]
+#[tactic(auto, unfolding(crate::specs::model::Verdict::allows))]
 pub fn allows<L: Ledger>(estate: &Estate, packet: &Packet, steps: &mut Steps<L>) -> bool
     requires source { IsEndOf estate.now packet.now.source }
     requires destination { IsEndOf estate.now packet.now.destination }
@@ -90,7 +90,7 @@ fn end_allows<L: Ledger>(
 }
 
 // Whether a pod's side allows what it looks at.
-#[tactic(auto, unfolding(crate::specs::Sides::side_allows))]
+#[tactic(auto, unfolding(crate::specs::model::Sides::side_allows))]
 fn side_allows<L: Ledger>(
     estate: &Estate,
     direction: Direction,

@@ -1,6 +1,6 @@
 //! Ends as rules look at them.
 ghost use Rattle.std.specs.Prelude.{◌≡◌};
-ghost use Rattle.np_rules.specs.Ends.{pod_end, stranger_end};
+ghost use Rattle.np_rules.specs.model.Ends.{pod_end, stranger_end};
 ghost use Rattle.np_rules.specs.Views as spec;
 
 use crate::stranger::Stranger;

@@ -65,7 +65,9 @@ asks-pods lists line source destination = rw (source, destination) refl
 -- ---- where all of them hold
 
 -- what breaks one of them breaks that of all
-broken_in_all : (lists : EstateLists) (wanted : Wanted) (all : Conns) (line : StatementLine) (packet : Counterexample) → ((spot : PortSpot) → asks_at wanted spot line ≡ true → has_spot all spot ≡ true) → asks_pods wanted line.statement ≡ true → IsBroken lists (question_of_pods lists line.statement.wanted line.statement.conns) packet → IsBroken lists (question_of_pods lists wanted all) packet
+broken_in_all : (lists : EstateLists) (wanted : Wanted) (all : Conns) (line : StatementLine) (packet : Counterexample) →
+    ((spot : PortSpot) → asks_at wanted spot line ≡ true → has_spot all spot ≡ true) → asks_pods wanted line.statement ≡ true →
+    IsBroken lists (question_of_pods lists line.statement.wanted line.statement.conns) packet → IsBroken lists (question_of_pods lists wanted all) packet
 broken_in_all lists wanted all line packet within asks own =
     let allowed = allows_between lists packet.source packet.destination packet.family packet.spot in
     let parts = and_parts (has_spot line.statement.conns packet.spot) (not (complies line.statement.wanted allowed)) own.broken in
@@ -81,7 +83,8 @@ broken_in_all lists wanted all line packet within asks own =
           (sym (ap (λ (one : Wanted). not (complies one allowed)) same) ∙ parts.1);
     }
 
-one_holds : (lists : EstateLists) (wanted : Wanted) (all : Conns) (line : StatementLine) → counter_of lists (question_of_pods lists wanted all) ≡ None → ((spot : PortSpot) → asks_at wanted spot line ≡ true → has_spot all spot ≡ true) → HoldsOfPods lists wanted line
+one_holds : (lists : EstateLists) (wanted : Wanted) (all : Conns) (line : StatementLine) → counter_of lists (question_of_pods lists wanted all) ≡ None →
+    ((spot : PortSpot) → asks_at wanted spot line ≡ true → has_spot all spot ≡ true) → HoldsOfPods lists wanted line
 one_holds lists wanted all line none within asks = of (counter_of lists question) refl
   where
     question : Question
@@ -94,7 +97,8 @@ one_holds lists wanted all line none within asks = of (counter_of lists question
         absurd (nothing_broken lists (question_of_pods lists wanted all) packet none
         (broken_in_all lists wanted all line packet within asks (first_broken lists question packet pods.ascend pods.ascend is).own))
 
-each_holds : (lists : EstateLists) (wanted : Wanted) (all : Conns) (lines : List StatementLine) → counter_of lists (question_of_pods lists wanted all) ≡ None → ((spot : PortSpot) → list_any (λ line. asks_at wanted spot line) lines ≡ true → has_spot all spot ≡ true) → All (HoldsOfPods lists wanted) lines
+each_holds : (lists : EstateLists) (wanted : Wanted) (all : Conns) (lines : List StatementLine) → counter_of lists (question_of_pods lists wanted all) ≡ None →
+    ((spot : PortSpot) → list_any (λ line. asks_at wanted spot line) lines ≡ true → has_spot all spot ≡ true) → All (HoldsOfPods lists wanted) lines
 each_holds lists wanted all [] none within = All-nil (HoldsOfPods lists wanted)
 each_holds lists wanted all (line ∷ lines) none within =
     All-cons (HoldsOfPods lists wanted) line lines
@@ -102,23 +106,28 @@ each_holds lists wanted all (line ∷ lines) none within =
     (each_holds lists wanted all lines none (λ spot any. within spot (or_second (asks_at wanted spot line) (list_any (λ one. asks_at wanted spot one) lines) any)))
 
 -- where nothing breaks what all of them ask, each holds
-pub hold-together : (lists : EstateLists) (wanted : Wanted) (all : Conns) (lines : List StatementLine) → counter_of lists (question_of_pods lists wanted all) ≡ None → ((spot : PortSpot) → has_spot all spot ≡ list_any (λ line. asks_at wanted spot line) lines) → All (HoldsOfPods lists wanted) lines
+pub hold-together : (lists : EstateLists) (wanted : Wanted) (all : Conns) (lines : List StatementLine) → counter_of lists (question_of_pods lists wanted all) ≡ None →
+    ((spot : PortSpot) → has_spot all spot ≡ list_any (λ line. asks_at wanted spot line) lines) → All (HoldsOfPods lists wanted) lines
 hold-together lists wanted all lines none are = each_holds lists wanted all lines none (λ spot any. are spot ∙ any)
 
 -- ---- in a loop
 
-settled-none : (lists : EstateLists) (settled : CheckedKinds) (lines : List StatementLine) (i : ℕ) (line : StatementLine) → (i < length lines) × (line ≡ get_or lines i line) → AreSettled lists settled lines → is_settled settled line.statement ≡ true → (wanted : Wanted) × (asks_pods wanted line.statement ≡ true) × (counter_of lists (question_of_pods lists line.statement.wanted line.statement.conns) ≡ None)
+settled-none : (lists : EstateLists) (settled : CheckedKinds) (lines : List StatementLine) (i : ℕ) (line : StatementLine) → (i < length lines) × (line ≡ get_or lines i line) →
+    AreSettled lists settled lines → is_settled settled line.statement ≡ true →
+    (wanted : Wanted) × (asks_pods wanted line.statement ≡ true) × (counter_of lists (question_of_pods lists line.statement.wanted line.statement.conns) ≡ None)
 settled-none lists settled lines i line turn are is =
     elim (cases_Bool (settled.allow && asks_pods Allow line.statement)) [
       | inl allow ↦ by Allow settled.allow (and_parts settled.allow (asks_pods Allow line.statement) allow) are.allow
       | inr other ↦ by Deny settled.deny (and_parts settled.deny (asks_pods Deny line.statement) (rw other at is)) are.deny
     ]
   where
-    by : (wanted : Wanted) (known : Bool) → (known ≡ true) × (asks_pods wanted line.statement ≡ true) → (known ≡ true → All (HoldsOfPods lists wanted) lines) → (wanted : Wanted) × (asks_pods wanted line.statement ≡ true) × (counter_of lists (question_of_pods lists line.statement.wanted line.statement.conns) ≡ None)
+    by : (wanted : Wanted) (known : Bool) → (known ≡ true) × (asks_pods wanted line.statement ≡ true) → (known ≡ true → All (HoldsOfPods lists wanted) lines) →
+        (wanted : Wanted) × (asks_pods wanted line.statement ≡ true) × (counter_of lists (question_of_pods lists line.statement.wanted line.statement.conns) ≡ None)
     by wanted known both all = (wanted, both.1, at_turn (HoldsOfPods lists wanted) lines i line turn (all both.0) both.1)
 
 -- a line that is known to hold is left out
-pub settled-left : (lists : EstateLists) (settled : CheckedKinds) (lines : List StatementLine) (i next : ℕ) (line : StatementLine) → (i < length lines) × (line ≡ get_or lines i line) → IsLeft lists lines i → AreSettled lists settled lines → is_settled settled line.statement ≡ true → next ≡ i + 1 → IsLeft lists lines next
+pub settled-left : (lists : EstateLists) (settled : CheckedKinds) (lines : List StatementLine) (i next : ℕ) (line : StatementLine) → (i < length lines) × (line ≡ get_or lines i line) →
+    IsLeft lists lines i → AreSettled lists settled lines → is_settled settled line.statement ≡ true → next ≡ i + 1 → IsLeft lists lines next
 unfolding broken_of asked_by_pods
 settled-left lists settled lines i next line turn left are is later =
     let (wanted, asks, none) = settled-none lists settled lines i line turn are is in

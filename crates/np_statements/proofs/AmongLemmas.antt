@@ -26,13 +26,15 @@ first_by : EstateLists → Result AskedLine (List ℕ) → Result (List AskedLin
 first_by lists one rest = (one >>= (λ first. rest >>= (λ others. Ok (first ∷ others)))) >>= (λ asked. Ok (first_of (broken_of lists) asked))
 
 -- what is found of lines from one on is found by that line
-among_at : (lists : EstateLists) (lines : List StatementLine) (i : ℕ) (line : StatementLine) → (i < length lines) × (line ≡ get_or lines i line) → broken_among lists (drop i lines) ≡ first_by lists (asked_of lists line) (ends_found lists (drop (i + 1) lines))
+among_at : (lists : EstateLists) (lines : List StatementLine) (i : ℕ) (line : StatementLine) → (i < length lines) × (line ≡ get_or lines i line) →
+    broken_among lists (drop i lines) ≡ first_by lists (asked_of lists line) (ends_found lists (drop (i + 1) lines))
 unfolding broken_among first_broken first_by
 among_at lists lines i line (within, is) =
     at_drop_more (broken_among lists) lines i line within
     ∙ ap (λ (one : StatementLine). first_by lists (asked_of lists one) (ends_found lists (drop (i + 1) lines))) (sym is)
 
-behind_unbroken : (lists : EstateLists) (one : AskedLine) (rest : Result (List AskedLine) (List ℕ)) → None ≡ broken_of lists one → first_by lists (Ok one) rest ≡ (rest >>= (λ asked. Ok (first_of (broken_of lists) asked)))
+behind_unbroken : (lists : EstateLists) (one : AskedLine) (rest : Result (List AskedLine) (List ℕ)) → None ≡ broken_of lists one →
+    first_by lists (Ok one) rest ≡ (rest >>= (λ asked. Ok (first_of (broken_of lists) asked)))
 unfolding first_by
 behind_unbroken lists one (Ok others) none = ap (λ (first : Option Broken). Ok (option_or first (first_of (broken_of lists) others))) (sym none)
 behind_unbroken lists one (Err name) none = refl
@@ -52,7 +54,8 @@ abbrev pub IsLeft : EstateLists → List StatementLine → ℕ → Type 0
 IsLeft lists lines i = broken_among lists (drop i lines) ≡ broken_among lists lines
 
 -- a line that holds is left out
-pub one_left : (lists : EstateLists) (lines : List StatementLine) (i next : ℕ) (line : StatementLine) (asked : AskedLine) (found : Option Broken) → (i < length lines) × (line ≡ get_or lines i line) → IsLeft lists lines i → asked_of lists line ≡ Ok asked → found ≡ broken_of lists asked → is_some found ≡ false → next ≡ i + 1 → IsLeft lists lines next
+pub one_left : (lists : EstateLists) (lines : List StatementLine) (i next : ℕ) (line : StatementLine) (asked : AskedLine) (found : Option Broken) → (i < length lines) × (line ≡ get_or lines i line) →
+    IsLeft lists lines i → asked_of lists line ≡ Ok asked → found ≡ broken_of lists asked → is_some found ≡ false → next ≡ i + 1 → IsLeft lists lines next
 unfolding broken_among first_broken
 one_left lists lines i next line asked found turn left asks is none later =
     ap (λ (k : ℕ). broken_among lists (drop k lines)) later
@@ -62,7 +65,8 @@ one_left lists lines i next line asked found turn left asks is none later =
     ∙ left
 
 -- the first that does not hold is found, where all ends are
-pub one_broken : (lists : EstateLists) (lines : List StatementLine) (i : ℕ) (line : StatementLine) (asked : AskedLine) (found : Option Broken) → (i < length lines) × (line ≡ get_or lines i line) → IsLeft lists lines i → IsOk (ends_found lists lines) → asked_of lists line ≡ Ok asked → found ≡ broken_of lists asked → is_some found ≡ true → broken_among lists lines ≡ Ok found
+pub one_broken : (lists : EstateLists) (lines : List StatementLine) (i : ℕ) (line : StatementLine) (asked : AskedLine) (found : Option Broken) → (i < length lines) × (line ≡ get_or lines i line) →
+    IsLeft lists lines i → IsOk (ends_found lists lines) → asked_of lists line ≡ Ok asked → found ≡ broken_of lists asked → is_some found ≡ true → broken_among lists lines ≡ Ok found
 unfolding first_by
 one_broken lists lines i line asked found turn left known asks is some =
     let others = found-behind lists lines (i + 1) known in
@@ -77,7 +81,8 @@ pub name_unknown : (lists : EstateLists) (lines : List StatementLine) (name : Li
 unfolding broken_among
 name_unknown lists lines name unknown = ap (λ (found : Result (List AskedLine) (List ℕ)). found >>= (λ asked. Ok (first_broken lists asked))) unknown
 
-pub line_unknown : (lists : EstateLists) (lines : List StatementLine) (i : ℕ) (line : StatementLine) (fault : EndFault) → (i < length lines) × (line ≡ get_or lines i line) → IsLeft lists lines i → GivesEnds {X = AskedLine} (Err fault) (asked_of lists line) → GivesEnds {X = Option Broken} (Err fault) (broken_among lists lines)
+pub line_unknown : (lists : EstateLists) (lines : List StatementLine) (i : ℕ) (line : StatementLine) (fault : EndFault) → (i < length lines) × (line ≡ get_or lines i line) → IsLeft lists lines i →
+    GivesEnds {X = AskedLine} (Err fault) (asked_of lists line) → GivesEnds {X = Option Broken} (Err fault) (broken_among lists lines)
 unfolding first_by
 line_unknown lists lines i line (UnknownEnd name) turn left unknown =
     sym left ∙ among_at lists lines i line turn

@@ -31,7 +31,10 @@ pub rising : (numbers : List ℕ) → is_ascending numbers ≡ true → (i j : �
 rising numbers ascends i j order within = rises 0 numbers i j ascends order within
 
 -- what a search found tells whether a number is among them
-pub among-searched : (numbers : List ℕ) (number : ℕ) (found : Result ℕ ℕ) → MatchResult found (λ i. (i < length numbers) × (get_or numbers i 0 ≡ number)) (λ i. (i ≤ length numbers) × ((k : ℕ) → k < i → get_or numbers k 0 < number) × ((k : ℕ) → i ≤ k → k < length numbers → number < get_or numbers k 0)) → is_ok found ≡ is_among numbers number
+pub among-searched : (numbers : List ℕ) (number : ℕ) (found : Result ℕ ℕ) →
+    MatchResult found (λ i. (i < length numbers) × (get_or numbers i 0 ≡ number))
+    (λ i. (i ≤ length numbers) × ((k : ℕ) → k < i → get_or numbers k 0 < number) × ((k : ℕ) → i ≤ k → k < length numbers → number < get_or numbers k 0)) →
+    is_ok found ≡ is_among numbers number
 among-searched numbers number (Ok i) (within, is) = sym (list_any_at (λ one. one == number) numbers i 0 within (eq-eqb (get_or numbers i 0) number is))
 among-searched numbers number (Err i) (within, before, behind) =
     sym (list_any_none (λ one. one == number) numbers

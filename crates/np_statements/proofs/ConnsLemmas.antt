@@ -78,9 +78,11 @@ choices-ascend first zero last sum = (tt, tt)
 choices-ascend first (suc count) last sum =
     let above = choices-ascend (first + 1) count last (omega arith) in
     All-append (IsAscending (λ p. p) first last) (choices (first + 1) count) (map (onto_runs first) (choices (first + 1) count))
-    (All-weaker (IsAscending (λ p. p) (first + 1) last) (IsAscending (λ p. p) first last) (λ ranges. IsAscending-earlier (λ p. p) (first + 1) first last ranges (omega arith)) (choices (first + 1) count) above)
+    (All-weaker (IsAscending (λ p. p) (first + 1) last) (IsAscending (λ p. p) first last) (λ ranges. IsAscending-earlier (λ p. p) (first + 1) first last ranges (omega arith))
+    (choices (first + 1) count) above)
     (each-map (IsAscending (λ p. p) first last) (onto_runs first) (choices (first + 1) count)
-    (All-weaker (IsAscending (λ p. p) (first + 1) last) (λ ranges. IsAscending (λ p. p) first last (onto_runs first ranges)) (λ ranges. onto_runs-ascends first last ranges (omega arith)) (choices (first + 1) count) above))
+    (All-weaker (IsAscending (λ p. p) (first + 1) last) (λ ranges. IsAscending (λ p. p) first last (onto_runs first ranges)) (λ ranges. onto_runs-ascends first last ranges (omega arith))
+    (choices (first + 1) count) above))
 
 -- ---- all sets
 

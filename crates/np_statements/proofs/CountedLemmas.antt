@@ -1,5 +1,6 @@
 -- The lines of a file are counted by its line feeds.
-use Rattle.std.proofs.Common.{◌≡◌, ◌≢◌, ◌⊎◌, ℕ, zero, suc, ◌+◌, ◌==◌, List, [], ◌∷◌, ◌++◌, Bool, true, false, Option, Some, None, Result, Ok, Err, length, option_to_list, arith, refl, sym, ap, subst, ◌∙◌, inl, inr, if◌then◌else◌}
+use Rattle.std.proofs.Common.{◌≡◌, ◌≢◌, ◌⊎◌, ℕ, zero, suc, ◌+◌, ◌==◌, List, [], ◌∷◌, ◌++◌, Bool, true, false, Option, Some, None, Result, Ok, Err, length, option_to_list, arith, refl, sym, ap, subst}
+use Rattle.std.proofs.Common.{◌∙◌, inl, inr, if◌then◌else◌}
 use Rattle.std.specs.Prelude.{All}
 use Rattle.std.specs.List.{onto_first, slice_get, slice_split}
 use Rattle.std.proofs.lemmas.Bool.{eqb-true}
@@ -58,7 +59,8 @@ first_longer byte bytes part is at =
     feeds [] = refl
     feeds (b ∷ front) = by (is_feed b) (feeds front)
       where
-        by : (t : Bool) → line_feeds (front ++ 10 ∷ []) ≡ line_feeds front + 1 → (if t then line_feeds (front ++ 10 ∷ []) + 1 else line_feeds (front ++ 10 ∷ [])) ≡ (if t then line_feeds front + 1 else line_feeds front) + 1
+        by : (t : Bool) → line_feeds (front ++ 10 ∷ []) ≡ line_feeds front + 1 →
+            (if t then line_feeds (front ++ 10 ∷ []) + 1 else line_feeds (front ++ 10 ∷ [])) ≡ (if t then line_feeds front + 1 else line_feeds front) + 1
         by true rest = omega (arith, rest)
         by false rest = rest
 
@@ -91,14 +93,16 @@ part_at (byte ∷ bytes) k part at = go (is_feed byte) refl k at (part_at bytes)
     parts : List (List ℕ)
     parts = slice_split is_feed bytes
 
-    go : (b : Bool) → is_feed byte ≡ b → (n : ℕ) → slice_get (slice_split is_feed (byte ∷ bytes)) n ≡ Some part → ((m : ℕ) (p : List ℕ) → slice_get parts m ≡ Some p → IsPart bytes m p) → IsPart (byte ∷ bytes) n part
+    go : (b : Bool) → is_feed byte ≡ b → (n : ℕ) → slice_get (slice_split is_feed (byte ∷ bytes)) n ≡ Some part → ((m : ℕ) (p : List ℕ) → slice_get parts m ≡ Some p → IsPart bytes m p) →
+        IsPart (byte ∷ bytes) n part
     go true is zero found rest =
         subst (IsPart (byte ∷ bytes) 0) (some_is [] part (sym (ap (λ (ps : List (List ℕ)). slice_get ps 0) (slice_split-cons_yes is_feed byte bytes is)) ∙ found))
         (record { before = []; after = byte ∷ bytes; spelled = refl; begins = inl (refl, refl); ends = inr (bytes, ap (λ (b : ℕ). b ∷ bytes) (eqb-true byte 10 is)); plain = refl; counted = refl })
     go true is (suc n) found rest = fed byte bytes n part is (rest n part (sym (ap (λ (ps : List (List ℕ)). slice_get ps (suc n)) (slice_split-cons_yes is_feed byte bytes is)) ∙ found))
     go false is n found rest = longer parts refl n (sym (ap (λ (ps : List (List ℕ)). slice_get ps n) (slice_split-cons_no is_feed byte bytes is)) ∙ found) rest
       where
-        longer : (ps : List (List ℕ)) → parts ≡ ps → (m : ℕ) → slice_get (onto_first byte ps) m ≡ Some part → ((l : ℕ) (p : List ℕ) → slice_get ps l ≡ Some p → IsPart bytes l p) → IsPart (byte ∷ bytes) m part
+        longer : (ps : List (List ℕ)) → parts ≡ ps → (m : ℕ) → slice_get (onto_first byte ps) m ≡ Some part → ((l : ℕ) (p : List ℕ) → slice_get ps l ≡ Some p → IsPart bytes l p) →
+            IsPart (byte ∷ bytes) m part
         longer [] same m there each = let some = length-slice_split is_feed bytes in let none = ap length same in absurd (omega (arith, some, none))
         longer (first ∷ others) same zero there each = subst (IsPart (byte ∷ bytes) 0) (some_is (byte ∷ first) part there) (first_longer byte bytes first is (each 0 first refl))
         longer (first ∷ others) same (suc m) there each = later_kept byte bytes m part is (each (suc m) part there)
@@ -163,7 +167,9 @@ all_read : (n : ℕ) (texts : List (List ℕ)) (lines : List StatementLine) → 
 all_read n [] lines is = subst (All (IsRead n [])) (let none : [] ≡ lines = cc in none) (All-nil (IsRead n []))
 all_read n (text ∷ texts) lines is = go (line_read n text) refl (lines_read (n + 1) texts) refl is (all_read (n + 1) texts)
   where
-    go : (first : Result (Option StatementLine) ℕ) → line_read n text ≡ first → (others : Result (List StatementLine) ℕ) → lines_read (n + 1) texts ≡ others → (first >>= (λ f. others >>= (λ o. Ok (option_to_list f ++ o)))) ≡ Ok lines → ((rest : List StatementLine) → lines_read (n + 1) texts ≡ Ok rest → All (IsRead (n + 1) texts) rest) → All (IsRead n (text ∷ texts)) lines
+    go : (first : Result (Option StatementLine) ℕ) → line_read n text ≡ first → (others : Result (List StatementLine) ℕ) → lines_read (n + 1) texts ≡ others →
+        (first >>= (λ f. others >>= (λ o. Ok (option_to_list f ++ o)))) ≡ Ok lines → ((rest : List StatementLine) → lines_read (n + 1) texts ≡ Ok rest → All (IsRead (n + 1) texts) rest) →
+        All (IsRead n (text ∷ texts)) lines
     go (Err fault) first_is others others_is same each = absurd (cc)
     go (Ok first) first_is (Err fault) others_is same each = absurd (cc)
     go (Ok None) first_is (Ok others) others_is same each =
@@ -180,7 +186,8 @@ first_bad : (n : ℕ) (texts : List (List ℕ)) (number : ℕ) → lines_read n 
 first_bad n [] number is = absurd (cc)
 first_bad n (text ∷ texts) number is = go (line_read n text) refl (lines_read (n + 1) texts) refl is (first_bad (n + 1) texts)
   where
-    go : (first : Result (Option StatementLine) ℕ) → line_read n text ≡ first → (others : Result (List StatementLine) ℕ) → lines_read (n + 1) texts ≡ others → (first >>= (λ f. others >>= (λ o. Ok (option_to_list f ++ o)))) ≡ Err number → ((m : ℕ) → lines_read (n + 1) texts ≡ Err m → IsBad (n + 1) texts m) → IsBad n (text ∷ texts) number
+    go : (first : Result (Option StatementLine) ℕ) → line_read n text ≡ first → (others : Result (List StatementLine) ℕ) → lines_read (n + 1) texts ≡ others →
+        (first >>= (λ f. others >>= (λ o. Ok (option_to_list f ++ o)))) ≡ Err number → ((m : ℕ) → lines_read (n + 1) texts ≡ Err m → IsBad (n + 1) texts m) → IsBad n (text ∷ texts) number
     go (Err fault) first_is others others_is same bad =
         let one : fault ≡ number = cc in
         let here = line_bad n text number (first_is ∙ ap Err one) in
@@ -192,7 +199,8 @@ first_bad n (text ∷ texts) number is = go (line_read n text) refl (lines_read 
 
 -- ---- a file
 
-pub counted_read : (bytes : List ℕ) (lines : List StatementLine) → statements_of bytes ≡ Ok lines → All (λ line. (text : List ℕ) × IsLineOf bytes line.line text × (statement_of text ≡ Some line.statement)) lines
+pub counted_read : (bytes : List ℕ) (lines : List StatementLine) → statements_of bytes ≡ Ok lines →
+    All (λ line. (text : List ℕ) × IsLineOf bytes line.line text × (statement_of text ≡ Some line.statement)) lines
 unfolding statements_of
 counted_read bytes lines is =
     All-weaker (IsRead 1 (lines_of bytes)) (λ line. (text : List ℕ) × IsLineOf bytes line.line text × (statement_of text ≡ Some line.statement))

@@ -37,7 +37,8 @@ then_some make (Some x) y is = (x, refl, is)
 -- ---- cuts
 
 -- at the first place of a text, or further on
-first_cut-cons : {Y : Type 0} (mark : List ℕ) (make : List ℕ → List ℕ → Option Y) (byte : ℕ) (text : List ℕ) → first_cut mark make (byte ∷ text) ≡ option_or (option_and_then (make []) (behind mark (byte ∷ text))) (first_cut mark (λ before. make (byte ∷ before)) text)
+first_cut-cons : {Y : Type 0} (mark : List ℕ) (make : List ℕ → List ℕ → Option Y) (byte : ℕ) (text : List ℕ) →
+    first_cut mark make (byte ∷ text) ≡ option_or (option_and_then (make []) (behind mark (byte ∷ text))) (first_cut mark (λ before. make (byte ∷ before)) text)
 unfolding first_cut halves
 first_cut-cons {Y} mark make byte text =
     let gives : List ℕ × List ℕ → Option Y = λ half. option_and_then (make half.0) (behind mark half.1) in

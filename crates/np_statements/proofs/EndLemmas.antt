@@ -1,5 +1,6 @@
 -- The workloads of a form.
-use Rattle.std.proofs.Common.{◌≡◌, ℕ, zero, suc, ◌+◌, ◌<◌, ◌≤◌, nat_le, List, [], ◌∷◌, ◌++◌, Bool, true, false, Option, Some, None, Ok, All, length, get_or, slice_get, slice_index, refl, sym, ap, subst, ◌∙◌, arith, append-nil, zero-add}
+use Rattle.std.proofs.Common.{◌≡◌, ℕ, zero, suc, ◌+◌, ◌<◌, ◌≤◌, nat_le, List, [], ◌∷◌, ◌++◌, Bool, true, false, Option, Some, None, Ok, All, length, get_or, slice_get, slice_index, refl, sym, ap}
+use Rattle.std.proofs.Common.{subst, ◌∙◌, arith, append-nil, zero-add}
 use Rattle.std.specs.Prelude.{filter}
 use Rattle.std.specs.List.{range_with_len}
 use Rattle.std.specs.Option.{option_map_or}
@@ -26,9 +27,12 @@ use Rattle.np_table.specs.Table.{IsWorkload, number_of_workloads, source_pod}
 -- ---- workloads of a namespace
 
 -- the first pod of a workload tells
-pub in_namespace-by : (lists : EstateLists) (name : List ℕ) (work : ℕ) (members : List ℕ) (pods : List Pod) (pod : Pod) (answer : Bool) → members ≡ members_of (folding_of lists) work → pods ≡ lists.pods → source_pod (folding_of lists) work < length lists.pods → pod ≡ get_or pods (slice_index members 0) pod → answer ≡ bytes_eq pod.namespace name → answer ≡ is_in_namespace lists name work
+pub in_namespace-by : (lists : EstateLists) (name : List ℕ) (work : ℕ) (members : List ℕ) (pods : List Pod) (pod : Pod) (answer : Bool) → members ≡ members_of (folding_of lists) work →
+    pods ≡ lists.pods → source_pod (folding_of lists) work < length lists.pods → pod ≡ get_or pods (slice_index members 0) pod → answer ≡ bytes_eq pod.namespace name →
+    answer ≡ is_in_namespace lists name work
 in_namespace-by lists name work members pods pod answer members_are pods_are within pod_is is =
-    let here : pod ≡ get_or lists.pods (source_pod (folding_of lists) work) pod = pod_is ∙ ap (λ (ms : List ℕ). get_or pods (slice_index ms 0) pod) members_are ∙ ap (λ (ps : List Pod). get_or ps (source_pod (folding_of lists) work) pod) pods_are in
+    let here : pod ≡ get_or lists.pods (source_pod (folding_of lists) work) pod = pod_is ∙ ap (λ (ms : List ℕ). get_or pods (slice_index ms 0) pod) members_are ∙ ap
+    (λ (ps : List Pod). get_or ps (source_pod (folding_of lists) work) pod) pods_are in
     let there : slice_get lists.pods (source_pod (folding_of lists) work) ≡ Some pod = slice_get_read lists.pods (length lists.pods) (source_pod (folding_of lists) work) pod refl within here in
     is ∙ sym (ap (λ (found : Option Pod). option_map_or (λ (one : Pod). bytes_eq one.namespace name) found false) there)
 
@@ -103,7 +107,8 @@ ends_of-are lists Pods ends is =
     let all : works_alone (filter (λ n. true) (all_works lists)) ≡ works_alone (all_works lists) = ap works_alone (filter-all 0 (number_of_workloads lists)) in
     subst (AreEnds lists Pods) (all ∙ same_ok (works_alone (all_works lists)) ends is) (are-works lists Pods (λ n. true))
 ends_of-are lists Addresses ends is = subst (AreEnds lists Addresses) (same_ok (addresses_alone every_address) ends is) (are-addresses lists Addresses every_address refl)
-ends_of-are lists (Namespace name) ends is = subst (AreEnds lists (Namespace name)) (same_ok (works_alone (filter (is_in_namespace lists name) (all_works lists))) ends is) (are-works lists (Namespace name) (is_in_namespace lists name))
+ends_of-are lists (Namespace name) ends is = subst (AreEnds lists (Namespace name)) (same_ok (works_alone (filter (is_in_namespace lists name) (all_works lists))) ends is)
+    (are-works lists (Namespace name) (is_in_namespace lists name))
 ends_of-are lists (Work name) ends is = of (number_named (folding_of lists) name) refl is
   where
     of : (found : Option ℕ) → number_named (folding_of lists) name ≡ found → named_alone name found ≡ Ok ends → AreEnds lists (Work name) ends
@@ -123,6 +128,7 @@ pub all-addresses : (lists : EstateLists) (form : EndForm) (made : AddressRanges
 unfolding ends_of
 all-addresses lists form made ends form_is is alone = ap (ends_of lists) form_is ∙ ap (λ (block : AddressRanges). Ok (addresses_alone block)) (sym is) ∙ ap Ok (sym alone)
 
-pub block-addresses : (lists : EstateLists) (form : EndForm) (cidr : Cidr) (made : AddressRanges) (ends : Ends) → form ≡ Block cidr → made ≡ addresses_in cidr → ends ≡ addresses_alone made → ends_of lists form ≡ Ok ends
+pub block-addresses : (lists : EstateLists) (form : EndForm) (cidr : Cidr) (made : AddressRanges) (ends : Ends) → form ≡ Block cidr → made ≡ addresses_in cidr → ends ≡ addresses_alone made →
+    ends_of lists form ≡ Ok ends
 unfolding ends_of
 block-addresses lists form cidr made ends form_is is alone = ap (ends_of lists) form_is ∙ ap (λ (block : AddressRanges). Ok (addresses_alone block)) (sym is) ∙ ap Ok (sym alone)

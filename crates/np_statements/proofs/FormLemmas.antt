@@ -1,5 +1,6 @@
 -- The pods and the addresses that a form names are those of its ends.
-use Rattle.std.proofs.Common.{◌≡◌, ◌≢◌, ℕ, zero, suc, ◌+◌, ◌^◌, ◌<◌, ◌≤◌, ◌==◌, ◌||◌, ◌↔◌, List, [], ◌∷◌, Bool, true, false, Option, Some, None, Ok, Err, length, map, get_or, slice_get, refl, sym, ap, subst, ◌∙◌, inl, inr, arith}
+use Rattle.std.proofs.Common.{◌≡◌, ◌≢◌, ℕ, zero, suc, ◌+◌, ◌^◌, ◌<◌, ◌≤◌, ◌==◌, ◌||◌, ◌↔◌, List, [], ◌∷◌, Bool, true, false, Option, Some, None, Ok, Err, length, map, get_or, slice_get, refl, sym, ap}
+use Rattle.std.proofs.Common.{subst, ◌∙◌, inl, inr, arith}
 use Rattle.std.specs.Prelude.{IsSomeAnd, filter}
 use Rattle.std.specs.Cmp.Lexicographic.{slice_cmp}
 use Rattle.std.specs.List.{range_with_len}
@@ -85,7 +86,8 @@ number-within : (lists : EstateLists) (place : ℕ) → place < length lists.pod
 number-within lists place within = omega (arith, number-in_workloads lists place within, ap length (workloads-are lists))
 
 -- a workload is of the namespace of each of its pods
-namespace-told : (lists : EstateLists) (name : List ℕ) (place : ℕ) (pod : Pod) → place < length lists.pods → slice_get lists.pods place ≡ Some pod → is_in_namespace lists name (number_of lists place) ≡ bytes_eq pod.namespace name
+namespace-told : (lists : EstateLists) (name : List ℕ) (place : ℕ) (pod : Pod) → place < length lists.pods → slice_get lists.pods place ≡ Some pod →
+    is_in_namespace lists name (number_of lists place) ≡ bytes_eq pod.namespace name
 namespace-told lists name place pod within at =
     let number = number_of lists place in
     let is = number-within lists place within in
@@ -106,7 +108,8 @@ few-workloads lists lawful = omega (arith, firsts-le-count (pods_alike lists) (l
 
 names-ascend : (lists : EstateLists) → IsLawful lists → IsStrictlySortedBy (slice_cmp nat_cmp) (map (λ (one : Workload). one.name) (folding_of lists).workloads)
 names-ascend lists lawful =
-    subst (λ (workloads : List Workload). IsStrictlySortedBy (slice_cmp nat_cmp) (map (λ (one : Workload). one.name) workloads)) (sym (workloads-are lists)) (workloads-by_name lists (few-workloads lists lawful))
+    subst (λ (workloads : List Workload). IsStrictlySortedBy (slice_cmp nat_cmp) (map (λ (one : Workload). one.name) workloads)) (sym (workloads-are lists))
+    (workloads-by_name lists (few-workloads lists lawful))
 
 no_workload : Workload
 no_workload = record { name = []; members = [] }
@@ -130,7 +133,8 @@ named-has lists name work is =
     name-at lists work no_workload found.0 ∙ (bytes_eq-Decides (get_or (folding_of lists).workloads work no_workload).name name).0 found.1
 
 -- and no other has it
-one-named : (lists : EstateLists) (name : List ℕ) (work other : ℕ) → IsLawful lists → number_named (folding_of lists) name ≡ Some work → IsWorkload lists other → name_of (folding_of lists) other ≡ name → work ≡ other
+one-named : (lists : EstateLists) (name : List ℕ) (work other : ℕ) → IsLawful lists → number_named (folding_of lists) name ≡ Some work → IsWorkload lists other →
+    name_of (folding_of lists) other ≡ name → work ≡ other
 one-named lists name work other lawful is within has =
     let own = named-has lists name work is in
     elim (cases_order work other) [
@@ -156,10 +160,12 @@ works-of ends other n same = ap (λ (one : Ends). is_among one.works n) (sym sam
 iff-by : (a b : Bool) (P : Type 0) → a ≡ b → ((b ≡ true) ↔ P) → (a ≡ true) ↔ P
 iff-by a b P same (to, from) = (λ yes. to (sym same ∙ yes), λ p. same ∙ from p)
 
-pub names-pods : (lists : EstateLists) (form : EndForm) (ends : Ends) (place : ℕ) → IsLawful lists → ends_of lists form ≡ Ok ends → place < length lists.pods → (is_among ends.works (number_of lists place) ≡ true) ↔ NamesPod lists form place
+pub names-pods : (lists : EstateLists) (form : EndForm) (ends : Ends) (place : ℕ) → IsLawful lists → ends_of lists form ≡ Ok ends → place < length lists.pods →
+    (is_among ends.works (number_of lists place) ≡ true) ↔ NamesPod lists form place
 unfolding ends_of
 names-pods lists Pods ends place lawful is within =
-    iff-by _ true (Unit {0}) (works-of ends (works_alone (all_works lists)) (number_of lists place) (same_ok (works_alone (all_works lists)) ends is) ∙ among-range 0 (number_of_workloads lists) (number_of lists place) (omega arith) (omega (arith, number-within lists place within)))
+    iff-by _ true (Unit {0}) (works-of ends (works_alone (all_works lists)) (number_of lists place) (same_ok (works_alone (all_works lists)) ends is) ∙ among-range 0 (number_of_workloads lists)
+    (number_of lists place) (omega arith) (omega (arith, number-within lists place within)))
     (λ yes. tt, λ named. refl)
 names-pods lists Addresses ends place lawful is within =
     iff-by _ false ⊥ (works-of ends (addresses_alone every_address) (number_of lists place) (same_ok (addresses_alone every_address) ends is)) (λ yes. true≢false (sym yes), λ named. absurd named)
@@ -172,7 +178,8 @@ names-pods lists (Namespace name) ends place lawful is within =
     (rw at ((bytes_eq-Decides pod.namespace name).0, (bytes_eq-Decides pod.namespace name).1))
 names-pods lists (Work name) ends place lawful is within = of (number_named (folding_of lists) name) refl is
   where
-    of : (found : Option ℕ) → number_named (folding_of lists) name ≡ found → named_alone name found ≡ Ok ends → (is_among ends.works (number_of lists place) ≡ true) ↔ (name_of (folding_of lists) (number_of lists place) ≡ name)
+    of : (found : Option ℕ) → number_named (folding_of lists) name ≡ found → named_alone name found ≡ Ok ends →
+        (is_among ends.works (number_of lists place) ≡ true) ↔ (name_of (folding_of lists) (number_of lists place) ≡ name)
     of None none is = cc
     of (Some work) found is =
         iff-by _ (work == number_of lists place) (name_of (folding_of lists) (number_of lists place) ≡ name)
@@ -181,7 +188,8 @@ names-pods lists (Work name) ends place lawful is within = of (number_named (fol
           λ has. eq-eqb work (number_of lists place) (one-named lists name work (number_of lists place) lawful found (number-within lists place within) has),
         )
 names-pods lists (Block cidr) ends place lawful is within =
-    iff-by _ false ⊥ (works-of ends (addresses_alone (addresses_in cidr)) (number_of lists place) (same_ok (addresses_alone (addresses_in cidr)) ends is)) (λ yes. true≢false (sym yes), λ named. absurd named)
+    iff-by _ false ⊥ (works-of ends (addresses_alone (addresses_in cidr)) (number_of lists place) (same_ok (addresses_alone (addresses_in cidr)) ends is))
+    (λ yes. true≢false (sym yes), λ named. absurd named)
 
 -- ---- addresses
 
@@ -201,14 +209,16 @@ unfolding ends_of
 names-addresses lists Pods ends a is fits = none-named ends (all_works lists) a (same_ok (works_alone (all_works lists)) ends is)
 names-addresses lists Addresses ends a is fits =
     iff-by _ true (Unit {0}) (block-of ends (addresses_alone every_address) a (same_ok (addresses_alone every_address) ends is) ∙ has-every_address a fits) (λ yes. tt, λ named. refl)
-names-addresses lists (Namespace name) ends a is fits = none-named ends (filter (is_in_namespace lists name) (all_works lists)) a (same_ok (works_alone (filter (is_in_namespace lists name) (all_works lists))) ends is)
+names-addresses lists (Namespace name) ends a is fits = none-named ends (filter (is_in_namespace lists name) (all_works lists)) a
+    (same_ok (works_alone (filter (is_in_namespace lists name) (all_works lists))) ends is)
 names-addresses lists (Work name) ends a is fits = of (number_named (folding_of lists) name) is
   where
     of : (found : Option ℕ) → named_alone name found ≡ Ok ends → (set_has ends.block a ≡ true) ↔ ⊥
     of None is = cc
     of (Some work) is = none-named ends (work ∷ []) a (same_ok (works_alone (work ∷ [])) ends is)
 names-addresses lists (Block cidr) ends a is fits =
-    iff-by _ (cidr_has cidr a) (cidr_has cidr a ≡ true) (block-of ends (addresses_alone (addresses_in cidr)) a (same_ok (addresses_alone (addresses_in cidr)) ends is) ∙ has-addresses_in cidr a) (λ yes. yes, λ named. named)
+    iff-by _ (cidr_has cidr a) (cidr_has cidr a ≡ true) (block-of ends (addresses_alone (addresses_in cidr)) a (same_ok (addresses_alone (addresses_in cidr)) ends is) ∙ has-addresses_in cidr a)
+    (λ yes. yes, λ named. named)
 
 -- ---- names that are not known
 
@@ -219,7 +229,8 @@ unknown-named lists name is work within has = of (number_named (folding_of lists
     of : (found : Option ℕ) → number_named (folding_of lists) name ≡ found → named_alone name found ≡ Err name → ⊥
     of None none is =
         let is_named = (bytes_eq-Decides (get_or (folding_of lists).workloads work no_workload).name name).1 (sym (name-at lists work no_workload within) ∙ has) in
-        true≢false (sym (list_any_at (λ (one : Workload). bytes_eq one.name name) (folding_of lists).workloads work no_workload within is_named) ∙ no_position (λ (one : Workload). bytes_eq one.name name) (folding_of lists).workloads none)
+        true≢false (sym (list_any_at (λ (one : Workload). bytes_eq one.name name) (folding_of lists).workloads work no_workload within is_named) ∙ no_position
+        (λ (one : Workload). bytes_eq one.name name) (folding_of lists).workloads none)
     of (Some other) found is = cc
 
 pub named-unknown : (lists : EstateLists) (name : List ℕ) → ((work : ℕ) → IsWorkload lists work → name_of (folding_of lists) work ≢ name) → ends_of lists (Work name) ≡ Err name

@@ -1,5 +1,6 @@
 -- Lines with their ends found.
-use Rattle.std.proofs.Common.{◌≡◌, ℕ, zero, suc, ◌+◌, ◌<◌, ◌≤◌, List, [], ◌∷◌, ◌++◌, Option, Some, None, Result, Ok, Err, is_ok, All, length, drop, get_or, refl, sym, ap, subst, ◌∙◌, inl, inr, append-nil, append_assoc}
+use Rattle.std.proofs.Common.{◌≡◌, ℕ, zero, suc, ◌+◌, ◌<◌, ◌≤◌, List, [], ◌∷◌, ◌++◌, Option, Some, None, Result, Ok, Err, is_ok, All, length, drop, get_or, refl, sym, ap, subst, ◌∙◌, inl, inr}
+use Rattle.std.proofs.Common.{append-nil, append_assoc}
 use Rattle.std.specs.Borrow.{Bor}
 use Rattle.std.specs.Option.{option_or}
 use Rattle.std.specs.Prelude.{IsOk}
@@ -72,7 +73,8 @@ all-known lists [] asked well is = All-same (IsAsked lists) asked [] (sym (same_
 all-known lists (line ∷ lines) asked well is =
     let by = found-by lists line lines asked is in
     subst (All (IsAsked lists)) by.are
-    (All-cons (IsAsked lists) by.first by.others (asked-known lists line by.first (All-head IsWellLine line lines well) (asked-by lists line by.first by.first_is)) (all-known lists lines by.others (All-tail IsWellLine line lines well) by.others_are))
+    (All-cons (IsAsked lists) by.first by.others (asked-known lists line by.first (All-head IsWellLine line lines well) (asked-by lists line by.first by.first_is))
+    (all-known lists lines by.others (All-tail IsWellLine line lines well) by.others_are))
 
 -- ---- in a loop
 
@@ -80,7 +82,8 @@ all-known lists (line ∷ lines) asked well is =
 pub at_turn : {X : Type 0} (P : X → Type 0) (xs : List X) (i : ℕ) (x : X) → (i < length xs) × (x ≡ get_or xs i x) → All P xs → P x
 at_turn P xs i x (within, is) all = subst P (sym is) (All-get_or P xs i x within all)
 
-line_at : (lists : EstateLists) (lines : List StatementLine) (i : ℕ) (line : StatementLine) (front : List AskedLine) → (i < length lines) × (line ≡ get_or lines i line) → after front (ends_found lists (drop i lines)) ≡ after front (asked_of lists line >>= (λ first. ends_found lists (drop (i + 1) lines) >>= (λ others. Ok (first ∷ others))))
+line_at : (lists : EstateLists) (lines : List StatementLine) (i : ℕ) (line : StatementLine) (front : List AskedLine) → (i < length lines) × (line ≡ get_or lines i line) →
+    after front (ends_found lists (drop i lines)) ≡ after front (asked_of lists line >>= (λ first. ends_found lists (drop (i + 1) lines) >>= (λ others. Ok (first ∷ others))))
 line_at lists lines i line front (within, is) =
     at_drop_more (λ (rest : List StatementLine). after front (ends_found lists rest)) lines i line within
     ∙ ap (λ (one : StatementLine). after front (asked_of lists one >>= (λ first. ends_found lists (drop (i + 1) lines) >>= (λ others. Ok (first ∷ others))))) (sym is)
@@ -93,7 +96,9 @@ after-step front first (Ok more) = ap Ok (sym (append_assoc front (first ∷ [])
 after-step front first (Err name) = refl
 
 -- a line more
-pub one_found : (lists : EstateLists) (lines : List StatementLine) (i next : ℕ) (line : StatementLine) (front made : List AskedLine) (first : AskedLine) (all : Result (List AskedLine) (List ℕ)) → (i < length lines) × (line ≡ get_or lines i line) → all ≡ after front (ends_found lists (drop i lines)) → asked_of lists line ≡ Ok first → made ≡ front ++ first ∷ [] → next ≡ i + 1 → all ≡ after made (ends_found lists (drop next lines))
+pub one_found : (lists : EstateLists) (lines : List StatementLine) (i next : ℕ) (line : StatementLine) (front made : List AskedLine) (first : AskedLine) (all : Result (List AskedLine) (List ℕ)) →
+    (i < length lines) × (line ≡ get_or lines i line) → all ≡ after front (ends_found lists (drop i lines)) → asked_of lists line ≡ Ok first → made ≡ front ++ first ∷ [] → next ≡ i + 1 →
+    all ≡ after made (ends_found lists (drop next lines))
 unfolding found_by
 one_found lists lines i next line front made first all turn so_far found more later =
     so_far ∙ line_at lists lines i line front turn ∙ ap (found_by lists lines i front) found
@@ -102,12 +107,14 @@ one_found lists lines i next line front made first all turn so_far found more la
     ∙ ap (λ (k : ℕ). after made (ends_found lists (drop k lines))) (sym later)
 
 -- the first name that no workload has
-pub not_found : (lists : EstateLists) (lines : List StatementLine) (i : ℕ) (line : StatementLine) (front : List AskedLine) (name : List ℕ) (all : Result (List AskedLine) (List ℕ)) → (i < length lines) × (line ≡ get_or lines i line) → all ≡ after front (ends_found lists (drop i lines)) → asked_of lists line ≡ Err name → all ≡ Err name
+pub not_found : (lists : EstateLists) (lines : List StatementLine) (i : ℕ) (line : StatementLine) (front : List AskedLine) (name : List ℕ) (all : Result (List AskedLine) (List ℕ)) →
+    (i < length lines) × (line ≡ get_or lines i line) → all ≡ after front (ends_found lists (drop i lines)) → asked_of lists line ≡ Err name → all ≡ Err name
 unfolding found_by
 not_found lists lines i line front name all turn so_far found = so_far ∙ line_at lists lines i line front turn ∙ ap (found_by lists lines i front) found
 
 -- and where there is none, all are found
-pub all_found : (lists : EstateLists) (lines : List StatementLine) (i : ℕ) (front : List AskedLine) (all : Result (List AskedLine) (List ℕ)) → length lines ≤ i → all ≡ after front (ends_found lists (drop i lines)) → all ≡ Ok front
+pub all_found : (lists : EstateLists) (lines : List StatementLine) (i : ℕ) (front : List AskedLine) (all : Result (List AskedLine) (List ℕ)) → length lines ≤ i →
+    all ≡ after front (ends_found lists (drop i lines)) → all ≡ Ok front
 all_found lists lines i front all behind so_far =
     so_far ∙ ap (λ (rest : List StatementLine). after front (ends_found lists rest)) (drop_all i lines behind) ∙ ap Ok (append-nil front)
 
@@ -126,10 +133,12 @@ told-by found x is = ap is_ok is
 
 -- what a line asks, by what is found of its ends
 abbrev asked_by : StatementLine → Result Ends (List ℕ) → Result Ends (List ℕ) → Result AskedLine (List ℕ)
-asked_by line source destination = source >>= (λ from. destination >>= (λ to. Ok (record { line = line.line; question = record { wanted = line.statement.wanted; source = from; destination = to; conns = line.statement.conns } })))
+asked_by line source destination = source >>= (λ from. destination >>=
+    (λ to. Ok (record { line = line.line; question = record { wanted = line.statement.wanted; source = from; destination = to; conns = line.statement.conns } })))
 
 -- of a line by those of its ends, its source first
-pub told-line : (lists : EstateLists) (line : StatementLine) (source destination : Option (Bor (List ℕ))) → TellsUnknown source (ends_of lists line.statement.source) → TellsUnknown destination (ends_of lists line.statement.destination) → TellsUnknown (option_or source destination) (asked_of lists line)
+pub told-line : (lists : EstateLists) (line : StatementLine) (source destination : Option (Bor (List ℕ))) → TellsUnknown source (ends_of lists line.statement.source) →
+    TellsUnknown destination (ends_of lists line.statement.destination) → TellsUnknown (option_or source destination) (asked_of lists line)
 unfolding asked_of
 told-line lists line (Some name) destination from to = ap (λ (found : Result Ends (List ℕ)). asked_by line found (ends_of lists line.statement.destination)) from
 told-line lists line None (Some name) from to =
@@ -147,7 +156,8 @@ told-line lists line None None from to =
 abbrev pub AreFoundTo : EstateLists → List StatementLine → ℕ → Type 0
 AreFoundTo lists lines i = (front : List AskedLine) × (ends_found lists lines ≡ after front (ends_found lists (drop i lines)))
 
-pub told_more : (lists : EstateLists) (lines : List StatementLine) (i : ℕ) (line : StatementLine) → (i < length lines) × (line ≡ get_or lines i line) → AreFoundTo lists lines i → IsOk (asked_of lists line) → AreFoundTo lists lines (i + 1)
+pub told_more : (lists : EstateLists) (lines : List StatementLine) (i : ℕ) (line : StatementLine) → (i < length lines) × (line ≡ get_or lines i line) → AreFoundTo lists lines i →
+    IsOk (asked_of lists line) → AreFoundTo lists lines (i + 1)
 told_more lists lines i line turn so_far is =
     let first = told (asked_of lists line) is in
     (so_far.0 ++ first.0 ∷ [], one_found lists lines i (i + 1) line so_far.0 (so_far.0 ++ first.0 ∷ []) first.0 _ turn so_far.1 first.1 refl refl)

@@ -85,7 +85,10 @@ readers = all_pods ∷ all_addresses ∷ namespace ∷ workload ∷ block ∷ []
 
 all-read : All IsReader readers
 unfolding readers
-all-read = All-from_recursion IsReader readers (λ text form. word-reads text (codes "any pod") Pods form refl, (λ text form. word-reads text (codes "any address") Addresses form refl, (namespace-reads, (workload-reads, (block-reads, tt)))))
+all-read = All-from_recursion IsReader readers (
+  λ text form. word-reads text (codes "any pod") Pods form refl,
+  (λ text form. word-reads text (codes "any address") Addresses form refl, (namespace-reads, (workload-reads, (block-reads, tt)))),
+)
 
 -- what is read is a form of that text
 end_read-is : (text : List ℕ) (form : EndForm) → end_read text ≡ Some form → IsEndText text form
@@ -108,9 +111,11 @@ none-read text form none is =
     some Pods each same = by_word (codes "any pod") Pods each.0 same
     some Addresses each same = by_word (codes "any address") Addresses each.1.0 same
     some (Namespace name) each (spelled, named) =
-        none-some (Namespace name) (sym each.1.1.0 ∙ ap namespace spelled ∙ ap (option_and_then (λ n. if is_name n then Some (Namespace n) else None)) (behind-append (codes "namespace ") name) ∙ when (is_name name) (Namespace name) named)
+        none-some (Namespace name) (sym each.1.1.0 ∙ ap namespace spelled ∙ ap (option_and_then (λ n. if is_name n then Some (Namespace n) else None)) (behind-append (codes "namespace ") name) ∙ when
+        (is_name name) (Namespace name) named)
     some (Work name) each (spelled, named) =
-        none-some (Work name) (sym each.1.1.1.0 ∙ ap workload spelled ∙ ap (option_and_then (λ n. if is_work_text n then Some (Work n) else None)) (behind-append (codes "workload ") name) ∙ when (is_work_text name) (Work name) (is-work_text name named))
+        none-some (Work name) (sym each.1.1.1.0 ∙ ap workload spelled ∙ ap (option_and_then (λ n. if is_work_text n then Some (Work n) else None)) (behind-append (codes "workload ") name) ∙ when
+        (is_work_text name) (Work name) (is-work_text name named))
     some (Block cidr) each reads = none-some (Block cidr) (sym each.1.1.1.1.0 ∙ ap (option_map Block) reads)
 
 -- a text of a form is read as that form
@@ -124,7 +129,8 @@ end_read-text text form is = of (end_read text) refl
 -- ---- lines
 
 -- what is said between two sides
-said_between-is : (wanted : Wanted) (source destination conns : List ℕ) (statement : StatementText) → said_between wanted source destination conns ≡ Some statement → (line : List ℕ) → IsSpelled line wanted source destination conns → IsStatementText line statement
+said_between-is : (wanted : Wanted) (source destination conns : List ℕ) (statement : StatementText) → said_between wanted source destination conns ≡ Some statement → (line : List ℕ) →
+    IsSpelled line wanted source destination conns → IsStatementText line statement
 unfolding said_between
 said_between-is wanted source destination conns statement is line spelled =
     let (from, from_is, next) = then_some _ (end_read source) statement is in
@@ -151,7 +157,13 @@ said_between-is wanted source destination conns statement is line spelled =
 said_between-text : (statement : StatementText) (line : List ℕ) (is : IsStatementText line statement) → said_between statement.wanted is.source is.destination is.conns ≡ Some statement
 unfolding said_between
 said_between-text statement line is =
-    rw (end_read-text is.source statement.source is.source_text, end_read-text is.destination statement.destination is.destination_text, ap conns_read is.conns_text ∙ conns_read-text statement.conns is.well, is.one_side) refl
+    rw (
+      end_read-text is.source statement.source is.source_text,
+      end_read-text is.destination statement.destination is.destination_text,
+      ap conns_read is.conns_text
+          ∙ conns_read-text statement.conns is.well,
+      is.one_side,
+    ) refl
 
 -- what is said behind `allow ` or `deny `
 said-is : (wanted : Wanted) (line sides : List ℕ) (statement : StatementText) → line ≡ wanted_text wanted ++ (codes " " ++ sides) → said wanted sides ≡ Some statement → IsStatementText line statement
@@ -166,7 +178,8 @@ said-is wanted line sides statement begins is =
 pub read-is : (line : List ℕ) (statement : StatementText) → statement_read line ≡ Some statement → IsStatementText line statement
 unfolding statement_read
 read-is line statement is =
-    let (wanted, _, given) = first_of-from (λ (wanted : Wanted). Unit {0}) (λ wanted. option_and_then (said wanted) (behind (wanted_text wanted ++ codes " ") line)) (Allow ∷ Deny ∷ []) statement (All-from_recursion (λ (wanted : Wanted). Unit {0}) (Allow ∷ Deny ∷ []) (tt, (tt, tt))) is in
+    let (wanted, _, given) = first_of-from (λ (wanted : Wanted). Unit {0}) (λ wanted. option_and_then (said wanted) (behind (wanted_text wanted ++ codes " ") line)) (Allow ∷ Deny ∷ []) statement
+    (All-from_recursion (λ (wanted : Wanted). Unit {0}) (Allow ∷ Deny ∷ []) (tt, (tt, tt))) is in
     let (sides, stands, made) = then_some (said wanted) (behind (wanted_text wanted ++ codes " ") line) statement given in
     said-is wanted line sides statement (behind-is (wanted_text wanted ++ codes " ") line sides stands ∙ append_assoc (wanted_text wanted) (codes " ") sides) made
 
@@ -178,7 +191,9 @@ none-is line statement none is =
     let sides = is.source ++ (codes " => " ++ behind_source) in
     let begins : line ≡ (wanted_text statement.wanted ++ codes " ") ++ sides = is.spelled ∙ sym (append_assoc (wanted_text statement.wanted) (codes " ") sides) in
     let each = none_both (gives Allow) (first_of gives (Deny ∷ [])) none in
-    let nothing : said statement.wanted sides ≡ None = sym (ap (option_and_then (said statement.wanted)) (ap (behind (wanted_text statement.wanted ++ codes " ")) begins ∙ behind-append (wanted_text statement.wanted ++ codes " ") sides)) ∙ of statement.wanted each.0 (none_both (gives Deny) None each.1).0 in
+    let nothing : said statement.wanted sides ≡ None = sym (ap (option_and_then (said statement.wanted))
+    (ap (behind (wanted_text statement.wanted ++ codes " ")) begins ∙ behind-append (wanted_text statement.wanted ++ codes " ") sides)) ∙ of statement.wanted each.0
+    (none_both (gives Deny) None each.1).0 in
     let after_source = first_cut-none (codes " => ") (λ source. first_cut (codes " : ") (said_between statement.wanted source)) is.source behind_source nothing in
     none-some statement (sym (first_cut-none (codes " : ") (said_between statement.wanted is.source) is.destination is.conns after_source) ∙ said_between-text statement line is)
   where

@@ -32,7 +32,8 @@ use Rattle.np_statements.specs.declared.statement_line.StatementLine.{StatementL
 -- ---- one line
 
 -- a text in UTF-8 is read by the grammar
-pub of-read : {E : Type 0} (line text : List ℕ) (answer : Result StatementText E) → (text ≡ line) × IsUtf8 line → IfOk answer (IsStatementText text) → IfOk answer (λ statement. statement_of line ≡ Some statement)
+pub of-read : {E : Type 0} (line text : List ℕ) (answer : Result StatementText E) → (text ≡ line) × IsUtf8 line → IfOk answer (IsStatementText text) →
+    IfOk answer (λ statement. statement_of line ≡ Some statement)
 unfolding statement_of
 of-read line text (Ok statement) (same, utf8) is = rw (is_utf8-from_IsUtf8 line utf8) (read-text line statement (subst (λ (bytes : List ℕ). IsStatementText bytes statement) same is))
 of-read line text (Err fault) told is = tt
@@ -52,19 +53,25 @@ no_text line not_utf8 = rw (false_from_ne_true (is_utf8 line) (λ yes. not_utf8 
 
 -- ---- all lines
 
-after-step : (front : List StatementLine) (first : Option StatementLine) (rest : Result (List StatementLine) ℕ) → after front (rest >>= (λ others. Ok (option_to_list first ++ others))) ≡ after (front ++ option_to_list first) rest
+after-step : (front : List StatementLine) (first : Option StatementLine) (rest : Result (List StatementLine) ℕ) →
+    after front (rest >>= (λ others. Ok (option_to_list first ++ others))) ≡ after (front ++ option_to_list first) rest
 after-step front first (Ok more) = ap Ok (sym (append_assoc front (option_to_list first) more))
 after-step front first (Err line) = refl
 
 -- what is read from a place on, where a line is
-line_at : (lines : List (Bor (List ℕ))) (place : ℕ) (d : Bor (List ℕ)) (front : List StatementLine) → place < length lines → after front (lines_read (place + 1) (map (λ line. line.now) (drop place lines))) ≡ after front (line_read (place + 1) (get_or lines place d).now >>= (λ first. lines_read (place + 1 + 1) (map (λ line. line.now) (drop (place + 1) lines)) >>= (λ others. Ok (option_to_list first ++ others))))
+line_at : (lines : List (Bor (List ℕ))) (place : ℕ) (d : Bor (List ℕ)) (front : List StatementLine) → place < length lines →
+    after front (lines_read (place + 1) (map (λ line. line.now) (drop place lines))) ≡ after front
+    (line_read (place + 1) (get_or lines place d).now >>= (λ first. lines_read (place + 1 + 1) (map (λ line. line.now) (drop (place + 1) lines)) >>=
+    (λ others. Ok (option_to_list first ++ others))))
 line_at lines place d front within = at_drop_more (λ (rest : List (Bor (List ℕ))). after front (lines_read (place + 1) (map (λ line. line.now) rest))) lines place d within
 
 read_by : (lines : List (Bor (List ℕ))) (place : ℕ) (front : List StatementLine) → Result (Option StatementLine) ℕ → Result (List StatementLine) ℕ
 read_by lines place front read = after front (read >>= (λ first. lines_read (place + 1 + 1) (map (λ line. line.now) (drop (place + 1) lines)) >>= (λ others. Ok (option_to_list first ++ others))))
 
 -- a line more
-pub one_more : (lines : List (Bor (List ℕ))) (place : ℕ) (d : Bor (List ℕ)) (front made : List StatementLine) (first : Option StatementLine) (all : Result (List StatementLine) ℕ) → place < length lines → all ≡ after front (lines_read (place + 1) (map (λ line. line.now) (drop place lines))) → line_read (place + 1) (get_or lines place d).now ≡ Ok first → made ≡ front ++ option_to_list first → all ≡ after made (lines_read (place + 1 + 1) (map (λ line. line.now) (drop (place + 1) lines)))
+pub one_more : (lines : List (Bor (List ℕ))) (place : ℕ) (d : Bor (List ℕ)) (front made : List StatementLine) (first : Option StatementLine) (all : Result (List StatementLine) ℕ) →
+    place < length lines → all ≡ after front (lines_read (place + 1) (map (λ line. line.now) (drop place lines))) → line_read (place + 1) (get_or lines place d).now ≡ Ok first →
+    made ≡ front ++ option_to_list first → all ≡ after made (lines_read (place + 1 + 1) (map (λ line. line.now) (drop (place + 1) lines)))
 unfolding read_by
 one_more lines place d front made first all within so_far reads more =
     so_far ∙ line_at lines place d front within ∙ ap (read_by lines place front) reads
@@ -72,20 +79,25 @@ one_more lines place d front made first all within so_far reads more =
     ∙ ap (λ (so : List StatementLine). after so (lines_read (place + 1 + 1) (map (λ line. line.now) (drop (place + 1) lines)))) (sym more)
 
 -- the first line that is no statement
-pub bad_line : (lines : List (Bor (List ℕ))) (place : ℕ) (d : Bor (List ℕ)) (front : List StatementLine) (fault : FileFault) (all : Result (List StatementLine) ℕ) → place < length lines → all ≡ after front (lines_read (place + 1) (map (λ line. line.now) (drop place lines))) → GivesLines {X = Option StatementLine} (Err fault) (line_read (place + 1) (get_or lines place d).now) → GivesLines {X = List StatementLine} (Err fault) all
+pub bad_line : (lines : List (Bor (List ℕ))) (place : ℕ) (d : Bor (List ℕ)) (front : List StatementLine) (fault : FileFault) (all : Result (List StatementLine) ℕ) → place < length lines →
+    all ≡ after front (lines_read (place + 1) (map (λ line. line.now) (drop place lines))) → GivesLines {X = Option StatementLine} (Err fault) (line_read (place + 1) (get_or lines place d).now) →
+    GivesLines {X = List StatementLine} (Err fault) all
 unfolding read_by
 bad_line lines place d front (BadStatement number) all within so_far reads = so_far ∙ line_at lines place d front within ∙ ap (read_by lines place front) reads
 bad_line lines place d front NoMemory all within so_far reads = tt
 
 -- and where there is none, all are read
-pub all_read : (lines : List (Bor (List ℕ))) (place : ℕ) (front : List StatementLine) (all : Result (List StatementLine) ℕ) → length lines ≤ place → all ≡ after front (lines_read (place + 1) (map (λ line. line.now) (drop place lines))) → all ≡ Ok front
+pub all_read : (lines : List (Bor (List ℕ))) (place : ℕ) (front : List StatementLine) (all : Result (List StatementLine) ℕ) → length lines ≤ place →
+    all ≡ after front (lines_read (place + 1) (map (λ line. line.now) (drop place lines))) → all ≡ Ok front
 all_read lines place front all behind so_far =
     so_far ∙ ap (λ (rest : List (Bor (List ℕ))). after front (lines_read (place + 1) (map (λ line. line.now) rest))) (drop_all place lines behind) ∙ ap Ok (append-nil front)
 
 -- before the first
-pub none_read : (bytes : List ℕ) (lines : List (Bor (List ℕ))) (front : List StatementLine) → map (λ line. line.now) lines ≡ lines_of bytes → front ≡ [] → statements_of bytes ≡ after front (lines_read 1 (map (λ line. line.now) lines))
+pub none_read : (bytes : List ℕ) (lines : List (Bor (List ℕ))) (front : List StatementLine) → map (λ line. line.now) lines ≡ lines_of bytes → front ≡ [] →
+    statements_of bytes ≡ after front (lines_read 1 (map (λ line. line.now) lines))
 unfolding statements_of
-none_read bytes lines front are none = ap (lines_read 1) (sym are) ∙ after-none (lines_read 1 (map (λ line. line.now) lines)) ∙ ap (λ (so : List StatementLine). after so (lines_read 1 (map (λ line. line.now) lines))) (sym none)
+none_read bytes lines front are none = ap (lines_read 1) (sym are) ∙ after-none (lines_read 1 (map (λ line. line.now) lines)) ∙ ap
+    (λ (so : List StatementLine). after so (lines_read 1 (map (λ line. line.now) lines))) (sym none)
 
 -- ---- what is known of a line that is read
 
@@ -116,7 +128,8 @@ line-well number (byte ∷ line) first reads = of (statement_of (byte ∷ line))
     of None is reads = cc
     of (Some statement) is reads =
         let same : first ≡ Some (record { line = number; statement = statement }) = cc in
-        All-same IsWellLine (option_to_list first) _ (ap option_to_list same) (All-cons IsWellLine (record { line = number; statement = statement }) [] (statement-well (byte ∷ line) number statement is) (All-nil IsWellLine))
+        All-same IsWellLine (option_to_list first) _ (ap option_to_list same)
+        (All-cons IsWellLine (record { line = number; statement = statement }) [] (statement-well (byte ∷ line) number statement is) (All-nil IsWellLine))
 
 lines-well : (number : ℕ) (lines : List (List ℕ)) (statements : List StatementLine) → lines_read number lines ≡ Ok statements → All IsWellLine statements
 lines-well number [] statements reads = All-same IsWellLine statements [] (sym (same_ok [] statements reads)) (All-nil IsWellLine)

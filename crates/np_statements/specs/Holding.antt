@@ -11,8 +11,8 @@ use Rattle.np_conns.specs.declared.port_spot.PortSpot.{PortSpot}
 use Rattle.np_model.specs.Families.{families_of}
 use Rattle.np_model.specs.declared.lists.EstateLists.{EstateLists}
 use Rattle.np_model.specs.declared.direction.Direction.TheVariants.{Egress, Ingress}
-use Rattle.np_rules.specs.Ends.{pod}
-use Rattle.np_rules.specs.Verdict.{pod_at}
+use Rattle.np_rules.specs.model.Ends.{pod}
+use Rattle.np_rules.specs.model.Verdict.{pod_at}
 use Rattle.np_statements.specs.NamedEnds.{NamesAddress, NamesPod}
 use Rattle.np_statements.specs.declared.statement_line.StatementLine.{StatementLine}
 use Rattle.np_table.specs.Table.{between_pods, with_address}

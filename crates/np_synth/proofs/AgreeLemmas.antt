@@ -156,7 +156,8 @@ module _ {C R : Type 0} (count : ℕ) (defined : ℕ → ℕ → Bool) (set : �
         before_first low number pair below = rw (lt-ltb low pair.0 below) refl
 
         before_second : (number : ℕ) (pair : ℕ × ℕ) → number < pair.1 → stands_before pair.0 number pair ≡ true
-        before_second number pair below = or_right (nat_lt pair.0 pair.0) (pair.0 == pair.0 && nat_lt number pair.1) (and_from (pair.0 == pair.0) (nat_lt number pair.1) (eq-eqb pair.0 pair.0 refl) (lt-ltb number pair.1 below))
+        before_second number pair below = or_right (nat_lt pair.0 pair.0) (pair.0 == pair.0 && nat_lt number pair.1)
+            (and_from (pair.0 == pair.0) (nat_lt number pair.1) (eq-eqb pair.0 pair.0 refl) (lt-ltb number pair.1 below))
 
         -- the first of a group is the first of its kind
         own_like : (w : ℕ) → w < count → first w ≡ w → like (kind_first w)

@@ -34,7 +34,8 @@ module _ (alike : ℕ → ℕ → Bool) (count : ℕ) (lawful : IsAlike alike co
   is-first : (place : ℕ) → place < count → is_first alike (class_first place) ≡ true
   unfolding firsts
   is-first place within =
-      All-get_or (λ (first : ℕ). is_first alike first ≡ true) (firsts alike count) (class_of alike count place) 0 (class_within alike count lawful place within) (filter_passes (is_first alike) (places count))
+      All-get_or (λ (first : ℕ). is_first alike first ≡ true) (firsts alike count) (class_of alike count place) 0 (class_within alike count lawful place within)
+      (filter_passes (is_first alike) (places count))
 
   none_earlier : (first place : ℕ) → place < first → alike place first ≡ true → is_first alike first ≡ true → ⊥
   none_earlier first place before tied lone =
@@ -44,7 +45,8 @@ module _ (alike : ℕ → ℕ → Bool) (count : ℕ) (lawful : IsAlike alike co
   pub first-low : (place : ℕ) → place < count → class_first place ≤ place
   first-low place within =
       elim (cases_lt place (class_first place)) [
-        | inl before ↦ absurd (none_earlier (class_first place) place before (lawful.both_ways (class_first place) place (first-in place within) within (first-alike place within)) (is-first place within))
+        | inl before ↦ absurd (none_earlier (class_first place) place before (lawful.both_ways (class_first place) place (first-in place within) within (first-alike place within))
+            (is-first place within))
         | inr after ↦ after
       ]
 

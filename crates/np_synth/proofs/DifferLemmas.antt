@@ -71,7 +71,8 @@ from_among {X} {Y} f p (first ∷ xs) y among = by (p first) refl among (from_am
     more : ((x : X) × IsAmong x xs × (p x ≡ true) × (y ≡ f x)) → (x : X) × IsAmong x (first ∷ xs) × (p x ≡ true) × (y ≡ f x)
     more found = (found.0, inr found.1, found.2, found.3)
 
-    by : (b : Bool) → p first ≡ b → IsAmong y (map f (if b then first ∷ filter p xs else filter p xs)) → (IsAmong y (map f (filter p xs)) → (x : X) × IsAmong x xs × (p x ≡ true) × (y ≡ f x)) → (x : X) × IsAmong x (first ∷ xs) × (p x ≡ true) × (y ≡ f x)
+    by : (b : Bool) → p first ≡ b → IsAmong y (map f (if b then first ∷ filter p xs else filter p xs)) → (IsAmong y (map f (filter p xs)) → (x : X) × IsAmong x xs × (p x ≡ true) × (y ≡ f x)) →
+        (x : X) × IsAmong x (first ∷ xs) × (p x ≡ true) × (y ≡ f x)
     by true is (inl here) rest = (first, inl refl, is, here)
     by true is (inr there) rest = more (rest there)
     by false is there rest = more (rest there)
@@ -155,7 +156,8 @@ to_agree lists a b a_in b_in apart is =
     let inner = or_parts (differ_at_some lists a b) (two_differ (own_sets lists a b)) outer.0 in
     let towards = or_parts (differ_towards lists a b Ingress) (differ_towards lists a b Egress || false) outer.1 in
     let ingress = (rows_decide (address_rows (estate_table lists) a Ingress) (address_rows (estate_table lists) b Ingress)).0 (not_false _ towards.0) in
-    let egress = (rows_decide (address_rows (estate_table lists) a Egress) (address_rows (estate_table lists) b Egress)).0 (not_false _ (or_parts (differ_towards lists a b Egress) false towards.1).0) in
+    let egress = (rows_decide (address_rows (estate_table lists) a Egress) (address_rows (estate_table lists) b Egress)).0
+    (not_false _ (or_parts (differ_towards lists a b Egress) false towards.1).0) in
     let ab = own-among lists a b (a, b) (inr (inl refl)) (apart-defined lists a b apart) in
     let ba = own-among lists a b (b, a) (inr (inr (inl refl))) (apart-defined lists b a (λ same. apart (sym same))) in
     record {
@@ -181,7 +183,8 @@ from_agree lists a b a_in b_in apart agree =
       where
         not_so : ((c : ℕ) × (c < number_of_workloads lists) × (differ_at lists a b c ≡ true)) → ⊥
         not_so found =
-            let outer = and_parts (not (found.0 == a) && not (found.0 == b)) (not (are_same_conns (set_of lists a found.0) (set_of lists b found.0)) || not (are_same_conns (set_of lists found.0 a) (set_of lists found.0 b))) found.2 in
+            let outer = and_parts (not (found.0 == a) && not (found.0 == b))
+            (not (are_same_conns (set_of lists a found.0) (set_of lists b found.0)) || not (are_same_conns (set_of lists found.0 a) (set_of lists found.0 b))) found.2 in
             let inner = and_parts (not (found.0 == a)) (not (found.0 == b)) outer.0 in
             let ca = not_itself found.0 a inner.0 in
             let cb = not_itself found.0 b inner.1 in
@@ -203,7 +206,8 @@ from_agree lists a b a_in b_in apart agree =
     own = all_one (own_sets lists a b) (set_of lists a b) (λ x among. each x (from_among (λ (p : ℕ × ℕ). set_of lists p.0 p.1) (λ (p : ℕ × ℕ). is_defined lists p.0 p.1) (pairs_of a b) x among))
 
     ingress : differ_towards lists a b Ingress ≡ false
-    ingress = ap not ((rows_decide (address_rows (estate_table lists) a Ingress) (address_rows (estate_table lists) b Ingress)).1 (ap (λ (rows : List AddressRow × List AddressRow). rows.0) agree.alone))
+    ingress = ap not ((rows_decide (address_rows (estate_table lists) a Ingress) (address_rows (estate_table lists) b Ingress)).1
+        (ap (λ (rows : List AddressRow × List AddressRow). rows.0) agree.alone))
 
     egress : differ_towards lists a b Egress ≡ false
     egress = ap not ((rows_decide (address_rows (estate_table lists) a Egress) (address_rows (estate_table lists) b Egress)).1 (ap (λ (rows : List AddressRow × List AddressRow). rows.1) agree.alone))

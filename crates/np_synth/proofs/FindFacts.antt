@@ -21,7 +21,9 @@ module _ (p : ℕ → Bool) where
   found-is from zero at is = absurd (cc)
   found-is from (suc len) at is = by (p from) refl is (found-is (from + 1) len at)
     where
-      by : (b : Bool) → p from ≡ b → find p (range_with_len from (suc len)) ≡ Some at → (find p (range_with_len (from + 1) len) ≡ Some at → (from + 1 ≤ at) × (at < from + 1 + len) × (p at ≡ true) × ((k : ℕ) → from + 1 ≤ k → k < at → p k ≡ false)) → (from ≤ at) × (at < from + suc len) × (p at ≡ true) × ((k : ℕ) → from ≤ k → k < at → p k ≡ false)
+      by : (b : Bool) → p from ≡ b → find p (range_with_len from (suc len)) ≡ Some at →
+          (find p (range_with_len (from + 1) len) ≡ Some at → (from + 1 ≤ at) × (at < from + 1 + len) × (p at ≡ true) × ((k : ℕ) → from + 1 ≤ k → k < at → p k ≡ false)) →
+          (from ≤ at) × (at < from + suc len) × (p at ≡ true) × ((k : ℕ) → from ≤ k → k < at → p k ≡ false)
       by true passes found rest =
           let one : Some from ≡ Some at = rw passes at found in
           let here : from ≡ at = cc in
@@ -41,7 +43,8 @@ module _ (p : ℕ → Bool) where
   found-none from zero is k low high = absurd (omega arith)
   found-none from (suc len) is k low high = by (p from) refl is (found-none (from + 1) len)
     where
-      by : (b : Bool) → p from ≡ b → find p (range_with_len from (suc len)) ≡ None → (find p (range_with_len (from + 1) len) ≡ None → (j : ℕ) → from + 1 ≤ j → j < from + 1 + len → p j ≡ false) → p k ≡ false
+      by : (b : Bool) → p from ≡ b → find p (range_with_len from (suc len)) ≡ None → (find p (range_with_len (from + 1) len) ≡ None → (j : ℕ) → from + 1 ≤ j → j < from + 1 + len → p j ≡ false) →
+          p k ≡ false
       by true passes found rest = let never : Some from ≡ None = rw passes at found in absurd (cc)
       by false fails found rest =
           elim (cases_eq k from) [

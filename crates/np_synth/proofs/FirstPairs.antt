@@ -31,7 +31,8 @@ module _ (test : ℕ → ℕ → Bool) where
   row-from_none a from zero none b low high = absurd (omega arith)
   row-from_none a from (suc n) none b low high = by (test a from) refl none (row-from_none a (from + 1) n)
     where
-      by : (answer : Bool) → test a from ≡ answer → find passes (row a (range_with_len from (suc n))) ≡ None → (find passes (row a (range_with_len (from + 1) n)) ≡ None → (c : ℕ) → from + 1 ≤ c → c < from + 1 + n → test a c ≡ false) → test a b ≡ false
+      by : (answer : Bool) → test a from ≡ answer → find passes (row a (range_with_len from (suc n))) ≡ None →
+          (find passes (row a (range_with_len (from + 1) n)) ≡ None → (c : ℕ) → from + 1 ≤ c → c < from + 1 + n → test a c ≡ false) → test a b ≡ false
       by true is found rest = let never : Some (a, from) ≡ None = rw is at found in cc
       by false is found rest =
           elim (cases_eq from b) [
@@ -51,7 +52,8 @@ module _ (test : ℕ → ℕ → Bool) where
       ∙ ap (λ (o : Option (ℕ × ℕ)). option_or o (find passes (rows count (range_with_len (from + 1) n)))) (row-none from 0 count (λ b _ high. none from b (omega arith) (omega arith) (omega arith)))
       ∙ rows-none count (from + 1) n (λ a b low high below. none a b (omega arith) (omega arith) below)
 
-  rows-some : (count a b from n : ℕ) → from ≤ a → a < from + n → b < count → test a b ≡ true → ((x y : ℕ) → x < a → y < count → test x y ≡ false) → ((y : ℕ) → y < b → test a y ≡ false) → find passes (rows count (range_with_len from n)) ≡ Some (a, b)
+  rows-some : (count a b from n : ℕ) → from ≤ a → a < from + n → b < count → test a b ≡ true → ((x y : ℕ) → x < a → y < count → test x y ≡ false) → ((y : ℕ) → y < b → test a y ≡ false) →
+      find passes (rows count (range_with_len from n)) ≡ Some (a, b)
   rows-some count a b from zero low high below is earlier before = absurd (omega arith)
   rows-some count a b from (suc n) low high below is earlier before =
       elim (cases_eq a from) [
@@ -72,7 +74,8 @@ module _ (test : ℕ → ℕ → Bool) where
   rows-from_none : (count from n : ℕ) → find passes (rows count (range_with_len from n)) ≡ None → (a b : ℕ) → from ≤ a → a < from + n → b < count → test a b ≡ false
   rows-from_none count from zero none a b low high below = absurd (omega arith)
   rows-from_none count from (suc n) none a b low high below =
-      let both = none_of (find passes (row from (range_with_len 0 count))) (find passes (rows count (range_with_len (from + 1) n))) (sym (find-append passes (row from (range_with_len 0 count)) (rows count (range_with_len (from + 1) n))) ∙ none) in
+      let both = none_of (find passes (row from (range_with_len 0 count))) (find passes (rows count (range_with_len (from + 1) n)))
+      (sym (find-append passes (row from (range_with_len 0 count)) (rows count (range_with_len (from + 1) n))) ∙ none) in
       elim (cases_eq a from) [
         | inl here ↦ ap (λ (k : ℕ). test k b) here ∙ row-from_none from 0 count both.0 b (omega arith) (omega arith)
         | inr apart ↦ rows-from_none count (from + 1) n both.1 a b (omega arith) (omega arith) below
@@ -86,7 +89,8 @@ module _ (test : ℕ → ℕ → Bool) where
   first_pair-none count none = rows-none count 0 count (λ a b _ high below. none a b (omega arith) below)
 
   -- one passes, and none before it
-  pub first_pair-some : (count a b : ℕ) → a < count → b < count → test a b ≡ true → ((x y : ℕ) → x < a → y < count → test x y ≡ false) → ((y : ℕ) → y < b → test a y ≡ false) → first_pair test count ≡ Some (a, b)
+  pub first_pair-some : (count a b : ℕ) → a < count → b < count → test a b ≡ true → ((x y : ℕ) → x < a → y < count → test x y ≡ false) → ((y : ℕ) → y < b → test a y ≡ false) →
+      first_pair test count ≡ Some (a, b)
   unfolding first_pair
   first_pair-some count a b high below is earlier before = rows-some count a b 0 count (omega arith) (omega arith) below is earlier before
 
@@ -108,11 +112,20 @@ module _ (test : ℕ → ℕ → Bool) where
   row-first a from zero pair found = absurd (cc)
   row-first a from (suc n) pair found = by (test a from) refl found (row-first a (from + 1) n pair)
     where
-      by : (answer : Bool) → test a from ≡ answer → (if answer then Some (a, from) else find passes (row a (range_with_len (from + 1) n))) ≡ Some pair → (find passes (row a (range_with_len (from + 1) n)) ≡ Some pair → (pair.0 ≡ a) × IsFirstOfRow a (from + 1) n pair.1) → (pair.0 ≡ a) × IsFirstOfRow a from (suc n) pair.1
+      by : (answer : Bool) → test a from ≡ answer → (if answer then Some (a, from) else find passes (row a (range_with_len (from + 1) n))) ≡ Some pair →
+          (find passes (row a (range_with_len (from + 1) n)) ≡ Some pair → (pair.0 ≡ a) × IsFirstOfRow a (from + 1) n pair.1) → (pair.0 ≡ a) × IsFirstOfRow a from (suc n) pair.1
       by true is here again =
           let same : (a, from) ≡ pair = cc in
-          let second : from ≡ pair.1 = ap (λ (p : ℕ × ℕ). p.1) same in
-          (sym (ap (λ (p : ℕ × ℕ). p.0) same), record { low = omega (arith, second); high = omega (arith, second); is = ap (test a) (sym second) ∙ is; before = λ y above below. absurd (omega (arith, second, above, below)) })
+          let second : from ≡ pair.1 = ap (λ (p : ℕ × ℕ). p.1) same in (
+            sym (ap (λ (p : ℕ × ℕ). p.0) same),
+            record {
+              low = omega (arith, second);
+              high = omega (arith, second);
+              is = ap (test a) (sym second) ∙ is;
+              before = λ y above below. absurd
+                  (omega (arith, second, above, below));
+            },
+          )
       by false is later again =
           let rest = again later in (
             rest.0,
@@ -139,9 +152,11 @@ module _ (test : ℕ → ℕ → Bool) where
   rows-first : (count from n : ℕ) (pair : ℕ × ℕ) → find passes (rows count (range_with_len from n)) ≡ Some pair → IsFirst count from n pair
   rows-first count from zero pair found = absurd (cc)
   rows-first count from (suc n) pair found =
-      by (find passes (row from (range_with_len 0 count))) refl (sym (find-append passes (row from (range_with_len 0 count)) (rows count (range_with_len (from + 1) n))) ∙ found) (rows-first count (from + 1) n pair)
+      by (find passes (row from (range_with_len 0 count))) refl (sym (find-append passes (row from (range_with_len 0 count)) (rows count (range_with_len (from + 1) n))) ∙ found)
+      (rows-first count (from + 1) n pair)
     where
-      by : (here : Option (ℕ × ℕ)) → find passes (row from (range_with_len 0 count)) ≡ here → option_or here (find passes (rows count (range_with_len (from + 1) n))) ≡ Some pair → (find passes (rows count (range_with_len (from + 1) n)) ≡ Some pair → IsFirst count (from + 1) n pair) → IsFirst count from (suc n) pair
+      by : (here : Option (ℕ × ℕ)) → find passes (row from (range_with_len 0 count)) ≡ here → option_or here (find passes (rows count (range_with_len (from + 1) n))) ≡ Some pair →
+          (find passes (rows count (range_with_len (from + 1) n)) ≡ Some pair → IsFirst count (from + 1) n pair) → IsFirst count from (suc n) pair
       by (Some one) is same again =
           let one_is : one ≡ pair = cc in
           let first = row-first from 0 count one is in

@@ -45,7 +45,8 @@ lesser lists a b fine a_in b_in less same =
     let plain : differ lists a b ≡ false = rw (lt-ltb a b less, together) at unlike in
     to_agree lists a b a_in b_in (λ one. omega (arith, less, one)) plain
 
-pub all-agree : (lists : EstateLists) → flat_fault lists ≡ None → (a b : ℕ) → a < number_of_workloads lists → b < number_of_workloads lists → a ≢ b → group_of lists a ≡ group_of lists b → Agrees lists a b
+pub all-agree : (lists : EstateLists) → flat_fault lists ≡ None → (a b : ℕ) → a < number_of_workloads lists → b < number_of_workloads lists → a ≢ b → group_of lists a ≡ group_of lists b →
+    Agrees lists a b
 all-agree lists fine a b a_in b_in apart same =
     elim (cases_order a b) [
       | inl one ↦ absurd (apart one)
@@ -54,11 +55,14 @@ all-agree lists fine a b a_in b_in apart same =
     ]
 
 -- what passes between two workloads depends on their groups alone
-pub group-set : (lists : EstateLists) → flat_fault lists ≡ None → (a a' b b' : ℕ) → a < number_of_workloads lists → a' < number_of_workloads lists → b < number_of_workloads lists → b' < number_of_workloads lists → group_of lists a ≡ group_of lists a' → group_of lists b ≡ group_of lists b' → is_defined lists a b ≡ true → is_defined lists a' b' ≡ true → set_of lists a b ≡ set_of lists a' b'
+pub group-set : (lists : EstateLists) → flat_fault lists ≡ None → (a a' b b' : ℕ) → a < number_of_workloads lists → a' < number_of_workloads lists → b < number_of_workloads lists →
+    b' < number_of_workloads lists → group_of lists a ≡ group_of lists a' → group_of lists b ≡ group_of lists b' → is_defined lists a b ≡ true → is_defined lists a' b' ≡ true →
+    set_of lists a b ≡ set_of lists a' b'
 group-set lists fine = one-set (number_of_workloads lists) (is_defined lists) (set_of lists) (own_rows lists) (group_of lists) (apart-defined lists) (all-agree lists fine)
 
 -- and so does what passes between a workload and all addresses
-pub group-rows : (lists : EstateLists) → flat_fault lists ≡ None → (a b : ℕ) → a < number_of_workloads lists → b < number_of_workloads lists → group_of lists a ≡ group_of lists b → own_rows lists a ≡ own_rows lists b
+pub group-rows : (lists : EstateLists) → flat_fault lists ≡ None → (a b : ℕ) → a < number_of_workloads lists → b < number_of_workloads lists → group_of lists a ≡ group_of lists b →
+    own_rows lists a ≡ own_rows lists b
 group-rows lists fine a b a_in b_in same =
     elim (cases_eq a b) [
       | inl one ↦ ap (own_rows lists) one
@@ -67,7 +71,8 @@ group-rows lists fine a b a_in b_in same =
 
 -- ---- nothing is split
 
-pub same_sets : (sets : Family → Conns) (families : List Family) → ((family : Family) × (families ≡ family ∷ [])) ⊎ (families ≡ Four ∷ Six ∷ []) → two_differ (map sets families) ≡ false → AllByRecursion (λ family. sets family ≡ sets (first_family families)) families
+pub same_sets : (sets : Family → Conns) (families : List Family) → ((family : Family) × (families ≡ family ∷ [])) ⊎ (families ≡ Four ∷ Six ∷ []) → two_differ (map sets families) ≡ false →
+    AllByRecursion (λ family. sets family ≡ sets (first_family families)) families
 same_sets sets families (inl one) none = subst (λ (fs : List Family). AllByRecursion (λ family. sets family ≡ sets (first_family fs)) fs) (sym one.1) (refl, tt)
 same_sets sets families (inr both) none =
     let two : two_differ (sets Four ∷ sets Six ∷ []) ≡ false = subst (λ (fs : List Family). two_differ (map sets fs) ≡ false) both none in
@@ -79,7 +84,8 @@ same_sets sets families (inr both) none =
     by false is = let never : true ≡ false = is in absurd (cc)
 
 -- in each family of the list the same passes
-pub family-set : (lists : EstateLists) → flat_fault lists ≡ None → (x y : ℕ) (family : Family) → x < number_of_workloads lists → y < number_of_workloads lists → is_defined lists x y ≡ true → Contains (families_of lists.pods) family → set_of lists x y ≡ set_in lists family x y
+pub family-set : (lists : EstateLists) → flat_fault lists ≡ None → (x y : ℕ) (family : Family) → x < number_of_workloads lists → y < number_of_workloads lists → is_defined lists x y ≡ true →
+    Contains (families_of lists.pods) family → set_of lists x y ≡ set_in lists family x y
 family-set lists fine x y family x_in y_in is listed =
     let split : is_split lists x y ≡ false = first_pair-from_none (is_split lists) (number_of_workloads lists) (no_pairs lists fine).0 x y x_in y_in in
     let none : two_differ (map (λ one. set_in lists one x y) (families_of lists.pods)) ≡ false = rw is at split in
@@ -93,16 +99,19 @@ find-some : (p : ℕ → Bool) (n : ℕ) (xs : List ℕ) → AllByRecursion (λ 
 find-some p n [] within any = let never : false ≡ true = any in absurd (cc)
 find-some p n (x ∷ xs) within any = by (p x) refl any (find-some p n xs within.1)
   where
-    by : (b : Bool) → p x ≡ b → (p x || list_any p xs) ≡ true → (list_any p xs ≡ true → (r : ℕ) × (find p xs ≡ Some r) × (p r ≡ true) × (r < n)) → (r : ℕ) × (find p (x ∷ xs) ≡ Some r) × (p r ≡ true) × (r < n)
+    by : (b : Bool) → p x ≡ b → (p x || list_any p xs) ≡ true → (list_any p xs ≡ true → (r : ℕ) × (find p xs ≡ Some r) × (p r ≡ true) × (r < n)) →
+        (r : ℕ) × (find p (x ∷ xs) ≡ Some r) × (p r ≡ true) × (r < n)
     by true is some rest = (x, rw is refl, is, within.0)
     by false is some rest = let there = rest (rw is at some) in (there.0, rw is there.1, there.2, there.3)
 
 -- where a workload of a group may be sent to, the first such one is found
-found-in : (lists : EstateLists) (source group w : ℕ) → w < number_of_workloads lists → group_of lists w ≡ group → is_defined lists source w ≡ true → (r : ℕ) × (receiver_in lists source group ≡ Some r) × (group_of lists r ≡ group) × (is_defined lists source r ≡ true) × (r < number_of_workloads lists)
+found-in : (lists : EstateLists) (source group w : ℕ) → w < number_of_workloads lists → group_of lists w ≡ group → is_defined lists source w ≡ true →
+    (r : ℕ) × (receiver_in lists source group ≡ Some r) × (group_of lists r ≡ group) × (is_defined lists source r ≡ true) × (r < number_of_workloads lists)
 found-in lists source group w within same is =
     let p : ℕ → Bool = λ workload. group_of lists workload == group && is_defined lists source workload in
     let passes : p w ≡ true = and_from (group_of lists w == group) (is_defined lists source w) (eq-eqb (group_of lists w) group same) is in
-    let bounds = recursion_from_All (λ (k : ℕ). k < number_of_workloads lists) (places (number_of_workloads lists)) (All-places (λ (k : ℕ). k < number_of_workloads lists) (number_of_workloads lists) (λ k below. below)) in
+    let bounds = recursion_from_All (λ (k : ℕ). k < number_of_workloads lists) (places (number_of_workloads lists))
+    (All-places (λ (k : ℕ). k < number_of_workloads lists) (number_of_workloads lists) (λ k below. below)) in
     let there = find-some p (number_of_workloads lists) (places (number_of_workloads lists)) bounds (any_place p (number_of_workloads lists) w within passes) in
     let parts = and_both (group_of lists there.0 == group) (is_defined lists source there.0) there.2 in
     (there.0, there.1, eqb-true (group_of lists there.0) group parts.0, parts.1, there.3)
@@ -112,7 +121,8 @@ found-in lists source group w within same is =
     and_both false y is = let never : false ≡ true = is in absurd (cc)
 
 -- the first workload of a group is of it
-pub first-of : (lists : EstateLists) (x : ℕ) → x < number_of_workloads lists → (first_of_group lists (group_of lists x) < number_of_workloads lists) × (group_of lists (first_of_group lists (group_of lists x)) ≡ group_of lists x)
+pub first-of : (lists : EstateLists) (x : ℕ) → x < number_of_workloads lists →
+    (first_of_group lists (group_of lists x) < number_of_workloads lists) × (group_of lists (first_of_group lists (group_of lists x)) ≡ group_of lists x)
 first-of lists x within = (
   first-in (are_together lists) (number_of_workloads lists) (together-is lists (number_of_workloads lists)) x within,
   first-class (are_together lists) (number_of_workloads lists) (together-is lists (number_of_workloads lists)) x within,
@@ -126,7 +136,8 @@ undefined lists x y not =
     ]
 
 -- some workload of the second group may be sent to by the first workload of the first
-witness : (lists : EstateLists) (x y : ℕ) → x < number_of_workloads lists → y < number_of_workloads lists → is_defined lists x y ≡ true → (w : ℕ) × (w < number_of_workloads lists) × (group_of lists w ≡ group_of lists y) × (is_defined lists (first_of_group lists (group_of lists x)) w ≡ true)
+witness : (lists : EstateLists) (x y : ℕ) → x < number_of_workloads lists → y < number_of_workloads lists → is_defined lists x y ≡ true →
+    (w : ℕ) × (w < number_of_workloads lists) × (group_of lists w ≡ group_of lists y) × (is_defined lists (first_of_group lists (group_of lists x)) w ≡ true)
 witness lists x y x_in y_in is =
     let f = first_of_group lists (group_of lists x) in
     elim (cases_Bool (is_defined lists f y)) [
@@ -138,7 +149,8 @@ witness lists x y x_in y_in is =
     ]
 
 -- The set of the rule from one group to another is what passes between any two workloads of them.
-pub set_from-is : (lists : EstateLists) → flat_fault lists ≡ None → (x y : ℕ) → x < number_of_workloads lists → y < number_of_workloads lists → is_defined lists x y ≡ true → set_from lists (group_of lists x) (group_of lists y) ≡ Some (set_of lists x y)
+pub set_from-is : (lists : EstateLists) → flat_fault lists ≡ None → (x y : ℕ) → x < number_of_workloads lists → y < number_of_workloads lists → is_defined lists x y ≡ true →
+    set_from lists (group_of lists x) (group_of lists y) ≡ Some (set_of lists x y)
 set_from-is lists fine x y x_in y_in is =
     let first = first-of lists x x_in in
     let w = witness lists x y x_in y_in is in

@@ -22,14 +22,14 @@ use Rattle.np_model.specs.declared.direction.Direction.{Direction}
 use Rattle.np_model.specs.declared.direction.Direction.TheVariants.{Egress, Ingress}
 use Rattle.np_model.specs.declared.network_policy.NetPeer.{NetPeer}
 use Rattle.np_model.specs.declared.network_policy.NetRule.{NetRule}
-use Rattle.np_rules.specs.Ends.{Contact, End, PodEnd, address, pod, pod_end}
-use Rattle.np_rules.specs.Peers.{net_peer_matches}
-use Rattle.np_rules.specs.Places.{net_rules_of}
-use Rattle.np_rules.specs.PortEntries.{net_entry_matches}
-use Rattle.np_rules.specs.Rules.{net_rule_matches, none_or_any}
-use Rattle.np_rules.specs.Selection.{net_selects}
-use Rattle.np_rules.specs.Sides.{side_allows}
-use Rattle.np_rules.specs.Verdict.{allows, pod_at, pod_or_none}
+use Rattle.np_rules.specs.model.Ends.{Contact, End, PodEnd, address, pod, pod_end}
+use Rattle.np_rules.specs.model.Peers.{net_peer_matches}
+use Rattle.np_rules.specs.model.Places.{net_rules_of}
+use Rattle.np_rules.specs.model.PortEntries.{net_entry_matches}
+use Rattle.np_rules.specs.model.Rules.{net_rule_matches, none_or_any}
+use Rattle.np_rules.specs.model.Selection.{net_selects}
+use Rattle.np_rules.specs.model.Sides.{side_allows}
+use Rattle.np_rules.specs.model.Verdict.{allows, pod_at, pod_or_none}
 use Rattle.np_synth.proofs.AddressVerdicts.{IsWellSpan, addresses-no_pod, addresses-permit, any-never, at_address, nothing-has, row_tells, rows-any, rows-well}
 use Rattle.np_synth.proofs.ClassFirsts.{first-alike}
 use Rattle.np_synth.proofs.DifferLemmas.{own_rows}
@@ -40,7 +40,8 @@ use Rattle.np_synth.proofs.OnePolicy.{any-agree, any-flat_map, only-one, side-by
 use Rattle.np_synth.proofs.PortLemmas.{ports-match}
 use Rattle.np_synth.proofs.SelectLemmas.{meets-namespace_named, meets-selector_of}
 use Rattle.np_synth.specs.Faults.{flat_fault, is_defined, set_in}
-use Rattle.np_synth.specs.Flat.{egress_rules, flat_policy, flattened, group_namespace, group_peer, group_rows, ingress_rules, rule_if, rules_from_group, rules_from_groups, rules_of_addresses, rules_of_set, set_from}
+use Rattle.np_synth.specs.Flat.{egress_rules, flat_policy, flattened, group_namespace, group_peer, group_rows, ingress_rules, rule_if, rules_from_group, rules_from_groups, rules_of_addresses}
+use Rattle.np_synth.specs.Flat.{rules_of_set, set_from}
 use Rattle.np_synth.specs.Groups.{are_together, first_of_group, group_count, group_of, look_alike, relevant}
 use Rattle.np_table.specs.PairRules.{first_end}
 use Rattle.np_synth.specs.Ports.{ports_of}
@@ -118,7 +119,8 @@ selects lists group p =
     ap (λ (b : Bool). bytes_eq (group_namespace lists group) (pod_at lists p).namespace && b)
     (meets-selector_of (relevant lists) (first_end lists (first_of_group lists group)).labels (pod_at lists p).labels)
 
-says_namespace : (lists : EstateLists) (p : ℕ) → IsLawful lists → p < length lists.pods → value_of (pod_at lists p).namespace_labels (codes "kubernetes.io/metadata.name") ≡ Some (pod_at lists p).namespace
+says_namespace : (lists : EstateLists) (p : ℕ) → IsLawful lists → p < length lists.pods →
+    value_of (pod_at lists p).namespace_labels (codes "kubernetes.io/metadata.name") ≡ Some (pod_at lists p).namespace
 says_namespace lists p lawful within =
     let a = pod_there lists p within in
     let says : SaysItsNamespace (get_or lists.pods p a.0) = All-get_or SaysItsNamespace lists.pods p a.0 within lawful.namespaces_named in
@@ -127,7 +129,8 @@ says_namespace lists p lawful within =
     subst of (sym (ap pod_or_none a.1)) own
 
 -- and so does its peer
-peer-is : (lists : EstateLists) (namespace : List ℕ) (group p : ℕ) → IsLawful lists → p < length lists.pods → net_peer_matches namespace (group_peer lists group) (pod (pod_at lists p)) ≡ has_pod lists group p
+peer-is : (lists : EstateLists) (namespace : List ℕ) (group p : ℕ) → IsLawful lists → p < length lists.pods →
+    net_peer_matches namespace (group_peer lists group) (pod (pod_at lists p)) ≡ has_pod lists group p
 peer-is lists namespace group p lawful within =
     rw (
       meets-namespace_named (group_namespace lists group) (pod_at lists p).namespace (pod_at lists p).namespace_labels (says_namespace lists p lawful within),
@@ -149,16 +152,20 @@ and_false : (b : Bool) → (b && false) ≡ false
 and_false true = refl
 and_false false = refl
 
-rule-any : (namespace : List ℕ) (peer : NetPeer) (set : Conns) (contact : Contact) → is_spot contact.spot ≡ true → list_any (λ rule. net_rule_matches namespace rule contact) (rule_if (peer ∷ []) set) ≡ (net_peer_matches namespace peer contact.far && has_spot set contact.spot)
+rule-any : (namespace : List ℕ) (peer : NetPeer) (set : Conns) (contact : Contact) → is_spot contact.spot ≡ true →
+    list_any (λ rule. net_rule_matches namespace rule contact) (rule_if (peer ∷ []) set) ≡ (net_peer_matches namespace peer contact.far && has_spot set contact.spot)
 rule-any namespace peer set contact is = by (is_nothing set) refl
   where
-    by : (nothing : Bool) → is_nothing set ≡ nothing → list_any (λ rule. net_rule_matches namespace rule contact) (if nothing then [] else record { peers = peer ∷ []; ports = ports_of set } ∷ []) ≡ (net_peer_matches namespace peer contact.far && has_spot set contact.spot)
+    by : (nothing : Bool) → is_nothing set ≡ nothing →
+        list_any (λ rule. net_rule_matches namespace rule contact) (if nothing then [] else record { peers = peer ∷ []; ports = ports_of set } ∷ []) ≡
+        (net_peer_matches namespace peer contact.far && has_spot set contact.spot)
     by true none = sym (ap (λ (b : Bool). net_peer_matches namespace peer contact.far && b) (nothing-has set contact.spot none) ∙ and_false (net_peer_matches namespace peer contact.far))
     by false some =
         or_false ((net_peer_matches namespace peer contact.far || false) && none_or_any (λ entry. net_entry_matches entry contact.destination contact.spot) (ports_of set))
         ∙ rw (or_false (net_peer_matches namespace peer contact.far), ports-match set contact.destination contact.spot is some) refl
 
-set-any : (namespace : List ℕ) (peer : NetPeer) (set : Option Conns) (contact : Contact) → is_spot contact.spot ≡ true → list_any (λ rule. net_rule_matches namespace rule contact) (rules_of_set peer set) ≡ (net_peer_matches namespace peer contact.far && told set contact.spot)
+set-any : (namespace : List ℕ) (peer : NetPeer) (set : Option Conns) (contact : Contact) → is_spot contact.spot ≡ true →
+    list_any (λ rule. net_rule_matches namespace rule contact) (rules_of_set peer set) ≡ (net_peer_matches namespace peer contact.far && told set contact.spot)
 set-any namespace peer None contact is = sym (and_false (net_peer_matches namespace peer contact.far))
 set-any namespace peer (Some set) contact is = rule-any namespace peer set contact is
 
@@ -166,7 +173,8 @@ abbrev from_pod : EstateLists → ℕ → End → Family → PortSpot → Contac
 from_pod lists p destination family spot = record { far = pod (pod_at lists p); destination = destination; family = family; spot = spot }
 
 -- the rules of all groups allow a pod what its own group may send
-groups-any : (lists : EstateLists) (namespace : List ℕ) (group p : ℕ) (destination : End) (family : Family) (spot : PortSpot) → IsLawful lists → p < length lists.pods → is_spot spot ≡ true → list_any (λ rule. net_rule_matches namespace rule (from_pod lists p destination family spot)) (rules_from_groups lists group) ≡ told (set_from lists (group_at lists p) group) spot
+groups-any : (lists : EstateLists) (namespace : List ℕ) (group p : ℕ) (destination : End) (family : Family) (spot : PortSpot) → IsLawful lists → p < length lists.pods → is_spot spot ≡ true →
+    list_any (λ rule. net_rule_matches namespace rule (from_pod lists p destination family spot)) (rules_from_groups lists group) ≡ told (set_from lists (group_at lists p) group) spot
 groups-any lists namespace group p destination family spot lawful within is =
     let contact = from_pod lists p destination family spot in
     let each : (h : ℕ) → list_any (λ rule. net_rule_matches namespace rule contact) (rules_from_group lists group h) ≡ (has_pod lists h p && told (set_from lists h group) spot) = λ h.
@@ -178,11 +186,13 @@ groups-any lists namespace group p destination family spot lawful within is =
     ∙ ap (λ (b : Bool). b && told (set_from lists (group_at lists p) group) spot) (own-pod lists p within)
 
 -- and no address
-groups-no_address : (lists : EstateLists) (namespace : List ℕ) (group : ℕ) (family : Family) (number : ℕ) (destination : End) (spot : PortSpot) → is_spot spot ≡ true → list_any (λ rule. net_rule_matches namespace rule (at_address family number destination spot)) (rules_from_groups lists group) ≡ false
+groups-no_address : (lists : EstateLists) (namespace : List ℕ) (group : ℕ) (family : Family) (number : ℕ) (destination : End) (spot : PortSpot) → is_spot spot ≡ true →
+    list_any (λ rule. net_rule_matches namespace rule (at_address family number destination spot)) (rules_from_groups lists group) ≡ false
 groups-no_address lists namespace group family number destination spot is =
     let contact = at_address family number destination spot in
     any-flat_map (λ (rule : NetRule). net_rule_matches namespace rule contact) (rules_from_group lists group) (places (group_count lists))
-    ∙ any-agree (λ (h : ℕ). list_any (λ rule. net_rule_matches namespace rule contact) (rules_from_group lists group h)) (λ (h : ℕ). false) (places (group_count lists)) (λ h. set-any namespace (group_peer lists h) (set_from lists h group) contact is)
+    ∙ any-agree (λ (h : ℕ). list_any (λ rule. net_rule_matches namespace rule contact) (rules_from_group lists group h)) (λ (h : ℕ). false) (places (group_count lists))
+    (λ h. set-any namespace (group_peer lists h) (set_from lists h group) contact is)
     ∙ any-never (places (group_count lists))
 
 -- ---- the sides of a pod
@@ -199,7 +209,9 @@ has-rules lists group Egress = refl
 abbrev name_of_group : EstateLists → ℕ → List ℕ
 name_of_group lists group = (flat_policy lists group).namespace
 
-side-is : (lists : EstateLists) (p : ℕ) (direction : Direction) (contact : Contact) → p < length lists.pods → side_allows (flattened lists) direction (pod_at lists p) contact ≡ list_any (λ rule. net_rule_matches (name_of_group lists (group_at lists p)) rule contact) (rules_in lists (group_at lists p) direction)
+side-is : (lists : EstateLists) (p : ℕ) (direction : Direction) (contact : Contact) → p < length lists.pods →
+    side_allows (flattened lists) direction (pod_at lists p) contact ≡ list_any (λ rule. net_rule_matches (name_of_group lists (group_at lists p)) rule contact)
+    (rules_in lists (group_at lists p) direction)
 side-is lists p direction contact within =
     side-by_one lists (flat_policy lists) (group_count lists) (group_at lists p) direction (pod_at lists p) contact (rules_in lists (group_at lists p) direction) (group-within lists p within)
     (selects lists (group_at lists p) p ∙ own-pod lists p within)
@@ -207,7 +219,8 @@ side-is lists p direction contact within =
     (has-rules lists (group_at lists p) direction)
 
 -- a pod may send to every pod
-egress-pod : (lists : EstateLists) (p q : ℕ) (destination : End) (family : Family) (spot : PortSpot) → p < length lists.pods → side_allows (flattened lists) Egress (pod_at lists p) (from_pod lists q destination family spot) ≡ true
+egress-pod : (lists : EstateLists) (p q : ℕ) (destination : End) (family : Family) (spot : PortSpot) → p < length lists.pods →
+    side_allows (flattened lists) Egress (pod_at lists p) (from_pod lists q destination family spot) ≡ true
 egress-pod lists p q destination family spot within = side-is lists p Egress (from_pod lists q destination family spot) within
 
 wells : (lists : EstateLists) (group : ℕ) (direction : Direction) → AllByRecursion (λ (row : AddressRow). IsWellSpan row.span) (group_rows lists group direction)
@@ -215,20 +228,23 @@ unfolding address_rows
 wells lists group direction = rows-well ((estate_table lists).addresses (first_of_group lists group) direction)
 
 -- and receive of it what its group may send
-ingress-pod : (lists : EstateLists) (q p : ℕ) (destination : End) (family : Family) (spot : PortSpot) → IsLawful lists → q < length lists.pods → p < length lists.pods → is_spot spot ≡ true → side_allows (flattened lists) Ingress (pod_at lists q) (from_pod lists p destination family spot) ≡ told (set_from lists (group_at lists p) (group_at lists q)) spot
+ingress-pod : (lists : EstateLists) (q p : ℕ) (destination : End) (family : Family) (spot : PortSpot) → IsLawful lists → q < length lists.pods → p < length lists.pods → is_spot spot ≡ true →
+    side_allows (flattened lists) Ingress (pod_at lists q) (from_pod lists p destination family spot) ≡ told (set_from lists (group_at lists p) (group_at lists q)) spot
 ingress-pod lists q p destination family spot lawful q_in p_in is =
     let name = name_of_group lists (group_at lists q) in
     let contact = from_pod lists p destination family spot in
     let rows = group_rows lists (group_at lists q) Ingress in
     side-is lists q Ingress contact q_in
     ∙ list_any-append (λ (rule : NetRule). net_rule_matches name rule contact) (rules_from_groups lists (group_at lists q)) (rules_of_addresses rows)
-    ∙ ap (λ (b : Bool). list_any (λ rule. net_rule_matches name rule contact) (rules_from_groups lists (group_at lists q)) || b) (addresses-no_pod name rows (pod_at lists p) family destination spot (wells lists (group_at lists q) Ingress))
+    ∙ ap (λ (b : Bool). list_any (λ rule. net_rule_matches name rule contact) (rules_from_groups lists (group_at lists q)) || b)
+    (addresses-no_pod name rows (pod_at lists p) family destination spot (wells lists (group_at lists q) Ingress))
     ∙ or_false (list_any (λ rule. net_rule_matches name rule contact) (rules_from_groups lists (group_at lists q)))
     ∙ groups-any lists name (group_at lists q) p destination family spot lawful p_in is
 
 -- ---- addresses
 
-own-rows : (lists : EstateLists) → flat_fault lists ≡ None → (p : ℕ) (direction : Direction) → p < length lists.pods → group_rows lists (group_at lists p) direction ≡ address_rows (estate_table lists) (number_of lists p) direction
+own-rows : (lists : EstateLists) → flat_fault lists ≡ None → (p : ℕ) (direction : Direction) → p < length lists.pods →
+    group_rows lists (group_at lists p) direction ≡ address_rows (estate_table lists) (number_of lists p) direction
 own-rows lists fine p direction within =
     let x = number_of lists p in
     let x_in = number-within lists p within in
@@ -236,28 +252,36 @@ own-rows lists fine p direction within =
     let same = group-rows lists fine (first_of_group lists (group_at lists p)) x first.0 x_in first.1 in
     by direction same
   where
-    by : (d : Direction) → own_rows lists (first_of_group lists (group_at lists p)) ≡ own_rows lists (number_of lists p) → group_rows lists (group_at lists p) d ≡ address_rows (estate_table lists) (number_of lists p) d
+    by : (d : Direction) → own_rows lists (first_of_group lists (group_at lists p)) ≡ own_rows lists (number_of lists p) →
+        group_rows lists (group_at lists p) d ≡ address_rows (estate_table lists) (number_of lists p) d
     by Ingress same = ap (λ (rows : List AddressRow × List AddressRow). rows.0) same
     by Egress same = ap (λ (rows : List AddressRow × List AddressRow). rows.1) same
 
-row-any : (lists : EstateLists) (x : ℕ) (direction : Direction) (family : Family) (number : ℕ) (spot : PortSpot) → IsInFamily family number → is_spot spot ≡ true → list_any (row_tells family number spot) (address_rows (estate_table lists) x direction) ≡ address_allows lists (folding_of lists) x direction family number spot
+row-any : (lists : EstateLists) (x : ℕ) (direction : Direction) (family : Family) (number : ℕ) (spot : PortSpot) → IsInFamily family number → is_spot spot ≡ true →
+    list_any (row_tells family number spot) (address_rows (estate_table lists) x direction) ≡ address_allows lists (folding_of lists) x direction family number spot
 unfolding address_rows table_of
 row-any lists x direction family number spot within is = rows-any (address_allows lists (folding_of lists) x direction) family number spot within is
 
 -- the rules of addresses of a pod's group allow an address what the whole estate does
-addresses-any : (lists : EstateLists) → flat_fault lists ≡ None → (namespace : List ℕ) (p : ℕ) (direction : Direction) (family : Family) (number : ℕ) (destination : End) (spot : PortSpot) → p < length lists.pods → IsInFamily family number → is_spot spot ≡ true → list_any (λ rule. net_rule_matches namespace rule (at_address family number destination spot)) (rules_of_addresses (group_rows lists (group_at lists p) direction)) ≡ address_allows lists (folding_of lists) (number_of lists p) direction family number spot
+addresses-any : (lists : EstateLists) → flat_fault lists ≡ None → (namespace : List ℕ) (p : ℕ) (direction : Direction) (family : Family) (number : ℕ) (destination : End) (spot : PortSpot) →
+    p < length lists.pods → IsInFamily family number → is_spot spot ≡ true →
+    list_any (λ rule. net_rule_matches namespace rule (at_address family number destination spot)) (rules_of_addresses (group_rows lists (group_at lists p) direction)) ≡ address_allows lists
+    (folding_of lists) (number_of lists p) direction family number spot
 addresses-any lists fine namespace p direction family number destination spot within in_family is =
     addresses-permit namespace (group_rows lists (group_at lists p) direction) family number destination spot (wells lists (group_at lists p) direction) is
     ∙ ap (list_any (row_tells family number spot)) (own-rows lists fine p direction within)
     ∙ row-any lists (number_of lists p) direction family number spot in_family is
 
-address-side : (lists : EstateLists) → flat_fault lists ≡ None → (p : ℕ) (direction : Direction) (family : Family) (number : ℕ) (destination : End) (spot : PortSpot) → p < length lists.pods → IsInFamily family number → is_spot spot ≡ true → side_allows (flattened lists) direction (pod_at lists p) (at_address family number destination spot) ≡ address_allows lists (folding_of lists) (number_of lists p) direction family number spot
+address-side : (lists : EstateLists) → flat_fault lists ≡ None → (p : ℕ) (direction : Direction) (family : Family) (number : ℕ) (destination : End) (spot : PortSpot) → p < length lists.pods →
+    IsInFamily family number → is_spot spot ≡ true →
+    side_allows (flattened lists) direction (pod_at lists p) (at_address family number destination spot) ≡ address_allows lists (folding_of lists) (number_of lists p) direction family number spot
 address-side lists fine p Ingress family number destination spot within in_family is =
     let name = name_of_group lists (group_at lists p) in
     let contact = at_address family number destination spot in
     side-is lists p Ingress contact within
     ∙ list_any-append (λ (rule : NetRule). net_rule_matches name rule contact) (rules_from_groups lists (group_at lists p)) (rules_of_addresses (group_rows lists (group_at lists p) Ingress))
-    ∙ ap (λ (b : Bool). b || list_any (λ rule. net_rule_matches name rule contact) (rules_of_addresses (group_rows lists (group_at lists p) Ingress))) (groups-no_address lists name (group_at lists p) family number destination spot is)
+    ∙ ap (λ (b : Bool). b || list_any (λ rule. net_rule_matches name rule contact) (rules_of_addresses (group_rows lists (group_at lists p) Ingress)))
+    (groups-no_address lists name (group_at lists p) family number destination spot is)
     ∙ addresses-any lists fine name p Ingress family number destination spot within in_family is
 address-side lists fine p Egress family number destination spot within in_family is =
     let name = name_of_group lists (group_at lists p) in
@@ -268,7 +292,9 @@ address-side lists fine p Egress family number destination spot within in_family
 -- ---- packets
 
 -- between a pod and an address the flat policies allow what the whole estate does
-pub addresses-same : (lists : EstateLists) (p : ℕ) (direction : Direction) (family : Family) (number : ℕ) (spot : PortSpot) → IsLawful lists → flat_fault lists ≡ None → p < length lists.pods → IsInFamily family number → is_spot spot ≡ true → with_address (flattened lists) direction (pod (pod_at lists p)) family number spot ≡ with_address lists direction (pod (pod_at lists p)) family number spot
+pub addresses-same : (lists : EstateLists) (p : ℕ) (direction : Direction) (family : Family) (number : ℕ) (spot : PortSpot) → IsLawful lists → flat_fault lists ≡ None → p < length lists.pods →
+    IsInFamily family number → is_spot spot ≡ true →
+    with_address (flattened lists) direction (pod (pod_at lists p)) family number spot ≡ with_address lists direction (pod (pod_at lists p)) family number spot
 unfolding allows
 addresses-same lists p direction family number spot lawful fine within in_family is =
     flat direction ∙ sym (with_address-address_allows lists p direction family number spot lawful within)
@@ -288,7 +314,8 @@ unfolding set_in
 set-has lists family x y spot is = has_spot-conns_of (pair_allows lists (folding_of lists) x y family) spot is
 
 -- and between two pods
-pub pods-same : (lists : EstateLists) (p q : ℕ) (family : Family) (spot : PortSpot) → IsLawful lists → flat_fault lists ≡ None → p < length lists.pods → q < length lists.pods → p ≢ q → Contains (families_of lists.pods) family → is_spot spot ≡ true → between_pods (flattened lists) p q family spot ≡ between_pods lists p q family spot
+pub pods-same : (lists : EstateLists) (p q : ℕ) (family : Family) (spot : PortSpot) → IsLawful lists → flat_fault lists ≡ None → p < length lists.pods → q < length lists.pods → p ≢ q →
+    Contains (families_of lists.pods) family → is_spot spot ≡ true → between_pods (flattened lists) p q family spot ≡ between_pods lists p q family spot
 unfolding allows
 pods-same lists p q family spot lawful fine p_in q_in apart listed is =
     let x = number_of lists p in
@@ -296,7 +323,8 @@ pods-same lists p q family spot lawful fine p_in q_in apart listed is =
     let x_in = number-within lists p p_in in
     let y_in = number-within lists q q_in in
     let defined : is_defined lists x y ≡ true = ap not (not-alone (folding_of lists) x y p q (own-member lists p p_in) (own-member lists q q_in) apart) in
-    let sides : (side_allows (flattened lists) Egress (pod_at lists p) (from_pod lists q (pod (pod_at lists q)) family spot) && side_allows (flattened lists) Ingress (pod_at lists q) (from_pod lists p (pod (pod_at lists q)) family spot)) ≡ told (set_from lists (group_at lists p) (group_at lists q)) spot
+    let sides : (side_allows (flattened lists) Egress (pod_at lists p) (from_pod lists q (pod (pod_at lists q)) family spot) && side_allows (flattened lists) Ingress (pod_at lists q)
+    (from_pod lists p (pod (pod_at lists q)) family spot)) ≡ told (set_from lists (group_at lists p) (group_at lists q)) spot
     = rw (egress-pod lists p q (pod (pod_at lists q)) family spot p_in) (ingress-pod lists q p (pod (pod_at lists q)) family spot lawful q_in p_in is) in
     sides
     ∙ ap (λ (o : Option Conns). told o spot) (set_from-is lists fine x y x_in y_in defined)

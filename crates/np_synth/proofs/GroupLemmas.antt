@@ -21,7 +21,7 @@ use Rattle.np_fold.specs.Order.{compare_traits}
 use Rattle.np_fold.specs.Traits.{label_of}
 use Rattle.np_fold.specs.declared.traits.Traits.{Traits}
 use Rattle.np_labels.specs.Labels.{value_of}
-use Rattle.np_rules.specs.Ends.{PodEnd}
+use Rattle.np_rules.specs.model.Ends.{PodEnd}
 use Rattle.np_synth.specs.Groups.{are_together, group_firsts, group_of, have_same_value, look_alike, relevant}
 use Rattle.np_table.specs.PairRules.{first_end}
 use Rattle.np_synth.specs.steps.Seen.{seen, seen_at}
@@ -76,11 +76,13 @@ unfolding are_together
 together-is lists count = record {
   itself = λ a _. (look_decides (relevant lists) (first_end lists a) (first_end lists a)).1 refl;
   both_ways = λ a b _ _ tied. (look_decides (relevant lists) (first_end lists b) (first_end lists a)).1 (sym ((look_decides (relevant lists) (first_end lists a) (first_end lists b)).0 tied));
-  onward = λ a b c _ _ _ near far. (look_decides (relevant lists) (first_end lists a) (first_end lists c)).1 ((look_decides (relevant lists) (first_end lists a) (first_end lists b)).0 near ∙ (look_decides (relevant lists) (first_end lists b) (first_end lists c)).0 far);
+  onward = λ a b c _ _ _ near far. (look_decides (relevant lists) (first_end lists a) (first_end lists c)).1
+      ((look_decides (relevant lists) (first_end lists a) (first_end lists b)).0 near ∙ (look_decides (relevant lists) (first_end lists b) (first_end lists c)).0 far);
 }
 
 -- what is seen of workloads ties where they are of one group
-seen_ties : (lists : EstateLists) (a b : ℕ) → a < number_of_workloads lists → b < number_of_workloads lists → keys_tie compare_traits (map (seen_at lists) (places (number_of_workloads lists))) a b ≡ are_together lists a b
+seen_ties : (lists : EstateLists) (a b : ℕ) → a < number_of_workloads lists → b < number_of_workloads lists →
+    keys_tie compare_traits (map (seen_at lists) (places (number_of_workloads lists))) a b ≡ are_together lists a b
 unfolding are_together
 seen_ties lists a b a_in b_in =
     rw (get-map (seen_at lists) (number_of_workloads lists) a a_in, get-map (seen_at lists) (number_of_workloads lists) b b_in)
@@ -90,13 +92,15 @@ pub seen-count : (lists : EstateLists) → length (map (seen_at lists) (places (
 seen-count lists = length-map (places (number_of_workloads lists)) (seen_at lists) ∙ length-range_with_len 0 (number_of_workloads lists)
 
 -- so their classes are the groups
-pub classes-firsts : (lists : EstateLists) (made : List Traits) → made ≡ map (seen_at lists) (places (number_of_workloads lists)) → firsts (keys_tie compare_traits made) (length made) ≡ group_firsts lists
+pub classes-firsts : (lists : EstateLists) (made : List Traits) → made ≡ map (seen_at lists) (places (number_of_workloads lists)) →
+    firsts (keys_tie compare_traits made) (length made) ≡ group_firsts lists
 classes-firsts lists made is =
     ap (λ (all : List Traits). firsts (keys_tie compare_traits all) (length all)) is
     ∙ ap (firsts (keys_tie compare_traits (map (seen_at lists) (places (number_of_workloads lists))))) (seen-count lists)
     ∙ firsts_agree (keys_tie compare_traits (map (seen_at lists) (places (number_of_workloads lists)))) (are_together lists) (number_of_workloads lists) (seen_ties lists)
 
-pub classes-numbers : (lists : EstateLists) (made : List Traits) → made ≡ map (seen_at lists) (places (number_of_workloads lists)) → map (class_of (keys_tie compare_traits made) (length made)) (places (length made)) ≡ map (group_of lists) (places (number_of_workloads lists))
+pub classes-numbers : (lists : EstateLists) (made : List Traits) → made ≡ map (seen_at lists) (places (number_of_workloads lists)) →
+    map (class_of (keys_tie compare_traits made) (length made)) (places (length made)) ≡ map (group_of lists) (places (number_of_workloads lists))
 classes-numbers lists made is =
     let of : List Traits → List ℕ = λ all. map (class_of (keys_tie compare_traits all) (length all)) (places (length all)) in
     let by : ℕ → List ℕ = λ n. map (class_of (keys_tie compare_traits (map (seen_at lists) (places (number_of_workloads lists)))) n) (places n) in

@@ -21,8 +21,8 @@ use Rattle.np_labels.specs.Labels.{value_of}
 use Rattle.np_labels.specs.Selectors.{is_listed}
 use Rattle.np_model.specs.declared.direction.Direction.{Direction}
 use Rattle.np_model.specs.declared.direction.Direction.TheVariants.{Egress, Ingress}
-use Rattle.np_rules.specs.Ends.{pod, pod_end}
-use Rattle.np_rules.specs.Verdict.{pod_at, pod_or_none}
+use Rattle.np_rules.specs.model.Ends.{pod, pod_end}
+use Rattle.np_rules.specs.model.Verdict.{pod_at, pod_or_none}
 use Rattle.np_synth.proofs.AgreeLemmas.{least-first_pair}
 use Rattle.np_synth.proofs.ClassFirsts.{class_first, first-in, first-listed, first-low, first-same, first-twice, first-class, same-first}
 use Rattle.np_synth.proofs.DifferLemmas.{apart-defined, from_agree, own_rows, to_agree}
@@ -109,28 +109,35 @@ not_alone : (b : Bool) → not b ≡ true → b ≡ false
 not_alone true is = let never : false ≡ true = is in absurd (cc)
 not_alone false is = refl
 
-by-kinds : (lists : EstateLists) → IsLawful lists → (x x' y y' : ℕ) → x < number_of_workloads lists → x' < number_of_workloads lists → y < number_of_workloads lists → y' < number_of_workloads lists → kind lists x ≡ kind lists x' → kind lists y ≡ kind lists y' → is_defined lists x y ≡ true → is_defined lists x' y' ≡ true → set_of lists x y ≡ set_of lists x' y'
+by-kinds : (lists : EstateLists) → IsLawful lists → (x x' y y' : ℕ) → x < number_of_workloads lists → x' < number_of_workloads lists → y < number_of_workloads lists → y' < number_of_workloads lists →
+    kind lists x ≡ kind lists x' → kind lists y ≡ kind lists y' → is_defined lists x y ≡ true → is_defined lists x' y' ≡ true → set_of lists x y ≡ set_of lists x' y'
 unfolding set_in
 by-kinds lists lawful x x' y y' x_in x'_in y_in y'_in near far is is' =
     conns_of-agrees _ _ (λ spot _.
     pair_allows-kinds lists x x' y y' (family_of_list lists) spot lawful (in_count lists x x_in) (in_count lists x' x'_in) (in_count lists y y_in) (in_count lists y' y'_in) near far
     (not_alone (is_alone (folding_of lists) x y) is) (not_alone (is_alone (folding_of lists) x' y') is'))
 
-address-same : (lists : EstateLists) (x x' : ℕ) (direction : Direction) (family : Family) (number : ℕ) (spot : PortSpot) → IsLawful lists → x < workload_count lists → x' < workload_count lists → kind lists x ≡ kind lists x' → address_allows lists (folding_of lists) x direction family number spot ≡ address_allows lists (folding_of lists) x' direction family number spot
+address-same : (lists : EstateLists) (x x' : ℕ) (direction : Direction) (family : Family) (number : ℕ) (spot : PortSpot) → IsLawful lists → x < workload_count lists → x' < workload_count lists →
+    kind lists x ≡ kind lists x' → address_allows lists (folding_of lists) x direction family number spot ≡ address_allows lists (folding_of lists) x' direction family number spot
 unfolding address_allows
 address-same lists x x' direction family number spot lawful x_in x'_in same =
-    with_address-same lists direction (pod (pod_at lists (source_pod (folding_of lists) x))) (pod (pod_at lists (source_pod (folding_of lists) x'))) family number spot (one_kind-sources lists x x' lawful x_in x'_in same)
+    with_address-same lists direction (pod (pod_at lists (source_pod (folding_of lists) x))) (pod (pod_at lists (source_pod (folding_of lists) x'))) family number spot
+    (one_kind-sources lists x x' lawful x_in x'_in same)
 
-rows-same : (lists : EstateLists) (x x' : ℕ) (direction : Direction) → IsLawful lists → x < workload_count lists → x' < workload_count lists → kind lists x ≡ kind lists x' → address_rows (estate_table lists) x direction ≡ address_rows (estate_table lists) x' direction
+rows-same : (lists : EstateLists) (x x' : ℕ) (direction : Direction) → IsLawful lists → x < workload_count lists → x' < workload_count lists → kind lists x ≡ kind lists x' →
+    address_rows (estate_table lists) x direction ≡ address_rows (estate_table lists) x' direction
 unfolding address_rows table_of
 rows-same lists x x' direction lawful x_in x'_in same =
     let passes : ℕ → Family → ℕ → PortSpot → Bool = λ w. address_allows lists (folding_of lists) w direction in
-    let four : walk (passes x Four) 0 (2 ^ 32 - 1) ≡ walk (passes x' Four) 0 (2 ^ 32 - 1) = walk-agrees (passes x Four) (passes x' Four) 0 (2 ^ 32 - 1) (lit≤ tt) (λ n spot _ _ _. address-same lists x x' direction Four n spot lawful x_in x'_in same) in
-    let six : walk (passes x Six) 0 (2 ^ 128 - 1) ≡ walk (passes x' Six) 0 (2 ^ 128 - 1) = walk-agrees (passes x Six) (passes x' Six) 0 (2 ^ 128 - 1) (lit≤ tt) (λ n spot _ _ _. address-same lists x x' direction Six n spot lawful x_in x'_in same) in
+    let four : walk (passes x Four) 0 (2 ^ 32 - 1) ≡ walk (passes x' Four) 0 (2 ^ 32 - 1) = walk-agrees (passes x Four) (passes x' Four) 0 (2 ^ 32 - 1) (lit≤ tt)
+    (λ n spot _ _ _. address-same lists x x' direction Four n spot lawful x_in x'_in same) in
+    let six : walk (passes x Six) 0 (2 ^ 128 - 1) ≡ walk (passes x' Six) 0 (2 ^ 128 - 1) = walk-agrees (passes x Six) (passes x' Six) 0 (2 ^ 128 - 1) (lit≤ tt)
+    (λ n spot _ _ _. address-same lists x x' direction Six n spot lawful x_in x'_in same) in
     ap (λ (stretches : List Stretch). map (address_row four_of) stretches ++ map (address_row six_of) (walk (passes x Six) 0 (2 ^ 128 - 1))) four
     ∙ ap (λ (stretches : List Stretch). map (address_row four_of) (walk (passes x' Four) 0 (2 ^ 32 - 1)) ++ map (address_row six_of) stretches) six
 
-own-by_kinds : (lists : EstateLists) → IsLawful lists → (x x' : ℕ) → x < number_of_workloads lists → x' < number_of_workloads lists → kind lists x ≡ kind lists x' → own_rows lists x ≡ own_rows lists x'
+own-by_kinds : (lists : EstateLists) → IsLawful lists → (x x' : ℕ) → x < number_of_workloads lists → x' < number_of_workloads lists → kind lists x ≡ kind lists x' →
+    own_rows lists x ≡ own_rows lists x'
 own-by_kinds lists lawful x x' x_in x'_in same =
     ap (λ (rows : List AddressRow). (rows, address_rows (estate_table lists) x Egress)) (rows-same lists x x' Ingress lawful (in_count lists x x_in) (in_count lists x' x'_in) same)
     ∙ ap (λ (rows : List AddressRow). (address_rows (estate_table lists) x' Ingress, rows)) (rows-same lists x x' Egress lawful (in_count lists x x_in) (in_count lists x' x'_in) same)
@@ -142,7 +149,8 @@ unfolding folding_of
 kind-listed lists P all w within = first-listed (kinds_alike lists) (workload_count lists) (kinds-is lists) P all w (in_count lists w within)
 
 -- the least pair among the firsts of kinds is the first of all pairs of one group that differ
-pub unlike-first : (lists : EstateLists) (found : Option (ℕ × ℕ)) → IsLawful lists → IsLeastUnlike lists (folding_of lists).first_of_kinds found → found ≡ first_pair (is_unlike lists) (number_of_workloads lists)
+pub unlike-first : (lists : EstateLists) (found : Option (ℕ × ℕ)) → IsLawful lists → IsLeastUnlike lists (folding_of lists).first_of_kinds found →
+    found ≡ first_pair (is_unlike lists) (number_of_workloads lists)
 unlike-first lists found lawful is =
     let n = number_of_workloads lists in
     let wc = workload_count lists in

@@ -1,5 +1,6 @@
 -- One more number, and the least pair.
-use Rattle.std.proofs.Common.{◌≡◌, ◌≢◌, ◌⊎◌, ℕ, ◌<◌, List, [], ◌∷◌, ◌++◌, Bool, true, false, not, ◌&&◌, ◌==◌, nat_lt, if◌then◌else◌, All, Option, Some, None, refl, sym, ap, ◌∙◌, inl, inr, arith, eq-eqb}
+use Rattle.std.proofs.Common.{◌≡◌, ◌≢◌, ◌⊎◌, ℕ, ◌<◌, List, [], ◌∷◌, ◌++◌, Bool, true, false, not, ◌&&◌, ◌==◌, nat_lt, if◌then◌else◌, All, Option, Some, None, refl, sym, ap, ◌∙◌, inl, inr, arith}
+use Rattle.std.proofs.Common.{eq-eqb}
 use Rattle.std.proofs.lemmas.Bool.{and_cases, and_from, and_parts, eqb-true, false_from_ne_true, lt-ltb, ltb-true, or_cases, or_left, or_right, true≢false}
 use Rattle.std.proofs.lemmas.List.Elements.{All-append, All-cons, All-nil, All-weaker}
 use Rattle.np_synth.specs.steps.Least.{IsLeast, IsLike, IsNotBefore, comes_before, stands_before, with_number}
@@ -79,7 +80,8 @@ module _ (count : ℕ) (first : ℕ → ℕ) (differ : ℕ → ℕ → Bool) (xs
   comes-apart found is same = true≢false (sym (apart_of found is) ∙ ap not (eq-eqb (first w) w same))
 
   -- one that comes before and differs
-  pub least-found : (found : Option (ℕ × ℕ)) → w < count → IsLeast count first differ xs found → comes_before (first w) w found ≡ true → differ (first w) w ≡ true → IsLeast count first differ (xs ++ w ∷ []) (Some (first w, w))
+  pub least-found : (found : Option (ℕ × ℕ)) → w < count → IsLeast count first differ xs found → comes_before (first w) w found ≡ true → differ (first w) w ≡ true →
+      IsLeast count first differ (xs ++ w ∷ []) (Some (first w, w))
   least-found found within least is differs = (
     record { within = within; of_group = refl; apart = comes-apart found is; differ_so = differs },
     more (IsNotBefore first differ (first w, w)) (others found least is) (inr (own-not (first w) w)),
@@ -99,7 +101,8 @@ module _ (count : ℕ) (first : ℕ → ℕ) (differ : ℕ → ℕ → Bool) (xs
   pub least-more : (found : Option (ℕ × ℕ)) → w < count → IsLeast count first differ xs found → IsLeast count first differ (xs ++ w ∷ []) (with_number differ (first w) w found)
   least-more found within least = by (comes_before (first w) w found) (differ (first w) w) refl refl
     where
-      by : (comes differs : Bool) → comes_before (first w) w found ≡ comes → differ (first w) w ≡ differs → IsLeast count first differ (xs ++ w ∷ []) (if comes && differs then Some (first w, w) else found)
+      by : (comes differs : Bool) → comes_before (first w) w found ≡ comes → differ (first w) w ≡ differs →
+          IsLeast count first differ (xs ++ w ∷ []) (if comes && differs then Some (first w, w) else found)
       by true true is is' = least-found found within least is is'
       by true false is is' = least-like found least is'
       by false differs is is' = least-skip found least is

@@ -10,12 +10,12 @@ use Rattle.np_model.specs.declared.lists.EstateLists.{EstateLists}
 use Rattle.np_model.specs.declared.direction.Direction.{Direction}
 use Rattle.np_model.specs.declared.network_policy.NetPolicy.{NetPolicy}
 use Rattle.np_model.specs.declared.network_policy.NetRule.{NetRule}
-use Rattle.np_rules.specs.Ends.{Contact, PodEnd}
-use Rattle.np_rules.specs.NetTier.{is_isolated, isolates, permits, placed_net_matches}
-use Rattle.np_rules.specs.Places.{net_places_of, net_rules_of}
-use Rattle.np_rules.specs.Rules.{net_rule_matches}
-use Rattle.np_rules.specs.Selection.{net_selects}
-use Rattle.np_rules.specs.Sides.{side_allows}
+use Rattle.np_rules.specs.model.Ends.{Contact, PodEnd}
+use Rattle.np_rules.specs.model.NetTier.{is_isolated, isolates, permits, placed_net_matches}
+use Rattle.np_rules.specs.model.Places.{net_places_of, net_rules_of}
+use Rattle.np_rules.specs.model.Rules.{net_rule_matches}
+use Rattle.np_rules.specs.model.Selection.{net_selects}
+use Rattle.np_rules.specs.model.Sides.{side_allows}
 
 -- ---- tests of some item
 
@@ -44,7 +44,9 @@ only-one p n g within others =
 
 -- ---- rules of a policy
 
-any-numbered : (contact : Contact) (policy : NetPolicy) (from : ℕ) (rules : List NetRule) → list_any (placed_net_matches contact) (map (λ numbered. record { policy = policy; place = numbered.0; rule = numbered.1 }) (enumerate_from from rules)) ≡ list_any (λ rule. net_rule_matches policy.namespace rule contact) rules
+any-numbered : (contact : Contact) (policy : NetPolicy) (from : ℕ) (rules : List NetRule) →
+    list_any (placed_net_matches contact) (map (λ numbered. record { policy = policy; place = numbered.0; rule = numbered.1 }) (enumerate_from from rules)) ≡ list_any
+    (λ rule. net_rule_matches policy.namespace rule contact) rules
 any-numbered contact policy from [] = refl
 any-numbered contact policy from (rule ∷ rules) = ap (λ (b : Bool). net_rule_matches policy.namespace rule contact || b) (any-numbered contact policy (from + 1) rules)
 
@@ -52,10 +54,13 @@ any-numbered contact policy from (rule ∷ rules) = ap (λ (b : Bool). net_rule_
 abbrev policy_permits : Direction → PodEnd → Contact → NetPolicy → Bool
 policy_permits direction p contact policy = if net_selects policy p then list_any (λ rule. net_rule_matches policy.namespace rule contact) (unwrap_or (net_rules_of direction policy) []) else false
 
-any-selected : (direction : Direction) (p : PodEnd) (contact : Contact) (policy : NetPolicy) → list_any (placed_net_matches contact) (if net_selects policy p then net_places_of direction policy else []) ≡ policy_permits direction p contact policy
+any-selected : (direction : Direction) (p : PodEnd) (contact : Contact) (policy : NetPolicy) →
+    list_any (placed_net_matches contact) (if net_selects policy p then net_places_of direction policy else []) ≡ policy_permits direction p contact policy
 any-selected direction p contact policy = by (net_selects policy p)
   where
-    by : (selects : Bool) → list_any (placed_net_matches contact) (if selects then net_places_of direction policy else []) ≡ (if selects then list_any (λ rule. net_rule_matches policy.namespace rule contact) (unwrap_or (net_rules_of direction policy) []) else false)
+    by : (selects : Bool) →
+        list_any (placed_net_matches contact) (if selects then net_places_of direction policy else []) ≡
+        (if selects then list_any (λ rule. net_rule_matches policy.namespace rule contact) (unwrap_or (net_rules_of direction policy) []) else false)
     by true = any-numbered contact policy 0 (unwrap_or (net_rules_of direction policy) [])
     by false = refl
 
@@ -66,18 +71,23 @@ any-agree p q (x ∷ xs) same = rw (same x, any-agree p q xs same) refl
 permits-any : (policies : List NetPolicy) (direction : Direction) (p : PodEnd) (contact : Contact) → permits policies direction p contact ≡ list_any (policy_permits direction p contact) policies
 permits-any policies direction p contact =
     any-flat_map (placed_net_matches contact) (λ policy. if net_selects policy p then net_places_of direction policy else []) policies
-    ∙ any-agree (λ policy. list_any (placed_net_matches contact) (if net_selects policy p then net_places_of direction policy else [])) (policy_permits direction p contact) policies (any-selected direction p contact)
+    ∙ any-agree (λ policy. list_any (placed_net_matches contact) (if net_selects policy p then net_places_of direction policy else [])) (policy_permits direction p contact) policies
+    (any-selected direction p contact)
 
 -- ---- one policy that selects
 
 -- The side of a pod that one policy of a list selects, and no other, allows what some rule of that policy matches.
-pub side-by_one : (lists : EstateLists) (policy : ℕ → NetPolicy) (n g : ℕ) (direction : Direction) (p : PodEnd) (contact : Contact) (rules : List NetRule) → g < n → net_selects (policy g) p ≡ true → ((h : ℕ) → h < n → h ≢ g → net_selects (policy h) p ≡ false) → net_rules_of direction (policy g) ≡ Some rules
-    → side_allows (record lists { net_policies = map policy (places n); admin_policies = []; baseline = None }) direction p contact ≡ list_any (λ rule. net_rule_matches (policy g).namespace rule contact) rules
+pub side-by_one : (lists : EstateLists) (policy : ℕ → NetPolicy) (n g : ℕ) (direction : Direction) (p : PodEnd) (contact : Contact) (rules : List NetRule) → g < n → net_selects (policy g) p ≡ true →
+    ((h : ℕ) → h < n → h ≢ g → net_selects (policy h) p ≡ false) → net_rules_of direction (policy g) ≡ Some rules
+    → side_allows (record lists { net_policies = map policy (places n); admin_policies = []; baseline = None }) direction p contact ≡ list_any
+    (λ rule. net_rule_matches (policy g).namespace rule contact) rules
 unfolding side_allows
 side-by_one lists policy n g direction p contact rules within selects others has =
     rw isolated (permits-any (map policy (places n)) direction p contact
     ∙ any-map (policy_permits direction p contact) policy (places n)
-    ∙ only-one (λ h. policy_permits direction p contact (policy h)) n g within (λ h below apart. ap (λ (b : Bool). if b then list_any (λ rule. net_rule_matches (policy h).namespace rule contact) (unwrap_or (net_rules_of direction (policy h)) []) else false) (others h below apart))
+    ∙ only-one (λ h. policy_permits direction p contact (policy h)) n g within
+    (λ h below apart. ap (λ (b : Bool). if b then list_any (λ rule. net_rule_matches (policy h).namespace rule contact) (unwrap_or (net_rules_of direction (policy h)) []) else false)
+    (others h below apart))
     ∙ ap (λ (b : Bool). if b then list_any (λ rule. net_rule_matches (policy g).namespace rule contact) (unwrap_or (net_rules_of direction (policy g)) []) else false) selects
     ∙ ap (λ (o : Option (List NetRule)). list_any (λ rule. net_rule_matches (policy g).namespace rule contact) (unwrap_or o [])) has)
   where

@@ -11,9 +11,9 @@ use Rattle.np_conns.specs.declared.port_spot.PortSpot.{PortSpot}
 use Rattle.np_conns.specs.declared.proto.Proto.{Proto}
 use Rattle.np_conns.specs.declared.proto.Proto.TheVariants.{Tcp, Udp, Sctp}
 use Rattle.np_model.specs.declared.network_policy.NetPort.{NetPort}
-use Rattle.np_rules.specs.Ends.{End}
-use Rattle.np_rules.specs.PortEntries.{net_entry_matches}
-use Rattle.np_rules.specs.Rules.{none_or_any}
+use Rattle.np_rules.specs.model.Ends.{End}
+use Rattle.np_rules.specs.model.PortEntries.{net_entry_matches}
+use Rattle.np_rules.specs.model.Rules.{none_or_any}
 use Rattle.np_synth.specs.Ports.{ports_of, span_of, spans_of_all}
 use Rattle.np_table.specs.Rows.{is_none, is_nothing}
 
@@ -40,11 +40,13 @@ spans-some conns some =
 
 -- ---- the spans of one protocol
 
-own-spans : (proto : Proto) (runs : List (Range ℕ)) (destination : End) (spot : PortSpot) → same_proto spot.proto proto ≡ true → list_any (λ entry. net_entry_matches entry destination spot) (map (span_of proto) runs) ≡ holds (λ port. port) runs spot.port
+own-spans : (proto : Proto) (runs : List (Range ℕ)) (destination : End) (spot : PortSpot) → same_proto spot.proto proto ≡ true →
+    list_any (λ entry. net_entry_matches entry destination spot) (map (span_of proto) runs) ≡ holds (λ port. port) runs spot.port
 own-spans proto [] destination spot same = refl
 own-spans proto (run ∷ runs) destination spot same = rw (same, own-spans proto runs destination spot same) refl
 
-other-spans : (proto : Proto) (runs : List (Range ℕ)) (destination : End) (spot : PortSpot) → same_proto spot.proto proto ≡ false → list_any (λ entry. net_entry_matches entry destination spot) (map (span_of proto) runs) ≡ false
+other-spans : (proto : Proto) (runs : List (Range ℕ)) (destination : End) (spot : PortSpot) → same_proto spot.proto proto ≡ false →
+    list_any (λ entry. net_entry_matches entry destination spot) (map (span_of proto) runs) ≡ false
 other-spans proto [] destination spot apart = refl
 other-spans proto (run ∷ runs) destination spot apart = rw (apart, other-spans proto runs destination spot apart) refl
 
@@ -55,20 +57,35 @@ or_false false = refl
 all-spans : (conns : Conns) (destination : End) (spot : PortSpot) → list_any (λ entry. net_entry_matches entry destination spot) (spans_of_all conns) ≡ has_spot conns spot
 all-spans conns destination spot =
     list_any-append (λ (entry : NetPort). net_entry_matches entry destination spot) (map (span_of Tcp) conns.tcp ++ map (span_of Udp) conns.udp) (map (span_of Sctp) conns.sctp)
-    ∙ ap (λ (b : Bool). b || list_any (λ entry. net_entry_matches entry destination spot) (map (span_of Sctp) conns.sctp)) (list_any-append (λ (entry : NetPort). net_entry_matches entry destination spot) (map (span_of Tcp) conns.tcp) (map (span_of Udp) conns.udp))
+    ∙ ap (λ (b : Bool). b || list_any (λ entry. net_entry_matches entry destination spot) (map (span_of Sctp) conns.sctp))
+    (list_any-append (λ (entry : NetPort). net_entry_matches entry destination spot) (map (span_of Tcp) conns.tcp) (map (span_of Udp) conns.udp))
     ∙ by spot.proto
   where
     by : (proto : Proto)
-        → ((list_any (λ entry. net_entry_matches entry destination (record { proto = proto; port = spot.port })) (map (span_of Tcp) conns.tcp) || list_any (λ entry. net_entry_matches entry destination (record { proto = proto; port = spot.port })) (map (span_of Udp) conns.udp)) || list_any (λ entry. net_entry_matches entry destination (record { proto = proto; port = spot.port })) (map (span_of Sctp) conns.sctp))
+        → ((list_any (λ entry. net_entry_matches entry destination (record { proto = proto; port = spot.port })) (map (span_of Tcp) conns.tcp) || list_any
+        (λ entry. net_entry_matches entry destination (record { proto = proto; port = spot.port })) (map (span_of Udp) conns.udp)) || list_any
+        (λ entry. net_entry_matches entry destination (record { proto = proto; port = spot.port })) (map (span_of Sctp) conns.sctp))
         ≡ has_spot conns (record { proto = proto; port = spot.port })
     by Tcp =
-        rw (own-spans Tcp conns.tcp destination (record { proto = Tcp; port = spot.port }) refl, other-spans Udp conns.udp destination (record { proto = Tcp; port = spot.port }) refl, other-spans Sctp conns.sctp destination (record { proto = Tcp; port = spot.port }) refl)
+        rw (
+          own-spans Tcp conns.tcp destination (record { proto = Tcp; port = spot.port }) refl,
+          other-spans Udp conns.udp destination (record { proto = Tcp; port = spot.port }) refl,
+          other-spans Sctp conns.sctp destination (record { proto = Tcp; port = spot.port }) refl,
+        )
         (or_false (holds (λ port. port) conns.tcp spot.port || false) ∙ or_false (holds (λ port. port) conns.tcp spot.port))
     by Udp =
-        rw (other-spans Tcp conns.tcp destination (record { proto = Udp; port = spot.port }) refl, own-spans Udp conns.udp destination (record { proto = Udp; port = spot.port }) refl, other-spans Sctp conns.sctp destination (record { proto = Udp; port = spot.port }) refl)
+        rw (
+          other-spans Tcp conns.tcp destination (record { proto = Udp; port = spot.port }) refl,
+          own-spans Udp conns.udp destination (record { proto = Udp; port = spot.port }) refl,
+          other-spans Sctp conns.sctp destination (record { proto = Udp; port = spot.port }) refl,
+        )
         (or_false (holds (λ port. port) conns.udp spot.port))
     by Sctp =
-        rw (other-spans Tcp conns.tcp destination (record { proto = Sctp; port = spot.port }) refl, other-spans Udp conns.udp destination (record { proto = Sctp; port = spot.port }) refl, own-spans Sctp conns.sctp destination (record { proto = Sctp; port = spot.port }) refl)
+        rw (
+          other-spans Tcp conns.tcp destination (record { proto = Sctp; port = spot.port }) refl,
+          other-spans Udp conns.udp destination (record { proto = Sctp; port = spot.port }) refl,
+          own-spans Sctp conns.sctp destination (record { proto = Sctp; port = spot.port }) refl,
+        )
         refl
 
 -- ---- the whole space
@@ -96,10 +113,12 @@ whole-has conns spot is whole = by spot.proto
     by Sctp = whole-holds conns.sctp spot is outer.1
 
 -- the ports of a set that is not empty match the spots of the set
-pub ports-match : (conns : Conns) (destination : End) (spot : PortSpot) → is_spot spot ≡ true → is_nothing conns ≡ false → none_or_any (λ entry. net_entry_matches entry destination spot) (ports_of conns) ≡ has_spot conns spot
+pub ports-match : (conns : Conns) (destination : End) (spot : PortSpot) → is_spot spot ≡ true → is_nothing conns ≡ false →
+    none_or_any (λ entry. net_entry_matches entry destination spot) (ports_of conns) ≡ has_spot conns spot
 ports-match conns destination spot is some = by (is_whole conns.tcp && is_whole conns.udp && is_whole conns.sctp) refl
   where
-    by : (whole : Bool) → (is_whole conns.tcp && is_whole conns.udp && is_whole conns.sctp) ≡ whole → none_or_any (λ entry. net_entry_matches entry destination spot) (if whole then [] else spans_of_all conns) ≡ has_spot conns spot
+    by : (whole : Bool) → (is_whole conns.tcp && is_whole conns.udp && is_whole conns.sctp) ≡ whole →
+        none_or_any (λ entry. net_entry_matches entry destination spot) (if whole then [] else spans_of_all conns) ≡ has_spot conns spot
     by true whole = sym (whole-has conns spot is whole)
     by false partial =
         none_or_any-some (λ (entry : NetPort). net_entry_matches entry destination spot) (spans_of_all conns) (spans-some conns some)

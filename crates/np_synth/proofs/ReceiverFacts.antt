@@ -1,5 +1,6 @@
 -- The workload of a group that stands for it as one that receives.
-use Rattle.std.proofs.Common.{◌≡◌, ◌≢◌, ℕ, ◌+◌, ◌-◌, ◌<◌, ◌≤◌, List, [], ◌∷◌, ◌++◌, All, Bool, true, false, not, ◌&&◌, ◌==◌, Option, Some, None, flat_map, slice_index, refl, sym, ap, subst, ◌∙◌, inl, inr, arith, eq-eqb, if◌then◌else◌}
+use Rattle.std.proofs.Common.{◌≡◌, ◌≢◌, ℕ, ◌+◌, ◌-◌, ◌<◌, ◌≤◌, List, [], ◌∷◌, ◌++◌, All, Bool, true, false, not, ◌&&◌, ◌==◌, Option, Some, None, flat_map, slice_index, refl, sym, ap, subst, ◌∙◌, inl}
+use Rattle.std.proofs.Common.{inr, arith, eq-eqb, if◌then◌else◌}
 use Rattle.std.specs.Prelude.{is_some, option_map}
 use Rattle.std.proofs.lemmas.Bool.{and_from, and_left, and_right, cases_eq, cases_lt, ne_eqb, or_left, true≢false}
 use Rattle.std.proofs.lemmas.List.{flat_map_more}
@@ -45,7 +46,8 @@ groups-le lists = firsts-le-count (are_together lists) (number_of_workloads list
 -- it is of the group
 group-of_first : (lists : EstateLists) (group : ℕ) → group < group_count lists → group_of lists (first_of_group lists group) ≡ group
 group-of_first lists group within =
-    class_of_first (are_together lists) (number_of_workloads lists) (together-is lists (number_of_workloads lists)) group (first_of_group lists group) (slice_get-get_or (group_firsts lists) group 0 within)
+    class_of_first (are_together lists) (number_of_workloads lists) (together-is lists (number_of_workloads lists)) group (first_of_group lists group)
+    (slice_get-get_or (group_firsts lists) group 0 within)
 
 -- groups have first workloads of their own
 pub firsts-apart : (lists : EstateLists) (sender group : ℕ) → sender < group_count lists → group < group_count lists → sender ≢ group → first_of_group lists sender ≢ first_of_group lists group
@@ -61,7 +63,8 @@ none-before lists group k within before =
     ne_eqb (group_of lists k) group (λ same. omega (
       arith,
       before,
-      first-least (are_together lists) (number_of_workloads lists) (together-is lists (number_of_workloads lists)) (first_of_group lists group) k first_in (omega arith) (same ∙ sym (group-of_first lists group within)),
+      first-least (are_together lists) (number_of_workloads lists) (together-is lists (number_of_workloads lists)) (first_of_group lists group) k first_in (omega arith)
+          (same ∙ sym (group-of_first lists group within)),
       first-own lists group within,
     ))
   where
@@ -69,22 +72,28 @@ none-before lists group k within before =
     first-own lists group within = ap (slice_index (group_firsts lists)) (group-of_first lists group within)
 
 -- so it is found where it may be sent to
-receiver-first : (lists : EstateLists) (source group : ℕ) → group < group_count lists → is_defined lists source (first_of_group lists group) ≡ true → receiver_in lists source group ≡ Some (first_of_group lists group)
+receiver-first : (lists : EstateLists) (source group : ℕ) → group < group_count lists → is_defined lists source (first_of_group lists group) ≡ true →
+    receiver_in lists source group ≡ Some (first_of_group lists group)
 receiver-first lists source group within is =
     let first_in = group-first-in lists (group_firsts lists) group refl within in
     range-some (receives lists source group) 0 (number_of_workloads lists) (first_of_group lists group) (omega arith) (omega arith)
-    (and_from (group_of lists (first_of_group lists group) == group) (is_defined lists source (first_of_group lists group)) (eq-eqb (group_of lists (first_of_group lists group)) group (group-of_first lists group within)) is)
+    (and_from (group_of lists (first_of_group lists group) == group) (is_defined lists source (first_of_group lists group))
+    (eq-eqb (group_of lists (first_of_group lists group)) group (group-of_first lists group within)) is)
     (λ k _ before. and_left (group_of lists k == group) (is_defined lists source k) (none-before lists group k within before))
 
 -- ---- sets between groups
 
 -- from one group to another
-pub set-cross : (lists : EstateLists) (sender group : ℕ) → sender < group_count lists → group < group_count lists → sender ≢ group → Some (set_of lists (first_of_group lists sender) (first_of_group lists group)) ≡ set_from lists sender group
+pub set-cross : (lists : EstateLists) (sender group : ℕ) → sender < group_count lists → group < group_count lists → sender ≢ group →
+    Some (set_of lists (first_of_group lists sender) (first_of_group lists group)) ≡ set_from lists sender group
 set-cross lists sender group sender_in group_in apart =
-    sym (ap (option_map (set_of lists (first_of_group lists sender))) (receiver-first lists (first_of_group lists sender) group group_in (apart-defined lists (first_of_group lists sender) (first_of_group lists group) (firsts-apart lists sender group sender_in group_in apart))))
+    sym (ap (option_map (set_of lists (first_of_group lists sender)))
+    (receiver-first lists (first_of_group lists sender) group group_in
+    (apart-defined lists (first_of_group lists sender) (first_of_group lists group) (firsts-apart lists sender group sender_in group_in apart))))
 
 -- within the first workload of a group
-pub set-within : (lists : EstateLists) (sender group : ℕ) → group < group_count lists → sender ≡ group → is_alone (folding_of lists) (first_of_group lists group) (first_of_group lists group) ≡ false → Some (set_of lists (first_of_group lists group) (first_of_group lists group)) ≡ set_from lists sender group
+pub set-within : (lists : EstateLists) (sender group : ℕ) → group < group_count lists → sender ≡ group → is_alone (folding_of lists) (first_of_group lists group) (first_of_group lists group) ≡ false →
+    Some (set_of lists (first_of_group lists group) (first_of_group lists group)) ≡ set_from lists sender group
 set-within lists sender group within same alone =
     let first = first_of_group lists group in
     sym (ap (λ (h : ℕ). set_from lists h group) same
@@ -96,7 +105,8 @@ next-in lists workload group next is within =
     let found = found-is (λ (k : ℕ). group_of lists k == group) (workload + 1) (number_of_workloads lists - (workload + 1)) next (sym is) in
     (omega (arith, found.0), omega (arith, found.1, within))
 
-receiver-next : (lists : EstateLists) (group : ℕ) (next : Option ℕ) → group < group_count lists → is_alone (folding_of lists) (first_of_group lists group) (first_of_group lists group) ≡ true → next_in lists (first_of_group lists group) group ≡ next → receiver_in lists (first_of_group lists group) group ≡ next
+receiver-next : (lists : EstateLists) (group : ℕ) (next : Option ℕ) → group < group_count lists → is_alone (folding_of lists) (first_of_group lists group) (first_of_group lists group) ≡ true →
+    next_in lists (first_of_group lists group) group ≡ next → receiver_in lists (first_of_group lists group) group ≡ next
 receiver-next lists group next within alone is = by next is
   where
     first_in : first_of_group lists group < number_of_workloads lists
@@ -104,14 +114,16 @@ receiver-next lists group next within alone is = by next is
 
     low : (k : ℕ) → k ≤ first_of_group lists group → receives lists (first_of_group lists group) group k ≡ false
     low k below = elim (cases_eq k (first_of_group lists group)) [
-      | inl here ↦ ap (receives lists (first_of_group lists group) group) here ∙ and_right (group_of lists (first_of_group lists group) == group) (is_defined lists (first_of_group lists group) (first_of_group lists group)) (ap not alone)
+      | inl here ↦ ap (receives lists (first_of_group lists group) group) here ∙ and_right (group_of lists (first_of_group lists group) == group)
+          (is_defined lists (first_of_group lists group) (first_of_group lists group)) (ap not alone)
       | inr apart ↦ and_left (group_of lists k == group) (is_defined lists (first_of_group lists group) k) (none-before lists group k within (omega arith))
     ]
 
     by : (o : Option ℕ) → next_in lists (first_of_group lists group) group ≡ o → receiver_in lists (first_of_group lists group) group ≡ o
     by None none =
         range-none (receives lists (first_of_group lists group) group) 0 (number_of_workloads lists) (λ k _ high. elim (cases_lt (first_of_group lists group) k) [
-          | inl behind ↦ and_left (group_of lists k == group) (is_defined lists (first_of_group lists group) k) (found-none (λ (j : ℕ). group_of lists j == group) (first_of_group lists group + 1) (number_of_workloads lists - (first_of_group lists group + 1)) none k (omega arith) (omega arith))
+          | inl behind ↦ and_left (group_of lists k == group) (is_defined lists (first_of_group lists group) k)
+              (found-none (λ (j : ℕ). group_of lists j == group) (first_of_group lists group + 1) (number_of_workloads lists - (first_of_group lists group + 1)) none k (omega arith) (omega arith))
           | inr before ↦ low k before
         ])
     by (Some at) some =
@@ -124,7 +136,9 @@ receiver-next lists group next within alone is = by next is
         ])
 
 -- from the first workload of a group of one pod to the next one
-pub set-next : (lists : EstateLists) (sender group : ℕ) (next : Option ℕ) → group < group_count lists → sender ≡ group → is_alone (folding_of lists) (first_of_group lists group) (first_of_group lists group) ≡ true → next ≡ next_in lists (first_of_group lists group) group → option_map (set_of lists (first_of_group lists group)) next ≡ set_from lists sender group
+pub set-next : (lists : EstateLists) (sender group : ℕ) (next : Option ℕ) → group < group_count lists → sender ≡ group →
+    is_alone (folding_of lists) (first_of_group lists group) (first_of_group lists group) ≡ true → next ≡ next_in lists (first_of_group lists group) group →
+    option_map (set_of lists (first_of_group lists group)) next ≡ set_from lists sender group
 set-next lists sender group next within same alone is =
     sym (ap (λ (h : ℕ). set_from lists h group) same
     ∙ ap (option_map (set_of lists (first_of_group lists group))) (receiver-next lists group next within alone (sym is)))
@@ -132,7 +146,8 @@ set-next lists sender group next within same alone is =
 -- ---- rules
 
 -- the rules of one more group
-pub groups-more : (lists : EstateLists) (group n : ℕ) (before after : List NetRule) → before ≡ flat_map (rules_from_group lists group) (places n) → after ≡ before ++ rules_from_group lists group n → after ≡ flat_map (rules_from_group lists group) (places (n + 1))
+pub groups-more : (lists : EstateLists) (group n : ℕ) (before after : List NetRule) → before ≡ flat_map (rules_from_group lists group) (places n) → after ≡ before ++ rules_from_group lists group n →
+    after ≡ flat_map (rules_from_group lists group) (places (n + 1))
 groups-more lists group n before after so_far here =
     here ∙ ap (λ (all : List NetRule). all ++ rules_from_group lists group n) so_far
     ∙ flat_map_more (rules_from_group lists group) [] (places n) n
@@ -161,7 +176,8 @@ no-ranges low high (range ∷ ranges) ascends none =
 -- ---- what passes within a workload
 
 -- where something is told within a workload it has two pods
-pub own-is : (lists : EstateLists) (group first : ℕ) (within : Option Conns) → group < group_count lists → first ≡ first_of_group lists group → within ≡ (if is_alone (folding_of lists) first first then None else Some (set_of lists first first)) → is_some within ≡ true → within ≡ set_from lists group group
+pub own-is : (lists : EstateLists) (group first : ℕ) (within : Option Conns) → group < group_count lists → first ≡ first_of_group lists group →
+    within ≡ (if is_alone (folding_of lists) first first then None else Some (set_of lists first first)) → is_some within ≡ true → within ≡ set_from lists group group
 own-is lists group first within group_in is told some = by (is_alone (folding_of lists) first first) refl told
   where
     by : (alone : Bool) → is_alone (folding_of lists) first first ≡ alone → within ≡ (if alone then None else Some (set_of lists first first)) → within ≡ set_from lists group group
@@ -176,7 +192,8 @@ alone-from true set within told none = refl
 alone-from false set within told none = let never : true ≡ false = ap is_some (sym told) ∙ none in absurd (cc)
 
 -- from there to the next one
-pub next-is : (lists : EstateLists) (group first : ℕ) (next : Option ℕ) → group < group_count lists → first ≡ first_of_group lists group → is_alone (folding_of lists) first first ≡ true → next ≡ next_in lists first group → option_map (set_of lists first) next ≡ set_from lists group group
+pub next-is : (lists : EstateLists) (group first : ℕ) (next : Option ℕ) → group < group_count lists → first ≡ first_of_group lists group → is_alone (folding_of lists) first first ≡ true →
+    next ≡ next_in lists first group → option_map (set_of lists first) next ≡ set_from lists group group
 next-is lists group first next group_in is alone found =
     ap (λ (f : ℕ). option_map (set_of lists f) next) is
     ∙ set-next lists group group next group_in refl (subst (λ (f : ℕ). is_alone (folding_of lists) f f ≡ true) is alone) (found ∙ ap (λ (f : ℕ). next_in lists f group) is)

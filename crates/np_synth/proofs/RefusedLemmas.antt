@@ -30,7 +30,8 @@ use Rattle.np_table.specs.declared.rows.AddressRow.{AddressRow}
 -- ---- sets and packets
 
 -- equal sets have the same packets
-set_packets : (lists : EstateLists) (family other : Family) (a b c d : ℕ) → set_in lists family a b ≡ set_in lists other c d → (spot : PortSpot) → is_spot spot ≡ true → pair_allows lists (folding_of lists) a b family spot ≡ pair_allows lists (folding_of lists) c d other spot
+set_packets : (lists : EstateLists) (family other : Family) (a b c d : ℕ) → set_in lists family a b ≡ set_in lists other c d → (spot : PortSpot) → is_spot spot ≡ true →
+    pair_allows lists (folding_of lists) a b family spot ≡ pair_allows lists (folding_of lists) c d other spot
 unfolding set_in
 set_packets lists family other a b c d same spot inside =
     sym (has_spot-conns_of (pair_allows lists (folding_of lists) a b family) spot inside)
@@ -38,13 +39,16 @@ set_packets lists family other a b c d same spot inside =
     ∙ has_spot-conns_of (pair_allows lists (folding_of lists) c d other) spot inside
 
 -- and sets of the same packets are equal
-packets_set : (lists : EstateLists) (family other : Family) (a b c d : ℕ) → ((spot : PortSpot) → is_spot spot ≡ true → pair_allows lists (folding_of lists) a b family spot ≡ pair_allows lists (folding_of lists) c d other spot) → set_in lists family a b ≡ set_in lists other c d
+packets_set : (lists : EstateLists) (family other : Family) (a b c d : ℕ) →
+    ((spot : PortSpot) → is_spot spot ≡ true → pair_allows lists (folding_of lists) a b family spot ≡ pair_allows lists (folding_of lists) c d other spot) →
+    set_in lists family a b ≡ set_in lists other c d
 unfolding set_in
 packets_set lists family other a b c d same = conns_of-agrees (pair_allows lists (folding_of lists) a b family) (pair_allows lists (folding_of lists) c d other) same
 
 -- ---- families
 
-none_differ : (sets : Family → Conns) (families : List Family) → ((family : Family) × (families ≡ family ∷ [])) ⊎ (families ≡ Four ∷ Six ∷ []) → ((family other : Family) → Contains families family → Contains families other → sets family ≡ sets other) → two_differ (map sets families) ≡ false
+none_differ : (sets : Family → Conns) (families : List Family) → ((family : Family) × (families ≡ family ∷ [])) ⊎ (families ≡ Four ∷ Six ∷ []) →
+    ((family other : Family) → Contains families family → Contains families other → sets family ≡ sets other) → two_differ (map sets families) ≡ false
 none_differ sets families (inl one) same = rw one.1 (rw ((are_same_conns-Decides (sets one.0) (sets one.0)).1 refl) refl)
 none_differ sets families (inr both) same =
     let four : Contains families Four = rw both (0, omega arith, refl) in
@@ -56,11 +60,14 @@ pub not_split : (lists : EstateLists) (a b : ℕ) → is_split lists a b ≡ fal
 unfolding pair_allows
 not_split lists a b none family other spot has has' inside = by (is_alone (folding_of lists) a b) refl none
   where
-    by : (alone : Bool) → is_alone (folding_of lists) a b ≡ alone → (not alone && two_differ (map (λ one. set_in lists one a b) (families_of lists.pods))) ≡ false → pair_allows lists (folding_of lists) a b family spot ≡ pair_allows lists (folding_of lists) a b other spot
+    by : (alone : Bool) → is_alone (folding_of lists) a b ≡ alone → (not alone && two_differ (map (λ one. set_in lists one a b) (families_of lists.pods))) ≡ false →
+        pair_allows lists (folding_of lists) a b family spot ≡ pair_allows lists (folding_of lists) a b other spot
     by true is fine = rw is refl
     by false is fine =
-        let all = All-from_recursion (λ (one : Family). set_in lists one a b ≡ set_in lists (first_family (families_of lists.pods)) a b) (families_of lists.pods) (same_sets (λ one. set_in lists one a b) (families_of lists.pods) (families_cases lists.pods) fine) in
-        let at : (one : Family) → Contains (families_of lists.pods) one → set_in lists one a b ≡ set_in lists (first_family (families_of lists.pods)) a b = λ one there. All-contains (λ (one : Family). set_in lists one a b ≡ set_in lists (first_family (families_of lists.pods)) a b) (families_of lists.pods) one all there in
+        let all = All-from_recursion (λ (one : Family). set_in lists one a b ≡ set_in lists (first_family (families_of lists.pods)) a b) (families_of lists.pods)
+        (same_sets (λ one. set_in lists one a b) (families_of lists.pods) (families_cases lists.pods) fine) in
+        let at : (one : Family) → Contains (families_of lists.pods) one → set_in lists one a b ≡ set_in lists (first_family (families_of lists.pods)) a b = λ one there. All-contains
+        (λ (one : Family). set_in lists one a b ≡ set_in lists (first_family (families_of lists.pods)) a b) (families_of lists.pods) one all there in
         set_packets lists family other a b a b (at family has ∙ sym (at other has')) spot inside
 
 -- and one in which the families are alike is not split
@@ -77,7 +84,8 @@ families_alike lists a b alike =
 
 treated_alike : (lists : EstateLists) (a b : ℕ) → Agrees lists a b → AreTreatedAlike lists a b
 treated_alike lists a b agree =
-    let packets : (c d e f : ℕ) → set_of lists c d ≡ set_of lists e f → PassTheSame lists c d e f = λ c d e f same spot inside. set_packets lists (family_of_list lists) (family_of_list lists) c d e f same spot inside in record {
+    let packets : (c d e f : ℕ) → set_of lists c d ≡ set_of lists e f → PassTheSame lists c d e f = λ c d e f same spot inside. set_packets lists (family_of_list lists)
+    (family_of_list lists) c d e f same spot inside in record {
       sends = λ third within ca cb. packets a third b third (agree.sends third within ca cb);
       receives = λ third within ca cb. packets third a third b (agree.receives third within ca cb);
       both_ways = packets a b b a agree.both_ways;

@@ -1,5 +1,6 @@
 -- The first row with a mark tells the first pair that is split.
-use Rattle.std.proofs.Common.{◌≡◌, ℕ, ◌<◌, List, [], ◌∷◌, ◌++◌, Bool, true, false, not, ◌&&◌, ◌||◌, ◌⊎◌, Option, Some, None, map, flat_map, length, if◌then◌else◌, arith, refl, sym, ap, subst, ◌∙◌, inl, inr}
+use Rattle.std.proofs.Common.{◌≡◌, ℕ, ◌<◌, List, [], ◌∷◌, ◌++◌, Bool, true, false, not, ◌&&◌, ◌||◌, ◌⊎◌, Option, Some, None, map, flat_map, length, if◌then◌else◌, arith, refl, sym, ap, subst, ◌∙◌}
+use Rattle.std.proofs.Common.{inl, inr}
 use Rattle.std.specs.Prelude.{MatchOption, is_some}
 use Rattle.std.specs.List.{find}
 use Rattle.std.specs.Option.{option_or}
@@ -41,7 +42,8 @@ first_split-append (x ∷ xs) ys =
     ap (option_or (split_of x)) (first_split-append xs ys) ∙ or_more (split_of x) (first_split_of xs) (first_split_of ys)
 
 -- of lists that each tell the first pair of another, all tell that of all others
-flat_map-first : (test : ℕ × ℕ → Bool) (f : ℕ → List Row) (g : ℕ → List (ℕ × ℕ)) (ks : List ℕ) → ((k : ℕ) → first_split_of (f k) ≡ find test (g k)) → first_split_of (flat_map f ks) ≡ find test (flat_map g ks)
+flat_map-first : (test : ℕ × ℕ → Bool) (f : ℕ → List Row) (g : ℕ → List (ℕ × ℕ)) (ks : List ℕ) → ((k : ℕ) → first_split_of (f k) ≡ find test (g k)) →
+    first_split_of (flat_map f ks) ≡ find test (flat_map g ks)
 flat_map-first test f g [] same = refl
 flat_map-first test f g (k ∷ ks) same =
     first_split-append (f k) (flat_map f ks)
@@ -54,7 +56,8 @@ or_if true x rest = refl
 or_if false x rest = refl
 
 -- the same where each tells of one pair
-map-first : (test : ℕ × ℕ → Bool) (f : ℕ → List Row) (g : ℕ → ℕ × ℕ) (ks : List ℕ) → ((k : ℕ) → first_split_of (f k) ≡ (if test (g k) then Some (g k) else None)) → first_split_of (flat_map f ks) ≡ find test (map g ks)
+map-first : (test : ℕ × ℕ → Bool) (f : ℕ → List Row) (g : ℕ → ℕ × ℕ) (ks : List ℕ) → ((k : ℕ) → first_split_of (f k) ≡ (if test (g k) then Some (g k) else None)) →
+    first_split_of (flat_map f ks) ≡ find test (map g ks)
 map-first test f g [] same = refl
 map-first test f g (k ∷ ks) same =
     first_split-append (f k) (flat_map f ks)
@@ -100,7 +103,8 @@ rows-marked : (x y : ℕ) (four six : Conns) → are_same_conns four six ≡ fal
 rows-marked x y four six differ = by (is_nothing four) (is_nothing six) refl refl
   where
     by : (no_four no_six : Bool) → is_nothing four ≡ no_four → is_nothing six ≡ no_six
-        → first_split_of ((if no_four then [] else record { key = pair_key x y; family = Some Four; conns = four } ∷ []) ++ (if no_six then [] else record { key = pair_key x y; family = Some Six; conns = six } ∷ [])) ≡ told x y
+        → first_split_of ((if no_four then [] else record { key = pair_key x y; family = Some Four; conns = four } ∷ []) ++
+        (if no_six then [] else record { key = pair_key x y; family = Some Six; conns = six } ∷ [])) ≡ told x y
     by false no_six is is' = refl
     by true false is is' = refl
     by true true is is' = absurd (true≢false (sym ((are_same_conns-Decides four six).1 (nothing_is four is ∙ sym (nothing_is six is'))) ∙ differ))
@@ -146,19 +150,22 @@ families_cases pods = by (has_family pods Four) (has_family pods Six) refl refl
     by false false is is' = inl (Four, rw (is, is') refl)
 
 -- one family has no marks, and nothing is split
-one_family : (family : Family) (x y : ℕ) (sets : Family → Conns) (defined : Bool) → first_split_of (rows_in (family ∷ []) (pair_key x y) sets) ≡ (if defined && two_differ (map sets (family ∷ [])) then told x y else None)
+one_family : (family : Family) (x y : ℕ) (sets : Family → Conns) (defined : Bool) →
+    first_split_of (rows_in (family ∷ []) (pair_key x y) sets) ≡ (if defined && two_differ (map sets (family ∷ [])) then told x y else None)
 one_family family x y sets defined =
     row_if-unmarked x y (sets family)
     ∙ sym (ap (λ (b : Bool). if b then told x y else None) (ap (λ (b : Bool). defined && b) (two_differ-one (sets family)) ∙ and_false defined))
 
 -- of two families the rows have marks where the sets differ
-two_families : (x y : ℕ) (sets : Family → Conns) (defined : Bool) → (defined ≡ false → sets Four ≡ sets Six) → first_split_of (rows_in (Four ∷ Six ∷ []) (pair_key x y) sets) ≡ (if defined && two_differ (map sets (Four ∷ Six ∷ [])) then told x y else None)
+two_families : (x y : ℕ) (sets : Family → Conns) (defined : Bool) → (defined ≡ false → sets Four ≡ sets Six) →
+    first_split_of (rows_in (Four ∷ Six ∷ []) (pair_key x y) sets) ≡ (if defined && two_differ (map sets (Four ∷ Six ∷ [])) then told x y else None)
 two_families x y sets defined alone =
     by defined (are_same_conns (sets Four) (sets Six)) refl refl
     ∙ sym (ap (λ (b : Bool). if defined && b then told x y else None) (two_differ-two (sets Four) (sets Six)))
   where
     by : (known same : Bool) → defined ≡ known → are_same_conns (sets Four) (sets Six) ≡ same
-        → first_split_of (if same then row_if (pair_key x y) None (sets Four) else row_if (pair_key x y) (Some Four) (sets Four) ++ row_if (pair_key x y) (Some Six) (sets Six)) ≡ (if known && not same then told x y else None)
+        → first_split_of (if same then row_if (pair_key x y) None (sets Four) else row_if (pair_key x y) (Some Four) (sets Four) ++ row_if (pair_key x y) (Some Six) (sets Six)) ≡
+        (if known && not same then told x y else None)
     by true true is is' = row_if-unmarked x y (sets Four)
     by true false is is' = rows-marked x y (sets Four) (sets Six) is'
     by false true is is' = row_if-unmarked x y (sets Four)
@@ -176,12 +183,15 @@ alone-same lists x y is =
     conns_of-agrees _ _ (λ spot _. pair_allows-alone lists (folding_of lists) x y Four spot alone ∙ sym (pair_allows-alone lists (folding_of lists) x y Six spot alone))
 
 pair-by : (lists : EstateLists) (x y : ℕ) (families : List Family) → ((family : Family) × (families ≡ family ∷ [])) ⊎ (families ≡ Four ∷ Six ∷ [])
-    → first_split_of (rows_in families (pair_key x y) (λ family. set_in lists family x y)) ≡ (if is_defined lists x y && two_differ (map (λ family. set_in lists family x y) families) then told x y else None)
+    → first_split_of (rows_in families (pair_key x y) (λ family. set_in lists family x y)) ≡
+    (if is_defined lists x y && two_differ (map (λ family. set_in lists family x y) families) then told x y else None)
 pair-by lists x y families (inl one) =
-    subst (λ (fs : List Family). first_split_of (rows_in fs (pair_key x y) (λ family. set_in lists family x y)) ≡ (if is_defined lists x y && two_differ (map (λ family. set_in lists family x y) fs) then told x y else None))
+    subst (λ (fs : List Family). first_split_of (rows_in fs (pair_key x y) (λ family. set_in lists family x y)) ≡
+    (if is_defined lists x y && two_differ (map (λ family. set_in lists family x y) fs) then told x y else None))
     (sym one.1) (one_family one.0 x y (λ family. set_in lists family x y) (is_defined lists x y))
 pair-by lists x y families (inr both) =
-    subst (λ (fs : List Family). first_split_of (rows_in fs (pair_key x y) (λ family. set_in lists family x y)) ≡ (if is_defined lists x y && two_differ (map (λ family. set_in lists family x y) fs) then told x y else None))
+    subst (λ (fs : List Family). first_split_of (rows_in fs (pair_key x y) (λ family. set_in lists family x y)) ≡
+    (if is_defined lists x y && two_differ (map (λ family. set_in lists family x y) fs) then told x y else None))
     (sym both) (two_families x y (λ family. set_in lists family x y) (is_defined lists x y) (alone-same lists x y))
 
 -- of one family no pair is split
@@ -222,7 +232,8 @@ or_none (Some x) = refl
 pairs-first : (lists : EstateLists) → first_split_of (all_pair_rows (estate_table lists)) ≡ first_pair (is_split lists) (length (estate_table lists).names)
 unfolding all_pair_rows first_pair
 pairs-first lists =
-    flat_map-first (λ pair. is_split lists pair.0 pair.1) (λ x. flat_map (pair_rows (estate_table lists) x) (places (length (estate_table lists).names))) (λ x. map (λ y. (x, y)) (places (length (estate_table lists).names))) (places (length (estate_table lists).names))
+    flat_map-first (λ pair. is_split lists pair.0 pair.1) (λ x. flat_map (pair_rows (estate_table lists) x) (places (length (estate_table lists).names)))
+    (λ x. map (λ y. (x, y)) (places (length (estate_table lists).names))) (places (length (estate_table lists).names))
     (λ x. map-first (λ pair. is_split lists pair.0 pair.1) (pair_rows (estate_table lists) x) (λ y. (x, y)) (places (length (estate_table lists).names)) (pair-first lists x))
 
 names-count : (lists : EstateLists) → length (estate_table lists).names ≡ number_of_workloads lists

@@ -7,7 +7,7 @@ use Rattle.np_classes.specs.Classes.{class_of, firsts}
 use Rattle.np_model.specs.declared.lists.EstateLists.{EstateLists}
 use Rattle.np_fold.specs.Workloads.{folding_of}
 use Rattle.np_labels.specs.Labels.{value_of}
-use Rattle.np_rules.specs.Ends.{PodEnd}
+use Rattle.np_rules.specs.model.Ends.{PodEnd}
 use Rattle.np_table.specs.PairRules.{first_end}
 use Rattle.np_table.specs.Table.{number_of_workloads}
 

@@ -4,7 +4,7 @@ ghost use Rattle.std.specs.Cmp.Lexicographic.{slice_cmp};
 ghost use Rattle.std.specs.List.Sorted.{IsStrictlySortedBy};
 ghost use Rattle.std.specs.Ordering.{nat_cmp};
 ghost use Rattle.np_classes.specs.Classes.{places};
-ghost use Rattle.np_rules.specs.Ends.{pod_end};
+ghost use Rattle.np_rules.specs.model.Ends.{pod_end};
 ghost use Rattle.np_synth.specs.Groups as spec;
 ghost use Rattle.np_synth.specs.steps.Seen.{nobody, seen, seen_at};
 ghost use Rattle.np_table.specs.Table.{number_of_workloads};

@@ -15,17 +15,18 @@ use Rattle.np_model.specs.declared.direction.Direction.TheVariants.{Egress, Ingr
 use Rattle.np_table.proofs.RangeOneList.{right-walk, walk-agrees}
 use Rattle.np_table.proofs.RangePieces.{Covers-right}
 use Rattle.np_table.specs.Right.{stretches_of, walk}
-use Rattle.np_rules.specs.Ends.{PodEnd, pod}
+use Rattle.np_rules.specs.model.Ends.{PodEnd, pod}
 use Rattle.np_rules.specs.EveryAddress.{AddressSpot, address_contact, has_place, is_place}
-use Rattle.np_rules.specs.Sides.{side_allows}
-use Rattle.np_rules.specs.Verdict.{allows}
+use Rattle.np_rules.specs.model.Sides.{side_allows}
+use Rattle.np_rules.specs.model.Verdict.{allows}
 use Rattle.np_table.specs.Rows.{address_row, four_of, rows_of_addresses, six_of}
 use Rattle.np_table.specs.Table.{with_address}
 
 -- ---- pieces
 
 -- the ranges of pieces that have what passes are the right list
-stretches_of-walk : (low high : ℕ) (pieces : List (Piece ℕ Conns)) (passes : ℕ → PortSpot → Bool) → low ≤ high → Covers (λ n. n) IsConns low high pieces → ((n : ℕ) (spot : PortSpot) → low ≤ n → n ≤ high → is_spot spot ≡ true → has_at (λ n. n) has_spot pieces n spot ≡ passes n spot) → stretches_of (λ n. n) pieces ≡ walk passes low high
+stretches_of-walk : (low high : ℕ) (pieces : List (Piece ℕ Conns)) (passes : ℕ → PortSpot → Bool) → low ≤ high → Covers (λ n. n) IsConns low high pieces →
+    ((n : ℕ) (spot : PortSpot) → low ≤ n → n ≤ high → is_spot spot ≡ true → has_at (λ n. n) has_spot pieces n spot ≡ passes n spot) → stretches_of (λ n. n) pieces ≡ walk passes low high
 stretches_of-walk low high pieces passes ordered covers agrees =
     right-walk (has_at (λ n. n) has_spot pieces) low high (stretches_of (λ n. n) pieces) ordered (Covers-right (λ n. n) low high pieces covers)
     ∙ walk-agrees (has_at (λ n. n) has_spot pieces) passes low high ordered agrees
@@ -37,12 +38,14 @@ and_true true = refl
 and_true false = refl
 
 -- an address has no side of its own, so the pod's side says what passes
-side-four : (lists : EstateLists) (direction : Direction) (p : PodEnd) (n : ℕ) (spot : PortSpot) → side_allows lists direction p (address_contact direction (pod p) (First (record { point = n; spot = spot }))) ≡ with_address lists direction (pod p) Four n spot
+side-four : (lists : EstateLists) (direction : Direction) (p : PodEnd) (n : ℕ) (spot : PortSpot) →
+    side_allows lists direction p (address_contact direction (pod p) (First (record { point = n; spot = spot }))) ≡ with_address lists direction (pod p) Four n spot
 unfolding allows
 side-four lists Ingress p n spot = refl
 side-four lists Egress p n spot = and_true (side_allows lists Egress p (address_contact Egress (pod p) (First (record { point = n; spot = spot }))))
 
-side-six : (lists : EstateLists) (direction : Direction) (p : PodEnd) (n : ℕ) (spot : PortSpot) → side_allows lists direction p (address_contact direction (pod p) (Second (record { point = n; spot = spot }))) ≡ with_address lists direction (pod p) Six n spot
+side-six : (lists : EstateLists) (direction : Direction) (p : PodEnd) (n : ℕ) (spot : PortSpot) →
+    side_allows lists direction p (address_contact direction (pod p) (Second (record { point = n; spot = spot }))) ≡ with_address lists direction (pod p) Six n spot
 unfolding allows
 side-six lists Ingress p n spot = refl
 side-six lists Egress p n spot = and_true (side_allows lists Egress p (address_contact Egress (pod p) (Second (record { point = n; spot = spot }))))
@@ -50,13 +53,17 @@ side-six lists Egress p n spot = and_true (side_allows lists Egress p (address_c
 -- ---- all addresses of a family
 
 -- the pieces of a set that has what the pod's side allows, for IPv4
-pub stretches_of-four : (lists : EstateLists) (direction : Direction) (p : PodEnd) (made : Beside (List (Piece ℕ Conns)) (List (Piece ℕ Conns))) → Covers (λ n. n) IsConns 0 (2 ^ 32 - 1) made.first → ((place : AddressSpot) → is_place place ≡ true → has_place made place ≡ side_allows lists direction p (address_contact direction (pod p) place)) → stretches_of (λ n. n) made.first ≡ walk (with_address lists direction (pod p) Four) 0 (2 ^ 32 - 1)
+pub stretches_of-four : (lists : EstateLists) (direction : Direction) (p : PodEnd) (made : Beside (List (Piece ℕ Conns)) (List (Piece ℕ Conns))) → Covers (λ n. n) IsConns 0 (2 ^ 32 - 1) made.first →
+    ((place : AddressSpot) → is_place place ≡ true → has_place made place ≡ side_allows lists direction p (address_contact direction (pod p) place)) →
+    stretches_of (λ n. n) made.first ≡ walk (with_address lists direction (pod p) Four) 0 (2 ^ 32 - 1)
 stretches_of-four lists direction p made covers agrees =
     stretches_of-walk 0 (2 ^ 32 - 1) made.first (with_address lists direction (pod p) Four) (lit≤ tt) covers (λ n spot above below is.
     agrees (First (record { point = n; spot = spot })) (and_from _ _ (and_from _ _ (le-leb 0 n above) (le-leb n (2 ^ 32 - 1) below)) is) ∙ side-four lists direction p n spot)
 
 -- and for IPv6
-pub stretches_of-six : (lists : EstateLists) (direction : Direction) (p : PodEnd) (made : Beside (List (Piece ℕ Conns)) (List (Piece ℕ Conns))) → Covers (λ n. n) IsConns 0 (2 ^ 128 - 1) made.second → ((place : AddressSpot) → is_place place ≡ true → has_place made place ≡ side_allows lists direction p (address_contact direction (pod p) place)) → stretches_of (λ n. n) made.second ≡ walk (with_address lists direction (pod p) Six) 0 (2 ^ 128 - 1)
+pub stretches_of-six : (lists : EstateLists) (direction : Direction) (p : PodEnd) (made : Beside (List (Piece ℕ Conns)) (List (Piece ℕ Conns))) → Covers (λ n. n) IsConns 0 (2 ^ 128 - 1) made.second →
+    ((place : AddressSpot) → is_place place ≡ true → has_place made place ≡ side_allows lists direction p (address_contact direction (pod p) place)) →
+    stretches_of (λ n. n) made.second ≡ walk (with_address lists direction (pod p) Six) 0 (2 ^ 128 - 1)
 stretches_of-six lists direction p made covers agrees =
     stretches_of-walk 0 (2 ^ 128 - 1) made.second (with_address lists direction (pod p) Six) (lit≤ tt) covers (λ n spot above below is.
     agrees (Second (record { point = n; spot = spot })) (and_from _ _ (and_from _ _ (le-leb 0 n above) (le-leb n (2 ^ 128 - 1) below)) is) ∙ side-six lists direction p n spot)
@@ -64,5 +71,7 @@ stretches_of-six lists direction p made covers agrees =
 -- ---- rows
 
 -- the rows of the ranges of both families are those of all addresses
-pub rows_of_addresses-made : (passes : Family → ℕ → PortSpot → Bool) (made : Beside (List (Piece ℕ Conns)) (List (Piece ℕ Conns))) → stretches_of (λ n. n) made.first ≡ walk (passes Four) 0 (2 ^ 32 - 1) → stretches_of (λ n. n) made.second ≡ walk (passes Six) 0 (2 ^ 128 - 1) → map (address_row four_of) (stretches_of (λ n. n) made.first) ++ map (address_row six_of) (stretches_of (λ n. n) made.second) ≡ rows_of_addresses passes
+pub rows_of_addresses-made : (passes : Family → ℕ → PortSpot → Bool) (made : Beside (List (Piece ℕ Conns)) (List (Piece ℕ Conns))) →
+    stretches_of (λ n. n) made.first ≡ walk (passes Four) 0 (2 ^ 32 - 1) → stretches_of (λ n. n) made.second ≡ walk (passes Six) 0 (2 ^ 128 - 1) →
+    map (address_row four_of) (stretches_of (λ n. n) made.first) ++ map (address_row six_of) (stretches_of (λ n. n) made.second) ≡ rows_of_addresses passes
 rows_of_addresses-made passes made four six = rw (four, six) refl

@@ -1,5 +1,6 @@
 -- What the row of an address says.
-use Rattle.std.proofs.Common.{◌≡◌, ◌≢◌, ◌<◌, ◌≤◌, ◌-◌, ◌^◌, ◌+◌, ◌==◌, ℕ, List, [], ◌∷◌, ◌++◌, Bool, true, false, ◌&&◌, nat_le, All, Option, None, Some, length, map, flat_map, append-nil, arith, refl, sym, ap, ◌∙◌, eq-eqb}
+use Rattle.std.proofs.Common.{◌≡◌, ◌≢◌, ◌<◌, ◌≤◌, ◌-◌, ◌^◌, ◌+◌, ◌==◌, ℕ, List, [], ◌∷◌, ◌++◌, Bool, true, false, ◌&&◌, nat_le, All, Option, None, Some, length, map, flat_map, append-nil, arith, refl}
+use Rattle.std.proofs.Common.{sym, ap, ◌∙◌, eq-eqb}
 use Rattle.std.specs.Prelude.{filter}
 use Rattle.std.proofs.lemmas.Bool.{and_left, and_parts, and_right, leb-true, ne_eqb}
 use Rattle.std.proofs.lemmas.List.Elements.{All-cons, All-filter, All-head, All-nil, All-same, All-weaker, filter-append, filter_passes}
@@ -13,8 +14,8 @@ use Rattle.np_model.specs.declared.lists.EstateLists.{EstateLists}
 use Rattle.np_fold.specs.Workloads.{Folding, folding_of, number_of}
 use Rattle.np_model.specs.declared.direction.Direction.{Direction}
 use Rattle.np_model.specs.declared.direction.Direction.TheVariants.{Egress, Ingress}
-use Rattle.np_rules.specs.Ends.{pod}
-use Rattle.np_rules.specs.Verdict.{pod_at}
+use Rattle.np_rules.specs.model.Ends.{pod}
+use Rattle.np_rules.specs.model.Verdict.{pod_at}
 use Rattle.np_table.proofs.PairLemmas.{with_address-address_allows}
 use Rattle.np_table.proofs.RangeCounts.{one_range}
 use Rattle.np_table.proofs.RangeWalks.{walk-right}
@@ -58,7 +59,8 @@ one_stretch passes high n below =
       one.0,
       one.1,
       sym (All-head (TellsAt passes n) one.0 [] (All-same (TellsAt passes n) (one.0 ∷ []) (filter (is_within n) stretches) (sym one.1) tells)
-          (All-head (λ (stretch : Stretch). is_within n stretch ≡ true) one.0 [] (All-same (λ (stretch : Stretch). is_within n stretch ≡ true) (one.0 ∷ []) (filter (is_within n) stretches) (sym one.1) within))),
+          (All-head (λ (stretch : Stretch). is_within n stretch ≡ true) one.0 []
+          (All-same (λ (stretch : Stretch). is_within n stretch ≡ true) (one.0 ∷ []) (filter (is_within n) stretches) (sym one.1) within))),
     )
 
 -- ---- the row of an address among those of a workload and a direction
@@ -67,14 +69,16 @@ abbrev has_address : Family → ℕ → AddressRow → Bool
 has_address family number row = span_has row.span family number
 
 -- of the rows of all addresses one has an address, and it says what passes there
-one_has : (passes : Family → ℕ → PortSpot → Bool) (family : Family) (number : ℕ) → IsInFamily family number → (row : AddressRow) × (filter (has_address family number) (rows_of_addresses passes) ≡ row ∷ []) × (row.conns ≡ conns_of (passes family number))
+one_has : (passes : Family → ℕ → PortSpot → Bool) (family : Family) (number : ℕ) → IsInFamily family number →
+    (row : AddressRow) × (filter (has_address family number) (rows_of_addresses passes) ≡ row ∷ []) × (row.conns ≡ conns_of (passes family number))
 one_has passes Four number within =
     let four = walk (passes Four) 0 (2 ^ 32 - 1) in
     let six = walk (passes Six) 0 (2 ^ 128 - 1) in
     let one = one_stretch (passes Four) (2 ^ 32 - 1) number within in (
       address_row four_of one.0,
       filter-append (has_address Four number) (map (address_row four_of) four) (map (address_row six_of) six)
-          ∙ ap (λ (rows : List AddressRow). filter (has_address Four number) (map (address_row four_of) four) ++ rows) (filter-map_none (has_address Four number) (address_row six_of) six (λ stretch. refl))
+          ∙ ap (λ (rows : List AddressRow). filter (has_address Four number) (map (address_row four_of) four) ++ rows)
+          (filter-map_none (has_address Four number) (address_row six_of) six (λ stretch. refl))
           ∙ append-nil (filter (has_address Four number) (map (address_row four_of) four))
           ∙ filter-map (has_address Four number) (is_within number) (address_row four_of) four (λ stretch. refl)
           ∙ ap (λ (found : List Stretch). map (address_row four_of) found) one.1,
@@ -86,7 +90,8 @@ one_has passes Six number within =
     let one = one_stretch (passes Six) (2 ^ 128 - 1) number within in (
       address_row six_of one.0,
       filter-append (has_address Six number) (map (address_row four_of) four) (map (address_row six_of) six)
-          ∙ ap (λ (rows : List AddressRow). rows ++ filter (has_address Six number) (map (address_row six_of) six)) (filter-map_none (has_address Six number) (address_row four_of) four (λ stretch. refl))
+          ∙ ap (λ (rows : List AddressRow). rows ++ filter (has_address Six number) (map (address_row six_of) six))
+          (filter-map_none (has_address Six number) (address_row four_of) four (λ stretch. refl))
           ∙ filter-map (has_address Six number) (is_within number) (address_row six_of) six (λ stretch. refl)
           ∙ ap (λ (found : List Stretch). map (address_row six_of) found) one.1,
       one.2,
@@ -99,21 +104,24 @@ and_true true = refl
 and_true false = refl
 
 -- a row of a workload and a direction is of the addresses of its span
-is_of_address-own : (workload : ℕ) (direction : Direction) (family : Family) (number : ℕ) (row : AddressRow) → is_of_address workload direction family number (row_of workload direction row) ≡ has_address family number row
+is_of_address-own : (workload : ℕ) (direction : Direction) (family : Family) (number : ℕ) (row : AddressRow) →
+    is_of_address workload direction family number (row_of workload direction row) ≡ has_address family number row
 is_of_address-own workload Ingress family number row =
     ap (λ (own : Bool). span_has row.span family number && own) (eq-eqb workload workload refl) ∙ and_true (span_has row.span family number)
 is_of_address-own workload Egress family number row =
     ap (λ (own : Bool). own && span_has row.span family number) (eq-eqb workload workload refl)
 
 -- and of none with another workload
-is_of_address-apart : (workload near : ℕ) (direction own : Direction) (family : Family) (number : ℕ) (row : AddressRow) → near ≢ workload → is_of_address workload direction family number (row_of near own row) ≡ false
+is_of_address-apart : (workload near : ℕ) (direction own : Direction) (family : Family) (number : ℕ) (row : AddressRow) → near ≢ workload →
+    is_of_address workload direction family number (row_of near own row) ≡ false
 is_of_address-apart workload near Ingress Ingress family number row apart = and_right (span_has row.span family number) (near == workload) (ne_eqb near workload apart)
 is_of_address-apart workload near Ingress Egress family number row apart = refl
 is_of_address-apart workload near Egress Ingress family number row apart = refl
 is_of_address-apart workload near Egress Egress family number row apart = and_left (near == workload) (span_has row.span family number) (ne_eqb near workload apart)
 
 -- nor is a row between workloads
-is_of_address-between : (workload : ℕ) (direction : Direction) (family : Family) (number source destination : ℕ) (row : Row) → HasKey (pair_key source destination) row → is_of_address workload direction family number row ≡ false
+is_of_address-between : (workload : ℕ) (direction : Direction) (family : Family) (number source destination : ℕ) (row : Row) → HasKey (pair_key source destination) row →
+    is_of_address workload direction family number row ≡ false
 is_of_address-between workload Ingress family number source destination row same =
     ap (λ (key : RowKey). is_address family number key.source && is_workload workload key.destination) same
 is_of_address-between workload Egress family number source destination row same =
@@ -122,7 +130,8 @@ is_of_address-between workload Egress family number source destination row same 
 abbrev rows_of_workload : Table → ℕ → List Row
 rows_of_workload table workload = rows_towards table workload Ingress ++ rows_towards table workload Egress
 
-rows_of_address-apart : (table : Table) (workload near : ℕ) (direction : Direction) (family : Family) (number : ℕ) → near ≢ workload → rows_of_address workload direction family number (rows_of_workload table near) ≡ []
+rows_of_address-apart : (table : Table) (workload near : ℕ) (direction : Direction) (family : Family) (number : ℕ) → near ≢ workload →
+    rows_of_address workload direction family number (rows_of_workload table near) ≡ []
 rows_of_address-apart table workload near direction family number apart =
     let none : (own : Direction) → rows_of_address workload direction family number (rows_towards table near own) ≡ [] = λ own.
     filter-map_none (is_of_address workload direction family number) (row_of near own) (address_rows table near own) (λ row. is_of_address-apart workload near direction own family number row apart) in
@@ -130,7 +139,8 @@ rows_of_address-apart table workload near direction family number apart =
     ∙ ap (λ (rows : List Row). rows ++ rows_of_address workload direction family number (rows_towards table near Egress)) (none Ingress)
     ∙ none Egress
 
-rows_of_address-own : (table : Table) (workload : ℕ) (direction : Direction) (family : Family) (number : ℕ) → rows_of_address workload direction family number (rows_of_workload table workload) ≡ map (row_of workload direction) (filter (has_address family number) (address_rows table workload direction))
+rows_of_address-own : (table : Table) (workload : ℕ) (direction : Direction) (family : Family) (number : ℕ) →
+    rows_of_address workload direction family number (rows_of_workload table workload) ≡ map (row_of workload direction) (filter (has_address family number) (address_rows table workload direction))
 rows_of_address-own table workload Ingress family number =
     let test : Row → Bool = is_of_address workload Ingress family number in
     filter-append test (rows_towards table workload Ingress) (rows_towards table workload Egress)
@@ -143,7 +153,8 @@ rows_of_address-own table workload Egress family number =
     ∙ ap (λ (rows : List Row). rows ++ filter test (rows_towards table workload Egress)) (filter-map_none test (row_of workload Ingress) (address_rows table workload Ingress) (λ row. refl))
     ∙ filter-map test (has_address family number) (row_of workload Egress) (address_rows table workload Egress) (is_of_address-own workload Egress family number)
 
-rows_of_address-addresses : (table : Table) (workload : ℕ) (direction : Direction) (family : Family) (number : ℕ) → workload < length table.names → rows_of_address workload direction family number (all_address_rows table) ≡ map (row_of workload direction) (filter (has_address family number) (address_rows table workload direction))
+rows_of_address-addresses : (table : Table) (workload : ℕ) (direction : Direction) (family : Family) (number : ℕ) → workload < length table.names →
+    rows_of_address workload direction family number (all_address_rows table) ≡ map (row_of workload direction) (filter (has_address family number) (address_rows table workload direction))
 unfolding all_address_rows
 rows_of_address-addresses table workload direction family number within =
     filter-flat_map (is_of_address workload direction family number) (rows_of_workload table) (workloads table)
@@ -151,7 +162,8 @@ rows_of_address-addresses table workload direction family number within =
     (λ near apart. rows_of_address-apart table workload near direction family number apart)
     ∙ rows_of_address-own table workload direction family number
 
-rows_of_address-pair : (table : Table) (workload : ℕ) (direction : Direction) (family : Family) (number source destination : ℕ) → rows_of_address workload direction family number (pair_rows table source destination) ≡ []
+rows_of_address-pair : (table : Table) (workload : ℕ) (direction : Direction) (family : Family) (number source destination : ℕ) →
+    rows_of_address workload direction family number (pair_rows table source destination) ≡ []
 rows_of_address-pair table workload direction family number source destination =
     filter-by (is_of_address workload direction family number) false (pair_rows table source destination)
     (All-weaker (HasKey (pair_key source destination)) (λ (row : Row). is_of_address workload direction family number row ≡ false)
@@ -164,9 +176,11 @@ rows_of_address-pairs table workload direction family number =
     filter-flat_map test (λ source. flat_map (pair_rows table source) (workloads table)) (workloads table)
     ∙ range-none (λ source. filter test (flat_map (pair_rows table source) (workloads table))) 0 (length table.names) (λ source _.
     filter-flat_map test (pair_rows table source) (workloads table)
-    ∙ range-none (λ destination. filter test (pair_rows table source destination)) 0 (length table.names) (λ destination _. rows_of_address-pair table workload direction family number source destination))
+    ∙ range-none (λ destination. filter test (pair_rows table source destination)) 0 (length table.names)
+    (λ destination _. rows_of_address-pair table workload direction family number source destination))
 
-rows_of_address-all : (table : Table) (workload : ℕ) (direction : Direction) (family : Family) (number : ℕ) → workload < length table.names → rows_of_address workload direction family number (all_rows table) ≡ map (row_of workload direction) (filter (has_address family number) (address_rows table workload direction))
+rows_of_address-all : (table : Table) (workload : ℕ) (direction : Direction) (family : Family) (number : ℕ) → workload < length table.names →
+    rows_of_address workload direction family number (all_rows table) ≡ map (row_of workload direction) (filter (has_address family number) (address_rows table workload direction))
 rows_of_address-all table workload direction family number within =
     filter-append (is_of_address workload direction family number) (all_pair_rows table) (all_address_rows table)
     ∙ ap (λ (rows : List Row). rows ++ rows_of_address workload direction family number (all_address_rows table)) (rows_of_address-pairs table workload direction family number)
@@ -175,7 +189,8 @@ rows_of_address-all table workload direction family number within =
 -- ---- the row of an address among all rows
 
 -- of a table one row is of a workload and an address, and it says what passes between them
-pub one_row-table : (table : Table) (workload : ℕ) (direction : Direction) (family : Family) (number : ℕ) → workload < length table.names → IsInFamily family number → OneRowSays workload direction family number (all_rows table) (table.addresses workload direction family number)
+pub one_row-table : (table : Table) (workload : ℕ) (direction : Direction) (family : Family) (number : ℕ) → workload < length table.names → IsInFamily family number →
+    OneRowSays workload direction family number (all_rows table) (table.addresses workload direction family number)
 unfolding address_rows
 one_row-table table workload direction family number within in_family =
     let one = one_has (table.addresses workload direction) family number in_family in (
@@ -184,12 +199,14 @@ one_row-table table workload direction family number within in_family =
       λ spot is. ap (λ (conns : Conns). has_spot conns spot) one.2 ∙ has_spot-conns_of (table.addresses workload direction family number) spot is,
     )
 
-addresses-are : (lists : EstateLists) (folding : Folding) (workload : ℕ) (direction : Direction) (family : Family) (number : ℕ) (spot : PortSpot) → (table_of lists folding).addresses workload direction family number spot ≡ address_allows lists folding workload direction family number spot
+addresses-are : (lists : EstateLists) (folding : Folding) (workload : ℕ) (direction : Direction) (family : Family) (number : ℕ) (spot : PortSpot) →
+    (table_of lists folding).addresses workload direction family number spot ≡ address_allows lists folding workload direction family number spot
 unfolding table_of
 addresses-are lists folding workload direction family number spot = refl
 
 -- and so between a pod of the workload and the address
-pub one_row-pods : (lists : EstateLists) (p : ℕ) (direction : Direction) (family : Family) (number : ℕ) → IsLawful lists → p < length lists.pods → IsInFamily family number → OneRowSays (number_of lists p) direction family number (all_rows (table_of lists (folding_of lists))) (with_address lists direction (pod (pod_at lists p)) family number)
+pub one_row-pods : (lists : EstateLists) (p : ℕ) (direction : Direction) (family : Family) (number : ℕ) → IsLawful lists → p < length lists.pods → IsInFamily family number →
+    OneRowSays (number_of lists p) direction family number (all_rows (table_of lists (folding_of lists))) (with_address lists direction (pod (pod_at lists p)) family number)
 one_row-pods lists p direction family number lawful p_in in_family =
     let one = one_row-table (table_of lists (folding_of lists)) (number_of lists p) direction family number (number-within lists p p_in) in_family in (
       one.0,

@@ -1,5 +1,6 @@
 -- How many rules are still to be looked at, from place to place.
-use Rattle.std.proofs.Common.{◌≡◌, ◌≢◌, ◌<◌, ◌≤◌, ◌+◌, ◌-◌, ◌*◌, ◌/◌, ◌%◌, ℕ, zero, suc, List, [], Bool, true, false, Option, length, map, nat_lt, arith, refl, sym, ap, subst, inl, inr, ◌∙◌, if◌then◌else◌}
+use Rattle.std.proofs.Common.{◌≡◌, ◌≢◌, ◌<◌, ◌≤◌, ◌+◌, ◌-◌, ◌*◌, ◌/◌, ◌%◌, ℕ, zero, suc, List, [], Bool, true, false, Option, length, map, nat_lt, arith, refl, sym, ap, subst, inl, inr, ◌∙◌}
+use Rattle.std.proofs.Common.{if◌then◌else◌}
 use Rattle.std.specs.List.{range_with_len}
 use Rattle.std.proofs.Math.Nat.{div-lt_iff_lt-mul, mod-lt, mul-le-mul_left, mul-le-mul_right}
 use Rattle.std.proofs.lemmas.Bool.{cases_lt, cases_order, lt-ltb, le-ltb}
@@ -26,7 +27,8 @@ greatest-at f a (suc n) (suc k) below =
 
 module _ (count kinds most : ℕ) where
   -- among the pairs
-  due-pair : (unkept source destination : ℕ) → source < count → destination < count → due_at count kinds most unkept (source * count + destination) ≡ most * (4 * (kinds * (count - 1 - source) + unkept) + 2 * count)
+  due-pair : (unkept source destination : ℕ) → source < count → destination < count →
+      due_at count kinds most unkept (source * count + destination) ≡ most * (4 * (kinds * (count - 1 - source) + unkept) + 2 * count)
   unfolding due_at
   due-pair unkept source destination low below =
       let place = source * count + destination in
@@ -48,26 +50,32 @@ module _ (count kinds most : ℕ) where
   spread x u = omega arith
 
   -- the next place of the same source
-  due-same_source : (old new unkept unkept' source destination : ℕ) → source < count → destination + 1 < count → new + 4 * most * unkept' ≤ old + 4 * most * unkept → new + due_at count kinds most unkept' (source * count + destination + 1) ≤ old + due_at count kinds most unkept (source * count + destination)
+  due-same_source : (old new unkept unkept' source destination : ℕ) → source < count → destination + 1 < count → new + 4 * most * unkept' ≤ old + 4 * most * unkept →
+      new + due_at count kinds most unkept' (source * count + destination + 1) ≤ old + due_at count kinds most unkept (source * count + destination)
   due-same_source old new unkept unkept' source destination low below steps =
       let x = count - 1 - source in
       let here = due-pair unkept source destination low (omega (arith, below)) ∙ spread x unkept in
-      let next = ap (due_at count kinds most unkept') (let same : source * count + destination + 1 ≡ source * count + (destination + 1) = omega arith in same) ∙ due-pair unkept' source (destination + 1) low below ∙ spread x unkept' in
+      let next = ap (due_at count kinds most unkept') (let same : source * count + destination + 1 ≡ source * count + (destination + 1) = omega arith in same) ∙ due-pair unkept' source
+      (destination + 1) low below ∙ spread x unkept' in
       omega (arith, here, next, steps)
 
   -- the first place of the next source
-  due-next_source : (old new unkept unkept' source destination : ℕ) → source + 1 < count → destination + 1 ≡ count → new + 4 * most * unkept' ≤ old + 4 * most * unkept → new + due_at count kinds most kinds (source * count + destination + 1) ≤ old + due_at count kinds most unkept (source * count + destination)
+  due-next_source : (old new unkept unkept' source destination : ℕ) → source + 1 < count → destination + 1 ≡ count → new + 4 * most * unkept' ≤ old + 4 * most * unkept →
+      new + due_at count kinds most kinds (source * count + destination + 1) ≤ old + due_at count kinds most unkept (source * count + destination)
   due-next_source old new unkept unkept' source destination low last steps =
       let x = count - 1 - (source + 1) in
       let here = due-pair unkept source destination (omega (arith, low)) (omega (arith, last)) ∙ spread (count - 1 - source) unkept in
-      let next = ap (due_at count kinds most kinds) (let same : source * count + destination + 1 ≡ (source + 1) * count + 0 = omega (arith, last) in same) ∙ due-pair kinds (source + 1) 0 low (omega (arith, low)) ∙ spread x kinds in
-      let more : kinds * (count - 1 - source) ≡ kinds * x + kinds = ap (λ (n : ℕ). kinds * n) (let same : count - 1 - source ≡ x + 1 = omega (arith, low) in same) ∙ (let same : kinds * (x + 1) ≡ kinds * x + kinds = omega arith in same) in
+      let next = ap (due_at count kinds most kinds) (let same : source * count + destination + 1 ≡ (source + 1) * count + 0 = omega (arith, last) in same) ∙ due-pair kinds (source + 1) 0 low
+      (omega (arith, low)) ∙ spread x kinds in
+      let more : kinds * (count - 1 - source) ≡ kinds * x + kinds = ap (λ (n : ℕ). kinds * n) (let same : count - 1 - source ≡ x + 1 = omega (arith, low) in same) ∙
+      (let same : kinds * (x + 1) ≡ kinds * x + kinds = omega arith in same) in
       let same : most * (4 * (kinds * (count - 1 - source)) + 2 * count) ≡ most * (4 * (kinds * x) + 2 * count) + 4 * most * kinds =
       ap (λ (n : ℕ). most * (4 * n + 2 * count)) more ∙ spread x kinds in
       omega (arith, here, next, same, steps)
 
   -- the first place behind the pairs
-  due-last_source : (old new unkept unkept' source destination : ℕ) → source + 1 ≡ count → destination + 1 ≡ count → new + 4 * most * unkept' ≤ old + 4 * most * unkept → new + due_at count kinds most kinds (source * count + destination + 1) ≤ old + due_at count kinds most unkept (source * count + destination)
+  due-last_source : (old new unkept unkept' source destination : ℕ) → source + 1 ≡ count → destination + 1 ≡ count → new + 4 * most * unkept' ≤ old + 4 * most * unkept →
+      new + due_at count kinds most kinds (source * count + destination + 1) ≤ old + due_at count kinds most unkept (source * count + destination)
   due-last_source old new unkept unkept' source destination low last steps =
       let x = count - 1 - source in
       let here = due-pair unkept source destination (omega (arith, low)) (omega (arith, last)) ∙ spread x unkept in
@@ -78,7 +86,8 @@ module _ (count kinds most : ℕ) where
       omega (arith, here, next, left, some, steps)
 
   -- the next addresses
-  due-address : (old new unkept unkept' place : ℕ) → count * count ≤ place → place < place_count count → new ≤ old + most → new + due_at count kinds most unkept' (place + 1) ≤ old + due_at count kinds most unkept place
+  due-address : (old new unkept unkept' place : ℕ) → count * count ≤ place → place < place_count count → new ≤ old + most →
+      new + due_at count kinds most unkept' (place + 1) ≤ old + due_at count kinds most unkept place
   due-address old new unkept unkept' place up below steps =
       let here = due-behind unkept place up in
       let next = due-behind unkept' (place + 1) (omega (arith, up)) in
@@ -88,7 +97,8 @@ module _ (count kinds most : ℕ) where
       omega (arith, here, next, more, steps)
 
   -- what is due at a place among the pairs has what is due for the kinds of which nothing is kept
-  due-unkept : (old new unkept source destination : ℕ) → source < count → destination < count → new ≤ old + 4 * most * unkept → new ≤ old + due_at count kinds most unkept (source * count + destination)
+  due-unkept : (old new unkept source destination : ℕ) → source < count → destination < count → new ≤ old + 4 * most * unkept →
+      new ≤ old + due_at count kinds most unkept (source * count + destination)
   due-unkept old new unkept source destination low below steps =
       let here = due-pair unkept source destination low below ∙ spread (count - 1 - source) unkept in
       omega (arith, here, steps)
@@ -105,7 +115,8 @@ due-start (suc n) kinds most =
 -- ---- what is due of an estate
 
 -- before the first place nothing is kept
-pub due_from-start : (lists : EstateLists) (folding : Folding) → due_from lists folding 0 [] ≡ (4 * length folding.workloads * folding.kind_count + 2 * length folding.workloads) * most_rules lists folding
+pub due_from-start : (lists : EstateLists) (folding : Folding) →
+    due_from lists folding 0 [] ≡ (4 * length folding.workloads * folding.kind_count + 2 * length folding.workloads) * most_rules lists folding
 unfolding due_from
 due_from-start lists folding =
     let count = length folding.workloads in
@@ -143,7 +154,9 @@ same_source count place below more =
 
 module _ (lists : EstateLists) (folding : Folding) (old new place : ℕ) (kept kept' : List (Option (List CachedConns))) where
   -- where its source is the same
-  pub due_from-same_source : place < length folding.workloads * length folding.workloads → place % length folding.workloads + 1 ≢ length folding.workloads → new + 4 * most_rules lists folding * (folding.kind_count - kept_count kept') ≤ old + 4 * most_rules lists folding * (folding.kind_count - kept_count kept) → new + due_from lists folding (place + 1) kept' ≤ old + due_from lists folding place kept
+  pub due_from-same_source : place < length folding.workloads * length folding.workloads → place % length folding.workloads + 1 ≢ length folding.workloads →
+      new + 4 * most_rules lists folding * (folding.kind_count - kept_count kept') ≤ old + 4 * most_rules lists folding * (folding.kind_count - kept_count kept) →
+      new + due_from lists folding (place + 1) kept' ≤ old + due_from lists folding place kept
   unfolding due_from
   due_from-same_source below more steps =
       let count = length folding.workloads in
@@ -153,10 +166,13 @@ module _ (lists : EstateLists) (folding : Folding) (old new place : ℕ) (kept k
       let due = λ (u p : ℕ). due_at count folding.kind_count (most_rules lists folding) u p in
       let is : place / count * count + place % count ≡ place = div-add-mod' place count in
       let P : ℕ → Type 0 = λ p. new + due unkept' (p + 1) ≤ old + due unkept p in
-      subst P is (due-same_source count folding.kind_count (most_rules lists folding) old new unkept unkept' (place / count) (place % count) (source-below count place below) (omega (arith, d, more)) steps)
+      subst P is (due-same_source count folding.kind_count (most_rules lists folding) old new unkept unkept' (place / count) (place % count) (source-below count place below)
+      (omega (arith, d, more)) steps)
 
   -- where it is the next one, and nothing is kept
-  pub due_from-next_source : place < length folding.workloads * length folding.workloads → place % length folding.workloads + 1 ≡ length folding.workloads → new + 4 * most_rules lists folding * (folding.kind_count - kept_count kept') ≤ old + 4 * most_rules lists folding * (folding.kind_count - kept_count kept) → new + due_from lists folding (place + 1) [] ≤ old + due_from lists folding place kept
+  pub due_from-next_source : place < length folding.workloads * length folding.workloads → place % length folding.workloads + 1 ≡ length folding.workloads →
+      new + 4 * most_rules lists folding * (folding.kind_count - kept_count kept') ≤ old + 4 * most_rules lists folding * (folding.kind_count - kept_count kept) →
+      new + due_from lists folding (place + 1) [] ≤ old + due_from lists folding place kept
   unfolding due_from
   due_from-next_source below last steps =
       let count = length folding.workloads in
@@ -175,20 +191,23 @@ module _ (lists : EstateLists) (folding : Folding) (old new place : ℕ) (kept k
       ]))
 
   -- where addresses were looked at
-  pub due_from-address : length folding.workloads * length folding.workloads ≤ place → place < place_count (length folding.workloads) → new ≤ old + most_rules lists folding → new + due_from lists folding (place + 1) kept' ≤ old + due_from lists folding place kept
+  pub due_from-address : length folding.workloads * length folding.workloads ≤ place → place < place_count (length folding.workloads) → new ≤ old + most_rules lists folding →
+      new + due_from lists folding (place + 1) kept' ≤ old + due_from lists folding place kept
   unfolding due_from
   due_from-address up below steps =
       due-address (length folding.workloads) folding.kind_count (most_rules lists folding) old new (folding.kind_count - kept_count kept) (folding.kind_count - kept_count kept') place up below steps
 
   -- what is due has what was looked at for a pair
-  pub due_from-pair : place < length folding.workloads * length folding.workloads → new ≤ old + 4 * most_rules lists folding * (folding.kind_count - kept_count kept) → new ≤ old + due_from lists folding place kept
+  pub due_from-pair : place < length folding.workloads * length folding.workloads → new ≤ old + 4 * most_rules lists folding * (folding.kind_count - kept_count kept) →
+      new ≤ old + due_from lists folding place kept
   unfolding due_from
   due_from-pair below steps =
       let count = length folding.workloads in
       let is : place / count * count + place % count ≡ place = div-add-mod' place count in
       let unkept = folding.kind_count - kept_count kept in
       let P : ℕ → Type 0 = λ p. new ≤ old + due_at count folding.kind_count (most_rules lists folding) unkept p in
-      subst P is (due-unkept count folding.kind_count (most_rules lists folding) old new unkept (place / count) (place % count) (source-below count place below) (destination-below count place below) steps)
+      subst P is (due-unkept count folding.kind_count (most_rules lists folding) old new unkept (place / count) (place % count) (source-below count place below)
+      (destination-below count place below) steps)
 
 -- ---- places that are passed over
 
@@ -223,11 +242,14 @@ module _ (count place later : ℕ) (same : IsOfSameSource count place later) whe
       ap (λ (b : Bool). if b then most * (4 * (kinds * (count - 1 - later / count) + unkept) + 2 * count) else most * (place_count count - later)) over-pairs
       ∙ go (nat_lt place (pair_count count)) over-behind
     where
-      go : (b : Bool) → (b ≡ false → later ≡ place) → (if b then most * (4 * (kinds * (count - 1 - later / count) + unkept) + 2 * count) else most * (place_count count - later)) ≡ (if b then most * (4 * (kinds * (count - 1 - place / count) + unkept) + 2 * count) else most * (place_count count - place))
+      go : (b : Bool) → (b ≡ false → later ≡ place) →
+          (if b then most * (4 * (kinds * (count - 1 - later / count) + unkept) + 2 * count) else most * (place_count count - later)) ≡
+          (if b then most * (4 * (kinds * (count - 1 - place / count) + unkept) + 2 * count) else most * (place_count count - place))
       go true behind = ap (λ (source : ℕ). most * (4 * (kinds * (count - 1 - source) + unkept) + 2 * count)) over-source
       go false behind = ap (λ (n : ℕ). most * (place_count count - n)) (behind refl)
 
 -- as much is due at a later place of the same source
-pub due_from-over : (lists : EstateLists) (folding : Folding) (place later : ℕ) (kept : List (Option (List CachedConns))) → IsOfSameSource (length folding.workloads) place later → due_from lists folding later kept ≡ due_from lists folding place kept
+pub due_from-over : (lists : EstateLists) (folding : Folding) (place later : ℕ) (kept : List (Option (List CachedConns))) → IsOfSameSource (length folding.workloads) place later →
+    due_from lists folding later kept ≡ due_from lists folding place kept
 unfolding due_from
 due_from-over lists folding place later kept same = over-due (length folding.workloads) place later same folding.kind_count (most_rules lists folding) (folding.kind_count - kept_count kept)

@@ -34,15 +34,18 @@ KeepsTheSame-place old kept same = record {
 
 -- ---- a kind more
 
-kept_count-set : (kept : List (Option (List CachedConns))) (kind : ℕ) (conns : List CachedConns) → kind < length kept → kept_at kept kind ≡ None → kept_count (set kept kind (Some conns)) ≡ kept_count kept + 1
+kept_count-set : (kept : List (Option (List CachedConns))) (kind : ℕ) (conns : List CachedConns) → kind < length kept → kept_at kept kind ≡ None →
+    kept_count (set kept kind (Some conns)) ≡ kept_count kept + 1
 kept_count-set [] kind conns below none = absurd (omega (arith, below))
 kept_count-set (Some there ∷ kept) zero conns below none = absurd (cc)
 kept_count-set (None ∷ kept) zero conns below none = omega (arith, count-some conns kept, count-none kept)
-kept_count-set (Some there ∷ kept) (suc kind) conns below none = omega (arith, count-some there (set kept kind (Some conns)), count-some there kept, kept_count-set kept kind conns (omega (arith, below)) none)
+kept_count-set (Some there ∷ kept) (suc kind) conns below none = omega
+    (arith, count-some there (set kept kind (Some conns)), count-some there kept, kept_count-set kept kind conns (omega (arith, below)) none)
 kept_count-set (None ∷ kept) (suc kind) conns below none = omega (arith, count-none (set kept kind (Some conns)), count-none kept, kept_count-set kept kind conns (omega (arith, below)) none)
 
 -- where nothing was kept for the kind, there is one more
-pub kept_count-more : (old kept : List (Option (List CachedConns))) (kind : ℕ) (conns : List CachedConns) → kind < length kept → KeepsTheSame old kept → kept_at old kind ≡ None → kept_count (set kept kind (Some conns)) ≡ kept_count old + 1
+pub kept_count-more : (old kept : List (Option (List CachedConns))) (kind : ℕ) (conns : List CachedConns) → kind < length kept → KeepsTheSame old kept → kept_at old kind ≡ None →
+    kept_count (set kept kind (Some conns)) ≡ kept_count old + 1
 kept_count-more old kept kind conns below same none =
     kept_count-set kept kind conns below (same.all kind ∙ none) ∙ ap (λ n. n + 1) same.count
 

@@ -1,5 +1,6 @@
 -- Rows of destinations of one kind, and what is kept of them.
-use Rattle.std.proofs.Common.{◌≡◌, ◌≢◌, ◌<◌, ◌≤◌, ◌+◌, ◌*◌, ◌-◌, ◌/◌, ◌%◌, ℕ, zero, suc, List, [], ◌∷◌, ◌++◌, Bool, true, false, Option, Some, None, length, map, max, slice_index, arith, refl, sym, ap, subst, ◌∙◌, inl, inr, if◌then◌else◌}
+use Rattle.std.proofs.Common.{◌≡◌, ◌≢◌, ◌<◌, ◌≤◌, ◌+◌, ◌*◌, ◌-◌, ◌/◌, ◌%◌, ℕ, zero, suc, List, [], ◌∷◌, ◌++◌, Bool, true, false, Option, Some, None, length, map, max, slice_index, arith, refl, sym}
+use Rattle.std.proofs.Common.{ap, subst, ◌∙◌, inl, inr, if◌then◌else◌}
 use Rattle.std.specs.Option.{option_map}
 use Rattle.std.proofs.Math.Nat.{mul-le-mul_left}
 use Rattle.std.proofs.lemmas.Bool.Decides.{eqb_tells}
@@ -43,14 +44,17 @@ with_ends-append : (key : RowKey) (xs ys : List Row) → with_ends key (xs ++ ys
 with_ends-append key [] ys = refl
 with_ends-append key (x ∷ xs) ys = ap (λ (rows : List Row). row_with key (kept_of x) ∷ rows) (with_ends-append key xs ys)
 
-with_ends-if : (key key' : RowKey) (family : Option Family) (conns : Conns) (none : Bool) → with_ends key' (if none then [] else record { key = key; family = family; conns = conns } ∷ []) ≡ (if none then [] else record { key = key'; family = family; conns = conns } ∷ [])
+with_ends-if : (key key' : RowKey) (family : Option Family) (conns : Conns) (none : Bool) →
+    with_ends key' (if none then [] else record { key = key; family = family; conns = conns } ∷ []) ≡ (if none then [] else record { key = key'; family = family; conns = conns } ∷ [])
 with_ends-if key key' family conns true = refl
 with_ends-if key key' family conns false = refl
 
 with_ends-row_if : (key key' : RowKey) (family : Option Family) (conns : Conns) → with_ends key' (row_if key family conns) ≡ row_if key' family conns
 with_ends-row_if key key' family conns = with_ends-if key key' family conns (is_nothing conns)
 
-with_ends-both : (key key' : RowKey) (four six : Conns) (same : Bool) → with_ends key' (if same then row_if key None four else row_if key (Some Four) four ++ row_if key (Some Six) six) ≡ (if same then row_if key' None four else row_if key' (Some Four) four ++ row_if key' (Some Six) six)
+with_ends-both : (key key' : RowKey) (four six : Conns) (same : Bool) →
+    with_ends key' (if same then row_if key None four else row_if key (Some Four) four ++ row_if key (Some Six) six) ≡
+    (if same then row_if key' None four else row_if key' (Some Four) four ++ row_if key' (Some Six) six)
 with_ends-both key key' four six true = with_ends-row_if key key' None four
 with_ends-both key key' four six false =
     with_ends-append key' (row_if key (Some Four) four) (row_if key (Some Six) six)
@@ -62,21 +66,26 @@ with_ends-rows_in [] key key' conns = with_ends-both key key' (conns Four) (conn
 with_ends-rows_in (family ∷ []) key key' conns = with_ends-row_if key key' None (conns family)
 with_ends-rows_in (family ∷ next ∷ families) key key' conns = with_ends-both key key' (conns Four) (conns Six) (are_same_conns (conns Four) (conns Six))
 
-rows_of_both-agree : (key : RowKey) (conns conns' : Family → Conns) → ((family : Family) → conns family ≡ conns' family) → rows_of_both key (conns Four) (conns Six) ≡ rows_of_both key (conns' Four) (conns' Six)
+rows_of_both-agree : (key : RowKey) (conns conns' : Family → Conns) → ((family : Family) → conns family ≡ conns' family) →
+    rows_of_both key (conns Four) (conns Six) ≡ rows_of_both key (conns' Four) (conns' Six)
 rows_of_both-agree key conns conns' agree =
     ap (λ (four : Conns). rows_of_both key four (conns Six)) (agree Four) ∙ ap (λ (six : Conns). rows_of_both key (conns' Four) six) (agree Six)
 
-pub rows_in-agree : (families : List Family) (key : RowKey) (conns conns' : Family → Conns) → ((family : Family) → conns family ≡ conns' family) → rows_in families key conns ≡ rows_in families key conns'
+pub rows_in-agree : (families : List Family) (key : RowKey) (conns conns' : Family → Conns) → ((family : Family) → conns family ≡ conns' family) →
+    rows_in families key conns ≡ rows_in families key conns'
 rows_in-agree [] key conns conns' agree = rows_of_both-agree key conns conns' agree
 rows_in-agree (family ∷ []) key conns conns' agree = ap (row_if key None) (agree family)
 rows_in-agree (family ∷ next ∷ families) key conns conns' agree = rows_of_both-agree key conns conns' agree
 
 -- destinations to which the same passes have the same rows but for their ends
-with_ends-pair_rows : (lists : EstateLists) (folding : Folding) (source b b' : ℕ) → ((family : Family) → conns_of (pair_allows lists folding source b family) ≡ conns_of (pair_allows lists folding source b' family)) → with_ends (pair_key source b') (pair_rows (table_of lists folding) source b) ≡ pair_rows (table_of lists folding) source b'
+with_ends-pair_rows : (lists : EstateLists) (folding : Folding) (source b b' : ℕ) →
+    ((family : Family) → conns_of (pair_allows lists folding source b family) ≡ conns_of (pair_allows lists folding source b' family)) →
+    with_ends (pair_key source b') (pair_rows (table_of lists folding) source b) ≡ pair_rows (table_of lists folding) source b'
 unfolding pair_rows table_of
 with_ends-pair_rows lists folding source b b' same =
     with_ends-rows_in (table_of lists folding).families (pair_key source b) (pair_key source b') (λ family. conns_of (pair_allows lists folding source b family))
-    ∙ rows_in-agree (table_of lists folding).families (pair_key source b') (λ family. conns_of (pair_allows lists folding source b family)) (λ family. conns_of (pair_allows lists folding source b' family)) same
+    ∙ rows_in-agree (table_of lists folding).families (pair_key source b') (λ family. conns_of (pair_allows lists folding source b family))
+    (λ family. conns_of (pair_allows lists folding source b' family)) same
 
 -- ---- a workload of one pod with itself
 
@@ -100,12 +109,14 @@ rows_in-nothing (family ∷ next ∷ families) key = refl
 pub pair_rows-alone : (lists : EstateLists) (folding : Folding) (source destination : ℕ) → is_alone folding source destination ≡ true → [] ≡ pair_rows (table_of lists folding) source destination
 unfolding pair_rows table_of
 pair_rows-alone lists folding source destination alone =
-    sym (rows_in-agree (table_of lists folding).families (pair_key source destination) (λ family. conns_of (pair_allows lists folding source destination family)) (λ family. nothing) (λ family. conns_of-nothing _ (λ spot. pair_allows-alone lists folding source destination family spot alone))
+    sym (rows_in-agree (table_of lists folding).families (pair_key source destination) (λ family. conns_of (pair_allows lists folding source destination family)) (λ family. nothing)
+    (λ family. conns_of-nothing _ (λ spot. pair_allows-alone lists folding source destination family spot alone))
     ∙ rows_in-nothing (table_of lists folding).families (pair_key source destination))
 
 -- ---- kinds
 
-pub kinds-by : (lists : EstateLists) (number : ℕ) → number < length (folding_of lists).workloads → (number < workload_count lists) × (number < length (folding_of lists).kinds) × (slice_index (folding_of lists).kinds number ≡ class_of (kinds_alike lists) (workload_count lists) number)
+pub kinds-by : (lists : EstateLists) (number : ℕ) → number < length (folding_of lists).workloads →
+    (number < workload_count lists) × (number < length (folding_of lists).kinds) × (slice_index (folding_of lists).kinds number ≡ class_of (kinds_alike lists) (workload_count lists) number)
 unfolding folding_of
 kinds-by lists number within =
     let low : number < workload_count lists = subst (λ (n : ℕ). number < n) (workloads-count lists) within in
@@ -140,13 +151,17 @@ kind-within lists folding number folded =
     subst (λ (n : ℕ). n < (folding_of lists).kind_count) (sym kind.2) (kind_count-within lists number kind.0))
 
 -- the same passes to destinations of one kind
-conns-same_kind : (lists : EstateLists) (folding : Folding) (source b b' : ℕ) (family : Family) → folding ≡ folding_of lists → IsLawful lists → source < length folding.workloads → b < length folding.workloads → b' < length folding.workloads → slice_index folding.kinds b ≡ slice_index folding.kinds b' → is_alone folding source b ≡ false → is_alone folding source b' ≡ false → conns_of (pair_allows lists folding source b family) ≡ conns_of (pair_allows lists folding source b' family)
+conns-same_kind : (lists : EstateLists) (folding : Folding) (source b b' : ℕ) (family : Family) → folding ≡ folding_of lists → IsLawful lists → source < length folding.workloads →
+    b < length folding.workloads → b' < length folding.workloads → slice_index folding.kinds b ≡ slice_index folding.kinds b' → is_alone folding source b ≡ false → is_alone folding source b' ≡ false →
+    conns_of (pair_allows lists folding source b family) ≡ conns_of (pair_allows lists folding source b' family)
 conns-same_kind lists folding source b b' family folded lawful =
-    let of : Folding → Type 0 = λ f. source < length f.workloads → b < length f.workloads → b' < length f.workloads → slice_index f.kinds b ≡ slice_index f.kinds b' → is_alone f source b ≡ false → is_alone f source b' ≡ false → conns_of (pair_allows lists f source b family) ≡ conns_of (pair_allows lists f source b' family) in
+    let of : Folding → Type 0 = λ f. source < length f.workloads → b < length f.workloads → b' < length f.workloads → slice_index f.kinds b ≡ slice_index f.kinds b' → is_alone f source b ≡ false →
+    is_alone f source b' ≡ false → conns_of (pair_allows lists f source b family) ≡ conns_of (pair_allows lists f source b' family) in
     subst of (sym folded) (λ near far far' same alone alone'.
     let kind = kinds-by lists b far in
     let kind' = kinds-by lists b' far' in
-    conns_of-agrees _ _ (λ spot _. pair_allows-kinds lists source source b b' family spot lawful (kinds-by lists source near).0 (kinds-by lists source near).0 kind.0 kind'.0 refl (sym kind.2 ∙ same ∙ kind'.2) alone alone'))
+    conns_of-agrees _ _ (λ spot _. pair_allows-kinds lists source source b b' family spot lawful (kinds-by lists source near).0 (kinds-by lists source near).0 kind.0 kind'.0 refl
+    (sym kind.2 ∙ same ∙ kind'.2) alone alone'))
 
 -- ---- what is kept
 
@@ -160,7 +175,8 @@ unfolding IsKept
 IsKept-nothing lists folding source destination conns near far alone is = absurd (nothing_there (slice_index folding.kinds destination) conns is)
 
 -- what is kept stays right
-pub IsKept-same : (lists : EstateLists) (folding : Folding) (source : ℕ) (old new : List (Option (List CachedConns))) → IsKept lists folding source old → KeepsTheSame old new → IsKept lists folding source new
+pub IsKept-same : (lists : EstateLists) (folding : Folding) (source : ℕ) (old new : List (Option (List CachedConns))) → IsKept lists folding source old → KeepsTheSame old new →
+    IsKept lists folding source new
 unfolding IsKept
 IsKept-same lists folding source old new kept same destination conns near far alone is =
     kept destination conns near far alone (sym (same.all _) ∙ is)
@@ -169,7 +185,9 @@ same_some : (found : Option (List CachedConns)) (a b : List CachedConns) → fou
 same_some found a b is is' = cc
 
 -- also with the rows to one more kind
-pub IsKept-also : (lists : EstateLists) (folding : Folding) (source destination : ℕ) (old new : List (Option (List CachedConns))) (rows : List Row) → folding ≡ folding_of lists → IsLawful lists → destination < length folding.workloads → is_alone folding source destination ≡ false → rows ≡ pair_rows (table_of lists folding) source destination → IsKept lists folding source old → KeepsAlso old new (slice_index folding.kinds destination) (map kept_of rows) → IsKept lists folding source new
+pub IsKept-also : (lists : EstateLists) (folding : Folding) (source destination : ℕ) (old new : List (Option (List CachedConns))) (rows : List Row) → folding ≡ folding_of lists → IsLawful lists →
+    destination < length folding.workloads → is_alone folding source destination ≡ false → rows ≡ pair_rows (table_of lists folding) source destination → IsKept lists folding source old →
+    KeepsAlso old new (slice_index folding.kinds destination) (map kept_of rows) → IsKept lists folding source new
 unfolding IsKept
 IsKept-also lists folding source destination old new rows folded lawful here here_alone made kept also other conns near far alone is =
     elim (eqb_tells (slice_index folding.kinds other) (slice_index folding.kinds destination)) [
@@ -177,16 +195,20 @@ IsKept-also lists folding source destination old new rows folded lawful here her
           let at = subst (λ (kind : ℕ). kept_at new kind ≡ Some conns) same.1 is in
           ap (map (row_with (pair_key source other))) (same_some _ conns (map kept_of rows) at also.one)
           ∙ ap (with_ends (pair_key source other)) made
-          ∙ with_ends-pair_rows lists folding source destination other (λ family. conns-same_kind lists folding source destination other family folded lawful near here far (sym same.1) here_alone alone)
+          ∙ with_ends-pair_rows lists folding source destination other (λ family. conns-same_kind lists folding source destination other family folded lawful near here far
+          (sym same.1) here_alone alone)
       | inr apart ↦ kept other conns near far alone (sym (also.others _ apart.1) ∙ is)
     ]
 
-some_kept : (found : Option (List CachedConns)) (f : List CachedConns → List Row) (rows : List Row) → Some rows ≡ option_map f found → (conns : List CachedConns) × (found ≡ Some conns) × (rows ≡ f conns)
+some_kept : (found : Option (List CachedConns)) (f : List CachedConns → List Row) (rows : List Row) → Some rows ≡ option_map f found →
+    (conns : List CachedConns) × (found ≡ Some conns) × (rows ≡ f conns)
 some_kept None f rows is = absurd (cc)
 some_kept (Some conns) f rows is = (conns, refl, cc)
 
 -- what is kept for the kind of a destination gives its rows
-pub rows-kept : (lists : EstateLists) (folding : Folding) (source destination : ℕ) (kept : List (Option (List CachedConns))) (rows : List Row) → source < length folding.workloads → destination < length folding.workloads → is_alone folding source destination ≡ false → IsKept lists folding source kept → Some rows ≡ option_map (map (row_with (pair_key source destination))) (kept_at kept (slice_index folding.kinds destination)) → rows ≡ pair_rows (table_of lists folding) source destination
+pub rows-kept : (lists : EstateLists) (folding : Folding) (source destination : ℕ) (kept : List (Option (List CachedConns))) (rows : List Row) → source < length folding.workloads →
+    destination < length folding.workloads → is_alone folding source destination ≡ false → IsKept lists folding source kept →
+    Some rows ≡ option_map (map (row_with (pair_key source destination))) (kept_at kept (slice_index folding.kinds destination)) → rows ≡ pair_rows (table_of lists folding) source destination
 unfolding IsKept
 rows-kept lists folding source destination kept rows near far alone is_kept is =
     let there = some_kept (kept_at kept (slice_index folding.kinds destination)) (map (row_with (pair_key source destination))) rows is in
@@ -200,7 +222,8 @@ none_kept (Some conns) f is = absurd (cc)
 -- ---- the most rules
 
 -- of no workload more rules speak
-pub rules-most : (lists : EstateLists) (folding : Folding) (direction : Direction) (workload : ℕ) → workload < length folding.workloads → rules_of lists folding direction workload ≤ most_rules lists folding
+pub rules-most : (lists : EstateLists) (folding : Folding) (direction : Direction) (workload : ℕ) → workload < length folding.workloads →
+    rules_of lists folding direction workload ≤ most_rules lists folding
 unfolding most_rules
 rules-most lists folding direction workload within =
     let both : ℕ → ℕ = λ w. max (rules_of lists folding Ingress w) (rules_of lists folding Egress w) in
@@ -209,7 +232,8 @@ rules-most lists folding direction workload within =
     elim direction as (λ d. rules_of lists folding d workload ≤ most_rules lists folding) [ Ingress ↦ omega (arith, here, most) | Egress ↦ omega (arith, here, most) ]
 
 -- what is looked at for a pair is due for a kind for which nothing is kept
-pub pair-due : (lists : EstateLists) (folding : Folding) (old new kind : ℕ) (kept : List (Option (List CachedConns))) → kind < folding.kind_count → length kept ≤ folding.kind_count → kept_at kept kind ≡ None → new ≤ old + 4 * most_rules lists folding → new ≤ old + 4 * most_rules lists folding * (folding.kind_count - kept_count kept)
+pub pair-due : (lists : EstateLists) (folding : Folding) (old new kind : ℕ) (kept : List (Option (List CachedConns))) → kind < folding.kind_count → length kept ≤ folding.kind_count →
+    kept_at kept kind ≡ None → new ≤ old + 4 * most_rules lists folding → new ≤ old + 4 * most_rules lists folding * (folding.kind_count - kept_count kept)
 pair-due lists folding old new kind kept within few none steps =
     let most = 4 * most_rules lists folding in
     let low = kept_count-below kept kind folding.kind_count few within none in
@@ -217,7 +241,9 @@ pair-due lists folding old new kind kept within few none steps =
     omega (arith, steps, one)
 
 -- and no more when it is kept
-pub pair-counted : (lists : EstateLists) (folding : Folding) (old new kind : ℕ) (kept kept' : List (Option (List CachedConns))) → kind < folding.kind_count → length kept ≤ folding.kind_count → kept_at kept kind ≡ None → kept_count kept' ≡ kept_count kept + 1 → new ≤ old + 4 * most_rules lists folding → new + 4 * most_rules lists folding * (folding.kind_count - kept_count kept') ≤ old + 4 * most_rules lists folding * (folding.kind_count - kept_count kept)
+pub pair-counted : (lists : EstateLists) (folding : Folding) (old new kind : ℕ) (kept kept' : List (Option (List CachedConns))) → kind < folding.kind_count → length kept ≤ folding.kind_count →
+    kept_at kept kind ≡ None → kept_count kept' ≡ kept_count kept + 1 → new ≤ old + 4 * most_rules lists folding →
+    new + 4 * most_rules lists folding * (folding.kind_count - kept_count kept') ≤ old + 4 * most_rules lists folding * (folding.kind_count - kept_count kept)
 pair-counted lists folding old new kind kept kept' within few none more steps =
     let most = 4 * most_rules lists folding in
     let low = kept_count-below kept kind folding.kind_count few within none in
@@ -229,17 +255,20 @@ pair-counted lists folding old new kind kept kept' within few none more steps =
 -- ---- places
 
 -- for the next place of the same source the same is kept
-pub IsKept-same_source : (lists : EstateLists) (folding : Folding) (place : ℕ) (kept : List (Option (List CachedConns))) → place < length folding.workloads * length folding.workloads → place % length folding.workloads + 1 ≢ length folding.workloads → IsKept lists folding (place / length folding.workloads) kept → IsKept lists folding ((place + 1) / length folding.workloads) kept
+pub IsKept-same_source : (lists : EstateLists) (folding : Folding) (place : ℕ) (kept : List (Option (List CachedConns))) → place < length folding.workloads * length folding.workloads →
+    place % length folding.workloads + 1 ≢ length folding.workloads → IsKept lists folding (place / length folding.workloads) kept → IsKept lists folding ((place + 1) / length folding.workloads) kept
 IsKept-same_source lists folding place kept below more is =
     let P : ℕ → Type 0 = λ source. IsKept lists folding source kept in
     subst P (sym (same_source (length folding.workloads) place below more)) is
 
 -- and behind the pairs there is no source
-pub IsKept-behind : (lists : EstateLists) (folding : Folding) (place : ℕ) (kept : List (Option (List CachedConns))) → length folding.workloads * length folding.workloads ≤ place → IsKept lists folding (place / length folding.workloads) kept
+pub IsKept-behind : (lists : EstateLists) (folding : Folding) (place : ℕ) (kept : List (Option (List CachedConns))) → length folding.workloads * length folding.workloads ≤ place →
+    IsKept lists folding (place / length folding.workloads) kept
 unfolding IsKept
 IsKept-behind lists folding place kept up destination conns near far alone is = absurd (source-behind (length folding.workloads) place up near)
 
 -- for a later place of the same source the same is kept
-pub IsKept-over : (lists : EstateLists) (folding : Folding) (place later : ℕ) (kept : List (Option (List CachedConns))) → IsOfSameSource (length folding.workloads) place later → IsKept lists folding (place / length folding.workloads) kept → IsKept lists folding (later / length folding.workloads) kept
+pub IsKept-over : (lists : EstateLists) (folding : Folding) (place later : ℕ) (kept : List (Option (List CachedConns))) → IsOfSameSource (length folding.workloads) place later →
+    IsKept lists folding (place / length folding.workloads) kept → IsKept lists folding (later / length folding.workloads) kept
 IsKept-over lists folding place later kept same is =
     subst (λ (source : ℕ). IsKept lists folding source kept) (sym (over-source (length folding.workloads) place later same)) is

@@ -1,7 +1,7 @@
 -- Lists whose items pass alike, and facts of lists that are joined.
 use Rattle.std.proofs.Common.{◌≡◌, ℕ, ◌+◌, List, [], ◌∷◌, ◌++◌, Bool, true, false, ◌&&◌, ◌||◌, map, filter, Some, refl, ap, ◌∙◌, if◌then◌else◌}
 use Rattle.std.specs.List.{AllByRecursion, enumerate_from, find, flat_map, list_all, list_any}
-use Rattle.np_rules.specs.Rules.{none_or_any}
+use Rattle.np_rules.specs.model.Rules.{none_or_any}
 
 -- ---- tests that agree on the items
 
@@ -68,6 +68,7 @@ pub All-if : {X : Type 0} (P : X → Type 0) (b : Bool) (xs : List X) → AllByR
 All-if P true xs all = all
 All-if P false xs all = tt
 
-pub All-numbered : {X Y : Type 0} (P : X → Type 0) (Q : Y → Type 0) (make : ℕ × X → Y) → ((numbered : ℕ × X) → P numbered.1 → Q (make numbered)) → (n : ℕ) (xs : List X) → AllByRecursion P xs → AllByRecursion Q (map make (enumerate_from n xs))
+pub All-numbered : {X Y : Type 0} (P : X → Type 0) (Q : Y → Type 0) (make : ℕ × X → Y) → ((numbered : ℕ × X) → P numbered.1 → Q (make numbered)) → (n : ℕ) (xs : List X) → AllByRecursion P xs →
+    AllByRecursion Q (map make (enumerate_from n xs))
 All-numbered P Q make each n [] all = tt
 All-numbered P Q make each n (x ∷ xs) all = (each (n, x) all.0, All-numbered P Q make each (n + 1) xs all.1)

@@ -24,9 +24,9 @@ use Rattle.np_model.specs.declared.network_policy.NetPort.{NetPort}
 use Rattle.np_model.specs.declared.network_policy.NetPort.TheVariants as net_port
 use Rattle.np_rules.proofs.BlockPeers.{by_blocks}
 use Rattle.np_rules.specs.BlockFamilies.{some_inside}
-use Rattle.np_rules.specs.Ends.{End, PodEnd, pod, address}
-use Rattle.np_rules.specs.Peers.{admin_peer_matches, in_some, net_peer_matches, pods_match}
-use Rattle.np_rules.specs.PortEntries.{admin_entry_matches, has_named, net_entry_matches}
+use Rattle.np_rules.specs.model.Ends.{End, PodEnd, pod, address}
+use Rattle.np_rules.specs.model.Peers.{admin_peer_matches, in_some, net_peer_matches, pods_match}
+use Rattle.np_rules.specs.model.PortEntries.{admin_entry_matches, has_named, net_entry_matches}
 
 -- two pods with equal namespaces and named ports
 pub record SamePod (p q : PodEnd) : Type 0 where
@@ -59,7 +59,8 @@ AgreeIn one other cidr = is_inside one cidr ≡ is_inside other cidr
 
 -- ---- peers of NetworkPolicies
 
-pods-same : (namespace : List ℕ) (namespaces pods : Option Selector) (p q : PodEnd) → SamePod p q → AllByRecursion (AgreeOn p.labels q.labels) (keys_of_optional namespaces ++ keys_of_optional pods) → pods_match namespace namespaces pods p ≡ pods_match namespace namespaces pods q
+pods-same : (namespace : List ℕ) (namespaces pods : Option Selector) (p q : PodEnd) → SamePod p q → AllByRecursion (AgreeOn p.labels q.labels) (keys_of_optional namespaces ++ keys_of_optional pods) →
+    pods_match namespace namespaces pods p ≡ pods_match namespace namespaces pods q
 pods-same namespace None None p q same agree = refl
 pods-same namespace None (Some pods) p q same agree = rw (same.namespace, selector-same p.labels q.labels pods agree) refl
 pods-same namespace (Some namespaces) None p q same agree = rw same.namespace_labels refl
@@ -67,7 +68,8 @@ pods-same namespace (Some namespaces) (Some pods) p q same agree =
     let parts = All-parts (AgreeOn p.labels q.labels) (keys_of_selector namespaces) (keys_of_selector pods) agree in
     rw (same.namespace_labels, selector-same p.labels q.labels pods parts.1) refl
 
-pub net_peer-same : (namespace : List ℕ) (peer : NetPeer) (one other : End) → SameEnd one other → AllByRecursion (AgreeAt one other) (keys_of_net_peer peer) → net_peer_matches namespace peer one ≡ net_peer_matches namespace peer other
+pub net_peer-same : (namespace : List ℕ) (peer : NetPeer) (one other : End) → SameEnd one other → AllByRecursion (AgreeAt one other) (keys_of_net_peer peer) →
+    net_peer_matches namespace peer one ≡ net_peer_matches namespace peer other
 net_peer-same namespace (net.Pods namespaces pods) (pod p) (pod q) same agree = pods-same namespace namespaces pods p q same agree
 net_peer-same namespace (net.Pods namespaces pods) (address a) (address b) same agree = refl
 net_peer-same namespace (net.Block cidr excepts) (pod p) (pod q) same agree = refl
@@ -77,11 +79,13 @@ net_peer-same namespace peer (address a) (pod q) same agree = absurd same
 
 -- ---- peers of admin rules
 
-inside-same : (family : Family) (one other : List Address) (cidrs : List Cidr) → AllByRecursion (λ cidr. is_in one cidr ≡ is_in other cidr) cidrs → some_inside family cidrs one ≡ some_inside family cidrs other
+inside-same : (family : Family) (one other : List Address) (cidrs : List Cidr) → AllByRecursion (λ cidr. is_in one cidr ≡ is_in other cidr) cidrs →
+    some_inside family cidrs one ≡ some_inside family cidrs other
 inside-same family one other [] agree = refl
 inside-same family one other (cidr ∷ cidrs) agree = rw (agree.0, inside-same family one other cidrs agree.1) refl
 
-pub admin_peer-same : (peer : AdminPeer) (one other : End) (family : Family) → SameEnd one other → AllByRecursion (AgreeAt one other) (keys_of_admin_peer peer) → AllByRecursion (AgreeIn one other) (cidrs_of_peer peer) → admin_peer_matches peer one family ≡ admin_peer_matches peer other family
+pub admin_peer-same : (peer : AdminPeer) (one other : End) (family : Family) → SameEnd one other → AllByRecursion (AgreeAt one other) (keys_of_admin_peer peer) →
+    AllByRecursion (AgreeIn one other) (cidrs_of_peer peer) → admin_peer_matches peer one family ≡ admin_peer_matches peer other family
 admin_peer-same (admin.Pods namespaces pods) (pod p) (pod q) family same agree within =
     let parts = All-parts (AgreeOn p.labels q.labels) (keys_of_selector namespaces) (keys_of_selector pods) agree in
     rw (same.namespace_labels, selector-same p.labels q.labels pods parts.1) refl

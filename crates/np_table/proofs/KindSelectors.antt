@@ -15,14 +15,16 @@ use Rattle.np_labels.specs.declared.selector.Selector.{Selector}
 abbrev pub AgreeOn : List Pair → List Pair → List ℕ → Type 0
 AgreeOn one other key = value_of one key ≡ value_of other key
 
-requirements-same : (one other : List Pair) (requirements : List Requirement) → AllByRecursion (AgreeOn one other) (map (λ requirement. requirement.key) requirements) → AllByRecursion (λ requirement. meets_requirement requirement one ≡ meets_requirement requirement other) requirements
+requirements-same : (one other : List Pair) (requirements : List Requirement) → AllByRecursion (AgreeOn one other) (map (λ requirement. requirement.key) requirements) →
+    AllByRecursion (λ requirement. meets_requirement requirement one ≡ meets_requirement requirement other) requirements
 requirements-same one other [] agree = tt
 requirements-same one other (requirement ∷ requirements) agree = (ap (allows requirement.op requirement.values) agree.0, requirements-same one other requirements agree.1)
 
 -- a selector is met alike by labels that agree on its keys
 pub selector-same : (one other : List Pair) (selector : Selector) → AllByRecursion (AgreeOn one other) (keys_of_selector selector) → meets_selector selector one ≡ meets_selector selector other
 selector-same one other selector agree =
-    list_all-same (λ requirement. meets_requirement requirement one) (λ requirement. meets_requirement requirement other) selector.requirements (requirements-same one other selector.requirements agree)
+    list_all-same (λ requirement. meets_requirement requirement one) (λ requirement. meets_requirement requirement other) selector.requirements
+    (requirements-same one other selector.requirements agree)
 
 or_true : (b : Bool) → (b || true) ≡ true
 or_true true = refl

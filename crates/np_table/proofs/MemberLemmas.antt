@@ -1,5 +1,6 @@
 -- The pods of workloads.
-use Rattle.std.proofs.Common.{◌≡◌, ◌≢◌, ◌<◌, ◌==◌, ◌&&◌, ℕ, List, [], ◌∷◌, Bool, true, false, Option, Some, None, Contains, length, slice_index, slice_index_or, slice_get, get_or, if◌then◌else◌, arith, refl, sym, subst, ◌∙◌, ap, eq-eqb, inl, inr}
+use Rattle.std.proofs.Common.{◌≡◌, ◌≢◌, ◌<◌, ◌==◌, ◌&&◌, ℕ, List, [], ◌∷◌, Bool, true, false, Option, Some, None, Contains, length, slice_index, slice_index_or, slice_get, get_or, if◌then◌else◌}
+use Rattle.std.proofs.Common.{arith, refl, sym, subst, ◌∙◌, ap, eq-eqb, inl, inr}
 use Rattle.std.specs.Option.{option_map_or}
 use Rattle.std.specs.Prelude.{IsSomeAnd}
 use Rattle.std.proofs.lemmas.Bool.{and_parts, eqb-true, false_from_ne_true}
@@ -11,8 +12,8 @@ use Rattle.np_model.specs.declared.lists.EstateLists.{EstateLists}
 use Rattle.np_fold.specs.Workloads.{Folding, Workload, folding_of, has_member, members_of, number_of, workloads_of}
 use Rattle.np_fold.proofs.WorkloadLemmas.{first-is, member-by_number, number-in_workloads, pods-within}
 use Rattle.np_model.specs.declared.pod.Pod.{Pod}
-use Rattle.np_rules.specs.Ends.{pod_end}
-use Rattle.np_rules.specs.Verdict.{pod_or_none}
+use Rattle.np_rules.specs.model.Ends.{pod_end}
+use Rattle.np_rules.specs.model.Verdict.{pod_or_none}
 use Rattle.np_table.specs.Table.{destination_pod, is_alone, source_pod}
 
 -- ---- workloads have pods
@@ -32,10 +33,12 @@ members-some lists folding number folded within =
     subst of (sym folded) (λ here. some_first (members_of (folding_of lists) number) _ (first-is lists number (workload-within lists number here))) within
 
 -- each of its pods is one of the estate
-pub members-within : (lists : EstateLists) (folding : Folding) (number place : ℕ) → folding ≡ folding_of lists → number < length folding.workloads → Contains (members_of folding number) place → place < length lists.pods
+pub members-within : (lists : EstateLists) (folding : Folding) (number place : ℕ) → folding ≡ folding_of lists → number < length folding.workloads → Contains (members_of folding number) place →
+    place < length lists.pods
 members-within lists folding number place folded within has =
     let of : Folding → Type 0 = λ f. number < length f.workloads → Contains (members_of f number) place → place < length lists.pods in
-    subst of (sym folded) (λ here has. All-contains (λ (p : ℕ). p < length lists.pods) (members_of (folding_of lists) number) place (pods-within lists number (workload-within lists number here)) has) within has
+    subst of (sym folded) (λ here has. All-contains (λ (p : ℕ). p < length lists.pods) (members_of (folding_of lists) number) place (pods-within lists number (workload-within lists number here)) has)
+    within has
 
 -- ---- the pods that stand for a workload
 
@@ -56,9 +59,11 @@ is_alone-destination folding source destination =
     ]
 
 -- and that for the destination one of its, unless a workload of one pod meets itself
-pub destination-member : (folding : Folding) (source destination : ℕ) → 0 < length (members_of folding destination) → is_alone folding source destination ≡ false → Contains (members_of folding destination) (destination_pod folding source destination)
+pub destination-member : (folding : Folding) (source destination : ℕ) → 0 < length (members_of folding destination) → is_alone folding source destination ≡ false →
+    Contains (members_of folding destination) (destination_pod folding source destination)
 destination-member folding source destination some alone =
-    Contains-get_or (members_of folding destination) (if source == destination then 1 else 0) 0 (index-within (source == destination) (length (members_of folding destination)) some (sym (is_alone-destination folding source destination) ∙ alone))
+    Contains-get_or (members_of folding destination) (if source == destination then 1 else 0) 0
+    (index-within (source == destination) (length (members_of folding destination)) some (sym (is_alone-destination folding source destination) ∙ alone))
 
 -- ---- members and numbers
 
@@ -76,7 +81,8 @@ from_has_member one place has =
 nothing_in_none : (place : ℕ) → Contains [] place → ⊥
 nothing_in_none place has = omega (arith, has.1)
 
-number-by : (lists : EstateLists) (number place : ℕ) (found : Option Workload) → slice_get (workloads_of lists) number ≡ found → place < length lists.pods → Contains (option_map_or (λ one. one.members) found []) place → number_of lists place ≡ number
+number-by : (lists : EstateLists) (number place : ℕ) (found : Option Workload) → slice_get (workloads_of lists) number ≡ found → place < length lists.pods →
+    Contains (option_map_or (λ one. one.members) found []) place → number_of lists place ≡ number
 number-by lists number place None is within has = absurd (nothing_in_none place has)
 number-by lists number place (Some one) is within has =
     sym (eqb-true number (number_of lists place) (sym (member-by_number lists place number one within is) ∙ has_member-from one place has))
@@ -86,7 +92,8 @@ pub member-number : (lists : EstateLists) (number place : ℕ) → place < lengt
 unfolding folding_of
 member-number lists number place within has = number-by lists number place (slice_get (workloads_of lists) number) refl within has
 
-own-by : (lists : EstateLists) (place : ℕ) (found : Option Workload) → slice_get (workloads_of lists) (number_of lists place) ≡ found → place < length lists.pods → Contains (option_map_or (λ one. one.members) found []) place
+own-by : (lists : EstateLists) (place : ℕ) (found : Option Workload) → slice_get (workloads_of lists) (number_of lists place) ≡ found → place < length lists.pods →
+    Contains (option_map_or (λ one. one.members) found []) place
 own-by lists place None is within = absurd (none (workloads_of lists) (number_of lists place) (number-in_workloads lists place within) is)
   where
     none : (xs : List Workload) (i : ℕ) → i < length xs → slice_get xs i ≡ None → ⊥
@@ -121,7 +128,8 @@ not-alone folding a b p q has has' differ =
     two_in_one (members_of folding a) p q has in_a differ (eqb-true (length (members_of folding a)) 1 parts.1))
 
 -- the pod at the first of some places, as rules see it
-pub pod-first : (pods all : List Pod) (members others : List ℕ) (a : Pod) → pods ≡ all → members ≡ others → slice_index members 0 < length pods → a ≡ get_or pods (slice_index members 0) a → pod_end a ≡ pod_or_none (slice_get all (slice_index others 0))
+pub pod-first : (pods all : List Pod) (members others : List ℕ) (a : Pod) → pods ≡ all → members ≡ others → slice_index members 0 < length pods → a ≡ get_or pods (slice_index members 0) a →
+    pod_end a ≡ pod_or_none (slice_get all (slice_index others 0))
 pod-first pods all members others a same same' within is =
     sym (ap pod_or_none (slice_get-get_or pods (slice_index members 0) a within ∙ ap (λ (x : Pod). Some x) (sym is)))
     ∙ ap (λ (xs : List Pod). pod_or_none (slice_get xs (slice_index members 0))) same

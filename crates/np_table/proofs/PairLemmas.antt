@@ -1,5 +1,6 @@
 -- What passes between workloads is what passes between their pods.
-use Rattle.std.proofs.Common.{◌≡◌, ◌≢◌, ◌<◌, ℕ, List, [], ◌∷◌, Bool, true, false, Option, Some, None, AllPairs, Contains, length, slice_get, slice_index, get_or, if◌then◌else◌, arith, refl, sym, ap, subst, ◌∙◌, inl, inr}
+use Rattle.std.proofs.Common.{◌≡◌, ◌≢◌, ◌<◌, ℕ, List, [], ◌∷◌, Bool, true, false, Option, Some, None, AllPairs, Contains, length, slice_get, slice_index, get_or, if◌then◌else◌, arith, refl, sym, ap}
+use Rattle.std.proofs.Common.{subst, ◌∙◌, inl, inr}
 use Rattle.std.specs.Prelude.{IsSomeAnd}
 use Rattle.std.proofs.lemmas.Bool.{cases_order}
 use Rattle.std.proofs.lemmas.Option.{get_or_from_slice_get, slice_get-get_or, slice_get_within}
@@ -18,9 +19,9 @@ use Rattle.np_table.specs.Ends.{AreOneKind}
 use Rattle.np_model.specs.declared.direction.Direction.{Direction}
 use Rattle.np_model.specs.declared.direction.Direction.TheVariants.{Egress, Ingress}
 use Rattle.np_table.specs.Right.{conns_of}
-use Rattle.np_rules.specs.Ends.{End, address, pod}
-use Rattle.np_rules.specs.Places.{rule_count}
-use Rattle.np_rules.specs.Verdict.{pod_at, pod_or_none}
+use Rattle.np_rules.specs.model.Ends.{End, address, pod}
+use Rattle.np_rules.specs.model.Places.{rule_count}
+use Rattle.np_rules.specs.model.Verdict.{pod_at, pod_or_none}
 use Rattle.np_table.proofs.MemberLemmas.{destination-member, member-number, members-some, members-within, not-alone, own-member, source-member}
 use Rattle.np_table.proofs.SetLemmas.{has_spot-conns_of}
 use Rattle.np_table.specs.Table.{address_allows, address_of, between_pods, destination_pod, is_alone, pair_allows, source_pod, with_address}
@@ -37,7 +38,8 @@ same_some : (found : Option Pod) (a b : Pod) → found ≡ Some a → found ≡ 
 same_some found a b is is' = cc
 
 -- and so in whatever order they stand
-labels_agree : (lists : EstateLists) (i j : ℕ) (a b : Pod) → IsLawful lists → slice_get lists.pods i ≡ Some a → slice_get lists.pods j ≡ Some b → a.namespace ≡ b.namespace → a.namespace_labels ≡ b.namespace_labels
+labels_agree : (lists : EstateLists) (i j : ℕ) (a b : Pod) → IsLawful lists → slice_get lists.pods i ≡ Some a → slice_get lists.pods j ≡ Some b → a.namespace ≡ b.namespace →
+    a.namespace_labels ≡ b.namespace_labels
 labels_agree lists i j a b lawful is is' same =
     elim (cases_order i j) [
       | inl equal ↦ ap (λ (p : Pod). p.namespace_labels) (same_some (slice_get lists.pods j) a b (subst (λ (k : ℕ). slice_get lists.pods k ≡ Some a) equal is) is')
@@ -46,7 +48,8 @@ labels_agree lists i j a b lawful is is' same =
     ]
 
 -- pods of one kind are ends of one kind
-one_kind-by : (lists : EstateLists) (i j : ℕ) (a b : Pod) → IsLawful lists → slice_get lists.pods i ≡ Some a → slice_get lists.pods j ≡ Some b → IsSameKind lists a b → AreOneKind lists (pod (pod_at lists i)) (pod (pod_at lists j))
+one_kind-by : (lists : EstateLists) (i j : ℕ) (a b : Pod) → IsLawful lists → slice_get lists.pods i ≡ Some a → slice_get lists.pods j ≡ Some b → IsSameKind lists a b →
+    AreOneKind lists (pod (pod_at lists i)) (pod (pod_at lists j))
 one_kind-by lists i j a b lawful is is' kind =
     inl (record {
       first = a;
@@ -66,7 +69,8 @@ pod_there lists place within = there lists.pods place within
     there (first ∷ pods) place within = (get_or (first ∷ pods) place first, slice_get-get_or (first ∷ pods) place first within)
 
 -- the pods of a workload are of one kind
-one_kind-members : (lists : EstateLists) (p q : ℕ) → IsLawful lists → p < length lists.pods → q < length lists.pods → number_of lists p ≡ number_of lists q → AreOneKind lists (pod (pod_at lists p)) (pod (pod_at lists q))
+one_kind-members : (lists : EstateLists) (p q : ℕ) → IsLawful lists → p < length lists.pods → q < length lists.pods → number_of lists p ≡ number_of lists q →
+    AreOneKind lists (pod (pod_at lists p)) (pod (pod_at lists q))
 one_kind-members lists p q lawful p_in q_in same =
     let a = pod_there lists p p_in in
     let b = pod_there lists q q_in in
@@ -75,26 +79,31 @@ one_kind-members lists p q lawful p_in q_in same =
 -- ---- packets
 
 -- the same passes between pods of the same kinds
-between-same : (lists : EstateLists) (p p' q q' : ℕ) (family : Family) (spot : PortSpot) → AreOneKind lists (pod (pod_at lists p)) (pod (pod_at lists p')) → AreOneKind lists (pod (pod_at lists q)) (pod (pod_at lists q')) → between_pods lists p q family spot ≡ between_pods lists p' q' family spot
+between-same : (lists : EstateLists) (p p' q q' : ℕ) (family : Family) (spot : PortSpot) → AreOneKind lists (pod (pod_at lists p)) (pod (pod_at lists p')) →
+    AreOneKind lists (pod (pod_at lists q)) (pod (pod_at lists q')) → between_pods lists p q family spot ≡ between_pods lists p' q' family spot
 between-same lists p p' q q' family spot first second =
     packet-same lists family spot (pod (pod_at lists p)) (pod (pod_at lists p')) (pod (pod_at lists q)) (pod (pod_at lists q')) (SameKindEnd-ends lists _ _ first) (SameKindEnd-ends lists _ _ second)
 
 -- and between such a pod and an address
-pub with_address-same : (lists : EstateLists) (direction : Direction) (near near' : End) (family : Family) (number : ℕ) (spot : PortSpot) → AreOneKind lists near near' → with_address lists direction near family number spot ≡ with_address lists direction near' family number spot
+pub with_address-same : (lists : EstateLists) (direction : Direction) (near near' : End) (family : Family) (number : ℕ) (spot : PortSpot) → AreOneKind lists near near' →
+    with_address lists direction near family number spot ≡ with_address lists direction near' family number spot
 with_address-same lists Ingress near near' family number spot same =
     packet-same lists family spot (address (address_of family number)) (address (address_of family number)) near near' (SameKindEnd-ends lists _ _ (inr refl)) (SameKindEnd-ends lists _ _ same)
 with_address-same lists Egress near near' family number spot same =
     packet-same lists family spot near near' (address (address_of family number)) (address (address_of family number)) (SameKindEnd-ends lists _ _ same) (SameKindEnd-ends lists _ _ (inr refl))
 
 -- what passes between workloads that are not one pod alone
-pub pair_allows-between : (lists : EstateLists) (folding : Folding) (source destination : ℕ) (family : Family) (spot : PortSpot) → is_alone folding source destination ≡ false → pair_allows lists folding source destination family spot ≡ between_pods lists (source_pod folding source) (destination_pod folding source destination) family spot
+pub pair_allows-between : (lists : EstateLists) (folding : Folding) (source destination : ℕ) (family : Family) (spot : PortSpot) → is_alone folding source destination ≡ false →
+    pair_allows lists folding source destination family spot ≡ between_pods lists (source_pod folding source) (destination_pod folding source destination) family spot
 unfolding pair_allows
 pair_allows-between lists folding source destination family spot alone = rw alone refl
 
 -- ---- workloads and their pods
 
 -- Any two different pods of two workloads stand for them.
-between-members : (lists : EstateLists) (source destination p q : ℕ) (family : Family) (spot : PortSpot) → IsLawful lists → source < length (folding_of lists).workloads → destination < length (folding_of lists).workloads → Contains (members_of (folding_of lists) source) p → Contains (members_of (folding_of lists) destination) q → p ≢ q → between_pods lists p q family spot ≡ pair_allows lists (folding_of lists) source destination family spot
+between-members : (lists : EstateLists) (source destination p q : ℕ) (family : Family) (spot : PortSpot) → IsLawful lists → source < length (folding_of lists).workloads →
+    destination < length (folding_of lists).workloads → Contains (members_of (folding_of lists) source) p → Contains (members_of (folding_of lists) destination) q → p ≢ q →
+    between_pods lists p q family spot ≡ pair_allows lists (folding_of lists) source destination family spot
 between-members lists source destination p q family spot lawful source_in destination_in p_has q_has differ =
     let folding = folding_of lists in
     let alone = not-alone folding source destination p q p_has q_has differ in
@@ -106,7 +115,8 @@ between-members lists source destination p q family spot lawful source_in destin
     let far_in = members-within lists folding destination (destination_pod folding source destination) refl destination_in far_has in
     between-same lists p (source_pod folding source) q (destination_pod folding source destination) family spot
     (one_kind-members lists p (source_pod folding source) lawful p_in near_in (member-number lists source p p_in p_has ∙ sym (member-number lists source (source_pod folding source) near_in near_has)))
-    (one_kind-members lists q (destination_pod folding source destination) lawful q_in far_in (member-number lists destination q q_in q_has ∙ sym (member-number lists destination (destination_pod folding source destination) far_in far_has)))
+    (one_kind-members lists q (destination_pod folding source destination) lawful q_in far_in
+    (member-number lists destination q q_in q_has ∙ sym (member-number lists destination (destination_pod folding source destination) far_in far_has)))
     ∙ sym (pair_allows-between lists folding source destination family spot alone)
 
 -- ---- the set of a pair
@@ -117,24 +127,31 @@ some_far true far place is = absurd (cc)
 some_far false far place is = (refl, cc)
 
 -- the pod that stands for the destination, where there is one
-pub far_is : (folding : Folding) (source destination far : ℕ) → Some far ≡ (if is_alone folding source destination then None else Some (destination_pod folding source destination)) → (is_alone folding source destination ≡ false) × (far ≡ destination_pod folding source destination)
+pub far_is : (folding : Folding) (source destination far : ℕ) → Some far ≡ (if is_alone folding source destination then None else Some (destination_pod folding source destination)) →
+    (is_alone folding source destination ≡ false) × (far ≡ destination_pod folding source destination)
 far_is folding source destination far is = some_far (is_alone folding source destination) far (destination_pod folding source destination) is
 
 -- it is one of the estate
-pub far-within : (lists : EstateLists) (folding : Folding) (source destination far : ℕ) → folding ≡ folding_of lists → destination < length folding.workloads → Some far ≡ (if is_alone folding source destination then None else Some (destination_pod folding source destination)) → far < length lists.pods
+pub far-within : (lists : EstateLists) (folding : Folding) (source destination far : ℕ) → folding ≡ folding_of lists → destination < length folding.workloads →
+    Some far ≡ (if is_alone folding source destination then None else Some (destination_pod folding source destination)) → far < length lists.pods
 far-within lists folding source destination far folded within is =
     let both = far_is folding source destination far is in
-    rw both.1 (members-within lists folding destination (destination_pod folding source destination) folded within (destination-member folding source destination (members-some lists folding destination folded within) both.0))
+    rw both.1 (members-within lists folding destination (destination_pod folding source destination) folded within
+    (destination-member folding source destination (members-some lists folding destination folded within) both.0))
 
 -- no ports pass where a workload of one pod meets itself
-pub pair_allows-alone : (lists : EstateLists) (folding : Folding) (source destination : ℕ) (family : Family) (spot : PortSpot) → is_alone folding source destination ≡ true → pair_allows lists folding source destination family spot ≡ false
+pub pair_allows-alone : (lists : EstateLists) (folding : Folding) (source destination : ℕ) (family : Family) (spot : PortSpot) → is_alone folding source destination ≡ true →
+    pair_allows lists folding source destination family spot ≡ false
 unfolding pair_allows
 pair_allows-alone lists folding source destination family spot alone = rw alone refl
 
 -- the set of a pair says what passes between every two different pods of it
-pub every_pod-of : (lists : EstateLists) (folding : Folding) (source destination : ℕ) (family : Family) (set : Conns) → folding ≡ folding_of lists → source < length folding.workloads → destination < length folding.workloads → set ≡ conns_of (pair_allows lists folding source destination family) → IsLawful lists → (p q : ℕ) (spot : PortSpot) → Contains (members_of folding source) p → Contains (members_of folding destination) q → p ≢ q → is_spot spot ≡ true → has_spot set spot ≡ between_pods lists p q family spot
+pub every_pod-of : (lists : EstateLists) (folding : Folding) (source destination : ℕ) (family : Family) (set : Conns) → folding ≡ folding_of lists → source < length folding.workloads →
+    destination < length folding.workloads → set ≡ conns_of (pair_allows lists folding source destination family) → IsLawful lists → (p q : ℕ) (spot : PortSpot) →
+    Contains (members_of folding source) p → Contains (members_of folding destination) q → p ≢ q → is_spot spot ≡ true → has_spot set spot ≡ between_pods lists p q family spot
 every_pod-of lists folding source destination family set folded =
-    let of : Folding → Type 0 = λ f. source < length f.workloads → destination < length f.workloads → set ≡ conns_of (pair_allows lists f source destination family) → IsLawful lists → (p q : ℕ) (spot : PortSpot) → Contains (members_of f source) p → Contains (members_of f destination) q → p ≢ q → is_spot spot ≡ true → has_spot set spot ≡ between_pods lists p q family spot in
+    let of : Folding → Type 0 = λ f. source < length f.workloads → destination < length f.workloads → set ≡ conns_of (pair_allows lists f source destination family) → IsLawful lists → (p q : ℕ)
+    (spot : PortSpot) → Contains (members_of f source) p → Contains (members_of f destination) q → p ≢ q → is_spot spot ≡ true → has_spot set spot ≡ between_pods lists p q family spot in
     subst of (sym folded) (λ source_in destination_in made lawful p q spot p_has q_has differ is.
     ap (λ (conns : Conns). has_spot conns spot) made
     ∙ has_spot-conns_of (pair_allows lists (folding_of lists) source destination family) spot is
@@ -166,12 +183,15 @@ source-within lists number within =
 -- ---- laws
 
 -- folding loses no verdict between pods
-pub between_pods-pair_allows : (lists : EstateLists) (p q : ℕ) (family : Family) (spot : PortSpot) → IsLawful lists → p < length lists.pods → q < length lists.pods → p ≢ q → between_pods lists p q family spot ≡ pair_allows lists (folding_of lists) (number_of lists p) (number_of lists q) family spot
+pub between_pods-pair_allows : (lists : EstateLists) (p q : ℕ) (family : Family) (spot : PortSpot) → IsLawful lists → p < length lists.pods → q < length lists.pods → p ≢ q →
+    between_pods lists p q family spot ≡ pair_allows lists (folding_of lists) (number_of lists p) (number_of lists q) family spot
 between_pods-pair_allows lists p q family spot lawful p_in q_in differ =
-    between-members lists (number_of lists p) (number_of lists q) p q family spot lawful (number-within lists p p_in) (number-within lists q q_in) (own-member lists p p_in) (own-member lists q q_in) differ
+    between-members lists (number_of lists p) (number_of lists q) p q family spot lawful (number-within lists p p_in) (number-within lists q q_in) (own-member lists p p_in)
+    (own-member lists q q_in) differ
 
 -- nor between pods and addresses
-pub with_address-address_allows : (lists : EstateLists) (p : ℕ) (direction : Direction) (family : Family) (number : ℕ) (spot : PortSpot) → IsLawful lists → p < length lists.pods → with_address lists direction (pod (pod_at lists p)) family number spot ≡ address_allows lists (folding_of lists) (number_of lists p) direction family number spot
+pub with_address-address_allows : (lists : EstateLists) (p : ℕ) (direction : Direction) (family : Family) (number : ℕ) (spot : PortSpot) → IsLawful lists → p < length lists.pods →
+    with_address lists direction (pod (pod_at lists p)) family number spot ≡ address_allows lists (folding_of lists) (number_of lists p) direction family number spot
 unfolding address_allows
 with_address-address_allows lists p direction family number spot lawful p_in =
     let folding = folding_of lists in
@@ -190,7 +210,9 @@ first_there [] pods found some = absurd some
 first_there (first ∷ members) pods found some = some
 
 -- the first pods of workloads of one kind are of one kind
-pub one_kind-sources : (lists : EstateLists) (a a' : ℕ) → IsLawful lists → a < workload_count lists → a' < workload_count lists → class_of (kinds_alike lists) (workload_count lists) a ≡ class_of (kinds_alike lists) (workload_count lists) a' → AreOneKind lists (pod (pod_at lists (source_pod (folding_of lists) a))) (pod (pod_at lists (source_pod (folding_of lists) a')))
+pub one_kind-sources : (lists : EstateLists) (a a' : ℕ) → IsLawful lists → a < workload_count lists → a' < workload_count lists →
+    class_of (kinds_alike lists) (workload_count lists) a ≡ class_of (kinds_alike lists) (workload_count lists) a' →
+    AreOneKind lists (pod (pod_at lists (source_pod (folding_of lists) a))) (pod (pod_at lists (source_pod (folding_of lists) a')))
 one_kind-sources lists a a' lawful within within' same =
     let folding = folding_of lists in
     let first = first_there (members_of folding a) lists.pods (first_pod lists a) (first-is lists a (in_workloads lists a within)) in
@@ -200,7 +222,8 @@ one_kind-sources lists a a' lawful within within' same =
     one_kind-by lists (source_pod folding a) (source_pod folding a') x.0 x'.0 lawful x.1 x'.1 ((one_kind lists a a' x.0 x'.0 (sym first ∙ x.1) (sym first' ∙ x'.1)).0 same)
 
 -- the pod that stands for the destination is of the kind of the first
-one_kind-destination : (lists : EstateLists) (a b : ℕ) → IsLawful lists → b < length (folding_of lists).workloads → is_alone (folding_of lists) a b ≡ false → AreOneKind lists (pod (pod_at lists (destination_pod (folding_of lists) a b))) (pod (pod_at lists (source_pod (folding_of lists) b)))
+one_kind-destination : (lists : EstateLists) (a b : ℕ) → IsLawful lists → b < length (folding_of lists).workloads → is_alone (folding_of lists) a b ≡ false →
+    AreOneKind lists (pod (pod_at lists (destination_pod (folding_of lists) a b))) (pod (pod_at lists (source_pod (folding_of lists) b)))
 one_kind-destination lists a b lawful here alone =
     let folding = folding_of lists in
     let some = members-some lists folding b refl here in
@@ -208,25 +231,38 @@ one_kind-destination lists a b lawful here alone =
     let near_has = source-member folding b some in
     let far_in = members-within lists folding b (destination_pod folding a b) refl here far_has in
     let near_in = members-within lists folding b (source_pod folding b) refl here near_has in
-    one_kind-members lists (destination_pod folding a b) (source_pod folding b) lawful far_in near_in (member-number lists b (destination_pod folding a b) far_in far_has ∙ sym (member-number lists b (source_pod folding b) near_in near_has))
+    one_kind-members lists (destination_pod folding a b) (source_pod folding b) lawful far_in near_in
+    (member-number lists b (destination_pod folding a b) far_in far_has ∙ sym (member-number lists b (source_pod folding b) near_in near_has))
 
 -- what passes between workloads passes between the first pods of workloads of their kinds
-pub pair_allows-firsts : (lists : EstateLists) (a a' b b' : ℕ) (family : Family) (spot : PortSpot) → IsLawful lists → a < workload_count lists → a' < workload_count lists → b < workload_count lists → b' < workload_count lists → class_of (kinds_alike lists) (workload_count lists) a ≡ class_of (kinds_alike lists) (workload_count lists) a' → class_of (kinds_alike lists) (workload_count lists) b ≡ class_of (kinds_alike lists) (workload_count lists) b' → is_alone (folding_of lists) a b ≡ false → pair_allows lists (folding_of lists) a b family spot ≡ between_pods lists (source_pod (folding_of lists) a') (source_pod (folding_of lists) b') family spot
+pub pair_allows-firsts : (lists : EstateLists) (a a' b b' : ℕ) (family : Family) (spot : PortSpot) → IsLawful lists → a < workload_count lists → a' < workload_count lists → b < workload_count lists →
+    b' < workload_count lists → class_of (kinds_alike lists) (workload_count lists) a ≡ class_of (kinds_alike lists) (workload_count lists) a' →
+    class_of (kinds_alike lists) (workload_count lists) b ≡ class_of (kinds_alike lists) (workload_count lists) b' → is_alone (folding_of lists) a b ≡ false →
+    pair_allows lists (folding_of lists) a b family spot ≡ between_pods lists (source_pod (folding_of lists) a') (source_pod (folding_of lists) b') family spot
 pair_allows-firsts lists a a' b b' family spot lawful a_in a'_in b_in b'_in sources destinations alone =
     let folding = folding_of lists in
     pair_allows-between lists folding a b family spot alone
-    ∙ between-same lists (source_pod folding a) (source_pod folding a) (destination_pod folding a b) (source_pod folding b) family spot (inr refl) (one_kind-destination lists a b lawful (in_folding lists b b_in) alone)
-    ∙ between-same lists (source_pod folding a) (source_pod folding a') (source_pod folding b) (source_pod folding b') family spot (one_kind-sources lists a a' lawful a_in a'_in sources) (one_kind-sources lists b b' lawful b_in b'_in destinations)
+    ∙ between-same lists (source_pod folding a) (source_pod folding a) (destination_pod folding a b) (source_pod folding b) family spot (inr refl)
+    (one_kind-destination lists a b lawful (in_folding lists b b_in) alone)
+    ∙ between-same lists (source_pod folding a) (source_pod folding a') (source_pod folding b) (source_pod folding b') family spot (one_kind-sources lists a a' lawful a_in a'_in sources)
+    (one_kind-sources lists b b' lawful b_in b'_in destinations)
 
 -- and so it depends on their kinds
-pub pair_allows-kinds : (lists : EstateLists) (a a' b b' : ℕ) (family : Family) (spot : PortSpot) → IsLawful lists → a < workload_count lists → a' < workload_count lists → b < workload_count lists → b' < workload_count lists → class_of (kinds_alike lists) (workload_count lists) a ≡ class_of (kinds_alike lists) (workload_count lists) a' → class_of (kinds_alike lists) (workload_count lists) b ≡ class_of (kinds_alike lists) (workload_count lists) b' → is_alone (folding_of lists) a b ≡ false → is_alone (folding_of lists) a' b' ≡ false → pair_allows lists (folding_of lists) a b family spot ≡ pair_allows lists (folding_of lists) a' b' family spot
+pub pair_allows-kinds : (lists : EstateLists) (a a' b b' : ℕ) (family : Family) (spot : PortSpot) → IsLawful lists → a < workload_count lists → a' < workload_count lists → b < workload_count lists →
+    b' < workload_count lists → class_of (kinds_alike lists) (workload_count lists) a ≡ class_of (kinds_alike lists) (workload_count lists) a' →
+    class_of (kinds_alike lists) (workload_count lists) b ≡ class_of (kinds_alike lists) (workload_count lists) b' → is_alone (folding_of lists) a b ≡ false →
+    is_alone (folding_of lists) a' b' ≡ false → pair_allows lists (folding_of lists) a b family spot ≡ pair_allows lists (folding_of lists) a' b' family spot
 pair_allows-kinds lists a a' b b' family spot lawful a_in a'_in b_in b'_in sources destinations alone alone' =
     pair_allows-firsts lists a a' b b' family spot lawful a_in a'_in b_in b'_in sources destinations alone
     ∙ sym (pair_allows-firsts lists a' a' b' b' family spot lawful a'_in a'_in b'_in b'_in refl refl alone')
 
 -- as many rules speak of the pod that stands for the destination as of its workload's first
-pub rule_count-destination : (lists : EstateLists) (folding : Folding) (source destination : ℕ) (direction : Direction) → folding ≡ folding_of lists → destination < length folding.workloads → is_alone folding source destination ≡ false → IsLawful lists → rule_count lists direction (pod_at lists (destination_pod folding source destination)) ≡ rule_count lists direction (pod_at lists (source_pod folding destination))
+pub rule_count-destination : (lists : EstateLists) (folding : Folding) (source destination : ℕ) (direction : Direction) → folding ≡ folding_of lists → destination < length folding.workloads →
+    is_alone folding source destination ≡ false → IsLawful lists →
+    rule_count lists direction (pod_at lists (destination_pod folding source destination)) ≡ rule_count lists direction (pod_at lists (source_pod folding destination))
 rule_count-destination lists folding source destination direction folded =
-    let of : Folding → Type 0 = λ f. destination < length f.workloads → is_alone f source destination ≡ false → IsLawful lists → rule_count lists direction (pod_at lists (destination_pod f source destination)) ≡ rule_count lists direction (pod_at lists (source_pod f destination)) in
+    let of : Folding → Type 0 = λ f. destination < length f.workloads → is_alone f source destination ≡ false → IsLawful lists → rule_count lists direction
+    (pod_at lists (destination_pod f source destination)) ≡ rule_count lists direction (pod_at lists (source_pod f destination)) in
     subst of (sym folded) (λ within alone lawful.
-    end_rule_count-same lists direction (pod (pod_at lists (destination_pod (folding_of lists) source destination))) (pod (pod_at lists (source_pod (folding_of lists) destination))) (SameKindEnd-ends lists _ _ (one_kind-destination lists source destination lawful within alone)))
+    end_rule_count-same lists direction (pod (pod_at lists (destination_pod (folding_of lists) source destination))) (pod (pod_at lists (source_pod (folding_of lists) destination)))
+    (SameKindEnd-ends lists _ _ (one_kind-destination lists source destination lawful within alone)))

@@ -1,5 +1,6 @@
 -- The rows from place to place are all rows of a table.
-use Rattle.std.proofs.Common.{◌≡◌, ℕ, zero, suc, ◌+◌, ◌-◌, ◌*◌, ◌/◌, ◌%◌, ◌<◌, ◌≤◌, List, [], ◌∷◌, ◌++◌, length, flat_map, reverse, Bool, true, false, nat_lt, refl, sym, ap, subst, ◌∙◌, arith, append_assoc, append-nil, if◌then◌else◌}
+use Rattle.std.proofs.Common.{◌≡◌, ℕ, zero, suc, ◌+◌, ◌-◌, ◌*◌, ◌/◌, ◌%◌, ◌<◌, ◌≤◌, List, [], ◌∷◌, ◌++◌, length, flat_map, reverse, Bool, true, false, nat_lt, refl, sym, ap, subst, ◌∙◌, arith}
+use Rattle.std.proofs.Common.{append_assoc, append-nil, if◌then◌else◌}
 use Rattle.std.specs.List.{range_with_len}
 use Rattle.std.proofs.lemmas.Bool.{lt-ltb, le-ltb}
 use Rattle.std.proofs.lemmas.Grind.{flat_map-append}
@@ -51,7 +52,8 @@ range-agree f g a b (suc n) agree =
     ∙ ap (λ (rows : List Row). g b ++ rows) (range-agree f g (a + 1) (b + 1) n rest)
 
 -- numbers taken by twos
-by-twos : (f g : ℕ → List Row) (start : ℕ) → ((k : ℕ) → f (start + k * 2) ++ f (start + (k * 2 + 1)) ≡ g k) → (done : ℕ) → flat_map f (range_with_len start (done * 2)) ≡ flat_map g (range_with_len 0 done)
+by-twos : (f g : ℕ → List Row) (start : ℕ) → ((k : ℕ) → f (start + k * 2) ++ f (start + (k * 2 + 1)) ≡ g k) → (done : ℕ) →
+    flat_map f (range_with_len start (done * 2)) ≡ flat_map g (range_with_len 0 done)
 by-twos f g start two zero = ap (λ (n : ℕ). flat_map f (range_with_len start n)) (let none : zero * 2 ≡ zero = omega arith in none)
 by-twos f g start two (suc done) =
     let so_far = flat_map f (range_with_len start (done * 2)) in
@@ -83,7 +85,8 @@ module _ (table : Table) where
       ∙ ap (λ (s : ℕ). pair_rows table s (place % count)) (div-mul-add source count destination below)
       ∙ ap (pair_rows table source) (mod-mul-add source count destination below)
 
-  pairs-from : (sources : ℕ) → sources ≤ count → flat_map (rows_at table) (range_with_len 0 (sources * count)) ≡ flat_map (λ source. flat_map (pair_rows table source) (workloads table)) (range_with_len 0 sources)
+  pairs-from : (sources : ℕ) → sources ≤ count →
+      flat_map (rows_at table) (range_with_len 0 (sources * count)) ≡ flat_map (λ source. flat_map (pair_rows table source) (workloads table)) (range_with_len 0 sources)
   pairs-from zero fits = ap (λ (n : ℕ). flat_map (rows_at table) (range_with_len 0 n)) (let none : zero * count ≡ zero = omega arith in none)
   pairs-from (suc sources) fits =
       let by_source : ℕ → List Row = λ source. flat_map (pair_rows table source) (workloads table) in
@@ -92,7 +95,8 @@ module _ (table : Table) where
       ap (λ (n : ℕ). flat_map (rows_at table) (range_with_len 0 n)) longer
       ∙ range-split (rows_at table) 0 (sources * count) count
       ∙ ap (λ (n : ℕ). so_far ++ flat_map (rows_at table) (range_with_len n count)) (let same : 0 + sources * count ≡ sources * count = omega arith in same)
-      ∙ ap (λ (rows : List Row). so_far ++ rows) (range-agree (rows_at table) (pair_rows table sources) (sources * count) 0 count (λ k below. pair-at sources k (omega (arith, fits)) below ∙ ap (pair_rows table sources) (let same : k ≡ 0 + k = omega arith in same)))
+      ∙ ap (λ (rows : List Row). so_far ++ rows) (range-agree (rows_at table) (pair_rows table sources) (sources * count) 0 count
+      (λ k below. pair-at sources k (omega (arith, fits)) below ∙ ap (pair_rows table sources) (let same : k ≡ 0 + k = omega arith in same)))
       ∙ ap (λ (rows : List Row). rows ++ by_source sources) (pairs-from sources (omega (arith, fits)))
       ∙ ap (λ (n : ℕ). flat_map by_source (range_with_len 0 sources) ++ by_source n) (let same : sources ≡ 0 + sources = omega arith in same)
       ∙ sym (range-next by_source 0 sources)
@@ -116,7 +120,8 @@ module _ (table : Table) where
   egress-at workload =
       rw (div-mul-add workload 2 1 (omega arith), mod-mul-add workload 2 1 (omega arith)) refl
 
-  two-at : (workload : ℕ) → rows_at table (count * count + workload * 2) ++ rows_at table (count * count + (workload * 2 + 1)) ≡ rows_towards table workload Ingress ++ rows_towards table workload Egress
+  two-at : (workload : ℕ) →
+      rows_at table (count * count + workload * 2) ++ rows_at table (count * count + (workload * 2 + 1)) ≡ rows_towards table workload Ingress ++ rows_towards table workload Egress
   two-at workload =
       ap (λ (rows : List Row). rows ++ rows_at table (count * count + (workload * 2 + 1))) (behind (workload * 2) ∙ ingress-at workload)
       ∙ ap (λ (rows : List Row). rows_towards table workload Ingress ++ rows) (behind (workload * 2 + 1) ∙ egress-at workload)
@@ -129,9 +134,11 @@ module _ (table : Table) where
       let same : place_count count - 0 ≡ count * count + count * 2 = omega arith in
       ap (λ (n : ℕ). flat_map (rows_at table) (range_with_len 0 n)) same
       ∙ range-split (rows_at table) 0 (count * count) (count * 2)
-      ∙ ap (λ (n : ℕ). flat_map (rows_at table) (range_with_len 0 (count * count)) ++ flat_map (rows_at table) (range_with_len n (count * 2))) (let same : 0 + count * count ≡ count * count = omega arith in same)
+      ∙ ap (λ (n : ℕ). flat_map (rows_at table) (range_with_len 0 (count * count)) ++ flat_map (rows_at table) (range_with_len n (count * 2)))
+      (let same : 0 + count * count ≡ count * count = omega arith in same)
       ∙ ap (λ (rows : List Row). rows ++ flat_map (rows_at table) (range_with_len (count * count) (count * 2))) (pairs-from count (omega arith))
-      ∙ ap (λ (rows : List Row). all_pair_rows table ++ rows) (by-twos (rows_at table) (λ workload. rows_towards table workload Ingress ++ rows_towards table workload Egress) (count * count) two-at count)
+      ∙ ap (λ (rows : List Row). all_pair_rows table ++ rows) (by-twos (rows_at table) (λ workload. rows_towards table workload Ingress ++ rows_towards table workload Egress)
+      (count * count) two-at count)
 
   -- the rows at a place, and those from the next one on
   pub rows_from-next : (place : ℕ) → place < place_count count → rows_from table place ≡ rows_at table place ++ rows_from table (place + 1)
@@ -158,7 +165,8 @@ rows_by-names : (table : Table) (place : ℕ) → rows_at table place ≡ rows_b
 unfolding rows_at rows_by
 rows_by-names table place = refl
 
-pub rows_at-pair : (lists : EstateLists) (folding : Folding) (place count : ℕ) → count ≡ length folding.workloads → place < count * count → rows_at (table_of lists folding) place ≡ pair_rows (table_of lists folding) (place / count) (place % count)
+pub rows_at-pair : (lists : EstateLists) (folding : Folding) (place count : ℕ) → count ≡ length folding.workloads → place < count * count →
+    rows_at (table_of lists folding) place ≡ pair_rows (table_of lists folding) (place / count) (place % count)
 unfolding rows_by
 rows_at-pair lists folding place count is below =
     let table = table_of lists folding in
@@ -166,7 +174,8 @@ rows_at-pair lists folding place count is below =
     ∙ ap (rows_by table place) (names-are lists folding ∙ sym is)
     ∙ ap (λ (b : Bool). if b then pair_rows table (place / count) (place % count) else address_rows_at table (place - pair_count count)) (lt-ltb place (pair_count count) below)
 
-pub rows_at-address : (lists : EstateLists) (folding : Folding) (place count : ℕ) → count ≡ length folding.workloads → count * count ≤ place → rows_at (table_of lists folding) place ≡ address_rows_at (table_of lists folding) (place - count * count)
+pub rows_at-address : (lists : EstateLists) (folding : Folding) (place count : ℕ) → count ≡ length folding.workloads → count * count ≤ place →
+    rows_at (table_of lists folding) place ≡ address_rows_at (table_of lists folding) (place - count * count)
 unfolding rows_by
 rows_at-address lists folding place count is up =
     let table = table_of lists folding in
@@ -177,7 +186,8 @@ rows_at-address lists folding place count is up =
 -- ---- rows that are ready, and those from a place on
 
 -- none are left behind the last place
-pub nothing-left : (lists : EstateLists) (folding : Folding) (ready rows : List Row) (place end : ℕ) → length ready ≡ 0 → place ≡ end → end ≡ place_count (length folding.workloads) → reverse ready ++ rows_from (table_of lists folding) place ≡ rows → rows ≡ []
+pub nothing-left : (lists : EstateLists) (folding : Folding) (ready rows : List Row) (place end : ℕ) → length ready ≡ 0 → place ≡ end → end ≡ place_count (length folding.workloads) →
+    reverse ready ++ rows_from (table_of lists folding) place ≡ rows → rows ≡ []
 nothing-left lists folding [] rows place end empty at last to_come =
     sym to_come
     ∙ ap (rows_from (table_of lists folding)) (at ∙ last)
@@ -186,7 +196,8 @@ nothing-left lists folding [] rows place end empty at last to_come =
 nothing-left lists folding (row ∷ ready) rows place end empty at last to_come = absurd (omega (arith, empty))
 
 -- those at a place are made ready
-pub made-ready : (lists : EstateLists) (folding : Folding) (ready more rows : List Row) (place : ℕ) → length ready ≡ 0 → place < place_count (length folding.workloads) → more ≡ reverse (rows_at (table_of lists folding) place) → reverse ready ++ rows_from (table_of lists folding) place ≡ rows → reverse more ++ rows_from (table_of lists folding) (place + 1) ≡ rows
+pub made-ready : (lists : EstateLists) (folding : Folding) (ready more rows : List Row) (place : ℕ) → length ready ≡ 0 → place < place_count (length folding.workloads) →
+    more ≡ reverse (rows_at (table_of lists folding) place) → reverse ready ++ rows_from (table_of lists folding) place ≡ rows → reverse more ++ rows_from (table_of lists folding) (place + 1) ≡ rows
 made-ready lists folding [] more rows place empty below made to_come =
     let table = table_of lists folding in
     ap (λ (m : List Row). reverse m ++ rows_from table (place + 1)) made
@@ -198,7 +209,9 @@ made-ready lists folding (row ∷ ready) more rows place empty below made to_com
 -- ---- places that are passed over
 
 -- a pair without rows
-pub rows_from-over : (lists : EstateLists) (folding : Folding) (source destination count : ℕ) → count ≡ length folding.workloads → source < count → destination < count → [] ≡ pair_rows (table_of lists folding) source destination → rows_from (table_of lists folding) (source * count + (destination + 1)) ≡ rows_from (table_of lists folding) (source * count + destination)
+pub rows_from-over : (lists : EstateLists) (folding : Folding) (source destination count : ℕ) → count ≡ length folding.workloads → source < count → destination < count →
+    [] ≡ pair_rows (table_of lists folding) source destination →
+    rows_from (table_of lists folding) (source * count + (destination + 1)) ≡ rows_from (table_of lists folding) (source * count + destination)
 rows_from-over lists folding source destination count is low below none =
     let table = table_of lists folding in
     let place = source * count + destination in
@@ -215,5 +228,6 @@ rows_from-over lists folding source destination count is low below none =
     ∙ sym (rows_from-next table place within)
 
 -- what is to come is what was, where nothing is ready
-pub passed-over : (lists : EstateLists) (folding : Folding) (ready rows : List Row) (place later : ℕ) → rows_from (table_of lists folding) later ≡ rows_from (table_of lists folding) place → reverse ready ++ rows_from (table_of lists folding) place ≡ rows → reverse ready ++ rows_from (table_of lists folding) later ≡ rows
+pub passed-over : (lists : EstateLists) (folding : Folding) (ready rows : List Row) (place later : ℕ) → rows_from (table_of lists folding) later ≡ rows_from (table_of lists folding) place →
+    reverse ready ++ rows_from (table_of lists folding) place ≡ rows → reverse ready ++ rows_from (table_of lists folding) later ≡ rows
 passed-over lists folding ready rows place later same to_come = ap (λ (more : List Row). reverse ready ++ more) same ∙ to_come

@@ -19,14 +19,16 @@ count_by-inside n stretch stretches inside =
     count_by-first n stretch stretches ∙ ap (λ (within : Bool). cond within 1 0 + count_by (is_within n) stretches) inside
 
 -- none has a number before them
-none_before : (passes : ℕ → PortSpot → Bool) (from to n : ℕ) (before : Option Conns) (stretches : List Stretch) → AreRight passes from to before stretches → n < from → count_by (is_within n) stretches ≡ 0
+none_before : (passes : ℕ → PortSpot → Bool) (from to n : ℕ) (before : Option Conns) (stretches : List Stretch) → AreRight passes from to before stretches → n < from →
+    count_by (is_within n) stretches ≡ 0
 none_before passes from to n before [] are below = refl
 none_before passes from to n before (stretch ∷ stretches) are below =
     count_by-outside n stretch stretches (and_left _ _ (lt-leb stretch.lo n (omega (arith, are.0.start))))
     ∙ none_before passes (stretch.hi + 1) to n (Some stretch.conns) stretches are.1 (omega (arith, are.0.start, are.0.filled))
 
 -- one has a number of the space
-one_within : (passes : ℕ → PortSpot → Bool) (from to n : ℕ) (before : Option Conns) (stretches : List Stretch) → AreRight passes from to before stretches → from ≤ n → n < to → count_by (is_within n) stretches ≡ 1
+one_within : (passes : ℕ → PortSpot → Bool) (from to n : ℕ) (before : Option Conns) (stretches : List Stretch) → AreRight passes from to before stretches → from ≤ n → n < to →
+    count_by (is_within n) stretches ≡ 1
 one_within passes from to n before [] are above below = absurd (omega arith)
 one_within passes from to n before (stretch ∷ stretches) are above below =
     elim (cases_lt stretch.hi n) [

@@ -9,7 +9,8 @@ use Rattle.np_table.proofs.RangeSets.{conns_of-has_spot}
 use Rattle.np_table.specs.Right.{AreRight, IsRight, conns_of, stretches_of}
 
 -- by a test that answers at each number as the pieces from there on do
-ArePieces-right : {P : Type 0} (number_of : P → ℕ) (passes : ℕ → PortSpot → Bool) (from to : ℕ) (before : Option Conns) (pieces : List (Piece P Conns)) → ArePieces number_of IsConns from to before pieces → ((n : ℕ) → from ≤ n → n < to → passes n ≡ has_at number_of has_spot pieces n) → AreRight passes from to before (stretches_of number_of pieces)
+ArePieces-right : {P : Type 0} (number_of : P → ℕ) (passes : ℕ → PortSpot → Bool) (from to : ℕ) (before : Option Conns) (pieces : List (Piece P Conns)) →
+    ArePieces number_of IsConns from to before pieces → ((n : ℕ) → from ≤ n → n < to → passes n ≡ has_at number_of has_spot pieces n) → AreRight passes from to before (stretches_of number_of pieces)
 ArePieces-right number_of passes from to before [] are alike = are
 ArePieces-right number_of passes from to before (piece ∷ pieces) are alike =
     let ends = ArePieces-ordered number_of IsConns (number_of piece.hi + 1) to (Some piece.value) pieces are.1 in (
@@ -26,6 +27,7 @@ ArePieces-right number_of passes from to before (piece ∷ pieces) are alike =
     )
 
 -- pieces of a whole space
-pub Covers-right : {P : Type 0} (number_of : P → ℕ) (low high : ℕ) (pieces : List (Piece P Conns)) → Covers number_of IsConns low high pieces → IsRight (has_at number_of has_spot pieces) low high (stretches_of number_of pieces)
+pub Covers-right : {P : Type 0} (number_of : P → ℕ) (low high : ℕ) (pieces : List (Piece P Conns)) → Covers number_of IsConns low high pieces →
+    IsRight (has_at number_of has_spot pieces) low high (stretches_of number_of pieces)
 Covers-right number_of low high pieces covers =
     ArePieces-right number_of (has_at number_of has_spot pieces) low (high + 1) None pieces covers (λ n above below. refl)

@@ -17,7 +17,8 @@ IsNext-stretch_at passes from before differs = record {
 }
 
 -- a stretch may grow by a number where the same connections pass
-IsNext-grown : (passes : ℕ → PortSpot → Bool) (from : ℕ) (before : Option Conns) (last : Stretch) → IsNext passes from before last → conns_of (passes (last.hi + 1)) ≡ last.conns → IsNext passes from before (record last { hi = last.hi + 1 })
+IsNext-grown : (passes : ℕ → PortSpot → Bool) (from : ℕ) (before : Option Conns) (last : Stretch) → IsNext passes from before last → conns_of (passes (last.hi + 1)) ≡ last.conns →
+    IsNext passes from before (record last { hi = last.hi + 1 })
 IsNext-grown passes from before last next same = record {
   start = next.start;
   filled = omega (arith, next.filled);
@@ -32,7 +33,8 @@ same_conns : (a b : Conns) → Some a ≡ Some b → b ≡ a
 same_conns a b same = cc
 
 -- the list that begins with a stretch that may stand there is right, as far as the walk goes
-walk_on-right : (passes : ℕ → PortSpot → Bool) (from to : ℕ) (before : Option Conns) (last : Stretch) (count : ℕ) → last.hi + 1 + count ≡ to → IsNext passes from before last → AreRight passes from to before (walk_on passes last count)
+walk_on-right : (passes : ℕ → PortSpot → Bool) (from to : ℕ) (before : Option Conns) (last : Stretch) (count : ℕ) → last.hi + 1 + count ≡ to → IsNext passes from before last →
+    AreRight passes from to before (walk_on passes last count)
 walk_on-right passes from to before last zero ends next = (next, omega arith)
 walk_on-right passes from to before last (suc count) ends next =
     let n = last.hi + 1 in

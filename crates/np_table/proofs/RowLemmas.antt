@@ -1,5 +1,6 @@
 -- Rows of a list: those that pass a test, and their ends.
-use Rattle.std.proofs.Common.{◌≡◌, ◌≢◌, ◌<◌, ◌≤◌, ◌+◌, ℕ, zero, suc, List, [], ◌∷◌, ◌++◌, Bool, true, false, All, Option, None, Some, map, flat_map, append-nil, if◌then◌else◌, arith, refl, ap, ◌∙◌, inl, inr}
+use Rattle.std.proofs.Common.{◌≡◌, ◌≢◌, ◌<◌, ◌≤◌, ◌+◌, ℕ, zero, suc, List, [], ◌∷◌, ◌++◌, Bool, true, false, All, Option, None, Some, map, flat_map, append-nil, if◌then◌else◌, arith, refl, ap, ◌∙◌}
+use Rattle.std.proofs.Common.{inl, inr}
 use Rattle.std.specs.Prelude.{filter}
 use Rattle.std.specs.List.{range_with_len}
 use Rattle.std.proofs.lemmas.Bool.{and_parts, cases_eq, eqb-true, false≢true}
@@ -33,7 +34,8 @@ filter-swap : (p q : Row → Bool) (rows : List Row) → filter p (filter q rows
 filter-swap p q [] = refl
 filter-swap p q (row ∷ rows) = by (p row) (q row) refl refl (filter-swap p q rows)
   where
-    by : (first second : Bool) → p row ≡ first → q row ≡ second → filter p (filter q rows) ≡ filter q (filter p rows) → filter p (if second then row ∷ filter q rows else filter q rows) ≡ filter q (if first then row ∷ filter p rows else filter p rows)
+    by : (first second : Bool) → p row ≡ first → q row ≡ second → filter p (filter q rows) ≡ filter q (filter p rows) →
+        filter p (if second then row ∷ filter q rows else filter q rows) ≡ filter q (if first then row ∷ filter p rows else filter p rows)
     by true true is is' rest = rw (is, is') (ap (λ (more : List Row). row ∷ more) rest)
     by true false is is' rest = rw is' rest
     by false true is is' rest = rw is rest
@@ -124,7 +126,8 @@ is_between-key source destination row is =
     ap from (is_workload-end source row.key.source ends.0) ∙ ap to (is_workload-end destination row.key.destination ends.1)
 
 -- it keeps all rows between two workloads, or none
-pub rows_between-kept : (source destination : ℕ) (keep : RowKey → Bool) (rows : List Row) → rows_between source destination (filter (λ (row : Row). keep row.key) rows) ≡ (if keep (pair_key source destination) then rows_between source destination rows else [])
+pub rows_between-kept : (source destination : ℕ) (keep : RowKey → Bool) (rows : List Row) →
+    rows_between source destination (filter (λ (row : Row). keep row.key) rows) ≡ (if keep (pair_key source destination) then rows_between source destination rows else [])
 rows_between-kept source destination keep rows =
     filter-swap (is_between source destination) (λ (row : Row). keep row.key) rows
     ∙ filter-by (λ (row : Row). keep row.key) (keep (pair_key source destination)) (rows_between source destination rows)
@@ -132,7 +135,9 @@ rows_between-kept source destination keep rows =
     (λ row is. ap keep (is_between-key source destination row is)) (rows_between source destination rows) (filter_passes (is_between source destination) rows))
 
 -- and the one row of an address, or none
-pub rows_of_address-kept : (workload : ℕ) (direction : Direction) (family : Family) (number : ℕ) (keep : RowKey → Bool) (rows : List Row) (row : Row) → rows_of_address workload direction family number rows ≡ row ∷ [] → rows_of_address workload direction family number (filter (λ (one : Row). keep one.key) rows) ≡ (if keep row.key then row ∷ [] else [])
+pub rows_of_address-kept : (workload : ℕ) (direction : Direction) (family : Family) (number : ℕ) (keep : RowKey → Bool) (rows : List Row) (row : Row) →
+    rows_of_address workload direction family number rows ≡ row ∷ [] →
+    rows_of_address workload direction family number (filter (λ (one : Row). keep one.key) rows) ≡ (if keep row.key then row ∷ [] else [])
 rows_of_address-kept workload direction family number keep rows row only =
     filter-swap (is_of_address workload direction family number) (λ (one : Row). keep one.key) rows
     ∙ ap (λ (found : List Row). filter (λ (one : Row). keep one.key) found) only

@@ -1,5 +1,6 @@
 -- What the rows of a pair say.
-use Rattle.std.proofs.Common.{◌≡◌, ◌≢◌, ◌<◌, ◌≤◌, ◌==◌, ℕ, List, [], ◌∷◌, ◌++◌, Bool, true, false, ◌&&◌, ◌||◌, All, Contains, Option, None, Some, length, flat_map, append-nil, if◌then◌else◌, arith, refl, sym, ap, ◌∙◌, eq-eqb}
+use Rattle.std.proofs.Common.{◌≡◌, ◌≢◌, ◌<◌, ◌≤◌, ◌==◌, ℕ, List, [], ◌∷◌, ◌++◌, Bool, true, false, ◌&&◌, ◌||◌, All, Contains, Option, None, Some, length, flat_map, append-nil, if◌then◌else◌, arith}
+use Rattle.std.proofs.Common.{refl, sym, ap, ◌∙◌, eq-eqb}
 use Rattle.std.specs.Prelude.{◌↔◌}
 use Rattle.std.proofs.lemmas.Bool.{and_from, and_parts, and_right, false≢true, ne_eqb}
 use Rattle.std.proofs.lemmas.List.{length-map}
@@ -54,7 +55,8 @@ has_spot-nothing conns spot nothing =
 -- the connections of a test by which no port passes are such a set
 conns_of-nothing : (passes : PortSpot → Bool) → ((spot : PortSpot) → passes spot ≡ false) → is_nothing (conns_of passes) ≡ true
 conns_of-nothing passes nothing =
-    let none : (proto : Proto) → spans_of passes proto ≡ [] = λ proto. sym (runs-by_members (λ port. passes (record { proto = proto; port = port })) [] tt (λ port _ _. sym (nothing (record { proto = proto; port = port })))) in
+    let none : (proto : Proto) → spans_of passes proto ≡ [] = λ proto. sym
+    (runs-by_members (λ port. passes (record { proto = proto; port = port })) [] tt (λ port _ _. sym (nothing (record { proto = proto; port = port })))) in
     and_from _ _ (and_from _ _ (ap is_none (none Tcp)) (ap is_none (none Udp))) (ap is_none (none Sctp))
 
 -- ---- rows of no ports
@@ -82,15 +84,18 @@ or_false true = refl
 or_false false = refl
 
 -- a row says what its set has, in the families that its mark speaks of
-allows_in-row_if : (key : RowKey) (mark : Option Family) (conns : Conns) (family : Family) (spot : PortSpot) → allows_in (row_if key mark conns) family spot ≡ (speaks_of mark family && has_spot conns spot)
+allows_in-row_if : (key : RowKey) (mark : Option Family) (conns : Conns) (family : Family) (spot : PortSpot) →
+    allows_in (row_if key mark conns) family spot ≡ (speaks_of mark family && has_spot conns spot)
 allows_in-row_if key mark conns family spot = by (is_nothing conns) refl
   where
-    by : (nothing : Bool) → is_nothing conns ≡ nothing → allows_in (if nothing then [] else record { key = key; family = mark; conns = conns } ∷ []) family spot ≡ (speaks_of mark family && has_spot conns spot)
+    by : (nothing : Bool) → is_nothing conns ≡ nothing →
+        allows_in (if nothing then [] else record { key = key; family = mark; conns = conns } ∷ []) family spot ≡ (speaks_of mark family && has_spot conns spot)
     by true is = sym (and_right (speaks_of mark family) (has_spot conns spot) (has_spot-nothing conns spot is))
     by false is = or_false (speaks_of mark family && has_spot conns spot)
 
 -- the two rows of both families say in each what its set has
-allows_in-each : (key : RowKey) (conns : Family → Conns) (family : Family) (spot : PortSpot) → allows_in (row_if key (Some Four) (conns Four) ++ row_if key (Some Six) (conns Six)) family spot ≡ has_spot (conns family) spot
+allows_in-each : (key : RowKey) (conns : Family → Conns) (family : Family) (spot : PortSpot) →
+    allows_in (row_if key (Some Four) (conns Four) ++ row_if key (Some Six) (conns Six)) family spot ≡ has_spot (conns family) spot
 allows_in-each key conns family spot =
     list_any-append (says family spot) (row_if key (Some Four) (conns Four)) (row_if key (Some Six) (conns Six))
     ∙ ap (λ (said : Bool). said || allows_in (row_if key (Some Six) (conns Six)) family spot) (allows_in-row_if key (Some Four) (conns Four) family spot)
@@ -102,7 +107,8 @@ allows_in-each key conns family spot =
     own Six = refl
 
 -- and so does one row where the sets are equal
-allows_in-one : (key : RowKey) (conns : Family → Conns) (family : Family) (spot : PortSpot) → conns Four ≡ conns Six → allows_in (row_if key None (conns Four)) family spot ≡ has_spot (conns family) spot
+allows_in-one : (key : RowKey) (conns : Family → Conns) (family : Family) (spot : PortSpot) → conns Four ≡ conns Six →
+    allows_in (row_if key None (conns Four)) family spot ≡ has_spot (conns family) spot
 allows_in-one key conns family spot same = allows_in-row_if key None (conns Four) family spot ∙ own family
   where
     own : (one : Family) → has_spot (conns Four) spot ≡ has_spot (conns one) spot
@@ -112,7 +118,8 @@ allows_in-one key conns family spot same = allows_in-row_if key None (conns Four
 allows_in-rows_of_both : (key : RowKey) (conns : Family → Conns) (family : Family) (spot : PortSpot) → allows_in (rows_of_both key (conns Four) (conns Six)) family spot ≡ has_spot (conns family) spot
 allows_in-rows_of_both key conns family spot = by (are_same_conns (conns Four) (conns Six)) refl
   where
-    by : (same : Bool) → are_same_conns (conns Four) (conns Six) ≡ same → allows_in (if same then row_if key None (conns Four) else row_if key (Some Four) (conns Four) ++ row_if key (Some Six) (conns Six)) family spot ≡ has_spot (conns family) spot
+    by : (same : Bool) → are_same_conns (conns Four) (conns Six) ≡ same →
+        allows_in (if same then row_if key None (conns Four) else row_if key (Some Four) (conns Four) ++ row_if key (Some Six) (conns Six)) family spot ≡ has_spot (conns family) spot
     by true is = allows_in-one key conns family spot ((are_same_conns-Decides (conns Four) (conns Six)).0 is)
     by false is = allows_in-each key conns family spot
 
@@ -125,14 +132,16 @@ none_in_nothing : (family : Family) → Contains [] family → ⊥
 none_in_nothing family has = omega (arith, has.1)
 
 -- in each family of the table its rows say what the set of the family has
-allows_in-rows_in : (families : List Family) (key : RowKey) (conns : Family → Conns) (family : Family) (spot : PortSpot) → Contains families family → allows_in (rows_in families key conns) family spot ≡ has_spot (conns family) spot
+allows_in-rows_in : (families : List Family) (key : RowKey) (conns : Family → Conns) (family : Family) (spot : PortSpot) → Contains families family →
+    allows_in (rows_in families key conns) family spot ≡ has_spot (conns family) spot
 allows_in-rows_in [] key conns family spot has = absurd (none_in_nothing family has)
 allows_in-rows_in (one ∷ []) key conns family spot has =
     allows_in-row_if key None (conns one) family spot ∙ ap (λ (own : Family). has_spot (conns own) spot) (only_one one family has)
 allows_in-rows_in (one ∷ next ∷ families) key conns family spot has = allows_in-rows_of_both key conns family spot
 
 -- a table of both families has the rows of both
-rows_in-each : (families : List Family) (key : RowKey) (conns : Family → Conns) → Contains families Four → Contains families Six → rows_in families key conns ≡ rows_of_both key (conns Four) (conns Six)
+rows_in-each : (families : List Family) (key : RowKey) (conns : Family → Conns) → Contains families Four → Contains families Six →
+    rows_in families key conns ≡ rows_of_both key (conns Four) (conns Six)
 rows_in-each [] key conns four six = refl
 rows_in-each (one ∷ []) key conns four six = let is_four = only_one one Four four in let is_six = only_one one Six six in absurd (cc)
 rows_in-each (one ∷ next ∷ families) key conns four six = refl
@@ -140,7 +149,8 @@ rows_in-each (one ∷ next ∷ families) key conns four six = refl
 -- ---- the rows of a table
 
 -- the rows of a pair say what passes
-pub allows_in-pair_rows : (table : Table) (source destination : ℕ) (family : Family) (spot : PortSpot) → Contains table.families family → is_spot spot ≡ true → allows_in (pair_rows table source destination) family spot ≡ table.pairs source destination family spot
+pub allows_in-pair_rows : (table : Table) (source destination : ℕ) (family : Family) (spot : PortSpot) → Contains table.families family → is_spot spot ≡ true →
+    allows_in (pair_rows table source destination) family spot ≡ table.pairs source destination family spot
 unfolding pair_rows
 allows_in-pair_rows table source destination family spot has is =
     allows_in-rows_in table.families (pair_key source destination) (λ family. conns_of (table.pairs source destination family)) family spot has
@@ -150,7 +160,8 @@ allows_in-pair_rows table source destination family spot has is =
 pub pair_rows-nothing : (table : Table) (source destination : ℕ) → ((family : Family) (spot : PortSpot) → table.pairs source destination family spot ≡ false) → pair_rows table source destination ≡ []
 unfolding pair_rows
 pair_rows-nothing table source destination nothing =
-    rows_in-nothing table.families (pair_key source destination) (λ family. conns_of (table.pairs source destination family)) (λ family. conns_of-nothing (table.pairs source destination family) (nothing family))
+    rows_in-nothing table.families (pair_key source destination) (λ family. conns_of (table.pairs source destination family))
+    (λ family. conns_of-nothing (table.pairs source destination family) (nothing family))
 
 -- ---- rows without marks
 
@@ -186,27 +197,35 @@ row_if-one key mark conns = by (is_nothing conns)
     by false = omega arith
 
 -- where the same ports pass in both families of a table, there is the row of one
-pub pair_rows-same : (table : Table) (source destination : ℕ) → Contains table.families Four → Contains table.families Six → AllowSamePorts (table.pairs source destination Four) (table.pairs source destination Six) → pair_rows table source destination ≡ row_if (pair_key source destination) None (conns_of (table.pairs source destination Four))
+pub pair_rows-same : (table : Table) (source destination : ℕ) → Contains table.families Four → Contains table.families Six →
+    AllowSamePorts (table.pairs source destination Four) (table.pairs source destination Six) →
+    pair_rows table source destination ≡ row_if (pair_key source destination) None (conns_of (table.pairs source destination Four))
 unfolding pair_rows
 pair_rows-same table source destination four six same =
     rows_in-each table.families (pair_key source destination) (λ family. conns_of (table.pairs source destination family)) four six
-    ∙ rows_of_both-same (pair_key source destination) (conns_of (table.pairs source destination Four)) (conns_of (table.pairs source destination Six)) (conns_of-agrees (table.pairs source destination Four) (table.pairs source destination Six) same)
+    ∙ rows_of_both-same (pair_key source destination) (conns_of (table.pairs source destination Four)) (conns_of (table.pairs source destination Six))
+    (conns_of-agrees (table.pairs source destination Four) (table.pairs source destination Six) same)
 
 -- no row has a mark exactly there
-pub pair_rows-unmarked : (table : Table) (source destination : ℕ) → Contains table.families Four → Contains table.families Six → All IsUnmarked (pair_rows table source destination) ↔ AllowSamePorts (table.pairs source destination Four) (table.pairs source destination Six)
+pub pair_rows-unmarked : (table : Table) (source destination : ℕ) → Contains table.families Four → Contains table.families Six →
+    All IsUnmarked (pair_rows table source destination) ↔ AllowSamePorts (table.pairs source destination Four) (table.pairs source destination Six)
 pair_rows-unmarked table source destination four six = (
-  λ unmarked. λ spot is. sym (allows_in-pair_rows table source destination Four spot four is) ∙ allows_in-unmarked (pair_rows table source destination) spot unmarked ∙ allows_in-pair_rows table source destination Six spot six is,
-  λ same. All-same IsUnmarked (pair_rows table source destination) (row_if (pair_key source destination) None (conns_of (table.pairs source destination Four))) (pair_rows-same table source destination four six same) (row_if-unmarked (pair_key source destination) (conns_of (table.pairs source destination Four))),
+  λ unmarked. λ spot is. sym (allows_in-pair_rows table source destination Four spot four is) ∙ allows_in-unmarked (pair_rows table source destination) spot unmarked
+      ∙ allows_in-pair_rows table source destination Six spot six is,
+  λ same. All-same IsUnmarked (pair_rows table source destination) (row_if (pair_key source destination) None (conns_of (table.pairs source destination Four)))
+      (pair_rows-same table source destination four six same) (row_if-unmarked (pair_key source destination) (conns_of (table.pairs source destination Four))),
 )
 
 -- and then there is one row at most
-pub pair_rows-one_row : (table : Table) (source destination : ℕ) → Contains table.families Four → Contains table.families Six → AllowSamePorts (table.pairs source destination Four) (table.pairs source destination Six) → length (pair_rows table source destination) ≤ 1
+pub pair_rows-one_row : (table : Table) (source destination : ℕ) → Contains table.families Four → Contains table.families Six →
+    AllowSamePorts (table.pairs source destination Four) (table.pairs source destination Six) → length (pair_rows table source destination) ≤ 1
 pair_rows-one_row table source destination four six same =
     rw (pair_rows-same table source destination four six same) (row_if-one (pair_key source destination) None (conns_of (table.pairs source destination Four)))
 
 -- ---- the rows of a pair among all rows
 
-rows_between-pair : (table : Table) (source destination near far : ℕ) → rows_between source destination (pair_rows table near far) ≡ (if near == source && far == destination then pair_rows table near far else [])
+rows_between-pair : (table : Table) (source destination near far : ℕ) →
+    rows_between source destination (pair_rows table near far) ≡ (if near == source && far == destination then pair_rows table near far else [])
 rows_between-pair table source destination near far =
     filter-by (is_between source destination) (near == source && far == destination) (pair_rows table near far)
     (All-weaker (HasKey (pair_key near far)) (λ (row : Row). is_between source destination row ≡ (near == source && far == destination))
@@ -215,9 +234,11 @@ rows_between-pair table source destination near far =
 rows_between-other_source : (table : Table) (source destination near : ℕ) → near ≢ source → rows_between source destination (flat_map (pair_rows table near) (workloads table)) ≡ []
 rows_between-other_source table source destination near apart =
     filter-flat_map (is_between source destination) (pair_rows table near) (workloads table)
-    ∙ range-none (λ far. rows_between source destination (pair_rows table near far)) 0 (length table.names) (λ far _. rows_between-pair table source destination near far ∙ rw (ne_eqb near source apart) refl)
+    ∙ range-none (λ far. rows_between source destination (pair_rows table near far)) 0 (length table.names)
+    (λ far _. rows_between-pair table source destination near far ∙ rw (ne_eqb near source apart) refl)
 
-rows_between-own_source : (table : Table) (source destination : ℕ) → destination < length table.names → rows_between source destination (flat_map (pair_rows table source) (workloads table)) ≡ pair_rows table source destination
+rows_between-own_source : (table : Table) (source destination : ℕ) → destination < length table.names →
+    rows_between source destination (flat_map (pair_rows table source) (workloads table)) ≡ pair_rows table source destination
 rows_between-own_source table source destination within =
     filter-flat_map (is_between source destination) (pair_rows table source) (workloads table)
     ∙ range-only (λ far. rows_between source destination (pair_rows table source far)) 0 (length table.names) destination (omega arith) (omega arith)
@@ -225,7 +246,8 @@ rows_between-own_source table source destination within =
     ∙ rows_between-pair table source destination source destination
     ∙ rw (eq-eqb source source refl, eq-eqb destination destination refl) refl
 
-rows_between-pairs : (table : Table) (source destination : ℕ) → source < length table.names → destination < length table.names → rows_between source destination (all_pair_rows table) ≡ pair_rows table source destination
+rows_between-pairs : (table : Table) (source destination : ℕ) → source < length table.names → destination < length table.names →
+    rows_between source destination (all_pair_rows table) ≡ pair_rows table source destination
 unfolding all_pair_rows
 rows_between-pairs table source destination source_in destination_in =
     filter-flat_map (is_between source destination) (λ near. flat_map (pair_rows table near) (workloads table)) (workloads table)
@@ -250,7 +272,8 @@ rows_between-addresses table source destination =
     ∙ rows_between-towards table source destination workload Egress)
 
 -- the rows of the table from one workload to another are the rows of the pair
-pub rows_between-all : (table : Table) (source destination : ℕ) → source < length table.names → destination < length table.names → rows_between source destination (all_rows table) ≡ pair_rows table source destination
+pub rows_between-all : (table : Table) (source destination : ℕ) → source < length table.names → destination < length table.names →
+    rows_between source destination (all_rows table) ≡ pair_rows table source destination
 rows_between-all table source destination source_in destination_in =
     filter-append (is_between source destination) (all_pair_rows table) (all_address_rows table)
     ∙ ap (λ (rows : List Row). rows ++ rows_between source destination (all_address_rows table)) (rows_between-pairs table source destination source_in destination_in)
@@ -277,13 +300,17 @@ unfolding folding_of
 number-within lists place within = rw (names-count lists (folding_of lists)) (number-in_workloads lists place within)
 
 -- the rows of a pair of an estate say what passes between its workloads
-allows_in-estate : (lists : EstateLists) (folding : Folding) (source destination : ℕ) (family : Family) (spot : PortSpot) → Contains (families_of lists.pods) family → is_spot spot ≡ true → allows_in (pair_rows (table_of lists folding) source destination) family spot ≡ pair_allows lists folding source destination family spot
+allows_in-estate : (lists : EstateLists) (folding : Folding) (source destination : ℕ) (family : Family) (spot : PortSpot) → Contains (families_of lists.pods) family → is_spot spot ≡ true →
+    allows_in (pair_rows (table_of lists folding) source destination) family spot ≡ pair_allows lists folding source destination family spot
 unfolding table_of
 allows_in-estate lists folding source destination family spot has is = allows_in-pair_rows (table_of lists folding) source destination family spot has is
 
 -- the rows of the workloads of two different pods say what passes between the pods
-pub allows_in-pods : (lists : EstateLists) (p q : ℕ) (family : Family) (spot : PortSpot) → IsLawful lists → p < length lists.pods → q < length lists.pods → p ≢ q → Contains (families_of lists.pods) family → is_spot spot ≡ true → allows_in (rows_between (number_of lists p) (number_of lists q) (all_rows (table_of lists (folding_of lists)))) family spot ≡ between_pods lists p q family spot
+pub allows_in-pods : (lists : EstateLists) (p q : ℕ) (family : Family) (spot : PortSpot) → IsLawful lists → p < length lists.pods → q < length lists.pods → p ≢ q →
+    Contains (families_of lists.pods) family → is_spot spot ≡ true →
+    allows_in (rows_between (number_of lists p) (number_of lists q) (all_rows (table_of lists (folding_of lists)))) family spot ≡ between_pods lists p q family spot
 allows_in-pods lists p q family spot lawful p_in q_in differ has is =
-    ap (λ (rows : List Row). allows_in rows family spot) (rows_between-all (table_of lists (folding_of lists)) (number_of lists p) (number_of lists q) (number-within lists p p_in) (number-within lists q q_in))
+    ap (λ (rows : List Row). allows_in rows family spot) (rows_between-all (table_of lists (folding_of lists)) (number_of lists p) (number_of lists q) (number-within lists p p_in)
+    (number-within lists q q_in))
     ∙ allows_in-estate lists (folding_of lists) (number_of lists p) (number_of lists q) family spot has is
     ∙ sym (between_pods-pair_allows lists p q family spot lawful p_in q_in differ)

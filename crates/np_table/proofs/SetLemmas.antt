@@ -1,5 +1,6 @@
 -- Sets of connections, and the rows of them.
-use Rattle.std.proofs.Common.{◌≡◌, ◌≢◌, ◌≤◌, ℕ, List, [], ◌∷◌, ◌++◌, Bool, true, false, not, nat_le, Option, None, Some, Result, Ok, Err, IfOk, OnErr, OnOk, length, get_or, arith, refl, sym, ◌∙◌, subst}
+use Rattle.std.proofs.Common.{◌≡◌, ◌≢◌, ◌≤◌, ℕ, List, [], ◌∷◌, ◌++◌, Bool, true, false, not, nat_le, Option, None, Some, Result, Ok, Err, IfOk, OnErr, OnOk, length, get_or, arith, refl, sym, ◌∙◌}
+use Rattle.std.proofs.Common.{subst}
 use Rattle.std.proofs.lemmas.Bool.{and_from, and_parts, both_ways, false_from_ne_true, leb-true, or_left, true≢false}
 use Rattle.np_addr.specs.declared.address.Family.{Family}
 use Rattle.np_addr.specs.declared.address.Family.TheVariants.{Four, Six}
@@ -28,7 +29,8 @@ low port proto is = leb-true 1 port (and_parts (nat_le 1 port) (nat_le port 6553
 high : (port : ℕ) (proto : Proto) → is_spot (record { proto = proto; port = port }) ≡ true → port ≤ 65535
 high port proto is = leb-true port 65535 (and_parts (nat_le 1 port) (nat_le port 65535) is).1
 
-has_port : (passes : PortSpot → Bool) (proto : Proto) (port : ℕ) → is_spot (record { proto = proto; port = port }) ≡ true → has_spot (conns_of passes) (record { proto = proto; port = port }) ≡ passes (record { proto = proto; port = port })
+has_port : (passes : PortSpot → Bool) (proto : Proto) (port : ℕ) → is_spot (record { proto = proto; port = port }) ≡ true →
+    has_spot (conns_of passes) (record { proto = proto; port = port }) ≡ passes (record { proto = proto; port = port })
 has_port passes Tcp port is = runs-hold (λ (p : ℕ). passes (record { proto = Tcp; port = p })) port (low port Tcp is) (high port Tcp is)
 has_port passes Udp port is = runs-hold (λ (p : ℕ). passes (record { proto = Udp; port = p })) port (low port Udp is) (high port Udp is)
 has_port passes Sctp port is = runs-hold (λ (p : ℕ). passes (record { proto = Sctp; port = p })) port (low port Sctp is) (high port Sctp is)
@@ -65,7 +67,8 @@ pub rows_of_both-same : (key : RowKey) (four six : Conns) → four ≡ six → r
 rows_of_both-same key four six same = rw ((are_same_conns-Decides four six).1 same) refl
 
 -- and else one for each
-pub rows_of_both-apart : (key : RowKey) (four six : Conns) → (spot : PortSpot) × (has_spot four spot ≡ not (has_spot six spot)) → rows_of_both key four six ≡ row_if key (Some Four) four ++ row_if key (Some Six) six
+pub rows_of_both-apart : (key : RowKey) (four six : Conns) → (spot : PortSpot) × (has_spot four spot ≡ not (has_spot six spot)) →
+    rows_of_both key four six ≡ row_if key (Some Four) four ++ row_if key (Some Six) six
 rows_of_both-apart key four six apart =
     let differ : four ≡ six → ⊥ = λ same. not_itself (has_spot six apart.0) (subst (λ (conns : Conns). has_spot conns apart.0 ≡ not (has_spot six apart.0)) same apart.1) in
     rw (false_from_ne_true (are_same_conns four six) (λ yes. differ ((are_same_conns-Decides four six).0 yes))) refl

@@ -3,7 +3,7 @@ use Rattle.std.specs.Prelude.{◌≡◌, ◌⊎◌}
 use Rattle.np_model.specs.declared.lists.EstateLists.{EstateLists}
 use Rattle.np_model.specs.declared.pod.Pod.{Pod}
 use Rattle.np_fold.specs.Alike.{IsSameKind}
-use Rattle.np_rules.specs.Ends.{End, pod, pod_end}
+use Rattle.np_rules.specs.model.Ends.{End, pod, pod_end}
 
 -- two ends are pods of one kind, in namespaces of the same labels
 pub record ArePodsOfOneKind (lists : EstateLists) (one other : End) : Type 0 where

@@ -7,10 +7,10 @@ use Rattle.np_fold.specs.Workloads.{folding_of}
 use Rattle.np_model.specs.declared.direction.Direction.{Direction}
 use Rattle.np_model.specs.declared.direction.Direction.TheVariants.{Egress, Ingress}
 use Rattle.np_reach.specs.Reach.{may_at}
-use Rattle.np_rules.specs.Ends.{Contact, PodEnd, pod}
+use Rattle.np_rules.specs.model.Ends.{Contact, PodEnd, pod}
 use Rattle.np_rules.specs.PodSides.{PodSide, near_pod, side_of, side_rule_count}
-use Rattle.np_rules.specs.Sides.{side_allows}
-use Rattle.np_rules.specs.Verdict.{pod_at}
+use Rattle.np_rules.specs.model.Sides.{side_allows}
+use Rattle.np_rules.specs.model.Verdict.{pod_at}
 use Rattle.np_table.specs.Table.{source_pod, with_address}
 use Rattle.np_table.specs.declared.kind_reach.KindReach.{KindReach}
 use Rattle.np_table.specs.declared.rules_by_kind.KindRules.{KindRules}

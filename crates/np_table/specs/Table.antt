@@ -10,8 +10,8 @@ use Rattle.np_model.specs.declared.lists.EstateLists.{EstateLists}
 use Rattle.np_fold.specs.Workloads.{Folding, folding_of, members_of}
 use Rattle.np_model.specs.declared.direction.Direction.{Direction}
 use Rattle.np_model.specs.declared.direction.Direction.TheVariants.{Ingress, Egress}
-use Rattle.np_rules.specs.Ends.{End, address, pod}
-use Rattle.np_rules.specs.Verdict.{allows, pod_at}
+use Rattle.np_rules.specs.model.Ends.{End, address, pod}
+use Rattle.np_rules.specs.model.Verdict.{allows, pod_at}
 
 -- ---- pairs of workloads
 

@@ -5,8 +5,8 @@ use Rattle.np_model.specs.declared.lists.EstateLists.{EstateLists}
 use Rattle.np_fold.specs.Workloads.{Folding, folding_of}
 use Rattle.np_model.specs.declared.direction.Direction.{Direction}
 use Rattle.np_model.specs.declared.direction.Direction.TheVariants.{Ingress, Egress}
-use Rattle.np_rules.specs.Places.{rule_count}
-use Rattle.np_rules.specs.Verdict.{pod_at}
+use Rattle.np_rules.specs.model.Places.{rule_count}
+use Rattle.np_rules.specs.model.Verdict.{pod_at}
 use Rattle.np_table.specs.RowCache.{IsKept, kept_count}
 use Rattle.np_table.specs.Rows.{pair_rows, rows_towards}
 use Rattle.np_table.specs.Table.{Table, number_of_workloads, source_pod}

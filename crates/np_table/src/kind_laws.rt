@@ -7,9 +7,9 @@ ghost use Rattle.np_table.specs.Ends.{AreOneKind};
 ghost use Rattle.np_model.specs.declared.direction.Direction.{Direction};
 ghost use Rattle.np_model.specs.declared.direction.Direction.TheVariants.{Ingress, Egress};
 ghost use Rattle.np_rules.specs.Deciders.{decider};
-ghost use Rattle.np_rules.specs.Ends.{End, contact_of};
-ghost use Rattle.np_rules.specs.Places.{end_rule_count};
-ghost use Rattle.np_rules.specs.Verdict.{allows};
+ghost use Rattle.np_rules.specs.model.Ends.{End, contact_of};
+ghost use Rattle.np_rules.specs.model.Places.{end_rule_count};
+ghost use Rattle.np_rules.specs.model.Verdict.{allows};
 
 /// The verdict of a packet depends on the kinds of its ends alone: between ends of the same kinds, packets of one family,
 /// protocol and port are allowed or denied alike. An end may also be an address, or a pod that nobody has written yet.

@@ -6,7 +6,7 @@ ghost use Rattle.np_model.specs.declared.lists.EstateLists.{EstateLists};
 ghost use Rattle.np_fold.specs.Workloads.{folding_of};
 ghost use Rattle.np_model.specs.declared.direction.Direction.TheVariants.{Egress, Ingress};
 ghost use Rattle.np_reach.specs.Reach.{reach_of};
-ghost use Rattle.np_rules.specs.Ends.{pod_end};
+ghost use Rattle.np_rules.specs.model.Ends.{pod_end};
 ghost use Rattle.np_table.specs.PairRules as spec;
 ghost use Rattle.np_table.specs.Table.{IsWorkload, pair_allows};
 ghost use Rattle.np_table.specs.steps.PairSides.{may_pass};

@@ -13,7 +13,7 @@ use Rattle.np_explain.specs.Sides.{are_one_pod}
 use Rattle.np_fold.specs.Workloads.{Folding, members_of}
 use Rattle.np_model.specs.declared.direction.Direction.{Direction}
 use Rattle.np_report.specs.RowText.{family_suffix}
-use Rattle.np_rules.specs.Verdict.{IsEndOf}
+use Rattle.np_rules.specs.model.Verdict.{IsEndOf}
 use Rattle.np_table.specs.Table.{IsWorkload}
 
 -- the number is a workload's

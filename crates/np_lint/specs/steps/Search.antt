@@ -21,12 +21,12 @@ use Rattle.np_model.specs.declared.direction.Direction.{Direction}
 use Rattle.np_model.specs.declared.direction.Direction.TheVariants.{Ingress, Egress}
 use Rattle.np_reach.specs.Reach.{may_at, may_reach, reach_of}
 use Rattle.np_rules.specs.Deciders.{decider}
-use Rattle.np_rules.specs.Ends.{Contact, pod}
+use Rattle.np_rules.specs.model.Ends.{Contact, pod}
 use Rattle.np_rules.specs.EveryAddress.{is_place}
 use Rattle.np_rules.specs.LayerRules.{NamesAdmin, NamesBase, NamesNet}
 use Rattle.np_rules.specs.Layers.{Pairwise}
 use Rattle.np_rules.specs.PodSides.{PodSide, near_pod, side_of, with_addresses, with_pod}
-use Rattle.np_rules.specs.Verdict.{pod_at}
+use Rattle.np_rules.specs.model.Verdict.{pod_at}
 use Rattle.np_rules.specs.declared.decider.Decider.{Decider}
 use Rattle.np_rules.specs.declared.rule_ids.LayerRules.{LayerRules}
 use Rattle.np_table.specs.PairRules.{first_ends}

@@ -8,7 +8,7 @@ use Rattle.np_model.specs.declared.service.ServicePort.{ServicePort}
 use Rattle.np_routes.specs.Services.{is_target, serves}
 use Rattle.np_routes.specs.declared.asked_services.AskedService.{AskedService}
 use Rattle.np_routes.specs.steps.PortSets.{has_own}
-use Rattle.np_rules.specs.Ends.{PodEnd}
+use Rattle.np_rules.specs.model.Ends.{PodEnd}
 
 -- the services themselves
 abbrev pub services_of : List AskedService → List ServiceItem

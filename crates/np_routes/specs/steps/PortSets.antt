@@ -16,7 +16,7 @@ use Rattle.np_model.specs.declared.service.ServiceItem.{ServiceItem}
 use Rattle.np_model.specs.declared.service.ServicePort.{ServicePort}
 use Rattle.np_routes.specs.Services.{is_backend_port}
 use Rattle.np_routes.specs.declared.port_set.PortSet.{PortSet}
-use Rattle.np_rules.specs.Ends.{PodEnd}
+use Rattle.np_rules.specs.model.Ends.{PodEnd}
 
 -- whether two ports are the same number, or the same name
 abbrev pub is_same_port : PortName → PortName → Bool

@@ -11,8 +11,8 @@ use Rattle.np_routes.specs.Routes.{is_routed}
 use Rattle.np_routes.specs.declared.senders.Sender.{Sender}
 use Rattle.np_routes.specs.declared.senders.Sender.TheVariants.{Pod, Anyone}
 use Rattle.np_rules.specs.PodSides.{PodSide, near_pod, side_of, side_rule_count, with_stranger}
-use Rattle.np_rules.specs.Sides.{side_allows}
-use Rattle.np_rules.specs.Verdict.{pod_at}
+use Rattle.np_rules.specs.model.Sides.{side_allows}
+use Rattle.np_rules.specs.model.Verdict.{pod_at}
 use Rattle.np_rules.specs.declared.stranger.Stranger.{Stranger}
 use Rattle.np_table.specs.PairRules.{AreEnds, first_side}
 use Rattle.np_table.specs.Table.{between_pods}

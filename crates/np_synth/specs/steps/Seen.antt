@@ -5,7 +5,7 @@ use Rattle.np_model.specs.declared.lists.EstateLists.{EstateLists}
 use Rattle.np_fold.specs.Traits.{label_of}
 use Rattle.np_fold.specs.declared.traits.Traits.{Traits}
 use Rattle.np_model.specs.declared.owner.Owner.{Owner}
-use Rattle.np_rules.specs.Ends.{PodEnd}
+use Rattle.np_rules.specs.model.Ends.{PodEnd}
 use Rattle.np_synth.specs.Groups.{relevant}
 use Rattle.np_table.specs.PairRules.{first_end}
 

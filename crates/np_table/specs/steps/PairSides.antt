@@ -8,7 +8,7 @@ use Rattle.np_model.specs.declared.direction.Direction.{Direction}
 use Rattle.np_model.specs.declared.direction.Direction.TheVariants.{Egress, Ingress}
 use Rattle.np_reach.specs.Reach.{may_at}
 use Rattle.np_rules.specs.PodSides.{PodSide, near_pod, side_of, with_pod}
-use Rattle.np_rules.specs.Sides.{side_allows}
+use Rattle.np_rules.specs.model.Sides.{side_allows}
 use Rattle.np_table.specs.PairRules.{first_side}
 use Rattle.np_table.specs.Table.{destination_pod}
 use Rattle.np_table.specs.declared.kind_reach.KindReach.{KindReach}

@@ -12,7 +12,8 @@ use Rattle.np_check.proofs.addresses.first_from_addresses.Goals as goal
 
 pub returns-then-is_empty-clause-counter : goal.returns-then-is_empty-clause-counter
 returns-then-is_empty-clause-counter g c =
-    none_of c.args.block.now (λ address. first_of (λ (work : ℕ). counter_between c.args.checker.now c.args.asked.now.wanted c.args.asked.now.conns.now (At address) (Work work)) c.args.destinations.now) (λ n. c.if-is_empty.ensures.answer (First n)) (λ n. c.if-is_empty.ensures.answer (Second n))
+    none_of c.args.block.now (λ address. first_of (λ (work : ℕ). counter_between c.args.checker.now c.args.asked.now.wanted c.args.asked.now.conns.now (At address) (Work work))
+    c.args.destinations.now) (λ n. c.if-is_empty.ensures.answer (First n)) (λ n. c.if-is_empty.ensures.answer (Second n))
 
 pub loop-destination-init : goal.loop-destination-init
 loop-destination-init g c = record {
@@ -31,7 +32,8 @@ returns-in_err-found-clause-same g c = c.first_from.ensures.same ∙ c.loop-dest
 
 pub loop-destination-preserved : goal.loop-destination-preserved
 loop-destination-preserved g c =
-    let first_to = λ (lists : EstateLists). first_of (λ address. counter_between lists c.args.asked.now.wanted c.args.asked.now.conns.now (At address) (Work (get_or c.args.destinations.now c.loop-destination.destination-index 0))) (addresses_of c.args.block.now) in
+    let first_to = λ (lists : EstateLists). first_of (λ address. counter_between lists c.args.asked.now.wanted c.args.asked.now.conns.now (At address)
+    (Work (get_or c.args.destinations.now c.loop-destination.destination-index 0))) (addresses_of c.args.block.now) in
     let found = c.in_ok-found.ensures.counter ∙ ap first_to c.loop-destination.invariant.same in
     record {
       first = c.earlier-first.ensures
@@ -44,7 +46,8 @@ loop-destination-preserved g c =
 pub returns-clause-counter : goal.returns-clause-counter
 returns-clause-counter g c =
     c.loop-destination.invariant.first
-    ∙ ap (λ (works : List ℕ). first_of (λ (address : Address). first_of (λ (work : ℕ). counter_between c.args.checker.now c.args.asked.now.wanted c.args.asked.now.conns.now (At address) (Work work)) works) (addresses_of c.args.block.now))
+    ∙ ap (λ (works : List ℕ). first_of (λ (address : Address). first_of
+    (λ (work : ℕ). counter_between c.args.checker.now c.args.asked.now.wanted c.args.asked.now.conns.now (At address) (Work work)) works) (addresses_of c.args.block.now))
     (take_all c.loop-destination.destination-index c.args.destinations.now c.loop-destination-test.false)
 
 pub returns-clause-same : goal.returns-clause-same

@@ -11,13 +11,15 @@ use Rattle.np_check.proofs.addresses.first_to_addresses.Goals as goal
 
 pub returns-then-is_empty-clause-counter : goal.returns-then-is_empty-clause-counter
 returns-then-is_empty-clause-counter g c =
-    none_of c.args.block.now (λ address. counter_between c.args.checker.now c.args.asked.now.wanted c.args.asked.now.conns.now (Work c.args.source) (At address)) (λ n. c.if-is_empty.ensures.answer (First n)) (λ n. c.if-is_empty.ensures.answer (Second n))
+    none_of c.args.block.now (λ address. counter_between c.args.checker.now c.args.asked.now.wanted c.args.asked.now.conns.now (Work c.args.source) (At address))
+    (λ n. c.if-is_empty.ensures.answer (First n)) (λ n. c.if-is_empty.ensures.answer (Second n))
 
 pub returns-in_default-clause-counter : goal.returns-in_default-clause-counter
 returns-in_default-clause-counter g c =
     let rows = c.items.ensures ∙ c.in_ok-rows.ensures.rows ∙ table_rows c.args.checker.now c.args.source Egress in
     let found = c.in_ok-broken.ensures (address_allows c.args.checker.now (folding_of c.args.checker.now) c.args.source Egress) rows in
-    ap (option_map (counter_by c.args.source)) (sym c.in_default.is) ∙ all_by c.args.checker.now c.args.asked.now.wanted c.args.asked.now.conns.now c.args.source c.args.block.now c.in_ok-broken.field-0 found
+    ap (option_map (counter_by c.args.source)) (sym c.in_default.is)
+    ∙ all_by c.args.checker.now c.args.asked.now.wanted c.args.asked.now.conns.now c.args.source c.args.block.now c.in_ok-broken.field-0 found
 
 pub returns-clause-counter : goal.returns-clause-counter
 returns-clause-counter g c =

@@ -12,7 +12,10 @@ returns-in_err-names g c =
 pub returns-in_err-texts : goal.returns-in_err-texts
 returns-in_err-texts g c =
     let p = err_from_is_err_and c.from_residual-in_err-texts.result c.from_residual-in_err-texts.ensures.1 in
-    rw (p.1, p.2) (Cause-unread c.args.job.now _ _ c.in_err-texts.field-0.0 (record { taken = refl; faults = refl }) (rw (c.items.ensures, c.in_ok-names.ensures) at c.in_err-texts.ensures.err), Counted-none _ _ _ _)
+    rw (p.1, p.2) (
+      Cause-unread c.args.job.now _ _ c.in_err-texts.field-0.0 (record { taken = refl; faults = refl }) (rw (c.items.ensures, c.in_ok-names.ensures) at c.in_err-texts.ensures.err),
+      Counted-none _ _ _ _,
+    )
 
 pub returns : goal.returns
 returns g c = (

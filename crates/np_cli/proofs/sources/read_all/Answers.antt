@@ -3,7 +3,8 @@ use Rattle.std.proofs.lemmas.List.{take_all}
 use Rattle.std.proofs.lemmas.Result.{err_from_is_err_and}
 use Rattle.np_io.specs.Source.{BeganNext}
 use Rattle.np_cli.specs.Sources.{HandedOut, total_size}
-use Rattle.np_cli.proofs.SourcesLemmas.{AreTold-length, BeganFront-next, BeganNext-none, Began-next, HandedOut-more, HandedOut-none, bytes_of-more, total_size-more, RoseBy-more, told-next, Unread-next}
+use Rattle.np_cli.proofs.SourcesLemmas.{AreTold-length, BeganFront-next, BeganNext-none, Began-next, HandedOut-more, HandedOut-none, bytes_of-more, total_size-more, RoseBy-more, told-next}
+use Rattle.np_cli.proofs.SourcesLemmas.{Unread-next}
 use Rattle.np_cli.proofs.sources.read_all.Goals as goal
 
 pub loop-name-init : goal.loop-name-init
@@ -62,10 +63,12 @@ pub returns-in_err-text-clause-err : goal.returns-in_err-text-clause-err
 returns-in_err-text-clause-err g c =
     let p = err_from_is_err_and c.from_residual.result c.from_residual.ensures.1 in
     let kept = c.loop-name.invariant in
-    rw (p.1, p.2) (Unread-next _ _ _ _ _ _ c.args.names.now c.loop-name.texts.items c.loop-name.name-index c.loop-name.room c.name-item.result c.in_err-text.field-0.0 kept.names kept.left_told kept.faults c.loop-name-test.true c.name-item.is kept.so_far kept.counted kept.handed kept.out kept.began c.read_next.ensures.began c.in_err-text.ensures.err)
+    rw (p.1, p.2) (Unread-next _ _ _ _ _ _ c.args.names.now c.loop-name.texts.items c.loop-name.name-index c.loop-name.room c.name-item.result c.in_err-text.field-0.0 kept.names kept.left_told
+    kept.faults c.loop-name-test.true c.name-item.is kept.so_far kept.counted kept.handed kept.out kept.began c.read_next.ensures.began c.in_err-text.ensures.err)
 
 pub returns-in_err-push-clause-err : goal.returns-in_err-push-clause-err
 returns-in_err-push-clause-err g c =
     let p = err_from_is_err_and c.from_residual-in_err-push.result c.from_residual-in_err-push.ensures.1 in
     let kept = c.loop-name.invariant in
-    rw (p.1, p.2) (BeganFront-next _ c.args.names.now c.loop-name.name-index (Began-next _ _ _ c.args.names.now c.loop-name.name-index c.name-item.result c.loop-name-test.true c.name-item.is kept.began c.read_next.ensures.began))
+    rw (p.1, p.2) (BeganFront-next _ c.args.names.now c.loop-name.name-index
+    (Began-next _ _ _ c.args.names.now c.loop-name.name-index c.name-item.result c.loop-name-test.true c.name-item.is kept.began c.read_next.ensures.began))

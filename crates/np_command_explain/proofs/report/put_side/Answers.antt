@@ -27,16 +27,19 @@ returns-in_err-line g c =
 pub returns-in_err-put-2 : goal.returns-in_err-put-2
 returns-in_err-put-2 g c =
     let p = err_from_is_err_and c.from_residual-in_err-put-2.result c.from_residual-in_err-put-2.ensures.1 in
-    let left = subst (HasLeft _ _ _ _ _ _) (flat_map-next (part_line c.args.direction) c.args.parts.now c.loop-part.part-index c.part-item.result c.loop-part-test.true c.part-item.is) c.loop-part.invariant in
+    let left = subst (HasLeft _ _ _ _ _ _) (flat_map-next (part_line c.args.direction) c.args.parts.now c.loop-part.part-index c.part-item.result c.loop-part-test.true c.part-item.is)
+    c.loop-part.invariant in
     let front = rw (c.as_bytes-in-loop-part.ensures.value, c.in_ok-line.ensures) at c.in_err-put-2.ensures.front in
     rw (p.1, p.2) (HasLeft-fault _ _ _ _ _ _ _ _ _ _ left front c.in_err-put-2.ensures.failed)
 
 pub loop-part-preserved : goal.loop-part-preserved
 loop-part-preserved g c =
-    let left = subst (HasLeft _ _ _ _ _ _) (flat_map-next (part_line c.args.direction) c.args.parts.now c.loop-part.part-index c.part-item.result c.loop-part-test.true c.part-item.is) c.loop-part.invariant in
+    let left = subst (HasLeft _ _ _ _ _ _) (flat_map-next (part_line c.args.direction) c.args.parts.now c.loop-part.part-index c.part-item.result c.loop-part-test.true c.part-item.is)
+    c.loop-part.invariant in
     let put = rw (c.as_bytes-in-loop-part.ensures.value, c.in_ok-line.ensures) at c.in_ok-put-2.ensures.put in
     HasLeft-next _ _ _ _ _ _ _ _ _ _ _ left put c.in_ok-put-2.ensures.ok_faults
 
 pub returns : goal.returns
 returns g c =
-    HasLeft-put _ _ _ _ _ _ _ (subst (HasLeft _ _ _ _ _ _) (flat_map-none (part_line c.args.direction) c.args.parts.now c.loop-part.part-index (omega (arith, c.loop-part-test.false))) c.loop-part.invariant)
+    HasLeft-put _ _ _ _ _ _ _ (subst (HasLeft _ _ _ _ _ _) (flat_map-none (part_line c.args.direction) c.args.parts.now c.loop-part.part-index (omega (arith, c.loop-part-test.false)))
+    c.loop-part.invariant)

@@ -45,7 +45,8 @@ returns-in_err-finish-clause-written g c =
     let p = err_from_is_err_and c.from_residual-in_err-finish.result c.from_residual-in_err-finish.ensures.1 in
     let last = subst (HasLeft _ _ _ _ _ _) (to_come-none c.args.flat.now c.loop-group.group (search rules)) c.loop-group.invariant.left in
     let ended = HasLeft-last _ _ _ _ _ _ _ (HasLeft-next _ _ _ _ _ _ _ _ _ _ _ last (rw c.as_bytes-2.ensures.value at c.in_ok-put-3.ensures.put) c.in_ok-put-3.ensures.ok_faults) in
-    rw (p.1, p.2) (HasLeft-finish_fault _ _ _ _ _ _ _ _ _ (HasLeft-next _ _ _ _ _ _ _ _ _ _ _ ended c.in_ok-put-4.ensures.put c.in_ok-put-4.ensures.ok_faults) c.in_err-finish.ensures.front c.in_err-finish.ensures.failed)
+    rw (p.1, p.2) (HasLeft-finish_fault _ _ _ _ _ _ _ _ _ (HasLeft-next _ _ _ _ _ _ _ _ _ _ _ ended c.in_ok-put-4.ensures.put c.in_ok-put-4.ensures.ok_faults) c.in_err-finish.ensures.front
+    c.in_err-finish.ensures.failed)
 
 pub returns-clause-written : goal.returns-clause-written
 returns-clause-written g c =

@@ -21,7 +21,8 @@ returns-in_err-put-clause-written g c =
     let p = err_from_is_err_and c.from_residual-in_err-put.result c.from_residual-in_err-put.ensures.1 in
     let names = names_of (folding_of c.args.folded.now) in
     let came : c.loop-gathered.rows.rows ≡ c.in-Some.row ∷ c.next.new.self.rows = rw c.in-Some.is at c.in_ok-row.ensures.given in
-    let left = subst (HasLeft _ _ _ _ _ _) (ap (rows_to_come g.F.Form.bytes names c.args.focus.now.query c.args.report c.loop-gathered.came) came ∙ rows_to_come-next g.F.Form.bytes names c.args.focus.now.query c.args.report c.loop-gathered.came c.in-Some.row c.next.new.self.rows) c.loop-gathered.invariant.left in
+    let left = subst (HasLeft _ _ _ _ _ _) (ap (rows_to_come g.F.Form.bytes names c.args.focus.now.query c.args.report c.loop-gathered.came) came
+    ∙ rows_to_come-next g.F.Form.bytes names c.args.focus.now.query c.args.report c.loop-gathered.came c.in-Some.row c.next.new.self.rows) c.loop-gathered.invariant.left in
     let front = rw (c.deref.ensures.value, c.in_ok-line.ensures) at c.in_err-put.ensures.front in
     rw (p.1, p.2) (HasLeft-fault _ _ _ _ _ _ _ _ _ _ left front c.in_err-put.ensures.failed)
 
@@ -29,7 +30,8 @@ pub loop-gathered-preserved : goal.loop-gathered-preserved
 loop-gathered-preserved g c =
     let names = names_of (folding_of c.args.folded.now) in
     let came : c.loop-gathered.rows.rows ≡ c.in-Some.row ∷ c.next.new.self.rows = rw c.in-Some.is at c.in_ok-row.ensures.given in
-    let left = subst (HasLeft _ _ _ _ _ _) (ap (rows_to_come g.F.Form.bytes names c.args.focus.now.query c.args.report c.loop-gathered.came) came ∙ rows_to_come-next g.F.Form.bytes names c.args.focus.now.query c.args.report c.loop-gathered.came c.in-Some.row c.next.new.self.rows) c.loop-gathered.invariant.left in
+    let left = subst (HasLeft _ _ _ _ _ _) (ap (rows_to_come g.F.Form.bytes names c.args.focus.now.query c.args.report c.loop-gathered.came) came
+    ∙ rows_to_come-next g.F.Form.bytes names c.args.focus.now.query c.args.report c.loop-gathered.came c.in-Some.row c.next.new.self.rows) c.loop-gathered.invariant.left in
     let put = rw (c.deref.ensures.value, c.in_ok-line.ensures) at c.in_ok-put.ensures.put in
     record {
       left = rw c.admits-came.ensures (HasLeft-next _ _ _ _ _ _ _ _ _ _ _ left put c.in_ok-put.ensures.ok_faults);
@@ -41,7 +43,8 @@ pub loop-gathered-preserved-in_ok-put : goal.loop-gathered-preserved-in_ok-put
 loop-gathered-preserved-in_ok-put g c =
     let names = names_of (folding_of c.args.folded.now) in
     let came : c.loop-gathered.rows.rows ≡ c.in-Some.row ∷ c.next.new.self.rows = rw c.in-Some.is at c.in_ok-row.ensures.given in
-    let left = subst (HasLeft _ _ _ _ _ _) (ap (rows_to_come g.F.Form.bytes names c.args.focus.now.query c.args.report c.loop-gathered.came) came ∙ rows_to_come-next g.F.Form.bytes names c.args.focus.now.query c.args.report c.loop-gathered.came c.in-Some.row c.next.new.self.rows) c.loop-gathered.invariant.left in
+    let left = subst (HasLeft _ _ _ _ _ _) (ap (rows_to_come g.F.Form.bytes names c.args.focus.now.query c.args.report c.loop-gathered.came) came
+    ∙ rows_to_come-next g.F.Form.bytes names c.args.focus.now.query c.args.report c.loop-gathered.came c.in-Some.row c.next.new.self.rows) c.loop-gathered.invariant.left in
     let put = rw (c.deref.ensures.value, c.in_ok-line.ensures) at c.in_ok-put.ensures.put in
     record {
       left = rw c.admits-came.ensures (HasLeft-next _ _ _ _ _ _ _ _ _ _ _ left put c.in_ok-put.ensures.ok_faults);
@@ -54,7 +57,9 @@ returns-in_err-put-2-clause-written g c =
     let p = err_from_is_err_and c.from_residual-in_err-put-2.result c.from_residual-in_err-put-2.ensures.1 in
     let names = names_of (folding_of c.args.folded.now) in
     let done : c.loop-gathered.rows.rows ≡ [] = none_given _ c.loop-gathered.rows.rows c.next.new.self.rows c.in_ok-row.ensures.given c.in_default.not-Some in
-    let left = HasLeft-last _ _ _ _ _ _ _ (subst (HasLeft _ _ _ _ _ _) (ap (rows_to_come g.F.Form.bytes names c.args.focus.now.query c.args.report c.loop-gathered.came) done ∙ rows_to_come-none g.F.Form.bytes names c.args.focus.now.query c.args.report c.loop-gathered.came) c.loop-gathered.invariant.left) in
+    let left = HasLeft-last _ _ _ _ _ _ _ (subst (HasLeft _ _ _ _ _ _)
+    (ap (rows_to_come g.F.Form.bytes names c.args.focus.now.query c.args.report c.loop-gathered.came) done
+    ∙ rows_to_come-none g.F.Form.bytes names c.args.focus.now.query c.args.report c.loop-gathered.came) c.loop-gathered.invariant.left) in
     let front = rw (c.as_bytes.ensures.value, c.end.ensures) at c.in_err-put-2.ensures.front in
     rw (p.1, p.2) (HasLeft-fault _ _ _ _ _ _ _ _ _ _ left front c.in_err-put-2.ensures.failed)
 
@@ -63,7 +68,9 @@ returns-in_err-finish-clause-written g c =
     let p = err_from_is_err_and c.from_residual-in_err-finish.result c.from_residual-in_err-finish.ensures.1 in
     let names = names_of (folding_of c.args.folded.now) in
     let done : c.loop-gathered.rows.rows ≡ [] = none_given _ c.loop-gathered.rows.rows c.next.new.self.rows c.in_ok-row.ensures.given c.in_default.not-Some in
-    let left = HasLeft-last _ _ _ _ _ _ _ (subst (HasLeft _ _ _ _ _ _) (ap (rows_to_come g.F.Form.bytes names c.args.focus.now.query c.args.report c.loop-gathered.came) done ∙ rows_to_come-none g.F.Form.bytes names c.args.focus.now.query c.args.report c.loop-gathered.came) c.loop-gathered.invariant.left) in
+    let left = HasLeft-last _ _ _ _ _ _ _ (subst (HasLeft _ _ _ _ _ _)
+    (ap (rows_to_come g.F.Form.bytes names c.args.focus.now.query c.args.report c.loop-gathered.came) done
+    ∙ rows_to_come-none g.F.Form.bytes names c.args.focus.now.query c.args.report c.loop-gathered.came) c.loop-gathered.invariant.left) in
     let put = rw (c.as_bytes.ensures.value, c.end.ensures) at c.in_ok-put-2.ensures.put in
     rw (p.1, p.2) (HasLeft-finish_fault _ _ _ _ _ _ _ _ _ (HasLeft-next _ _ _ _ _ _ _ _ _ _ _ left put c.in_ok-put-2.ensures.ok_faults) c.in_err-finish.ensures.front c.in_err-finish.ensures.failed)
 
@@ -71,6 +78,8 @@ pub returns-clause-written : goal.returns-clause-written
 returns-clause-written g c =
     let names = names_of (folding_of c.args.folded.now) in
     let done : c.loop-gathered.rows.rows ≡ [] = none_given _ c.loop-gathered.rows.rows c.next.new.self.rows c.in_ok-row.ensures.given c.in_default.not-Some in
-    let left = HasLeft-last _ _ _ _ _ _ _ (subst (HasLeft _ _ _ _ _ _) (ap (rows_to_come g.F.Form.bytes names c.args.focus.now.query c.args.report c.loop-gathered.came) done ∙ rows_to_come-none g.F.Form.bytes names c.args.focus.now.query c.args.report c.loop-gathered.came) c.loop-gathered.invariant.left) in
+    let left = HasLeft-last _ _ _ _ _ _ _ (subst (HasLeft _ _ _ _ _ _)
+    (ap (rows_to_come g.F.Form.bytes names c.args.focus.now.query c.args.report c.loop-gathered.came) done
+    ∙ rows_to_come-none g.F.Form.bytes names c.args.focus.now.query c.args.report c.loop-gathered.came) c.loop-gathered.invariant.left) in
     let put = rw (c.as_bytes.ensures.value, c.end.ensures) at c.in_ok-put-2.ensures.put in
     HasLeft-finish _ _ _ _ _ _ _ _ (HasLeft-next _ _ _ _ _ _ _ _ _ _ _ left put c.in_ok-put-2.ensures.ok_faults) c.in_ok-finish.ensures.finished c.in_ok-finish.ensures.ok_faults

@@ -27,8 +27,11 @@ pub returns-clause-parts : goal.returns-clause-parts
 returns-clause-parts g c =
     let side = side_of c.args.estate.now c.args.pod c.args.direction in
     let carved = c.in_ok-entries.ensures in
-    let moved : IsPermutation (map (named_part (side_of c.args.estate.now c.args.pod c.args.direction)) c.in_ok-entries.entries) c.sort_unstable_by_key.new.self.items = subst (λ (s : PodSide). IsPermutation (map (named_part s) c.in_ok-entries.entries) c.sort_unstable_by_key.new.self.items) c.in_ok-side.ensures (subst (λ (before : List Part). IsPermutation before c.sort_unstable_by_key.new.self.items) c.in_ok-parts.ensures c.sort_unstable_by_key.ensures.permutation) in
-    let ordered : IsNonDecreasingBy (λ part. first_number part.conns) c.sort_unstable_by_key.new.self.items = IsNonDecreasingBy-from_sort_by_key (λ part. first_number part.conns) _ c.sort_unstable_by_key.ensures.sorted (λ a r q k. search rules) in
+    let moved : IsPermutation (map (named_part (side_of c.args.estate.now c.args.pod c.args.direction)) c.in_ok-entries.entries) c.sort_unstable_by_key.new.self.items = subst
+    (λ (s : PodSide). IsPermutation (map (named_part s) c.in_ok-entries.entries) c.sort_unstable_by_key.new.self.items) c.in_ok-side.ensures
+    (subst (λ (before : List Part). IsPermutation before c.sort_unstable_by_key.new.self.items) c.in_ok-parts.ensures c.sort_unstable_by_key.ensures.permutation) in
+    let ordered : IsNonDecreasingBy (λ part. first_number part.conns) c.sort_unstable_by_key.new.self.items = IsNonDecreasingBy-from_sort_by_key
+    (λ part. first_number part.conns) _ c.sort_unstable_by_key.ensures.sorted (λ a r q k. search rules) in
     subst (AreRightParts (decider_near c.args.estate.now c.args.direction (Pod c.args.pod) c.args.far c.args.family)) (sym c.from_vec.ensures)
     (right_parts side (with_end c.args.far c.args.family side) c.in_ok-layer.layer c.in_ok-entries.entries c.requires.lawful c.in_ok-layer.ensures.layer
     (record { marks = carved.marks; exact = carved.exact; distinct = carved.distinct; some_spot = carved.some_spot; well = carved.well })

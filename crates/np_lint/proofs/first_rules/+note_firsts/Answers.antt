@@ -19,5 +19,7 @@ returns-in_ok-minus-in_default g t c =
     let back = c.split_at.result.1.now in
     let split : front ++ back ≡ rules = rw (c.split_at.ensures.front, c.split_at.ensures.back) (take-append-drop (length rules / 2) rules) in
     IfOk-weaker c.note_firsts-in_default.result _ _
-    (λ _ noted. halves_noted g.S.Cells.has (g.S.Cells.has c.args.left.now) rules front back (g.S.Cells.has c.in_ok-matched-in_default.matched) (g.S.Cells.has c.in_ok-meet-in_default.field-0) (g.S.Cells.has c.in_ok-minus-in_default.field-0) c.args.flags.now c.note_firsts.new.flags c.note_firsts-in_default.new.flags split c.in_ok-matched-in_default.ensures c.in_ok-meet-in_default.ensures.members c.in_ok-minus-in_default.ensures.members c.in_ok-note_firsts-in_default.ensures noted)
+    (λ _ noted. halves_noted g.S.Cells.has (g.S.Cells.has c.args.left.now) rules front back (g.S.Cells.has c.in_ok-matched-in_default.matched) (g.S.Cells.has c.in_ok-meet-in_default.field-0)
+    (g.S.Cells.has c.in_ok-minus-in_default.field-0) c.args.flags.now c.note_firsts.new.flags c.note_firsts-in_default.new.flags split c.in_ok-matched-in_default.ensures
+    c.in_ok-meet-in_default.ensures.members c.in_ok-minus-in_default.ensures.members c.in_ok-note_firsts-in_default.ensures noted)
     c.note_firsts-in_default.ensures

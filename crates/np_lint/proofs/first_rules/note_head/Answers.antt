@@ -12,5 +12,6 @@ returns-clause-only g c =
     let there : 0 < length c.args.rules.now = grind (arith, common_steps) in
     IfOk-weaker c.set.result _ _
     (λ _ sets policy place. head_only g.S.Cells.has g.S.Cells.in_space head c.args.flags.now c.set.new.self sets policy place c.args.above.now c.args.rules.now none there c.index-rules-0.is
-    (subst (λ (one : RuleSpots g.row.S.Denot). (spot : g.row.S-Spot.Denot) × (g.S.Cells.in_space spot ≡ true) × (g.S.Cells.has one.set.now spot ≡ true)) (sym c.index-rules-0.is) (c.requires 0 head there)))
+    (subst (λ (one : RuleSpots g.row.S.Denot). (spot : g.row.S-Spot.Denot) × (g.S.Cells.in_space spot ≡ true) × (g.S.Cells.has one.set.now spot ≡ true)) (sym c.index-rules-0.is)
+    (c.requires 0 head there)))
     c.set.ensures

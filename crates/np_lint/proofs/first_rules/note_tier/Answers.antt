@@ -25,7 +25,9 @@ returns g c =
     let hands = λ (spot : g.row.S-Spot.Denot). hands_down (λ set. has set spot) c.args.above in
     IfOk-weaker c.note_firsts.result _ _
     (λ _ noted.
-    noted_after has rules first c.in_ok-rules.ensures.first (λ spot. g.S.Cells.in_space spot && hands spot) c.args.flags.now c.note_head.new.flags c.note_firsts.new.flags c.in_ok-note_head.ensures.grows
+    noted_after has rules first c.in_ok-rules.ensures.first (λ spot. g.S.Cells.in_space spot && hands spot) c.args.flags.now c.note_head.new.flags c.note_firsts.new.flags
+    c.in_ok-note_head.ensures.grows
     (rw (c.deref.ensures.value, c.items.ensures) at c.in_ok-note_head.ensures.only)
-    (tier_noted has rules first c.in_ok-rules.ensures.first g.S.Cells.in_space hands c.in_ok-left.left c.in_ok-left.ensures.members (λ spot. g.met.S.Cells.members_in_space c.in_ok-left.left spot c.in_ok-left.ensures.well) c.note_head.new.flags c.note_firsts.new.flags (rw c.deref-3.ensures.value at noted)))
+    (tier_noted has rules first c.in_ok-rules.ensures.first g.S.Cells.in_space hands c.in_ok-left.left c.in_ok-left.ensures.members
+    (λ spot. g.met.S.Cells.members_in_space c.in_ok-left.left spot c.in_ok-left.ensures.well) c.note_head.new.flags c.note_firsts.new.flags (rw c.deref-3.ensures.value at noted)))
     c.note_firsts.ensures

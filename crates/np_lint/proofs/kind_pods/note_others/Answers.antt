@@ -11,22 +11,26 @@ use Rattle.np_lint.specs.steps.Kinds.{pod_kind}
 pub workload_of-requires : goal.workload_of-requires
 workload_of-requires c =
     let within : c.loop-pod.pod < length c.pods.result.now = omega arith in
-    number_there c.args.folded.now c.workloads-workloads.result.now c.pods.result.now c.loop-pod.pod c.workloads-workloads.ensures.value (c.pods.ensures ∙ ap (λ (lists : EstateLists). lists.pods) c.estate.ensures.value) within
+    number_there c.args.folded.now c.workloads-workloads.result.now c.pods.result.now c.loop-pod.pod c.workloads-workloads.ensures.value
+    (c.pods.ensures ∙ ap (λ (lists : EstateLists). lists.pods) c.estate.ensures.value) within
 
 pub kind_of-kind-requires : goal.kind_of-kind-requires
 kind_of-kind-requires c =
     let within : c.loop-pod.pod < length c.pods.result.now = omega arith in
-    kind_there c.args.folded.now c.workloads-workloads.result.now c.pods.result.now c.loop-pod.pod c.workload_of.result c.workloads-workloads.ensures.value (c.pods.ensures ∙ ap (λ (lists : EstateLists). lists.pods) c.estate.ensures.value) within c.workload_of.ensures
+    kind_there c.args.folded.now c.workloads-workloads.result.now c.pods.result.now c.loop-pod.pod c.workload_of.result c.workloads-workloads.ensures.value
+    (c.pods.ensures ∙ ap (λ (lists : EstateLists). lists.pods) c.estate.ensures.value) within c.workload_of.ensures
 
 pub bounds-kinds-kind : goal.bounds-kinds-kind
 bounds-kinds-kind c =
     let within : c.loop-pod.pod < length c.pods.result.now = omega arith in
-    kind_in c.args.folded.now c.workloads-workloads.result.now c.pods.result.now c.loop-pod.pod c.workload_of.result c.kind_of-kind.result c.loop-pod.kinds c.workloads-workloads.ensures.value (c.pods.ensures ∙ ap (λ (lists : EstateLists). lists.pods) c.estate.ensures.value) within c.workload_of.ensures c.kind_of-kind.ensures c.loop-pod.invariant
+    kind_in c.args.folded.now c.workloads-workloads.result.now c.pods.result.now c.loop-pod.pod c.workload_of.result c.kind_of-kind.result c.loop-pod.kinds c.workloads-workloads.ensures.value
+    (c.pods.ensures ∙ ap (λ (lists : EstateLists). lists.pods) c.estate.ensures.value) within c.workload_of.ensures c.kind_of-kind.ensures c.loop-pod.invariant
 
 pub bounds-kinds-kind-then-kinds-kind : goal.bounds-kinds-kind-then-kinds-kind
 bounds-kinds-kind-then-kinds-kind c =
     let within : c.loop-pod.pod < length c.pods.result.now = omega arith in
-    kind_in c.args.folded.now c.workloads-workloads.result.now c.pods.result.now c.loop-pod.pod c.workload_of.result c.kind_of-kind.result c.loop-pod.kinds c.workloads-workloads.ensures.value (c.pods.ensures ∙ ap (λ (lists : EstateLists). lists.pods) c.estate.ensures.value) within c.workload_of.ensures c.kind_of-kind.ensures c.loop-pod.invariant
+    kind_in c.args.folded.now c.workloads-workloads.result.now c.pods.result.now c.loop-pod.pod c.workload_of.result c.kind_of-kind.result c.loop-pod.kinds c.workloads-workloads.ensures.value
+    (c.pods.ensures ∙ ap (λ (lists : EstateLists). lists.pods) c.estate.ensures.value) within c.workload_of.ensures c.kind_of-kind.ensures c.loop-pod.invariant
 
 pub loop-pod-preserved : goal.loop-pod-preserved
 loop-pod-preserved c =
@@ -39,9 +43,11 @@ loop-pod-preserved c =
     let within : pod < length c.pods.result.now = omega arith in
     let inside : pod < length lists.pods = subst (λ (all : List Pod). pod < length all) pods_are within in
     let one = get_or kinds kind none in
-    let there : kind < length kinds = kind_in lists c.workloads-workloads.result.now c.pods.result.now pod c.workload_of.result kind kinds c.workloads-workloads.ensures.value pods_are within c.workload_of.ensures c.kind_of-kind.ensures c.loop-pod.invariant in
+    let there : kind < length kinds = kind_in lists c.workloads-workloads.result.now c.pods.result.now pod c.workload_of.result kind kinds c.workloads-workloads.ensures.value pods_are within
+    c.workload_of.ensures c.kind_of-kind.ensures c.loop-pod.invariant in
     let at : slice_get kinds kind ≡ Some one = slice_get-get_or kinds kind none there in
-    let is : kind ≡ pod_kind lists pod = kind_looked_up lists c.workloads-workloads.result.now pod c.workload_of.result kind c.workloads-workloads.ensures.value c.workload_of.ensures c.kind_of-kind.ensures in
+    let is : kind ≡ pod_kind lists pod = kind_looked_up lists c.workloads-workloads.result.now pod c.workload_of.result kind c.workloads-workloads.ensures.value c.workload_of.ensures
+    c.kind_of-kind.ensures in
     elim c.if-kinds-kind.branch [
       | then-kinds-kind w ↦ rw w.kinds-is (other_seen lists pod kind kinds one is at c.loop-pod.invariant inside w.if-kinds-kind.true)
       | else-kinds-kind w ↦ rw w.kinds-is (own_seen lists pod kind kinds one is at c.loop-pod.invariant w.if-kinds-kind.false)
@@ -49,5 +55,6 @@ loop-pod-preserved c =
 
 pub returns : goal.returns
 returns c =
-    let past : length c.args.folded.now.pods ≤ c.loop-pod.pod = subst (λ (all : List Pod). length all ≤ c.loop-pod.pod) (c.pods.ensures ∙ ap (λ (lists : EstateLists). lists.pods) c.estate.ensures.value) c.loop-pod-test.false in
+    let past : length c.args.folded.now.pods ≤ c.loop-pod.pod = subst (λ (all : List Pod). length all ≤ c.loop-pod.pod)
+    (c.pods.ensures ∙ ap (λ (lists : EstateLists). lists.pods) c.estate.ensures.value) c.loop-pod-test.false in
     all_seen c.args.folded.now c.loop-pod.pod c.loop-pod.kinds past c.loop-pod.invariant

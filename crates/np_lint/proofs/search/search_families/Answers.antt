@@ -16,9 +16,11 @@ loop-family-preserved g c =
     let at : slice_get c.args.families.now c.loop-family.family-index ≡ Some family = slice_get-get_or c.args.families.now c.loop-family.family-index Four (omega arith) in record {
       sound = c.in_ok-search_pods.ensures.sound;
       grows = grows_on c.args.used.now c.loop-family.used c.search_pods.new.used c.loop-family.invariant.grows c.in_ok-search_pods.ensures.grows;
-      finds = families_more c.args.search.now.side.now c.args.search.now.kinds.pods.now c.args.search.now.near c.loop-family.used c.search_pods.new.used c.args.families.now c.loop-family.family-index family at c.in_ok-search_pods.ensures.grows c.in_ok-search_pods.ensures.finds c.loop-family.invariant.finds;
+      finds = families_more c.args.search.now.side.now c.args.search.now.kinds.pods.now c.args.search.now.near c.loop-family.used c.search_pods.new.used c.args.families.now c.loop-family.family-index
+          family at c.in_ok-search_pods.ensures.grows c.in_ok-search_pods.ensures.finds c.loop-family.invariant.finds;
       least = omega (arith, c.in_ok-search_pods.ensures.least, c.loop-family.invariant.least);
     }
 
 pub returns-clause-finds : goal.returns-clause-finds
-returns-clause-finds g c = families_all c.args.search.now.side.now c.args.search.now.kinds.pods.now c.args.search.now.near c.loop-family.used c.args.families.now c.loop-family.family-index (omega arith) c.loop-family.invariant.finds
+returns-clause-finds g c = families_all c.args.search.now.side.now c.args.search.now.kinds.pods.now c.args.search.now.near c.loop-family.used c.args.families.now c.loop-family.family-index
+    (omega arith) c.loop-family.invariant.finds

@@ -31,7 +31,9 @@ returns-clause-sound g c =
     let asked = (and_parts _ _ (sym (c.may_tell.ensures far at) ∙ c.if-not-may_tell.false)).0 in
     let listed = asked_used c.args.search.now.side.now c.args.search.now.kinds.pods.now c.args.search.now.near c.args.family c.args.kind far c.requires.listed at asked in
     IfOk-weaker c.note_layer.result _ _
-    (λ _ only. layer_sound has_spot is_spot c.args.search.now.side.now (with_pod far.pod c.args.family) c.in_ok-layer.layer c.requires.search.lawful c.in_ok-layer.ensures.layer c.args.search.now.rules.now c.requires.search.rules c.args.used.now c.note_layer.new.self listed c.requires.sound only)
+    (λ _ only. layer_sound has_spot is_spot c.args.search.now.side.now
+    (with_pod far.pod c.args.family) c.in_ok-layer.layer c.requires.search.lawful c.in_ok-layer.ensures.layer c.args.search.now.rules.now c.requires.search.rules c.args.used.now
+    c.note_layer.new.self listed c.requires.sound only)
     c.note_layer.ensures.only
 
 pub returns-clause-finds : goal.returns-clause-finds
@@ -41,5 +43,6 @@ returns-clause-finds g c =
     (λ _ finds far at asked.
     let same : get_or c.args.search.now.kinds.pods.now c.args.kind none ≡ far = get_or_from_slice_get c.args.search.now.kinds.pods.now c.args.kind far none at in
     subst (λ (k : KindPod). KnowsAll is_spot c.args.search.now.side.now (with_pod k.pod c.args.family) c.note_layer.new.self) same
-    (layer_finds has_spot is_spot c.args.search.now.side.now (with_pod (get_or c.args.search.now.kinds.pods.now c.args.kind none).pod c.args.family) c.in_ok-layer.layer c.requires.search.lawful c.in_ok-layer.ensures.layer c.args.search.now.rules.now c.requires.search.rules c.note_layer.new.self finds))
+    (layer_finds has_spot is_spot c.args.search.now.side.now (with_pod (get_or c.args.search.now.kinds.pods.now c.args.kind none).pod c.args.family) c.in_ok-layer.layer c.requires.search.lawful
+    c.in_ok-layer.ensures.layer c.args.search.now.rules.now c.requires.search.rules c.note_layer.new.self finds))
     c.note_layer.ensures.finds

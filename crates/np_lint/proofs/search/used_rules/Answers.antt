@@ -23,10 +23,13 @@ search_side-requires-clause-sound g c = rw c.estate.ensures.value c.loop-near.in
 pub loop-near-preserved : goal.loop-near-preserved
 loop-near-preserved g c = record {
   sound = sound_of c.args.folded.now c.estate.result.now c.args.direction c.search_side.new.used c.estate.ensures.value c.in_ok-search_side.ensures.sound;
-  finds = sides_more_of c.args.folded.now c.estate.result.now c.args.direction c.deref.result.now c.deref.result.now c.loop-near.used c.search_side.new.used c.loop-near.near c.estate.ensures.value refl c.in_ok-search_side.ensures.grows c.in_ok-search_side.ensures.finds c.loop-near.invariant.finds;
+  finds = sides_more_of c.args.folded.now c.estate.result.now c.args.direction c.deref.result.now c.deref.result.now c.loop-near.used c.search_side.new.used c.loop-near.near c.estate.ensures.value
+      refl c.in_ok-search_side.ensures.grows c.in_ok-search_side.ensures.finds c.loop-near.invariant.finds;
   least = omega (arith, c.in_ok-search_side.ensures.least, c.loop-near.invariant.least);
 }
 
 pub returns-clause-all : goal.returns-clause-all
 returns-clause-all g c =
-    finds_all c.args.folded.now c.estate.ensures.lawful c.deref.result.now (rw c.deref.ensures.value c.in_ok-pods.ensures) c.args.direction c.loop-near.used c.loop-near.invariant.sound (sides_all c.args.folded.now c.args.direction c.deref.result.now c.loop-near.used c.loop-near.near (omega (arith, ap length c.deref.ensures.value, c.len-near-end.ensures, c.loop-near-test.false, c.in_ok-pods.pods.ok)) c.loop-near.invariant.finds)
+    finds_all c.args.folded.now c.estate.ensures.lawful c.deref.result.now (rw c.deref.ensures.value c.in_ok-pods.ensures) c.args.direction c.loop-near.used c.loop-near.invariant.sound
+    (sides_all c.args.folded.now c.args.direction c.deref.result.now c.loop-near.used c.loop-near.near
+    (omega (arith, ap length c.deref.ensures.value, c.len-near-end.ensures, c.loop-near-test.false, c.in_ok-pods.pods.ok)) c.loop-near.invariant.finds)

@@ -13,4 +13,5 @@ returns c =
     c.from_vec.ensures
     ∙ row_is (λ place. not c.args.isolated || (net place || admin place)) c.mark_chosen-2.new.row.items c.args.count
     (c.mark_chosen-2.ensures.length ∙ c.mark_chosen.ensures.length ∙ ap length filled ∙ length-replicate c.args.count (not c.args.isolated))
-    (λ place low. twice_marked c.in_ok-row.row.items c.mark_chosen.new.row.items c.mark_chosen-2.new.row.items (not c.args.isolated) c.args.count place (net place) (admin place) filled low (c.mark_chosen.ensures.marked place) (c.mark_chosen-2.ensures.marked place))
+    (λ place low. twice_marked c.in_ok-row.row.items c.mark_chosen.new.row.items c.mark_chosen-2.new.row.items (not c.args.isolated) c.args.count place (net place) (admin place) filled low
+    (c.mark_chosen.ensures.marked place) (c.mark_chosen-2.ensures.marked place))

@@ -7,7 +7,7 @@ use Rattle.np_reach.proofs.spoken.chosen_of.Goals as goal
 use Rattle.np_reach.proofs.spoken.chosen_of.Goals.{else-own-place, else-own-place-via-else-own-place, else-own-place-via-then-own-place+else-selects, then-own-place+then-selects+in_ok-push}
 use Rattle.np_reach.specs.Marks.{AreWithin, speaks_at}
 use Rattle.np_reach.specs.declared.spoken.Marks.{Marks}
-use Rattle.np_rules.specs.Ends.{pod_end}
+use Rattle.np_rules.specs.model.Ends.{pod_end}
 
 pub loop-place-preserved : goal.loop-place-preserved
 loop-place-preserved g c =
@@ -19,7 +19,8 @@ loop-place-preserved g c =
           policy_chosen (λ other. g.P.Speaker.picks other.policy.now near && speaks_at other.far.items place) c.args.policies.now c.loop-place.place one
           (list_any (λ (far : Bor (List Marks)). speaks_at far.now place) c.loop-place.made.items) _ c.loop-place-test.true c.index-policies-place.is (c.loop-place.invariant.chosen place)
           (elim c.if-own-place.branch [
-            | then-own-place+then-selects+in_ok-push w ↦ rw w.made-is (rw (sym w.deref-far.ensures.value) (last_chosen (λ (far : Bor (List Marks)). speaks_at far.now place) c.loop-place.made.items _ _ picked w.in_ok-push.ensures.items (sym w.selects.ensures ∙ w.if-selects.true)))
+            | then-own-place+then-selects+in_ok-push w ↦ rw w.made-is (rw (sym w.deref-far.ensures.value)
+                (last_chosen (λ (far : Bor (List Marks)). speaks_at far.now place) c.loop-place.made.items _ _ picked w.in_ok-push.ensures.items (sym w.selects.ensures ∙ w.if-selects.true)))
             | else-own-place w ↦ rw w.made-is (none_chosen (list_any (λ (far : Bor (List Marks)). speaks_at far.now place) c.loop-place.made.items) picked (speaks_at one.far.items place)
                 (elim w.else-own-place.branch [
                   | else-own-place-via-then-own-place+else-selects w' ↦ sym w'.selects.ensures ∙ w'.if-selects.false
@@ -33,7 +34,8 @@ loop-place-preserved g c =
           elim c.if-own-place.branch [
             | then-own-place+then-selects+in_ok-push w ↦
                 rw w.made-is (rw w.in_ok-push.ensures.items (All-push (λ (far : Bor (List Marks)). AreWithin count far.now) c.loop-place.made.items _ (c.loop-place.invariant.within count are)
-                (rw w.deref-far.ensures.value (subst (λ o. AreWithin count o.far.items) (sym c.index-policies-place.is) (All-get_or (λ o. AreWithin count o.far.items) c.args.policies.now c.loop-place.place one c.loop-place-test.true are)))))
+                (rw w.deref-far.ensures.value (subst (λ o. AreWithin count o.far.items) (sym c.index-policies-place.is)
+                (All-get_or (λ o. AreWithin count o.far.items) c.args.policies.now c.loop-place.place one c.loop-place-test.true are)))))
             | else-own-place w ↦ rw w.made-is (c.loop-place.invariant.within count are)
           ];
     }

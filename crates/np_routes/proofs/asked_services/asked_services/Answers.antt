@@ -16,12 +16,16 @@ loop-placed-preserved c =
       same = ap services_of items ∙ c.in_ok-add_ingress.ensures.services ∙ listed;
       leads = λ p number.
           ap (list_any (asked_leads p number)) items
-          ∙ routes-next c.in_ok-services.services c.args.estate.now.services c.ingresses-placed-items.result.now c.loop-placed.placed-index c.placed-item.result p number (list_any (asked_leads p number) c.loop-placed.asked.items) (list_any (asked_leads p number) c.add_ingress.new.asked) c.loop-placed-test.true c.placed-item.is listed (c.loop-placed.invariant.leads p number)
-          (c.in_ok-add_ingress.ensures.leads p number ∙ ap (λ (asked : List AskedService). list_any (asked_leads p number) asked || list_any (leads_to p number) (routes_of_ingress c.in_ok-services.services c.placed-item.result.ingress)) c.deref_mut.ensures.value);
+          ∙ routes-next c.in_ok-services.services c.args.estate.now.services c.ingresses-placed-items.result.now c.loop-placed.placed-index c.placed-item.result p number
+          (list_any (asked_leads p number) c.loop-placed.asked.items) (list_any (asked_leads p number) c.add_ingress.new.asked) c.loop-placed-test.true c.placed-item.is listed
+          (c.loop-placed.invariant.leads p number)
+          (c.in_ok-add_ingress.ensures.leads p number ∙ ap (λ (asked : List AskedService). list_any (asked_leads p number) asked || list_any (leads_to p number)
+          (routes_of_ingress c.in_ok-services.services c.placed-item.result.ingress)) c.deref_mut.ensures.value);
     }
 
 pub returns : goal.returns
 returns c p number =
     c.loop-placed.invariant.leads p number
-    ∙ ap (λ (some : List PlacedIngress). list_any (leads_to p number) (flat_map (λ placed. routes_of_ingress c.args.estate.now.services placed.ingress) some)) (take_all c.loop-placed.placed-index c.ingresses-placed-items.result.now c.loop-placed-test.false ∙ c.ingresses-placed-items.ensures)
+    ∙ ap (λ (some : List PlacedIngress). list_any (leads_to p number) (flat_map (λ placed. routes_of_ingress c.args.estate.now.services placed.ingress) some))
+    (take_all c.loop-placed.placed-index c.ingresses-placed-items.result.now c.loop-placed-test.false ∙ c.ingresses-placed-items.ensures)
     ∙ routes-all c.args.estate.now p number

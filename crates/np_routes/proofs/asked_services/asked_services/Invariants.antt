@@ -3,11 +3,12 @@ use Rattle.std.specs.List.{list_any}
 use Rattle.np_routes.specs.Routes.{leads_to, routes_of_ingress}
 use Rattle.np_routes.specs.steps.AskedServices.{asked_leads, services_of}
 use Rattle.np_routes.proofs.asked_services.asked_services.Given as goal
-use Rattle.np_rules.specs.Ends.{PodEnd}
+use Rattle.np_rules.specs.model.Ends.{PodEnd}
 
 -- what is named so far leads where the routes of the ingresses so far do
 abbrev pub invariant-loop-placed : goal.invariant-loop-placed
 invariant-loop-placed l = record {
   same : services_of l.asked.items ≡ l.fn.estate.services;
-  leads : (p : PodEnd) (number : ℕ) → list_any (asked_leads p number) l.asked.items ≡ list_any (leads_to p number) (flat_map (λ placed. routes_of_ingress l.fn.estate.services placed.ingress) (take l.placed-index l.placed-items));
+  leads : (p : PodEnd) (number : ℕ) →
+      list_any (asked_leads p number) l.asked.items ≡ list_any (leads_to p number) (flat_map (λ placed. routes_of_ingress l.fn.estate.services placed.ingress) (take l.placed-index l.placed-items));
 }

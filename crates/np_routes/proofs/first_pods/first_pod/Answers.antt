@@ -9,4 +9,5 @@ bounds-members-0 c = rw (c.members.ensures, c.workloads.ensures.value) (members-
 pub returns-clause-within : goal.returns-clause-within
 returns-clause-within c =
     let some = members-some c.args.folded.now (folding_of c.args.folded.now) c.args.workload refl c.requires in
-    rw (c.members.ensures, c.workloads.ensures.value) (members-within c.args.folded.now (folding_of c.args.folded.now) c.args.workload _ refl c.requires (source-member (folding_of c.args.folded.now) c.args.workload some))
+    rw (c.members.ensures, c.workloads.ensures.value) (members-within c.args.folded.now (folding_of c.args.folded.now) c.args.workload _ refl c.requires
+    (source-member (folding_of c.args.folded.now) c.args.workload some))

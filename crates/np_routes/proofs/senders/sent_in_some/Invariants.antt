@@ -9,7 +9,8 @@ use Rattle.np_table.specs.Table.{between_pods}
 -- what may be sent in some of the families so far, and the rules that were looked at for them
 abbrev pub invariant-loop-family : goal.invariant-loop-family
 invariant-loop-family g l = record {
-  members : (spot : PortSpot) → is_spot spot ≡ true → list_any (λ set. has_spot set spot) l.sets.items ≡ list_any (λ family. between_pods l.fn.sender.lists l.fn.sender.pod l.fn.receiver.pod family spot) (take l.family-index l.fn.families);
+  members : (spot : PortSpot) → is_spot spot ≡ true →
+      list_any (λ set. has_spot set spot) l.sets.items ≡ list_any (λ family. between_pods l.fn.sender.lists l.fn.sender.pod l.fn.receiver.pod family spot) (take l.family-index l.fn.families);
   least : l.fn.steps ≤ l.steps;
   most : l.steps ≤ l.fn.steps + l.family-index * (side_rule_count l.fn.sender + side_rule_count l.fn.receiver);
 }

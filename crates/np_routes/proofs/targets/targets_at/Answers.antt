@@ -6,7 +6,7 @@ use Rattle.np_routes.proofs.targets.targets_at.Goals as goal
 use Rattle.np_routes.proofs.targets.targets_at.Goals.{else-serves, then-serves+in_ok-add_all}
 use Rattle.np_routes.specs.steps.PortSets.{at_pod}
 use Rattle.np_routes.specs.steps.TargetsByNamespace.{target_leads}
-use Rattle.np_rules.specs.Ends.{pod_end}
+use Rattle.np_rules.specs.model.Ends.{pod_end}
 
 pub loop-one-init : goal.loop-one-init
 loop-one-init c number = at_pod-none c.new-made.result (pod_end c.args.pod.now) number c.new-made.ensures
@@ -15,8 +15,10 @@ pub loop-one-preserved : goal.loop-one-preserved
 loop-one-preserved c number =
     let p = pod_end c.args.pod.now in
     let one = c.one-item.result in
-    any-next (target_leads p number) c.args.services.now c.loop-one.one-index one (at_pod c.loop-one.made p number) (at_pod c.if-serves.made p number) c.loop-one-test.true c.one-item.is (c.loop-one.invariant number)
+    any-next (target_leads p number) c.args.services.now c.loop-one.one-index one (at_pod c.loop-one.made p number) (at_pod c.if-serves.made p number) c.loop-one-test.true c.one-item.is
+    (c.loop-one.invariant number)
     (elim c.if-serves.branch [
-      | then-serves+in_ok-add_all w ↦ rw w.made-is (targets-served c.loop-one.made one.targets w.add_all.new.self one.service.now p number (sym c.serves.ensures ∙ w.if-serves.true) w.in_ok-add_all.ensures)
+      | then-serves+in_ok-add_all w ↦ rw w.made-is (targets-served c.loop-one.made one.targets w.add_all.new.self one.service.now p number
+          (sym c.serves.ensures ∙ w.if-serves.true) w.in_ok-add_all.ensures)
       | else-serves w ↦ rw w.made-is (targets-unserved c.loop-one.made one.targets one.service.now p number (sym c.serves.ensures ∙ w.if-serves.false))
     ])

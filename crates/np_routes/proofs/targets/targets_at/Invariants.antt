@@ -3,7 +3,7 @@ use Rattle.std.specs.List.{list_any}
 use Rattle.np_routes.specs.steps.PortSets.{at_pod}
 use Rattle.np_routes.specs.steps.TargetsByNamespace.{target_leads}
 use Rattle.np_routes.proofs.targets.targets_at.Given as goal
-use Rattle.np_rules.specs.Ends.{pod_end}
+use Rattle.np_rules.specs.model.Ends.{pod_end}
 
 -- the targets so far lead where the services so far do
 abbrev pub invariant-loop-one : goal.invariant-loop-one

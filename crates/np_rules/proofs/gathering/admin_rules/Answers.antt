@@ -1,6 +1,6 @@
 use Rattle.std.proofs.Common.{List, ◌++◌, sym, ap, ◌∙◌, map, take}
 use Rattle.np_model.specs.declared.admin_policy.AdminRule.{AdminRule}
-use Rattle.np_rules.specs.Places.{admin_places}
+use Rattle.np_rules.specs.model.Places.{admin_places}
 use Rattle.np_rules.specs.Views.{pod_view}
 use Rattle.np_rules.proofs.LayerLemmas.{admin_rules-next}
 use Rattle.np_rules.proofs.gathering.admin_rules.Goals as goal

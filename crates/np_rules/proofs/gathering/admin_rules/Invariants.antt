@@ -1,5 +1,5 @@
 use Rattle.std.proofs.Common.{◌≡◌, map, take}
-use Rattle.np_rules.specs.Places.{admin_places}
+use Rattle.np_rules.specs.model.Places.{admin_places}
 use Rattle.np_rules.specs.Views.{pod_view}
 use Rattle.np_rules.proofs.gathering.admin_rules.Given as goal
 

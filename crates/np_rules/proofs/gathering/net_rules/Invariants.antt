@@ -1,6 +1,6 @@
 use Rattle.std.proofs.Common.{◌≡◌, map, take}
-use Rattle.np_rules.specs.NetTier.{is_isolated}
-use Rattle.np_rules.specs.Places.{net_places}
+use Rattle.np_rules.specs.model.NetTier.{is_isolated}
+use Rattle.np_rules.specs.model.Places.{net_places}
 use Rattle.np_rules.specs.Views.{pod_view}
 use Rattle.np_rules.proofs.gathering.net_rules.Given as goal
 

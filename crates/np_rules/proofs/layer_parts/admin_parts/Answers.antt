@@ -4,4 +4,6 @@ use Rattle.np_rules.proofs.PairwiseLemmas.{Pairwise-next-map}
 use Rattle.np_rules.proofs.layer_parts.admin_parts.Goals as goal
 
 pub loop-rule-preserved : goal.loop-rule-preserved
-loop-rule-preserved g c = Pairwise-next-map (IsAdminPart g.S.Cells.has g.S.Cells.in_space (g.F.FarEnds.contact_at c.args.far.now)) (λ rule. rule.now) _ [] c.args.rules.now c.loop-rule.rule-index _ c.rule-item.result _ c.loop-rule-test.true c.rule-item.is c.in_ok-push.ensures.items c.loop-rule.invariant (record { action = c.tier_action.ensures; members = c.in_ok-set.ensures })
+loop-rule-preserved g c = Pairwise-next-map (IsAdminPart g.S.Cells.has g.S.Cells.in_space (g.F.FarEnds.contact_at c.args.far.now))
+    (λ rule. rule.now) _ [] c.args.rules.now c.loop-rule.rule-index _ c.rule-item.result _ c.loop-rule-test.true c.rule-item.is c.in_ok-push.ensures.items c.loop-rule.invariant
+    (record { action = c.tier_action.ensures; members = c.in_ok-set.ensures })

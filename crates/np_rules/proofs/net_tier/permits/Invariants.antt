@@ -1,6 +1,6 @@
 use Rattle.std.proofs.Common.{◌≡◌, ◌+◌, length, take}
-use Rattle.np_rules.specs.NetTier.{permits}
-use Rattle.np_rules.specs.Places.{net_places}
+use Rattle.np_rules.specs.model.NetTier.{permits}
+use Rattle.np_rules.specs.model.Places.{net_places}
 use Rattle.np_rules.specs.Views.{pod_view, contact_view}
 use Rattle.np_rules.proofs.net_tier.permits.Given as goal
 

@@ -1,4 +1,4 @@
-use Rattle.std.proofs.Common.{◌≡◌, sym, ◌∙◌}
+use Rattle.std.proofs.Common.{sym, ◌∙◌}
 use Rattle.np_rules.proofs.BlockPeers.{by_blocks}
 use Rattle.np_rules.proofs.peers.some_address_in.Goals as goal
 

@@ -1,7 +1,7 @@
 use Rattle.std.proofs.Common.{take}
 use Rattle.np_rules.specs.LayerRules.{NamesAdmin}
 use Rattle.np_rules.specs.Layers.{Pairwise}
-use Rattle.np_rules.specs.Places.{admin_places}
+use Rattle.np_rules.specs.model.Places.{admin_places}
 use Rattle.np_rules.specs.Views.{pod_view}
 use Rattle.np_rules.proofs.rule_ids.admin_ids.Given as goal
 

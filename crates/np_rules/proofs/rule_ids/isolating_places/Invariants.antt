@@ -1,7 +1,7 @@
 use Rattle.std.proofs.Common.{◌≡◌, Some, take}
 use Rattle.std.specs.List.{filter, slice_get}
 use Rattle.np_rules.specs.Layers.{Pairwise}
-use Rattle.np_rules.specs.NetTier.{isolates}
+use Rattle.np_rules.specs.model.NetTier.{isolates}
 use Rattle.np_rules.specs.Views.{pod_view}
 use Rattle.np_rules.proofs.rule_ids.isolating_places.Given as goal
 

@@ -21,9 +21,11 @@ returns-in-Some-clause-first g c =
 pub loop-line-preserved-then-has : goal.loop-line-preserved-then-has
 loop-line-preserved-then-has g c =
     let turn = YieldsList-turn (YieldsList-from_vec c.args.statements (c.into_iter-line-iterator.ensures.into_iter_gives.0 ∙ c.into_vec-line-items.ensures)
-    (c.into_iter-line-iterator.ensures.into_iter_gives.1 ∙ c.into_vec-line-items.result.ok.0 ∙ ap length c.into_vec-line-items.ensures)) c.loop-line.yielded c.loop-line.line-iterator c.loop-line.yielded_by c.next.result c.next.new.self c.in-Some-line.line c.in-Some-line.is c.next.ensures.steps in
+    (c.into_iter-line-iterator.ensures.into_iter_gives.1 ∙ c.into_vec-line-items.result.ok.0 ∙ ap length c.into_vec-line-items.ensures)) c.loop-line.yielded c.loop-line.line-iterator
+    c.loop-line.yielded_by c.next.result c.next.new.self c.in-Some-line.line c.in-Some-line.is c.next.ensures.steps in
     record {
-      left = settled-left c.args.folded.now c.in_ok-settled.settled c.args.statements _ _ c.in-Some-line.line turn c.loop-line.invariant.left (rw c.items-2.ensures at c.in_ok-settled.ensures.settled) (sym c.has.ensures ∙ c.if-has.true) (length_push c.loop-line.yielded c.in-Some-line.line);
+      left = settled-left c.args.folded.now c.in_ok-settled.settled c.args.statements _ _ c.in-Some-line.line turn c.loop-line.invariant.left (rw c.items-2.ensures at c.in_ok-settled.ensures.settled)
+          (sym c.has.ensures ∙ c.if-has.true) (length_push c.loop-line.yielded c.in-Some-line.line);
       same = c.loop-line.invariant.same;
       least = c.loop-line.invariant.least;
     }
@@ -31,30 +33,35 @@ loop-line-preserved-then-has g c =
 pub asked_of-requires : goal.asked_of-requires
 asked_of-requires g c =
     let turn = YieldsList-turn (YieldsList-from_vec c.args.statements (c.into_iter-line-iterator.ensures.into_iter_gives.0 ∙ c.into_vec-line-items.ensures)
-    (c.into_iter-line-iterator.ensures.into_iter_gives.1 ∙ c.into_vec-line-items.result.ok.0 ∙ ap length c.into_vec-line-items.ensures)) c.loop-line.yielded c.loop-line.line-iterator c.loop-line.yielded_by c.next.result c.next.new.self c.in-Some-line.line c.in-Some-line.is c.next.ensures.steps in
+    (c.into_iter-line-iterator.ensures.into_iter_gives.1 ∙ c.into_vec-line-items.result.ok.0 ∙ ap length c.into_vec-line-items.ensures)) c.loop-line.yielded c.loop-line.line-iterator
+    c.loop-line.yielded_by c.next.result c.next.new.self c.in-Some-line.line c.in-Some-line.is c.next.ensures.steps in
     at_turn IsWellLine c.args.statements _ c.in-Some-line.line turn c.requires
 
 pub returns-in_err-asked-clause-first : goal.returns-in_err-asked-clause-first
 returns-in_err-asked-clause-first g c =
     let turn = YieldsList-turn (YieldsList-from_vec c.args.statements (c.into_iter-line-iterator.ensures.into_iter_gives.0 ∙ c.into_vec-line-items.ensures)
-    (c.into_iter-line-iterator.ensures.into_iter_gives.1 ∙ c.into_vec-line-items.result.ok.0 ∙ ap length c.into_vec-line-items.ensures)) c.loop-line.yielded c.loop-line.line-iterator c.loop-line.yielded_by c.next.result c.next.new.self c.in-Some-line.line c.in-Some-line.is c.next.ensures.steps in
+    (c.into_iter-line-iterator.ensures.into_iter_gives.1 ∙ c.into_vec-line-items.result.ok.0 ∙ ap length c.into_vec-line-items.ensures)) c.loop-line.yielded c.loop-line.line-iterator
+    c.loop-line.yielded_by c.next.result c.next.new.self c.in-Some-line.line c.in-Some-line.is c.next.ensures.steps in
     let answer = err_from_is_err_and c.from_residual-in_err-asked.result c.from_residual-in_err-asked.ensures.1 in
     rw (answer.1, answer.2) (line_unknown c.args.folded.now c.args.statements _ c.in-Some-line.line c.in_err-asked.field-0.0 turn c.loop-line.invariant.left c.in_err-asked.ensures)
 
 pub broken_of-requires : goal.broken_of-requires
 broken_of-requires g c =
     let turn = YieldsList-turn (YieldsList-from_vec c.args.statements (c.into_iter-line-iterator.ensures.into_iter_gives.0 ∙ c.into_vec-line-items.ensures)
-    (c.into_iter-line-iterator.ensures.into_iter_gives.1 ∙ c.into_vec-line-items.result.ok.0 ∙ ap length c.into_vec-line-items.ensures)) c.loop-line.yielded c.loop-line.line-iterator c.loop-line.yielded_by c.next.result c.next.new.self c.in-Some-line.line c.in-Some-line.is c.next.ensures.steps in
+    (c.into_iter-line-iterator.ensures.into_iter_gives.1 ∙ c.into_vec-line-items.result.ok.0 ∙ ap length c.into_vec-line-items.ensures)) c.loop-line.yielded c.loop-line.line-iterator
+    c.loop-line.yielded_by c.next.result c.next.new.self c.in-Some-line.line c.in-Some-line.is c.next.ensures.steps in
     subst (λ (lists : EstateLists). IsAsked lists c.in_ok-asked.asked) (sym c.loop-line.invariant.same)
     (known-line c.args.folded.now c.in-Some-line.line c.in_ok-asked.asked (at_turn IsWellLine c.args.statements _ c.in-Some-line.line turn c.requires) c.in_ok-asked.ensures)
 
 pub returns-then-is_some-clause-first : goal.returns-then-is_some-clause-first
 returns-then-is_some-clause-first g c =
     let turn = YieldsList-turn (YieldsList-from_vec c.args.statements (c.into_iter-line-iterator.ensures.into_iter_gives.0 ∙ c.into_vec-line-items.ensures)
-    (c.into_iter-line-iterator.ensures.into_iter_gives.1 ∙ c.into_vec-line-items.result.ok.0 ∙ ap length c.into_vec-line-items.ensures)) c.loop-line.yielded c.loop-line.line-iterator c.loop-line.yielded_by c.next.result c.next.new.self c.in-Some-line.line c.in-Some-line.is c.next.ensures.steps in
+    (c.into_iter-line-iterator.ensures.into_iter_gives.1 ∙ c.into_vec-line-items.result.ok.0 ∙ ap length c.into_vec-line-items.ensures)) c.loop-line.yielded c.loop-line.line-iterator
+    c.loop-line.yielded_by c.next.result c.next.new.self c.in-Some-line.line c.in-Some-line.is c.next.ensures.steps in
     let known : IsOk (ends_found c.args.folded.now c.args.statements) = rw c.items.ensures at c.in_default.ensures in
     let broken = c.in_ok-found.ensures.broken ∙ ap (λ (lists : EstateLists). broken_of lists c.in_ok-asked.asked) c.loop-line.invariant.same in
-    one_broken c.args.folded.now c.args.statements _ c.in-Some-line.line c.in_ok-asked.asked c.in_ok-found.found turn c.loop-line.invariant.left known c.in_ok-asked.ensures broken (sym c.is_some.ensures ∙ c.if-is_some.true)
+    one_broken c.args.folded.now c.args.statements _ c.in-Some-line.line c.in_ok-asked.asked c.in_ok-found.found turn c.loop-line.invariant.left known c.in_ok-asked.ensures broken
+    (sym c.is_some.ensures ∙ c.if-is_some.true)
 
 pub returns-then-is_some-clause-places : goal.returns-then-is_some-clause-places
 returns-then-is_some-clause-places g c = subst (λ (lists : EstateLists). IfSome c.in_ok-found.found (HasPlaces lists)) c.loop-line.invariant.same c.in_ok-found.ensures.places
@@ -62,10 +69,12 @@ returns-then-is_some-clause-places g c = subst (λ (lists : EstateLists). IfSome
 pub loop-line-preserved : goal.loop-line-preserved
 loop-line-preserved g c =
     let turn = YieldsList-turn (YieldsList-from_vec c.args.statements (c.into_iter-line-iterator.ensures.into_iter_gives.0 ∙ c.into_vec-line-items.ensures)
-    (c.into_iter-line-iterator.ensures.into_iter_gives.1 ∙ c.into_vec-line-items.result.ok.0 ∙ ap length c.into_vec-line-items.ensures)) c.loop-line.yielded c.loop-line.line-iterator c.loop-line.yielded_by c.next.result c.next.new.self c.in-Some-line.line c.in-Some-line.is c.next.ensures.steps in
+    (c.into_iter-line-iterator.ensures.into_iter_gives.1 ∙ c.into_vec-line-items.result.ok.0 ∙ ap length c.into_vec-line-items.ensures)) c.loop-line.yielded c.loop-line.line-iterator
+    c.loop-line.yielded_by c.next.result c.next.new.self c.in-Some-line.line c.in-Some-line.is c.next.ensures.steps in
     let broken = c.in_ok-found.ensures.broken ∙ ap (λ (lists : EstateLists). broken_of lists c.in_ok-asked.asked) c.loop-line.invariant.same in
     record {
-      left = one_left c.args.folded.now c.args.statements _ _ c.in-Some-line.line c.in_ok-asked.asked c.in_ok-found.found turn c.loop-line.invariant.left c.in_ok-asked.ensures broken (sym c.is_some.ensures ∙ c.if-is_some.false) (length_push c.loop-line.yielded c.in-Some-line.line);
+      left = one_left c.args.folded.now c.args.statements _ _ c.in-Some-line.line c.in_ok-asked.asked c.in_ok-found.found turn c.loop-line.invariant.left c.in_ok-asked.ensures broken
+          (sym c.is_some.ensures ∙ c.if-is_some.false) (length_push c.loop-line.yielded c.in-Some-line.line);
       same = c.in_ok-found.ensures.same ∙ c.loop-line.invariant.same;
       least = omega (arith, c.loop-line.invariant.least, c.broken_of.ensures.least);
     }
@@ -73,5 +82,6 @@ loop-line-preserved g c =
 pub returns-clause-first : goal.returns-clause-first
 returns-clause-first g c =
     let end = YieldsList-end (YieldsList-from_vec c.args.statements (c.into_iter-line-iterator.ensures.into_iter_gives.0 ∙ c.into_vec-line-items.ensures)
-    (c.into_iter-line-iterator.ensures.into_iter_gives.1 ∙ c.into_vec-line-items.result.ok.0 ∙ ap length c.into_vec-line-items.ensures)) c.loop-line.yielded c.loop-line.line-iterator c.loop-line.yielded_by c.next.result c.next.new.self c.in-None.is c.next.ensures.steps in
+    (c.into_iter-line-iterator.ensures.into_iter_gives.1 ∙ c.into_vec-line-items.result.ok.0 ∙ ap length c.into_vec-line-items.ensures)) c.loop-line.yielded c.loop-line.line-iterator
+    c.loop-line.yielded_by c.next.result c.next.new.self c.in-None.is c.next.ensures.steps in
     none_broken c.args.folded.now c.args.statements _ (omega (arith, end.1)) c.loop-line.invariant.left

@@ -11,11 +11,13 @@ pub loop-work-preserved : goal.loop-work-preserved
 loop-work-preserved c =
     let test = is_in_namespace c.args.folded.now c.args.name.now in
     elim c.if-is_in_namespace.branch [
-      | then-is_in_namespace+in_ok-push w ↦ w.works-is ∙ w.in_ok-push.ensures.ok ∙ one_taken test c.loop-work.work c.loop-work.works c.loop-work.invariant (sym c.is_in_namespace.ensures ∙ w.if-is_in_namespace.true)
+      | then-is_in_namespace+in_ok-push w ↦ w.works-is ∙ w.in_ok-push.ensures.ok ∙ one_taken test c.loop-work.work c.loop-work.works c.loop-work.invariant
+          (sym c.is_in_namespace.ensures ∙ w.if-is_in_namespace.true)
       | else-is_in_namespace w ↦ w.works-is ∙ one_left test c.loop-work.work c.loop-work.works c.loop-work.invariant (sym c.is_in_namespace.ensures ∙ w.if-is_in_namespace.false)
     ]
 
 pub returns : goal.returns
 returns c =
     let end : c.loop-work.work ≡ c.count-work-end.result = omega arith in
-    c.loop-work.invariant ∙ ap (λ (n : ℕ). filter (is_in_namespace c.args.folded.now c.args.name.now) (range_with_len 0 n)) (end ∙ c.count-work-end.ensures ∙ ap (λ (folding : Folding). length folding.workloads) c.workloads.ensures.value)
+    c.loop-work.invariant ∙ ap (λ (n : ℕ). filter (is_in_namespace c.args.folded.now c.args.name.now) (range_with_len 0 n))
+    (end ∙ c.count-work-end.ensures ∙ ap (λ (folding : Folding). length folding.workloads) c.workloads.ensures.value)

@@ -7,7 +7,8 @@ loop-line-init c = ([], none_found c.args.folded.now c.args.statements.now)
 
 pub returns-in-Some : goal.returns-in-Some
 returns-in-Some c =
-    not_found c.args.folded.now c.args.statements.now c.loop-line.line-index c.line-item.result c.loop-line.invariant.0 c.in-Some.name.now _ (c.loop-line-test.true, c.line-item.is) c.loop-line.invariant.1 c.in-Some.ensures
+    not_found c.args.folded.now c.args.statements.now c.loop-line.line-index c.line-item.result c.loop-line.invariant.0 c.in-Some.name.now _
+    (c.loop-line-test.true, c.line-item.is) c.loop-line.invariant.1 c.in-Some.ensures
 
 pub loop-line-preserved : goal.loop-line-preserved
 loop-line-preserved c =

@@ -5,5 +5,6 @@ use Rattle.np_statements.proofs.read.lines_of.Goals as goal
 
 pub returns : goal.returns
 returns c =
-    let all = map_from_collect c.collect.result c.collect.ensures.ran (YieldsList-from_slice_split _ (λ byte. byte == 10) c.args.bytes.now c.split.ensures.rest c.split.ensures.done c.split.ensures.closure (λ x b q k. search (rules, tests))) in
+    let all = map_from_collect c.collect.result c.collect.ensures.ran
+    (YieldsList-from_slice_split _ (λ byte. byte == 10) c.args.bytes.now c.split.ensures.rest c.split.ensures.done c.split.ensures.closure (λ x b q k. search (rules, tests))) in
     rw c.in_ok-collect.was at all

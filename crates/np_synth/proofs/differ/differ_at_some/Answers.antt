@@ -8,7 +8,8 @@ use Rattle.np_table.specs.Table.{number_of_workloads}
 
 pub returns-then-branch-clause-answer : goal.returns-then-branch-clause-answer
 returns-then-branch-clause-answer g c =
-    let count : c.count-third-end.result ≡ number_of_workloads c.args.sides.now = c.count-third-end.ensures ∙ ap (λ (f : Folding). length f.workloads) c.workloads.ensures.value ∙ ap number_of_workloads c.folded.ensures in
+    let count : c.count-third-end.result ≡ number_of_workloads c.args.sides.now = c.count-third-end.ensures ∙ ap (λ (f : Folding). length f.workloads) c.workloads.ensures.value
+    ∙ ap number_of_workloads c.folded.ensures in
     let within : c.loop-third.third < number_of_workloads c.args.sides.now = omega (arith, c.loop-third-test.true, count) in
     sym (any_place (differ_at c.args.sides.now c.args.a c.args.b) (number_of_workloads c.args.sides.now) c.loop-third.third within (sym c.in_ok-differ_at.ensures.answer ∙ c.if-branch.true))
 

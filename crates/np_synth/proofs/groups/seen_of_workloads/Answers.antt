@@ -1,7 +1,7 @@
 use Rattle.std.proofs.Common.{List, ℕ, ap, ◌∙◌}
 use Rattle.np_fold.proofs.PartLemmas.{relevant-ascend}
 use Rattle.np_fold.specs.Workloads.{Folding, folding_of}
-use Rattle.np_rules.specs.Ends.{PodEnd, pod_end}
+use Rattle.np_rules.specs.model.Ends.{PodEnd, pod_end}
 use Rattle.np_synth.proofs.GroupLemmas.{one_more}
 use Rattle.np_synth.proofs.groups.seen_of_workloads.Goals as goal
 use Rattle.np_synth.specs.steps.Seen.{seen, seen_at}

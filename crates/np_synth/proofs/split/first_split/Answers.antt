@@ -7,12 +7,14 @@ use Rattle.np_synth.specs.steps.SplitRows.{first_split_of}
 
 pub returns-then-families-lt2-clause-found : goal.returns-then-families-lt2-clause-found
 returns-then-families-lt2-clause-found g c =
-    let own : length c.families.result.now ≡ length (families_of c.args.folded.now.pods) = ap length c.families.ensures ∙ ap (λ (lists : EstateLists). length (families_of lists.pods)) c.estate.ensures.value in
+    let own : length c.families.result.now ≡ length (families_of c.args.folded.now.pods) = ap length c.families.ensures ∙ ap
+    (λ (lists : EstateLists). length (families_of lists.pods)) c.estate.ensures.value in
     sym (none_split c.args.folded.now (omega (arith, own, c.if-families-lt2.true)))
 
 pub returns-then-is_some-clause-found : goal.returns-then-is_some-clause-found
 returns-then-is_some-clause-found g c =
-    found-first c.loop-rows.rows.rows c.next.new.self.rows c.in-Some.row c.split_of-found.result (rw c.in-Some.is at c.in_ok-row.ensures.given) c.split_of-found.ensures (sym c.is_some.ensures ∙ c.if-is_some.true)
+    found-first c.loop-rows.rows.rows c.next.new.self.rows c.in-Some.row c.split_of-found.result (rw c.in-Some.is at c.in_ok-row.ensures.given) c.split_of-found.ensures
+    (sym c.is_some.ensures ∙ c.if-is_some.true)
     ∙ c.loop-rows.invariant.found
     ∙ rows-first c.args.folded.now
 

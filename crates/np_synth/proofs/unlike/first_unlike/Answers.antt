@@ -21,12 +21,14 @@ first_of_group-first-requires-clause-number g c =
 pub first_of_group-first-requires-clause-within : goal.first_of_group-first-requires-clause-within
 first_of_group-first-requires-clause-within g c =
     let is = c.first_of_kinds-workload-items.ensures ∙ ap (λ (f : Folding). f.first_of_kinds) c.workloads.ensures.value ∙ ap (λ (l : EstateLists). (folding_of l).first_of_kinds) c.folded.ensures in
-    number-in c.args.sides.now c.args.groups.now.numbers c.args.groups.now.firsts c.requires.numbers c.requires.firsts _ (item-in c.args.sides.now c.first_of_kinds-workload-items.result.now c.loop-workload.workload-index is c.loop-workload-test.true)
+    number-in c.args.sides.now c.args.groups.now.numbers c.args.groups.now.firsts c.requires.numbers c.requires.firsts _
+    (item-in c.args.sides.now c.first_of_kinds-workload-items.result.now c.loop-workload.workload-index is c.loop-workload-test.true)
 
 pub least_with-requires-clause-first : goal.least_with-requires-clause-first
 least_with-requires-clause-first g c =
     let is = c.first_of_kinds-workload-items.ensures ∙ ap (λ (f : Folding). f.first_of_kinds) c.workloads.ensures.value ∙ ap (λ (l : EstateLists). (folding_of l).first_of_kinds) c.folded.ensures in
-    rw c.first_of_group-first.ensures (first_by-in c.args.sides.now c.args.groups.now.numbers c.args.groups.now.firsts c.requires.numbers c.requires.firsts _ (item-in c.args.sides.now c.first_of_kinds-workload-items.result.now c.loop-workload.workload-index is c.loop-workload-test.true))
+    rw c.first_of_group-first.ensures (first_by-in c.args.sides.now c.args.groups.now.numbers c.args.groups.now.firsts c.requires.numbers c.requires.firsts _
+    (item-in c.args.sides.now c.first_of_kinds-workload-items.result.now c.loop-workload.workload-index is c.loop-workload-test.true))
 
 pub least_with-requires-clause-workload : goal.least_with-requires-clause-workload
 least_with-requires-clause-workload g c =
@@ -43,7 +45,8 @@ loop-workload-preserved g c =
     let within = item-in lists items i is c.loop-workload-test.true in
     let first = c.first_of_group-first.ensures ∙ first_by-is lists c.args.groups.now.numbers c.args.groups.now.firsts c.requires.numbers c.requires.firsts w within in
     let least = least-more (number_of_workloads lists) (first_with lists) (differ lists) (take i items) w c.loop-workload.found within c.loop-workload.invariant.found in record {
-      found = subst (λ (found : Option (ℕ × ℕ)). IsLeastUnlike lists (take (i + 1) items) found) (sym (c.in_ok-found.ensures.found ∙ ap (λ (f : ℕ). with_number (differ lists) f w c.loop-workload.found) first))
+      found = subst (λ (found : Option (ℕ × ℕ)). IsLeastUnlike lists (take (i + 1) items) found)
+          (sym (c.in_ok-found.ensures.found ∙ ap (λ (f : ℕ). with_number (differ lists) f w c.loop-workload.found) first))
           (subst (λ (all : List ℕ). IsLeastUnlike lists all (with_number (differ lists) (first_with lists w) w c.loop-workload.found)) (sym (take_more items i 0 c.loop-workload-test.true)) least);
       least = omega (arith, c.in_ok-found.ensures.least, c.loop-workload.invariant.least);
     }

@@ -14,7 +14,8 @@ loop-destination-preserved c =
     let is : count ≡ number_of_workloads lists = c.from-count.ensures ∙ c.count.ensures ∙ ap (λ (f : Folding). length f.workloads) c.workloads.ensures.value in
     let low = source-below count c.args.place c.if-place-count.false in
     record {
-      rows = rows_from-over lists (folding_of lists) source c.loop-destination.destination count is low c.loop-destination.invariant.within (silent-rows lists source c.loop-destination.destination (c.is_silent.ensures.silent c.if-is_silent.true)) ∙ c.loop-destination.invariant.rows;
+      rows = rows_from-over lists (folding_of lists) source c.loop-destination.destination count is low c.loop-destination.invariant.within
+          (silent-rows lists source c.loop-destination.destination (c.is_silent.ensures.silent c.if-is_silent.true)) ∙ c.loop-destination.invariant.rows;
       up = omega (arith, c.loop-destination.invariant.up);
       within = omega (arith, c.loop-destination-test.true);
     }

@@ -10,12 +10,14 @@ bounds-members-0 c = rw (c.members.ensures, c.workloads.ensures.value) (members-
 pub bounds-pods-place : goal.bounds-pods-place
 bounds-pods-place c =
     let some = members-some c.args.folded.now (folding_of c.args.folded.now) c.args.workload refl c.requires in
-    rw (c.pods.ensures, c.estate.ensures.value, c.members.ensures, c.workloads.ensures.value) (members-within c.args.folded.now (folding_of c.args.folded.now) c.args.workload _ refl c.requires (source-member (folding_of c.args.folded.now) c.args.workload some))
+    rw (c.pods.ensures, c.estate.ensures.value, c.members.ensures, c.workloads.ensures.value)
+    (members-within c.args.folded.now (folding_of c.args.folded.now) c.args.workload _ refl c.requires (source-member (folding_of c.args.folded.now) c.args.workload some))
 
 pub returns : goal.returns
 returns c =
     let some = members-some c.args.folded.now (folding_of c.args.folded.now) c.args.workload refl c.requires in
-    let within : slice_index c.members.result.now 0 < length c.pods.result.now = rw (c.pods.ensures, c.estate.ensures.value, c.members.ensures, c.workloads.ensures.value) (members-within c.args.folded.now (folding_of c.args.folded.now) c.args.workload _ refl c.requires (source-member (folding_of c.args.folded.now) c.args.workload some)) in
+    let within : slice_index c.members.result.now 0 < length c.pods.result.now = rw (c.pods.ensures, c.estate.ensures.value, c.members.ensures, c.workloads.ensures.value)
+    (members-within c.args.folded.now (folding_of c.args.folded.now) c.args.workload _ refl c.requires (source-member (folding_of c.args.folded.now) c.args.workload some)) in
     pod-first c.pods.result.now c.args.folded.now.pods c.members.result.now (members_of (folding_of c.args.folded.now) c.args.workload) c.index-pods-place.result
     (c.pods.ensures ∙ ap (λ (lists : EstateLists). lists.pods) c.estate.ensures.value)
     (c.members.ensures ∙ ap (λ (folding : Folding). members_of folding c.args.workload) c.workloads.ensures.value)

@@ -3,7 +3,7 @@ use Rattle.std.specs.Prelude.{All}
 use Rattle.std.proofs.lemmas.List.{map-append, take_more}
 use Rattle.std.proofs.lemmas.List.Elements.{All-get_or}
 use Rattle.np_fold.specs.Workloads.{Folding}
-use Rattle.np_rules.specs.Ends.{PodEnd, pod_end}
+use Rattle.np_rules.specs.model.Ends.{PodEnd, pod_end}
 use Rattle.np_table.proofs.SideLemmas.{firsts-workloads}
 use Rattle.np_table.proofs.kind_reach.first_pods.Goals as goal
 use Rattle.np_table.specs.PairRules.{first_end}
@@ -12,7 +12,8 @@ use Rattle.np_table.specs.Table.{IsWorkload}
 pub first_pod-requires : goal.first_pod-requires
 first_pod-requires c =
     let is = c.first_of_kinds-workload-items.ensures ∙ ap (λ (f : Folding). f.first_of_kinds) c.workloads.ensures.value in
-    All-get_or (IsWorkload c.args.folded.now) c.first_of_kinds-workload-items.result.now c.loop-workload.workload-index 0 c.loop-workload-test.true (subst (λ (firsts : List ℕ). All (IsWorkload c.args.folded.now) firsts) (sym is) (firsts-workloads c.args.folded.now))
+    All-get_or (IsWorkload c.args.folded.now) c.first_of_kinds-workload-items.result.now c.loop-workload.workload-index 0 c.loop-workload-test.true
+    (subst (λ (firsts : List ℕ). All (IsWorkload c.args.folded.now) firsts) (sym is) (firsts-workloads c.args.folded.now))
 
 pub loop-workload-preserved : goal.loop-workload-preserved
 loop-workload-preserved c =

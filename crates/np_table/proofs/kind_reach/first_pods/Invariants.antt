@@ -1,5 +1,5 @@
 use Rattle.std.proofs.Common.{◌≡◌, map, take}
-use Rattle.np_rules.specs.Ends.{pod_end}
+use Rattle.np_rules.specs.model.Ends.{pod_end}
 use Rattle.np_table.proofs.kind_reach.first_pods.Given as goal
 use Rattle.np_table.specs.PairRules.{first_end}
 

@@ -22,7 +22,8 @@ returns-clause-set g c =
 pub returns-clause-every_pod : goal.returns-clause-every_pod
 returns-clause-every_pod g c =
     let both = ends-are c.args.folded.now c.args.source c.args.destination c.in-Some.ends (sym c.in-Some.is ∙ c.in_ok-ends.ensures.ends) in
-    every_pod-of c.args.folded.now (folding_of c.args.folded.now) c.args.source c.args.destination c.args.family c.in_ok-set.set refl c.requires.source c.requires.destination (c.in_ok-set.ensures.set ∙ ends-pass c.args.folded.now c.args.source c.args.destination c.in-Some.ends c.args.family both.0 both.1) c.rules_of_pair.ensures.lawful
+    every_pod-of c.args.folded.now (folding_of c.args.folded.now) c.args.source c.args.destination c.args.family c.in_ok-set.set refl c.requires.source c.requires.destination
+    (c.in_ok-set.ensures.set ∙ ends-pass c.args.folded.now c.args.source c.args.destination c.in-Some.ends c.args.family both.0 both.1) c.rules_of_pair.ensures.lawful
 
 pub returns-clause-most : goal.returns-clause-most
 returns-clause-most g c =

@@ -13,11 +13,13 @@ bounds-members-0 c = rw (c.members.ensures, c.workloads-workloads.ensures.value)
 pub of-requires : goal.of-requires
 of-requires c =
     let some = members-some c.args.folded.now (folding_of c.args.folded.now) c.args.source refl c.requires.source in
-    rw (c.estate-estate.ensures.value, c.members.ensures, c.workloads-workloads.ensures.value) (members-within c.args.folded.now (folding_of c.args.folded.now) c.args.source _ refl c.requires.source (source-member (folding_of c.args.folded.now) c.args.source some))
+    rw (c.estate-estate.ensures.value, c.members.ensures, c.workloads-workloads.ensures.value)
+    (members-within c.args.folded.now (folding_of c.args.folded.now) c.args.source _ refl c.requires.source (source-member (folding_of c.args.folded.now) c.args.source some))
 
 pub of-requires-2 : goal.of-requires-2
 of-requires-2 c =
-    rw c.estate-estate.ensures.value (far-within c.args.folded.now (folding_of c.args.folded.now) c.args.source c.args.destination c.in-Some.far refl c.requires.destination (rw c.workloads-workloads.ensures.value at c.in-Some.ensures))
+    rw c.estate-estate.ensures.value (far-within c.args.folded.now (folding_of c.args.folded.now) c.args.source c.args.destination c.in-Some.far refl c.requires.destination
+    (rw c.workloads-workloads.ensures.value at c.in-Some.ensures))
 
 pub returns-clause-ends : goal.returns-clause-ends
 returns-clause-ends c =

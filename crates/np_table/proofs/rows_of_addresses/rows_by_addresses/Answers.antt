@@ -6,4 +6,5 @@ use Rattle.np_table.specs.PairRules.{side_with_address}
 
 pub returns-clause-rows : goal.returns-clause-rows
 returns-clause-rows g c =
-    IfOk-weaker c.rows_of_all.result _ _ (λ made is. is ∙ rows_of_addresses-made (side_with_address c.args.near.now) c.in_ok-conns.conns c.in_ok-conns.ensures.four c.in_ok-conns.ensures.six) c.rows_of_all.ensures
+    IfOk-weaker c.rows_of_all.result _ _ (λ made is. is ∙ rows_of_addresses-made (side_with_address c.args.near.now) c.in_ok-conns.conns c.in_ok-conns.ensures.four c.in_ok-conns.ensures.six)
+    c.rows_of_all.ensures

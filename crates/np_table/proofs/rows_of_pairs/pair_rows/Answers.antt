@@ -19,7 +19,8 @@ rows_between-requires g c =
 
 pub returns-in_default-clause-rows : goal.returns-in_default-clause-rows
 returns-in_default-clause-rows g c =
-    c.new.ensures ∙ pair_rows-alone c.args.folded.now (folding_of c.args.folded.now) c.args.source c.args.destination (ends-none c.args.folded.now c.args.source c.args.destination (sym c.in_default.is ∙ c.in_ok-ends.ensures.ends))
+    c.new.ensures ∙ pair_rows-alone c.args.folded.now (folding_of c.args.folded.now) c.args.source c.args.destination
+    (ends-none c.args.folded.now c.args.source c.args.destination (sym c.in_default.is ∙ c.in_ok-ends.ensures.ends))
 
 pub returns-clause-rows : goal.returns-clause-rows
 returns-clause-rows g c =
@@ -27,7 +28,8 @@ returns-clause-rows g c =
     let families = c.families-families.ensures ∙ ap (λ (lists : EstateLists). families_of lists.pods) c.estate.ensures.value in
     IfOk-weaker c.rows_between.result _ _ (λ made is.
     is
-    ∙ ap (λ (key : RowKey). rows_in c.families-families.result.now key (λ (family : Family). conns_of (between_pods c.in-Some.ends.sender.lists c.in-Some.ends.sender.pod c.in-Some.ends.receiver.pod family))) c.pair_key-key.ensures
+    ∙ ap (λ (key : RowKey). rows_in c.families-families.result.now key
+    (λ (family : Family). conns_of (between_pods c.in-Some.ends.sender.lists c.in-Some.ends.sender.pod c.in-Some.ends.receiver.pod family))) c.pair_key-key.ensures
     ∙ ends-rows c.args.folded.now c.args.source c.args.destination c.in-Some.ends c.families-families.result.now families both.0 both.1) c.rows_between.ensures.rows
 
 pub returns-clause-most : goal.returns-clause-most

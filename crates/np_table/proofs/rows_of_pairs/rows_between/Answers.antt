@@ -10,7 +10,9 @@ use Rattle.np_table.specs.declared.rows.Row.{Row}
 
 pub returns-then-families-ne1-clause-rows : goal.returns-then-families-ne1-clause-rows
 returns-then-families-ne1-clause-rows g c =
-    IfOk-weaker c.rows_of_both.result _ _ (λ made is. is ∙ rw (c.in_ok-four.ensures.set, c.in_ok-six.ensures.set) (rows_in-both c.args.families.now c.args.key.now (λ (family : Family). conns_of (between_pods c.args.sender.now.lists c.args.sender.now.pod c.args.receiver.now.pod family)) c.if-families-ne1.true)) c.rows_of_both.ensures
+    IfOk-weaker c.rows_of_both.result _ _ (λ made is. is ∙ rw (c.in_ok-four.ensures.set, c.in_ok-six.ensures.set)
+    (rows_in-both c.args.families.now c.args.key.now (λ (family : Family). conns_of (between_pods c.args.sender.now.lists c.args.sender.now.pod c.args.receiver.now.pod family))
+    c.if-families-ne1.true)) c.rows_of_both.ensures
 
 pub returns-clause-rows : goal.returns-clause-rows
 returns-clause-rows g c =

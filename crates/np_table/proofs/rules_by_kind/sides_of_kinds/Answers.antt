@@ -9,7 +9,8 @@ use Rattle.np_table.specs.Table.{IsWorkload}
 pub first_side-requires : goal.first_side-requires
 first_side-requires c =
     let is = c.first_of_kinds-workload-items.ensures ∙ ap (λ (f : Folding). f.first_of_kinds) c.workloads.ensures.value in
-    All-get_or (IsWorkload c.args.folded.now) c.first_of_kinds-workload-items.result.now c.loop-workload.workload-index 0 c.loop-workload-test.true (subst (λ (firsts : List ℕ). All (IsWorkload c.args.folded.now) firsts) (sym is) (firsts-workloads c.args.folded.now))
+    All-get_or (IsWorkload c.args.folded.now) c.first_of_kinds-workload-items.result.now c.loop-workload.workload-index 0 c.loop-workload-test.true
+    (subst (λ (firsts : List ℕ). All (IsWorkload c.args.folded.now) firsts) (sym is) (firsts-workloads c.args.folded.now))
 
 pub returns : goal.returns
 returns c =

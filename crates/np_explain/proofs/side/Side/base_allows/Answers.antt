@@ -9,7 +9,8 @@ pub bounds-items-place-2 : goal.bounds-items-place-2
 bounds-items-place-2 c = allows_within (keeps c.self.invariant.names c.self.view_is) c.args.place c.items.result.now c.items.ensures c.requires
 
 pub offset_bounds-items-place : goal.offset_bounds-items-place
-offset_bounds-items-place c = let within : c.args.place < length c.items.result.now = allows_within (keeps c.self.invariant.names c.self.view_is) c.args.place c.items.result.now c.items.ensures c.requires in search rules
+offset_bounds-items-place c = let within : c.args.place < length c.items.result.now = allows_within
+    (keeps c.self.invariant.names c.self.view_is) c.args.place c.items.result.now c.items.ensures c.requires in search rules
 
 pub returns : goal.returns
 returns c = λ placed is. allow_at (keeps c.self.invariant.names c.self.view_is) c.args.place c.items.result.now c.index-items-place.result c.items.ensures placed is

@@ -11,7 +11,8 @@ returns-then-isolated-clause-grows g c =
     IfOk-weaker c.note_tier-then-isolated.result _ _
     (λ _ noted.
     let net = rw (c.items-then-isolated.ensures, c.items-then-isolated-2.ensures) at noted in
-    layer_grows g.S.Cells.has g.S.Cells.in_space c.args.layer c.args.rules.now c.args.self.now new (isolated_noted g.S.Cells.has g.S.Cells.in_space c.args.layer c.args.rules.now c.args.self.now new admin c.if-isolated.true net refl))
+    layer_grows g.S.Cells.has g.S.Cells.in_space c.args.layer c.args.rules.now c.args.self.now new
+    (isolated_noted g.S.Cells.has g.S.Cells.in_space c.args.layer c.args.rules.now c.args.self.now new admin c.if-isolated.true net refl))
     c.note_tier-then-isolated.ensures
 
 pub returns-then-isolated-clause-finds : goal.returns-then-isolated-clause-finds
@@ -21,7 +22,8 @@ returns-then-isolated-clause-finds g c =
     IfOk-weaker c.note_tier-then-isolated.result _ _
     (λ _ noted.
     let net = rw (c.items-then-isolated.ensures, c.items-then-isolated-2.ensures) at noted in
-    layer_finds g.S.Cells.has g.S.Cells.in_space c.args.layer c.args.rules.now c.args.self.now new (isolated_noted g.S.Cells.has g.S.Cells.in_space c.args.layer c.args.rules.now c.args.self.now new admin c.if-isolated.true net refl))
+    layer_finds g.S.Cells.has g.S.Cells.in_space c.args.layer c.args.rules.now c.args.self.now new
+    (isolated_noted g.S.Cells.has g.S.Cells.in_space c.args.layer c.args.rules.now c.args.self.now new admin c.if-isolated.true net refl))
     c.note_tier-then-isolated.ensures
 
 pub returns-then-isolated-clause-only : goal.returns-then-isolated-clause-only
@@ -31,7 +33,8 @@ returns-then-isolated-clause-only g c =
     IfOk-weaker c.note_tier-then-isolated.result _ _
     (λ _ noted.
     let net = rw (c.items-then-isolated.ensures, c.items-then-isolated-2.ensures) at noted in
-    layer_only g.S.Cells.has g.S.Cells.in_space c.args.layer c.args.rules.now c.args.self.now new (isolated_noted g.S.Cells.has g.S.Cells.in_space c.args.layer c.args.rules.now c.args.self.now new admin c.if-isolated.true net refl))
+    layer_only g.S.Cells.has g.S.Cells.in_space c.args.layer c.args.rules.now c.args.self.now new
+    (isolated_noted g.S.Cells.has g.S.Cells.in_space c.args.layer c.args.rules.now c.args.self.now new admin c.if-isolated.true net refl))
     c.note_tier-then-isolated.ensures
 
 pub returns-clause-grows : goal.returns-clause-grows
@@ -41,7 +44,8 @@ returns-clause-grows g c =
     IfOk-weaker c.note_tier-else-isolated.result _ _
     (λ _ noted.
     let base = rw (c.items-else-isolated.ensures, c.items-else-isolated-2.ensures) at noted in
-    layer_grows g.S.Cells.has g.S.Cells.in_space c.args.layer c.args.rules.now c.args.self.now new (open_noted g.S.Cells.has g.S.Cells.in_space c.args.layer c.args.rules.now c.args.self.now new admin c.if-isolated.false base refl))
+    layer_grows g.S.Cells.has g.S.Cells.in_space c.args.layer c.args.rules.now c.args.self.now new
+    (open_noted g.S.Cells.has g.S.Cells.in_space c.args.layer c.args.rules.now c.args.self.now new admin c.if-isolated.false base refl))
     c.note_tier-else-isolated.ensures
 
 pub returns-clause-finds : goal.returns-clause-finds
@@ -51,7 +55,8 @@ returns-clause-finds g c =
     IfOk-weaker c.note_tier-else-isolated.result _ _
     (λ _ noted.
     let base = rw (c.items-else-isolated.ensures, c.items-else-isolated-2.ensures) at noted in
-    layer_finds g.S.Cells.has g.S.Cells.in_space c.args.layer c.args.rules.now c.args.self.now new (open_noted g.S.Cells.has g.S.Cells.in_space c.args.layer c.args.rules.now c.args.self.now new admin c.if-isolated.false base refl))
+    layer_finds g.S.Cells.has g.S.Cells.in_space c.args.layer c.args.rules.now c.args.self.now new
+    (open_noted g.S.Cells.has g.S.Cells.in_space c.args.layer c.args.rules.now c.args.self.now new admin c.if-isolated.false base refl))
     c.note_tier-else-isolated.ensures
 
 pub returns-clause-only : goal.returns-clause-only
@@ -61,5 +66,6 @@ returns-clause-only g c =
     IfOk-weaker c.note_tier-else-isolated.result _ _
     (λ _ noted.
     let base = rw (c.items-else-isolated.ensures, c.items-else-isolated-2.ensures) at noted in
-    layer_only g.S.Cells.has g.S.Cells.in_space c.args.layer c.args.rules.now c.args.self.now new (open_noted g.S.Cells.has g.S.Cells.in_space c.args.layer c.args.rules.now c.args.self.now new admin c.if-isolated.false base refl))
+    layer_only g.S.Cells.has g.S.Cells.in_space c.args.layer c.args.rules.now c.args.self.now new
+    (open_noted g.S.Cells.has g.S.Cells.in_space c.args.layer c.args.rules.now c.args.self.now new admin c.if-isolated.false base refl))
     c.note_tier-else-isolated.ensures

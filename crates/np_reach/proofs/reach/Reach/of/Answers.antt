@@ -6,7 +6,7 @@ use Rattle.np_reach.proofs.MarkLemmas.{rows_more, seen_rows}
 use Rattle.np_reach.proofs.reach.Reach.of.Goals as goal
 use Rattle.np_reach.specs.Reach.{may_reach}
 use Rattle.np_reach.specs.Stretches.{IsStretch}
-use Rattle.np_rules.specs.Ends.{pod, pod_end}
+use Rattle.np_rules.specs.model.Ends.{pod, pod_end}
 
 pub push_rows-requires-clause-sides : goal.push_rows-requires-clause-sides
 push_rows-requires-clause-sides c =
@@ -21,15 +21,20 @@ push_rows-requires-clause-sides c =
     }
 
 pub push_rows-requires-clause-alike : goal.push_rows-requires-clause-alike
-push_rows-requires-clause-alike c = subst IsStretch (sym c.stretch-item.is) (All-get_or IsStretch c.deref-stretch-items.result.now c.loop-stretch.stretch-index c.stretch-item.result c.loop-stretch-test.true (rw c.deref-stretch-items.ensures.value c.in_ok-stretches.ensures.alike))
+push_rows-requires-clause-alike c = subst IsStretch (sym c.stretch-item.is)
+    (All-get_or IsStretch c.deref-stretch-items.result.now c.loop-stretch.stretch-index c.stretch-item.result c.loop-stretch-test.true
+    (rw c.deref-stretch-items.ensures.value c.in_ok-stretches.ensures.alike))
 
 pub loop-stretch-preserved : goal.loop-stretch-preserved
 loop-stretch-preserved c =
-    rows_more (λ near. map (λ far. may_reach c.args.estate.now c.args.direction (pod_end near.now) (pod (pod_end far.now))) c.args.pods.now) (λ stretch. stretch.pods.now) c.deref-stretch-items.result.now c.loop-stretch.stretch-index c.stretch-item.result c.loop-stretch.rows c.push_rows.new.rows c.loop-stretch-test.true c.stretch-item.is c.in_ok-push_rows.ensures c.loop-stretch.invariant
+    rows_more (λ near. map (λ far. may_reach c.args.estate.now c.args.direction (pod_end near.now) (pod (pod_end far.now))) c.args.pods.now)
+    (λ stretch. stretch.pods.now) c.deref-stretch-items.result.now c.loop-stretch.stretch-index c.stretch-item.result c.loop-stretch.rows c.push_rows.new.rows c.loop-stretch-test.true
+    c.stretch-item.is c.in_ok-push_rows.ensures c.loop-stretch.invariant
 
 pub returns : goal.returns
 returns c =
     let row : Bor Pod → List _ = λ one. map (λ far. may_reach c.args.estate.now c.args.direction (pod_end one.now) (pod (pod_end far.now))) c.args.pods.now in
     c.loop-stretch.invariant
-    ∙ ap (map row) (ap (flat_map (λ stretch. stretch.pods.now)) (take_all c.loop-stretch.stretch-index c.deref-stretch-items.result.now (omega arith) ∙ c.deref-stretch-items.ensures.value) ∙ c.in_ok-stretches.ensures.pods)
+    ∙ ap (map row) (ap (flat_map (λ stretch. stretch.pods.now)) (take_all c.loop-stretch.stretch-index c.deref-stretch-items.result.now (omega arith) ∙ c.deref-stretch-items.ensures.value)
+    ∙ c.in_ok-stretches.ensures.pods)
     ∙ seen_rows (λ near far. may_reach c.args.estate.now c.args.direction near (pod far)) (λ one. pod_end one.now) c.args.pods.now c.args.pods.now

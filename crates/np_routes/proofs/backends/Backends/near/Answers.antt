@@ -7,7 +7,7 @@ use Rattle.np_routes.proofs.backends.Backends.near.Goals as goal
 use Rattle.np_routes.specs.Routes.{leads_to, routes_in}
 use Rattle.np_routes.specs.declared.service_targets.ServiceTargets.{ServiceTargets}
 use Rattle.np_routes.specs.steps.TargetsByNamespace.{target_leads, targets_in}
-use Rattle.np_rules.specs.Ends.{pod_end}
+use Rattle.np_rules.specs.model.Ends.{pod_end}
 
 pub returns-in_err-targets : goal.returns-in_err-targets
 returns-in_err-targets c number =

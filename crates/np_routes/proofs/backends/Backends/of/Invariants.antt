@@ -3,7 +3,7 @@ use Rattle.std.specs.List.{list_any}
 use Rattle.np_routes.specs.steps.AskedServices.{asked_leads}
 use Rattle.np_routes.specs.steps.TargetsByNamespace.{target_leads, targets_in}
 use Rattle.np_routes.proofs.backends.Backends.of.Given as goal
-use Rattle.np_rules.specs.Ends.{PodEnd}
+use Rattle.np_rules.specs.model.Ends.{PodEnd}
 
 -- the services so far lead where those that are kept of a pod's namespace do
 abbrev pub invariant-loop-asked : goal.invariant-loop-asked

@@ -1,14 +1,20 @@
 use Rattle.std.proofs.Common.{IfOk, ap, ◌∙◌, subst}
 use Rattle.np_conns.specs.Conns.{is_spot, has_spot}
 use Rattle.np_conns.specs.declared.port_spot.PortSpot.{PortSpot}
-use Rattle.np_rules.specs.Ends.{Contact, pod}
+use Rattle.np_rules.specs.model.Ends.{Contact, pod}
 use Rattle.np_rules.specs.PodSides.{IsSideLayer, SaysVerdicts, with_pod}
-use Rattle.np_rules.specs.Verdict.{pod_at}
+use Rattle.np_rules.specs.model.Verdict.{pod_at}
 use Rattle.np_rules.proofs.OneEndLemmas.{same_contacts}
 use Rattle.np_rules.proofs.pod_rules.PodRules.pod_layer.Goals as goal
 
 pub returns-clause-layer : goal.returns-clause-layer
-returns-clause-layer g c = subst (λ (at : PortSpot → Contact). IfOk c.layer.result (IsSideLayer has_spot is_spot c.args.self.now (λ _. at))) (same_contacts c.between_pods-ends.result c.self.inside.direction (pod (pod_at c.self.inside.estate.now c.self.inside.pod)) (pod (pod_at c.self.inside.estate.now c.args.peer)) c.args.family c.between_pods-ends.ensures.far c.between_pods-ends.ensures.destination c.between_pods-ends.ensures.family ∙ ap (with_pod c.args.peer c.args.family) c.self.view_is) c.layer.ensures.layer
+returns-clause-layer g c = subst (λ (at : PortSpot → Contact). IfOk c.layer.result (IsSideLayer has_spot is_spot c.args.self.now (λ _. at)))
+    (same_contacts c.between_pods-ends.result c.self.inside.direction (pod (pod_at c.self.inside.estate.now c.self.inside.pod))
+    (pod (pod_at c.self.inside.estate.now c.args.peer)) c.args.family c.between_pods-ends.ensures.far c.between_pods-ends.ensures.destination c.between_pods-ends.ensures.family ∙ ap
+    (with_pod c.args.peer c.args.family) c.self.view_is) c.layer.ensures.layer
 
 pub returns-clause-verdict : goal.returns-clause-verdict
-returns-clause-verdict g c = subst (λ (at : PortSpot → Contact). IfOk c.layer.result (SaysVerdicts has_spot is_spot c.args.self.now (λ _. at))) (same_contacts c.between_pods-ends.result c.self.inside.direction (pod (pod_at c.self.inside.estate.now c.self.inside.pod)) (pod (pod_at c.self.inside.estate.now c.args.peer)) c.args.family c.between_pods-ends.ensures.far c.between_pods-ends.ensures.destination c.between_pods-ends.ensures.family ∙ ap (with_pod c.args.peer c.args.family) c.self.view_is) c.layer.ensures.verdict
+returns-clause-verdict g c = subst (λ (at : PortSpot → Contact). IfOk c.layer.result (SaysVerdicts has_spot is_spot c.args.self.now (λ _. at)))
+    (same_contacts c.between_pods-ends.result c.self.inside.direction (pod (pod_at c.self.inside.estate.now c.self.inside.pod))
+    (pod (pod_at c.self.inside.estate.now c.args.peer)) c.args.family c.between_pods-ends.ensures.far c.between_pods-ends.ensures.destination c.between_pods-ends.ensures.family ∙ ap
+    (with_pod c.args.peer c.args.family) c.self.view_is) c.layer.ensures.verdict

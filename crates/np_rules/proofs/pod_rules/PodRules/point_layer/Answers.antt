@@ -2,14 +2,20 @@ use Rattle.std.proofs.Common.{IfOk, ap, ◌∙◌, subst}
 use Rattle.np_addr.specs.Addresses.{family_of}
 use Rattle.np_conns.specs.Conns.{is_spot, has_spot}
 use Rattle.np_conns.specs.declared.port_spot.PortSpot.{PortSpot}
-use Rattle.np_rules.specs.Ends.{Contact, pod, address}
+use Rattle.np_rules.specs.model.Ends.{Contact, pod, address}
 use Rattle.np_rules.specs.PodSides.{IsSideLayer, SaysVerdicts, with_point}
-use Rattle.np_rules.specs.Verdict.{pod_at}
+use Rattle.np_rules.specs.model.Verdict.{pod_at}
 use Rattle.np_rules.proofs.OneEndLemmas.{same_contacts}
 use Rattle.np_rules.proofs.pod_rules.PodRules.point_layer.Goals as goal
 
 pub returns-clause-layer : goal.returns-clause-layer
-returns-clause-layer g c = subst (λ (at : PortSpot → Contact). IfOk c.layer.result (IsSideLayer has_spot is_spot c.args.self.now (λ _. at))) (same_contacts c.with_address-ends.result c.self.inside.direction (pod (pod_at c.self.inside.estate.now c.self.inside.pod)) (address c.args.address) (family_of c.args.address) c.with_address-ends.ensures.far c.with_address-ends.ensures.destination c.with_address-ends.ensures.family ∙ ap (with_point c.args.address) c.self.view_is) c.layer.ensures.layer
+returns-clause-layer g c = subst (λ (at : PortSpot → Contact). IfOk c.layer.result (IsSideLayer has_spot is_spot c.args.self.now (λ _. at)))
+    (same_contacts c.with_address-ends.result c.self.inside.direction (pod (pod_at c.self.inside.estate.now c.self.inside.pod)) (address c.args.address)
+    (family_of c.args.address) c.with_address-ends.ensures.far c.with_address-ends.ensures.destination c.with_address-ends.ensures.family ∙ ap (with_point c.args.address) c.self.view_is)
+    c.layer.ensures.layer
 
 pub returns-clause-verdict : goal.returns-clause-verdict
-returns-clause-verdict g c = subst (λ (at : PortSpot → Contact). IfOk c.layer.result (SaysVerdicts has_spot is_spot c.args.self.now (λ _. at))) (same_contacts c.with_address-ends.result c.self.inside.direction (pod (pod_at c.self.inside.estate.now c.self.inside.pod)) (address c.args.address) (family_of c.args.address) c.with_address-ends.ensures.far c.with_address-ends.ensures.destination c.with_address-ends.ensures.family ∙ ap (with_point c.args.address) c.self.view_is) c.layer.ensures.verdict
+returns-clause-verdict g c = subst (λ (at : PortSpot → Contact). IfOk c.layer.result (SaysVerdicts has_spot is_spot c.args.self.now (λ _. at)))
+    (same_contacts c.with_address-ends.result c.self.inside.direction (pod (pod_at c.self.inside.estate.now c.self.inside.pod)) (address c.args.address)
+    (family_of c.args.address) c.with_address-ends.ensures.far c.with_address-ends.ensures.destination c.with_address-ends.ensures.family ∙ ap (with_point c.args.address) c.self.view_is)
+    c.layer.ensures.verdict

@@ -1,10 +1,10 @@
-use Rattle.std.proofs.Common.{map, refl, ap, subst}
+use Rattle.std.proofs.Common.{List, ◌∷◌, ◌++◌, [], ap, map, refl, subst, sym, ◌∙◌}
 use Rattle.np_addr.specs.declared.address.Family.TheVariants.{Four}
 use Rattle.np_conns.specs.Conns.{Conns, has_spot, is_spot}
-use Rattle.np_rules.specs.Ends.{PodEnd, pod, stranger_end}
+use Rattle.np_rules.specs.model.Ends.{pod, stranger_end}
 use Rattle.np_rules.specs.OneEnd.{one_contact}
 use Rattle.np_rules.specs.PodSides.{PodSide, SaysVerdicts, near_pod, side_of, with_stranger}
-use Rattle.np_rules.specs.Views.{end_view}
+use Rattle.np_rules.specs.StrangerRules.{ArePermitted, rule_of}
 use Rattle.np_rules.proofs.OneEndLemmas.{same_contacts}
 use Rattle.np_rules.proofs.StrangerLemmas.{says_of_stranger}
 use Rattle.np_rules.proofs.stranger_rules.StrangerRules.layer.Goals as goal
@@ -14,8 +14,9 @@ pub returns-clause-verdict : goal.returns-clause-verdict
 returns-clause-verdict g c =
     let inside = c.self.inside in
     let side = side_of inside.estate.now inside.pod inside.direction in
-    let made : Layer Conns = record { admin = c.in_ok-admin.admin; isolated = inside.isolated; net = c.in_ok-net.net; base = c.in_ok-base.base } in
+    let made : Layer Conns = record { admin = c.in_ok-admin.admin; isolated = inside.isolated; net = c.push.new.self; base = c.in_ok-base.base } in
     subst (λ (s : PodSide). SaysVerdicts has_spot is_spot s (with_stranger c.args.stranger.now) made) c.self.view_is
-    (says_of_stranger side c.args.stranger.now (map (λ rule. rule.now) inside.admin.items) inside.isolated inside.net.items inside.base.now c.view_at-near.result.namespace.now (one_contact c.with_stranger-ends.result) (end_view c.with_stranger-ends.result.far) made
+    (says_of_stranger side c.args.stranger.now (map (λ rule. rule.now) inside.admin.items) inside.isolated (map rule_of inside.net.items) inside.base.now (one_contact c.with_stranger-ends.result) c.args.net made
     (same_contacts c.with_stranger-ends.result inside.direction (pod (near_pod side)) (pod (stranger_end c.args.stranger.now)) Four c.with_stranger-ends.ensures.far c.with_stranger-ends.ensures.destination c.with_stranger-ends.ensures.family)
-    c.with_stranger-ends.ensures.far c.self.invariant.0 c.self.invariant.1 (ap (λ (p : PodEnd). p.namespace) c.view_at-near.ensures) (rw c.deref.ensures.value at c.in_ok-admin.ensures) refl (rw c.deref-2.ensures.value at c.in_ok-net.ensures) c.in_ok-base.ensures)
+    c.self.invariant.0 (subst (λ (s : PodSide). ArePermitted s c.args.stranger.now c.args.net) (sym c.self.view_is) c.requires) (rw c.deref.ensures.value at c.in_ok-admin.ensures) refl
+    (c.in_ok-push.ensures.ok ∙ ap (λ (sets : List Conns). sets ++ c.args.net ∷ []) c.new-sets.ensures) c.in_ok-base.ensures)

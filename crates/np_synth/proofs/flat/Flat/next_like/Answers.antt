@@ -21,9 +21,11 @@ returns-then-numbers-other c =
     let count = numbers-count lists c.items-numbers.result.now c.self.inside.groups.firsts (c.items-numbers.ensures ∙ c.self.invariant.1) c.self.invariant.0 in
     let same = ap number_of_workloads c.self.view_is in
     let within : c.loop-other.other < number_of_workloads lists = omega (arith, c.loop-other-test.true, count) in
-    let here = sym (number-is lists c.items-numbers.result.now c.self.inside.groups.firsts (c.items-numbers.ensures ∙ c.self.invariant.1) c.self.invariant.0 c.loop-other.other within) ∙ c.if-numbers-other.true in
+    let here = sym (number-is lists c.items-numbers.result.now c.self.inside.groups.firsts (c.items-numbers.ensures ∙ c.self.invariant.1) c.self.invariant.0 c.loop-other.other within)
+    ∙ c.if-numbers-other.true in
     let there : group_of c.args.self.now c.loop-other.other ≡ c.args.group = ap (λ (l : EstateLists). group_of l c.loop-other.other) (sym c.self.view_is) ∙ here in
-    sym (range-some (λ (k : ℕ). group_of c.args.self.now k == c.args.group) (c.args.workload + 1) (number_of_workloads c.args.self.now - (c.args.workload + 1)) c.loop-other.other (omega (arith, c.loop-other.auto.other)) (omega (arith, within, same, c.loop-other.auto.other)) (eq-eqb (group_of c.args.self.now c.loop-other.other) c.args.group there)
+    sym (range-some (λ (k : ℕ). group_of c.args.self.now k == c.args.group) (c.args.workload + 1) (number_of_workloads c.args.self.now - (c.args.workload + 1)) c.loop-other.other
+    (omega (arith, c.loop-other.auto.other)) (omega (arith, within, same, c.loop-other.auto.other)) (eq-eqb (group_of c.args.self.now c.loop-other.other) c.args.group there)
     (λ k low below. c.loop-other.invariant k (omega arith) below))
 
 pub loop-other-preserved : goal.loop-other-preserved
@@ -33,7 +35,8 @@ loop-other-preserved c =
     let within : c.loop-other.other < number_of_workloads lists = omega (arith, c.loop-other-test.true, count) in
     let is = number-is lists c.items-numbers.result.now c.self.inside.groups.firsts (c.items-numbers.ensures ∙ c.self.invariant.1) c.self.invariant.0 c.loop-other.other within in
     λ k low below. elim (cases_eq k c.loop-other.other) [
-      | inl here ↦ ne_eqb (group_of c.args.self.now k) c.args.group (λ same. c.if-numbers-other.false (is ∙ ap (λ (l : EstateLists). group_of l c.loop-other.other) c.self.view_is ∙ ap (group_of c.args.self.now) (sym here) ∙ same))
+      | inl here ↦ ne_eqb (group_of c.args.self.now k) c.args.group
+          (λ same. c.if-numbers-other.false (is ∙ ap (λ (l : EstateLists). group_of l c.loop-other.other) c.self.view_is ∙ ap (group_of c.args.self.now) (sym here) ∙ same))
       | inr apart ↦ c.loop-other.invariant k low (omega arith)
     ]
 

@@ -7,7 +7,8 @@ use Rattle.np_synth.specs.Faults.{set_of}
 use Rattle.np_synth.specs.Groups.{first_of_group}
 
 pub between-requires-clause-apart : goal.between-requires-clause-apart
-between-requires-clause-apart g c = λ same. firsts-apart c.args.self.now c.args.sender c.args.group c.requires.sender c.requires.group c.if-sender-group.false (sym c.first.ensures.value ∙ same ∙ c.first-2.ensures.value)
+between-requires-clause-apart g c = λ same. firsts-apart c.args.self.now c.args.sender c.args.group c.requires.sender c.requires.group c.if-sender-group.false
+    (sym c.first.ensures.value ∙ same ∙ c.first-2.ensures.value)
 
 pub returns-clause-set : goal.returns-clause-set
 returns-clause-set g c =

@@ -51,5 +51,6 @@ is_silent-requires-clause-destination g c = subst (λ (l : EstateLists). c.args.
 
 pub returns-then-is_silent-clause-set : goal.returns-then-is_silent-clause-set
 returns-then-is_silent-clause-set g c =
-    silent-set c.self.inside.folded.now c.in_ok-nothing.nothing c.args.source c.args.destination c.in_ok-nothing.ensures.well c.in_ok-nothing.ensures.members (c.is_silent.ensures.silent c.if-is_silent.true)
+    silent-set c.self.inside.folded.now c.in_ok-nothing.nothing c.args.source c.args.destination c.in_ok-nothing.ensures.well c.in_ok-nothing.ensures.members
+    (c.is_silent.ensures.silent c.if-is_silent.true)
     ∙ ap (λ (l : EstateLists). set_of l c.args.source c.args.destination) c.self.view_is

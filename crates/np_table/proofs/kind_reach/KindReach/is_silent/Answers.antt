@@ -13,8 +13,10 @@ kind_of-far-requires c = rw c.workloads-workloads.ensures.value (kind-there c.ar
 
 pub returns-clause-known : goal.returns-clause-known
 returns-clause-known c =
-    ap not (c.may_pass.ensures ∙ ap (λ (near : ℕ). may_pass c.args.self.now near c.kind_of-far.result) (c.kind_of-near.ensures ∙ ap (λ (folding : Folding). slice_index folding.kinds c.args.source) c.workloads-workloads.ensures.value)
-    ∙ ap (may_pass c.args.self.now (slice_index (folding_of c.args.folded.now).kinds c.args.source)) (c.kind_of-far.ensures ∙ ap (λ (folding : Folding). slice_index folding.kinds c.args.destination) c.workloads-workloads.ensures.value))
+    ap not (c.may_pass.ensures ∙ ap (λ (near : ℕ). may_pass c.args.self.now near c.kind_of-far.result)
+    (c.kind_of-near.ensures ∙ ap (λ (folding : Folding). slice_index folding.kinds c.args.source) c.workloads-workloads.ensures.value)
+    ∙ ap (may_pass c.args.self.now (slice_index (folding_of c.args.folded.now).kinds c.args.source))
+    (c.kind_of-far.ensures ∙ ap (λ (folding : Folding). slice_index folding.kinds c.args.destination) c.workloads-workloads.ensures.value))
 
 pub returns-clause-silent : goal.returns-clause-silent
 returns-clause-silent c = λ told family spot.

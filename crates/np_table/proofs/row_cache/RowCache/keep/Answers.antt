@@ -7,5 +7,6 @@ use Rattle.np_table.specs.declared.row_cache.CachedConns.{CachedConns}
 pub returns-clause-count : goal.returns-clause-count
 returns-clause-count c none =
     let room : c.args.kind < length c.make_places.new.by_kind.items = omega (arith, c.in_ok-make_places.ensures.all, c.requires.kind) in
-    let same : KeepsTheSame c.args.self.now c.make_places.new.by_kind.items = subst (λ (old : List (Option (List CachedConns))). KeepsTheSame old c.make_places.new.by_kind.items) c.self.view_is c.make_places.ensures.same in
+    let same : KeepsTheSame c.args.self.now c.make_places.new.by_kind.items = subst
+    (λ (old : List (Option (List CachedConns))). KeepsTheSame old c.make_places.new.by_kind.items) c.self.view_is c.make_places.ensures.same in
     kept_count-more c.args.self.now c.make_places.new.by_kind.items c.args.kind c.in_ok-conns.conns room same none

@@ -3,10 +3,10 @@ use Rattle.std.specs.Prelude.{List, filter, Bool, ◌&&◌, is_some}
 use Rattle.std.specs.List.{list_any}
 use Rattle.np_model.specs.declared.direction.Direction.{Direction}
 use Rattle.np_model.specs.declared.network_policy.NetPolicy.{NetPolicy}
-use Rattle.np_rules.specs.Ends.{Contact, PodEnd}
-use Rattle.np_rules.specs.Places.{PlacedNetRule, net_places, net_rules_of}
-use Rattle.np_rules.specs.Rules.{net_rule_matches}
-use Rattle.np_rules.specs.Selection.{net_selects}
+use Rattle.np_rules.specs.model.Ends.{Contact, PodEnd}
+use Rattle.np_rules.specs.model.Places.{PlacedNetRule, net_places, net_rules_of}
+use Rattle.np_rules.specs.model.Rules.{net_rule_matches}
+use Rattle.np_rules.specs.model.Selection.{net_selects}
 
 -- A policy isolates the pods that it selects in the directions among its types.
 abbrev pub isolates : Direction → PodEnd → NetPolicy → Bool

@@ -3,9 +3,9 @@ use Rattle.std.specs.Prelude.{ℕ, List, [], ◌∷◌, Bool, true, ◌&&◌}
 use Rattle.std.specs.List.{list_any}
 use Rattle.np_model.specs.declared.admin_policy.AdminRule.{AdminRule}
 use Rattle.np_model.specs.declared.network_policy.NetRule.{NetRule}
-use Rattle.np_rules.specs.Ends.{Contact}
-use Rattle.np_rules.specs.Peers.{net_peer_matches, admin_peer_matches}
-use Rattle.np_rules.specs.PortEntries.{net_entry_matches, admin_entry_matches}
+use Rattle.np_rules.specs.model.Ends.{Contact}
+use Rattle.np_rules.specs.model.Peers.{net_peer_matches, admin_peer_matches}
+use Rattle.np_rules.specs.model.PortEntries.{net_entry_matches, admin_entry_matches}
 
 -- whether some item passes, where no items at all do not restrict
 abbrev pub none_or_any : {X : Type 0} → (X → Bool) → List X → Bool

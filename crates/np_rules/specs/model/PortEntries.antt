@@ -1,5 +1,5 @@
 -- Which protocols and ports a port entry matches.
-use Rattle.std.specs.Prelude.{◌≡◌, ℕ, List, Bool, true, false, ◌&&◌, ◌==◌, Option, Some, None, nat_le, refl}
+use Rattle.std.specs.Prelude.{◌≡◌, ℕ, List, Bool, false, ◌&&◌, ◌==◌, nat_le, refl}
 use Rattle.std.specs.List.{list_any}
 use Rattle.std.specs.Str.{bytes_eq}
 use Rattle.np_addr.specs.declared.address.Address.{Address}
@@ -11,24 +11,15 @@ use Rattle.np_model.specs.declared.admin_policy.AdminPort.{AdminPort}
 use Rattle.np_model.specs.declared.admin_policy.AdminPort.TheVariants as admin
 use Rattle.np_model.specs.declared.network_policy.NetPort.{NetPort}
 use Rattle.np_model.specs.declared.network_policy.NetPort.TheVariants as net
-use Rattle.np_rules.specs.Ends.{End, pod, address}
+use Rattle.np_rules.specs.model.Ends.{End, pod, address}
 
 -- whether the spot has the protocol, and a port from lo to hi
 abbrev pub in_span : Proto → ℕ → ℕ → PortSpot → Bool
 in_span proto lo hi spot = same_proto spot.proto proto && (nat_le lo spot.port && nat_le spot.port hi)
 
--- whether a container port is the spot's port of the spot's protocol
-abbrev pub is_port : PortSpot → NamedPort → Bool
-is_port spot port = same_proto spot.proto port.proto && (spot.port == port.number)
-
 -- whether a container port has the name, and is the spot's
 abbrev pub is_named : List ℕ → PortSpot → NamedPort → Bool
-is_named name spot port = bytes_eq port.name name && is_port spot port
-
--- whether it is the protocol that is asked for; where none is, each is
-abbrev pub is_asked : Option Proto → Proto → Bool
-is_asked None proto = true
-is_asked (Some asked) proto = same_proto proto asked
+is_named name spot port = bytes_eq port.name name && (same_proto spot.proto port.proto && (spot.port == port.number))
 
 -- whether the spot is a port of that name at the end; an address has none
 abbrev pub has_named : List ℕ → PortSpot → End → Bool

@@ -4,11 +4,11 @@ use Rattle.np_model.specs.declared.lists.EstateLists.{EstateLists}
 use Rattle.np_model.specs.declared.admin_policy.Action.{Action}
 use Rattle.np_model.specs.declared.admin_policy.Action.TheVariants.{Allow, Deny, Pass}
 use Rattle.np_model.specs.declared.direction.Direction.{Direction}
-use Rattle.np_rules.specs.AdminTier.{admin_decider}
-use Rattle.np_rules.specs.BaseTier.{base_decider}
-use Rattle.np_rules.specs.Ends.{Contact, PodEnd}
-use Rattle.np_rules.specs.NetTier.{is_isolated, permits}
-use Rattle.np_rules.specs.Places.{PlacedAdminRule, PlacedBaseRule}
+use Rattle.np_rules.specs.model.AdminTier.{admin_decider}
+use Rattle.np_rules.specs.model.BaseTier.{base_decider}
+use Rattle.np_rules.specs.model.Ends.{Contact, PodEnd}
+use Rattle.np_rules.specs.model.NetTier.{is_isolated, permits}
+use Rattle.np_rules.specs.model.Places.{PlacedAdminRule, PlacedBaseRule}
 
 -- what an admin rule says, where the tiers below say `below`
 abbrev pub action_says : Action → Bool → Bool

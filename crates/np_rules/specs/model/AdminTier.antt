@@ -2,9 +2,9 @@
 use Rattle.std.specs.Prelude.{List, [], ◌∷◌, filter, Bool, ◌&&◌, ◌||◌, ◌==◌, nat_lt, Option, Some, None, if◌then◌else◌}
 use Rattle.np_model.specs.declared.admin_policy.AdminPolicy.{AdminPolicy}
 use Rattle.np_model.specs.declared.direction.Direction.{Direction}
-use Rattle.np_rules.specs.Ends.{Contact, PodEnd}
-use Rattle.np_rules.specs.Places.{PlacedAdminRule, admin_places}
-use Rattle.np_rules.specs.Rules.{admin_rule_matches}
+use Rattle.np_rules.specs.model.Ends.{Contact, PodEnd}
+use Rattle.np_rules.specs.model.Places.{PlacedAdminRule, admin_places}
+use Rattle.np_rules.specs.model.Rules.{admin_rule_matches}
 
 -- the item that no other precedes, and the first of those where there are several
 abbrev pub sooner : {X : Type 0} → (X → X → Bool) → X → Option X → X

@@ -5,9 +5,9 @@ use Rattle.np_model.specs.declared.lists.EstateLists.{EstateLists}
 use Rattle.np_model.specs.declared.pod.Pod.{Pod}
 use Rattle.np_model.specs.declared.direction.Direction.{Direction}
 use Rattle.np_model.specs.declared.direction.Direction.TheVariants.{Ingress, Egress}
-use Rattle.np_rules.specs.Ends.{End, Contact, Packet, PodEnd, pod, address, contact_of, pod_end}
-use Rattle.np_rules.specs.Places.{end_rule_count}
-use Rattle.np_rules.specs.Sides.{side_allows}
+use Rattle.np_rules.specs.model.Ends.{End, Contact, Packet, PodEnd, pod, address, contact_of, pod_end}
+use Rattle.np_rules.specs.model.Places.{end_rule_count}
+use Rattle.np_rules.specs.model.Sides.{side_allows}
 use Rattle.np_rules.specs.declared.packet.End.{End as PlacedEnd}
 use Rattle.np_rules.specs.declared.packet.End.TheVariants as placed
 use Rattle.np_rules.specs.declared.packet.Packet.{Packet as PlacedPacket}

@@ -2,9 +2,9 @@
 use Rattle.std.specs.Prelude.{Option, find}
 use Rattle.np_model.specs.declared.admin_policy.BasePolicy.{BasePolicy}
 use Rattle.np_model.specs.declared.direction.Direction.{Direction}
-use Rattle.np_rules.specs.Ends.{Contact, PodEnd}
-use Rattle.np_rules.specs.Places.{PlacedBaseRule, base_places}
-use Rattle.np_rules.specs.Rules.{admin_rule_matches}
+use Rattle.np_rules.specs.model.Ends.{Contact, PodEnd}
+use Rattle.np_rules.specs.model.Places.{PlacedBaseRule, base_places}
+use Rattle.np_rules.specs.model.Rules.{admin_rule_matches}
 
 -- The rule that decides is the first that matches, of a baseline that selects the pod.
 abbrev pub base_decider : Option BasePolicy → Direction → PodEnd → Contact → Option PlacedBaseRule

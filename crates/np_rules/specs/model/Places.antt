@@ -10,8 +10,8 @@ use Rattle.np_model.specs.declared.direction.Direction.{Direction}
 use Rattle.np_model.specs.declared.direction.Direction.TheVariants.{Ingress, Egress}
 use Rattle.np_model.specs.declared.network_policy.NetPolicy.{NetPolicy}
 use Rattle.np_model.specs.declared.network_policy.NetRule.{NetRule}
-use Rattle.np_rules.specs.Ends.{End, PodEnd, pod, address}
-use Rattle.np_rules.specs.Selection.{net_selects, subject_selects}
+use Rattle.np_rules.specs.model.Ends.{End, PodEnd, pod, address}
+use Rattle.np_rules.specs.model.Selection.{net_selects, subject_selects}
 
 pub record PlacedAdminRule : Type 0 where
   pub policy : AdminPolicy

@@ -14,7 +14,7 @@ use Rattle.np_model.specs.declared.admin_policy.AdminPeer.{AdminPeer}
 use Rattle.np_model.specs.declared.admin_policy.AdminPeer.TheVariants as admin
 use Rattle.np_model.specs.declared.network_policy.NetPeer.{NetPeer}
 use Rattle.np_model.specs.declared.network_policy.NetPeer.TheVariants as net
-use Rattle.np_rules.specs.Ends.{End, PodEnd, pod, address}
+use Rattle.np_rules.specs.model.Ends.{End, PodEnd, pod, address}
 
 -- whether a pod is one of those that the two selectors of a NetworkPolicy's peer stand for
 abbrev pub pods_match : List ℕ → Option Selector → Option Selector → PodEnd → Bool

@@ -1,5 +1,0 @@
-use Rattle.np_rules.proofs.JoinsLemmas.{joins-halves}
-use Rattle.np_rules.proofs.port_sets.+ports_set.Goals as goal
-
-pub returns-in_ok-joined-in_default : goal.returns-in_ok-joined-in_default
-returns-in_ok-joined-in_default t c = λ spot. joins-halves _ c.args.ports.now _ _ _ _ _ _ c.split_at.ensures.front c.split_at.ensures.back (c.in_ok-joined-in_default.ensures.members spot) (c.in_ok-first-in_default.ensures spot) (c.in_ok-second-in_default.ensures spot)

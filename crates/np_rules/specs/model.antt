@@ -1,0 +1,11 @@
+pub mod AdminTier
+pub mod BaseTier
+pub mod Ends
+pub mod NetTier
+pub mod Peers
+pub mod Places
+pub mod PortEntries
+pub mod Rules
+pub mod Selection
+pub mod Sides
+pub mod Verdict
