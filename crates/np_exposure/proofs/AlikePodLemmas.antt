@@ -10,7 +10,8 @@ use Rattle.np_model.specs.declared.lists.EstateLists.{EstateLists}
 use Rattle.np_exposure.proofs.ListLemmas.{All-each, All-parts, filter-same, find-same, list_any-same, none_or_any-same}
 use Rattle.np_exposure.specs.Mentions.{mentions}
 use Rattle.np_exposure.specs.Strangers.{exposes}
-use Rattle.np_fold.specs.Keys.{keys_of_admin_policy, keys_of_admin_rule, keys_of_baseline, keys_of_estate, keys_of_net_direction, keys_of_net_policy, keys_of_selector, keys_of_service, keys_of_subject}
+use Rattle.np_fold.specs.Keys.{keys_of_admin_policy, keys_of_admin_rule, keys_of_baseline, keys_of_estate, keys_of_net_direction, keys_of_net_policy, keys_of_selector, keys_of_service}
+use Rattle.np_fold.specs.Keys.{keys_of_subject}
 use Rattle.np_labels.specs.Labels.{value_of}
 use Rattle.np_labels.specs.Selectors.{allows, is_listed, meets_requirement, meets_selector}
 use Rattle.np_labels.specs.declared.pair.Pair.{Pair}
@@ -28,18 +29,18 @@ use Rattle.np_model.specs.declared.network_policy.NetPolicy.{NetPolicy}
 use Rattle.np_model.specs.declared.network_policy.NetPort.{NetPort}
 use Rattle.np_model.specs.declared.network_policy.NetPort.TheVariants as net_port
 use Rattle.np_model.specs.declared.network_policy.NetRule.{NetRule}
-use Rattle.np_rules.specs.AdminTier.{admin_decider, admin_precedes, least_by}
-use Rattle.np_rules.specs.BaseTier.{base_decider}
-use Rattle.np_rules.specs.Ends.{Contact, PodEnd, contact, destination_of, pod, stranger_end}
-use Rattle.np_rules.specs.NetTier.{is_isolated, isolates, permits, placed_net_matches}
-use Rattle.np_rules.specs.Peers.{admin_peer_matches, net_peer_matches}
-use Rattle.np_rules.specs.Places.{admin_places, admin_places_of, base_places, base_rules_of, net_places, net_places_of, net_rules_of}
+use Rattle.np_rules.specs.model.AdminTier.{admin_decider, admin_precedes, least_by}
+use Rattle.np_rules.specs.model.BaseTier.{base_decider}
+use Rattle.np_rules.specs.model.Ends.{Contact, PodEnd, contact, destination_of, pod, stranger_end}
+use Rattle.np_rules.specs.model.NetTier.{is_isolated, isolates, permits, placed_net_matches}
+use Rattle.np_rules.specs.model.Peers.{admin_peer_matches, net_peer_matches}
+use Rattle.np_rules.specs.model.Places.{admin_places, admin_places_of, base_places, base_rules_of, net_places, net_places_of, net_rules_of}
 use Rattle.np_rules.specs.PodSides.{side_of}
-use Rattle.np_rules.specs.PortEntries.{admin_entry_matches, has_named, net_entry_matches}
-use Rattle.np_rules.specs.Rules.{admin_rule_matches, net_rule_matches, none_or_any}
-use Rattle.np_rules.specs.Selection.{net_selects, subject_selects}
-use Rattle.np_rules.specs.Sides.{admin_says, base_says, lower_allows, side_allows}
-use Rattle.np_rules.specs.Verdict.{pod_at}
+use Rattle.np_rules.specs.model.PortEntries.{admin_entry_matches, has_named, net_entry_matches}
+use Rattle.np_rules.specs.model.Rules.{admin_rule_matches, net_rule_matches, none_or_any}
+use Rattle.np_rules.specs.model.Selection.{net_selects, subject_selects}
+use Rattle.np_rules.specs.model.Sides.{admin_says, base_says, lower_allows, side_allows}
+use Rattle.np_rules.specs.model.Verdict.{pod_at}
 use Rattle.np_rules.specs.declared.stranger.Stranger.{Stranger}
 
 -- both lists of labels have the same value of the key
@@ -56,7 +57,8 @@ pub record AreAlikePods (lists : EstateLists) (p q : PodEnd) : Type 0 where
 
 -- ---- selectors
 
-requirements-agree : (one other : List Pair) (requirements : List Requirement) → AllByRecursion (AgreeOn one other) (map (λ requirement. requirement.key) requirements) → list_all (λ requirement. meets_requirement requirement one) requirements ≡ list_all (λ requirement. meets_requirement requirement other) requirements
+requirements-agree : (one other : List Pair) (requirements : List Requirement) → AllByRecursion (AgreeOn one other) (map (λ requirement. requirement.key) requirements) →
+    list_all (λ requirement. meets_requirement requirement one) requirements ≡ list_all (λ requirement. meets_requirement requirement other) requirements
 requirements-agree one other [] agree = refl
 requirements-agree one other (requirement ∷ requirements) agree =
     ap (λ (found : Option (List ℕ)). allows requirement.op requirement.values found && list_all (λ more. meets_requirement more one) requirements) agree.0
@@ -84,7 +86,8 @@ module _ (lists : EstateLists) (p q : PodEnd) (alike : AreAlikePods lists p q) w
   subject-agree : (subject : Subject) → AllByRecursion Agree (keys_of_subject subject) → subject_selects subject p ≡ subject_selects subject q
   subject-agree subject agree =
       ap (λ labels. meets_selector subject.namespaces labels && meets_selector subject.pods p.labels) alike.namespace_labels
-      ∙ ap (λ b. meets_selector subject.namespaces q.namespace_labels && b) (selector-agree p.labels q.labels subject.pods (All-parts Agree (keys_of_selector subject.namespaces) (keys_of_selector subject.pods) agree).1)
+      ∙ ap (λ b. meets_selector subject.namespaces q.namespace_labels && b)
+      (selector-agree p.labels q.labels subject.pods (All-parts Agree (keys_of_selector subject.namespaces) (keys_of_selector subject.pods) agree).1)
 
   net-agree : (policy : NetPolicy) → AllByRecursion Agree (keys_of_net_policy policy) → net_selects policy p ≡ net_selects policy q
   net-agree policy agree =
@@ -94,28 +97,32 @@ module _ (lists : EstateLists) (p q : PodEnd) (alike : AreAlikePods lists p q) w
       ∙ ap (λ b. bytes_eq policy.namespace q.namespace && b) (selector-agree p.labels q.labels policy.subject subject.0)
 
   -- the subject's keys stand first among those of a policy
-  subject-first : (subject : Subject) (ingress egress : List AdminRule) → AllByRecursion Agree (keys_of_subject subject ++ flat_map keys_of_admin_rule ingress ++ flat_map keys_of_admin_rule egress) → subject_selects subject p ≡ subject_selects subject q
+  subject-first : (subject : Subject) (ingress egress : List AdminRule) → AllByRecursion Agree (keys_of_subject subject ++ flat_map keys_of_admin_rule ingress ++ flat_map keys_of_admin_rule egress) →
+      subject_selects subject p ≡ subject_selects subject q
   subject-first subject ingress egress agree =
       let front = All-parts Agree (keys_of_subject subject ++ flat_map keys_of_admin_rule ingress) (flat_map keys_of_admin_rule egress) agree in
       subject-agree subject (All-parts Agree (keys_of_subject subject) (flat_map keys_of_admin_rule ingress) front.0).0
 
   -- ---- the same rules speak of both
 
-  admin_places-agree : (direction : Direction) (policies : List AdminPolicy) → AllByRecursion Agree (flat_map keys_of_admin_policy policies) → admin_places policies direction p ≡ admin_places policies direction q
+  admin_places-agree : (direction : Direction) (policies : List AdminPolicy) → AllByRecursion Agree (flat_map keys_of_admin_policy policies) →
+      admin_places policies direction p ≡ admin_places policies direction q
   admin_places-agree direction [] agree = refl
   admin_places-agree direction (policy ∷ policies) agree =
       let parts = All-parts Agree (keys_of_admin_policy policy) (flat_map keys_of_admin_policy policies) agree in
       ap (λ b. (if b then admin_places_of direction policy else []) ++ admin_places policies direction p) (subject-first policy.subject policy.ingress policy.egress parts.0)
       ∙ ap (λ rest. (if subject_selects policy.subject q then admin_places_of direction policy else []) ++ rest) (admin_places-agree direction policies parts.1)
 
-  net_places-agree : (direction : Direction) (policies : List NetPolicy) → AllByRecursion Agree (flat_map keys_of_net_policy policies) → net_places policies direction p ≡ net_places policies direction q
+  net_places-agree : (direction : Direction) (policies : List NetPolicy) → AllByRecursion Agree (flat_map keys_of_net_policy policies) →
+      net_places policies direction p ≡ net_places policies direction q
   net_places-agree direction [] agree = refl
   net_places-agree direction (policy ∷ policies) agree =
       let parts = All-parts Agree (keys_of_net_policy policy) (flat_map keys_of_net_policy policies) agree in
       ap (λ b. (if b then net_places_of direction policy else []) ++ net_places policies direction p) (net-agree policy parts.0)
       ∙ ap (λ rest. (if net_selects policy q then net_places_of direction policy else []) ++ rest) (net_places-agree direction policies parts.1)
 
-  isolated-agree : (direction : Direction) (policies : List NetPolicy) → AllByRecursion Agree (flat_map keys_of_net_policy policies) → is_isolated policies direction p ≡ is_isolated policies direction q
+  isolated-agree : (direction : Direction) (policies : List NetPolicy) → AllByRecursion Agree (flat_map keys_of_net_policy policies) →
+      is_isolated policies direction p ≡ is_isolated policies direction q
   isolated-agree direction [] agree = refl
   isolated-agree direction (policy ∷ policies) agree =
       let parts = All-parts Agree (keys_of_net_policy policy) (flat_map keys_of_net_policy policies) agree in
@@ -125,7 +132,8 @@ module _ (lists : EstateLists) (p q : PodEnd) (alike : AreAlikePods lists p q) w
   base_places-agree : (direction : Direction) (baseline : Option BasePolicy) → AllByRecursion Agree (keys_of_baseline baseline) → base_places baseline direction p ≡ base_places baseline direction q
   base_places-agree direction None agree = refl
   base_places-agree direction (Some policy) agree =
-      ap (λ b. if b then map (λ numbered. record { place = numbered.0; rule = numbered.1 }) (enumerate_from 0 (base_rules_of direction policy)) else []) (subject-first policy.subject policy.ingress policy.egress agree)
+      ap (λ b. if b then map (λ numbered. record { place = numbered.0; rule = numbered.1 }) (enumerate_from 0 (base_rules_of direction policy)) else [])
+      (subject-first policy.subject policy.ingress policy.egress agree)
 
   -- the keys of each tier
   record TierKeys : Type 0 where
@@ -183,25 +191,31 @@ module _ (lists : EstateLists) (p q : PodEnd) (alike : AreAlikePods lists p q) w
     admin-agree =
         ap (λ places. least_by admin_precedes (filter (λ placed. admin_rule_matches placed.rule one) places)) (admin_places-agree direction lists.admin_policies tier_keys.admin)
         ∙ ap (least_by admin_precedes)
-        (filter-same (λ placed. admin_rule_matches placed.rule one) (λ placed. admin_rule_matches placed.rule other) (admin_places lists.admin_policies direction q) (All-each _ (λ placed. admin_rule-agree placed.rule) (admin_places lists.admin_policies direction q)))
+        (filter-same (λ placed. admin_rule_matches placed.rule one) (λ placed. admin_rule_matches placed.rule other) (admin_places lists.admin_policies direction q)
+        (All-each _ (λ placed. admin_rule-agree placed.rule) (admin_places lists.admin_policies direction q)))
 
     permits-agree : permits lists.net_policies direction p one ≡ permits lists.net_policies direction q other
     permits-agree =
         ap (λ places. list_any (placed_net_matches one) places) (net_places-agree direction lists.net_policies tier_keys.net)
-        ∙ list_any-same (placed_net_matches one) (placed_net_matches other) (net_places lists.net_policies direction q) (All-each _ (λ placed. net_rule-agree placed.policy.namespace placed.rule) (net_places lists.net_policies direction q))
+        ∙ list_any-same (placed_net_matches one) (placed_net_matches other) (net_places lists.net_policies direction q)
+        (All-each _ (λ placed. net_rule-agree placed.policy.namespace placed.rule) (net_places lists.net_policies direction q))
 
     base-agree : base_decider lists.baseline direction p one ≡ base_decider lists.baseline direction q other
     base-agree =
         ap (λ places. find (λ placed. admin_rule_matches placed.rule one) places) (base_places-agree direction lists.baseline tier_keys.base)
-        ∙ find-same (λ placed. admin_rule_matches placed.rule one) (λ placed. admin_rule_matches placed.rule other) (base_places lists.baseline direction q) (All-each _ (λ placed. admin_rule-agree placed.rule) (base_places lists.baseline direction q))
+        ∙ find-same (λ placed. admin_rule_matches placed.rule one) (λ placed. admin_rule_matches placed.rule other) (base_places lists.baseline direction q)
+        (All-each _ (λ placed. admin_rule-agree placed.rule) (base_places lists.baseline direction q))
 
     pub allows-agree : side_allows lists direction p one ≡ side_allows lists direction q other
     unfolding side_allows
     allows-agree =
         ap (λ decides. admin_says decides (lower_allows lists direction p one)) admin-agree
-        ∙ ap (λ isolated. admin_says (admin_decider lists.admin_policies direction q other) (if isolated then permits lists.net_policies direction p one else base_says (base_decider lists.baseline direction p one))) (isolated-agree direction lists.net_policies tier_keys.net)
-        ∙ ap (λ allowed. admin_says (admin_decider lists.admin_policies direction q other) (if is_isolated lists.net_policies direction q then allowed else base_says (base_decider lists.baseline direction p one))) permits-agree
-        ∙ ap (λ decides. admin_says (admin_decider lists.admin_policies direction q other) (if is_isolated lists.net_policies direction q then permits lists.net_policies direction q other else base_says decides)) base-agree
+        ∙ ap (λ isolated. admin_says (admin_decider lists.admin_policies direction q other)
+        (if isolated then permits lists.net_policies direction p one else base_says (base_decider lists.baseline direction p one))) (isolated-agree direction lists.net_policies tier_keys.net)
+        ∙ ap (λ allowed. admin_says (admin_decider lists.admin_policies direction q other)
+        (if is_isolated lists.net_policies direction q then allowed else base_says (base_decider lists.baseline direction p one))) permits-agree
+        ∙ ap (λ decides. admin_says (admin_decider lists.admin_policies direction q other)
+        (if is_isolated lists.net_policies direction q then permits lists.net_policies direction q other else base_says decides)) base-agree
 
 -- ---- two pods by their places
 
@@ -210,7 +224,12 @@ module _ (lists : EstateLists) (p q : ℕ) (direction : Direction) (alike : AreA
   unfolding mentions
   mentions-agree =
       let keys = tier_keys lists (pod_at lists p) (pod_at lists q) alike in
-      rw (admin_places-agree lists (pod_at lists p) (pod_at lists q) alike direction lists.admin_policies keys.admin, net_places-agree lists (pod_at lists p) (pod_at lists q) alike direction lists.net_policies keys.net, base_places-agree lists (pod_at lists p) (pod_at lists q) alike direction lists.baseline keys.base) refl
+      rw (
+        admin_places-agree lists (pod_at lists p) (pod_at lists q) alike direction lists.admin_policies keys.admin,
+        net_places-agree lists (pod_at lists p)
+            (pod_at lists q) alike direction lists.net_policies keys.net,
+        base_places-agree lists (pod_at lists p) (pod_at lists q) alike direction lists.baseline keys.base,
+      ) refl
 
   pub exposes-agree : (s : Stranger) (spot : PortSpot) → exposes (side_of lists p direction) s spot ≡ exposes (side_of lists q direction) s spot
   exposes-agree s spot = allows-agree lists (pod_at lists p) (pod_at lists q) alike direction s spot

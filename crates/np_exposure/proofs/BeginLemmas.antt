@@ -1,5 +1,6 @@
 -- The choices at first are those of nothing assumed.
-use Rattle.std.proofs.Common.{◌≡◌, ℕ, ◌<◌, List, [], ◌∷◌, ◌++◌, length, map, filter, flat_map, fold, Bool, true, false, not, cond, ◌||◌, Option, Some, None, is_some, codes, refl, sym, ap, ◌∙◌, subst, inl, inr, ◌⊎◌, arith, if◌then◌else◌}
+use Rattle.std.proofs.Common.{◌≡◌, ℕ, ◌<◌, List, [], ◌∷◌, ◌++◌, length, map, filter, flat_map, fold, Bool, true, false, not, cond, ◌||◌, Option, Some, None, is_some, codes, refl, sym, ap, ◌∙◌, subst}
+use Rattle.std.proofs.Common.{inl, inr, ◌⊎◌, arith, if◌then◌else◌}
 use Rattle.std.specs.List.{AllByRecursion, list_all, list_any}
 use Rattle.std.specs.Str.{bytes_eq}
 use Rattle.std.specs.Cmp.Lexicographic.{bytes_decides, nat_list_eq_equiv}
@@ -52,7 +53,8 @@ known-among : (made : List SidedRequirement) (asked : SidedRequirement) → list
 known-among [] asked known = absurd (false≢true known)
 known-among (one ∷ made) asked known = by (or_cases (is_same one asked) (list_any (λ other. is_same other asked) made) known) (known-among made asked)
   where
-    by : (is_same one asked ≡ true) ⊎ (list_any (λ other. is_same other asked) made ≡ true) → (list_any (λ other. is_same other asked) made ≡ true → IsAmong asked made) → (asked ≡ one) ⊎ IsAmong asked made
+    by : (is_same one asked ≡ true) ⊎ (list_any (λ other. is_same other asked) made ≡ true) → (list_any (λ other. is_same other asked) made ≡ true → IsAmong asked made) →
+        (asked ≡ one) ⊎ IsAmong asked made
     by (inl same) rest = inl (sym (is_same-equal one asked same))
     by (inr later) rest = inr (rest later)
 
@@ -130,7 +132,8 @@ allows-unlisted Absent values a b one two = refl
 
 -- ---- the values that are mentioned with a key
 
-listed-flat : (asked : SidedRequirement) (all : List SidedRequirement) (value : List ℕ) → IsAmong asked all → is_listed asked.requirement.values value ≡ true → is_listed (flat_map (λ one. one.requirement.values) all) value ≡ true
+listed-flat : (asked : SidedRequirement) (all : List SidedRequirement) (value : List ℕ) → IsAmong asked all → is_listed asked.requirement.values value ≡ true →
+    is_listed (flat_map (λ one. one.requirement.values) all) value ≡ true
 listed-flat asked [] value among listed = absurd among
 listed-flat asked (one ∷ all) value (inl same) listed =
     list_any-append (λ other. bytes_eq other value) one.requirement.values (flat_map (λ other. other.requirement.values) all)
@@ -143,7 +146,8 @@ listed-flat asked (one ∷ all) value (inr among) listed =
     by true rest = refl
     by false rest = rest
 
-values-within : (side : Side) (key : List ℕ) (all : List SidedRequirement) (asked : SidedRequirement) (value : List ℕ) → IsAmong asked all → looks_at side key asked ≡ true → is_listed (values_at side key all) value ≡ false → is_listed asked.requirement.values value ≡ false
+values-within : (side : Side) (key : List ℕ) (all : List SidedRequirement) (asked : SidedRequirement) (value : List ℕ) → IsAmong asked all → looks_at side key asked ≡ true →
+    is_listed (values_at side key all) value ≡ false → is_listed asked.requirement.values value ≡ false
 unfolding values_at
 values-within side key all asked value among looks unlisted = by (is_listed asked.requirement.values value) refl
   where
@@ -159,7 +163,8 @@ IsAmong-value : (values : List (List ℕ)) (value : List ℕ) (rest : List (Opti
 IsAmong-value [] value rest listed = absurd (false≢true listed)
 IsAmong-value (one ∷ values) value rest listed = by (or_cases (bytes_eq one value) (is_listed values value) listed) (IsAmong-value values value rest)
   where
-    by : (bytes_eq one value ≡ true) ⊎ (is_listed values value ≡ true) → (is_listed values value ≡ true → IsAmong (Some value) (map Some values ++ rest)) → (Some value ≡ Some one) ⊎ IsAmong (Some value) (map Some values ++ rest)
+    by : (bytes_eq one value ≡ true) ⊎ (is_listed values value ≡ true) → (is_listed values value ≡ true → IsAmong (Some value) (map Some values ++ rest)) →
+        (Some value ≡ Some one) ⊎ IsAmong (Some value) (map Some values ++ rest)
     by (inl same) later = inl (ap Some (sym ((bytes_decides one value).0 same)))
     by (inr there) later = inr (later there)
 
@@ -199,7 +204,8 @@ name-some s Namespace key named is =
     subst (λ (k : List ℕ). is_some (value_of s.namespace k) ≡ true) (sym ((bytes_decides key (codes "kubernetes.io/metadata.name")).0 is)) named
 name-some s Pod key named is = absurd (false≢true is)
 
-likes-side : (all : List SidedRequirement) (s : Stranger) (side : Side) (keys : List (List ℕ)) → is_hypothetical s ≡ true → AllByRecursion (HasLike all s) (map choices_of (map (label_at side all) keys))
+likes-side : (all : List SidedRequirement) (s : Stranger) (side : Side) (keys : List (List ℕ)) → is_hypothetical s ≡ true →
+    AllByRecursion (HasLike all s) (map choices_of (map (label_at side all) keys))
 likes-side all s side [] named = tt
 likes-side all s side (key ∷ keys) named =
     (like-found all side key (value_of (labels_at side s) key) (name-some s side key named), likes-side all s side keys named)
@@ -210,11 +216,14 @@ All-append P (x ∷ xs) ys left right = (left.0, All-append P xs ys left.1 right
 
 -- ---- each requirement looks at a key
 
-side-at : (all : List SidedRequirement) (side : Side) (keys : List (List ℕ)) (asked : SidedRequirement) → same_side asked.side side ≡ true → is_listed keys asked.requirement.key ≡ true → is_at (map choices_of (map (label_at side all) keys)) asked ≡ true
+side-at : (all : List SidedRequirement) (side : Side) (keys : List (List ℕ)) (asked : SidedRequirement) → same_side asked.side side ≡ true → is_listed keys asked.requirement.key ≡ true →
+    is_at (map choices_of (map (label_at side all) keys)) asked ≡ true
 side-at all side [] asked of listed = absurd (false≢true listed)
 side-at all side (key ∷ keys) asked of listed = by (or_cases (bytes_eq key asked.requirement.key) (is_listed keys asked.requirement.key) listed) (side-at all side keys asked of)
   where
-    by : (bytes_eq key asked.requirement.key ≡ true) ⊎ (is_listed keys asked.requirement.key ≡ true) → (is_listed keys asked.requirement.key ≡ true → is_at (map choices_of (map (label_at side all) keys)) asked ≡ true) → (looks_at side key asked || is_at (map choices_of (map (label_at side all) keys)) asked) ≡ true
+    by : (bytes_eq key asked.requirement.key ≡ true) ⊎ (is_listed keys asked.requirement.key ≡ true) →
+        (is_listed keys asked.requirement.key ≡ true → is_at (map choices_of (map (label_at side all) keys)) asked ≡ true) →
+        (looks_at side key asked || is_at (map choices_of (map (label_at side all) keys)) asked) ≡ true
     by (inl same) rest = rw (and_from (same_side asked.side side) (bytes_eq asked.requirement.key key) of (nat_list_eq_equiv.symm asked.requirement.key key ∙ same)) refl
     by (inr there) rest = or-true (looks_at side key asked) (rest there)
       where
@@ -225,7 +234,8 @@ side-at all side (key ∷ keys) asked of listed = by (or_cases (bytes_eq key ask
 key-listed : (asked : SidedRequirement) (all : List SidedRequirement) → IsAmong asked all → is_listed (map (λ one. one.requirement.key) all) asked.requirement.key ≡ true
 key-listed asked [] among = absurd among
 key-listed asked (one ∷ all) (inl same) =
-    ap (λ b. b || is_listed (map (λ other. other.requirement.key) all) asked.requirement.key) ((bytes_decides one.requirement.key asked.requirement.key).1 (ap (λ (x : SidedRequirement). x.requirement.key) (sym same)))
+    ap (λ b. b || is_listed (map (λ other. other.requirement.key) all) asked.requirement.key)
+    ((bytes_decides one.requirement.key asked.requirement.key).1 (ap (λ (x : SidedRequirement). x.requirement.key) (sym same)))
 key-listed asked (one ∷ all) (inr among) = by (bytes_eq one.requirement.key asked.requirement.key) (key-listed asked all among)
   where
     by : (b : Bool) → is_listed (map (λ other. other.requirement.key) all) asked.requirement.key ≡ true → (b || is_listed (map (λ other. other.requirement.key) all) asked.requirement.key) ≡ true
@@ -274,7 +284,8 @@ Stands-first all = record {
   complete = λ s is.
       let named = (and_parts (is_hypothetical s) (meets_all [] s) is).0 in
       subst (AllByRecursion (HasLike all s)) (sym (first-parts all))
-      (All-append (HasLike all s) (map choices_of (labels_on Namespace all)) (map choices_of (labels_on Pod all)) (likes-side all s Namespace (keys_on Namespace all) named) (likes-side all s Pod (keys_on Pod all) named));
+      (All-append (HasLike all s) (map choices_of (labels_on Namespace all)) (map choices_of (labels_on Pod all)) (likes-side all s Namespace (keys_on Namespace all) named)
+      (likes-side all s Pod (keys_on Pod all) named));
   sound = nothing-fits (choices_at_first all);
   covers = list_all-from (is_at (choices_at_first all)) all (is_at-first all);
   known = refl;
@@ -283,7 +294,8 @@ Stands-first all = record {
 }
 
 -- the rows that are walked are the rows of the side
-pub walked-rows_of : (side walked : PodSide) (all : List SidedRequirement) (rows : List ExposureRow) → walked ≡ side → all ≡ mentions side → AreWalked walked (each_once all) (choices_at_first all) rows → AreRowsOf side rows
+pub walked-rows_of : (side walked : PodSide) (all : List SidedRequirement) (rows : List ExposureRow) → walked ≡ side → all ≡ mentions side →
+    AreWalked walked (each_once all) (choices_at_first all) rows → AreRowsOf side rows
 walked-rows_of side walked all rows same is are =
     let here = subst (λ (p : PodSide). AreWalked p (each_once all) (choices_at_first all) rows) same are in
     let there = subst (λ (ms : List SidedRequirement). AreWalked side (each_once ms) (choices_at_first ms) rows) is here in

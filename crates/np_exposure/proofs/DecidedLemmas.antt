@@ -55,14 +55,16 @@ module _ (asked : SidedRequirement) where
           → (is_at state asked ≡ true → (can_be true asked state && can_be false asked state) ≡ false)
           → (can_be true asked (choices ∷ state) && can_be false asked (choices ∷ state)) ≡ false
       by true looks here one rest =
-          none-behind (list_any (suits true asked choices) choices.found) (list_any (suits false asked choices) choices.found) (can_be true asked state) (can_be false asked state) (one-choice choices choices.found looks one)
+          none-behind (list_any (suits true asked choices) choices.found) (list_any (suits false asked choices) choices.found) (can_be true asked state) (can_be false asked state)
+          (one-choice choices choices.found looks one)
       by false looks there one rest =
           none-before (list_any (suits true asked choices) choices.found) (list_any (suits false asked choices) choices.found) (can_be true asked state) (can_be false asked state) (rest there)
 
 -- ---- the walk
 
 -- the rows of a leaf are those of all requirements that are left
-decided-walk : (side : PodSide) (left : List SidedRequirement) (state : List Choices) (rows : List ExposureRow) → IsState state → is_decided state ≡ true → are_at state left ≡ true → IsLeaf side state rows → AreWalked side left state rows
+decided-walk : (side : PodSide) (left : List SidedRequirement) (state : List Choices) (rows : List ExposureRow) → IsState state → is_decided state ≡ true → are_at state left ≡ true →
+    IsLeaf side state rows → AreWalked side left state rows
 unfolding AreWalked
 decided-walk side [] state rows is decided at leaf = leaf
 decided-walk side (asked ∷ left) state rows is decided at leaf =
@@ -70,7 +72,8 @@ decided-walk side (asked ∷ left) state rows is decided at leaf =
     walked-alone side asked left state state rows (alone-step asked state is (can_be true asked state) (can_be false asked state) refl refl (decided-alone asked state decided parts.0))
     (decided-walk side left state rows is decided parts.1 leaf)
 
-still-walked : (side : PodSide) (left : List SidedRequirement) (state : List Choices) (rows : List ExposureRow) → IsState state → are_at state left ≡ true → AreWalked side (still_asked left state) state rows → AreWalked side left state rows
+still-walked : (side : PodSide) (left : List SidedRequirement) (state : List Choices) (rows : List ExposureRow) → IsState state → are_at state left ≡ true →
+    AreWalked side (still_asked left state) state rows → AreWalked side left state rows
 unfolding AreWalked
 still-walked side left state rows is at = by (is_decided state) refl
   where
@@ -79,7 +82,8 @@ still-walked side left state rows is at = by (is_decided state) refl
     by false more walked = walked
 
 -- the requirements that are still asked are enough
-pub filled-still : (side : PodSide) (left more : List SidedRequirement) (state seen : List Choices) (pending : List Pending) (All : List ExposureRow → Type 0) → IsState state → are_at state left ≡ true → seen ≡ state → more ≡ still_asked left seen → IsFilled side pending left state All → IsFilled side pending more state All
+pub filled-still : (side : PodSide) (left more : List SidedRequirement) (state seen : List Choices) (pending : List Pending) (All : List ExposureRow → Type 0) → IsState state →
+    are_at state left ≡ true → seen ≡ state → more ≡ still_asked left seen → IsFilled side pending left state All → IsFilled side pending more state All
 filled-still side left more state seen pending All is at same still filled rows made walked fills =
     filled rows made
     (still-walked side left state rows is at
@@ -108,7 +112,8 @@ still-short left more seen still = by (is_decided seen) still
     by false same = let e = ap length same in omega arith
 
 -- what is left of the choices behind a requirement is at the same keys
-pub step-at : (asked : SidedRequirement) (left rest : List SidedRequirement) (state next : List Choices) (aside : Option Aside) → left ≡ asked ∷ rest → IsStepTo asked state next aside → are_at state left ≡ true → are_at next rest ≡ true
+pub step-at : (asked : SidedRequirement) (left rest : List SidedRequirement) (state next : List Choices) (aside : Option Aside) → left ≡ asked ∷ rest → IsStepTo asked state next aside →
+    are_at state left ≡ true → are_at next rest ≡ true
 step-at asked left rest state next aside is step at = by aside step
   where
     behind : are_at state rest ≡ true
@@ -118,7 +123,8 @@ step-at asked left rest state next aside is step at = by aside step
     by None only = ap (λ (s : List Choices). are_at s rest) only.3 ∙ all_at-narrowed only.0 asked state rest behind
     by (Some put) both = ap (λ (s : List Choices). are_at s rest) both.3 ∙ all_at-narrowed (not put.wanted) asked state rest behind
 
-pub aside-at : (asked : SidedRequirement) (left rest : List SidedRequirement) (state next : List Choices) (aside : Option Aside) (put : Aside) → left ≡ asked ∷ rest → aside ≡ Some put → IsStepTo asked state next aside → are_at state left ≡ true → are_at put.state.items rest ≡ true
+pub aside-at : (asked : SidedRequirement) (left rest : List SidedRequirement) (state next : List Choices) (aside : Option Aside) (put : Aside) → left ≡ asked ∷ rest → aside ≡ Some put →
+    IsStepTo asked state next aside → are_at state left ≡ true → are_at put.state.items rest ≡ true
 aside-at asked left rest state next aside put is some step at =
     let both = subst (IsStepTo asked state next) some step in
     let behind = (and_parts (is_at state asked) (are_at state rest) (ap (are_at state) (sym is) ∙ at)).1 in

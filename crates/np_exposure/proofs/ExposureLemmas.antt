@@ -28,16 +28,16 @@ use Rattle.np_model.specs.declared.network_policy.NetPeer.TheVariants as net
 use Rattle.np_model.specs.declared.network_policy.NetPort.{NetPort}
 use Rattle.np_model.specs.declared.network_policy.NetPort.TheVariants as net_port
 use Rattle.np_model.specs.declared.network_policy.NetRule.{NetRule}
-use Rattle.np_rules.specs.AdminTier.{admin_decider, admin_precedes, least_by}
-use Rattle.np_rules.specs.BaseTier.{base_decider}
-use Rattle.np_rules.specs.Ends.{Contact, PodEnd, destination_of, pod, stranger_end}
-use Rattle.np_rules.specs.NetTier.{is_isolated, permits, placed_net_matches}
-use Rattle.np_rules.specs.Peers.{admin_peer_matches, net_peer_matches, pods_match}
-use Rattle.np_rules.specs.Places.{admin_places, base_places, net_places}
+use Rattle.np_rules.specs.model.AdminTier.{admin_decider, admin_precedes, least_by}
+use Rattle.np_rules.specs.model.BaseTier.{base_decider}
+use Rattle.np_rules.specs.model.Ends.{Contact, PodEnd, destination_of, pod, stranger_end}
+use Rattle.np_rules.specs.model.NetTier.{is_isolated, permits, placed_net_matches}
+use Rattle.np_rules.specs.model.Peers.{admin_peer_matches, net_peer_matches, pods_match}
+use Rattle.np_rules.specs.model.Places.{admin_places, base_places, net_places}
 use Rattle.np_rules.specs.PodSides.{PodSide, near_pod, with_stranger}
-use Rattle.np_rules.specs.PortEntries.{admin_entry_matches, net_entry_matches}
-use Rattle.np_rules.specs.Rules.{admin_rule_matches, net_rule_matches, none_or_any}
-use Rattle.np_rules.specs.Sides.{admin_says, base_says, lower_allows, side_allows}
+use Rattle.np_rules.specs.model.PortEntries.{admin_entry_matches, net_entry_matches}
+use Rattle.np_rules.specs.model.Rules.{admin_rule_matches, net_rule_matches, none_or_any}
+use Rattle.np_rules.specs.model.Sides.{admin_says, base_says, lower_allows, side_allows}
 use Rattle.np_rules.specs.declared.stranger.Stranger.{Stranger}
 
 or_false : (b : Bool) → (b || false) ≡ b
@@ -45,7 +45,8 @@ or_false true = refl
 or_false false = refl
 
 -- names of which both or neither is this one
-names-same : (namespace : List ℕ) (a b : Option (List ℕ)) → is_some a ≡ true → is_some b ≡ true → allows OneOf (namespace ∷ []) a ≡ allows OneOf (namespace ∷ []) b → bytes_eq namespace (unwrap_or a []) ≡ bytes_eq namespace (unwrap_or b [])
+names-same : (namespace : List ℕ) (a b : Option (List ℕ)) → is_some a ≡ true → is_some b ≡ true → allows OneOf (namespace ∷ []) a ≡ allows OneOf (namespace ∷ []) b →
+    bytes_eq namespace (unwrap_or a []) ≡ bytes_eq namespace (unwrap_or b [])
 names-same namespace None b some some' same = absurd (false≢true some)
 names-same namespace (Some v) None some some' same = absurd (false≢true some')
 names-same namespace (Some v) (Some u) some some' same = sym (or_false (bytes_eq namespace v)) ∙ same ∙ or_false (bytes_eq namespace u)
@@ -57,7 +58,8 @@ Agree s t asked = meets asked s ≡ meets asked t
 module _ (s t : Stranger) (first : is_hypothetical s ≡ true) (second : is_hypothetical t ≡ true) where
   -- ---- selectors
 
-  requirements-same : (side : Side) (requirements : List Requirement) → AllByRecursion (Agree s t) (map (λ requirement. record { side = side; requirement = requirement }) requirements) → list_all (λ requirement. meets_requirement requirement (labels_at side s)) requirements ≡ list_all (λ requirement. meets_requirement requirement (labels_at side t)) requirements
+  requirements-same : (side : Side) (requirements : List Requirement) → AllByRecursion (Agree s t) (map (λ requirement. record { side = side; requirement = requirement }) requirements) →
+      list_all (λ requirement. meets_requirement requirement (labels_at side s)) requirements ≡ list_all (λ requirement. meets_requirement requirement (labels_at side t)) requirements
   requirements-same side [] agree = refl
   requirements-same side (requirement ∷ requirements) agree =
       ap (λ b. b && list_all (λ one. meets_requirement one (labels_at side s)) requirements) agree.0
@@ -71,7 +73,8 @@ module _ (s t : Stranger) (first : is_hypothetical s ≡ true) (second : is_hypo
 
   -- ---- peers
 
-  pods-same : (namespace : List ℕ) (namespaces pods : Option Selector) → AllByRecursion (Agree s t) (of_net_peer namespace (net.Pods namespaces pods)) → pods_match namespace namespaces pods (stranger_end s) ≡ pods_match namespace namespaces pods (stranger_end t)
+  pods-same : (namespace : List ℕ) (namespaces pods : Option Selector) → AllByRecursion (Agree s t) (of_net_peer namespace (net.Pods namespaces pods)) →
+      pods_match namespace namespaces pods (stranger_end s) ≡ pods_match namespace namespaces pods (stranger_end t)
   pods-same namespace None None agree = refl
   pods-same namespace None (Some pods) agree =
       ap (λ b. b && meets_selector pods s.labels) (named-same namespace agree.0) ∙ ap (λ b. bytes_eq namespace (stranger_end t).namespace && b) (selector-same Pod pods agree.1)
@@ -80,7 +83,8 @@ module _ (s t : Stranger) (first : is_hypothetical s ≡ true) (second : is_hypo
       let parts = All-parts (Agree s t) (of_selector Namespace namespaces) (of_selector Pod pods) agree in
       ap (λ b. b && meets_selector pods s.labels) (selector-same Namespace namespaces parts.0) ∙ ap (λ b. meets_selector namespaces t.namespace && b) (selector-same Pod pods parts.1)
 
-  net_peer-same : (namespace : List ℕ) (peer : NetPeer) → AllByRecursion (Agree s t) (of_net_peer namespace peer) → net_peer_matches namespace peer (pod (stranger_end s)) ≡ net_peer_matches namespace peer (pod (stranger_end t))
+  net_peer-same : (namespace : List ℕ) (peer : NetPeer) → AllByRecursion (Agree s t) (of_net_peer namespace peer) →
+      net_peer_matches namespace peer (pod (stranger_end s)) ≡ net_peer_matches namespace peer (pod (stranger_end t))
   net_peer-same namespace (net.Pods namespaces pods) agree = pods-same namespace namespaces pods agree
   net_peer-same namespace (net.Block cidr excepts) agree = refl
 
@@ -92,12 +96,14 @@ module _ (s t : Stranger) (first : is_hypothetical s ≡ true) (second : is_hypo
 
   -- ---- ports, where the packet goes to the near pod or to a stranger, who has no named ports
 
-  net_entry-same : (direction : Direction) (near : PodEnd) (spot : PortSpot) (entry : NetPort) → net_entry_matches entry (destination_of direction (pod near) (pod (stranger_end s))) spot ≡ net_entry_matches entry (destination_of direction (pod near) (pod (stranger_end t))) spot
+  net_entry-same : (direction : Direction) (near : PodEnd) (spot : PortSpot) (entry : NetPort) →
+      net_entry_matches entry (destination_of direction (pod near) (pod (stranger_end s))) spot ≡ net_entry_matches entry (destination_of direction (pod near) (pod (stranger_end t))) spot
   net_entry-same Ingress near spot entry = refl
   net_entry-same Egress near spot (net_port.Span proto lo hi) = refl
   net_entry-same Egress near spot (net_port.Named proto port) = refl
 
-  admin_entry-same : (direction : Direction) (near : PodEnd) (spot : PortSpot) (entry : AdminPort) → admin_entry_matches entry (destination_of direction (pod near) (pod (stranger_end s))) spot ≡ admin_entry_matches entry (destination_of direction (pod near) (pod (stranger_end t))) spot
+  admin_entry-same : (direction : Direction) (near : PodEnd) (spot : PortSpot) (entry : AdminPort) →
+      admin_entry_matches entry (destination_of direction (pod near) (pod (stranger_end s))) spot ≡ admin_entry_matches entry (destination_of direction (pod near) (pod (stranger_end t))) spot
   admin_entry-same Ingress near spot entry = refl
   admin_entry-same Egress near spot (admin_port.Span proto lo hi) = refl
   admin_entry-same Egress near spot (admin_port.Named port) = refl
@@ -115,46 +121,60 @@ module _ (s t : Stranger) (first : is_hypothetical s ≡ true) (second : is_hypo
     admin_rule-same rule agree =
         ap (λ b. b && none_or_any (λ entry. admin_entry_matches entry one.destination spot) rule.ports)
         (list_any-same (λ peer. admin_peer_matches peer one.far Four) (λ peer. admin_peer_matches peer other.far Four) rule.peers
-        (All-weaker (λ peer. AllByRecursion (Agree s t) (of_admin_peer peer)) (λ peer. admin_peer_matches peer one.far Four ≡ admin_peer_matches peer other.far Four) admin_peer-same rule.peers (All-flat (Agree s t) of_admin_peer rule.peers agree)))
+        (All-weaker (λ peer. AllByRecursion (Agree s t) (of_admin_peer peer)) (λ peer. admin_peer_matches peer one.far Four ≡ admin_peer_matches peer other.far Four) admin_peer-same rule.peers
+        (All-flat (Agree s t) of_admin_peer rule.peers agree)))
         ∙ ap (λ b. list_any (λ peer. admin_peer_matches peer other.far Four) rule.peers && b)
-        (none_or_any-same (λ entry. admin_entry_matches entry one.destination spot) (λ entry. admin_entry_matches entry other.destination spot) rule.ports (All-each _ (admin_entry-same side.direction (near_pod side) spot) rule.ports))
+        (none_or_any-same (λ entry. admin_entry_matches entry one.destination spot) (λ entry. admin_entry_matches entry other.destination spot) rule.ports
+        (All-each _ (admin_entry-same side.direction (near_pod side) spot) rule.ports))
 
     net_rule-same : (namespace : List ℕ) (rule : NetRule) → AllByRecursion (Agree s t) (of_net_rule namespace rule) → net_rule_matches namespace rule one ≡ net_rule_matches namespace rule other
     net_rule-same namespace rule agree =
         ap (λ b. b && none_or_any (λ entry. net_entry_matches entry one.destination spot) rule.ports)
         (none_or_any-same (λ peer. net_peer_matches namespace peer one.far) (λ peer. net_peer_matches namespace peer other.far) rule.peers
-        (All-weaker (λ peer. AllByRecursion (Agree s t) (of_net_peer namespace peer)) (λ peer. net_peer_matches namespace peer one.far ≡ net_peer_matches namespace peer other.far) (net_peer-same namespace) rule.peers (All-flat (Agree s t) (of_net_peer namespace) rule.peers agree)))
+        (All-weaker (λ peer. AllByRecursion (Agree s t) (of_net_peer namespace peer)) (λ peer. net_peer_matches namespace peer one.far ≡ net_peer_matches namespace peer other.far)
+        (net_peer-same namespace) rule.peers (All-flat (Agree s t) (of_net_peer namespace) rule.peers agree)))
         ∙ ap (λ b. none_or_any (λ peer. net_peer_matches namespace peer other.far) rule.peers && b)
-        (none_or_any-same (λ entry. net_entry_matches entry one.destination spot) (λ entry. net_entry_matches entry other.destination spot) rule.ports (All-each _ (net_entry-same side.direction (near_pod side) spot) rule.ports))
+        (none_or_any-same (λ entry. net_entry_matches entry one.destination spot) (λ entry. net_entry_matches entry other.destination spot) rule.ports
+        (All-each _ (net_entry-same side.direction (near_pod side) spot) rule.ports))
 
     -- ---- tiers
 
-    admin-same : AllByRecursion (Agree s t) (flat_map (λ placed. of_admin_rule placed.rule) (admin_places side.lists.admin_policies side.direction (near_pod side))) → admin_decider side.lists.admin_policies side.direction (near_pod side) one ≡ admin_decider side.lists.admin_policies side.direction (near_pod side) other
+    admin-same : AllByRecursion (Agree s t) (flat_map (λ placed. of_admin_rule placed.rule) (admin_places side.lists.admin_policies side.direction (near_pod side))) →
+        admin_decider side.lists.admin_policies side.direction (near_pod side) one ≡ admin_decider side.lists.admin_policies side.direction (near_pod side) other
     admin-same agree =
         let places = admin_places side.lists.admin_policies side.direction (near_pod side) in
         ap (least_by admin_precedes)
         (filter-same (λ placed. admin_rule_matches placed.rule one) (λ placed. admin_rule_matches placed.rule other) places
-        (All-weaker (λ placed. AllByRecursion (Agree s t) (of_admin_rule placed.rule)) (λ placed. admin_rule_matches placed.rule one ≡ admin_rule_matches placed.rule other) (λ placed. admin_rule-same placed.rule) places (All-flat (Agree s t) (λ placed. of_admin_rule placed.rule) places agree)))
+        (All-weaker (λ placed. AllByRecursion (Agree s t) (of_admin_rule placed.rule)) (λ placed. admin_rule_matches placed.rule one ≡ admin_rule_matches placed.rule other)
+        (λ placed. admin_rule-same placed.rule) places (All-flat (Agree s t) (λ placed. of_admin_rule placed.rule) places agree)))
 
-    net-same : AllByRecursion (Agree s t) (flat_map of_placed (net_places side.lists.net_policies side.direction (near_pod side))) → permits side.lists.net_policies side.direction (near_pod side) one ≡ permits side.lists.net_policies side.direction (near_pod side) other
+    net-same : AllByRecursion (Agree s t) (flat_map of_placed (net_places side.lists.net_policies side.direction (near_pod side))) →
+        permits side.lists.net_policies side.direction (near_pod side) one ≡ permits side.lists.net_policies side.direction (near_pod side) other
     net-same agree =
         let places = net_places side.lists.net_policies side.direction (near_pod side) in
         list_any-same (placed_net_matches one) (placed_net_matches other) places
-        (All-weaker (λ placed. AllByRecursion (Agree s t) (of_placed placed)) (λ placed. placed_net_matches one placed ≡ placed_net_matches other placed) (λ placed. net_rule-same placed.policy.namespace placed.rule) places (All-flat (Agree s t) of_placed places agree))
+        (All-weaker (λ placed. AllByRecursion (Agree s t) (of_placed placed)) (λ placed. placed_net_matches one placed ≡ placed_net_matches other placed)
+        (λ placed. net_rule-same placed.policy.namespace placed.rule) places (All-flat (Agree s t) of_placed places agree))
 
-    base-same : AllByRecursion (Agree s t) (flat_map (λ placed. of_admin_rule placed.rule) (base_places side.lists.baseline side.direction (near_pod side))) → base_decider side.lists.baseline side.direction (near_pod side) one ≡ base_decider side.lists.baseline side.direction (near_pod side) other
+    base-same : AllByRecursion (Agree s t) (flat_map (λ placed. of_admin_rule placed.rule) (base_places side.lists.baseline side.direction (near_pod side))) →
+        base_decider side.lists.baseline side.direction (near_pod side) one ≡ base_decider side.lists.baseline side.direction (near_pod side) other
     base-same agree =
         let places = base_places side.lists.baseline side.direction (near_pod side) in
         find-same (λ placed. admin_rule_matches placed.rule one) (λ placed. admin_rule_matches placed.rule other) places
-        (All-weaker (λ placed. AllByRecursion (Agree s t) (of_admin_rule placed.rule)) (λ placed. admin_rule_matches placed.rule one ≡ admin_rule_matches placed.rule other) (λ placed. admin_rule-same placed.rule) places (All-flat (Agree s t) (λ placed. of_admin_rule placed.rule) places agree))
+        (All-weaker (λ placed. AllByRecursion (Agree s t) (of_admin_rule placed.rule)) (λ placed. admin_rule_matches placed.rule one ≡ admin_rule_matches placed.rule other)
+        (λ placed. admin_rule-same placed.rule) places (All-flat (Agree s t) (λ placed. of_admin_rule placed.rule) places agree))
 
     pub exposes-same : AllByRecursion (Agree s t) (mentions side) → exposes side s spot ≡ exposes side t spot
     unfolding mentions side_allows
     exposes-same agree =
         let lists = side.lists in
         let p = near_pod side in
-        let both = All-parts (Agree s t) (flat_map (λ placed. of_admin_rule placed.rule) (admin_places lists.admin_policies side.direction p) ++ flat_map of_placed (net_places lists.net_policies side.direction p)) (flat_map (λ placed. of_admin_rule placed.rule) (base_places lists.baseline side.direction p)) agree in
-        let front = All-parts (Agree s t) (flat_map (λ placed. of_admin_rule placed.rule) (admin_places lists.admin_policies side.direction p)) (flat_map of_placed (net_places lists.net_policies side.direction p)) both.0 in
+        let both = All-parts (Agree s t) (flat_map (λ placed. of_admin_rule placed.rule) (admin_places lists.admin_policies side.direction p) ++ flat_map of_placed
+        (net_places lists.net_policies side.direction p)) (flat_map (λ placed. of_admin_rule placed.rule) (base_places lists.baseline side.direction p)) agree in
+        let front = All-parts (Agree s t) (flat_map (λ placed. of_admin_rule placed.rule) (admin_places lists.admin_policies side.direction p))
+        (flat_map of_placed (net_places lists.net_policies side.direction p)) both.0 in
         ap (λ decides. admin_says decides (lower_allows lists side.direction p one)) (admin-same front.0)
-        ∙ ap (λ allowed. admin_says (admin_decider lists.admin_policies side.direction p other) (if is_isolated lists.net_policies side.direction p then allowed else base_says (base_decider lists.baseline side.direction p one))) (net-same front.1)
-        ∙ ap (λ decides. admin_says (admin_decider lists.admin_policies side.direction p other) (if is_isolated lists.net_policies side.direction p then permits lists.net_policies side.direction p other else base_says decides)) (base-same both.1)
+        ∙ ap (λ allowed. admin_says (admin_decider lists.admin_policies side.direction p other)
+        (if is_isolated lists.net_policies side.direction p then allowed else base_says (base_decider lists.baseline side.direction p one))) (net-same front.1)
+        ∙ ap (λ decides. admin_says (admin_decider lists.admin_policies side.direction p other)
+        (if is_isolated lists.net_policies side.direction p then permits lists.net_policies side.direction p other else base_says decides)) (base-same both.1)

@@ -42,7 +42,8 @@ filter-both : {X : Type 0} (one other : X → Bool) (xs : List X) → ((x : X) �
 filter-both one other [] opposite = omega arith
 filter-both one other (x ∷ xs) opposite = by (one x) (other x) (opposite x) (filter-both one other xs opposite)
   where
-    by : (b c : Bool) → c ≡ not b → length (filter one xs) + length (filter other xs) ≡ length xs → length (cond b (x ∷ filter one xs) (filter one xs)) + length (cond c (x ∷ filter other xs) (filter other xs)) ≡ length (x ∷ xs)
+    by : (b c : Bool) → c ≡ not b → length (filter one xs) + length (filter other xs) ≡ length xs →
+        length (cond b (x ∷ filter one xs) (filter one xs)) + length (cond c (x ∷ filter other xs) (filter other xs)) ≡ length (x ∷ xs)
     by true true is rest = absurd (true≢false is)
     by true false is rest = omega arith
     by false true is rest = omega arith
@@ -52,7 +53,8 @@ module _ (asked : SidedRequirement) where
   size-narrowed : (wanted : Bool) (state : List Choices) → size (narrowed wanted asked state) ≤ size state
   size-narrowed wanted [] = omega arith
   size-narrowed wanted (choices ∷ state) =
-      mul-le (length (filter (suits wanted asked choices) choices.found)) (size (narrowed wanted asked state)) (length choices.found) (size state) (filter-fewer (suits wanted asked choices) choices.found) (size-narrowed wanted state)
+      mul-le (length (filter (suits wanted asked choices) choices.found)) (size (narrowed wanted asked state)) (length choices.found) (size state)
+      (filter-fewer (suits wanted asked choices) choices.found) (size-narrowed wanted state)
 
   suits-opposite : (choices : Choices) → looks_at choices.side choices.key asked ≡ true → (found : Option (List ℕ)) → suits false asked choices found ≡ not (suits true asked choices found)
   suits-opposite choices looks found = rw looks refl
@@ -77,13 +79,16 @@ module _ (asked : SidedRequirement) where
   size-parted [] at = absurd (false≢true at)
   size-parted (choices ∷ state) at = by (looks_at choices.side choices.key asked) refl at (size-parted state)
     where
-      by : (b : Bool) → looks_at choices.side choices.key asked ≡ b → (b || is_at state asked) ≡ true → (is_at state asked ≡ true → size (narrowed true asked state) + size (narrowed false asked state) ≤ size state)
+      by : (b : Bool) → looks_at choices.side choices.key asked ≡ b → (b || is_at state asked) ≡ true →
+          (is_at state asked ≡ true → size (narrowed true asked state) + size (narrowed false asked state) ≤ size state)
           → size (narrowed true asked (choices ∷ state)) + size (narrowed false asked (choices ∷ state)) ≤ size (choices ∷ state)
       by true looks here rest =
-          sum-below (length (filter (suits true asked choices) choices.found)) (length (filter (suits false asked choices) choices.found)) (length choices.found) (size (narrowed true asked state)) (size (narrowed false asked state)) (size state)
+          sum-below (length (filter (suits true asked choices) choices.found)) (length (filter (suits false asked choices) choices.found)) (length choices.found) (size (narrowed true asked state))
+          (size (narrowed false asked state)) (size state)
           (filter-both (suits true asked choices) (suits false asked choices) choices.found (suits-opposite choices looks)) (size-narrowed true state) (size-narrowed false state)
       by false elsewhere here rest =
-          sum-within (length (filter (suits true asked choices) choices.found)) (length (filter (suits false asked choices) choices.found)) (length choices.found) (size (narrowed true asked state)) (size (narrowed false asked state)) (size state)
+          sum-within (length (filter (suits true asked choices) choices.found)) (length (filter (suits false asked choices) choices.found)) (length choices.found) (size (narrowed true asked state))
+          (size (narrowed false asked state)) (size state)
           (filter-fewer (suits true asked choices) choices.found) (filter-fewer (suits false asked choices) choices.found) (rest here)
 
 -- ---- rows
@@ -105,7 +110,8 @@ joined-length asked met unmet rows (apart differ is) =
     rw is (omega arith)
 
 module _ (side : PodSide) where
-  few : (left assumed : List SidedRequirement) (state : List Choices) (rows : List ExposureRow) → Stands (mentions side) left assumed state → IsPossible assumed → AreRows side left assumed rows → length rows ≤ size state
+  few : (left assumed : List SidedRequirement) (state : List Choices) (rows : List ExposureRow) → Stands (mentions side) left assumed state → IsPossible assumed → AreRows side left assumed rows →
+      length rows ≤ size state
   unfolding AreRows
   few [] assumed state rows stands possible are =
       let some = size-some (mentions side) possible.0 state (stands.complete possible.0 possible.1) in
@@ -147,7 +153,8 @@ size-side all side (key ∷ keys) =
     let front = length-append (map Some values) (Some (other_than values) ∷ (if is_name_key side key then [] else None ∷ [])) in
     let mapped = length-map values (λ (value : List ℕ). Some value) in
     let absent = absent-most (is_name_key side key) in
-    mul-le (length (choices_of (label_at side all key)).found) (size (map choices_of (map (label_at side all) keys))) (patterns_at side all key) (product (map (patterns_at side all) keys)) (omega arith) (size-side all side keys)
+    mul-le (length (choices_of (label_at side all key)).found) (size (map choices_of (map (label_at side all) keys))) (patterns_at side all key) (product (map (patterns_at side all) keys))
+    (omega arith) (size-side all side keys)
 
 size-first : (all : List SidedRequirement) → size (choices_at_first all) ≤ weight all
 unfolding weight
@@ -155,8 +162,10 @@ size-first all =
     let parts : size (choices_at_first all) ≡ size (map choices_of (labels_on Namespace all)) * size (map choices_of (labels_on Pod all)) =
     ap size (first-parts all)
     ∙ ap product (map-append (λ (choices : Choices). length choices.found) (map choices_of (labels_on Namespace all)) (map choices_of (labels_on Pod all)))
-    ∙ product-append (map (λ (choices : Choices). length choices.found) (map choices_of (labels_on Namespace all))) (map (λ (choices : Choices). length choices.found) (map choices_of (labels_on Pod all))) in
-    let most = mul-le (size (map choices_of (labels_on Namespace all))) (size (map choices_of (labels_on Pod all))) (patterns_on Namespace all) (patterns_on Pod all) (size-side all Namespace (keys_on Namespace all)) (size-side all Pod (keys_on Pod all)) in
+    ∙ product-append (map (λ (choices : Choices). length choices.found) (map choices_of (labels_on Namespace all)))
+    (map (λ (choices : Choices). length choices.found) (map choices_of (labels_on Pod all))) in
+    let most = mul-le (size (map choices_of (labels_on Namespace all))) (size (map choices_of (labels_on Pod all))) (patterns_on Namespace all) (patterns_on Pod all)
+    (size-side all Namespace (keys_on Namespace all)) (size-side all Pod (keys_on Pod all)) in
     omega arith
 
 pub rows-few : (side : PodSide) (rows : List ExposureRow) → AreRowsOf side rows → length rows ≤ weight (mentions side)

@@ -5,13 +5,15 @@ use Rattle.np_exposure.specs.declared.pending.Pending.{Pending}
 use Rattle.np_exposure.specs.steps.Walks.{Fills, IsJoinedBy}
 
 -- the last that waits is filled first
-pub Fills-push : (before : List Pending) (last : Pending) (rows inner made : List ExposureRow) → IsJoinedBy last.asked.now last.wanted last.rows.items rows inner → Fills before inner made → Fills (before ++ last ∷ []) rows made
+pub Fills-push : (before : List Pending) (last : Pending) (rows inner made : List ExposureRow) → IsJoinedBy last.asked.now last.wanted last.rows.items rows inner → Fills before inner made →
+    Fills (before ++ last ∷ []) rows made
 Fills-push [] last rows inner made joined fills =
     (rows, refl, subst (λ (all : List ExposureRow). IsJoinedBy last.asked.now last.wanted last.rows.items rows all) (sym fills) joined)
 Fills-push (pending ∷ before) last rows inner made joined fills = (fills.0, Fills-push before last rows inner fills.0 joined fills.1, fills.2)
 
 -- and so what fills all is filled by the rows that it is joined to
-pub Fills-last : (before : List Pending) (last : Pending) (rows made : List ExposureRow) → Fills (before ++ last ∷ []) rows made → (inner : List ExposureRow) × IsJoinedBy last.asked.now last.wanted last.rows.items rows inner × Fills before inner made
+pub Fills-last : (before : List Pending) (last : Pending) (rows made : List ExposureRow) → Fills (before ++ last ∷ []) rows made →
+    (inner : List ExposureRow) × IsJoinedBy last.asked.now last.wanted last.rows.items rows inner × Fills before inner made
 Fills-last [] last rows made fills =
     (made, subst (λ (all : List ExposureRow). IsJoinedBy last.asked.now last.wanted last.rows.items all made) fills.1 fills.2, refl)
 Fills-last (pending ∷ before) last rows made fills =

@@ -75,12 +75,15 @@ all-append test (x ∷ xs) ys front back =
     let parts = and_parts (test x) (list_all test xs) front in
     and_from (test x) (list_all test (xs ++ ys)) parts.0 (all-append test xs ys parts.1 back)
 
-both-apart : (all : List SidedRequirement) (keys others : List (List ℕ)) → is_apart (map choices_of (map (label_at Namespace all) keys)) ≡ true → is_apart (map choices_of (map (label_at Pod all) others)) ≡ true → is_apart (map choices_of (map (label_at Namespace all) keys) ++ map choices_of (map (label_at Pod all) others)) ≡ true
+both-apart : (all : List SidedRequirement) (keys others : List (List ℕ)) → is_apart (map choices_of (map (label_at Namespace all) keys)) ≡ true →
+    is_apart (map choices_of (map (label_at Pod all) others)) ≡ true → is_apart (map choices_of (map (label_at Namespace all) keys) ++ map choices_of (map (label_at Pod all) others)) ≡ true
 both-apart all [] others front back = back
 both-apart all (key ∷ keys) others front back =
-    let parts = and_parts (list_all (are_apart (choices_of (label_at Namespace all key))) (map choices_of (map (label_at Namespace all) keys))) (is_apart (map choices_of (map (label_at Namespace all) keys))) front in
+    let parts = and_parts (list_all (are_apart (choices_of (label_at Namespace all key))) (map choices_of (map (label_at Namespace all) keys)))
+    (is_apart (map choices_of (map (label_at Namespace all) keys))) front in
     and_from _ (is_apart (map choices_of (map (label_at Namespace all) keys) ++ map choices_of (map (label_at Pod all) others)))
-    (all-append (are_apart (choices_of (label_at Namespace all key))) (map choices_of (map (label_at Namespace all) keys)) (map choices_of (map (label_at Pod all) others)) parts.0 (sides-apart all key others))
+    (all-append (are_apart (choices_of (label_at Namespace all key))) (map choices_of (map (label_at Namespace all) keys)) (map choices_of (map (label_at Pod all) others)) parts.0
+    (sides-apart all key others))
     (both-apart all keys others parts.1 back)
 
 -- the choices of the namespaces' keys, and then those of the pods'

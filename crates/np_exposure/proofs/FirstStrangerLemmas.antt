@@ -35,12 +35,14 @@ label-none side choices key other = by (same_side choices.side side) refl (bytes
     by true of false differ (Some value) = rw differ refl
     by true of true same (Some value) = absurd (other of same)
 
-others-none : (side : Side) (here : Choices) (state : List Choices) → same_side here.side side ≡ true → list_all (are_apart here) state ≡ true → value_of (flat_map (first_label side) state) here.key ≡ None
+others-none : (side : Side) (here : Choices) (state : List Choices) → same_side here.side side ≡ true → list_all (are_apart here) state ≡ true →
+    value_of (flat_map (first_label side) state) here.key ≡ None
 others-none side here [] of apart = refl
 others-none side here (other ∷ state) of apart =
     let parts = and_parts (are_apart here other) (list_all (are_apart here) state) apart in
     value_of-append (first_label side other) (flat_map (first_label side) state) here.key
-    ∙ ap (λ (found : Option (List ℕ)). option_or found (value_of (flat_map (first_label side) state) here.key)) (label-none side other here.key (λ also same. apart-keys here other side of also (nat_list_eq_equiv.symm here.key other.key ∙ same) parts.0))
+    ∙ ap (λ (found : Option (List ℕ)). option_or found (value_of (flat_map (first_label side) state) here.key))
+    (label-none side other here.key (λ also same. apart-keys here other side of also (nat_list_eq_equiv.symm here.key other.key ∙ same) parts.0))
     ∙ others-none side here state of parts.1
 
 -- each key of the side has its first choice
@@ -55,7 +57,8 @@ or-none : (found : Option (List ℕ)) → option_or found None ≡ found
 or-none None = refl
 or-none (Some value) = refl
 
-later-first : (side : Side) (here : Choices) (labels : List Pair) (state : List Choices) → list_all (are_apart here) state ≡ true → AllByRecursion (HasFirst side labels) state → AllByRecursion (HasFirst side (first_label side here ++ labels)) state
+later-first : (side : Side) (here : Choices) (labels : List Pair) (state : List Choices) → list_all (are_apart here) state ≡ true → AllByRecursion (HasFirst side labels) state →
+    AllByRecursion (HasFirst side (first_label side here ++ labels)) state
 later-first side here labels [] apart all = tt
 later-first side here labels (choices ∷ state) apart all =
     let parts = and_parts (are_apart here choices) (list_all (are_apart here) state) apart in (
@@ -89,7 +92,8 @@ some-or : (found : Option (List ℕ)) (value : List ℕ) → is_some (option_or 
 some-or None value = refl
 some-or (Some other) value = refl
 
-name-found : (found : List (Option (List ℕ))) (key : List ℕ) (is_name : Bool) → is_name ≡ bytes_eq key (codes "kubernetes.io/metadata.name") → list_any (λ one. true) found ≡ true → (not is_name || list_all (λ one. is_some one) found) ≡ true → option_or (first_found found) (value_of name key) ≡ first_found found
+name-found : (found : List (Option (List ℕ))) (key : List ℕ) (is_name : Bool) → is_name ≡ bytes_eq key (codes "kubernetes.io/metadata.name") → list_any (λ one. true) found ≡ true →
+    (not is_name || list_all (λ one. is_some one) found) ≡ true → option_or (first_found found) (value_of name key) ≡ first_found found
 name-found [] key is_name same some all = absurd (false≢true some)
 name-found (Some value ∷ found) key is_name same some all = refl
 name-found (None ∷ found) key true same some all = absurd (false≢true all)
@@ -99,14 +103,16 @@ module _ (state : List Choices) (is : IsState state) where
   abbrev s : Stranger
   s = first_stranger state
 
-  chosen : (rest : List Choices) → AllByRecursion (HasFirst Namespace (flat_map (first_label Namespace) state)) rest → AllByRecursion (HasFirst Pod (flat_map (first_label Pod) state)) rest → is_open rest ≡ true → list_all is_named_at rest ≡ true → AllByRecursion (IsChosen s) rest
+  chosen : (rest : List Choices) → AllByRecursion (HasFirst Namespace (flat_map (first_label Namespace) state)) rest → AllByRecursion (HasFirst Pod (flat_map (first_label Pod) state)) rest →
+      is_open rest ≡ true → list_all is_named_at rest ≡ true → AllByRecursion (IsChosen s) rest
   chosen [] first second «open» names = tt
   chosen (choices ∷ rest) first second «open» names =
       let some = and_parts (has_choice choices) (is_open rest) «open» in
       let named = and_parts (is_named_at choices) (list_all is_named_at rest) names in
       (by choices.side refl first.0 second.0 some.0 named.0, chosen rest first.1 second.1 some.1 named.1)
     where
-      by : (side : Side) → choices.side ≡ side → HasFirst Namespace (flat_map (first_label Namespace) state) choices → HasFirst Pod (flat_map (first_label Pod) state) choices → has_choice choices ≡ true → is_named_at choices ≡ true
+      by : (side : Side) → choices.side ≡ side → HasFirst Namespace (flat_map (first_label Namespace) state) choices → HasFirst Pod (flat_map (first_label Pod) state) choices →
+          has_choice choices ≡ true → is_named_at choices ≡ true
           → IsAmong (value_of (labels_at side s) choices.key) choices.found
       by Namespace of first second some named =
           let found : value_of s.namespace choices.key ≡ first_found choices.found =

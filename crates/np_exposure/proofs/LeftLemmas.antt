@@ -34,14 +34,18 @@ all-left (choices ∷ state) =
 -- ---- one requirement more leaves those that suit
 
 module _ (wanted : Bool) (asked : SidedRequirement) (assumed : List SidedRequirement) where
-  found-left : (choices : Choices) (found : List (Option (List ℕ))) → filter (fits (answered wanted asked ∷ assumed) choices) found ≡ filter (suits wanted asked choices) (filter (fits assumed choices) found)
+  found-left : (choices : Choices) (found : List (Option (List ℕ))) →
+      filter (fits (answered wanted asked ∷ assumed) choices) found ≡ filter (suits wanted asked choices) (filter (fits assumed choices) found)
   found-left choices [] = refl
   found-left choices (one ∷ found) =
-      ap (λ b. cond b (one ∷ filter (fits (answered wanted asked ∷ assumed) choices) found) (filter (fits (answered wanted asked ∷ assumed) choices) found)) (fits-more wanted asked assumed choices one)
+      ap (λ b. cond b (one ∷ filter (fits (answered wanted asked ∷ assumed) choices) found) (filter (fits (answered wanted asked ∷ assumed) choices) found))
+      (fits-more wanted asked assumed choices one)
       ∙ by (fits assumed choices one) (suits wanted asked choices one) refl (found-left choices found)
     where
-      by : (fit suit : Bool) → suits wanted asked choices one ≡ suit → filter (fits (answered wanted asked ∷ assumed) choices) found ≡ filter (suits wanted asked choices) (filter (fits assumed choices) found)
-          → cond (suit && fit) (one ∷ filter (fits (answered wanted asked ∷ assumed) choices) found) (filter (fits (answered wanted asked ∷ assumed) choices) found) ≡ filter (suits wanted asked choices) (cond fit (one ∷ filter (fits assumed choices) found) (filter (fits assumed choices) found))
+      by : (fit suit : Bool) → suits wanted asked choices one ≡ suit →
+          filter (fits (answered wanted asked ∷ assumed) choices) found ≡ filter (suits wanted asked choices) (filter (fits assumed choices) found)
+          → cond (suit && fit) (one ∷ filter (fits (answered wanted asked ∷ assumed) choices) found) (filter (fits (answered wanted asked ∷ assumed) choices) found) ≡ filter
+          (suits wanted asked choices) (cond fit (one ∷ filter (fits assumed choices) found) (filter (fits assumed choices) found))
       by true true does rest = rw does (ap (λ (more : List (Option (List ℕ))). one ∷ more) rest)
       by true false misses rest = rw misses rest
       by false true does rest = rest
@@ -103,7 +107,9 @@ module _ (side : PodSide) where
       (can_be_assumed (mentions side) (negated asked ∷ assumed)) (assumed-can_be (mentions side) assumed asked false)
       (λ one. here true (walked-left more (asked ∷ assumed)) one) (λ other. here false (walked-left more (negated asked ∷ assumed)) other)
     where
-      here : (wanted : Bool) → (IsState (left (answered wanted asked ∷ assumed)) → AreWalked side more (left (answered wanted asked ∷ assumed)) (rows_left side more (answered wanted asked ∷ assumed))) → can_be wanted asked (left assumed) ≡ true → IsCase more assumed asked wanted
+      here : (wanted : Bool) →
+          (IsState (left (answered wanted asked ∷ assumed)) → AreWalked side more (left (answered wanted asked ∷ assumed)) (rows_left side more (answered wanted asked ∷ assumed))) →
+          can_be wanted asked (left assumed) ≡ true → IsCase more assumed asked wanted
       here wanted walked can =
           let same = left-narrowed (mentions side) assumed asked wanted in
           subst (λ (state : List Choices). AreWalked side more state (rows_left side more (answered wanted asked ∷ assumed))) same
@@ -115,8 +121,14 @@ module _ (side : PodSide) where
           → AreJoinedAt asked can_meet can_miss (AreWalked side more (narrowed true asked (left assumed))) (AreWalked side more (narrowed false asked (left assumed)))
           (rows_at asked told_meet told_miss (rows_left side more (asked ∷ assumed)) (rows_left side more (negated asked ∷ assumed)))
       by true meet true miss told_meet first told_miss second one other =
-          rw (first ∙ meet, second ∙ miss)
-          (rows_left side more (asked ∷ assumed), rows_left side more (negated asked ∷ assumed), one meet, other miss, IsJoined-joined asked (rows_left side more (asked ∷ assumed)) (rows_left side more (negated asked ∷ assumed)))
+          rw (first ∙ meet, second ∙ miss) (
+            rows_left side more (asked ∷ assumed),
+            rows_left side more (negated asked ∷ assumed),
+            one meet,
+            other miss,
+            IsJoined-joined asked (rows_left side more (asked ∷ assumed))
+                (rows_left side more (negated asked ∷ assumed)),
+          )
       by true meet false miss told_meet first told_miss second one other = rw (first ∙ meet, second ∙ miss) (one meet)
       by false meet can_miss miss told_meet first told_miss second one other = rw (first ∙ meet) (other (only-wanted false asked (left assumed) is.«open» is.apart meet).0)
 
@@ -129,5 +141,6 @@ module _ (side : PodSide) where
       (subst (λ (state : List Choices). AreWalked side (requirements side) state (rows_of side)) first walked)).0
 
 -- the rows that are walked are those of the function
-pub walked-list : (side walked : PodSide) (all : List SidedRequirement) (rows : List ExposureRow) → walked ≡ side → all ≡ mentions side → AreWalked walked (each_once all) (choices_at_first all) rows → rows ≡ rows_of side
+pub walked-list : (side walked : PodSide) (all : List SidedRequirement) (rows : List ExposureRow) → walked ≡ side → all ≡ mentions side → AreWalked walked (each_once all) (choices_at_first all) rows →
+    rows ≡ rows_of side
 walked-list side walked all rows same is are = rows-one side rows (rows_of side) (walked-rows_of side walked all rows same is are) (rows_of-are side)

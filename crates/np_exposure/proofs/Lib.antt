@@ -21,3 +21,4 @@ pub mod LeftLemmas
 pub mod AlikePodLemmas
 pub mod WorkloadLemmas
 pub mod PossibleLemmas
+pub mod SettledLemmas

@@ -3,7 +3,7 @@ use Rattle.std.proofs.Common.{◌≡◌, List, [], ◌∷◌, ◌++◌, Bool, tr
 use Rattle.std.specs.List.{AllByRecursion, find, flat_map, list_all, list_any}
 use Rattle.std.proofs.lemmas.Bool.{and_parts, and_from}
 use Rattle.np_rules.specs.Laws.{IsAmong}
-use Rattle.np_rules.specs.Rules.{none_or_any}
+use Rattle.np_rules.specs.model.Rules.{none_or_any}
 
 -- ---- tests that agree on the items
 

@@ -35,7 +35,8 @@ cut (x ∷ xs) (y ∷ ys) c c' t t' word word' end end' same =
 abbrev others_text : List (List ℕ) → List ℕ
 others_text values = flat_map (λ value. codes "," ++ value) values
 
-values-one : (v v' : List ℕ) (vs vs' : List (List ℕ)) (t t' : List ℕ) → list_all is_word (v ∷ vs) ≡ true → list_all is_word (v' ∷ vs') ≡ true → v ++ (others_text vs ++ 41 ∷ t) ≡ v' ++ (others_text vs' ++ 41 ∷ t') → (v ∷ vs ≡ v' ∷ vs') × (t ≡ t')
+values-one : (v v' : List ℕ) (vs vs' : List (List ℕ)) (t t' : List ℕ) → list_all is_word (v ∷ vs) ≡ true → list_all is_word (v' ∷ vs') ≡ true →
+    v ++ (others_text vs ++ 41 ∷ t) ≡ v' ++ (others_text vs' ++ 41 ∷ t') → (v ∷ vs ≡ v' ∷ vs') × (t ≡ t')
 values-one v v' [] [] t t' words words' same =
     let parts = cut v v' 41 41 t t' (and_parts (is_word v) true words).0 (and_parts (is_word v') true words').0 refl refl same in
     (rw parts.0 refl, parts.2)
@@ -55,7 +56,8 @@ values-one v v' (u ∷ us) (u' ∷ us') t t' words words' same =
     let rest = values-one u u' us us' t t' here.1 there.1 parts.2 in
     (rw (parts.0, rest.0) refl, rest.1)
 
-listed-one : (values values' : List (List ℕ)) (t t' : List ℕ) → (length values == 0) ≡ false → (length values' == 0) ≡ false → list_all is_word values ≡ true → list_all is_word values' ≡ true → values_text values ++ 41 ∷ t ≡ values_text values' ++ 41 ∷ t' → (values ≡ values') × (t ≡ t')
+listed-one : (values values' : List (List ℕ)) (t t' : List ℕ) → (length values == 0) ≡ false → (length values' == 0) ≡ false → list_all is_word values ≡ true → list_all is_word values' ≡ true →
+    values_text values ++ 41 ∷ t ≡ values_text values' ++ 41 ∷ t' → (values ≡ values') × (t ≡ t')
 listed-one [] values' t t' some some' words words' same = absurd (true≢false some)
 listed-one (v ∷ vs) [] t t' some some' words words' same = absurd (true≢false some')
 listed-one (v ∷ vs) (v' ∷ vs') t t' some some' words words' same =
@@ -89,7 +91,8 @@ opened values t = simp append_assoc
 opened-none : (values : List (List ℕ)) (t : List ℕ) → asked_text NoneOf values ++ t ≡ codes "NotIn (" ++ (values_text values ++ 41 ∷ t)
 opened-none values t = simp append_assoc
 
-asked-one : (op op' : Op) (values values' : List (List ℕ)) (t t' : List ℕ) → list_all is_word values ≡ true → list_all is_word values' ≡ true → fits op (not (length values == 0)) ≡ true → fits op' (not (length values' == 0)) ≡ true → asked_text op values ++ t ≡ asked_text op' values' ++ t' → IsSameAsked op op' values values' t t'
+asked-one : (op op' : Op) (values values' : List (List ℕ)) (t t' : List ℕ) → list_all is_word values ≡ true → list_all is_word values' ≡ true → fits op (not (length values == 0)) ≡ true →
+    fits op' (not (length values' == 0)) ≡ true → asked_text op values ++ t ≡ asked_text op' values' ++ t' → IsSameAsked op op' values values' t t'
 asked-one OneOf OneOf values values' t t' words words' fit fit' same =
     let both : codes "In (" ++ (values_text values ++ 41 ∷ t) ≡ codes "In (" ++ (values_text values' ++ 41 ∷ t') = sym (opened values t) ∙ same ∙ opened values' t' in
     let parts = listed-one values values' t t' (not-true _ fit) (not-true _ fit') words words' (ap (λ (text : List ℕ). drop 4 text) both) in
@@ -98,8 +101,10 @@ asked-one NoneOf NoneOf values values' t t' words words' fit fit' same =
     let both : codes "NotIn (" ++ (values_text values ++ 41 ∷ t) ≡ codes "NotIn (" ++ (values_text values' ++ 41 ∷ t') = sym (opened-none values t) ∙ same ∙ opened-none values' t' in
     let parts = listed-one values values' t t' (not-true _ fit) (not-true _ fit') words words' (ap (λ (text : List ℕ). drop 7 text) both) in
     record { op = refl; values = parts.0; rest = parts.1 }
-asked-one Present Present values values' t t' words words' fit fit' same = record { op = refl; values = none-listed values (twice-true _ fit) ∙ sym (none-listed values' (twice-true _ fit')); rest = ap (λ (text : List ℕ). drop 6 text) same }
-asked-one Absent Absent values values' t t' words words' fit fit' same = record { op = refl; values = none-listed values (twice-true _ fit) ∙ sym (none-listed values' (twice-true _ fit')); rest = ap (λ (text : List ℕ). drop 12 text) same }
+asked-one Present Present values values' t t' words words' fit fit' same =
+    record { op = refl; values = none-listed values (twice-true _ fit) ∙ sym (none-listed values' (twice-true _ fit')); rest = ap (λ (text : List ℕ). drop 6 text) same }
+asked-one Absent Absent values values' t t' words words' fit fit' same =
+    record { op = refl; values = none-listed values (twice-true _ fit) ∙ sym (none-listed values' (twice-true _ fit')); rest = ap (λ (text : List ℕ). drop 12 text) same }
 asked-one OneOf NoneOf values values' t t' words words' fit fit' same = absurd (begin-apart 0 73 78 (asked_text OneOf values ++ t) (asked_text NoneOf values' ++ t') same refl refl refl)
 asked-one OneOf Present values values' t t' words words' fit fit' same = absurd (begin-apart 0 73 69 (asked_text OneOf values ++ t) (asked_text Present values' ++ t') same refl refl refl)
 asked-one OneOf Absent values values' t t' words words' fit fit' same = absurd (begin-apart 0 73 68 (asked_text OneOf values ++ t) (asked_text Absent values' ++ t') same refl refl refl)
@@ -125,7 +130,8 @@ side-word : (side : Side) → is_word (side_text side) ≡ true
 side-word Namespace = refl
 side-word Pod = refl
 
-spelled : (asked : SidedRequirement) (t : List ℕ) → requirement_text asked ++ t ≡ side_text asked.side ++ 32 ∷ (asked.requirement.key ++ 32 ∷ (asked_text asked.requirement.op asked.requirement.values ++ t))
+spelled : (asked : SidedRequirement) (t : List ℕ) →
+    requirement_text asked ++ t ≡ side_text asked.side ++ 32 ∷ (asked.requirement.key ++ 32 ∷ (asked_text asked.requirement.op asked.requirement.values ++ t))
 spelled asked t = simp append_assoc
 
 abbrev is_well : SidedRequirement → Bool
@@ -155,7 +161,8 @@ behind : (one : SidedRequirement) (all : List SidedRequirement) → more_text (o
 behind one all =
     append_assoc (codes " and " ++ requirement_text one) (more_text all) (codes "}") ∙ append_assoc (codes " and ") (requirement_text one) (more_text all ++ codes "}")
 
-list-one : (a b : SidedRequirement) (xs ys : List SidedRequirement) → are_well (a ∷ xs) ≡ true → are_well (b ∷ ys) ≡ true → requirement_text a ++ (more_text xs ++ codes "}") ≡ requirement_text b ++ (more_text ys ++ codes "}") → a ∷ xs ≡ b ∷ ys
+list-one : (a b : SidedRequirement) (xs ys : List SidedRequirement) → are_well (a ∷ xs) ≡ true → are_well (b ∷ ys) ≡ true →
+    requirement_text a ++ (more_text xs ++ codes "}") ≡ requirement_text b ++ (more_text ys ++ codes "}") → a ∷ xs ≡ b ∷ ys
 list-one a b [] [] well well' same =
     let here = and_parts (is_well a) true well in
     let there = and_parts (is_well b) true well' in
@@ -174,7 +181,8 @@ list-one a b (next ∷ xs) (next' ∷ ys) well well' same =
     let here = and_parts (is_well a) (are_well (next ∷ xs)) well in
     let there = and_parts (is_well b) (are_well (next' ∷ ys)) well' in
     let parts = requirement-one a b (more_text (next ∷ xs) ++ codes "}") (more_text (next' ∷ ys) ++ codes "}") here.0 there.0 same in
-    let both : codes " and " ++ (requirement_text next ++ (more_text xs ++ codes "}")) ≡ codes " and " ++ (requirement_text next' ++ (more_text ys ++ codes "}")) = sym (behind next xs) ∙ parts.1 ∙ behind next' ys in
+    let both : codes " and " ++ (requirement_text next ++ (more_text xs ++ codes "}")) ≡ codes " and " ++ (requirement_text next' ++ (more_text ys ++ codes "}")) = sym (behind next xs) ∙ parts.1
+    ∙ behind next' ys in
     let rest = list-one next next' xs ys here.1 there.1 (ap (λ (text : List ℕ). drop 5 text) both) in
     rw (parts.0, rest) refl
 
@@ -187,7 +195,8 @@ some-text first others =
 any-apart : (first : SidedRequirement) (others : List SidedRequirement) → codes "{any pod}" ≡ codes "{" ++ (requirement_text first ++ (more_text others ++ codes "}")) → ⊥
 any-apart first others same = by first.side (same ∙ ap (λ (rest : List ℕ). codes "{" ++ rest) (spelled first (more_text others ++ codes "}")))
   where
-    by : (side : Side) → codes "{any pod}" ≡ codes "{" ++ (side_text side ++ 32 ∷ (first.requirement.key ++ 32 ∷ (asked_text first.requirement.op first.requirement.values ++ (more_text others ++ codes "}")))) → ⊥
+    by : (side : Side) →
+        codes "{any pod}" ≡ codes "{" ++ (side_text side ++ 32 ∷ (first.requirement.key ++ 32 ∷ (asked_text first.requirement.op first.requirement.values ++ (more_text others ++ codes "}")))) → ⊥
     by Namespace is = begin-apart 1 97 110 (codes "{any pod}") _ is refl refl refl
     by Pod is = begin-apart 1 97 112 (codes "{any pod}") _ is refl refl refl
 

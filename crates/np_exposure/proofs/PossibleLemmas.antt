@@ -96,7 +96,8 @@ module _ (all : List SidedRequirement) where
   left-more assumed wanted asked among left =
       let more : choices_left all (answered wanted asked ∷ assumed) ≡ narrowed wanted asked (choices_left all assumed) = left-narrowed all assumed asked wanted in
       record {
-        stands = subst (λ (state : List Choices). Stands all all (answered wanted asked ∷ assumed) state) (sym more) (Stands-more all all assumed (choices_left all assumed) wanted asked (asked-again assumed (choices_left all assumed) asked among left.stands));
+        stands = subst (λ (state : List Choices). Stands all all (answered wanted asked ∷ assumed) state) (sym more)
+            (Stands-more all all assumed (choices_left all assumed) wanted asked (asked-again assumed (choices_left all assumed) asked among left.stands));
         apart = ap is_apart more ∙ apart-narrowed wanted asked (choices_left all assumed) ∙ left.apart;
         named = ap (λ (state : List Choices). list_all is_named_at state) more ∙ named-narrowed wanted asked (choices_left all assumed) left.named;
       }
@@ -112,7 +113,8 @@ likes-open all s [] likes = refl
 likes-open all s (choices ∷ state) likes =
     and_from (has_choice choices) (is_open state) (list_any-at (λ found. true) likes.0.0 choices.found likes.0.1 refl) (likes-open all s state likes.1)
 
-pub assumed-possible : (all assumed : List SidedRequirement) → AllByRecursion (λ asked. IsAmong asked (all ++ map negated all)) assumed → (can_be_assumed all assumed ≡ true → IsPossible assumed) × (IsPossible assumed → can_be_assumed all assumed ≡ true)
+pub assumed-possible : (all assumed : List SidedRequirement) → AllByRecursion (λ asked. IsAmong asked (all ++ map negated all)) assumed →
+    (can_be_assumed all assumed ≡ true → IsPossible assumed) × (IsPossible assumed → can_be_assumed all assumed ≡ true)
 assumed-possible all assumed among =
     let left = IsLeftBy-all all assumed among in
     let state = choices_left all assumed in (

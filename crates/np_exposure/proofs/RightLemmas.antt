@@ -30,7 +30,8 @@ assumed-missed asked assumed s is missed = assumed-met (negated asked) assumed s
 abbrev first_met : List ExposureRow → Stranger → Option ExposureRow
 first_met rows s = find (λ row. meets_row row s) rows
 
-first-met : (asked : SidedRequirement) (s : Stranger) (met unmet : List ExposureRow) (row : ExposureRow) → meets asked s ≡ true → first_met met s ≡ Some row → first_met (map (with_first asked) met ++ unmet) s ≡ Some (with_first asked row)
+first-met : (asked : SidedRequirement) (s : Stranger) (met unmet : List ExposureRow) (row : ExposureRow) → meets asked s ≡ true → first_met met s ≡ Some row →
+    first_met (map (with_first asked) met ++ unmet) s ≡ Some (with_first asked row)
 first-met asked s [] unmet row does first = absurd (cc)
 first-met asked s (one ∷ met) unmet row does first = rw does (by (meets_row one s) first (first-met asked s met unmet row does))
   where
@@ -138,7 +139,8 @@ less-assumed asked assumed s is = (and_parts (assumed_of assumed s) (meets asked
 missed-of : (asked : SidedRequirement) (assumed : List SidedRequirement) (s : Stranger) → assumed_of (negated asked ∷ assumed) s ≡ true → meets asked s ≡ false
 missed-of asked assumed s is = not-true (meets asked s) (sym (meets-negated asked s) ∙ (and_parts (assumed_of assumed s) (meets (negated asked) s) (more-met (negated asked) assumed s is)).1)
 
-joined-each : (asked : SidedRequirement) (assumed : List SidedRequirement) (met unmet rows : List ExposureRow) → IsJoined asked met unmet rows → IsEachFirst (assumed_of (asked ∷ assumed)) met → IsEachFirst (assumed_of (negated asked ∷ assumed)) unmet → IsEachFirst (assumed_of assumed) rows
+joined-each : (asked : SidedRequirement) (assumed : List SidedRequirement) (met unmet rows : List ExposureRow) → IsJoined asked met unmet rows → IsEachFirst (assumed_of (asked ∷ assumed)) met →
+    IsEachFirst (assumed_of (negated asked ∷ assumed)) unmet → IsEachFirst (assumed_of assumed) rows
 joined-each asked assumed met unmet rows (equal same is) first second =
     subst (IsEachFirst (assumed_of assumed)) (sym is) (EachFirst-weaker (assumed_of (asked ∷ assumed)) (assumed_of assumed) (less-assumed asked assumed) met first)
 joined-each asked assumed met unmet rows (apart differ is) first second =
@@ -146,7 +148,8 @@ joined-each asked assumed met unmet rows (apart differ is) first second =
     (EachFirst-append (assumed_of assumed) (map (with_first asked) met) unmet
     (EachFirst-with_first asked (assumed_of assumed) met (EachFirst-weaker (assumed_of (asked ∷ assumed)) (λ s. assumed_of assumed s && meets asked s) (more-met asked assumed) met first))
     (EachFirst-weaker (assumed_of (negated asked ∷ assumed)) _ (λ s all.
-    and_from (assumed_of assumed s) (not (list_any (λ row. meets_row row s) (map (with_first asked) met))) (less-assumed (negated asked) assumed s all) (not_from_false _ (none-met asked s met (missed-of asked assumed s all)))) unmet second))
+    and_from (assumed_of assumed s) (not (list_any (λ row. meets_row row s) (map (with_first asked) met))) (less-assumed (negated asked) assumed s all)
+    (not_from_false _ (none-met asked s met (missed-of asked assumed s all)))) unmet second))
 
 each-first : (side : PodSide) (left assumed : List SidedRequirement) (rows : List ExposureRow) → IsPossible assumed → AreRows side left assumed rows → IsEachFirst (assumed_of assumed) rows
 unfolding AreRows
@@ -166,7 +169,8 @@ pub some_stranger : IsPossible []
 some_stranger = (record { namespace = record { key = codes "kubernetes.io/metadata.name"; value = [] } ∷ []; labels = [] }, refl)
 
 pub each_row-first : (side : PodSide) (rows : List ExposureRow) → AreRowsOf side rows → IsEachFirst is_hypothetical rows
-each_row-first side rows are = EachFirst-weaker (assumed_of []) is_hypothetical (λ s all. (and_parts (is_hypothetical s) true all).0) rows (each-first side (requirements side) [] rows some_stranger are)
+each_row-first side rows are = EachFirst-weaker (assumed_of []) is_hypothetical (λ s all. (and_parts (is_hypothetical s) true all).0) rows
+    (each-first side (requirements side) [] rows some_stranger are)
 
 -- ---- one list
 
@@ -194,7 +198,8 @@ joined-one asked met unmet a b (apart differ is) (apart differ' is') = is ∙ sy
 one-list : (side : PodSide) (left assumed : List SidedRequirement) (a b : List ExposureRow) → IsPossible assumed → AreRows side left assumed a → AreRows side left assumed b → a ≡ b
 unfolding AreRows
 one-list side [] assumed a b possible first second =
-    first.2 ∙ ap (λ (conns : Conns). record { requirements = []; conns = conns } ∷ []) (conns-equal side possible.0 first.0 second.0 (first.1 possible.0 possible.1) (second.1 possible.0 possible.1)) ∙ sym second.2
+    first.2 ∙ ap (λ (conns : Conns). record { requirements = []; conns = conns } ∷ []) (conns-equal side possible.0 first.0 second.0 (first.1 possible.0 possible.1) (second.1 possible.0 possible.1))
+    ∙ sym second.2
 one-list side (asked ∷ left) assumed a b possible first second = by first second (one-list side left (asked ∷ assumed)) (one-list side left (negated asked ∷ assumed))
   where
     by : AreRowsAt asked (IsPossible (asked ∷ assumed)) (IsPossible (negated asked ∷ assumed)) (AreRows side left (asked ∷ assumed)) (AreRows side left (negated asked ∷ assumed)) a
@@ -211,7 +216,8 @@ one-list side (asked ∷ left) assumed a b possible first second = by first seco
     by (either can can2 m u first' second' joined) (always can' cannot' met') one other = absurd (cannot' can2)
     by (either can can2 m u first' second' joined) (never cannot' can' unmet') one other = absurd (cannot' can)
     by (either can can2 m u met unmet joined) (either can' can2' m' u' met' unmet' joined') one other =
-        let here : IsJoined asked m u b = subst (λ (x : List ExposureRow). IsJoined asked x u b) (sym (one m m' can met met')) (subst (λ (y : List ExposureRow). IsJoined asked m' y b) (sym (other u u' can2 unmet unmet')) joined') in
+        let here : IsJoined asked m u b = subst (λ (x : List ExposureRow). IsJoined asked x u b) (sym (one m m' can met met'))
+        (subst (λ (y : List ExposureRow). IsJoined asked m' y b) (sym (other u u' can2 unmet unmet')) joined') in
         joined-one asked m u a b joined here
 
 pub rows-one : (side : PodSide) (a b : List ExposureRow) → AreRowsOf side a → AreRowsOf side b → a ≡ b

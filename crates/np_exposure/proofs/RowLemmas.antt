@@ -53,7 +53,8 @@ row-tell a b =
     let conns = conns-tell a.conns b.conns in (
       λ same.
           let both = and_parts (pointwise is_same a.requirements b.requirements) (are_same_conns a.conns b.conns) same in
-          ap (λ (asked : List SidedRequirement). record { requirements = asked; conns = a.conns }) (requirements.0 both.0) ∙ ap (λ (c : Conns). record { requirements = b.requirements; conns = c }) (conns.0 both.1),
+          ap (λ (asked : List SidedRequirement). record { requirements = asked; conns = a.conns }) (requirements.0 both.0) ∙ ap (λ (c : Conns). record { requirements = b.requirements; conns = c })
+          (conns.0 both.1),
       λ equal. and_from _ _ (requirements.1 (ap (λ (row : ExposureRow). row.requirements) equal)) (conns.1 (ap (λ (row : ExposureRow). row.conns) equal)),
     )
 

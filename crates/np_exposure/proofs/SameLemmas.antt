@@ -22,7 +22,8 @@ use Rattle.np_labels.specs.declared.requirement.Requirement.{Requirement}
 pub requirement-equal : (a b : Requirement) → a.key ≡ b.key → a.op ≡ b.op → a.values ≡ b.values → a ≡ b
 requirement-equal a b key op values =
     let P : List (List ℕ) → Type 0 = λ vs. (ascending : is_ascending vs ≡ true) → a ≡ record { key = a.key; op = a.op; values = vs; ascending = ascending } in
-    let here : P a.values = λ ascending. ap (λ (p : is_ascending a.values ≡ true). record { key = a.key; op = a.op; values = a.values; ascending = p }) (Bool-set (is_ascending a.values) true a.ascending ascending) in
+    let here : P a.values = λ ascending. ap (λ (p : is_ascending a.values ≡ true). record { key = a.key; op = a.op; values = a.values; ascending = p })
+    (Bool-set (is_ascending a.values) true a.ascending ascending) in
     subst P values here b.ascending
     ∙ ap (λ (k : List ℕ). record { key = k; op = a.op; values = b.values; ascending = b.ascending }) key
     ∙ ap (λ (o : Op). record { key = b.key; op = o; values = b.values; ascending = b.ascending }) op
@@ -74,7 +75,8 @@ is_same-equal a b is =
     let second = and_parts (bytes_eq a.requirement.key b.requirement.key) _ first.1 in
     let third = and_parts (same_op a.requirement.op b.requirement.op) _ second.1 in
     sided-equal a b (same_side-equal a.side b.side first.0)
-    (requirement-equal a.requirement b.requirement ((bytes_decides a.requirement.key b.requirement.key).0 second.0) (same_op-equal a.requirement.op b.requirement.op third.0) ((texts_decide a.requirement.values b.requirement.values).0 third.1))
+    (requirement-equal a.requirement b.requirement ((bytes_decides a.requirement.key b.requirement.key).0 second.0) (same_op-equal a.requirement.op b.requirement.op third.0)
+    ((texts_decide a.requirement.values b.requirement.values).0 third.1))
 
 pub is_same-refl : (a : SidedRequirement) → is_same a a ≡ true
 is_same-refl a =
@@ -94,6 +96,7 @@ rows-apart a b xs ys first second apart equal =
     let same : reverse xs ≡ reverse ys = first ∙ ap (λ (row : ExposureRow). row.requirements) equal ∙ sym second in
     apart (sym (reverse-reverse xs) ∙ ap (λ (all : List SidedRequirement). reverse all) same ∙ reverse-reverse ys)
 
-pub rows-differ : (a b : ExposureRow) (xs ys seen other : List SidedRequirement) (answer : Bool) → answer ≡ false → MatchBool answer (seen ≡ other) (seen ≢ other) → seen ≡ xs → other ≡ ys → reverse xs ≡ a.requirements → reverse ys ≡ b.requirements → MatchBool answer (a ≡ b) (a ≢ b)
+pub rows-differ : (a b : ExposureRow) (xs ys seen other : List SidedRequirement) (answer : Bool) → answer ≡ false → MatchBool answer (seen ≡ other) (seen ≢ other) → seen ≡ xs → other ≡ ys →
+    reverse xs ≡ a.requirements → reverse ys ≡ b.requirements → MatchBool answer (a ≡ b) (a ≢ b)
 rows-differ a b xs ys seen other true differ tells first second one two = absurd (true≢false differ)
 rows-differ a b xs ys seen other false differ tells first second one two = rows-apart a b xs ys one two (λ equal. tells (first ∙ equal ∙ sym second))

@@ -63,7 +63,8 @@ pub meets-negated : (asked : SidedRequirement) (s : Stranger) → meets (negated
 meets-negated asked s = meets-answered false asked s
 
 -- what a stranger has at the key of a requirement that looks there
-pub meets-found : (asked : SidedRequirement) (choices : Choices) (s : Stranger) → looks_at choices.side choices.key asked ≡ true → meets asked s ≡ allows_found asked (value_of (labels_at choices.side s) choices.key)
+pub meets-found : (asked : SidedRequirement) (choices : Choices) (s : Stranger) → looks_at choices.side choices.key asked ≡ true →
+    meets asked s ≡ allows_found asked (value_of (labels_at choices.side s) choices.key)
 meets-found asked choices s looks =
     let parts = and_parts (same_side asked.side choices.side) (bytes_eq asked.requirement.key choices.key) looks in
     ap (λ (side : Side). allows_found asked (value_of (labels_at side s) asked.requirement.key)) (same_side-equal asked.side choices.side parts.0)
@@ -97,7 +98,8 @@ pub record Stands (all left assumed : List SidedRequirement) (state : List Choic
 
 module _ (all : List SidedRequirement) (wanted : Bool) (asked : SidedRequirement) (among : IsAmong asked all) where
   -- a choice like what a stranger has that does as is wanted is kept
-  suits-like : (s : Stranger) (choices : Choices) (found : Option (List ℕ)) → meets (answered wanted asked) s ≡ true → Alike all choices found (value_of (labels_at choices.side s) choices.key) → suits wanted asked choices found ≡ true
+  suits-like : (s : Stranger) (choices : Choices) (found : Option (List ℕ)) → meets (answered wanted asked) s ≡ true → Alike all choices found (value_of (labels_at choices.side s) choices.key) →
+      suits wanted asked choices found ≡ true
   suits-like s choices found does alike = by (looks_at choices.side choices.key asked) refl
     where
       by : (b : Bool) → looks_at choices.side choices.key asked ≡ b → (not b || as_wanted wanted (allows_found asked found)) ≡ true
@@ -124,23 +126,27 @@ module _ (all : List SidedRequirement) (wanted : Bool) (asked : SidedRequirement
       (can-like s state does likes.1)
 
 module _ (wanted : Bool) (asked : SidedRequirement) where
-  pub fits-more : (assumed : List SidedRequirement) (choices : Choices) (found : Option (List ℕ)) → fits (answered wanted asked ∷ assumed) choices found ≡ (suits wanted asked choices found && fits assumed choices found)
+  pub fits-more : (assumed : List SidedRequirement) (choices : Choices) (found : Option (List ℕ)) →
+      fits (answered wanted asked ∷ assumed) choices found ≡ (suits wanted asked choices found && fits assumed choices found)
   fits-more assumed choices found =
       ap (λ b. (not b || allows_found (answered wanted asked) found) && fits assumed choices found) (looks-answered wanted asked choices)
       ∙ ap (λ b. (not (looks_at choices.side choices.key asked) || b) && fits assumed choices found) (allows-answered wanted asked found)
 
-  kept-fit : (assumed : List SidedRequirement) (choices : Choices) (found : List (Option (List ℕ))) → list_all (fits assumed choices) found ≡ true → list_all (fits (answered wanted asked ∷ assumed) choices) (filter (suits wanted asked choices) found) ≡ true
+  kept-fit : (assumed : List SidedRequirement) (choices : Choices) (found : List (Option (List ℕ))) → list_all (fits assumed choices) found ≡ true →
+      list_all (fits (answered wanted asked ∷ assumed) choices) (filter (suits wanted asked choices) found) ≡ true
   kept-fit assumed choices [] fit = refl
   kept-fit assumed choices (one ∷ found) fit =
       let parts = and_parts (fits assumed choices one) (list_all (fits assumed choices) found) fit in
       by (suits wanted asked choices one) refl parts.0 (kept-fit assumed choices found parts.1)
     where
-      by : (b : Bool) → suits wanted asked choices one ≡ b → fits assumed choices one ≡ true → list_all (fits (answered wanted asked ∷ assumed) choices) (filter (suits wanted asked choices) found) ≡ true
+      by : (b : Bool) → suits wanted asked choices one ≡ b → fits assumed choices one ≡ true →
+          list_all (fits (answered wanted asked ∷ assumed) choices) (filter (suits wanted asked choices) found) ≡ true
           → list_all (fits (answered wanted asked ∷ assumed) choices) (cond b (one ∷ filter (suits wanted asked choices) found) (filter (suits wanted asked choices) found)) ≡ true
       by true does here rest = and_from (fits (answered wanted asked ∷ assumed) choices one) _ (fits-more assumed choices one ∙ and_from _ _ does here) rest
       by false does here rest = rest
 
-  sound-narrowed : (assumed : List SidedRequirement) (state : List Choices) → list_all (λ choices. list_all (fits assumed choices) choices.found) state ≡ true → list_all (λ choices. list_all (fits (answered wanted asked ∷ assumed) choices) choices.found) (narrowed wanted asked state) ≡ true
+  sound-narrowed : (assumed : List SidedRequirement) (state : List Choices) → list_all (λ choices. list_all (fits assumed choices) choices.found) state ≡ true →
+      list_all (λ choices. list_all (fits (answered wanted asked ∷ assumed) choices) choices.found) (narrowed wanted asked state) ≡ true
   sound-narrowed assumed [] sound = refl
   sound-narrowed assumed (choices ∷ state) sound =
       let parts = and_parts (list_all (fits assumed choices) choices.found) (list_all (λ one. list_all (fits assumed one) one.found) state) sound in
@@ -159,9 +165,11 @@ module _ (wanted : Bool) (asked : SidedRequirement) where
 
   is_at-answered : (state : List Choices) → is_at state (answered wanted asked) ≡ is_at state asked
   is_at-answered [] = refl
-  is_at-answered (choices ∷ state) = ap (λ b. b || is_at state (answered wanted asked)) (looks-answered wanted asked choices) ∙ ap (λ b. looks_at choices.side choices.key asked || b) (is_at-answered state)
+  is_at-answered (choices ∷ state) = ap (λ b. b || is_at state (answered wanted asked)) (looks-answered wanted asked choices) ∙ ap (λ b. looks_at choices.side choices.key asked || b)
+      (is_at-answered state)
 
-  decided-more : (left assumed : List SidedRequirement) (other : SidedRequirement) → IsAmong other (asked ∷ left) ⊎ IsDecided assumed other → IsAmong other left ⊎ IsDecided (answered wanted asked ∷ assumed) other
+  decided-more : (left assumed : List SidedRequirement) (other : SidedRequirement) → IsAmong other (asked ∷ left) ⊎ IsDecided assumed other →
+      IsAmong other left ⊎ IsDecided (answered wanted asked ∷ assumed) other
   decided-more left assumed other (inl (inl same)) = inr (by wanted)
     where
       by : (w : Bool) → IsDecided (answered w asked ∷ assumed) other
@@ -181,7 +189,8 @@ pub possible-weaker : (asked : SidedRequirement) (assumed : List SidedRequiremen
 possible-weaker asked assumed possible = (possible.0, (assumed-parts asked assumed possible.0 possible.1).0)
 
 -- the choices that are left are those of what is assumed then
-pub Stands-more : (all left assumed : List SidedRequirement) (state : List Choices) (wanted : Bool) (asked : SidedRequirement) → Stands all (asked ∷ left) assumed state → Stands all left (answered wanted asked ∷ assumed) (narrowed wanted asked state)
+pub Stands-more : (all left assumed : List SidedRequirement) (state : List Choices) (wanted : Bool) (asked : SidedRequirement) → Stands all (asked ∷ left) assumed state →
+    Stands all left (answered wanted asked ∷ assumed) (narrowed wanted asked state)
 Stands-more all left assumed state wanted asked stands = record {
   complete = λ s is.
       let parts = assumed-parts (answered wanted asked) assumed s is in
@@ -196,7 +205,8 @@ Stands-more all left assumed state wanted asked stands = record {
 }
 
 -- what cannot be is not possible
-pub cannot-be : (all left assumed : List SidedRequirement) (state : List Choices) (wanted : Bool) (asked : SidedRequirement) → Stands all (asked ∷ left) assumed state → can_be wanted asked state ≡ false → ¬ IsPossible (answered wanted asked ∷ assumed)
+pub cannot-be : (all left assumed : List SidedRequirement) (state : List Choices) (wanted : Bool) (asked : SidedRequirement) → Stands all (asked ∷ left) assumed state →
+    can_be wanted asked state ≡ false → ¬ IsPossible (answered wanted asked ∷ assumed)
 cannot-be all left assumed state wanted asked stands cannot possible =
     let parts = assumed-parts (answered wanted asked) assumed possible.0 possible.1 in
     false≢true (sym cannot ∙ can-like all wanted asked stands.within.0 possible.0 state parts.1 (stands.complete possible.0 parts.0))
@@ -204,17 +214,20 @@ cannot-be all left assumed state wanted asked stands cannot possible =
 -- ---- a leaf
 
 -- a hypothetical pod with labels among the choices meets what is assumed
-chosen-meets : (assumed : List SidedRequirement) (s : Stranger) (asked : SidedRequirement) (state : List Choices) → IsAmong asked assumed → is_at state asked ≡ true → list_all (λ choices. list_all (fits assumed choices) choices.found) state ≡ true → AllByRecursion (IsChosen s) state → meets asked s ≡ true
+chosen-meets : (assumed : List SidedRequirement) (s : Stranger) (asked : SidedRequirement) (state : List Choices) → IsAmong asked assumed → is_at state asked ≡ true →
+    list_all (λ choices. list_all (fits assumed choices) choices.found) state ≡ true → AllByRecursion (IsChosen s) state → meets asked s ≡ true
 chosen-meets assumed s asked [] among at sound chosen = absurd (false≢true at)
 chosen-meets assumed s asked (choices ∷ state) among at sound chosen =
     let parts = and_parts (list_all (fits assumed choices) choices.found) (list_all (λ one. list_all (fits assumed one) one.found) state) sound in
     by (looks_at choices.side choices.key asked) refl at parts.0 chosen.0 (λ later. chosen-meets assumed s asked state among later parts.1 chosen.1)
   where
-    by : (b : Bool) → looks_at choices.side choices.key asked ≡ b → (b || is_at state asked) ≡ true → list_all (fits assumed choices) choices.found ≡ true → IsChosen s choices → (is_at state asked ≡ true → meets asked s ≡ true) → meets asked s ≡ true
+    by : (b : Bool) → looks_at choices.side choices.key asked ≡ b → (b || is_at state asked) ≡ true → list_all (fits assumed choices) choices.found ≡ true → IsChosen s choices →
+        (is_at state asked ≡ true → meets asked s ≡ true) → meets asked s ≡ true
     by true looks here fit one rest =
         let found = value_of (labels_at choices.side s) choices.key in
         let all_fit : fits assumed choices found ≡ true = list_all-at (fits assumed choices) found choices.found one fit in
-        let this : (not (looks_at choices.side choices.key asked) || allows_found asked found) ≡ true = list_all-at (λ other. not (looks_at choices.side choices.key other) || allows_found other found) asked assumed among all_fit in
+        let this : (not (looks_at choices.side choices.key asked) || allows_found asked found) ≡ true = list_all-at
+        (λ other. not (looks_at choices.side choices.key other) || allows_found other found) asked assumed among all_fit in
         meets-found asked choices s looks ∙ subst (λ b. (not b || allows_found asked found) ≡ true) looks this
     by false looks here fit one rest = rest here
 
@@ -239,12 +252,14 @@ decided-same assumed s t first second asked (inr among) =
     not-same false true no_a no_b = absurd (false≢true no_b)
     not-same false false no_a no_b = refl
 
-leaf-agree : (all assumed : List SidedRequirement) (s t : Stranger) → IsAssumed assumed s → IsAssumed assumed t → (asked : SidedRequirement) → IsAmong asked [] ⊎ IsDecided assumed asked → Agree s t asked
+leaf-agree : (all assumed : List SidedRequirement) (s t : Stranger) → IsAssumed assumed s → IsAssumed assumed t → (asked : SidedRequirement) → IsAmong asked [] ⊎ IsDecided assumed asked →
+    Agree s t asked
 leaf-agree all assumed s t first second asked (inl none) = absurd none
 leaf-agree all assumed s t first second asked (inr decided) = decided-same assumed s t first second asked decided
 
 module _ (side : PodSide) where
-  leaf-exposure : (assumed : List SidedRequirement) (state : List Choices) (w : Stranger) (conns : Conns) → Stands (mentions side) [] assumed state → IsAssumed assumed w → IsExposure side w conns → HasExposure side assumed conns
+  leaf-exposure : (assumed : List SidedRequirement) (state : List Choices) (w : Stranger) (conns : Conns) → Stands (mentions side) [] assumed state → IsAssumed assumed w → IsExposure side w conns →
+      HasExposure side assumed conns
   leaf-exposure assumed state w conns stands is exposure s assumed_s =
       let hyp_s = (and_parts (is_hypothetical s) (meets_all assumed s) assumed_s).0 in
       let hyp_w = (and_parts (is_hypothetical w) (meets_all assumed w) is).0 in
@@ -256,7 +271,8 @@ module _ (side : PodSide) where
 
   -- ---- the rows
 
-  pub walked-rows : (left assumed : List SidedRequirement) (state : List Choices) (rows : List ExposureRow) → Stands (mentions side) left assumed state → AreWalked side left state rows → AreRows side left assumed rows × IsPossible assumed
+  pub walked-rows : (left assumed : List SidedRequirement) (state : List Choices) (rows : List ExposureRow) → Stands (mentions side) left assumed state → AreWalked side left state rows →
+      AreRows side left assumed rows × IsPossible assumed
   unfolding AreWalked AreRows
   walked-rows [] assumed state rows stands walked =
       let is = witness-assumed (mentions side) [] assumed state walked.stranger stands walked.witness in
@@ -270,7 +286,8 @@ module _ (side : PodSide) where
           → AreJoinedAt asked can_meet can_miss (AreWalked side left (narrowed true asked state)) (AreWalked side left (narrowed false asked state)) rows
           → ((more : List ExposureRow) → AreWalked side left (narrowed true asked state) more → AreRows side left (asked ∷ assumed) more × IsPossible (asked ∷ assumed))
           → ((more : List ExposureRow) → AreWalked side left (narrowed false asked state) more → AreRows side left (negated asked ∷ assumed) more × IsPossible (negated asked ∷ assumed))
-          → AreRowsAt asked (IsPossible (asked ∷ assumed)) (IsPossible (negated asked ∷ assumed)) (AreRows side left (asked ∷ assumed)) (AreRows side left (negated asked ∷ assumed)) rows × IsPossible assumed
+          → AreRowsAt asked (IsPossible (asked ∷ assumed)) (IsPossible (negated asked ∷ assumed)) (AreRows side left (asked ∷ assumed)) (AreRows side left (negated asked ∷ assumed)) rows
+          × IsPossible assumed
       by true meet true miss joined one other =
           let met = one joined.0 joined.2 in
           let unmet = other joined.1 joined.3 in

@@ -1,5 +1,6 @@
 -- States of choices, and what a requirement leaves of them.
-use Rattle.std.proofs.Common.{◌≡◌, ℕ, List, [], ◌∷◌, map, filter, Bool, true, false, not, cond, ◌&&◌, ◌||◌, Option, Some, None, is_some, refl, sym, ap, ◌∙◌, subst, if◌then◌else◌, IfSome, zero, suc, ◌<◌, length, get_or, arith}
+use Rattle.std.proofs.Common.{◌≡◌, ℕ, List, [], ◌∷◌, map, filter, Bool, true, false, not, cond, ◌&&◌, ◌||◌, Option, Some, None, is_some, refl, sym, ap, ◌∙◌, subst, if◌then◌else◌, IfSome, zero, suc}
+use Rattle.std.proofs.Common.{◌<◌, length, get_or, arith}
 use Rattle.std.specs.List.{list_all, list_any}
 use Rattle.std.specs.Str.{bytes_eq}
 use Rattle.std.specs.Cmp.Lexicographic.{bytes_decides}
@@ -20,7 +21,8 @@ filter-some : {X : Type 0} (test : X → Bool) (xs : List X) → list_any test x
 filter-some test [] some = absurd (false≢true some)
 filter-some {X} test (x ∷ xs) some = by (test x) (filter-some test xs) some
   where
-    by : (b : Bool) → (list_any test xs ≡ true → list_any (λ x. true) (filter test xs) ≡ true) → (b || list_any test xs) ≡ true → list_any (λ x. true) (cond b (x ∷ filter test xs) (filter test xs)) ≡ true
+    by : (b : Bool) → (list_any test xs ≡ true → list_any (λ x. true) (filter test xs) ≡ true) → (b || list_any test xs) ≡ true →
+        list_any (λ x. true) (cond b (x ∷ filter test xs) (filter test xs)) ≡ true
     by true rest here = refl
     by false rest here = rest here
 
@@ -50,7 +52,8 @@ module _ (wanted : Bool) (asked : SidedRequirement) where
   apart-narrowed (choices ∷ state) =
       ap (λ b. b && is_apart (narrowed wanted asked state)) (apart-from choices state) ∙ ap (λ b. list_all (are_apart choices) state && b) (apart-narrowed state)
 
-  named_at-narrowed : (choices : Choices) (b : Bool) → (b || list_all (λ found. is_some found) choices.found) ≡ true → (b || list_all (λ found. is_some found) (filter (suits wanted asked choices) choices.found)) ≡ true
+  named_at-narrowed : (choices : Choices) (b : Bool) → (b || list_all (λ found. is_some found) choices.found) ≡ true →
+      (b || list_all (λ found. is_some found) (filter (suits wanted asked choices) choices.found)) ≡ true
   named_at-narrowed choices true named = refl
   named_at-narrowed choices false named = filter-all (λ found. is_some found) (suits wanted asked choices) choices.found named
 
@@ -58,7 +61,8 @@ module _ (wanted : Bool) (asked : SidedRequirement) where
   named-narrowed [] named = refl
   named-narrowed (choices ∷ state) named =
       let parts = and_parts (is_named_at choices) (list_all is_named_at state) named in
-      and_from (is_named_at (narrowed_at wanted asked choices)) (list_all is_named_at (narrowed wanted asked state)) (named_at-narrowed choices (not (is_name_key choices.side choices.key)) parts.0) (named-narrowed state parts.1)
+      and_from (is_named_at (narrowed_at wanted asked choices)) (list_all is_named_at (narrowed wanted asked state)) (named_at-narrowed choices (not (is_name_key choices.side choices.key)) parts.0)
+      (named-narrowed state parts.1)
 
   -- where some choice at each key is as wanted, those that are make a state
   pub IsState-narrowed : (state : List Choices) → IsState state → can_be wanted asked state ≡ true → IsState (narrowed wanted asked state)
@@ -113,13 +117,15 @@ module _ (wanted : Bool) (asked : SidedRequirement) where
       and_from (suits wanted asked choices x) (list_all (suits wanted asked choices) found) (rw elsewhere refl) (every-elsewhere choices found elsewhere)
 
   same-elsewhere : (choices : Choices) → looks_at choices.side choices.key asked ≡ false → choices ≡ narrowed_at wanted asked choices
-  same-elsewhere choices elsewhere = ap (λ (found : List (Option (List ℕ))). record choices { found = found }) (filter-every (suits wanted asked choices) choices.found (every-elsewhere choices choices.found elsewhere))
+  same-elsewhere choices elsewhere = ap (λ (found : List (Option (List ℕ))). record choices { found = found })
+      (filter-every (suits wanted asked choices) choices.found (every-elsewhere choices choices.found elsewhere))
 
   can-elsewhere : (choices : Choices) → has_choice choices ≡ true → looks_at choices.side choices.key asked ≡ false → list_any (suits wanted asked choices) choices.found ≡ true
   can-elsewhere choices some elsewhere = any-every (suits wanted asked choices) choices.found some (every-elsewhere choices choices.found elsewhere)
 
   -- keys that are all apart from one that it looks at
-  all-elsewhere : (here : Choices) (state : List Choices) → looks_at here.side here.key asked ≡ true → list_all (are_apart here) state ≡ true → is_open state ≡ true → (can_be wanted asked state ≡ true) × (state ≡ narrowed wanted asked state)
+  all-elsewhere : (here : Choices) (state : List Choices) → looks_at here.side here.key asked ≡ true → list_all (are_apart here) state ≡ true → is_open state ≡ true →
+      (can_be wanted asked state ≡ true) × (state ≡ narrowed wanted asked state)
   all-elsewhere here [] looks apart «open» = (refl, refl)
   all-elsewhere here (choices ∷ state) looks apart «open» =
       let away = and_parts (are_apart here choices) (list_all (are_apart here) state) apart in
@@ -134,7 +140,8 @@ module _ (wanted : Bool) (asked : SidedRequirement) where
       by true is away = absurd (looks-both asked here choices looks is away)
       by false is away = refl
 
-  none-here : (choices : Choices) (found : List (Option (List ℕ))) → looks_at choices.side choices.key asked ≡ true → list_any (suits (not wanted) asked choices) found ≡ false → list_all (suits wanted asked choices) found ≡ true
+  none-here : (choices : Choices) (found : List (Option (List ℕ))) → looks_at choices.side choices.key asked ≡ true → list_any (suits (not wanted) asked choices) found ≡ false →
+      list_all (suits wanted asked choices) found ≡ true
   none-here choices [] looks none = refl
   none-here choices (x ∷ found) looks none =
       let parts = or_parts (suits (not wanted) asked choices x) (list_any (suits (not wanted) asked choices) found) none in
@@ -143,10 +150,12 @@ module _ (wanted : Bool) (asked : SidedRequirement) where
 
 module _ (wanted : Bool) (asked : SidedRequirement) where
   -- a requirement that cannot be otherwise is as wanted, and leaves all choices
-  pub only-wanted : (state : List Choices) → is_open state ≡ true → is_apart state ≡ true → can_be (not wanted) asked state ≡ false → (can_be wanted asked state ≡ true) × (state ≡ narrowed wanted asked state)
+  pub only-wanted : (state : List Choices) → is_open state ≡ true → is_apart state ≡ true → can_be (not wanted) asked state ≡ false →
+      (can_be wanted asked state ≡ true) × (state ≡ narrowed wanted asked state)
   only-wanted [] «open» apart none = absurd (true≢false none)
   only-wanted (choices ∷ state) «open» apart none =
-      by (looks_at choices.side choices.key asked) refl (only-wanted state (and_parts (has_choice choices) (is_open state) «open»).1 (and_parts (list_all (are_apart choices) state) (is_apart state) apart).1)
+      by (looks_at choices.side choices.key asked) refl (only-wanted state (and_parts (has_choice choices) (is_open state) «open»).1
+      (and_parts (list_all (are_apart choices) state) (is_apart state) apart).1)
     where
       some : (has_choice choices ≡ true) × (is_open state ≡ true)
       some = and_parts (has_choice choices) (is_open state) «open»
@@ -160,7 +169,8 @@ module _ (wanted : Bool) (asked : SidedRequirement) where
           let others = all-elsewhere wanted asked choices state looks away.0 some.1 in
           let every = none-here wanted asked choices choices.found looks (left-false _ _ none (all-elsewhere (not wanted) asked choices state looks away.0 some.1).0) in (
             and_from _ (can_be wanted asked state) (any-every (suits wanted asked choices) choices.found some.0 every) others.0,
-            ap (λ (c : Choices). c ∷ state) (ap (λ (found : List (Option (List ℕ))). record choices { found = found }) (filter-every (suits wanted asked choices) choices.found every)) ∙ ap (λ (all : List Choices). narrowed_at wanted asked choices ∷ all) others.1,
+            ap (λ (c : Choices). c ∷ state) (ap (λ (found : List (Option (List ℕ))). record choices { found = found }) (filter-every (suits wanted asked choices) choices.found every)) ∙ ap
+                (λ (all : List Choices). narrowed_at wanted asked choices ∷ all) others.1,
           )
       by false elsewhere rest =
           let more = rest (right-false _ _ none (can-elsewhere (not wanted) asked choices some.0 elsewhere)) in (
@@ -170,7 +180,8 @@ module _ (wanted : Bool) (asked : SidedRequirement) where
 
 -- ---- a step
 
-pub alone-step : (asked : SidedRequirement) (state : List Choices) → IsState state → (can_meet can_miss : Bool) → can_meet ≡ can_be true asked state → can_miss ≡ can_be false asked state → (can_meet && can_miss) ≡ false → IsStepTo asked state state None
+pub alone-step : (asked : SidedRequirement) (state : List Choices) → IsState state → (can_meet can_miss : Bool) → can_meet ≡ can_be true asked state → can_miss ≡ can_be false asked state →
+    (can_meet && can_miss) ≡ false → IsStepTo asked state state None
 alone-step asked state is true true meet miss both = absurd (true≢false both)
 alone-step asked state is true false meet miss both =
     let only = only-wanted true asked state is.«open» is.apart (sym miss) in
@@ -188,7 +199,8 @@ choice-of_not true made one other P is first second = subst (P false) (sym is) s
 choice-of_not false made one other P is first second = subst (P true) (sym is) first
 
 module _ (asked : SidedRequirement) (state met unmet next : List Choices) (met_is : met ≡ narrowed true asked state) (unmet_is : unmet ≡ narrowed false asked state) where
-  fork-states : (aside : Option Aside) → IsState state → can_be true asked state ≡ true → can_be false asked state ≡ true → IsFork met unmet next aside → IsState next × IfSome aside (λ a. IsState a.state.items)
+  fork-states : (aside : Option Aside) → IsState state → can_be true asked state ≡ true → can_be false asked state ≡ true → IsFork met unmet next aside →
+      IsState next × IfSome aside (λ a. IsState a.state.items)
   fork-states None is can_meet can_miss forked = absurd forked
   fork-states (Some aside) is can_meet can_miss forked =
       let P : Bool → List Choices → Type 0 = λ wanted made. IsState made in
@@ -197,7 +209,8 @@ module _ (asked : SidedRequirement) (state met unmet next : List Choices) (met_i
       (choice-of_not aside.wanted next met unmet P forked.1 one other, choice-of aside.wanted aside.state.items met unmet P forked.0 one other)
 
   -- the same, from the answers of two tests
-  pub fork-states-by : (aside : Option Aside) (can_meet can_miss : Bool) → IsState state → can_meet ≡ can_be true asked state → can_miss ≡ can_be false asked state → (can_meet && can_miss) ≡ true → IsFork met unmet next aside → IsState next × IfSome aside (λ a. IsState a.state.items)
+  pub fork-states-by : (aside : Option Aside) (can_meet can_miss : Bool) → IsState state → can_meet ≡ can_be true asked state → can_miss ≡ can_be false asked state → (can_meet && can_miss) ≡ true →
+      IsFork met unmet next aside → IsState next × IfSome aside (λ a. IsState a.state.items)
   fork-states-by aside can_meet can_miss is meet miss both forked =
       let parts = and_parts can_meet can_miss both in
       fork-states aside is (sym meet ∙ parts.0) (sym miss ∙ parts.1) forked
@@ -214,8 +227,10 @@ found-at test f (y ∷ xs) (suc i) d within passes = by (test (f y)) (found-at t
     by true rest = refl
     by false rest = rest
 
-pub any-mapped : {A B : Type 0} (test : B → Bool) (f : A → B) (xs : List A) (found : List B) (i : ℕ) (d : A) → map f xs ≡ found → i < length xs → true ≡ test (f (get_or xs i d)) → true ≡ list_any test found
+pub any-mapped : {A B : Type 0} (test : B → Bool) (f : A → B) (xs : List A) (found : List B) (i : ℕ) (d : A) → map f xs ≡ found → i < length xs → true ≡ test (f (get_or xs i d)) →
+    true ≡ list_any test found
 any-mapped {B = B} test f xs found i d is within passes = found-at test f xs i d within passes ∙ ap (λ (all : List B). list_any test all) is
 
-pub suits-by : (wanted : Bool) (asked : SidedRequirement) (choices : Choices) (looks : Bool) (found : Option (List ℕ)) → looks ≡ looks_at choices.side choices.key asked → true ≡ (not looks || as_wanted wanted (allows_found asked found)) → true ≡ suits wanted asked choices found
+pub suits-by : (wanted : Bool) (asked : SidedRequirement) (choices : Choices) (looks : Bool) (found : Option (List ℕ)) → looks ≡ looks_at choices.side choices.key asked →
+    true ≡ (not looks || as_wanted wanted (allows_found asked found)) → true ≡ suits wanted asked choices found
 suits-by wanted asked choices looks found is passes = passes ∙ ap (λ b. not b || as_wanted wanted (allows_found asked found)) is

@@ -22,7 +22,8 @@ module _ (asked : SidedRequirement) (Met Unmet : List ExposureRow → Type 0) (r
   only-missed true can_miss meet walked = absurd (true≢false meet)
   only-missed false can_miss meet walked = walked
 
-  both-cases : (can_meet can_miss : Bool) (met unmet : List ExposureRow) → can_meet ≡ true → can_miss ≡ true → Met met → Unmet unmet → IsJoined asked met unmet rows → AreJoinedAt asked can_meet can_miss Met Unmet rows
+  both-cases : (can_meet can_miss : Bool) (met unmet : List ExposureRow) → can_meet ≡ true → can_miss ≡ true → Met met → Unmet unmet → IsJoined asked met unmet rows →
+      AreJoinedAt asked can_meet can_miss Met Unmet rows
   both-cases true true met unmet meet miss first second joined = (met, unmet, first, second, joined)
   both-cases true false met unmet meet miss first second joined = absurd (false≢true miss)
   both-cases false can_miss met unmet meet miss first second joined = absurd (false≢true meet)
@@ -32,7 +33,8 @@ module _ (asked : SidedRequirement) (can : Bool → Bool) (Rows : Bool → List 
   one-case true here there walked = only-met asked (Rows true) (Rows false) rows (can true) (can false) here there walked
   one-case false here there walked = only-missed asked (Rows true) (Rows false) rows (can true) (can false) there walked
 
-  two-cases : (wanted : Bool) (known others : List ExposureRow) → can true ≡ true → can false ≡ true → Rows wanted known → Rows (not wanted) others → IsJoinedBy asked wanted known others rows → AreJoinedAt asked (can true) (can false) (Rows true) (Rows false) rows
+  two-cases : (wanted : Bool) (known others : List ExposureRow) → can true ≡ true → can false ≡ true → Rows wanted known → Rows (not wanted) others → IsJoinedBy asked wanted known others rows →
+      AreJoinedAt asked (can true) (can false) (Rows true) (Rows false) rows
   two-cases true known others meet miss first second joined = both-cases asked (Rows true) (Rows false) rows (can true) (can false) known others meet miss first second joined
   two-cases false known others meet miss first second joined = both-cases asked (Rows true) (Rows false) rows (can true) (can false) others known meet miss second first joined
 
@@ -45,7 +47,8 @@ module _ (side : PodSide) (asked : SidedRequirement) (rest : List SidedRequireme
       (subst (λ (s : List Choices). AreWalked side rest s rows) step.3 walked)
 
   -- else they are those of both, joined
-  walked-joined : (aside : Aside) (known others rows : List ExposureRow) → IsStepTo asked state next (Some aside) → AreWalked side rest aside.state.items known → AreWalked side rest next others → IsJoinedBy asked aside.wanted known others rows → AreWalked side (asked ∷ rest) state rows
+  walked-joined : (aside : Aside) (known others rows : List ExposureRow) → IsStepTo asked state next (Some aside) → AreWalked side rest aside.state.items known → AreWalked side rest next others →
+      IsJoinedBy asked aside.wanted known others rows → AreWalked side (asked ∷ rest) state rows
   unfolding AreWalked
   walked-joined aside known others rows step first second joined =
       two-cases asked (λ wanted. can_be wanted asked state) (λ wanted. AreWalked side rest (narrowed wanted asked state)) rows aside.wanted known others step.0 step.1
@@ -57,23 +60,27 @@ module _ (side : PodSide) (asked : SidedRequirement) (rest : List SidedRequireme
 abbrev pub IsFilled : PodSide → List Pending → List SidedRequirement → List Choices → (List ExposureRow → Type 0) → Type 0
 IsFilled side pending left state All = (rows made : List ExposureRow) → AreWalked side left state rows → Fills pending rows made → All made
 
-module _ (side : PodSide) (asked : SidedRequirement) (left rest : List SidedRequirement) (state next : List Choices) (pending : List Pending) (All : List ExposureRow → Type 0) (left_is : left ≡ asked ∷ rest) (filled : IsFilled side pending left state All) where
+module _ (side : PodSide) (asked : SidedRequirement) (left rest : List SidedRequirement) (state next : List Choices) (pending : List Pending) (All : List ExposureRow → Type 0)
+    (left_is : left ≡ asked ∷ rest) (filled : IsFilled side pending left state All) where
   pub filled-alone : (aside : Option Aside) → aside ≡ None → IsStepTo asked state next aside → IsFilled side pending rest next All
   filled-alone aside none step rows made walked fills =
       filled rows made
       (subst (λ (all : List SidedRequirement). AreWalked side all state rows) (sym left_is)
       (walked-alone side asked rest state next rows (subst (IsStepTo asked state next) none step) walked)) fills
 
-  pub filled-joined : (aside : Option Aside) (put : Aside) (waits : Pending) (more : List Pending) → aside ≡ Some put → IsStepTo asked state next aside → more ≡ pending ++ waits ∷ [] → waits.asked.now ≡ asked → waits.wanted ≡ put.wanted → AreWalked side rest put.state.items waits.rows.items → IsFilled side more rest next All
+  pub filled-joined : (aside : Option Aside) (put : Aside) (waits : Pending) (more : List Pending) → aside ≡ Some put → IsStepTo asked state next aside → more ≡ pending ++ waits ∷ [] →
+      waits.asked.now ≡ asked → waits.wanted ≡ put.wanted → AreWalked side rest put.state.items waits.rows.items → IsFilled side more rest next All
   filled-joined aside put waits more some step pushed asked_is wanted_is known rows made walked fills =
       let last = Fills-last pending waits rows made (subst (λ (all : List Pending). Fills all rows made) pushed fills) in
-      let joined = subst (λ (wanted : Bool). IsJoinedBy asked wanted waits.rows.items rows last.0) wanted_is (subst (λ (a : SidedRequirement). IsJoinedBy a waits.wanted waits.rows.items rows last.0) asked_is last.1) in
+      let joined = subst (λ (wanted : Bool). IsJoinedBy asked wanted waits.rows.items rows last.0) wanted_is
+      (subst (λ (a : SidedRequirement). IsJoinedBy a waits.wanted waits.rows.items rows last.0) asked_is last.1) in
       filled last.0 made
       (subst (λ (all : List SidedRequirement). AreWalked side all state last.0) (sym left_is)
       (walked-joined side asked rest state next put waits.rows.items rows last.0 (subst (IsStepTo asked state next) some step) known walked joined)) last.2
 
 -- where none is left, they are those of a leaf
-pub walked-leaf : (side : PodSide) (left : List SidedRequirement) (state seen : List Choices) (rows : List ExposureRow) → length left ≡ 0 → seen ≡ state → IsLeaf side seen rows → AreWalked side left state rows
+pub walked-leaf : (side : PodSide) (left : List SidedRequirement) (state seen : List Choices) (rows : List ExposureRow) → length left ≡ 0 → seen ≡ state → IsLeaf side seen rows →
+    AreWalked side left state rows
 unfolding AreWalked
 walked-leaf side [] state seen rows none is leaf = subst (λ (s : List Choices). IsLeaf side s rows) is leaf
 walked-leaf side (asked ∷ left) state seen rows none is leaf = absurd (omega arith)

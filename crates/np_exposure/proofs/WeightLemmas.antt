@@ -62,27 +62,33 @@ abbrev most : ℕ
 most = 2 ^ 64 - 1
 
 -- one key more
-pub patterns-step : (side : Side) (all : List SidedRequirement) (keys values : List (List ℕ)) (i patterns factor new : ℕ) (key : List ℕ) → patterns ≡ min (product (map (patterns_at side all) (take i keys))) (2 ^ 64 - 1) → i < length keys → key ≡ get_or keys i key → values ≡ values_at side key all → factor ≡ min (length values + 2) (2 ^ 64 - 1) → new ≡ min (patterns * factor) (2 ^ 64 - 1) → new ≡ min (product (map (patterns_at side all) (take (i + 1) keys))) (2 ^ 64 - 1)
+pub patterns-step : (side : Side) (all : List SidedRequirement) (keys values : List (List ℕ)) (i patterns factor new : ℕ) (key : List ℕ) →
+    patterns ≡ min (product (map (patterns_at side all) (take i keys))) (2 ^ 64 - 1) → i < length keys → key ≡ get_or keys i key → values ≡ values_at side key all →
+    factor ≡ min (length values + 2) (2 ^ 64 - 1) → new ≡ min (patterns * factor) (2 ^ 64 - 1) → new ≡ min (product (map (patterns_at side all) (take (i + 1) keys))) (2 ^ 64 - 1)
 patterns-step side all keys values i patterns factor new key so_far within is found one more =
     let before = product (map (patterns_at side all) (take i keys)) in
     let here = patterns_at side all key in
     let factor_is : factor ≡ min here most = one ∙ ap (λ (vs : List (List ℕ)). min (length vs + 2) most) found in
     let taken : take (i + 1) keys ≡ take i keys ++ key ∷ [] = take_more keys i key within ∙ ap (λ (k : List ℕ). take i keys ++ k ∷ []) (sym is) in
     let all_is : product (map (patterns_at side all) (take (i + 1) keys)) ≡ before * here =
-    ap (λ (ks : List (List ℕ)). product (map (patterns_at side all) ks)) taken ∙ ap product (map-append (patterns_at side all) (take i keys) (key ∷ [])) ∙ product-push (map (patterns_at side all) (take i keys)) here in
+    ap (λ (ks : List (List ℕ)). product (map (patterns_at side all) ks)) taken ∙ ap product (map-append (patterns_at side all) (take i keys) (key ∷ [])) ∙ product-push
+    (map (patterns_at side all) (take i keys)) here in
     more ∙ ap (λ n. min (n * factor) most) so_far ∙ ap (λ n. min (min before most * n) most) factor_is
     ∙ min-product before here most (product-some (patterns_at side all) (patterns-some side all) (take i keys)) (patterns-some side all key) (lit< tt)
     ∙ ap (λ n. min n most) (sym all_is)
 
 -- where they are the greatest number, so are those of all keys
-pub patterns-full : (side : Side) (all : List SidedRequirement) (keys : List (List ℕ)) (n patterns : ℕ) → patterns ≡ min (product (map (patterns_at side all) (take n keys))) (2 ^ 64 - 1) → patterns ≡ 2 ^ 64 - 1 → keys ≡ keys_on side all → 2 ^ 64 - 1 ≡ min (patterns_on side all) (2 ^ 64 - 1)
+pub patterns-full : (side : Side) (all : List SidedRequirement) (keys : List (List ℕ)) (n patterns : ℕ) → patterns ≡ min (product (map (patterns_at side all) (take n keys))) (2 ^ 64 - 1) →
+    patterns ≡ 2 ^ 64 - 1 → keys ≡ keys_on side all → 2 ^ 64 - 1 ≡ min (patterns_on side all) (2 ^ 64 - 1)
 patterns-full side all keys n patterns so_far full is =
     let less : product (map (patterns_at side all) (take n keys)) ≤ product (map (patterns_at side all) keys) = product-take (patterns_at side all) (patterns-some side all) n keys in
     rw (← is) (omega arith)
 
 -- both sides together
-pub weight-by_sides : (all : List SidedRequirement) (namespaces pods new : ℕ) → namespaces ≡ min (patterns_on Namespace all) (2 ^ 64 - 1) → pods ≡ min (patterns_on Pod all) (2 ^ 64 - 1) → new ≡ min (namespaces * pods) (2 ^ 64 - 1) → new ≡ min (weight all) (2 ^ 64 - 1)
+pub weight-by_sides : (all : List SidedRequirement) (namespaces pods new : ℕ) → namespaces ≡ min (patterns_on Namespace all) (2 ^ 64 - 1) → pods ≡ min (patterns_on Pod all) (2 ^ 64 - 1) →
+    new ≡ min (namespaces * pods) (2 ^ 64 - 1) → new ≡ min (weight all) (2 ^ 64 - 1)
 unfolding weight
 weight-by_sides all namespaces pods new first second both =
     both ∙ ap (λ n. min (n * pods) most) first ∙ ap (λ n. min (min (patterns_on Namespace all) most * n) most) second
-    ∙ min-product (patterns_on Namespace all) (patterns_on Pod all) most (product-some (patterns_at Namespace all) (patterns-some Namespace all) (keys_on Namespace all)) (product-some (patterns_at Pod all) (patterns-some Pod all) (keys_on Pod all)) (lit< tt)
+    ∙ min-product (patterns_on Namespace all) (patterns_on Pod all) most (product-some (patterns_at Namespace all) (patterns-some Namespace all) (keys_on Namespace all))
+    (product-some (patterns_at Pod all) (patterns-some Pod all) (keys_on Pod all)) (lit< tt)

@@ -17,7 +17,8 @@ use Rattle.np_model.specs.Words.{has_slash, is_name, is_word}
 use Rattle.np_labels.specs.WellFormed as labels
 use Rattle.np_labels.specs.declared.requirement.Requirement.{Requirement}
 use Rattle.np_labels.specs.declared.selector.Selector.{Selector}
-use Rattle.np_model.specs.WellPolicies.{if_there, is_well_admin_peer, is_well_admin_policy, is_well_admin_rule, is_well_base_policy, is_well_base_rule, is_well_net_peer, is_well_net_policy, is_well_net_rule, is_well_selector, is_worded}
+use Rattle.np_model.specs.WellPolicies.{if_there, is_well_admin_peer, is_well_admin_policy, is_well_admin_rule, is_well_base_policy, is_well_base_rule, is_well_net_peer, is_well_net_policy}
+use Rattle.np_model.specs.WellPolicies.{is_well_net_rule, is_well_selector, is_worded}
 use Rattle.np_model.specs.declared.admin_policy.AdminPeer.{AdminPeer}
 use Rattle.np_model.specs.declared.admin_policy.AdminPeer.TheVariants as admin
 use Rattle.np_model.specs.declared.admin_policy.AdminPolicy.{AdminPolicy}
@@ -29,10 +30,10 @@ use Rattle.np_model.specs.declared.network_policy.NetPeer.{NetPeer}
 use Rattle.np_model.specs.declared.network_policy.NetPeer.TheVariants as net
 use Rattle.np_model.specs.declared.network_policy.NetPolicy.{NetPolicy}
 use Rattle.np_model.specs.declared.network_policy.NetRule.{NetRule}
-use Rattle.np_rules.specs.Ends.{PodEnd}
-use Rattle.np_rules.specs.Places.{admin_places, admin_rules_of, base_places, base_rules_of, net_places, net_rules_of}
+use Rattle.np_rules.specs.model.Ends.{PodEnd}
+use Rattle.np_rules.specs.model.Places.{admin_places, admin_rules_of, base_places, base_rules_of, net_places, net_rules_of}
 use Rattle.np_rules.specs.PodSides.{PodSide, near_pod}
-use Rattle.np_rules.specs.Selection.{net_selects, subject_selects}
+use Rattle.np_rules.specs.model.Selection.{net_selects, subject_selects}
 
 -- ---- lists
 
@@ -42,7 +43,8 @@ well-append (x ∷ xs) ys front back =
     let parts = and_parts (is_worded x.requirement && labels.is_well_requirement x.requirement) (are_well xs) front in
     and_from _ (are_well (xs ++ ys)) parts.0 (well-append xs ys parts.1 back)
 
-well-flat : {X : Type 0} (test : X → Bool) (f : X → List SidedRequirement) → ((x : X) → test x ≡ true → are_well (f x) ≡ true) → (xs : List X) → list_all test xs ≡ true → are_well (flat_map f xs) ≡ true
+well-flat : {X : Type 0} (test : X → Bool) (f : X → List SidedRequirement) → ((x : X) → test x ≡ true → are_well (f x) ≡ true) → (xs : List X) → list_all test xs ≡ true →
+    are_well (flat_map f xs) ≡ true
 well-flat test f each [] all = refl
 well-flat test f each (x ∷ xs) all =
     let parts = and_parts (test x) (list_all test xs) all in
@@ -54,7 +56,8 @@ well-if false xs well = refl
 
 -- ---- peers
 
-requirements-well : (side : Side) (all : List Requirement) → list_all labels.is_well_requirement all ≡ true → list_all is_worded all ≡ true → are_well (map (λ requirement. record { side = side; requirement = requirement }) all) ≡ true
+requirements-well : (side : Side) (all : List Requirement) → list_all labels.is_well_requirement all ≡ true → list_all is_worded all ≡ true →
+    are_well (map (λ requirement. record { side = side; requirement = requirement }) all) ≡ true
 requirements-well side [] fit words = refl
 requirements-well side (one ∷ all) fit words =
     let here = and_parts (labels.is_well_requirement one) (list_all labels.is_well_requirement all) fit in
@@ -76,7 +79,8 @@ named-well namespace name =
     let word = and_parts (not (length namespace == 0)) (is_word namespace) some.0 in
     rw word.1 refl
 
-namespaces-well : (namespace : List ℕ) (namespaces : Option Selector) (has_pods : Bool) → is_name namespace ≡ true → if_there is_well_selector namespaces ≡ true → are_well (of_namespaces namespace namespaces has_pods) ≡ true
+namespaces-well : (namespace : List ℕ) (namespaces : Option Selector) (has_pods : Bool) → is_name namespace ≡ true → if_there is_well_selector namespaces ≡ true →
+    are_well (of_namespaces namespace namespaces has_pods) ≡ true
 namespaces-well namespace (Some namespaces) has_pods name well = selector-well Namespace namespaces well
 namespaces-well namespace None true name well = named-well namespace name
 namespaces-well namespace None false name well = refl
@@ -106,7 +110,8 @@ base_rule-well rule well = admin_rule-well rule (and_parts _ _ well).1
 
 -- ---- policies
 
-net_rules-well : (namespace : List ℕ) (rules : Option (List NetRule)) → is_name namespace ≡ true → if_there (λ all. list_all is_well_net_rule all) rules ≡ true → are_well (flat_map (of_net_rule namespace) (unwrap_or rules [])) ≡ true
+net_rules-well : (namespace : List ℕ) (rules : Option (List NetRule)) → is_name namespace ≡ true → if_there (λ all. list_all is_well_net_rule all) rules ≡ true →
+    are_well (flat_map (of_net_rule namespace) (unwrap_or rules [])) ≡ true
 net_rules-well namespace None name well = refl
 net_rules-well namespace (Some rules) name well = well-flat is_well_net_rule (of_net_rule namespace) (λ rule. net_rule-well namespace rule name) rules well
 
@@ -116,9 +121,11 @@ net_policy-well direction p policy well =
     let ingress = and_parts _ (if_there (λ all. list_all is_well_net_rule all) policy.ingress) egress.0 in
     let names = and_parts (is_name policy.namespace && is_name policy.name) (is_well_selector policy.subject) ingress.0 in
     let name = and_parts (is_name policy.namespace) (is_name policy.name) names.0 in
-    well-if (net_selects policy p) (flat_map (of_net_rule policy.namespace) (unwrap_or (net_rules_of direction policy) [])) (net_rules-well policy.namespace (net_rules_of direction policy) name.0 (by direction ingress.1 egress.1))
+    well-if (net_selects policy p) (flat_map (of_net_rule policy.namespace) (unwrap_or (net_rules_of direction policy) []))
+    (net_rules-well policy.namespace (net_rules_of direction policy) name.0 (by direction ingress.1 egress.1))
   where
-    by : (d : Direction) → if_there (λ all. list_all is_well_net_rule all) policy.ingress ≡ true → if_there (λ all. list_all is_well_net_rule all) policy.egress ≡ true → if_there (λ all. list_all is_well_net_rule all) (net_rules_of d policy) ≡ true
+    by : (d : Direction) → if_there (λ all. list_all is_well_net_rule all) policy.ingress ≡ true → if_there (λ all. list_all is_well_net_rule all) policy.egress ≡ true →
+        if_there (λ all. list_all is_well_net_rule all) (net_rules_of d policy) ≡ true
     by Ingress first second = first
     by Egress first second = second
 
@@ -130,10 +137,12 @@ admin_policy-well direction p policy well =
     by Ingress = (and_parts _ _ (and_parts _ _ well).0).1
     by Egress = (and_parts _ _ well).1
 
-baseline-well : (direction : Direction) (p : PodEnd) (baseline : Option BasePolicy) → option_map_or is_well_base_policy baseline true ≡ true → are_well (flat_map (λ placed. of_admin_rule placed.rule) (base_places baseline direction p)) ≡ true
+baseline-well : (direction : Direction) (p : PodEnd) (baseline : Option BasePolicy) → option_map_or is_well_base_policy baseline true ≡ true →
+    are_well (flat_map (λ placed. of_admin_rule placed.rule) (base_places baseline direction p)) ≡ true
 baseline-well direction p None well = refl
 baseline-well direction p (Some policy) well =
-    ap are_well (base_mentions direction p policy) ∙ well-if (subject_selects policy.subject p) _ (well-flat is_well_base_rule of_admin_rule base_rule-well (base_rules_of direction policy) (by direction))
+    ap are_well (base_mentions direction p policy) ∙ well-if (subject_selects policy.subject p) _
+    (well-flat is_well_base_rule of_admin_rule base_rule-well (base_rules_of direction policy) (by direction))
   where
     by : (d : Direction) → list_all is_well_base_rule (base_rules_of d policy) ≡ true
     by Ingress = (and_parts _ _ (and_parts _ _ well).0).1
@@ -147,10 +156,14 @@ mentions-well side well =
     let base = and_parts _ (option_map_or is_well_base_policy lists.baseline true) (and_parts _ _ (and_parts _ _ well).0).0 in
     let admins = and_parts _ (list_all is_well_admin_policy lists.admin_policies) base.0 in
     let nets = and_parts _ (list_all is_well_net_policy lists.net_policies) admins.0 in
-    let first = ap are_well (sym (admin_mentions side.direction p lists.admin_policies)) ∙ well-flat is_well_admin_policy (of_admin_policy side.direction p) (admin_policy-well side.direction p) lists.admin_policies admins.1 in
-    let second = ap are_well (sym (net_mentions side.direction p lists.net_policies)) ∙ well-flat is_well_net_policy (of_net_policy side.direction p) (net_policy-well side.direction p) lists.net_policies nets.1 in
-    well-append (flat_map (λ placed. of_admin_rule placed.rule) (admin_places lists.admin_policies side.direction p) ++ flat_map of_placed (net_places lists.net_policies side.direction p)) (flat_map (λ placed. of_admin_rule placed.rule) (base_places lists.baseline side.direction p))
-    (well-append (flat_map (λ placed. of_admin_rule placed.rule) (admin_places lists.admin_policies side.direction p)) (flat_map of_placed (net_places lists.net_policies side.direction p)) first second)
+    let first = ap are_well (sym (admin_mentions side.direction p lists.admin_policies)) ∙ well-flat is_well_admin_policy (of_admin_policy side.direction p)
+    (admin_policy-well side.direction p) lists.admin_policies admins.1 in
+    let second = ap are_well (sym (net_mentions side.direction p lists.net_policies)) ∙ well-flat is_well_net_policy (of_net_policy side.direction p)
+    (net_policy-well side.direction p) lists.net_policies nets.1 in
+    well-append (flat_map (λ placed. of_admin_rule placed.rule) (admin_places lists.admin_policies side.direction p) ++ flat_map of_placed (net_places lists.net_policies side.direction p))
+    (flat_map (λ placed. of_admin_rule placed.rule) (base_places lists.baseline side.direction p))
+    (well-append (flat_map (λ placed. of_admin_rule placed.rule) (admin_places lists.admin_policies side.direction p))
+    (flat_map of_placed (net_places lists.net_policies side.direction p)) first second)
     (baseline-well side.direction p lists.baseline base.1)
 
 -- ---- each once, and in rows
@@ -168,7 +181,8 @@ well-once made (one ∷ rest) well all =
 abbrev rows_well : List ExposureRow → Bool
 rows_well rows = list_all (λ row. are_well row.requirements) rows
 
-joined-well : (asked : SidedRequirement) (met unmet : List ExposureRow) → are_well (asked ∷ []) ≡ true → rows_well met ≡ true → rows_well unmet ≡ true → rows_well (map (with_first asked) met ++ unmet) ≡ true
+joined-well : (asked : SidedRequirement) (met unmet : List ExposureRow) → are_well (asked ∷ []) ≡ true → rows_well met ≡ true → rows_well unmet ≡ true →
+    rows_well (map (with_first asked) met ++ unmet) ≡ true
 joined-well asked [] unmet well first second = second
 joined-well asked (row ∷ met) unmet well first second =
     let parts = and_parts (are_well row.requirements) (rows_well met) first in
@@ -187,7 +201,8 @@ rows-well side (asked ∷ left) assumed rows well are = by are (λ more. rows-we
     joined met unmet (apart differ is) first second = ap rows_well is ∙ joined-well asked met unmet (and_from _ true parts.0 refl) first second
 
     by : AreRowsAt asked (IsPossible (asked ∷ assumed)) (IsPossible (negated asked ∷ assumed)) (AreRows side left (asked ∷ assumed)) (AreRows side left (negated asked ∷ assumed)) rows
-        → ((more : List ExposureRow) → AreRows side left (asked ∷ assumed) more → rows_well more ≡ true) → ((more : List ExposureRow) → AreRows side left (negated asked ∷ assumed) more → rows_well more ≡ true) → rows_well rows ≡ true
+        → ((more : List ExposureRow) → AreRows side left (asked ∷ assumed) more → rows_well more ≡ true) →
+        ((more : List ExposureRow) → AreRows side left (negated asked ∷ assumed) more → rows_well more ≡ true) → rows_well rows ≡ true
     by (always can cannot met) one other = one rows met
     by (never cannot can unmet) one other = other rows unmet
     by (either can can' met unmet first second are_joined) one other = joined met unmet are_joined (one met first) (other unmet second)

@@ -22,7 +22,8 @@ pub value_of-append : (xs ys : List Pair) (key : List ℕ) → value_of (xs ++ y
 value_of-append [] ys key = refl
 value_of-append (pair ∷ xs) ys key = by (bytes_eq pair.key key) (value_of-append xs ys key)
   where
-    by : (b : Bool) → value_of (xs ++ ys) key ≡ option_or (value_of xs key) (value_of ys key) → cond b (Some pair.value) (value_of (xs ++ ys) key) ≡ option_or (cond b (Some pair.value) (value_of xs key)) (value_of ys key)
+    by : (b : Bool) → value_of (xs ++ ys) key ≡ option_or (value_of xs key) (value_of ys key) →
+        cond b (Some pair.value) (value_of (xs ++ ys) key) ≡ option_or (cond b (Some pair.value) (value_of xs key)) (value_of ys key)
     by true rest = refl
     by false rest = rest
 
@@ -43,7 +44,8 @@ no-label_if key other (Some value) apart = rw apart refl
 -- ---- the labels of all first choices
 
 -- a key that is apart from all others has no label among theirs
-none-last : (side : Side) (here : Choices) (state : List Choices) → same_side here.side side ≡ true → list_all (are_apart here) state ≡ true → last_value_of (flat_map (first_label side) state) here.key ≡ None
+none-last : (side : Side) (here : Choices) (state : List Choices) → same_side here.side side ≡ true → list_all (are_apart here) state ≡ true →
+    last_value_of (flat_map (first_label side) state) here.key ≡ None
 none-last side here [] of apart = refl
 none-last side here (choices ∷ state) of apart =
     let parts = and_parts (are_apart here choices) (list_all (are_apart here) state) apart in
@@ -51,20 +53,23 @@ none-last side here (choices ∷ state) of apart =
     ∙ ap (λ (found : Option (List ℕ)). option_or found (last_value_of (first_label side choices) here.key)) (none-last side here state of parts.1)
     ∙ by (same_side choices.side side) refl (bytes_eq choices.key here.key) refl parts.0
   where
-    by : (b : Bool) → same_side choices.side side ≡ b → (k : Bool) → bytes_eq choices.key here.key ≡ k → are_apart here choices ≡ true → last_value_of (label_if choices.key (cond b (first_found choices.found) None)) here.key ≡ None
+    by : (b : Bool) → same_side choices.side side ≡ b → (k : Bool) → bytes_eq choices.key here.key ≡ k → are_apart here choices ≡ true →
+        last_value_of (label_if choices.key (cond b (first_found choices.found) None)) here.key ≡ None
     by false other k same away = refl
     by true also false differ away = no-label_if choices.key here.key (first_found choices.found) differ
     by true also true same away =
         let sides : here.side ≡ choices.side = same_side-equal here.side side of ∙ sym (same_side-equal choices.side side also) in
         let keys : choices.key ≡ here.key = (bytes_decides choices.key here.key).0 same in
-        let both = and_from (same_side here.side choices.side) (bytes_eq here.key choices.key) (subst (λ (s : Side). same_side here.side s ≡ true) sides (same_side-refl here.side)) ((bytes_decides here.key choices.key).1 (sym keys)) in
+        let both = and_from (same_side here.side choices.side) (bytes_eq here.key choices.key) (subst (λ (s : Side). same_side here.side s ≡ true) sides (same_side-refl here.side))
+        ((bytes_decides here.key choices.key).1 (sym keys)) in
         absurd (true≢false (sym both ∙ not-true _ away))
 
 -- each key of the side has its first choice, after labels that it does not have
 abbrev HasFirst : Side → List Pair → Choices → Type 0
 HasFirst side labels choices = same_side choices.side side ≡ true → last_value_of labels choices.key ≡ first_found choices.found
 
-later-first : (side : Side) (here : Choices) (labels : List Pair) (state : List Choices) → list_all (are_apart here) state ≡ true → AllByRecursion (HasFirst side labels) state → AllByRecursion (HasFirst side (first_label side here ++ labels)) state
+later-first : (side : Side) (here : Choices) (labels : List Pair) (state : List Choices) → list_all (are_apart here) state ≡ true → AllByRecursion (HasFirst side labels) state →
+    AllByRecursion (HasFirst side (first_label side here ++ labels)) state
 later-first side here labels [] apart all = tt
 later-first side here labels (choices ∷ state) apart all =
     let parts = and_parts (are_apart here choices) (list_all (are_apart here) state) apart in (
@@ -108,7 +113,8 @@ abbrev named : List Pair
 named = record { key = codes "kubernetes.io/metadata.name"; value = codes "a" } ∷ []
 
 -- the name stands only where no key of the namespace's labels is chosen to be absent
-named-found : (found : List (Option (List ℕ))) (key : List ℕ) (is_name : Bool) → is_name ≡ bytes_eq key (codes "kubernetes.io/metadata.name") → list_any (λ one. true) found ≡ true → (not is_name || list_all (λ one. is_some one) found) ≡ true → option_or (first_found found) (last_value_of named key) ≡ first_found found
+named-found : (found : List (Option (List ℕ))) (key : List ℕ) (is_name : Bool) → is_name ≡ bytes_eq key (codes "kubernetes.io/metadata.name") → list_any (λ one. true) found ≡ true →
+    (not is_name || list_all (λ one. is_some one) found) ≡ true → option_or (first_found found) (last_value_of named key) ≡ first_found found
 named-found [] key is_name same some all = absurd (false≢true some)
 named-found (Some value ∷ found) key is_name same some all = refl
 named-found (None ∷ found) key true same some all = absurd (false≢true all)
@@ -124,22 +130,26 @@ module _ (state : List Choices) (s : Stranger) (is : IsState state)
 
   is_named : is_hypothetical s ≡ true
   is_named =
-      ap (λ (found : Option (List ℕ)). is_some found) (namespaces (codes "kubernetes.io/metadata.name") ∙ last-append named (flat_map (first_label Namespace) state) (codes "kubernetes.io/metadata.name"))
+      ap (λ (found : Option (List ℕ)). is_some found) (namespaces (codes "kubernetes.io/metadata.name") ∙ last-append named (flat_map (first_label Namespace) state)
+      (codes "kubernetes.io/metadata.name"))
       ∙ some-or (last_value_of (flat_map (first_label Namespace) state) (codes "kubernetes.io/metadata.name")) (codes "a")
 
-  named-none : (choices : Choices) → choices.side ≡ Namespace → has_choice choices ≡ true → is_named_at choices ≡ true → option_or (first_found choices.found) (last_value_of named choices.key) ≡ first_found choices.found
+  named-none : (choices : Choices) → choices.side ≡ Namespace → has_choice choices ≡ true → is_named_at choices ≡ true →
+      option_or (first_found choices.found) (last_value_of named choices.key) ≡ first_found choices.found
   named-none choices side some named_at =
       named-found choices.found choices.key (bytes_eq choices.key (codes "kubernetes.io/metadata.name")) refl some
       (subst (λ (a : Side). (not (is_name_key a choices.key) || list_all (λ found. is_some found) choices.found) ≡ true) side named_at)
 
-  chosen : (rest : List Choices) → AllByRecursion (HasFirst Namespace (flat_map (first_label Namespace) state)) rest → AllByRecursion (HasFirst Pod (flat_map (first_label Pod) state)) rest → is_open rest ≡ true → list_all is_named_at rest ≡ true → AllByRecursion (IsChosen s) rest
+  chosen : (rest : List Choices) → AllByRecursion (HasFirst Namespace (flat_map (first_label Namespace) state)) rest → AllByRecursion (HasFirst Pod (flat_map (first_label Pod) state)) rest →
+      is_open rest ≡ true → list_all is_named_at rest ≡ true → AllByRecursion (IsChosen s) rest
   chosen [] first second «open» names = tt
   chosen (choices ∷ rest) first second «open» names =
       let some = and_parts (has_choice choices) (is_open rest) «open» in
       let name = and_parts (is_named_at choices) (list_all is_named_at rest) names in
       (by choices.side refl first.0 second.0 some.0 name.0, chosen rest first.1 second.1 some.1 name.1)
     where
-      by : (side : Side) → choices.side ≡ side → HasFirst Namespace (flat_map (first_label Namespace) state) choices → HasFirst Pod (flat_map (first_label Pod) state) choices → has_choice choices ≡ true → is_named_at choices ≡ true
+      by : (side : Side) → choices.side ≡ side → HasFirst Namespace (flat_map (first_label Namespace) state) choices → HasFirst Pod (flat_map (first_label Pod) state) choices →
+          has_choice choices ≡ true → is_named_at choices ≡ true
           → IsAmong (value_of (labels_at side s) choices.key) choices.found
       by Namespace of first second some name =
           let found : value_of s.namespace choices.key ≡ first_found choices.found =
@@ -157,7 +167,8 @@ module _ (state : List Choices) (s : Stranger) (is : IsState state)
   }
 
 -- the labels as they are put together
-pub IsWitness-of : (state : List Choices) (s : Stranger) (empty first namespaces pods : List Pair) (key value : List ℕ) → IsState state → key ≡ codes "kubernetes.io/metadata.name" → value ≡ codes "a" → empty ≡ [] → first ≡ empty ++ record { key = key; value = value } ∷ []
+pub IsWitness-of : (state : List Choices) (s : Stranger) (empty first namespaces pods : List Pair) (key value : List ℕ) → IsState state → key ≡ codes "kubernetes.io/metadata.name" →
+    value ≡ codes "a" → empty ≡ [] → first ≡ empty ++ record { key = key; value = value } ∷ []
     → namespaces ≡ first ++ flat_map (first_label Namespace) state → pods ≡ empty ++ flat_map (first_label Pod) state
     → ((other : List ℕ) → value_of s.namespace other ≡ last_value_of namespaces other) → ((other : List ℕ) → value_of s.labels other ≡ last_value_of pods other) → IsWitness state s
 IsWitness-of state s empty first namespaces pods key value is key_is value_is none one front back front_values back_values =

@@ -19,9 +19,9 @@ use Rattle.np_fold.specs.Alike.{IsSameKind}
 use Rattle.np_fold.specs.Keys.{keys_of_estate}
 use Rattle.np_fold.specs.Workloads.{number_of}
 use Rattle.np_model.specs.declared.direction.Direction.{Direction}
-use Rattle.np_rules.specs.Ends.{PodEnd, pod_end}
+use Rattle.np_rules.specs.model.Ends.{PodEnd, pod_end}
 use Rattle.np_rules.specs.PodSides.{PodSide, side_of}
-use Rattle.np_rules.specs.Verdict.{pod_at, pod_or_none}
+use Rattle.np_rules.specs.model.Verdict.{pod_at, pod_or_none}
 use Rattle.np_rules.specs.declared.stranger.Stranger.{Stranger}
 
 -- ---- sides that mention the same and expose alike
@@ -33,11 +33,15 @@ module _ (a b : PodSide) (same : mentions a ≡ mentions b) (alike : (s : Strang
   left-same : (left assumed : List SidedRequirement) → rows_left a left assumed ≡ rows_left b left assumed
   unfolding rows_left
   left-same [] assumed =
-      ap (λ (row : ExposureRow). row ∷ []) (ap (λ (all : List SidedRequirement). row_of a (first_stranger (choices_left all assumed))) same ∙ row-same (first_stranger (choices_left (mentions b) assumed)))
+      ap (λ (row : ExposureRow). row ∷ []) (ap (λ (all : List SidedRequirement). row_of a (first_stranger (choices_left all assumed))) same ∙ row-same
+      (first_stranger (choices_left (mentions b) assumed)))
   left-same (asked ∷ left) assumed =
-      ap (λ (all : List SidedRequirement). rows_at asked (can_be_assumed all (asked ∷ assumed)) (can_be_assumed all (negated asked ∷ assumed)) (rows_left a left (asked ∷ assumed)) (rows_left a left (negated asked ∷ assumed))) same
-      ∙ ap (λ (met : List ExposureRow). rows_at asked (can_be_assumed (mentions b) (asked ∷ assumed)) (can_be_assumed (mentions b) (negated asked ∷ assumed)) met (rows_left a left (negated asked ∷ assumed))) (left-same left (asked ∷ assumed))
-      ∙ ap (λ (unmet : List ExposureRow). rows_at asked (can_be_assumed (mentions b) (asked ∷ assumed)) (can_be_assumed (mentions b) (negated asked ∷ assumed)) (rows_left b left (asked ∷ assumed)) unmet) (left-same left (negated asked ∷ assumed))
+      ap (λ (all : List SidedRequirement). rows_at asked (can_be_assumed all (asked ∷ assumed)) (can_be_assumed all (negated asked ∷ assumed)) (rows_left a left (asked ∷ assumed))
+      (rows_left a left (negated asked ∷ assumed))) same
+      ∙ ap (λ (met : List ExposureRow). rows_at asked (can_be_assumed (mentions b) (asked ∷ assumed)) (can_be_assumed (mentions b) (negated asked ∷ assumed)) met
+      (rows_left a left (negated asked ∷ assumed))) (left-same left (asked ∷ assumed))
+      ∙ ap (λ (unmet : List ExposureRow). rows_at asked (can_be_assumed (mentions b) (asked ∷ assumed)) (can_be_assumed (mentions b) (negated asked ∷ assumed))
+      (rows_left b left (asked ∷ assumed)) unmet) (left-same left (negated asked ∷ assumed))
 
   rows-same : rows_of a ≡ rows_of b
   rows-same = left-same (each_once (mentions a)) [] ∙ ap (λ (all : List SidedRequirement). rows_left b (each_once all) []) same
@@ -59,7 +63,8 @@ same_some : (found : Option Pod) (a b : Pod) → found ≡ Some a → found ≡ 
 same_some found a b is is' = cc
 
 -- and so in whatever order they stand
-labels_agree : (lists : EstateLists) (i j : ℕ) (a b : Pod) → IsLawful lists → slice_get lists.pods i ≡ Some a → slice_get lists.pods j ≡ Some b → a.namespace ≡ b.namespace → a.namespace_labels ≡ b.namespace_labels
+labels_agree : (lists : EstateLists) (i j : ℕ) (a b : Pod) → IsLawful lists → slice_get lists.pods i ≡ Some a → slice_get lists.pods j ≡ Some b → a.namespace ≡ b.namespace →
+    a.namespace_labels ≡ b.namespace_labels
 labels_agree lists i j a b lawful is is' same =
     elim (cases_order i j) [
       | inl equal ↦ ap (λ (p : Pod). p.namespace_labels) (same_some (slice_get lists.pods j) a b (subst (λ (k : ℕ). slice_get lists.pods k ≡ Some a) equal is) is')
@@ -67,15 +72,23 @@ labels_agree lists i j a b lawful is is' same =
       | inr (inr after) ↦ sym (namespaces_agree lists.pods j i b a lawful.namespaces_agree is' is after (sym same))
     ]
 
-alike-by : (lists : EstateLists) (p q : ℕ) (a b : Pod) → IsLawful lists → slice_get lists.pods p ≡ Some a → slice_get lists.pods q ≡ Some b → IsSameKind lists a b → AreAlikePods lists (pod_at lists p) (pod_at lists q)
+alike-by : (lists : EstateLists) (p q : ℕ) (a b : Pod) → IsLawful lists → slice_get lists.pods p ≡ Some a → slice_get lists.pods q ≡ Some b → IsSameKind lists a b →
+    AreAlikePods lists (pod_at lists p) (pod_at lists q)
 alike-by lists p q a b lawful is is' kind =
     let one_is : pod_at lists p ≡ pod_end a = ap pod_or_none is in
     let other_is : pod_at lists q ≡ pod_end b = ap pod_or_none is' in
     let alike : AreAlikePods lists (pod_end a) (pod_end b) =
-    record { namespace = kind.namespace; namespace_labels = labels_agree lists p q a b lawful is is' kind.namespace; ports = kind.ports; labels = All-from_listed (AgreeOn a.labels b.labels) (keys_of_estate lists) kind.labels } in
+    record {
+      namespace = kind.namespace;
+      namespace_labels = labels_agree lists p q a b lawful is is' kind.namespace;
+      ports = kind.ports;
+      labels = All-from_listed (AgreeOn a.labels b.labels)
+          (keys_of_estate lists) kind.labels;
+    } in
     subst (λ (x : PodEnd). AreAlikePods lists x (pod_at lists q)) (sym one_is) (subst (λ (y : PodEnd). AreAlikePods lists (pod_end a) y) (sym other_is) alike)
 
-module _ (lists : EstateLists) (p q : ℕ) (direction : Direction) (lawful : IsLawful lists) (p_in : p < length lists.pods) (q_in : q < length lists.pods) (one : number_of lists p ≡ number_of lists q) where
+module _ (lists : EstateLists) (p q : ℕ) (direction : Direction) (lawful : IsLawful lists) (p_in : p < length lists.pods) (q_in : q < length lists.pods)
+    (one : number_of lists p ≡ number_of lists q) where
   alike : AreAlikePods lists (pod_at lists p) (pod_at lists q)
   alike =
       let a = pod_there lists.pods p p_in in

@@ -16,7 +16,7 @@ use Rattle.np_model.specs.declared.admin_policy.AdminRule.{AdminRule}
 use Rattle.np_model.specs.declared.network_policy.NetPeer.{NetPeer}
 use Rattle.np_model.specs.declared.network_policy.NetPeer.TheVariants as net
 use Rattle.np_model.specs.declared.network_policy.NetRule.{NetRule}
-use Rattle.np_rules.specs.Places.{PlacedNetRule, admin_places, base_places, net_places}
+use Rattle.np_rules.specs.model.Places.{PlacedNetRule, admin_places, base_places, net_places}
 use Rattle.np_rules.specs.PodSides.{PodSide, near_pod}
 
 -- ---- what a peer mentions: first on the side of the namespace, then on the side of the pod

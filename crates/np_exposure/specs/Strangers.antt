@@ -10,7 +10,7 @@ use Rattle.np_labels.specs.Labels.{value_of}
 use Rattle.np_labels.specs.Selectors.{meets_requirement, negation_of}
 use Rattle.np_labels.specs.declared.pair.Pair.{Pair}
 use Rattle.np_rules.specs.PodSides.{PodSide, near_pod, with_stranger}
-use Rattle.np_rules.specs.Sides.{side_allows}
+use Rattle.np_rules.specs.model.Sides.{side_allows}
 use Rattle.np_rules.specs.declared.stranger.Stranger.{Stranger}
 
 -- Whether the labels of its namespace say the namespace's name. A hypothetical pod is any stranger of which they do.

@@ -1,14 +1,24 @@
 //! What may be found at the keys of labels.
-ghost use Rattle.std.specs.Prelude.{◌≡◌, map, IfOk, IfSome, IsTrue};
+ghost use Rattle.std.specs.Prelude.{◌≡◌, ◌&&◌, ℕ, List, [], Option, map, unwrap_or, IfOk, IfSome};
 ghost use Rattle.std.specs.List.{list_all, list_any};
 ghost use Rattle.std.specs.Option.{option_map};
+ghost use Rattle.std.specs.Str.{bytes_eq};
 ghost use Rattle.np_exposure.specs.Choices as spec;
+ghost use Rattle.np_exposure.specs.Mentions.{same_side};
+ghost use Rattle.np_exposure.specs.Strangers.{labels_at};
+ghost use Rattle.np_exposure.specs.steps.Settled.{IsRight};
 ghost use Rattle.np_exposure.specs.steps.States as states;
+ghost use Rattle.np_exposure.specs.steps.States.{IsWitness};
+ghost use Rattle.np_labels.specs.Labels.{value_of};
+ghost use Rattle.np_labels.specs.Selectors.{allows};
+ghost use Rattle.np_rules.specs.Laws.{IsAmong};
+ghost use Rattle.np_rules.specs.declared.stranger.Stranger.{Stranger};
 
 use crate::label::Label;
 use crate::side::Side;
-use crate::sided_requirement::SidedRequirement;
+use crate::sided_requirement::{SidedRequirement, allows};
 use np_base::{NoMemory, Text};
+use np_labels::Requirement;
 use std::alloc::Global;
 use std::marker::Model;
 
@@ -71,6 +81,41 @@ impl<'a> KeyChoices<'a> {
         }
     }
 
+    // Whether the key is this one, of this side.
+    fn is_at(&self, side: Side, key: &str) -> bool
+        ensures { result ≡ (same_side self.now.side side && bytes_eq self.now.key key.now) }
+    {
+        self.side == side && self.key == key
+    }
+
+    /// Whether the choices meet a requirement on the key, where all of them do, or none.
+    pub(crate) fn meet(&self, requirement: &Requirement) -> Option<bool>
+        ensures { (found : Option (List ℕ)) → IsAmong found self.now.found →
+            IsRight (allows requirement.now.op requirement.now.values found) result }
+    {
+        if all_meet(&self.found, requirement) {
+            return Some(true);
+        }
+        if !some_meets(&self.found, requirement) {
+            return Some(false);
+        }
+        None
+    }
+
+    /// Whether the choices are this value, where all of them are, or none. No value is the same as the empty one.
+    pub(crate) fn are(&self, value: &str) -> Option<bool>
+        ensures { (found : Option (List ℕ)) → IsAmong found self.now.found →
+            IsRight (bytes_eq value.now (unwrap_or found [])) result }
+    {
+        if all_are(&self.found, value) {
+            return Some(true);
+        }
+        if !some_is(&self.found, value) {
+            return Some(false);
+        }
+        None
+    }
+
     // Whether one choice is left.
     fn is_made(&self) -> bool
         ensures { result ≡ states.is_made self.now }
@@ -115,6 +160,46 @@ impl<'a> KeyChoices<'a> {
     }
 }
 
+// Whether all of them meet a requirement.
+fn all_meet(found: &[Option<&str>], requirement: &Requirement) -> bool
+    ensures { result ≡ list_all (λ one. allows requirement.now.op requirement.now.values (option_map (λ value. value.now) one))
+        found.now }
+{
+    found.iter().all(|one| allows(requirement, *one))
+}
+
+// Whether some of them meets a requirement.
+fn some_meets(found: &[Option<&str>], requirement: &Requirement) -> bool
+    ensures { result ≡ list_any (λ one. allows requirement.now.op requirement.now.values (option_map (λ value. value.now) one))
+        found.now }
+{
+    found.iter().any(|one| allows(requirement, *one))
+}
+
+// Whether all of them are this value.
+fn all_are(found: &[Option<&str>], value: &str) -> bool
+    ensures { result ≡ list_all (λ one. bytes_eq value.now (unwrap_or (option_map (λ value. value.now) one) [])) found.now }
+{
+    found.iter().all(|one| is_value(*one, value))
+}
+
+// Whether some of them is this value.
+fn some_is(found: &[Option<&str>], value: &str) -> bool
+    ensures { result ≡ list_any (λ one. bytes_eq value.now (unwrap_or (option_map (λ value. value.now) one) [])) found.now }
+{
+    found.iter().any(|one| is_value(*one, value))
+}
+
+// Whether a choice is this value. That there is no value is the same as the empty one.
+fn is_value(found: Option<&str>, value: &str) -> bool
+    ensures { result ≡ bytes_eq value.now (unwrap_or (option_map (λ value. value.now) found.entry) []) }
+{
+    match found {
+        Some(found) => value == found,
+        None => value.is_empty(),
+    }
+}
+
 // Whether it is the key under which a namespace's labels say its name.
 fn is_name_key(side: Side, key: &str) -> bool
     ensures { result ≡ spec.is_name_key side key.now }
@@ -134,6 +219,23 @@ pub(crate) fn all_choices<'a>(
         state.push(KeyChoices::of(alloc, label)?)?;
     }
     Ok(state)
+}
+
+/// The choices at a key of a side, where it is one of the keys.
+pub(crate) fn choices_at<'s, 'a>(
+    state: &'s [KeyChoices<'a>],
+    side: Side,
+    key: &str,
+) -> Option<&'s KeyChoices<'a>>
+    ensures { IfSome result (λ choices. (s : Stranger) → IsWitness state.now s →
+        IsAmong (value_of (labels_at side s) key.now) choices.now.found) }
+{
+    for choices in state {
+        if choices.is_at(side, key) {
+            return Some(choices);
+        }
+    }
+    None
 }
 
 /// Whether one choice is left at each key, so that no requirement can be both met and missed.

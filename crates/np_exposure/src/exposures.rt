@@ -14,6 +14,7 @@ use crate::exposure_row::ExposureRow;
 use crate::label::labels_of;
 use crate::mentions::mentions;
 use crate::open_row::finished;
+use crate::open_rules::OpenRules;
 use crate::requirements::each_once;
 use crate::sided_requirement::SidedRequirement;
 use crate::walk::rows_of;
@@ -69,6 +70,7 @@ fn rows_of_mentions<L: Ledger>(
     let labels = labels_of(alloc, &mentions)?;
     let state = all_choices(alloc, &labels)?;
     let asked = each_once(alloc, mentions)?;
-    let rows = rows_of(alloc, rules, &asked, state, steps)?;
+    let net = OpenRules::of(alloc, rules)?;
+    let rows = rows_of(alloc, rules, &asked, state, net, steps)?;
     finished(alloc, rows)
 }

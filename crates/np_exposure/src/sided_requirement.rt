@@ -70,8 +70,8 @@ impl TryCopy for SidedRequirement {
     }
 }
 
-// Whether the value that a key has, or that it has none, is as a requirement asks.
-fn allows(requirement: &Requirement, found: Option<&str>) -> bool
+/// Whether the value that a key has, or that it has none, is as a requirement asks.
+pub(crate) fn allows(requirement: &Requirement, found: Option<&str>) -> bool
     ensures { result ≡ allows requirement.now.op requirement.now.values (option_map (λ value. value.now) found.entry) }
 {
     match requirement.op {

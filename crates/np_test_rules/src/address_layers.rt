@@ -12,7 +12,7 @@ use np_addr::{Address, family_of, read_address};
 use np_base::Cells;
 use np_conns::{ConnSet, read_conns};
 use np_model::{Direction, Estate};
-use np_rules::{AddrConns, PodRules, address_layer};
+use np_rules::{AddrConns, PodRules};
 use np_steps::Steps;
 use np_tiers::verdict_set;
 use std::alloc::Global;
@@ -41,8 +41,8 @@ fn address_set<L: Ledger>(
     requires some { 0 < blank.parts }
 {
     let mut steps: Steps<L> = Steps::new(blank);
-    let layer = address_layer(alloc, estate, pod, direction, &mut steps)?;
     let rules = PodRules::of(alloc, estate, pod, direction)?;
+    let layer = rules.address_layer(alloc, &mut steps)?;
     let set = rules.address_set(alloc, &mut steps)?;
     if !set.same(&verdict_set(alloc, &layer)?) {
         return Err("the layer allows something else")?;

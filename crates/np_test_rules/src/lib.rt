@@ -19,8 +19,6 @@ mod packets;
 #[cfg(test)]
 mod peer_cases;
 #[cfg(test)]
-mod pod_rules;
-#[cfg(test)]
 mod port_cases;
 #[cfg(test)]
 mod side_layers;

@@ -1,6 +1,6 @@
 //! `allows` between two ends, asked at ports of each protocol.
 ghost use Rattle.std.specs.Prelude.{◌≡◌, ◌<◌, length, IfSome};
-ghost use Rattle.np_rules.specs.Verdict.{IsEndOf};
+ghost use Rattle.np_rules.specs.model.Verdict.{IsEndOf};
 
 use crate::built::estate;
 use crate::written::WrittenEstate;

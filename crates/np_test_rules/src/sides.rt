@@ -6,7 +6,7 @@ use np_addr::{Address, Family, read_address};
 use np_base::Cells;
 use np_conns::ConnSet;
 use np_model::{Direction, Estate};
-use np_rules::{pod_layer, point_layer};
+use np_rules::PodRules;
 use np_steps::Steps;
 use np_tiers::verdict_set;
 use std::alloc::Global;
@@ -79,7 +79,8 @@ fn pod_set<L: Ledger>(
     requires some { 0 < blank.parts }
 {
     let mut steps: Steps<L> = Steps::new(blank);
-    let layer = pod_layer(alloc, estate, pod, direction, peer, family, &mut steps)?;
+    let rules = PodRules::of(alloc, estate, pod, direction)?;
+    let layer = rules.pod_layer(alloc, peer, family, &mut steps)?;
     Ok(verdict_set(alloc, &layer)?)
 }
 
@@ -98,6 +99,7 @@ fn point_set<L: Ledger>(
     requires some { 0 < blank.parts }
 {
     let mut steps: Steps<L> = Steps::new(blank);
-    let layer = point_layer(alloc, estate, pod, direction, address, &mut steps)?;
+    let rules = PodRules::of(alloc, estate, pod, direction)?;
+    let layer = rules.point_layer(alloc, address, &mut steps)?;
     Ok(verdict_set(alloc, &layer)?)
 }

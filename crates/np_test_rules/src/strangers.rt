@@ -1,6 +1,7 @@
 //! The layer of a pod with one that nobody has written yet, against `allows` in an estate that has such a pod, with no
 //! ports and no addresses.
-ghost use Rattle.std.specs.Prelude.{◌≡◌, ◌<◌, length};
+ghost use Rattle.std.specs.Prelude.{◌≡◌, ◌<◌, length, IfOk};
+ghost use Rattle.np_rules.specs.StrangerRules.{ArePermitted};
 
 use crate::built::{estate, labels, name_label};
 use crate::clusters::SHOWN_TO_MONITORING;
@@ -10,10 +11,10 @@ use crate::written::{
     WrittenRule,
 };
 use np_addr::Family;
-use np_base::Cells;
+use np_base::{Cells, NoMemory};
 use np_conns::{ConnSet, Proto, read_conns};
 use np_model::{Direction, Estate};
-use np_rules::{Stranger, StrangerRules, stranger_layer};
+use np_rules::{PodRules, Stranger, StrangerRules, joined_set};
 use np_steps::Steps;
 use np_tiers::verdict_set;
 use std::alloc::Global;
@@ -34,6 +35,23 @@ fn stranger(alloc: Global, namespace: &str, written: Pairs) -> Result<Stranger, 
     })
 }
 
+// What the NetworkPolicies permit the stranger, by the rules that are kept for strangers.
+fn permitted(
+    alloc: Global,
+    rules: &StrangerRules<'_>,
+    stranger: &Stranger,
+) -> Result<ConnSet, NoMemory>
+    ensures { IfOk result (ArePermitted rules.now stranger.now) }
+{
+    let mut sets = Vec::new(alloc);
+    for rule in rules.net() {
+        if rule.reaches(rules.namespace(), stranger) {
+            sets.push(&rule.conns)?;
+        }
+    }
+    joined_set(alloc, &sets)
+}
+
 // What the layer of the pod at a place allows with the stranger, and what the layer of the rules that are kept for
 // strangers does.
 fn stranger_sets<L: Ledger>(
@@ -50,9 +68,12 @@ fn stranger_sets<L: Ledger>(
     requires some { 0 < blank.parts }
 {
     let mut steps: Steps<L> = Steps::new(blank);
-    let layer = stranger_layer(alloc, estate, pod, direction, stranger, &mut steps)?;
+    let layer = PodRules::of(alloc, estate, pod, direction)?.stranger_layer(
+        alloc, stranger, &mut steps,
+    )?;
     let rules = StrangerRules::of(alloc, estate, pod, direction)?;
-    let kept = rules.layer(alloc, stranger, &mut steps)?;
+    let net = permitted(alloc, &rules, stranger)?;
+    let kept = rules.layer(alloc, stranger, net, &mut steps)?;
     Ok((verdict_set(alloc, &layer)?, verdict_set(alloc, &kept)?))
 }
 
@@ -226,4 +247,43 @@ fn strangers_have_no_named_ports(rt: HostRuntime) -> Result<(), Fail> {
         Direction::Ingress,
         MORE_ROWS,
     )
+}
+
+// A stranger by its namespace and labels, and whether the first and the second rule of `shop/web` reach it.
+type Reached = (&'static str, Pairs, bool, bool);
+
+// Whether these are the two rules of `shop/web`, and reach the stranger as the row says.
+fn are_as_told(alloc: Global, rules: &StrangerRules<'_>, row: &Reached) -> Result<bool, Fail> {
+    let (namespace, labels, by_first, by_second) = *row;
+    let stranger = stranger(alloc, namespace, labels)?;
+    let [first, second] = rules.net() else {
+        return Ok(false);
+    };
+    let name = rules.namespace();
+    let reached = first.reaches(name, &stranger) == by_first
+        && second.reaches(name, &stranger) == by_second;
+    let sets = first.conns.same(&read_conns(alloc, "TCP 9090")?)
+        && second.conns.same(&read_conns(alloc, ALL)?);
+    Ok(name == "shop" && reached && sets)
+}
+
+#[test]
+fn kept_rules_are_asked_one_by_one(rt: HostRuntime) -> Result<(), Fail> {
+    static ROWS: &[Reached] = &[
+        ("monitoring", &[("app", "prom")], true, false),
+        ("monitoring", &[], false, false),
+        ("shop", &[], false, true),
+        ("default", &[("app", "prom")], false, false),
+    ];
+    let alloc = rt.alloc();
+    let estate = estate(alloc, &SHOWN_TO_MONITORING)?;
+    let Some(place) = place_named(&estate, "shop/web") else {
+        return Err("no such pod")?;
+    };
+    let rules = StrangerRules::of(alloc, &estate, place, Direction::Ingress)?;
+    for row in ROWS {
+        let told = are_as_told(alloc, &rules, row)?;
+        assert!(rt; told, "{row:?}");
+    }
+    Ok(())
 }

@@ -1,6 +1,6 @@
 //! How the verdicts of tiers, policies and sides go together.
 ghost use Rattle.std.specs.Prelude.{◌≡◌, ◌+◌, ◌<◌};
-ghost use Rattle.np_rules.specs.Verdict.{IsEndOf, packet_of, packet_rule_count};
+ghost use Rattle.np_rules.specs.model.Verdict.{IsEndOf, packet_of, packet_rule_count};
 
 use crate::built::estate;
 use crate::clusters::{RANGES_OF_PORTS, SHOWN_TO_MONITORING};

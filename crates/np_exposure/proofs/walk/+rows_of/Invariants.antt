@@ -1,5 +1,6 @@
 use Rattle.std.proofs.Common.{◌≤◌, length, IsTrue}
 use Rattle.np_exposure.proofs.WalkLemmas.{IsFilled}
+use Rattle.np_exposure.specs.steps.Settled.{StandForAll}
 use Rattle.np_exposure.specs.steps.States.{IsState, are_at}
 use Rattle.np_exposure.specs.steps.Walks.{AreWalked}
 use Rattle.np_exposure.proofs.walk.+rows_of.Given as goal
@@ -11,6 +12,7 @@ invariant-loop-first g l = record {
   keys : IsTrue (are_at l.state.items l.left);
   shorter : length l.left ≤ length l.fn.asked;
   filled : IsFilled l.rules l.pending.items l.left l.state.items (AreWalked l.rules l.fn.asked l.fn.state.items);
+  net : StandForAll l.rules l.state.items l.net;
   least : l.fn.steps ≤ l.steps;
 }
 
