@@ -33,7 +33,8 @@ not_named name from (before ∷ earlier) all = by (is_named name before) all.0 (
 not_repeated : (earlier : List Item) (one : Item) → AllByRecursion (λ before. IsApart before one) earlier → repeated earlier one ≡ None
 not_repeated earlier one all = by (name_of one) refl
   where
-    same : (name : ObjectName) → name_of one ≡ Some name → (earlier : List Item) → AllByRecursion (λ before. IsApart before one) earlier → AllByRecursion (λ before. not (is_named name before) ≡ true) earlier
+    same : (name : ObjectName) → name_of one ≡ Some name → (earlier : List Item) → AllByRecursion (λ before. IsApart before one) earlier →
+        AllByRecursion (λ before. not (is_named name before) ≡ true) earlier
     same name is [] all = tt
     same name is (before ∷ earlier) all = (rw is at all.0, same name is earlier all.1)
 
@@ -49,7 +50,8 @@ none_repeated earlier [] before later = refl
 none_repeated earlier (one ∷ items) before later =
     rw (not_repeated earlier one before.0) (none_repeated (earlier ++ one ∷ []) items (more items before.1 later.0) later.1)
   where
-    more : (rest : List Item) → AllByRecursion (λ other. AllByRecursion (λ e. IsApart e other) earlier) rest → AllByRecursion (IsApart one) rest → AllByRecursion (λ other. AllByRecursion (λ e. IsApart e other) (earlier ++ one ∷ [])) rest
+    more : (rest : List Item) → AllByRecursion (λ other. AllByRecursion (λ e. IsApart e other) earlier) rest → AllByRecursion (IsApart one) rest →
+        AllByRecursion (λ other. AllByRecursion (λ e. IsApart e other) (earlier ++ one ∷ [])) rest
     more [] all next = tt
     more (other ∷ rest) all next = (all-append (λ e. IsApart e other) earlier (one ∷ []) all.0 (next.0, tt), more rest all.1 next.1)
 
@@ -83,7 +85,8 @@ policies_apart a b below within = rw (other_digits a b below (omega arith)) refl
 
 all_apart : (n : ℕ) → n ≤ 1000 → AllLater IsApart (sample_items n)
 all_apart n few =
-    later-four IsApart namespace_item pod_item net_policy_item admin_policy_item n namespaces_apart (λ a b below within. pods_apart a b below (omega arith)) policies_apart (λ i j. (refl, refl, refl)) (λ i. (refl, refl, refl))
+    later-four IsApart namespace_item pod_item net_policy_item admin_policy_item n namespaces_apart (λ a b below within. pods_apart a b below (omega arith)) policies_apart (λ i j. (refl, refl, refl))
+    (λ i. (refl, refl, refl))
 
 pub first_repeat-sample : (n : ℕ) → n ≤ 1000 → first_repeat (sample_items n) ≡ None
 first_repeat-sample n few = none_repeated [] (sample_items n) (no_earlier (sample_items n)) (all_apart n few)

@@ -1,5 +1,6 @@
 -- The estate of the items of the sample.
-use Rattle.std.proofs.Common.{◌≡◌, ℕ, zero, suc, ◌+◌, List, [], ◌∷◌, ◌++◌, length, map, find, fold, Bool, false, cond, Option, Some, None, refl, sym, ap, ◌∙◌, arith, append_assoc, add-zero, length-append}
+use Rattle.std.proofs.Common.{◌≡◌, ℕ, zero, suc, ◌+◌, List, [], ◌∷◌, ◌++◌, length, map, find, fold, Bool, false, cond, Option, Some, None, refl, sym, ap, ◌∙◌, arith, append_assoc, add-zero}
+use Rattle.std.proofs.Common.{length-append}
 use Rattle.std.specs.List.{AllByRecursion, cons_option, filter_map, range_with_len, slice_get}
 use Rattle.std.specs.Option.{option_and_then, option_map_or, option_to_list}
 use Rattle.std.proofs.lemmas.List.Elements.{filter_map-append}
@@ -33,13 +34,15 @@ gives_each h f g some a (suc n) = rw (some a, gives_each h f g some (a + 1) n) r
 
 -- by the four kinds of items
 pub gives_parts : {Y : Type 0} (h : Item → Option Y) (n : ℕ) → filter_map h (sample_items n)
-    ≡ filter_map h (map namespace_item (range_with_len 0 namespace_count)) ++ filter_map h (map pod_item (range_with_len 0 n)) ++ filter_map h (map net_policy_item (range_with_len 0 namespace_count)) ++ filter_map h (admin_policy_item ∷ [])
+    ≡ filter_map h (map namespace_item (range_with_len 0 namespace_count)) ++ filter_map h (map pod_item (range_with_len 0 n)) ++ filter_map h (map net_policy_item (range_with_len 0 namespace_count))
+    ++ filter_map h (admin_policy_item ∷ [])
 gives_parts h n =
     let namespaces = map namespace_item (range_with_len 0 namespace_count) in
     let pods = map pod_item (range_with_len 0 n) in
     let policies = map net_policy_item (range_with_len 0 namespace_count) in
     filter_map-append h (namespaces ++ pods ++ policies) (admin_policy_item ∷ [])
-    ∙ ap (λ front. front ++ filter_map h (admin_policy_item ∷ [])) (filter_map-append h (namespaces ++ pods) policies ∙ ap (λ front. front ++ filter_map h policies) (filter_map-append h namespaces pods))
+    ∙ ap (λ front. front ++ filter_map h (admin_policy_item ∷ []))
+    (filter_map-append h (namespaces ++ pods) policies ∙ ap (λ front. front ++ filter_map h policies) (filter_map-append h namespaces pods))
 
 -- ---- chains of owners
 
@@ -66,7 +69,8 @@ first_in_cycle-none items all = rw (not_found (ups items) (none_in (ups items) (
 
 -- ---- what is left out
 
-passes_none : {L : Type 0} (is : L → Bool) (left : Item → Option L) (items : List Item) → AllByRecursion (λ one. left one ≡ None) items → (place : ℕ) → option_map_or is (option_and_then left (slice_get items place)) false ≡ false
+passes_none : {L : Type 0} (is : L → Bool) (left : Item → Option L) (items : List Item) → AllByRecursion (λ one. left one ≡ None) items → (place : ℕ) →
+    option_map_or is (option_and_then left (slice_get items place)) false ≡ false
 passes_none is left [] all place = refl
 passes_none is left (one ∷ items) all zero = rw all.0 refl
 passes_none is left (one ∷ items) all (suc place) = passes_none is left items all.1 place
@@ -119,7 +123,8 @@ listed_first : (o : Option Pod) (pods : List Pod) → option_to_list o ++ pods �
 listed_first None pods = refl
 listed_first (Some pod) pods = refl
 
-pub pods_from-lone : (items front rest : List Item) (place : ℕ) → items ≡ front ++ rest → length front ≡ place → AllByRecursion (IsLone items) rest → pods_from items place rest ≡ filter_map gives_pod rest
+pub pods_from-lone : (items front rest : List Item) (place : ℕ) → items ≡ front ++ rest → length front ≡ place → AllByRecursion (IsLone items) rest →
+    pods_from items place rest ≡ filter_map gives_pod rest
 pods_from-lone items front [] place whole here all = refl
 pods_from-lone items front (one ∷ rest) place whole here all =
     let at : slice_get items place ≡ Some one = rw (whole, ← here) (at_seam front one rest) in

@@ -24,10 +24,16 @@ item_of-namespace number j within = rw (name-of (spec.namespace_name j) (is_name
 
 -- ---- pods
 
-read_metadata : (i : ℕ) → i < 2 ^ 64 → pod_metadata (spec.pod_metadata i) ≡ Ok (record { own = record { namespace = spec.namespace_of i; name = spec.pod_name i }; labels = one_label (codes "app") (spec.app_of i); owner = None })
+read_metadata : (i : ℕ) → i < 2 ^ 64 →
+    pod_metadata (spec.pod_metadata i) ≡ Ok (record { own = record { namespace = spec.namespace_of i; name = spec.pod_name i }; labels = one_label (codes "app") (spec.app_of i); owner = None })
 unfolding pod_metadata required optional listed under must_be_object refuse_if namespaced_name label_map
 read_metadata i small =
-    rw (name-of (spec.pod_name i) (is_name-numbered 112 i refl refl small), namespace-of 115 (decimal (i % 5)) (is_name-numbered 115 (i % 5) refl refl (omega arith)), labels-of (codes "app") (spec.app_of i) (rw (is_word-numbered 97 (i % 7) refl (omega arith)) refl)) refl
+    rw (
+      name-of (spec.pod_name i) (is_name-numbered 112 i refl refl small),
+      namespace-of 115 (decimal (i % 5)) (is_name-numbered 115 (i % 5) refl refl (omega arith)),
+      labels-of (codes "app")
+          (spec.app_of i) (rw (is_word-numbered 97 (i % 7) refl (omega arith)) refl),
+    ) refl
 
 read_spec : (i : ℕ) → pod_spec (spec.pod_spec (spec.port_of i)) ≡ Ok (record { ports = ports_of i; host_network = false })
 unfolding pod_spec required optional listed under must_be_object refuse_if container container_port port_name protocol word

@@ -13,6 +13,7 @@ pub mod ReadingLemmas
 pub mod RowCountLemmas
 pub mod SampleLemmas
 pub mod ShapeLemmas
+pub mod SizeLemmas
 pub mod TextLemmas
 pub mod WordLemmas
 pub mod WorkloadLemmas

@@ -40,7 +40,8 @@ later-from R f a zero end within each = tt
 later-from R f a (suc n) end within each =
     (all-from (R (f a)) f (a + 1) n end (omega arith) (λ j above below. each a j (omega arith) below), later-from R f (a + 1) n end (omega arith) each)
 
-zip-from : {X Y : Type 0} (R : X → Y → Type 0) (f : ℕ → X) (g : ℕ → Y) (a n end : ℕ) → a + n ≤ end → ((i : ℕ) → i < end → R (f i) (g i)) → AllZip R (map f (range_with_len a n)) (map g (range_with_len a n))
+zip-from : {X Y : Type 0} (R : X → Y → Type 0) (f : ℕ → X) (g : ℕ → Y) (a n end : ℕ) → a + n ≤ end → ((i : ℕ) → i < end → R (f i) (g i)) →
+    AllZip R (map f (range_with_len a n)) (map g (range_with_len a n))
 zip-from R f g a zero end within each = tt
 zip-from R f g a (suc n) end within each = (each a (omega arith), zip-from R f g (a + 1) n end (omega arith) each)
 
@@ -61,13 +62,15 @@ across-last R f last n each = all-row (λ x. AllByRecursion (R x) (last ∷ []))
 abbrev pub four_kinds : {X : Type 0} → (ℕ → X) → (ℕ → X) → (ℕ → X) → X → ℕ → List X
 four_kinds f g h last n = row f 5 ++ row g n ++ row h 5 ++ last ∷ []
 
-pub all-four : {X : Type 0} (P : X → Type 0) (f g h : ℕ → X) (last : X) (n : ℕ) → ((i : ℕ) → i < 5 → P (f i)) → ((i : ℕ) → i < n → P (g i)) → ((i : ℕ) → i < 5 → P (h i)) → P last → AllByRecursion P (four_kinds f g h last n)
+pub all-four : {X : Type 0} (P : X → Type 0) (f g h : ℕ → X) (last : X) (n : ℕ) → ((i : ℕ) → i < 5 → P (f i)) → ((i : ℕ) → i < n → P (g i)) → ((i : ℕ) → i < 5 → P (h i)) → P last →
+    AllByRecursion P (four_kinds f g h last n)
 all-four P f g h last n first second third fourth =
     all-append P (row f 5 ++ row g n ++ row h 5) (last ∷ [])
     (all-append P (row f 5 ++ row g n) (row h 5) (all-append P (row f 5) (row g n) (all-row P f 5 first) (all-row P g n second)) (all-row P h 5 third))
     (fourth, tt)
 
-pub zip-four : {X Y : Type 0} (R : X → Y → Type 0) (f g h : ℕ → X) (last : X) (f' g' h' : ℕ → Y) (last' : Y) (n : ℕ) → ((i : ℕ) → i < 5 → R (f i) (f' i)) → ((i : ℕ) → i < n → R (g i) (g' i)) → AllZip R (row h 5) (row h' 5) → R last last'
+pub zip-four : {X Y : Type 0} (R : X → Y → Type 0) (f g h : ℕ → X) (last : X) (f' g' h' : ℕ → Y) (last' : Y) (n : ℕ) → ((i : ℕ) → i < 5 → R (f i) (f' i)) → ((i : ℕ) → i < n → R (g i) (g' i)) →
+    AllZip R (row h 5) (row h' 5) → R last last'
     → AllZip R (four_kinds f g h last n) (four_kinds f' g' h' last' n)
 zip-four R f g h last f' g' h' last' n first second third fourth =
     zip-append R (row f 5 ++ row g n ++ row h 5) (last ∷ []) (row f' 5 ++ row g' n ++ row h' 5) (last' ∷ [])
@@ -77,7 +80,8 @@ zip-four R f g h last f' g' h' last' n first second third fourth =
     (fourth, tt)
 
 -- those of one kind by what is so of them, and those of two kinds always
-pub later-four : {X : Type 0} (R : X → X → Type 0) (f g h : ℕ → X) (last : X) (n : ℕ) → ((i j : ℕ) → i < j → j < 5 → R (f i) (f j)) → ((i j : ℕ) → i < j → j < n → R (g i) (g j)) → ((i j : ℕ) → i < j → j < 5 → R (h i) (h j))
+pub later-four : {X : Type 0} (R : X → X → Type 0) (f g h : ℕ → X) (last : X) (n : ℕ) → ((i j : ℕ) → i < j → j < 5 → R (f i) (f j)) → ((i j : ℕ) → i < j → j < n → R (g i) (g j)) →
+    ((i j : ℕ) → i < j → j < 5 → R (h i) (h j))
     → ((i j : ℕ) → R (f i) (g j) × R (f i) (h j) × R (g i) (h j)) → ((i : ℕ) → R (f i) last × R (g i) last × R (h i) last) → AllLater R (four_kinds f g h last n)
 later-four R f g h last n first second third across behind =
     later-append R (row f 5 ++ row g n ++ row h 5) (last ∷ [])

@@ -6,5 +6,6 @@ use Rattle.np_sample.specs.Objects.{admin_policy, namespace, namespace_count, ne
 use Rattle.np_sample.specs.Sample.{sample_objects}
 use Rattle.np_sample.proofs.ListLemmas.{all-four}
 
-pub all-objects : (P : Data → Type 0) (n : ℕ) → ((j : ℕ) → j < namespace_count → P (namespace j)) → ((i : ℕ) → i < n → P (pod i)) → ((j : ℕ) → j < namespace_count → P (net_policy j)) → P admin_policy → AllByRecursion P (sample_objects n)
+pub all-objects : (P : Data → Type 0) (n : ℕ) → ((j : ℕ) → j < namespace_count → P (namespace j)) → ((i : ℕ) → i < n → P (pod i)) → ((j : ℕ) → j < namespace_count → P (net_policy j)) →
+    P admin_policy → AllByRecursion P (sample_objects n)
 all-objects P n namespaces pods policies admin = all-four P namespace pod net_policy admin_policy n namespaces pods policies admin

@@ -19,7 +19,8 @@ use Rattle.np_sample.specs.Estate.{block_of}
 use Rattle.np_sample.proofs.Items.{admin_policy_item, net_policy_item}
 
 pub item_of-admin_policy : (number : ℕ) → item_of number spec.admin_policy ≡ Ok admin_policy_item
-unfolding item_of must_be_no_list type_meta required optional listed under must_be_object refuse_if refuse_member_if name labels policy_of policy_by selector admins.all_pods admins.namespace_selector admins.some_pods admins.subject admins.ingress_peer admins.admin_peers admins.action admins.admin_rule admins.admin_rules admins.priority admins.object_name admins.admin_spec admins.admin_policy
+unfolding item_of must_be_no_list type_meta required optional listed under must_be_object refuse_if refuse_member_if name labels policy_of policy_by selector admins.all_pods admins.namespace_selector
+    admins.some_pods admins.subject admins.ingress_peer admins.admin_peers admins.action admins.admin_rule admins.admin_rules admins.priority admins.object_name admins.admin_spec admins.admin_policy
 item_of-admin_policy number = refl
 
 -- ---- blocks
@@ -37,7 +38,8 @@ abbrev IsRead : ℕ → Type 0
 IsRead j = (number : ℕ) → item_of number (spec.net_policy j) ≡ Ok (net_policy_item j)
 
 pub net_policies_read : IsRead 0 × IsRead 1 × IsRead 2 × IsRead 3 × IsRead 4
-unfolding item_of must_be_no_list type_meta required optional listed under must_be_object refuse_if name namespace namespaced_name labels port policy_of policy_by selector cidr ip_block end_port net_port port_name port_value proto protocol nets.net_peer nets.net_rule nets.net_rules nets.policy_type nets.net_spec nets.net_policy_by nets.net_policy digits
+unfolding item_of must_be_no_list type_meta required optional listed under must_be_object refuse_if name namespace namespaced_name labels port policy_of policy_by selector cidr ip_block end_port
+    net_port port_name port_value proto protocol nets.net_peer nets.net_rule nets.net_rules nets.policy_type nets.net_spec nets.net_policy_by nets.net_policy digits
 net_policies_read = (
   (λ number. rw blocks.0 refl),
   (λ number. rw blocks.1 refl),

@@ -16,7 +16,8 @@ use Rattle.np_sample.proofs.TextLemmas.{json_of-sample_text}
 use Rattle.np_sample.proofs.Items.{admin_policy_item, namespace_item, net_policy_item, pod_item, sample_items}
 
 -- what holds of each of them
-pub all-items : (P : Item → Type 0) (n : ℕ) → ((j : ℕ) → P (namespace_item j)) → ((i : ℕ) → P (pod_item i)) → ((j : ℕ) → P (net_policy_item j)) → P admin_policy_item → AllByRecursion P (sample_items n)
+pub all-items : (P : Item → Type 0) (n : ℕ) → ((j : ℕ) → P (namespace_item j)) → ((i : ℕ) → P (pod_item i)) → ((j : ℕ) → P (net_policy_item j)) → P admin_policy_item →
+    AllByRecursion P (sample_items n)
 all-items P n namespaces pods policies admin = all-four P namespace_item pod_item net_policy_item admin_policy_item n (λ j within. namespaces j) (λ i within. pods i) (λ j within. policies j) admin
 
 -- ---- read one after another
@@ -33,12 +34,13 @@ each_item-read (value ∷ values) (one ∷ items) all number = rw (all.0 number,
 objects_read : (n : ℕ) → n ≤ 1000 → AllZip IsReadAs (sample_objects n) (sample_items n)
 objects_read n few =
     let policies = net_policies_read in
-    zip-four IsReadAs namespace pod net_policy admin_policy namespace_item pod_item net_policy_item admin_policy_item n (λ j within number. item_of-namespace number j within) (λ i within number. item_of-pod number i (omega arith))
+    zip-four IsReadAs namespace pod net_policy admin_policy namespace_item pod_item net_policy_item admin_policy_item n (λ j within number. item_of-namespace number j within)
+    (λ i within number. item_of-pod number i (omega arith))
     (policies.0, (policies.1, (policies.2, (policies.3, (policies.4, tt))))) item_of-admin_policy
 
 -- ---- the whole
 
-length-objects : (n : ℕ) → length (sample_objects n) ≡ n + 11
+pub length-objects : (n : ℕ) → length (sample_objects n) ≡ n + 11
 length-objects n =
     simp length-append (omega (arith, length-map-range_with_len pod 0 n))
 
@@ -47,7 +49,8 @@ unfolding items_in items_by
 list_gives objects = rw (values-items_of objects) refl
 
 -- one input
-items_of-one : (text : List ℕ) (value : Data) (objects : List Data) (items : List Item) → json_of text ≡ Some value → items_in 1 value ≡ Ok objects → length objects ≤ 20000 → each_item 1 objects ≡ Ok items → items_of (text ∷ []) ≡ Ok items
+items_of-one : (text : List ℕ) (value : Data) (objects : List Data) (items : List Item) → json_of text ≡ Some value → items_in 1 value ≡ Ok objects → length objects ≤ 20000 →
+    each_item 1 objects ≡ Ok items → items_of (text ∷ []) ≡ Ok items
 unfolding items_of input_values must_be_few
 items_of-one text value objects items parsed listed few read =
     rw (parsed, listed, append-nil objects, le-leb (length objects) 20000 few, read) refl
@@ -55,4 +58,5 @@ items_of-one text value objects items parsed listed few read =
 pub items_of-sample : (n : ℕ) → n ≤ 1000 → items_of (sample_text n ∷ []) ≡ Ok (sample_items n)
 items_of-sample n few =
     let all = sample_objects n in
-    items_of-one (sample_text n) (sample_value n) all (sample_items n) (json_of-sample_text n few) (list_gives all) (omega (arith, length-objects n)) (each_item-read all (sample_items n) (objects_read n few) 1)
+    items_of-one (sample_text n) (sample_value n) all (sample_items n) (json_of-sample_text n few) (list_gives all) (omega (arith, length-objects n))
+    (each_item-read all (sample_items n) (objects_read n few) 1)

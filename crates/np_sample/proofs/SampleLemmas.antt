@@ -3,7 +3,8 @@ use Rattle.std.proofs.Common.{◌≡◌, ℕ, ◌+◌, ◌≤◌, List, [], ◌�
 use Rattle.std.specs.Fmt.{digits}
 use Rattle.std.specs.List.{AllByRecursion, filter_map, range_with_len}
 use Rattle.np_reading.specs.LeftOut.{list_networks}
-use Rattle.np_reading.specs.Listed.{admin_policies_of, admin_policy, base_policy, baseline_of, first_equal, first_of, ingress, ingresses_from, ingresses_of, net_policies_of, net_policy, ranks_of, service, services_of, with_admin, with_net, with_rank}
+use Rattle.np_reading.specs.Listed.{admin_policies_of, admin_policy, base_policy, baseline_of, first_equal, first_of, ingress, ingresses_from, ingresses_of, net_policies_of, net_policy, ranks_of}
+use Rattle.np_reading.specs.Listed.{service, services_of, with_admin, with_net, with_rank}
 use Rattle.np_reading.specs.Ends.{pods_of}
 use Rattle.np_reading.specs.Namespaces.{labels_in}
 use Rattle.np_reading.specs.Reading.{estate_of, lists_of, notes_of}
@@ -67,16 +68,20 @@ first_equal-sample n = ap (λ found. first_equal (map (λ entry. entry.0) (fold 
 
 -- ---- notes
 
-same_notes : (a b c d : ℕ) → a ≡ 0 → b ≡ 0 → c ≡ 0 → d ≡ 0 → let made : Notes = record { host = a; finished = b; skipped = c; unaddressed = d } in made ≡ record { host = 0; finished = 0; skipped = 0; unaddressed = 0 }
+same_notes : (a b c d : ℕ) → a ≡ 0 → b ≡ 0 → c ≡ 0 → d ≡ 0 → let made : Notes = record { host = a; finished = b; skipped = c; unaddressed = d } in made
+    ≡ record { host = 0; finished = 0; skipped = 0; unaddressed = 0 }
 same_notes a b c d first second third fourth = rw (first, second, third, fourth) refl
 
-notes_of-kept : (items : List Item) → AllByRecursion IsKept items → list_networks (admin_policies_of items) (baseline_of items) ≡ false → notes_of items ≡ record { host = 0; finished = 0; skipped = 0; unaddressed = 0 }
+notes_of-kept : (items : List Item) → AllByRecursion IsKept items → list_networks (admin_policies_of items) (baseline_of items) ≡ false →
+    notes_of items ≡ record { host = 0; finished = 0; skipped = 0; unaddressed = 0 }
 notes_of-kept items all none = same_notes _ _ _ _ (search (count_left_out-none, all)) (search (count_left_out-none, all)) (search (count_left_out-none, all)) (rw none refl)
 
 -- ---- the whole
 
-same_lists : (items : List Item) (pods : List Pod) (nets : List NetPolicy) (admins : List AdminPolicy) (baseline : Option BasePolicy) (services : List ServiceItem) (ingresses : List PlacedIngress) (notes : Notes)
-    → pods_of items ≡ pods → net_policies_of items ≡ nets → admin_policies_of items ≡ admins → baseline_of items ≡ baseline → services_of items ≡ services → ingresses_of items ≡ ingresses → notes_of items ≡ notes
+same_lists : (items : List Item) (pods : List Pod) (nets : List NetPolicy) (admins : List AdminPolicy) (baseline : Option BasePolicy) (services : List ServiceItem) (ingresses : List PlacedIngress)
+    (notes : Notes)
+    → pods_of items ≡ pods → net_policies_of items ≡ nets → admin_policies_of items ≡ admins → baseline_of items ≡ baseline → services_of items ≡ services → ingresses_of items ≡ ingresses →
+    notes_of items ≡ notes
     → lists_of items ≡ record { pods = pods; net_policies = nets; admin_policies = admins; baseline = baseline; services = services; ingresses = ingresses; notes = notes }
 same_lists items pods nets admins baseline services ingresses notes p n a b s i o = rw (o, p, n, a, b, s, i) refl
 
@@ -90,7 +95,8 @@ lists_of-sample n =
     (no_ingresses 1 items (all-items (λ one. ingress one ≡ None) n (λ j. refl) (λ i. refl) (λ j. refl) refl))
     (notes_of-kept items kept (rw (admin_policies_of-sample n, baseline) refl))
 
-estate_of-read : (texts : List (List ℕ)) (items : List Item) → items_of texts ≡ Ok items → first_repeat items ≡ None → first_equal (ranks_of items) ≡ None → first_in_cycle items ≡ None → estate_of texts ≡ Ok (lists_of items)
+estate_of-read : (texts : List (List ℕ)) (items : List Item) → items_of texts ≡ Ok items → first_repeat items ≡ None → first_equal (ranks_of items) ≡ None → first_in_cycle items ≡ None →
+    estate_of texts ≡ Ok (lists_of items)
 unfolding estate_of
 estate_of-read texts items read apart priorities cycles = rw (read, apart, priorities, cycles) refl
 

@@ -1,5 +1,5 @@
 //! What follows from the definitions. Each law is the contract of a call that does nothing.
-ghost use Rattle.std.specs.Prelude.{◌≡◌, ◌<◌, ◌≤◌, ◌^◌, ℕ, [], ◌∷◌, Ok, Option, length};
+ghost use Rattle.std.specs.Prelude.{◌≡◌, ◌<◌, ◌≤◌, ◌*◌, ◌^◌, ℕ, [], ◌∷◌, Ok, Option, length};
 ghost use Rattle.np_reading.specs.Reading.{estate_of};
 ghost use Rattle.np_fold.specs.Workloads.{workload_count};
 ghost use Rattle.np_routes.specs.ClusterTable.{cluster_rows, cluster_table};
@@ -23,4 +23,9 @@ pub fn samples_have_few_workloads()
 pub fn samples_have_few_rows()
     ensures { (n : ℕ) (controller : Option ℕ) → n ≤ 1000 →
         length (cluster_rows (cluster_table (sample_estate n) controller)) < 2 ^ 64 }
+{}
+
+/// The text of a sample has at most 32 MiB, and so is not refused as too large.
+pub fn samples_have_few_bytes()
+    ensures { (n : ℕ) → n ≤ 1000 → length (sample_text n) ≤ 32 * 2 ^ 20 }
 {}

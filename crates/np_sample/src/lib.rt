@@ -11,5 +11,6 @@ mod pod;
 
 pub use cluster::sample;
 pub use laws::{
-    samples_are_read_as_their_estates, samples_have_few_rows, samples_have_few_workloads,
+    samples_are_read_as_their_estates, samples_have_few_bytes, samples_have_few_rows,
+    samples_have_few_workloads,
 };
