@@ -91,6 +91,16 @@ def exposure_keys(count, keys):
     return [*two_pods(), to_all(*[one_rule([pods_with_key("k%d" % (i % keys))], [i % keys + 1]) for i in range(count)])]
 
 
+@shape("exposureMixes", (20000, 14), (3, 2), "{0:,} rules, each of a mix of its own of {1} keys that are asked to be there or not to be",
+       ("exposure",))
+def exposure_mixes(count, keys):
+    def mix(number):
+        asked = [(j, number // 3 ** j % 3) for j in range(keys)]
+        return {"podSelector": {"matchExpressions": [{"key": "k%d" % j, "operator": ("Exists", "DoesNotExist")[how - 1]}
+                                                     for j, how in asked if how]}}
+    return [*two_pods(), to_all(*[one_rule([mix((7 * i + 1) * 1009 % 3 ** keys)], [i % 60000 + 1]) for i in range(count)])]
+
+
 @shape("exposurePeers", (20000,), (3,), "the rule of peers", ("exposure",))
 def exposure_peers(count):
     return peers(count)
