@@ -1,17 +1,20 @@
 -- What follows from why a run ends as it does.
 use Rattle.std.proofs.Common.{◌≡◌, ℕ, List, Option, Some, None, is_some, true, Result, Ok, Err, sym, subst, inl, inr, arith}
-use Rattle.std.specs.Prelude.{◌⊎◌, Contains}
+use Rattle.std.specs.Io.KnownBytes.{append_known}
+use Rattle.std.specs.Prelude.{◌⊎◌, Contains, IsErrAnd}
 use Rattle.std.proofs.lemmas.Bool.{both_ways}
+use Rattle.np_io.proofs.TakenLemmas.{TookLess-not_all}
 use Rattle.np_io.specs.Counts.{Rose}
-use Rattle.np_cli.specs.Answers.{ending_of, refusal}
+use Rattle.np_io.specs.Taken.{TookLess}
+use Rattle.np_cli.specs.Answers.{ending_of, output, refusal}
 use Rattle.np_cli.specs.Messages.{message}
-use Rattle.np_cli.specs.Promises.{IsStill, Completes, RefusesTooLarge, RefusesMore, RefusesFaults, BlamesDevice, BlamesWords}
+use Rattle.np_cli.specs.Promises.{IsStill, AcknowledgesReport, Completes, RefusesTooLarge, RefusesMore, RefusesFaults, BlamesDevice, BlamesWords}
 use Rattle.np_cli.specs.Runs.{Run, Cause}
+use Rattle.np_command.specs.Messages.{NamesSomething}
 use Rattle.np_command.specs.Sinks.{SinkTrace, Said}
-use Rattle.np_cli.specs.Sources.{BeganFront, FailedAt, SourceTrace}
+use Rattle.np_cli.specs.Sources.{FailedAt, SourceTrace}
 use Rattle.np_cli.specs.Statuses.{ending_status, status_of}
 use Rattle.np_cli.specs.Words.{names_asked}
-use Rattle.np_cli.proofs.RunsLemmas.{Cause-no_memory}
 use Rattle.np_cli.proofs.SourcesLemmas.{Contains-middle}
 use Rattle.np_command.specs.declared.fault.Fault.{Fault}
 use Rattle.np_args.specs.declared.job.Job.{Job}
@@ -129,13 +132,25 @@ blames_words run answer (Err (CannotRead name)) cause answered = (λ usage. cc, 
 blames_words run answer (Err CannotWrite) cause answered = (λ usage. cc, λ nothing. asks run.asked cause.job cause.asked nothing)
 blames_words run answer (Err NoMemory) cause answered = (λ usage. cc, λ nothing. inr answered)
 
--- whatever the outcome, names of the job were begun in their order
-pub begins_in_order : (run : Run) (outcome : Result Ending Failure) → Cause run outcome → BeganFront run.source (names_asked run.asked)
-begins_in_order run outcome cause = (Cause-no_memory run outcome cause).began
+-- where less than all was taken, not all was
+pub acknowledges : (run : Run) (answer : Status) (outcome : Result Ending Failure) → Cause run outcome → answer ≡ status_of outcome → AcknowledgesReport run answer
+acknowledges run answer (Ok (Done notes)) cause answered = λ texts before told tells some took no_memory. cc
+acknowledges run answer (Ok Violated) cause answered = λ texts before told tells some took no_memory. cc
+acknowledges run answer (Err Usage) cause answered = λ texts before told tells some took no_memory. cc
+acknowledges run answer (Err TooLarge) cause answered = λ texts before told tells some took no_memory. cc
+acknowledges run answer (Err (Refused fault)) cause answered = λ texts before told tells some took no_memory. cc
+acknowledges run answer (Err (CannotRead name)) cause answered = λ texts before told tells some took no_memory. cc
+acknowledges run answer (Err CannotWrite) cause answered = λ texts before told tells some took no_memory. cc
+acknowledges run answer (Err NoMemory) cause answered = λ texts before told tells some took no_memory.
+    let text = output run.asked texts in
+    TookLess-not_all before run.out.after text
+    (subst (λ (known : Option (List ℕ)). TookLess known run.out.after text) tells (cause.less texts told))
+    (subst (λ (known : Option (List ℕ)). run.out.after ≡ append_known known text) tells took.taken) some
 
 -- a run that says that the words ask for nothing ended so
-pub usage_ended : (ended said : Result Ending Failure) (answer : Status) → answer ≡ status_of said → answer ≡ status.Usage → (said ≡ ended) ⊎ (said ≡ Err NoMemory) → ended ≡ Err Usage
-usage_ended ended (Err Usage) answer answered usage which = elim which [ inl same ↦ sym same | inr memory ↦ cc ]
+pub usage_ended : (ended said : Result Ending Failure) (answer : Status) → answer ≡ status_of said → answer ≡ status.Usage
+    → (said ≡ ended) ⊎ ((said ≡ Err NoMemory) × IsErrAnd ended NamesSomething) → ended ≡ Err Usage
+usage_ended ended (Err Usage) answer answered usage which = elim which [ inl same ↦ sym same | inr memory ↦ cc memory.0 ]
 usage_ended ended (Ok (Done notes)) answer answered usage which = cc
 usage_ended ended (Ok Violated) answer answered usage which = cc
 usage_ended ended (Err TooLarge) answer answered usage which = cc

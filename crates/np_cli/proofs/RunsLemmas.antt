@@ -1,9 +1,8 @@
 -- Why a run ends as it does.
 use Rattle.std.proofs.Common.{◌≡◌, ℕ, ◌≤◌, List, [], ◌∷◌, ◌++◌, Option, Some, None, false, refl, sym, ap, subst, ◌∙◌, append_assoc, append-nil, Result, Ok, Err, inl, inr}
-use Rattle.std.specs.Prelude.{◌⊎◌}
+use Rattle.std.specs.Prelude.{◌⊎◌, IsErrAnd}
 use Rattle.std.proofs.lemmas.Bool.{le-ltb}
-use Rattle.np_io.specs.Taken.{TookFront}
-use Rattle.np_io.proofs.TakenLemmas.{TookFront-all}
+use Rattle.np_io.specs.Taken.{TookFront, TookLess}
 use Rattle.np_cli.proofs.SourcesLemmas.{BeganNext-none}
 use Rattle.np_cli.specs.Answers.{ending_of, objects_of, output, refusal, reply_in, text_of}
 use Rattle.np_command.specs.Prints.{fault_in, text_in}
@@ -24,7 +23,8 @@ use Rattle.np_cli.specs.declared.sources.SourceFault.TheVariants as unread
 use Rattle.np_cli.specs.declared.outcome.Ending.{Ending}
 use Rattle.np_args.specs.declared.words_fault.WordsFault.{WordsFault}
 use Rattle.np_args.specs.declared.words_fault.WordsFault.TheVariants as words
-use Rattle.np_command.proofs.SinkLemmas.{TookFront-kept}
+use Rattle.np_command.proofs.SinkLemmas.{TookLess-kept}
+use Rattle.np_command.specs.Messages.{NamesSomething}
 
 -- ---- names that were begun
 
@@ -106,11 +106,11 @@ Cause-from_answers job source out texts (Err CannotWrite) read size once answers
       front = λ told tells. subst (λ (ts : List (List ℕ)). TookFront out.before out.after (output (Some job) ts)) (read told tells) front;
     }
 Cause-from_answers job source out texts (Err NoMemory) read size once answers =
-    let front : TookFront out.before out.after (output (Some job) texts) = subst (TookFront out.before out.after)
+    let less : TookLess out.before out.after (output (Some job) texts) = subst (TookLess out.before out.after)
     (sym (text-is job texts (reply_in job texts (objects_of job texts)) (fits_limit texts size) refl)) answers in
     record {
       began = BeganFront-all source (names_of job) once;
-      front = λ told tells. subst (λ (ts : List (List ℕ)). TookFront out.before out.after (output (Some job) ts)) (read told tells) front;
+      less = λ told tells. subst (λ (ts : List (List ℕ)). TookLess out.before out.after (output (Some job) ts)) (read told tells) less;
     }
 Cause-from_answers job source out texts (Err Usage) read size once answers = absurd answers
 Cause-from_answers job source out texts (Err TooLarge) read size once answers = absurd answers
@@ -124,19 +124,19 @@ pub Cause-words : (asked : Option Job) (source : SourceTrace) (out : SinkTrace) 
 Cause-words asked source out words.Usage nothing untouched kept = record { asked = nothing refl; source = untouched; kept = kept }
 Cause-words asked source out words.NoMemory nothing untouched kept = record {
   began = BeganFront-none source (names_asked asked) untouched;
-  front = λ texts told. TookFront-kept out (output asked texts) kept;
+  less = λ texts told. TookLess-kept out (output asked texts) kept;
 }
 
 -- memory is refused before anything is read
 pub Cause-unbegun : (job : Job) (source : SourceTrace) (out : SinkTrace) → IsUntouched source → IsKept out → Cause (ran (Some job) source out) (Err NoMemory)
-Cause-unbegun job source out untouched kept = record { began = BeganFront-none source (names_of job) untouched; front = λ texts told. TookFront-kept out (output (Some job) texts) kept }
+Cause-unbegun job source out untouched kept = record { began = BeganFront-none source (names_of job) untouched; less = λ texts told. TookLess-kept out (output (Some job) texts) kept }
 
 -- the inputs are not read
 pub Cause-unread : (job : Job) (source : SourceTrace) (out : SinkTrace) (fault : SourceFault) → IsKept out → Unread source (names_of job) fault →
     Cause (ran (Some job) source out) (Err (source_failure fault))
 Cause-unread job source out (unread.CannotRead name) kept why = record { at = why; kept = kept }
 Cause-unread job source out unread.TooLarge kept why = record { asked = refl; over = why; kept = kept }
-Cause-unread job source out unread.NoMemory kept why = record { began = why; front = λ texts told. TookFront-kept out (output (Some job) texts) kept }
+Cause-unread job source out unread.NoMemory kept why = record { began = why; less = λ texts told. TookLess-kept out (output (Some job) texts) kept }
 
 -- words that ask for a job do not ask for nothing
 pub Cause-asked : (job : Job) (source : SourceTrace) (out : SinkTrace) (outcome : Result Ending Failure) → Cause (ran (Some job) source out) outcome → outcome ≡ Err Usage → ⊥
@@ -144,39 +144,33 @@ Cause-asked job source out outcome cause usage =
     let why : AskedNothing (ran (Some job) source out) = subst (Cause (ran (Some job) source out)) usage cause in
     let nothing : Some job ≡ None = why.asked in cc
 
--- ---- what is said
+-- ---- what every run does, and what is said of it
 
--- where the message wants memory that is refused, the run ended for want of memory
-pub Cause-no_memory : (run : Run) (outcome : Result Ending Failure) → Cause run outcome → Cause run (Err NoMemory)
-Cause-no_memory run (Ok ends) cause = record {
-  began = subst (BeganFront run.source) (sym (ap names_asked cause.asked)) (BeganFront-all run.source (names_of cause.job) cause.read);
-  front = λ texts told. TookFront-all run.out.before run.out.after (output run.asked texts) (cause.told texts told).took.taken;
-}
-Cause-no_memory run (Err Usage) cause = record {
-  began = BeganFront-none run.source (names_asked run.asked) cause.source;
-  front = λ texts told. TookFront-kept run.out (output run.asked texts) cause.kept;
-}
-Cause-no_memory run (Err TooLarge) cause = record {
-  began = BeganFront-over run.source (names_asked run.asked) cause.over;
-  front = λ texts told. TookFront-kept run.out (output run.asked texts) cause.kept;
-}
-Cause-no_memory run (Err (Refused fault)) cause = record {
-  began = subst (BeganFront run.source) (sym (ap names_asked cause.asked)) (BeganFront-all run.source (names_of cause.job) cause.read);
-  front = λ texts told. TookFront-kept run.out (output run.asked texts) cause.kept;
-}
-Cause-no_memory run (Err (CannotRead name)) cause = record {
-  began = BeganFront-failed run.source (names_asked run.asked) name cause.at;
-  front = λ texts told. TookFront-kept run.out (output run.asked texts) cause.kept;
-}
-Cause-no_memory run (Err CannotWrite) cause = record {
-  began = subst (BeganFront run.source) (sym (ap names_asked cause.asked)) (BeganFront-all run.source (names_of cause.job) cause.read);
-  front = cause.front;
-}
-Cause-no_memory run (Err NoMemory) cause = cause
+-- the inputs that a run began are the first of its names
+pub Cause-began : (run : Run) (outcome : Result Ending Failure) → Cause run outcome → BeganFront run.source (names_asked run.asked)
+Cause-began run (Ok ends) cause = subst (BeganFront run.source) (sym (ap names_asked cause.asked)) (BeganFront-all run.source (names_of cause.job) cause.read)
+Cause-began run (Err Usage) cause = BeganFront-none run.source (names_asked run.asked) cause.source
+Cause-began run (Err TooLarge) cause = BeganFront-over run.source (names_asked run.asked) cause.over
+Cause-began run (Err (Refused fault)) cause = subst (BeganFront run.source) (sym (ap names_asked cause.asked)) (BeganFront-all run.source (names_of cause.job) cause.read)
+Cause-began run (Err (CannotRead name)) cause = BeganFront-failed run.source (names_asked run.asked) name cause.at
+Cause-began run (Err CannotWrite) cause = subst (BeganFront run.source) (sym (ap names_asked cause.asked)) (BeganFront-all run.source (names_of cause.job) cause.read)
+Cause-began run (Err NoMemory) cause = cause.began
+
+-- where the line of a failure wants memory that is refused, the run ended for want of memory: nothing was written
+Cause-unsaid : (run : Run) (outcome : Result Ending Failure) → Cause run outcome → IsErrAnd outcome NamesSomething → Cause run (Err NoMemory)
+Cause-unsaid run (Err (Refused fault)) cause names =
+    record { began = Cause-began run (Err (Refused fault)) cause; less = λ texts told. TookLess-kept run.out (output run.asked texts) cause.kept }
+Cause-unsaid run (Err (CannotRead name)) cause names =
+    record { began = Cause-began run (Err (CannotRead name)) cause; less = λ texts told. TookLess-kept run.out (output run.asked texts) cause.kept }
+Cause-unsaid run (Ok ends) cause names = absurd names
+Cause-unsaid run (Err Usage) cause names = absurd names
+Cause-unsaid run (Err TooLarge) cause names = absurd names
+Cause-unsaid run (Err CannotWrite) cause names = absurd names
+Cause-unsaid run (Err NoMemory) cause names = absurd names
 
 -- so whatever was said, it has its cause
-pub Cause-said : (run : Run) (ended said : Result Ending Failure) → Cause run ended → (said ≡ ended) ⊎ (said ≡ Err NoMemory) → Cause run said
+pub Cause-said : (run : Run) (ended said : Result Ending Failure) → Cause run ended → (said ≡ ended) ⊎ ((said ≡ Err NoMemory) × IsErrAnd ended NamesSomething) → Cause run said
 Cause-said run ended said cause which = elim which [
   | inl same ↦ subst (Cause run) (sym same) cause
-  | inr memory ↦ subst (Cause run) (sym memory) (Cause-no_memory run ended cause)
+  | inr memory ↦ subst (Cause run) (sym memory.0) (Cause-unsaid run ended cause memory.1)
 ]

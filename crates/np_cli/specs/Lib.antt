@@ -2,6 +2,7 @@ pub mod Answers
 pub mod Counts
 pub mod Failures
 pub mod Messages
+pub mod NoteTexts
 pub mod Prints
 pub mod Promises
 pub mod Runs

@@ -1,5 +1,5 @@
 -- What a run promises, which follows from why it ends as it does.
-use Rattle.std.specs.Prelude.{◌≡◌, ◌≢◌, ℕ, ◌+◌, ◌^◌, ◌<◌, ◌≤◌, ◌⊎◌, List, [], true, false, None, Option, Some, Contains, Ok, Err}
+use Rattle.std.specs.Prelude.{◌≡◌, ◌≢◌, ℕ, ◌+◌, ◌^◌, ◌<◌, ◌≤◌, ◌⊎◌, List, [], length, true, false, None, Option, Some, Contains, Ok, Err}
 use Rattle.np_io.specs.Counts.{Rose}
 use Rattle.np_cli.specs.Answers.{ending_of, output, refusal}
 use Rattle.np_command_check.specs.Promise.{ChecksAll, FindsBroken}
@@ -43,6 +43,12 @@ abbrev pub Completes : Run → SinkTrace → Status → Type 0
 Completes run err answer = (job : Job) (texts : List (List ℕ)) → run.asked ≡ Some job → KnowsBytes run texts → IsAccepted job texts
     → NoInputFailed run → IsStill run.out.faults_before run.out.faults_after
     → ((answer ≡ ending_status (ending_of job texts)) × TookWhole run.out (output run.asked texts) × Said err (message (Ok (ending_of job texts)))) ⊎ (answer ≡ status.NoMemory)
+
+-- Where the sink of the report tells what it took, and took the whole of a report that is not empty, the answer is not want of
+-- memory.
+abbrev pub AcknowledgesReport : Run → Status → Type 0
+AcknowledgesReport run answer = (texts : List (List ℕ)) (before : List ℕ) → KnowsBytes run texts → run.out.before ≡ Some before
+    → 0 < length (output run.asked texts) → TookWhole run.out (output run.asked texts) → answer ≢ status.NoMemory
 
 -- Inputs with too many bytes are refused for that, and nothing is written to the sink of the report.
 abbrev pub RefusesTooLarge : Run → SinkTrace → Status → Type 0
@@ -115,7 +121,8 @@ SaysCounts run answer = (n : ℕ) → n ≤ 1000 → run.asked ≡ Some (SampleJ
 
 -- All that is promised of a run that ended with this status, where so many rules were looked at before it and after it.
 -- Nothing here ties the status NoMemory to memory that is short: a program that reads nothing, writes no report, says
--- `error: out of memory` and always answers NoMemory keeps every promise. That this one does otherwise is only tested.
+-- `error: out of memory` and always answers NoMemory keeps every promise. That this one does otherwise is only tested. But no
+-- program keeps them that hands over a whole report and then answers NoMemory.
 pub record Promises (run : Run) (err : SinkTrace) (steps_before steps_after : ℕ) (answer : Status) : Type 0 where
   pub ends : Ends run err answer
   -- what a report says of the bytes of the inputs
@@ -126,8 +133,10 @@ pub record Promises (run : Run) (err : SinkTrace) (steps_before steps_after : �
   pub checks : SaysWhatHolds run answer
   pub flattens : SaysFlatPolicies run answer
   pub counts : SaysCounts run answer
-  -- where the source tells its bytes and no call failed, the answer is determined, but for want of memory
+  -- where the source tells its bytes and no call failed, the answer is determined, but for want of memory, which does not come
+  -- once the sink has the whole report
   pub completes : Completes run err answer
+  pub acknowledges : AcknowledgesReport run answer
   pub refuses_too_large : RefusesTooLarge run err answer
   pub refuses_more : RefusesMore run err answer
   pub refuses_faults : RefusesFaults run err answer

@@ -1,7 +1,7 @@
 -- What one call of the top call may do, and why.
 use Rattle.std.specs.Prelude.{◌≡◌, ℕ, List, false, Option, Some, None, is_some, true, Result, Ok, Err}
 use Rattle.np_io.specs.Counts.{Rose}
-use Rattle.np_io.specs.Taken.{TookFront}
+use Rattle.np_io.specs.Taken.{TookFront, TookLess}
 use Rattle.np_cli.specs.Answers.{IsLawfulIn, ending_of, objects_of, output, refusal}
 use Rattle.np_cli.specs.Messages.{message}
 use Rattle.np_command.specs.Sinks.{SinkTrace, IsKept, TookWhole, Said}
@@ -85,11 +85,11 @@ pub record StoppedWriting (run : Run) : Type 0 where
   pub accepted : (texts : List (List ℕ)) → KnowsBytes run texts → IsAccepted job texts
   pub front : (texts : List (List ℕ)) → KnowsBytes run texts → TookFront run.out.before run.out.after (output run.asked texts)
 
--- Memory was refused, at any time. No field says that it was: this holds of every run that began the first of its
--- inputs in their order, and of whose text the sink took a front.
+-- Memory was refused, at any time before the sink had the whole text. No field says that it was: this holds of every run that
+-- began the first of its inputs in their order, and of whose text the sink took less than all.
 pub record LackedMemory (run : Run) : Type 0 where
   pub began : BeganFront run.source (names_asked run.asked)
-  pub front : (texts : List (List ℕ)) → KnowsBytes run texts → TookFront run.out.before run.out.after (output run.asked texts)
+  pub less : (texts : List (List ℕ)) → KnowsBytes run texts → TookLess run.out.before run.out.after (output run.asked texts)
 
 -- Why a run may end so.
 abbrev pub Cause : Run → Result Ending Failure → Type 0

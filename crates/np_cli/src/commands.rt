@@ -7,7 +7,7 @@ ghost use Rattle.np_command.specs.Sinks.{sunk};
 ghost use Rattle.np_command_check.specs.Report.{statement_bytes};
 ghost use Rattle.np_model.specs.Lawful.{IsLawful};
 
-use crate::notes::ReportNotes;
+use crate::notes::{PreparedNotes, ReportNotes};
 use np_args::Job;
 use np_base::{NoMemory, Seq};
 use np_command::Failure;
@@ -105,13 +105,13 @@ fn statement_of(texts: &[Vec<u8>]) -> &[u8]
 }
 
 /// What is said of a job's report on what its bytes say: what was left out of it, and of `list` the backends of Ingresses
-/// that lead nowhere; of `sample` nothing. The estate is lawful.
+/// that lead nowhere; of `sample` nothing. Its lines are made. The estate is lawful.
 #[tactic(auto, unfolding(crate::specs::Answers::report_notes))]
 pub(crate) fn report_notes(
     alloc: Global,
     job: &Job,
     folded: &Folded,
-) -> Result<ReportNotes, NoMemory>
+) -> Result<PreparedNotes, NoMemory>
     ensures notes { IfOk result (λ notes. notes ≡ spec.report_notes job.now folded.now) }
     ensures lawful { IsLawful folded.now }
 {
@@ -124,5 +124,5 @@ pub(crate) fn report_notes(
         Job::Sample { .. } => NOTHING,
         _ => estate.notes(),
     };
-    Ok(ReportNotes { left_out, routes })
+    PreparedNotes::of(alloc, ReportNotes { left_out, routes })
 }

@@ -1,12 +1,13 @@
 //! What is said of a whole report.
 ghost use Rattle.std.specs.Prelude.{◌≡◌, IfOk, string_bytes};
-ghost use Rattle.np_cli.specs.Messages as spec;
+ghost use Rattle.np_cli.specs.NoteTexts as spec;
 
 use np_base::{NoMemory, Seq};
 use np_model::Notes;
 use np_routes::RouteNote;
 use std::alloc::Global;
 use std::fmt;
+use std::marker::Model;
 
 /// What is said of a whole report: how many objects were left out of it, and which backends of Ingresses lead nowhere, or
 /// not where they seem to, in the order of the Ingresses.
@@ -18,7 +19,7 @@ pub struct ReportNotes {
 
 impl ReportNotes {
     ghost use Rattle.std.specs.Prelude.{◌≡◌, IfOk, string_bytes};
-    ghost use Rattle.np_cli.specs.Messages.{notes_text};
+    ghost use Rattle.np_cli.specs.NoteTexts.{notes_text};
 
     /// The lines of the notes: those of the objects first, each where its number is not 0.
     pub fn text(&self, alloc: Global) -> Result<String, NoMemory>
@@ -32,6 +33,46 @@ impl ReportNotes {
             text.push_str(route_line(alloc, note)?.as_str())?;
         }
         Ok(text)
+    }
+}
+
+/// The notes on a report, with their lines made, so that no memory is wanted for them once the report is written. Contracts
+/// see of it the notes.
+#[derive(Debug, Drop)]
+pub struct PreparedNotes {
+    notes: ReportNotes,
+    text: String,
+}
+
+impl Model for PreparedNotes {
+    ghost use Rattle.std.specs.Prelude.{◌≡◌, string_bytes};
+    ghost use Rattle.np_cli.specs.NoteTexts.{notes_text};
+    ghost use Rattle.np_cli.specs.declared.notes.ReportNotes.{ReportNotes};
+
+    ghost Value = { ReportNotes };
+
+    ghost view = { λ s. s.notes };
+
+    ghost invariant = { λ s. string_bytes s.text ≡ notes_text s.notes };
+}
+
+impl PreparedNotes {
+    ghost use Rattle.std.specs.Prelude.{◌≡◌, IfOk};
+    ghost use Rattle.np_cli.specs.NoteTexts.{notes_text};
+
+    /// Makes the lines of these notes.
+    pub fn of(alloc: Global, notes: ReportNotes) -> Result<PreparedNotes, NoMemory>
+        ensures { IfOk result (λ made. made ≡ notes) }
+    {
+        let text = notes.text(alloc)?;
+        Ok(PreparedNotes { notes, text })
+    }
+
+    /// The lines of the notes.
+    pub fn text(&self) -> &str
+        ensures { result.now ≡ notes_text self.now }
+    {
+        self.text.as_str()
     }
 }
 
@@ -50,7 +91,7 @@ struct LeftOut {
 
 impl fmt::Display for LeftOut {
     ghost use Rattle.std.specs.Prelude.{Some};
-    ghost use Rattle.np_cli.specs.Messages.{left_out_text};
+    ghost use Rattle.np_cli.specs.NoteTexts.{left_out_text};
 
     ghost output = { λ text. Some (left_out_text text.notes) };
 
@@ -84,11 +125,11 @@ struct Note {
 
 impl fmt::Display for Note {
     ghost use Rattle.std.specs.Prelude.{Some};
-    ghost use Rattle.np_cli.specs.Messages.{note};
+    ghost use Rattle.np_cli.specs.NoteTexts.{note};
 
     ghost output = { λ line. Some (note line.what.now line.count) };
 
-    #[tactic(auto, unfolding(crate::specs::Messages::note))]
+    #[tactic(auto, unfolding(crate::specs::NoteTexts::note))]
     fn fmt<W: fmt::Write>(&self, f: &mut fmt::Formatter<W>) -> fmt::Result {
         if self.count == 0 {
             return Ok(());

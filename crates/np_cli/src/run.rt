@@ -1,11 +1,12 @@
 //! The top call: from the words of a command line and the bytes of its inputs to a report and a status.
-ghost use Rattle.std.specs.Prelude.{◌≡◌, ◌≤◌, ◌⊎◌, Err, Some, map};
+ghost use Rattle.std.specs.Prelude.{◌≡◌, ◌≤◌, ◌⊎◌, Err, IsErrAnd, Some, map};
 ghost use Rattle.np_cli.specs.Answers.{objects_of};
 ghost use Rattle.np_cli.specs.Counts.{Counted, RoseAtMost, steps_in};
 ghost use Rattle.np_cli.specs.Messages as messages;
 ghost use Rattle.np_cli.specs.Prints.{Answers};
 ghost use Rattle.np_cli.specs.Promises.{Promises};
 ghost use Rattle.np_cli.specs.Runs.{Cause, ran};
+ghost use Rattle.np_command.specs.Messages.{NamesSomething, failure_text};
 ghost use Rattle.np_command.specs.Sinks.{Said, sunk};
 ghost use Rattle.np_cli.specs.Sources.{sourced};
 ghost use Rattle.np_args.specs.CommandLines.{asked_by};
@@ -13,10 +14,9 @@ ghost use Rattle.np_args.specs.Jobs.{IsWell};
 
 use crate::commands::{reply, report_notes};
 use crate::job_texts::{names_of, read_objects};
-use crate::outcome::{Ending, Outcome, message, status_of};
+use crate::outcome::{Ending, Outcome, status_of};
 use crate::sources::read_all;
 use np_args::{Job, read_words};
-use np_base::NoMemory;
 use np_command::{Failure, Status};
 use np_io::{Inputs, Sink, write_whole};
 use np_steps::Steps;
@@ -30,8 +30,8 @@ use std::sync::ledger::Ledger;
 ///
 /// The inputs are begun in the order of the words, each once, and none where the words ask for nothing. Nothing goes to
 /// `out` where anything is refused. The report is written after the last read, though no clause speaks of that order.
-/// Where `out` fails or memory is short, the bytes that `out` took are a front of the report. A failure of `err`
-/// changes nothing else.
+/// Where `out` fails, the bytes that it took are a front of the report. Where memory is short, they are less than the whole
+/// report, unless that is empty: once it is written, no memory is wanted. A failure of `err` changes nothing else.
 pub fn np_main<I: Inputs, O: Sink, E: Sink, L: Ledger>(
     alloc: Global,
     words: &[String],
@@ -113,19 +113,45 @@ fn answer<O: Sink, L: Ledger>(
     }
 }
 
-// Says on the error sink how the run ended. Where the message wants memory that is refused, the run ended so.
+// Says on the error sink how the run ended. Memory is wanted only for the line of a failure that names something; where that
+// is refused, the run ended so.
 fn say<E: Sink>(alloc: Global, err: &mut E, outcome: Outcome) -> Outcome
     ensures said { Said (sunk E.taken E.faults err.old err.new) (messages.message result) }
-    ensures kept { (result ≡ outcome) ⊎ (result ≡ Err Failure.NoMemory) }
+    ensures kept { (result ≡ outcome) ⊎ ((result ≡ Err Failure.NoMemory) × IsErrAnd outcome NamesSomething) }
 {
-    match message(alloc, &outcome) {
-        Ok(text) => {
-            let _ = write_whole(err, text.as_bytes());
-            outcome
+    match outcome {
+        Ok(ending) => {
+            tell(err, ending.text());
+            Ok(ending)
         }
-        Err(NoMemory) => {
-            let _ = write_whole(err, b"error: out of memory\n");
-            Err(Failure::NoMemory)
+        Err(failure) => Err(say_failure(alloc, err, failure)),
+    }
+}
+
+// Says a failure so, and answers the one that it said.
+fn say_failure<E: Sink>(alloc: Global, err: &mut E, failure: Failure) -> Failure
+    ensures said { Said (sunk E.taken E.faults err.old err.new) (failure_text result) }
+    ensures kept { (result ≡ failure) ⊎ ((result ≡ Failure.NoMemory) × NamesSomething failure) }
+{
+    if let Some(line) = failure.constant_line() {
+        tell(err, line);
+        return failure;
+    }
+    match format!(in alloc; "{failure}") {
+        Ok(line) => {
+            tell(err, line.as_str());
+            failure
+        }
+        Err(_) => {
+            tell(err, "error: out of memory\n");
+            Failure::NoMemory
         }
     }
+}
+
+// Writes a text to the error sink, whose failure changes nothing else.
+fn tell<E: Sink>(err: &mut E, text: &str)
+    ensures { Said (sunk E.taken E.faults err.old err.new) text.now }
+{
+    let _ = write_whole(err, text.as_bytes());
 }

@@ -3,7 +3,7 @@ use Rattle.std.proofs.Common.{◌≡◌, ℕ, List, [], ◌++◌, Option, Ok, Er
 use Rattle.std.specs.Io.KnownBytes.{append_known}
 use Rattle.np_io.specs.Counts.{Rose}
 use Rattle.np_io.specs.Taken.{TookAllBut, TookFront}
-use Rattle.np_io.proofs.TakenLemmas.{TookAllBut-all, TookAllBut-fault, TookAllBut-finish, TookAllBut-front, TookAllBut-put, TookAllBut-put_fault}
+use Rattle.np_io.proofs.TakenLemmas.{TookAllBut-all, TookAllBut-fault, TookAllBut-finish, TookAllBut-less, TookAllBut-put, TookAllBut-put_fault}
 use Rattle.np_command.specs.Sinks.{SinkTrace}
 use Rattle.np_command.specs.Written.{Writes}
 use Rattle.np_command.specs.declared.write_fault.WriteFault.TheVariants.{SinkFailed, NoMemory}
@@ -36,10 +36,10 @@ pub HasLeft-fault : (before middle after : Option (List ℕ)) (faults_before fau
 HasLeft-fault before middle after faults_before faults_middle faults_after whole held text rest has took rose =
     (TookAllBut-put_fault before middle after whole held text rest has.taken took, subst (λ (n : ℕ). Rose n faults_after) has.faults rose)
 
--- where memory is refused, a front was taken
+-- where memory is refused, less than all was taken
 pub HasLeft-memory : (before after : Option (List ℕ)) (faults_before faults_after : ℕ) (whole held rest : List ℕ) → HasLeft before after faults_before faults_after whole held rest →
     Writes (between before after faults_before faults_after) whole (Err NoMemory)
-HasLeft-memory before after faults_before faults_after whole held rest has = TookAllBut-front before after whole (held ++ rest) has.taken
+HasLeft-memory before after faults_before faults_after whole held rest has = TookAllBut-less before after whole (held ++ rest) has.taken
 
 -- the last text has nothing behind it
 pub HasLeft-last : (before after : Option (List ℕ)) (faults_before faults_after : ℕ) (whole held text : List ℕ) → HasLeft before after faults_before faults_after whole held text →

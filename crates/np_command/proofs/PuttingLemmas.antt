@@ -7,7 +7,7 @@ use Rattle.np_command.specs.Written.{Writes}
 use Rattle.np_command.specs.declared.write_fault.WriteFault.{WriteFault}
 use Rattle.np_command.specs.declared.write_fault.WriteFault.TheVariants.{SinkFailed, NoMemory}
 use Rattle.np_command.specs.steps.Putting.{PutAll}
-use Rattle.np_io.proofs.TakenLemmas.{TookAllBut-all, TookAllBut-put_fault}
+use Rattle.np_io.proofs.TakenLemmas.{TookAllBut-all, TookAllBut-put_fault, TookAllBut-put_less}
 use Rattle.np_io.specs.Counts.{Rose}
 use Rattle.np_io.specs.Taken.{TookAllBut}
 
@@ -45,7 +45,7 @@ pub HasLeft-call_fault : (before middle after : Option (List ℕ)) (faults_befor
 HasLeft-call_fault before middle after faults_before faults_middle faults_after whole held text rest SinkFailed has wrote =
     (TookAllBut-put_fault before middle after whole held text rest has.taken wrote.0, subst (λ (n : ℕ). Rose n faults_after) has.faults wrote.1)
 HasLeft-call_fault before middle after faults_before faults_middle faults_after whole held text rest NoMemory has wrote =
-    TookAllBut-put_fault before middle after whole held text rest has.taken wrote
+    TookAllBut-put_less before middle after whole held text rest has.taken wrote
 
 -- all was put
 pub HasLeft-put : (before after : Option (List ℕ)) (faults_before faults_after : ℕ) (held left text : List ℕ)

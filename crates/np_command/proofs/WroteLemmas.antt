@@ -1,6 +1,6 @@
 -- What was written of a reply.
 use Rattle.std.proofs.Common.{◌≡◌, ℕ, List, Result, Ok, Err, ap, subst, sym, ◌∙◌}
-use Rattle.np_command.proofs.SinkLemmas.{TookFront-kept}
+use Rattle.np_command.proofs.SinkLemmas.{TookLess-kept}
 use Rattle.np_command.specs.Prints.{text_in}
 use Rattle.np_command.specs.Failures.{write_failure}
 use Rattle.np_command.specs.Inputs.{Refuses}
@@ -12,13 +12,13 @@ use Rattle.np_command.specs.declared.failure.Failure.TheVariants.{Usage, CannotR
 use Rattle.np_command.specs.declared.fault.Fault.{Fault}
 use Rattle.np_command.specs.declared.write_fault.WriteFault.{WriteFault}
 use Rattle.np_command.specs.declared.write_fault.WriteFault.TheVariants as unwritten
-use Rattle.np_io.specs.Taken.{TookFront}
+use Rattle.np_io.specs.Taken.{TookLess}
 
 -- Where a step finds a fault, nothing is written of a reply that has that fault then.
 pub Wrote-refused : {X : Type 0} (out : SinkTrace) (reply : Result X Fault → Result (List ℕ) Fault) (found : Result X Fault) (failure : Failure) → ((fault : Fault) → reply (Err fault) ≡ Err fault) →
     Refuses failure found → IsKept out → Wrote out (reply found) (Err failure)
 Wrote-refused out reply found (Refused fault) stands refuses kept = (ap reply refuses ∙ stands fault, kept)
-Wrote-refused out reply found NoMemory stands refuses kept = TookFront-kept out (text_in (reply found)) kept
+Wrote-refused out reply found NoMemory stands refuses kept = TookLess-kept out (text_in (reply found)) kept
 Wrote-refused out reply found Usage stands refuses kept = absurd refuses
 Wrote-refused out reply found TooLarge stands refuses kept = absurd refuses
 Wrote-refused out reply found (CannotRead name) stands refuses kept = absurd refuses
@@ -28,4 +28,4 @@ Wrote-refused out reply found CannotWrite stands refuses kept = absurd refuses
 pub Wrote-unwritten : (out : SinkTrace) (reply : Result (List ℕ) Fault) (text : List ℕ) (fault : WriteFault) → reply ≡ Ok text → Writes out text (Err fault) →
     Wrote out reply (Err (write_failure fault))
 Wrote-unwritten out reply text unwritten.SinkFailed is wrote = record { text = text; is = is; took = wrote.0; rose = wrote.1 }
-Wrote-unwritten out reply text unwritten.NoMemory is wrote = subst (TookFront out.before out.after) (sym (ap text_in is)) wrote
+Wrote-unwritten out reply text unwritten.NoMemory is wrote = subst (TookLess out.before out.after) (sym (ap text_in is)) wrote

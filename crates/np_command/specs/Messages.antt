@@ -28,12 +28,21 @@ usage_text =
     ++ codes "       np unused [FILE]...\n"
     ++ codes "       np check --statement FILE [FILE]...\n"
     ++ codes "       np flatten [FILE]...\n"
-    ++ codes "       np sample N"
+    ++ codes "       np sample N\n"
 
 abbrev pub failure_text : Failure → List ℕ
 failure_text Usage = usage_text
-failure_text (CannotRead name) = codes "error: cannot read " ++ name
-failure_text TooLarge = codes "error: TooLarge"
-failure_text (Refused fault) = codes "error: " ++ fault_text fault
-failure_text CannotWrite = codes "error: cannot write"
-failure_text NoMemory = codes "error: out of memory"
+failure_text (CannotRead name) = codes "error: cannot read " ++ name ++ codes "\n"
+failure_text TooLarge = codes "error: TooLarge\n"
+failure_text (Refused fault) = codes "error: " ++ fault_text fault ++ codes "\n"
+failure_text CannotWrite = codes "error: cannot write\n"
+failure_text NoMemory = codes "error: out of memory\n"
+
+-- the line of the failure names something: the other lines are constant
+abbrev pub NamesSomething : Failure → Type 0
+NamesSomething (CannotRead name) = Unit {0}
+NamesSomething (Refused fault) = Unit {0}
+NamesSomething Usage = ⊥
+NamesSomething TooLarge = ⊥
+NamesSomething CannotWrite = ⊥
+NamesSomething NoMemory = ⊥

@@ -1,7 +1,7 @@
 -- What a command leaves of its report, once its inputs are read.
 use Rattle.std.specs.Prelude.{◌≡◌, ℕ, List, [], Option, Some, None, Result, Ok, Err, ⊤}
 use Rattle.np_io.specs.Counts.{Rose}
-use Rattle.np_io.specs.Taken.{TookFront}
+use Rattle.np_io.specs.Taken.{TookFront, TookLess}
 use Rattle.np_command.specs.Sinks.{SinkTrace, IsKept, TookWhole}
 use Rattle.np_command.specs.declared.failure.Failure.{Failure}
 use Rattle.np_command.specs.declared.failure.Failure.TheVariants.{Usage, CannotRead, TooLarge, Refused, CannotWrite, NoMemory}
@@ -35,7 +35,7 @@ abbrev pub Wrote : SinkTrace → Result (List ℕ) Fault → Result ⊤ Failure 
 Wrote out reply (Ok done) = WroteAll out reply
 Wrote out reply (Err (Refused fault)) = (reply ≡ Err fault) × IsKept out
 Wrote out reply (Err CannotWrite) = WroteFront out reply
-Wrote out reply (Err NoMemory) = TookFront out.before out.after (text_in reply)
+Wrote out reply (Err NoMemory) = TookLess out.before out.after (text_in reply)
 Wrote out reply (Err Usage) = ⊥
 Wrote out reply (Err TooLarge) = ⊥
 Wrote out reply (Err (CannotRead name)) = ⊥

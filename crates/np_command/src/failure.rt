@@ -21,10 +21,17 @@ static USAGE: &str = concat!(
     "       np unused [FILE]...\n",
     "       np check --statement FILE [FILE]...\n",
     "       np flatten [FILE]...\n",
-    "       np sample N",
+    "       np sample N\n",
 );
 
-/// How a run fails. It is written as the line that tells of it, as `error: cannot write`.
+// The lines of the other failures that name nothing.
+static TOO_LARGE: &str = "error: TooLarge\n";
+
+static CANNOT_WRITE: &str = "error: cannot write\n";
+
+static NO_MEMORY: &str = "error: out of memory\n";
+
+/// How a run fails. It is written as the line that tells of it, as `error: cannot write`, with the line's end.
 #[derive(Debug, Drop)]
 pub enum Failure {
     /// The words ask for nothing.
@@ -42,7 +49,8 @@ pub enum Failure {
 }
 
 impl Failure {
-    ghost use Rattle.std.specs.Prelude.{◌≡◌};
+    ghost use Rattle.std.specs.Prelude.{◌≡◌, IfNone, IfSome};
+    ghost use Rattle.np_command.specs.Messages.{NamesSomething, failure_text};
     ghost use Rattle.np_command.specs.Statuses.{failure_status};
 
     /// The status of the program that failed so.
@@ -56,6 +64,20 @@ impl Failure {
             Failure::NoMemory => Status::NoMemory,
         }
     }
+
+    /// The line that tells of it, where it names nothing: to write that takes no memory.
+    pub fn constant_line(&self) -> Option<&'static str>
+        ensures line { IfSome result (λ line. line.now ≡ failure_text self.now) }
+        ensures none { IfNone result (NamesSomething self.now) }
+    {
+        match self {
+            Failure::Usage => Some(USAGE),
+            Failure::TooLarge => Some(TOO_LARGE),
+            Failure::CannotWrite => Some(CANNOT_WRITE),
+            Failure::NoMemory => Some(NO_MEMORY),
+            Failure::CannotRead(_) | Failure::Refused(_) => None,
+        }
+    }
 }
 
 impl fmt::Display for Failure {
@@ -67,11 +89,11 @@ impl fmt::Display for Failure {
     fn fmt<W: fmt::Write>(&self, f: &mut fmt::Formatter<W>) -> fmt::Result {
         match self {
             Failure::Usage => f.write_str(USAGE),
-            Failure::CannotRead(name) => write!(f, "error: cannot read {name}"),
-            Failure::TooLarge => write!(f, "error: TooLarge"),
-            Failure::Refused(fault) => write!(f, "error: {fault}"),
-            Failure::CannotWrite => write!(f, "error: cannot write"),
-            Failure::NoMemory => write!(f, "error: out of memory"),
+            Failure::CannotRead(name) => writeln!(f, "error: cannot read {name}"),
+            Failure::TooLarge => f.write_str(TOO_LARGE),
+            Failure::Refused(fault) => writeln!(f, "error: {fault}"),
+            Failure::CannotWrite => f.write_str(CANNOT_WRITE),
+            Failure::NoMemory => f.write_str(NO_MEMORY),
         }
     }
 }

@@ -1,7 +1,7 @@
 -- What is said of the statements of a file, by what is found of its lines.
 use Rattle.std.proofs.Common.{◌≡◌, ℕ, List, Option, Result, Ok, Err, length, ap, ◌∙◌}
 use Rattle.std.specs.Prelude.{is_none}
-use Rattle.np_command.proofs.SinkLemmas.{TookFront-kept}
+use Rattle.np_command.proofs.SinkLemmas.{TookLess-kept}
 use Rattle.np_command.specs.Prints.{text_in}
 use Rattle.np_command_check.specs.Failures.{end_failure}
 use Rattle.np_command.specs.Prints.{Wrote}
@@ -51,4 +51,4 @@ hold_found bytes lists lines broken read is =
 pub wrote-unfound : (out : SinkTrace) (bytes : List ℕ) (lists : EstateLists) (lines : List StatementLine) (fault : EndFault) → statements_of bytes ≡ Ok lines →
     GivesEnds {X = Option Broken} (Err fault) (broken_among lists lines) → IsKept out → Wrote out (check_reply bytes lists) (Err (end_failure fault))
 wrote-unfound out bytes lists lines (end.UnknownEnd name) read unknown kept = (reply_unknown bytes lists lines name read unknown, kept)
-wrote-unfound out bytes lists lines end.NoMemory read unknown kept = TookFront-kept out (text_in (check_reply bytes lists)) kept
+wrote-unfound out bytes lists lines end.NoMemory read unknown kept = TookLess-kept out (text_in (check_reply bytes lists)) kept

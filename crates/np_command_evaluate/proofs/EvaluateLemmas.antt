@@ -1,6 +1,17 @@
--- Words that name pods.
-use Rattle.std.proofs.Common.{◌≡◌, ℕ, List, [], ◌∷◌, ◌++◌, Bool, true, false, ◌&&◌, ◌==◌, length, take, drop, refl, ap, ◌∙◌}
+-- Words that name pods, and ends that are not there.
+use Rattle.std.proofs.Common.{◌≡◌, ℕ, List, [], ◌∷◌, ◌++◌, Bool, true, false, ◌&&◌, ◌==◌, length, take, drop, refl, ap, ◌∙◌, Result, Ok, Err, subst, sym}
 use Rattle.std.specs.Str.{bytes_eq}
+use Rattle.np_args.specs.declared.end_word.EndWord.{EndWord}
+use Rattle.np_command.proofs.WroteLemmas.{Wrote-refused}
+use Rattle.np_command.specs.Inputs.{Refuses}
+use Rattle.np_command.specs.Prints.{Wrote}
+use Rattle.np_command.specs.Sinks.{IsKept, SinkTrace}
+use Rattle.np_command.specs.declared.failure.Failure.{Failure}
+use Rattle.np_command.specs.declared.fault.Fault.{Fault}
+use Rattle.np_command_evaluate.specs.Report.{between, evaluate_reply, known_end}
+use Rattle.np_conns.specs.declared.port_spot.PortSpot.{PortSpot}
+use Rattle.np_model.specs.declared.lists.EstateLists.{EstateLists}
+use Rattle.np_rules.specs.declared.packet.End.{End}
 
 -- a text is another one and a rest where it begins with the one and goes on as the rest
 pub bytes_eq_parts : (word front rest : List ℕ) → bytes_eq word (front ++ rest) ≡ (bytes_eq (take (length front) word) front && bytes_eq (drop (length front) word) rest)
@@ -12,3 +23,11 @@ bytes_eq_parts (b ∷ word) (a ∷ front) rest =
     together : (x y z : Bool) → (x && (y && z)) ≡ ((x && y) && z)
     together true y z = refl
     together false y z = refl
+
+-- behind a source that is known, the fault of the destination is that of the reply
+pub wrote-unknown : (out : SinkTrace) (from to : EndWord) (spot : PortSpot) (lists : EstateLists) (source : End) (failure : Failure) → known_end lists from ≡ Ok source →
+    Refuses failure (known_end lists to) → IsKept out → Wrote out (evaluate_reply from to spot lists) (Err failure)
+unfolding evaluate_reply
+wrote-unknown out from to spot lists source failure known refuses kept =
+    subst (λ (found : Result End Fault). Wrote out (between lists from to spot found (known_end lists to)) (Err failure)) (sym known)
+    (Wrote-refused out (between lists from to spot (Ok source)) (known_end lists to) failure (λ fault. refl) refuses kept)

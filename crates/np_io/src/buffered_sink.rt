@@ -45,7 +45,9 @@ impl BufferedSink {
     }
 
     /// Puts these bytes behind those that are held. Where they do not fit there, the sink takes what is held, and
-    /// then the bytes are held alone, or taken too where they are more than `ROOM`.
+    /// then the bytes are held alone, or the last `ROOM` of them, once the sink took those before.
+    ///
+    /// So the sink never has all that was put before `finish`, unless nothing was.
     ///
     /// `SinkFailed` comes only where the sink's count of faults rose. It then took a front of what was held and of
     /// these bytes, and the rest is lost: nothing is held.
@@ -66,13 +68,14 @@ impl BufferedSink {
 
         ensures counts { NeverFalls (O.faults out.old) (O.faults out.new) }
     {
-        if bytes.len() > Self::ROOM - self.bytes.len() {
-            self.hand_on(out)?;
-            if bytes.len() > Self::ROOM {
-                return write_whole(out, bytes);
-            }
+        if bytes.len() <= Self::ROOM - self.bytes.len() {
+            self.bytes.extend_from_slice(bytes).unwrap();
+            return Ok(());
         }
-        self.bytes.extend_from_slice(bytes).unwrap();
+        self.hand_on(out)?;
+        let (first, last) = bytes.split_at(bytes.len().saturating_sub(Self::ROOM));
+        write_whole(out, first)?;
+        self.bytes.extend_from_slice(last).unwrap();
         Ok(())
     }
 

@@ -49,8 +49,8 @@ fn example_gathered(rt: HostRuntime) -> Result<(), Fail> {
 }
 
 // How many bytes are put at once, and how many the sink has taken then: what does not fit beside what is held, and what
-// is more than may be held.
-static LARGE: &[(usize, usize)] = &[(2, 0), (65_536, 2), (65_537, 131_075), (1, 131_075)];
+// is more than may be held, of which the last 65,536 are held.
+static LARGE: &[(usize, usize)] = &[(2, 0), (65_536, 2), (65_537, 65_539), (1, 131_075)];
 
 // Whether the sink has taken so many after each.
 fn is_taken_in_time(alloc: Global, out: &mut MemSink) -> Result<bool, NoMemory> {

@@ -1,6 +1,6 @@
 use Rattle.np_cli.proofs.HeadlineLemmas.{says_exposures, says_flat_policies, says_what_decides, says_what_holds, says_what_is_unused, says_what_passes}
-use Rattle.np_cli.proofs.PromisesLemmas.{begins_in_order, completes, refuses_too_large, refuses_more, refuses_faults, blames_device, blames_words, usage_ended}
-use Rattle.np_cli.proofs.RunsLemmas.{Cause-said}
+use Rattle.np_cli.proofs.PromisesLemmas.{acknowledges, completes, refuses_too_large, refuses_more, refuses_faults, blames_device, blames_words, usage_ended}
+use Rattle.np_cli.proofs.RunsLemmas.{Cause-began, Cause-said}
 use Rattle.np_cli.proofs.SampleLemmas.{says_counts}
 use Rattle.np_cli.proofs.run.np_main.Goals as goal
 
@@ -18,12 +18,13 @@ returns g c =
         flattens = says_flat_policies _ _ c.say-said.result cause c.status_of.ensures;
         counts = says_counts _ _ c.say-said.result cause c.status_of.ensures;
         completes = completes _ _ _ c.say-said.result cause c.say-said.ensures.said c.status_of.ensures;
+        acknowledges = acknowledges _ _ c.say-said.result cause c.status_of.ensures;
         refuses_too_large = refuses_too_large _ _ _ c.say-said.result cause c.say-said.ensures.said c.status_of.ensures;
         refuses_more = refuses_more _ _ _ c.say-said.result cause c.say-said.ensures.said c.status_of.ensures;
         refuses_faults = refuses_faults _ _ _ c.say-said.result cause c.say-said.ensures.said c.status_of.ensures;
         words = blames_words _ _ c.say-said.result cause c.status_of.ensures;
         device = blames_device _ _ c.say-said.result cause c.status_of.ensures;
-        names = begins_in_order _ c.say-said.result cause;
+        names = Cause-began _ c.say-said.result cause;
         counted = c.run-outcome.ensures.ran.1;
       };
       usage = λ usage. c.run-outcome.ensures.usage (usage_ended c.run-outcome.result c.say-said.result c.status_of.result c.status_of.ensures usage c.say-said.ensures.kept);

@@ -5,6 +5,12 @@ use Rattle.np_command.proofs.LeftLemmas.{HasLeft, HasLeft-finish, HasLeft-finish
 use Rattle.np_command_explain.proofs.ShownLemmas.{left-all}
 use Rattle.np_command_explain.proofs.report.write_shown.Goals as goal
 use Rattle.np_command_explain.specs.Report.{shown_text}
+use Rattle.np_io.proofs.TakenLemmas.{TookLess-none}
+
+pub returns-in_err-gathered : goal.returns-in_err-gathered
+returns-in_err-gathered g c =
+    let p = err_from_is_err_and c.from_residual.result c.from_residual.ensures.1 in
+    rw (p.1, p.2) (TookLess-none _ _)
 
 pub loop-one-init : goal.loop-one-init
 loop-one-init g c = rw c.in_ok-gathered.ensures (left-all _ _ _ _ _)

@@ -3,6 +3,12 @@ use Rattle.std.proofs.lemmas.Result.{err_from_is_err_and}
 use Rattle.np_command_flatten.proofs.FlattenLemmas.{flatten_text-is, to_come-next, to_come-none}
 use Rattle.np_command.proofs.LeftLemmas.{HasLeft, HasLeft-all, HasLeft-fault, HasLeft-finish, HasLeft-finish_fault, HasLeft-last, HasLeft-next}
 use Rattle.np_command_flatten.proofs.report.write_policies.Goals as goal
+use Rattle.np_io.proofs.TakenLemmas.{TookLess-none}
+
+pub returns-in_err-gathered-clause-written : goal.returns-in_err-gathered-clause-written
+returns-in_err-gathered-clause-written g c =
+    let p = err_from_is_err_and c.from_residual.result c.from_residual.ensures.1 in
+    rw (p.1, p.2) (TookLess-none _ _)
 
 pub loop-group-init : goal.loop-group-init
 loop-group-init g c =

@@ -8,6 +8,12 @@ use Rattle.np_report.proofs.ToComeLemmas.{rows_to_come-none}
 use Rattle.np_report.specs.RowText.{names_of}
 use Rattle.np_report.specs.TableText.{rows_to_come}
 use Rattle.np_command.proofs.StepLemmas.{none_given}
+use Rattle.np_io.proofs.TakenLemmas.{TookLess-none}
+
+pub returns-in_err-gathered-clause-written : goal.returns-in_err-gathered-clause-written
+returns-in_err-gathered-clause-written g c =
+    let p = err_from_is_err_and c.from_residual.result c.from_residual.ensures.1 in
+    rw (p.1, p.2) (TookLess-none _ _)
 
 pub loop-gathered-init : goal.loop-gathered-init
 loop-gathered-init g c = record {

@@ -1,0 +1,13 @@
+use Rattle.std.proofs.Common.{refl}
+use Rattle.std.proofs.lemmas.Result.{err_from_is_err_and}
+use Rattle.np_command.proofs.SinkLemmas.{TookLess-kept}
+use Rattle.np_command.specs.Prints.{text_in}
+use Rattle.np_command.specs.Sinks.{sunk}
+use Rattle.np_command_explain.proofs.report.explain.Goals as goal
+use Rattle.np_command_explain.specs.Report.{explain_reply}
+
+pub returns-in_err-from-clause-wrote : goal.returns-in_err-from-clause-wrote
+returns-in_err-from-clause-wrote g c =
+    let p = err_from_is_err_and c.from_residual-in_err-from.result c.from_residual-in_err-from.ensures.1 in
+    rw (p.1, p.2) (TookLess-kept (sunk g.O.Sink.taken g.O.Sink.faults c.args.out.now c.args.out.now) (text_in (explain_reply c.args.from.now c.args.to.now c.args.folded.now))
+    (record { taken = refl; faults = refl }))
