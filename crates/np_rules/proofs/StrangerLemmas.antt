@@ -40,21 +40,28 @@ none_or_any_same f g same [] = refl
 none_or_any_same f g same (x ∷ xs) = any_same f g same (x ∷ xs)
 
 -- a stranger has no named ports, as an address has none
-entry_same : (direction : Direction) (near : End) (s : Stranger) (a : Address) (spot : PortSpot) (entry : NetPort) → net_entry_matches entry (destination_of direction near (address a)) spot ≡ net_entry_matches entry (destination_of direction near (pod (stranger_end s))) spot
+entry_same : (direction : Direction) (near : End) (s : Stranger) (a : Address) (spot : PortSpot) (entry : NetPort) → net_entry_matches entry
+    (destination_of direction near (address a)) spot ≡ net_entry_matches entry (destination_of direction near (pod (stranger_end s))) spot
 entry_same Ingress near s a spot entry = refl
 entry_same Egress near s a spot (net.Span proto lo hi) = refl
 entry_same Egress near s a spot (net.Named proto name) = refl
 
 -- what the entries of a rule match at some address they match at each stranger
-ports_same : (direction : Direction) (near : End) (s : Stranger) (a : Address) (spot : PortSpot) (entries : List NetPort) → none_or_any (λ entry. net_entry_matches entry (destination_of direction near (address a)) spot) entries ≡ none_or_any (λ entry. net_entry_matches entry (destination_of direction near (pod (stranger_end s))) spot) entries
-ports_same direction near s a spot entries = none_or_any_same (λ entry. net_entry_matches entry (destination_of direction near (address a)) spot) (λ entry. net_entry_matches entry (destination_of direction near (pod (stranger_end s))) spot) (entry_same direction near s a spot) entries
+ports_same : (direction : Direction) (near : End) (s : Stranger) (a : Address) (spot : PortSpot) (entries : List NetPort) → none_or_any
+    (λ entry. net_entry_matches entry (destination_of direction near (address a)) spot) entries ≡ none_or_any
+    (λ entry. net_entry_matches entry (destination_of direction near (pod (stranger_end s))) spot) entries
+ports_same direction near s a spot entries = none_or_any_same (λ entry. net_entry_matches entry (destination_of direction near (address a)) spot)
+    (λ entry. net_entry_matches entry (destination_of direction near (pod (stranger_end s))) spot) (entry_same direction near s a spot) entries
 
 -- so a set of what the entries of a rule match at addresses is one of what they match at strangers
-pub has_ports : (direction : Direction) (near : End) (kept : RuleConns) → ((a : Address) (spot : PortSpot) → is_spot spot ≡ true → has_spot kept.conns spot ≡ none_or_any (λ entry. net_entry_matches entry (destination_of direction near (address a)) spot) (rule_of kept).ports) → HasPorts direction near kept
+pub has_ports : (direction : Direction) (near : End) (kept : RuleConns) →
+    ((a : Address) (spot : PortSpot) → is_spot spot ≡ true → has_spot kept.conns spot ≡ none_or_any
+    (λ entry. net_entry_matches entry (destination_of direction near (address a)) spot) (rule_of kept).ports) → HasPorts direction near kept
 has_ports direction near kept at_addresses = λ s spot within. at_addresses (Six 0) spot within ∙ ports_same direction near s (Six 0) spot (rule_of kept).ports
 
 -- one rule more
-pub images-next : {X Y Z : Type 0} (f : X → Y) (g : Z → Y) (made new : List X) (x : X) (zs : List Z) (i : ℕ) (z : Z) → i < length zs → z ≡ get_or zs i z → new ≡ made ++ x ∷ [] → f x ≡ g z → map f made ≡ map g (take i zs) → map f new ≡ map g (take (i + 1) zs)
+pub images-next : {X Y Z : Type 0} (f : X → Y) (g : Z → Y) (made new : List X) (x : X) (zs : List Z) (i : ℕ) (z : Z) → i < length zs → z ≡ get_or zs i z → new
+    ≡ made ++ x ∷ [] → f x ≡ g z → map f made ≡ map g (take i zs) → map f new ≡ map g (take (i + 1) zs)
 images-next {X} {Y} {Z} f g made new x zs i z within is pushed same so_far =
     ap (map f) pushed
     ∙ map-append f made (x ∷ [])
@@ -77,7 +84,8 @@ or_none true = refl
 or_none false = refl
 
 -- the kept rules match what they match as rules
-kept_same : (side : PodSide) (s : Stranger) (namespace : List ℕ) (spot : PortSpot) → is_spot spot ≡ true → (kept : List RuleConns) → HavePorts side kept → list_any (kept_matches namespace (pod (stranger_end s)) spot) kept ≡ list_any (λ k. net_rule_matches namespace (rule_of k) (with_stranger s side spot)) kept
+kept_same : (side : PodSide) (s : Stranger) (namespace : List ℕ) (spot : PortSpot) → is_spot spot ≡ true → (kept : List RuleConns) → HavePorts side kept → list_any
+    (kept_matches namespace (pod (stranger_end s)) spot) kept ≡ list_any (λ k. net_rule_matches namespace (rule_of k) (with_stranger s side spot)) kept
 kept_same side s namespace spot within [] have = refl
 kept_same side s namespace spot within (k ∷ kept) have =
     let peers = none_or_any (λ peer. net_peer_matches namespace peer (pod (stranger_end s))) (rule_of k).peers in
@@ -86,7 +94,8 @@ kept_same side s namespace spot within (k ∷ kept) have =
     ∙ ap (λ b. rule_matches k || b) (kept_same side s namespace spot within kept have.1)
 
 -- some kept rule matches a stranger where NetworkPolicies permit that
-pub net_of_kept : (side : PodSide) (admin : List AdminRule) (isolated : Bool) (kept : List RuleConns) (base : List AdminRule) → KeepsRules side admin isolated (map rule_of kept) base → HavePorts side kept → IsNetOf side kept
+pub net_of_kept : (side : PodSide) (admin : List AdminRule) (isolated : Bool) (kept : List RuleConns) (base : List AdminRule) → KeepsRules side admin isolated
+    (map rule_of kept) base → HavePorts side kept → IsNetOf side kept
 net_of_kept side admin isolated kept base keeps have s spot within =
     kept_same side s (near_pod side).namespace spot within kept have
     ∙ sym (any-map by_rule rule_of kept)
@@ -106,7 +115,10 @@ net_of_kept side admin isolated kept base keeps have s spot within =
     passes matches = matches (with_stranger s side spot)
 
 -- A layer whose parts are those of the kept rules, and whose only set has what NetworkPolicies permit the stranger, says what the side says of it.
-pub says_of_stranger : (side : PodSide) (s : Stranger) (admin : List AdminRule) (isolated : Bool) (net : List NetRule) (base : List AdminRule) (at : PortSpot → Contact) (permitted : Conns) (made : Layer Conns) → at ≡ with_stranger s side → KeepsRules side admin isolated net base → ArePermitted side s permitted → Pairwise (IsAdminPart has_spot is_spot at) made.admin admin → made.isolated ≡ isolated → made.net ≡ permitted ∷ [] → Pairwise (IsBasePart has_spot is_spot at) made.base base → SaysVerdicts has_spot is_spot side (with_stranger s) made
+pub says_of_stranger : (side : PodSide) (s : Stranger) (admin : List AdminRule) (isolated : Bool) (net : List NetRule) (base : List AdminRule) (at : PortSpot → Contact)
+    (permitted : Conns) (made : Layer Conns) → at ≡ with_stranger s side → KeepsRules side admin isolated net base → ArePermitted side s permitted → Pairwise
+    (IsAdminPart has_spot is_spot at) made.admin admin → made.isolated ≡ isolated → made.net ≡ permitted ∷ [] → Pairwise (IsBasePart has_spot is_spot at) made.base base
+    → SaysVerdicts has_spot is_spot side (with_stranger s) made
 says_of_stranger side s admin isolated net base at permitted made is_at keeps are_permitted are_admin same is_net are_base spot within =
     walk_by_tiers has_spot side.lists side.direction (near_pod side) (contacts spot) made spot keeps.ascending (same ∙ keeps.isolation) net_says base_is admin_is
   where
@@ -116,12 +128,18 @@ says_of_stranger side s admin isolated net base at permitted made is_at keeps ar
     net_says : list_any (λ set. has_spot set spot) made.net ≡ list_any (placed_net_matches (contacts spot)) (net_places side.lists.net_policies side.direction (near_pod side))
     net_says = ap (list_any (λ set. has_spot set spot)) is_net ∙ or_none (has_spot permitted spot) ∙ are_permitted spot within
 
-    base_is : base_allows (find (λ part. has_spot part.set spot) made.base) ≡ base_says (find (λ placed. admin_rule_matches placed.rule (contacts spot)) (base_places side.lists.baseline side.direction (near_pod side)))
+    base_is : base_allows (find (λ part. has_spot part.set spot) made.base) ≡ base_says
+        (find (λ placed. admin_rule_matches placed.rule (contacts spot)) (base_places side.lists.baseline side.direction (near_pod side)))
     base_is =
         base_same has_spot is_spot contacts spot within made.base (base_places side.lists.baseline side.direction (near_pod side))
-        (Pairwise-map (IsBasePart has_spot is_spot contacts) (λ placed. placed.rule) made.base (base_places side.lists.baseline side.direction (near_pod side)) (subst (λ (rules : List AdminRule). Pairwise (IsBasePart has_spot is_spot contacts) made.base rules) keeps.base_rules (subst (λ (c : PortSpot → Contact). Pairwise (IsBasePart has_spot is_spot c) made.base base) is_at are_base)))
+        (Pairwise-map (IsBasePart has_spot is_spot contacts) (λ placed. placed.rule) made.base (base_places side.lists.baseline side.direction (near_pod side))
+        (subst (λ (rules : List AdminRule). Pairwise (IsBasePart has_spot is_spot contacts) made.base rules) keeps.base_rules
+        (subst (λ (c : PortSpot → Contact). Pairwise (IsBasePart has_spot is_spot c) made.base base) is_at are_base)))
 
-    admin_is : (below : Bool) → admin_allows (find (λ part. has_spot part.set spot) made.admin) below ≡ admin_says (find (λ placed. admin_rule_matches placed.rule (contacts spot)) (admin_places side.lists.admin_policies side.direction (near_pod side))) below
+    admin_is : (below : Bool) → admin_allows (find (λ part. has_spot part.set spot) made.admin) below ≡ admin_says
+        (find (λ placed. admin_rule_matches placed.rule (contacts spot)) (admin_places side.lists.admin_policies side.direction (near_pod side))) below
     admin_is below =
         admin_same has_spot is_spot contacts spot within below made.admin (admin_places side.lists.admin_policies side.direction (near_pod side))
-        (Pairwise-map (IsAdminPart has_spot is_spot contacts) (λ placed. placed.rule) made.admin (admin_places side.lists.admin_policies side.direction (near_pod side)) (subst (λ (rules : List AdminRule). Pairwise (IsAdminPart has_spot is_spot contacts) made.admin rules) keeps.admin_rules (subst (λ (c : PortSpot → Contact). Pairwise (IsAdminPart has_spot is_spot c) made.admin admin) is_at are_admin)))
+        (Pairwise-map (IsAdminPart has_spot is_spot contacts) (λ placed. placed.rule) made.admin (admin_places side.lists.admin_policies side.direction (near_pod side))
+        (subst (λ (rules : List AdminRule). Pairwise (IsAdminPart has_spot is_spot contacts) made.admin rules) keeps.admin_rules
+        (subst (λ (c : PortSpot → Contact). Pairwise (IsAdminPart has_spot is_spot c) made.admin admin) is_at are_admin)))

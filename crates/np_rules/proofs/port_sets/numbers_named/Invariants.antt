@@ -7,4 +7,5 @@ use Rattle.np_rules.proofs.port_sets.numbers_named.Given as goal
 
 -- those gathered so far are the numbers of the ports of that name and protocol so far
 abbrev pub invariant-loop-port : goal.invariant-loop-port
-invariant-loop-port l = (spot : PortSpot) → same_proto spot.proto l.proto ≡ true → list_any (λ number. number == spot.port) l.numbers.items ≡ list_any (is_named l.name spot) (take l.port-index l.ports)
+invariant-loop-port l = (spot : PortSpot) → same_proto spot.proto l.proto ≡ true → list_any (λ number. number == spot.port) l.numbers.items ≡ list_any
+    (is_named l.name spot) (take l.port-index l.ports)
