@@ -12,7 +12,7 @@ ghost use Rattle.np_table.specs.ToCome as spec;
 use crate::kind_reach::KindReach;
 use crate::row_cache::RowCache;
 use crate::rows::{AddressRow, Row, RowEnd, RowKey};
-use crate::rows_by_kind::rows_by_kind;
+use crate::rows_by_kind::{WorkloadPair, rows_by_kind};
 use crate::rows_of_addresses::rows_by_addresses;
 use crate::rules_by_kind::KindRules;
 use np_base::{NoMemory, Seq};
@@ -178,9 +178,11 @@ fn rows_at<L: Ledger>(
     if place >= pairs {
         return address_rows_at(alloc, folded, rules, place - pairs, steps);
     }
-    let source = (place / count) as u32;
-    let destination = (place % count) as u32;
-    let rows = rows_by_kind(alloc, folded, rules, source, destination, kept, steps)?;
+    let pair = WorkloadPair {
+        source: (place / count) as u32,
+        destination: (place % count) as u32,
+    };
+    let rows = rows_by_kind(alloc, folded, rules, pair, kept, steps)?;
     if place % count + 1 == count {
         *kept = RowCache::nothing(alloc);
     }
