@@ -8,6 +8,7 @@ pub mod MetaMeant
 pub mod NameTexts
 pub mod NumberingLemmas
 pub mod Outputs
+pub mod OwnerChainLemmas
 pub mod PodMeant
 pub mod RowTexts
 pub mod ServiceMeant
