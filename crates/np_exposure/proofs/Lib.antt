@@ -22,3 +22,4 @@ pub mod AlikePodLemmas
 pub mod WorkloadLemmas
 pub mod PossibleLemmas
 pub mod SettledLemmas
+pub mod OnlyNamespaceLemmas

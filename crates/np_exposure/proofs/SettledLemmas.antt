@@ -23,13 +23,10 @@ use Rattle.np_exposure.specs.steps.Settled.{IsRight, IsSettled, StandForAll, per
 use Rattle.np_exposure.specs.steps.States.{IsChosen, IsWitness, narrowed, suits}
 use Rattle.np_exposure.specs.steps.Walks.{IsStepTo}
 use Rattle.np_labels.specs.Labels.{value_of}
-use Rattle.np_model.specs.declared.network_policy.NetPeer.{NetPeer}
 use Rattle.np_rules.specs.model.Ends.{pod, stranger_end}
 use Rattle.np_rules.specs.Laws.{IsAmong}
-use Rattle.np_rules.specs.model.Peers.{net_peer_matches}
 use Rattle.np_rules.specs.PodSides.{PodSide, near_pod}
-use Rattle.np_rules.specs.model.Rules.{none_or_any}
-use Rattle.np_rules.specs.StrangerRules.{kept_matches}
+use Rattle.np_rules.specs.StrangerRules.{kept_matches, kept_reaches}
 use Rattle.np_rules.specs.declared.stranger.Stranger.{Stranger}
 
 -- ---- the choices at a key
@@ -111,10 +108,6 @@ or_swapped false false false = refl
 abbrev pub rule_matches : List ℕ → Stranger → PortSpot → OpenRule → Bool
 rule_matches namespace s spot rule = kept_matches namespace (pod (stranger_end s)) spot rule.kept.now
 
--- whether its peers match
-abbrev pub peers_reach : List ℕ → List NetPeer → Stranger → Bool
-peers_reach namespace peers s = none_or_any (λ peer. net_peer_matches namespace peer (pod (stranger_end s))) peers
-
 module _ (namespace : List ℕ) (s : Stranger) (spot : PortSpot) (settled : Bool) (items : List OpenRule) (i : ℕ) (x : OpenRule) (within : i < length items) (is : x ≡ get_or items i x) where
   with_next : ((settled || list_any (rule_matches namespace s spot) (take i items)) || rule_matches namespace s spot x)
       ≡ (settled || list_any (rule_matches namespace s spot) (take (i + 1) items))
@@ -123,13 +116,14 @@ module _ (namespace : List ℕ) (s : Stranger) (spot : PortSpot) (settled : Bool
       ∙ ap (λ b. settled || b)
       (ap (λ y. list_any (rule_matches namespace s spot) (take i items) || rule_matches namespace s spot y) is ∙ sym (list_any_more (rule_matches namespace s spot) items i x within))
 
-  module _ (state : List Choices) (peers : List NetPeer) (answer : Option Bool) (witness : IsWitness state s) (peers_are : peers ≡ x.kept.now.rule.now.peers)
-      (known : IsSettled state (peers_reach namespace peers) answer) (sets opens : Bool)
+  module _ (state : List Choices) (answer : Option Bool) (witness : IsWitness state s)
+      (known : IsSettled state (λ s. kept_reaches namespace (pod (stranger_end s)) x.kept.now) answer) (sets opens : Bool)
       (so_far : (sets || opens) ≡ (settled || list_any (rule_matches namespace s spot) (take i items))) where
     answered : (b : Bool) → answer ≡ Some b → rule_matches namespace s spot x ≡ (b && has_spot x.kept.now.conns spot)
     answered b said =
-        let right : b ≡ peers_reach namespace peers s = subst (λ (told : Option Bool). IsRight (peers_reach namespace peers s) told) said (known s witness) in
-        ap (λ reach. reach && has_spot x.kept.now.conns spot) (ap (λ (those : List NetPeer). peers_reach namespace those s) (sym peers_are) ∙ sym right)
+        let right : b ≡ kept_reaches namespace (pod (stranger_end s)) x.kept.now =
+        subst (λ (told : Option Bool). IsRight (kept_reaches namespace (pod (stranger_end s)) x.kept.now) told) said (known s witness) in
+        ap (λ reach. reach && has_spot x.kept.now.conns spot) (sym right)
 
     -- a rule that matches all is among the settled ones
     pub met-next : (now : Bool) → answer ≡ Some true → now ≡ (sets || has_spot x.kept.now.conns spot)

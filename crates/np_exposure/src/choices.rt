@@ -81,8 +81,8 @@ impl<'a> KeyChoices<'a> {
         }
     }
 
-    // Whether the key is this one, of this side.
-    fn is_at(&self, side: Side, key: &str) -> bool
+    /// Whether the key is this one, of this side.
+    pub(crate) fn is_at(&self, side: Side, key: &str) -> bool
         ensures { result ≡ (same_side self.now.side side && bytes_eq self.now.key key.now) }
     {
         self.side == side && self.key == key
@@ -200,8 +200,8 @@ fn is_value(found: Option<&str>, value: &str) -> bool
     }
 }
 
-// Whether it is the key under which a namespace's labels say its name.
-fn is_name_key(side: Side, key: &str) -> bool
+/// Whether it is the key under which a namespace's labels say its name.
+pub(crate) fn is_name_key(side: Side, key: &str) -> bool
     ensures { result ≡ spec.is_name_key side key.now }
 {
     side == Side::Namespace && key == "kubernetes.io/metadata.name"

@@ -8,6 +8,7 @@ ghost use Rattle.np_exposure.specs.Weight.{IsWeightFault, weight};
 ghost use Rattle.np_exposure.specs.steps.Walks.{AreWalked};
 ghost use Rattle.np_rules.specs.PodSides.{side_of};
 
+use crate::asked_rule::asked_rules;
 use crate::choices::all_choices;
 use crate::exposure_fault::ExposureFault;
 use crate::exposure_row::ExposureRow;
@@ -70,7 +71,8 @@ fn rows_of_mentions<L: Ledger>(
     let labels = labels_of(alloc, &mentions)?;
     let state = all_choices(alloc, &labels)?;
     let asked = each_once(alloc, mentions)?;
-    let net = OpenRules::of(alloc, rules)?;
+    let net = asked_rules(alloc, &state, rules.net())?;
+    let net = OpenRules::of(alloc, rules, &net)?;
     let rows = rows_of(alloc, rules, &asked, state, net, steps)?;
     finished(alloc, rows)
 }

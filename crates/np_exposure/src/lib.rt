@@ -5,17 +5,21 @@
 //! rows says for which requirements it is what.
 #![tactic(auto)]
 
+mod asked_rule;
 mod choices;
 mod exposure_fault;
 mod exposure_row;
 mod exposures;
+mod key_set;
 mod known;
 mod label;
 mod labels;
 mod laws;
 mod mentions;
+mod only_namespace;
 mod open_row;
 mod open_rules;
+mod peer_keys;
 mod peer_text;
 mod pending;
 mod requirements;

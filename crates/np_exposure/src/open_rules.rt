@@ -4,13 +4,17 @@ ghost use Rattle.np_conns.specs.Conns.{has_spot};
 ghost use Rattle.np_conns.specs.declared.port_spot.PortSpot.{PortSpot};
 ghost use Rattle.np_exposure.specs.steps.Settled.{StandFor, permits};
 ghost use Rattle.np_exposure.specs.steps.States.{IsWitness};
+ghost use Rattle.np_rules.specs.StrangerRules.{IsNetOf};
 ghost use Rattle.np_rules.specs.declared.stranger.Stranger.{Stranger};
+ghost use Rattle.np_rules.specs.model.Ends.{stranger_end};
 
+use crate::asked_rule::AskedRule;
 use crate::choices::{KeyChoices, count, is_decided};
-use crate::known::peers_match;
+use crate::key_set::KeySet;
+use crate::sided_requirement::SidedRequirement;
 use np_base::{Cells, NoMemory};
 use np_conns::ConnSet;
-use np_rules::{RuleConns, Stranger, StrangerRules, joined_set};
+use np_rules::{Stranger, StrangerRules, joined_set};
 use std::alloc::Global;
 
 // Where more choices are left in all, no rule is settled: to look at so many for each rule takes longer than it saves. Nor is any
@@ -20,7 +24,7 @@ const MOST_CHOICES: usize = 64;
 /// A rule that is not settled.
 #[derive(Drop)]
 pub(crate) struct OpenRule<'r> {
-    pub kept: &'r RuleConns<'r>,
+    pub kept: &'r AskedRule<'r>,
 }
 
 /// The rules of NetworkPolicies on the way down the walk. Those that match each hypothetical pod with labels among the
@@ -31,55 +35,78 @@ pub(crate) struct OpenRules<'r> {
     pub settled: ConnSet,
     /// The other rules.
     pub open: Vec<OpenRule<'r>>,
+    /// The keys at which fewer choices may be left than when the open rules were last looked at. What is known of the others
+    /// is as it was.
+    narrowed: KeySet,
 }
 
 impl<'r> OpenRules<'r> {
     /// The rules before any of them is settled.
-    pub(crate) fn of(alloc: Global, rules: &'r StrangerRules<'r>) -> Result<OpenRules<'r>, NoMemory>
+    pub(crate) fn of(
+        alloc: Global,
+        rules: &StrangerRules<'_>,
+        asked: &'r [AskedRule<'r>],
+    ) -> Result<OpenRules<'r>, NoMemory>
+        requires { IsNetOf rules.now asked.now }
         ensures { IfOk result (λ made. (s : Stranger) → StandFor rules.now made s) }
     {
-        let mut open = Vec::new(alloc);
-        for kept in rules.net() {
+        let mut open = Vec::with_capacity(alloc, asked.len())?;
+        for kept in asked {
             open.push(OpenRule { kept })?;
         }
         Ok(OpenRules {
             settled: ConnSet::nothing(alloc)?,
             open,
+            narrowed: KeySet::everything(),
         })
     }
 
-    /// The same rules, settled as far as the choices that are left tell, unless these are many, or are made.
+    /// The same rules, settled as far as the choices that are left tell, unless these are many, or are made. What was asked
+    /// last has narrowed them.
     pub(crate) fn settled_by(
         self,
         alloc: Global,
         namespace: &str,
         state: &[KeyChoices<'_>],
+        asked: &SidedRequirement,
     ) -> Result<OpenRules<'r>, NoMemory>
         ensures { IfOk result (λ made. (s : Stranger) → IsWitness state.now s → (spot : PortSpot) →
             permits namespace.now made s spot ≡ permits namespace.now self.entry s spot) }
     {
-        if is_decided(state) || count(state) > MOST_CHOICES {
-            return Ok(self);
+        let narrowed = self.narrowed_by(state, asked);
+        if can_settle(state) {
+            return self.with_settled(alloc, namespace, state, narrowed);
         }
-        self.with_settled(alloc, namespace, state)
+        Ok(OpenRules { narrowed, ..self })
     }
 
-    /// A copy of the rules, settled as far as the choices that are left tell, unless these are many, or are made.
+    /// A copy of the rules, settled as far as the choices that are left tell, unless these are many, or are made. What was
+    /// asked last has narrowed them.
     pub(crate) fn copy_settled_by(
         &self,
         alloc: Global,
         namespace: &str,
         state: &[KeyChoices<'_>],
+        asked: &SidedRequirement,
     ) -> Result<OpenRules<'r>, NoMemory>
         ensures { IfOk result (λ made. (s : Stranger) → IsWitness state.now s → (spot : PortSpot) →
             permits namespace.now made s spot ≡ permits namespace.now self.now s spot) }
     {
-        let rules = self.copy(alloc)?;
-        rules.settled_by(alloc, namespace, state)
+        let narrowed = self.narrowed_by(state, asked);
+        if can_settle(state) {
+            return self.with_settled(alloc, namespace, state, narrowed);
+        }
+        self.copy(alloc, narrowed)
+    }
+
+    // The keys at which fewer choices may be left, where those at one more are.
+    fn narrowed_by(&self, state: &[KeyChoices<'_>], asked: &SidedRequirement) -> KeySet {
+        let key = asked.requirement.key.as_str();
+        self.narrowed.join(KeySet::of(state, asked.side, key))
     }
 
     // The same rules, none more of them settled.
-    fn copy(&self, alloc: Global) -> Result<OpenRules<'r>, NoMemory>
+    fn copy(&self, alloc: Global, narrowed: KeySet) -> Result<OpenRules<'r>, NoMemory>
         ensures { IfOk result (λ made. (namespace : List ℕ) (s : Stranger) (spot : PortSpot) →
             permits namespace made s spot ≡ permits namespace self.now s spot) }
     {
@@ -88,16 +115,21 @@ impl<'r> OpenRules<'r> {
             open.push(OpenRule { kept: rule.kept })?;
         }
         let settled = self.settled.copy()?;
-        Ok(OpenRules { settled, open })
+        Ok(OpenRules {
+            settled,
+            open,
+            narrowed,
+        })
     }
 
     // The same rules: those that match each hypothetical pod with labels among the choices are settled, and those that
-    // match none are left out.
+    // match none are left out. Fewer choices are left at some keys alone.
     fn with_settled(
         &self,
         alloc: Global,
         namespace: &str,
         state: &[KeyChoices<'_>],
+        narrowed: KeySet,
     ) -> Result<OpenRules<'r>, NoMemory>
         ensures { IfOk result (λ made. (s : Stranger) → IsWitness state.now s → (spot : PortSpot) →
             permits namespace.now made s spot ≡ permits namespace.now self.now s spot) }
@@ -106,14 +138,18 @@ impl<'r> OpenRules<'r> {
         sets.push(&self.settled)?;
         let mut open = Vec::new(alloc);
         for rule in &self.open {
-            match peers_match(state, namespace, rule.kept.rule.peers.items()) {
-                Some(true) => sets.push(&rule.kept.conns)?,
+            match rule.kept.matches(state, namespace, narrowed) {
+                Some(true) => sets.push(rule.kept.conns())?,
                 Some(false) => {}
                 None => open.push(OpenRule { kept: rule.kept })?,
             }
         }
         let settled = joined_set(alloc, &sets)?;
-        Ok(OpenRules { settled, open })
+        Ok(OpenRules {
+            settled,
+            open,
+            narrowed: KeySet::nothing(),
+        })
     }
 
     /// What the rules permit a stranger.
@@ -126,13 +162,29 @@ impl<'r> OpenRules<'r> {
         ensures { IfOk result (λ made. (spot : PortSpot) →
             has_spot made spot ≡ permits namespace.now self.now stranger.now spot) }
     {
+        let own = name_of_namespace(stranger);
         let mut sets = Vec::new(alloc);
         sets.push(&self.settled)?;
         for rule in &self.open {
-            if rule.kept.reaches(namespace, stranger) {
-                sets.push(&rule.kept.conns)?;
+            if rule.kept.reaches(namespace, own, stranger) {
+                sets.push(rule.kept.conns())?;
             }
         }
         joined_set(alloc, &sets)
     }
+}
+
+// Whether rules are settled by the choices that are left.
+fn can_settle(state: &[KeyChoices<'_>]) -> bool {
+    !is_decided(state) && count(state) <= MOST_CHOICES
+}
+
+// The name of a stranger's namespace.
+fn name_of_namespace(stranger: &Stranger) -> &str
+    ensures { result.now ≡ (stranger_end stranger.now).namespace }
+{
+    stranger
+        .namespace
+        .get("kubernetes.io/metadata.name")
+        .unwrap_or("")
 }

@@ -47,14 +47,14 @@ pub(crate) fn rows_of<'a, L: Ledger>(
         let Step { next, aside } = next_step(alloc, first, state)?;
         left = still_asked(rest, &next);
         if let Some(aside) = aside {
-            let settled = net.copy_settled_by(alloc, rules.namespace(), &aside.state)?;
+            let settled = net.copy_settled_by(alloc, rules.namespace(), &aside.state, first)?;
             let rows = rows_of(alloc, rules, rest, aside.state, settled, steps)?;
             pending.push(Pending {
                 asked: first,
                 wanted: aside.wanted,
                 rows,
             })?;
-            net = net.settled_by(alloc, rules.namespace(), &next)?;
+            net = net.settled_by(alloc, rules.namespace(), &next, first)?;
         }
         state = next;
     }

@@ -11,10 +11,10 @@ pub rows_of-requires : goal.rows_of-requires
 rows_of-requires g c =
     let first : c.in_ok-state.state.items ≡ choices_at_first c.args.mentions.items = c.in_ok-state.ensures ∙ ap (map choices_of)
     (c.deref-2.ensures.value ∙ c.in_ok-labels.ensures ∙ ap labels_of c.deref.ensures.value) in
-    let asked : c.deref-3.result.now ≡ each_once c.args.mentions.items = c.deref-3.ensures.value ∙ c.in_ok-asked.ensures in
+    let asked : c.deref-5.result.now ≡ each_once c.args.mentions.items = c.deref-5.ensures.value ∙ c.in_ok-asked.ensures in
     record {
       state = subst IsState (sym first) (IsState-first c.args.mentions.items);
-      keys = subst (λ (state : List Choices). are_at state c.deref-3.result.now ≡ true) (sym first)
+      keys = subst (λ (state : List Choices). are_at state c.deref-5.result.now ≡ true) (sym first)
           (subst (λ (all : List SidedRequirement). are_at (choices_at_first c.args.mentions.items) all ≡ true) (sym asked) (are_at-first c.args.mentions.items));
-      net = λ s witness. c.in_ok-net.ensures s;
+      net = λ s witness. c.in_ok-net-2.ensures s;
     }
