@@ -15,12 +15,12 @@ use Rattle.np_conns.specs.declared.port_spot.PortSpot.{PortSpot}
 use Rattle.np_conns.specs.declared.proto.Proto.TheVariants.{Tcp, Udp, Sctp}
 use Rattle.np_model.specs.declared.lists.EstateLists.{EstateLists}
 use Rattle.np_explain.proofs.OneListLemmas.{both_say, one_part}
-use Rattle.np_explain.proofs.RightPartsLemmas.{conns_of-has, conns_of-well, made_are_right}
+use Rattle.np_explain.proofs.RightPartsLemmas.{conns_of-has, made_are_right}
 use Rattle.np_explain.proofs.SameDecider.{same_decider-Decides}
 use Rattle.np_explain.specs.Explanations.{IsRightFor, explanation_of, passes_between, same_conns, same_part, same_parts, same_range, same_sides, some_allows}
 use Rattle.np_explain.specs.Parts.{AreRightParts}
 use Rattle.np_explain.specs.RightParts.{conns_of, parts_of, same_decider}
-use Rattle.np_explain.specs.Sides.{decider_at, decider_between, packet_between}
+use Rattle.np_explain.specs.Sides.{decider_between, packet_between}
 use Rattle.np_explain.specs.declared.explanation.Explanation.{Explanation}
 use Rattle.np_explain.specs.declared.part.Part.{Part}
 use Rattle.np_model.specs.declared.direction.Direction.TheVariants.{Ingress, Egress}

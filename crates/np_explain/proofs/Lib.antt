@@ -5,6 +5,7 @@ pub mod NamedLemmas
 pub mod NoSideLemmas
 pub mod OneListLemmas
 pub mod PartLemmas
+pub mod PartLineLemmas
 pub mod PlaceLemmas
 pub mod RightPartsLemmas
 pub mod RuleLemmas

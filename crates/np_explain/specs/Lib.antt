@@ -2,6 +2,7 @@ pub mod DeciderText
 pub mod Explanations
 pub mod Marks
 pub mod Order
+pub mod PartLine
 pub mod Parts
 pub mod RightParts
 pub mod Sides

@@ -58,11 +58,6 @@ decider_at lists direction packet = decider lists direction (end_at direction pa
 abbrev pub decider_between : EstateLists → Direction → PlacedEnd → PlacedEnd → Family → PortSpot → Decider
 decider_between lists direction source destination family spot = decider_at lists direction (packet_between lists source destination family spot)
 
--- The side of a pod at the near end looks at packets of the far end's family; at an address nothing does.
-abbrev pub IsFamilyWith : PlacedEnd → PlacedEnd → Family → Type 0
-IsFamilyWith (Pod p) far family = IsFamilyAt far family
-IsFamilyWith (At a) far family = Unit {0}
-
 -- what decides at a near end, with a far one
 abbrev pub decider_near : EstateLists → Direction → PlacedEnd → PlacedEnd → Family → PortSpot → Decider
 decider_near lists direction near far family spot = decider lists direction (end_of lists near) (contact direction (end_of lists near) (end_of lists far) family spot)

@@ -5,11 +5,12 @@ ghost use Rattle.np_model.specs.Lawful.{IsLawful};
 ghost use Rattle.np_explain.specs.Marks.{IsMarkOf, named_part};
 ghost use Rattle.np_explain.specs.Parts.{AreRightParts};
 ghost use Rattle.np_explain.specs.RightParts.{parts_of};
-ghost use Rattle.np_explain.specs.Sides.{IsFamilyAt, IsFamilyOf, IsFamilyWith, are_one_pod, decider_between, decider_near, placed_at, with_end};
+ghost use Rattle.np_explain.specs.Sides.{IsFamilyAt, IsFamilyOf, are_one_pod, decider_between, decider_near, placed_at, with_end};
 ghost use Rattle.np_rules.specs.model.Places.{end_rule_count};
 ghost use Rattle.np_rules.specs.PodSides.{IsSideLayer, side_of, side_rule_count};
 ghost use Rattle.np_rules.specs.model.Verdict.{IsEndOf, end_of};
 
+use crate::flow::Flow;
 use crate::order::first_number;
 use crate::part::Part;
 use crate::side::Side;
@@ -23,70 +24,36 @@ use np_tiers::{Layer, Marked, carve};
 use std::alloc::Global;
 use std::sync::ledger::Ledger;
 
-/// What decides every packet of a family from one end to another, at one side: with `Egress` at the source, with `Ingress`
-/// at the destination. There is one part for each decider that decides some protocol and port, with exactly those that it
-/// decides, in the order of the least of them: TCP, UDP, SCTP, and then by port. So the sets are disjoint, none is empty,
-/// and together they are all protocols and ports. An address has no side: at one, a single part has everything.
+/// What decides every packet of a flow, at one side: with `Egress` at the source, with `Ingress` at the destination. There is
+/// one part for each decider that decides some protocol and port, with exactly those that it decides, in the order of the
+/// least of them: TCP, UDP, SCTP, and then by port. So the sets are disjoint, none is empty, and together they are all
+/// protocols and ports. An address has no side: at one, a single part has everything.
 ///
-/// The ends are not one pod. Where an end is an address the family is its own, and that of the source where both are. All
-/// rules that speak of the side's pod are counted. Want of memory is the one refusal.
+/// The ends are not one pod. All rules that speak of the side's pod are counted. Want of memory is the one refusal.
 pub fn explain<L: Ledger>(
     alloc: Global,
     estate: &Estate,
-    source: End,
-    destination: End,
+    flow: &Flow,
     direction: Direction,
-    family: Family,
     steps: &mut Steps<L>,
 ) -> Result<Seq<Part>, NoMemory>
     requires lawful { IsLawful estate.now }
-    requires source { IsEndOf estate.now source }
-    requires destination { IsEndOf estate.now destination }
-    requires apart { are_one_pod source destination ≡ false }
-    requires family { IsFamilyOf source destination family }
-    ensures parts { IfOk result (AreRightParts (decider_between estate.now direction source destination family)) }
-    ensures list { IfOk result (λ parts. parts ≡ parts_of (decider_between estate.now direction source destination family)) }
+    requires source { IsEndOf estate.now flow.now.source }
+    requires destination { IsEndOf estate.now flow.now.destination }
+    requires apart { are_one_pod flow.now.source flow.now.destination ≡ false }
+    requires family { IsFamilyOf flow.now.source flow.now.destination flow.now.family }
+    ensures parts { IfOk result
+        (AreRightParts (decider_between estate.now direction flow.now.source flow.now.destination flow.now.family)) }
+    ensures list { IfOk result (λ parts.
+        parts ≡ parts_of (decider_between estate.now direction flow.now.source flow.now.destination flow.now.family)) }
     ensures cost { OnOk result (steps.new
-        ≡ steps.old + end_rule_count estate.now direction (end_of estate.now (placed_at direction source destination))) }
+        ≡ steps.old + end_rule_count estate.now direction (end_of estate.now (placed_at direction flow.now.source flow.now.destination))) }
     ensures least { steps.old ≤ steps.new }
     ensures most { steps.new
-        ≤ steps.old + end_rule_count estate.now direction (end_of estate.now (placed_at direction source destination)) }
+        ≤ steps.old + end_rule_count estate.now direction (end_of estate.now (placed_at direction flow.now.source flow.now.destination)) }
 {
-    match direction {
-        Direction::Egress => parts_at(alloc, estate, source, destination, direction, family, steps),
-        Direction::Ingress => parts_at(
-            alloc,
-            estate,
-            destination,
-            source,
-            direction,
-            family,
-            steps,
-        ),
-    }
-}
-
-// The parts at an end.
-fn parts_at<L: Ledger>(
-    alloc: Global,
-    estate: &Estate,
-    near: End,
-    far: End,
-    direction: Direction,
-    family: Family,
-    steps: &mut Steps<L>,
-) -> Result<Seq<Part>, NoMemory>
-    requires lawful { IsLawful estate.now }
-    requires near { IsEndOf estate.now near }
-    requires far { IsEndOf estate.now far }
-    requires family { IsFamilyWith near far family }
-    ensures parts { IfOk result (AreRightParts (decider_near estate.now direction near far family)) }
-    ensures cost { OnOk result (steps.new ≡ steps.old + end_rule_count estate.now direction (end_of estate.now near)) }
-    ensures least { steps.old ≤ steps.new }
-    ensures most { steps.new ≤ steps.old + end_rule_count estate.now direction (end_of estate.now near) }
-{
-    match near {
-        End::Pod(pod) => pod_parts(alloc, estate, pod, direction, far, family, steps),
+    match flow.near(direction) {
+        End::Pod(pod) => pod_parts(alloc, estate, pod, flow, direction, steps),
         End::At(_) => everything(alloc),
     }
 }
@@ -104,26 +71,26 @@ fn everything(alloc: Global) -> Result<Seq<Part>, NoMemory>
     Ok(parts)
 }
 
-// The parts at a pod.
+// The parts at a pod, the near end of a flow at that side.
 fn pod_parts<L: Ledger>(
     alloc: Global,
     estate: &Estate,
     pod: u32,
+    flow: &Flow,
     direction: Direction,
-    far: End,
-    family: Family,
     steps: &mut Steps<L>,
 ) -> Result<Seq<Part>, NoMemory>
     requires lawful { IsLawful estate.now }
     requires pod { pod < length estate.now.pods }
-    requires far { IsEndOf estate.now far }
-    requires family { IsFamilyAt far family }
-    ensures parts { IfOk result (AreRightParts (decider_near estate.now direction (End.Pod pod) far family)) }
+    requires far { IsEndOf estate.now (placed_at direction flow.now.destination flow.now.source) }
+    requires family { IsFamilyAt (placed_at direction flow.now.destination flow.now.source) flow.now.family }
+    ensures parts { IfOk result (AreRightParts
+        (decider_near estate.now direction (End.Pod pod) (placed_at direction flow.now.destination flow.now.source) flow.now.family)) }
     ensures cost { OnOk result (steps.new ≡ steps.old + side_rule_count (side_of estate.now pod direction)) }
     ensures least { steps.old ≤ steps.new }
     ensures most { steps.new ≤ steps.old + side_rule_count (side_of estate.now pod direction) }
 {
-    let layer = layer_with(alloc, estate, pod, direction, far, family, steps)?;
+    let layer = layer_at(alloc, estate, pod, flow, direction, steps)?;
     let entries = carve(alloc, &layer)?;
     let side = Side::of(alloc, estate, pod, direction, &layer)?;
     let mut parts = named_parts(alloc, &side, entries)?;
@@ -131,27 +98,27 @@ fn pod_parts<L: Ledger>(
     Ok(Seq::from_vec(parts))
 }
 
-// The rules that speak of a pod, as sets of what they match with a far end.
-fn layer_with<L: Ledger>(
+// The rules that speak of a pod, the near end of a flow at that side, as sets of what they match with the far end.
+fn layer_at<L: Ledger>(
     alloc: Global,
     estate: &Estate,
     pod: u32,
+    flow: &Flow,
     direction: Direction,
-    far: End,
-    family: Family,
     steps: &mut Steps<L>,
 ) -> Result<Layer<ConnSet>, NoMemory>
     requires pod { pod < length estate.now.pods }
-    requires far { IsEndOf estate.now far }
-    requires family { IsFamilyAt far family }
-    ensures layer { IfOk result (IsSideLayer has_spot is_spot (side_of estate.now pod direction) (with_end far family)) }
+    requires far { IsEndOf estate.now (placed_at direction flow.now.destination flow.now.source) }
+    requires family { IsFamilyAt (placed_at direction flow.now.destination flow.now.source) flow.now.family }
+    ensures layer { IfOk result (IsSideLayer has_spot is_spot (side_of estate.now pod direction)
+        (with_end (placed_at direction flow.now.destination flow.now.source) flow.now.family)) }
     ensures cost { OnOk result (steps.new ≡ steps.old + side_rule_count (side_of estate.now pod direction)) }
     ensures least { steps.old ≤ steps.new }
     ensures most { steps.new ≤ steps.old + side_rule_count (side_of estate.now pod direction) }
 {
     let rules = PodRules::of(alloc, estate, pod, direction)?;
-    match far {
-        End::Pod(peer) => rules.pod_layer(alloc, peer, family, steps),
+    match flow.far(direction) {
+        End::Pod(peer) => rules.pod_layer(alloc, peer, flow.family, steps),
         End::At(address) => rules.point_layer(alloc, address, steps),
     }
 }

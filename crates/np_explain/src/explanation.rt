@@ -9,12 +9,12 @@ ghost use Rattle.np_rules.specs.Deciders.{decider_allows};
 ghost use Rattle.np_rules.specs.model.Verdict.{IsEndOf};
 
 use crate::explaining::explain;
+use crate::flow::Flow;
 use crate::part::Part;
-use np_addr::Family;
 use np_base::{Cells, NoMemory, Seq};
 use np_conns::ConnSet;
 use np_model::{Direction, Estate};
-use np_rules::{Decider, End};
+use np_rules::Decider;
 use np_steps::Steps;
 use std::alloc::Global;
 use std::sync::ledger::Ledger;
@@ -28,39 +28,27 @@ pub struct Explanation {
     pub conns: ConnSet,
 }
 
-/// The explanation of two ends. A packet is allowed where what decides at its source allows it, and what decides at its
+/// The explanation of a flow. A packet is allowed where what decides at its source allows it, and what decides at its
 /// destination does.
 ///
-/// The ends are not one pod. Where an end is an address the family is its own, and that of the source where both are. The
-/// rules that are looked at are counted. Want of memory is the one refusal.
+/// The ends are not one pod. The rules that are looked at are counted. Want of memory is the one refusal.
 pub fn explain_sides<L: Ledger>(
     alloc: Global,
     estate: &Estate,
-    source: End,
-    destination: End,
-    family: Family,
+    flow: &Flow,
     steps: &mut Steps<L>,
 ) -> Result<Explanation, NoMemory>
     requires lawful { IsLawful estate.now }
-    requires source { IsEndOf estate.now source }
-    requires destination { IsEndOf estate.now destination }
-    requires apart { are_one_pod source destination ≡ false }
-    requires family { IsFamilyOf source destination family }
-    ensures made { IfOk result (λ made. made ≡ spec.explanation_of estate.now source destination family) }
-    ensures right { IfOk result (spec.IsRightFor estate.now source destination family) }
+    requires source { IsEndOf estate.now flow.now.source }
+    requires destination { IsEndOf estate.now flow.now.destination }
+    requires apart { are_one_pod flow.now.source flow.now.destination ≡ false }
+    requires family { IsFamilyOf flow.now.source flow.now.destination flow.now.family }
+    ensures made { IfOk result (λ made. made ≡ spec.explanation_of estate.now flow.now.source flow.now.destination flow.now.family) }
+    ensures right { IfOk result (spec.IsRightFor estate.now flow.now.source flow.now.destination flow.now.family) }
     ensures least { steps.old ≤ steps.new }
 {
-    let (near, far) = (&source, &destination);
-    let egress = explain(alloc, estate, *near, *far, Direction::Egress, family, steps)?;
-    let ingress = explain(
-        alloc,
-        estate,
-        *near,
-        *far,
-        Direction::Ingress,
-        family,
-        steps,
-    )?;
+    let egress = explain(alloc, estate, flow, Direction::Egress, steps)?;
+    let ingress = explain(alloc, estate, flow, Direction::Ingress, steps)?;
     let sent = allowed(alloc, egress.items())?;
     let received = allowed(alloc, ingress.items())?;
     let conns = sent.meet(&received)?;

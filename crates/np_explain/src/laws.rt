@@ -1,12 +1,13 @@
 //! What follows from the definitions. Each law is the contract of a call that does nothing.
 ghost use Rattle.std.specs.Prelude.{◌≡◌, ◌≢◌, ◌↔◌, ◌<◌, ◌^◌, ◌&&◌, IsTrue, List, [], ◌∷◌, map, filter, true, All, AllPairs};
 ghost use Rattle.np_addr.specs.declared.address.Family.{Family};
-ghost use Rattle.np_conns.specs.Conns.{has_spot, is_spot};
+ghost use Rattle.np_conns.specs.Conns.{IsConns, has_spot, is_spot};
 ghost use Rattle.np_conns.specs.declared.port_spot.PortSpot.{PortSpot};
 ghost use Rattle.np_model.specs.Lawful.{is_well};
 ghost use Rattle.np_model.specs.declared.lists.EstateLists.{EstateLists};
 ghost use Rattle.np_explain.specs.DeciderText.{decider_text};
 ghost use Rattle.np_explain.specs.Explanations.{IsRightFor, explanation_of, same_sides};
+ghost use Rattle.np_explain.specs.PartLine.{part_line};
 ghost use Rattle.np_explain.specs.Parts.{AreRightParts};
 ghost use Rattle.np_explain.specs.RightParts.{parts_of};
 ghost use Rattle.np_explain.specs.Sides.{decider_at, decider_between, end_at, is_address, packet_between, placed_at};
@@ -107,4 +108,11 @@ pub fn parts_have_texts_of_their_own()
         is_well lists ≡ true → end_rule_count lists direction (end_of lists (placed_at direction source destination)) < 2 ^ 64 →
         AreRightParts (decider_between lists direction source destination family) parts →
         AllPairs (λ a b. decider_text direction a.decider ≢ decider_text direction b.decider) parts }
+{}
+
+/// A line of an explanation tells what decides, and all that it decides.
+pub fn one_line_has_one_part()
+    ensures { (direction : Direction) (a b : Part) → IsConns a.conns → IsConns b.conns →
+        is_well_named a.decider ≡ true → is_well_named b.decider ≡ true →
+        part_line direction a ≡ part_line direction b → (a.conns ≡ b.conns) × (a.decider ≡ b.decider) }
 {}

@@ -6,12 +6,14 @@ use Rattle.np_explain.specs.Parts.{AreRightParts}
 use Rattle.np_explain.specs.RightParts.{parts_of}
 use Rattle.np_explain.specs.Sides.{decider_between}
 
-pub returns-in-Egress-clause-list : goal.returns-in-Egress-clause-list
-returns-in-Egress-clause-list g c =
-    let decides = decider_between c.args.estate.now c.args.direction c.args.source c.args.destination c.args.family in
-    IfOk-weaker c.parts_at.result (AreRightParts decides) (λ parts. parts ≡ parts_of decides) (right_is_made decides) (search rules)
+pub returns-in-Pod-clause-list : goal.returns-in-Pod-clause-list
+returns-in-Pod-clause-list g c =
+    let flow = c.args.flow.now in
+    let decides = decider_between c.args.estate.now c.args.direction flow.source flow.destination flow.family in
+    IfOk-weaker c.pod_parts.result (AreRightParts decides) (λ parts. parts ≡ parts_of decides) (right_is_made decides) (search rules)
 
-pub returns-in-Ingress-clause-list : goal.returns-in-Ingress-clause-list
-returns-in-Ingress-clause-list g c =
-    let decides = decider_between c.args.estate.now c.args.direction c.args.source c.args.destination c.args.family in
-    IfOk-weaker c.parts_at-in-Ingress.result (AreRightParts decides) (λ parts. parts ≡ parts_of decides) (right_is_made decides) (search rules)
+pub returns-in-At-clause-list : goal.returns-in-At-clause-list
+returns-in-At-clause-list g c =
+    let flow = c.args.flow.now in
+    let decides = decider_between c.args.estate.now c.args.direction flow.source flow.destination flow.family in
+    IfOk-weaker c.everything.result (AreRightParts decides) (λ parts. parts ≡ parts_of decides) (right_is_made decides) (search rules)
