@@ -1,3 +1,11 @@
+pub mod EachRowLemmas
 pub mod ListingLemmas
+pub mod NamedLemmas
+pub mod OneListLemmas
+pub mod OneTextLemmas
+pub mod OrderLemmas
 pub mod PromiseLemmas
+pub mod RowPartLemmas
 pub mod RowsLemmas
+pub mod SameRangesLemmas
+pub mod SameRowsLemmas

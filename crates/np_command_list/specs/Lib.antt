@@ -1,2 +1,4 @@
+pub mod EachRow
 pub mod Promise
 pub mod Report
+pub mod RowOrder

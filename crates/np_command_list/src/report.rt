@@ -9,7 +9,7 @@ ghost use Rattle.np_fold.specs.Workloads.{folding_of};
 ghost use Rattle.np_report.specs.Keeps.{keeps};
 ghost use Rattle.np_report.specs.RowText.{names_of, row_text};
 ghost use Rattle.np_report.specs.TableText.{list_text, rows_to_come};
-ghost use Rattle.np_routes.specs.ClusterTable.{cluster_table};
+ghost use Rattle.np_routes.specs.ClusterTable.{cluster_rows, cluster_table};
 ghost use Rattle.np_table.specs.Table.{IsWorkload};
 
 use np_args::Format;
@@ -32,6 +32,13 @@ use std::sync::ledger::Ledger;
 pub struct Listing {
     pub controller: Option<u32>,
     pub query: Query,
+}
+
+/// How rows are told: the form of the report, and how it tells ranges of addresses.
+#[derive(Clone, Copy, Debug)]
+pub struct Presentation {
+    pub format: Format,
+    pub report: Report,
 }
 
 /// What the names of a command line ask for. `UnknownEnd` comes exactly where no workload has a name, that of the controller
@@ -62,19 +69,44 @@ pub fn listing_of(
 
 /// Writes the rows of the table that are asked for, in their order. Rows are gathered, so that many of them are one call of
 /// the sink. The room for that is made before the first byte is written. The rules that it looks at are counted.
-#[tactic(auto, using(crate::proofs::ListingLemmas::list_text_is, np_command::proofs::StepLemmas::due_all))]
+#[tactic(auto, using(crate::proofs::ListingLemmas::list_text_is))]
 pub fn list<O: Sink, L: Ledger>(
     alloc: Global,
     folded: &Folded,
     asked: Listing,
-    format: Format,
+    told: Presentation,
+    out: &mut O,
+    steps: &mut Steps<L>,
+) -> Result<(), WriteFault>
+    requires { IfSome asked.controller (IsWorkload folded.now) }
+    ensures written { Writes (sunk O.taken O.faults out.old out.new)
+        (list_text (cluster_table folded.now asked.controller) asked.query told.format told.report)
+        result }
+    ensures least { steps.old ≤ steps.new }
+    ensures most { steps.new ≤ steps.old + list_steps folded.now }
+{
+    let report = told.report;
+    match told.format {
+        Format::Plain => write_rows::<TextForm, O, L>(alloc, folded, asked, report, out, steps),
+        Format::Csv => write_rows::<CsvForm, O, L>(alloc, folded, asked, report, out, steps),
+        Format::Json => write_rows::<JsonForm, O, L>(alloc, folded, asked, report, out, steps),
+    }
+}
+
+// Writes the rows of the table that are asked for in a form.
+#[tactic(auto, using(np_command::proofs::StepLemmas::due_all))]
+fn write_rows<F: Form, O: Sink, L: Ledger>(
+    alloc: Global,
+    folded: &Folded,
+    asked: Listing,
     report: Report,
     out: &mut O,
     steps: &mut Steps<L>,
 ) -> Result<(), WriteFault>
     requires { IfSome asked.controller (IsWorkload folded.now) }
     ensures written { Writes (sunk O.taken O.faults out.old out.new)
-        (list_text (cluster_table folded.now asked.controller) asked.query format report)
+        (rows_to_come F.bytes (names_of (folding_of folded.now)) asked.query report false
+        (cluster_rows (cluster_table folded.now asked.controller)))
         result }
     ensures least { steps.old ≤ steps.new }
     ensures most { steps.new ≤ steps.old + list_steps folded.now }
@@ -83,39 +115,10 @@ pub fn list<O: Sink, L: Ledger>(
     let keep = Box::new(alloc, move |key: &RowKey| keeps(&query, key))?;
     let focus = Focus::new(query, keep);
     let mut rows = ClusterRows::of(alloc, folded, asked.controller)?;
-    match format {
-        Format::Plain => write_rows::<TextForm, O, L>(
-            alloc, folded, &mut rows, &focus, report, out, steps,
-        ),
-        Format::Csv => write_rows::<CsvForm, O, L>(
-            alloc, folded, &mut rows, &focus, report, out, steps,
-        ),
-        Format::Json => write_rows::<JsonForm, O, L>(
-            alloc, folded, &mut rows, &focus, report, out, steps,
-        ),
-    }
-}
-
-// Writes those of some rows that a focus admits in a form.
-fn write_rows<F: Form, O: Sink, L: Ledger>(
-    alloc: Global,
-    folded: &Folded,
-    rows: &mut ClusterRows<'_>,
-    focus: &Focus,
-    report: Report,
-    out: &mut O,
-    steps: &mut Steps<L>,
-) -> Result<(), WriteFault>
-    ensures written { Writes (sunk O.taken O.faults out.old out.new)
-        (rows_to_come F.bytes (names_of (folding_of folded.now)) focus.now.query report false rows.old.rows)
-        result }
-    ensures least { steps.old ≤ steps.new }
-    ensures most { steps.new ≤ steps.old + rows.old.due }
-{
     let mut gathered = BufferedSink::new(alloc)?;
     let mut came = false;
     while let Some(row) = rows.next(steps)? {
-        let line = line_of::<F>(alloc, folded, focus, report, came, &row)?;
+        let line = line_of::<F>(alloc, folded, &focus, report, came, &row)?;
         gathered.put(out, &line)?;
         came |= focus.admits(&row.key);
     }
