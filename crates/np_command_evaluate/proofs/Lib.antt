@@ -1,1 +1,2 @@
 pub mod EvaluateLemmas
+pub mod PromiseLemmas

@@ -3,4 +3,4 @@
 
 mod report;
 
-pub use report::evaluate;
+pub use report::{PacketWords, evaluate};

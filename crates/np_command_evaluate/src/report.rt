@@ -23,6 +23,14 @@ use np_steps::Steps;
 use std::alloc::Global;
 use std::sync::ledger::Ledger;
 
+/// A packet as words ask for it, in every family: its two ends, and its protocol and port.
+#[derive(Drop)]
+pub struct PacketWords<'a> {
+    pub from: &'a EndWord,
+    pub to: &'a EndWord,
+    pub spot: PortSpot,
+}
+
 // A packet whose family is open: its two ends with their texts, and its protocol and port.
 #[derive(Drop)]
 struct AskedPacket {
@@ -40,28 +48,26 @@ struct AskedPacket {
 pub fn evaluate<O: Sink, L: Ledger>(
     alloc: Global,
     folded: &Folded,
-    from: &EndWord,
-    to: &EndWord,
-    spot: PortSpot,
+    words: &PacketWords<'_>,
     out: &mut O,
     steps: &mut Steps<L>,
 ) -> Result<(), Failure>
     ensures wrote { Wrote (sunk O.taken O.faults out.old out.new)
-        (spec.evaluate_reply from.now to.now spot folded.now)
+        (spec.evaluate_reply words.now.from.now words.now.to.now words.now.spot folded.now)
         result }
     ensures least { steps.old ≤ steps.new }
 {
     let estate = folded.estate();
-    let source = end_of(alloc, estate, from)?;
-    let destination = end_of(alloc, estate, to)?;
-    let from = end_text(alloc, from)?;
+    let source = end_of(alloc, estate, words.from)?;
+    let destination = end_of(alloc, estate, words.to)?;
+    let from = end_text(alloc, words.from)?;
     must_be_apart(source, destination, &from)?;
     let asked = AskedPacket {
         source,
         destination,
         from,
-        to: end_text(alloc, to)?,
-        spot,
+        to: end_text(alloc, words.to)?,
+        spot: words.spot,
     };
     let lines = verdict_lines(alloc, estate, &asked, steps)?;
     write_whole(out, lines.as_bytes())?;

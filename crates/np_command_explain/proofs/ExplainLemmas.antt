@@ -1,5 +1,5 @@
 -- What a report of `explain` says.
-use Rattle.std.proofs.Common.{◌≡◌, ◌≢◌, ◌<◌, ℕ, zero, suc, List, [], ◌∷◌, length, get_or, Bool, true, false, ◌==◌, Less, Equal, inr, Contains, Option, None, Some, Result, Ok, Err, if◌then◌else◌}
+use Rattle.std.proofs.Common.{◌≡◌, ◌≢◌, ◌<◌, ℕ, zero, suc, List, [], ◌∷◌, cond, length, get_or, Bool, true, false, ◌==◌, Less, Equal, inr, Contains, Option, None, Some, Result, Ok, Err, if◌then◌else◌}
 use Rattle.std.proofs.Common.{arith, refl, sym, ap, subst, ◌∙◌}
 use Rattle.std.proofs.lemmas.Bool.{eq-eqb, false≢true, ne_eqb}
 use Rattle.std.proofs.lemmas.Map.Keys.{Less-from_sorted}
@@ -10,7 +10,8 @@ use Rattle.np_addr.specs.declared.address.Address.{Address}
 use Rattle.np_addr.specs.declared.address.Family.{Family}
 use Rattle.np_addr.specs.declared.address.Family.TheVariants.{Four, Six}
 use Rattle.np_command.proofs.EndLemmas.{named_workload}
-use Rattle.np_command_explain.specs.Promise.{IsFamilyBetween, IsOf, SaysWhatDecidesBetween, shown_of}
+use Rattle.np_command_explain.proofs.NamedLemmas.{AsksFor, IsOf, named-of}
+use Rattle.np_command_explain.specs.Promise.{AreNamed, Explains, HaveBothFamilies, IsFamilyBetween, IsRightIn, one_for_all, one_for_each}
 use Rattle.np_command.specs.Ends.{family_asked, only_family, or_unknown}
 use Rattle.np_command_explain.specs.Report.{are_one, asked_end, destination_end, ends_between, explanations, in_families, of_both, source_end}
 use Rattle.np_command_explain.specs.declared.report.AskedEnd.{AskedEnd}
@@ -19,10 +20,11 @@ use Rattle.np_command_explain.specs.declared.report.Ends.{Ends}
 use Rattle.np_command.specs.declared.fault.Fault.{Fault}
 use Rattle.np_command.specs.declared.fault.Fault.TheVariants.{SameEnd}
 use Rattle.np_command_explain.specs.steps.Explaining.{AreEnds, HasPods, IsAsked}
-use Rattle.np_model.specs.Families.{families_of}
+use Rattle.np_model.specs.Families.{families_of, has_family, or_four}
 use Rattle.np_model.specs.Lawful.{IsLawful}
 use Rattle.np_model.specs.declared.lists.EstateLists.{EstateLists}
-use Rattle.np_explain.proofs.ExplanationLemmas.{explanation-right, right-alike, same_sides-right}
+use Rattle.np_model.specs.declared.pod.Pod.{Pod}
+use Rattle.np_explain.proofs.ExplanationLemmas.{explanation-right, right-alike, same_sides-Decides, same_sides-right}
 use Rattle.np_explain.specs.Explanations.{IsRightFor, explanation_of, same_sides}
 use Rattle.np_explain.specs.declared.explanation.Explanation.{Explanation}
 use Rattle.np_fold.proofs.WorkloadLemmas.{pods-ascend}
@@ -215,37 +217,80 @@ asked-family lists (Work source) (Work destination) (end.Pod p) (end.Pod q) one 
 asked-family lists (Work source) destination (end.At address) d one family s_is d_is between asked = absurd s_is
 asked-family lists (Work source) (Work destination) (end.Pod p) (end.At address) one family s_is d_is between asked = absurd d_is
 
--- one explanation of each family is shown, and what holds of the family's holds of it
-one-shown : (asked : Option Family) (make : Family → Explanation) (family : Family) (P : Explanation → Type 0) → ((one : Family) → asked ≡ Some one → one ≡ family)
-    → P (make family) → (same_sides (make Four) (make Six) ≡ true → family ≡ Six → P (make Four))
-    → (made : Explanation) × (shown_of family (in_families asked make) ≡ made ∷ []) × P made
-one-shown (Some one) make family P only own both = (make one, refl, subst (λ (f : Family). P (make f)) (sym (only one refl)) own)
-one-shown None make family P only own both = by (same_sides (make Four) (make Six)) refl family own both
+-- a list that has no family alone has both
+both-of : (four six : Bool) → only_family (or_four (cond four (Four ∷ cond six (Six ∷ []) []) (cond six (Six ∷ []) []))) ≡ None
+    → (family : Family) → Contains (or_four (cond four (Four ∷ cond six (Six ∷ []) []) (cond six (Six ∷ []) []))) family
+both-of true true none Four = (0, omega arith, refl)
+both-of true true none Six = (1, omega arith, refl)
+both-of true false none family = absurd (cc)
+both-of false true none family = absurd (cc)
+both-of false false none family = absurd (cc)
+
+both-contained : (pods : List Pod) (family : Family) → only_family (families_of pods) ≡ None → Contains (families_of pods) family
+both-contained pods family none = both-of (has_family pods Four) (has_family pods Six) none family
+
+-- where no family alone is asked about there are packets of both
+both-asked : (lists : EstateLists) (source destination : AskedEnd) (s d : End) (family : Family) → IsOf lists source s → IsOf lists destination d
+    → family_asked lists (source_end (folding_of lists) source) (destination_end (folding_of lists) source destination) ≡ None → IsFamilyBetween lists s d family
+both-asked lists (At address) destination s d family s_is d_is asked = absurd (cc)
+both-asked lists (Work source) (At address) s d family s_is d_is asked = absurd (cc)
+both-asked lists (Work source) (Work destination) (end.Pod p) (end.Pod q) family s_is d_is asked = both-contained lists.pods family asked
+both-asked lists (Work source) (Work destination) (end.At address) d family s_is d_is asked = absurd s_is
+both-asked lists (Work source) (Work destination) (end.Pod p) (end.At address) family s_is d_is asked = absurd d_is
+
+-- ---- what is shown
+
+-- an explanation of each family gives what is shown, where it is right in what it is shown of
+explains-by : (lists : EstateLists) (from to : EndWord) (asked : Option Family) (make : Family → Explanation)
+    → ((one family : Family) → asked ≡ Some one → IsRightIn lists from to family (make one)) → ((family : Family) → IsRightIn lists from to family (make family))
+    → (same_sides (make Four) (make Six) ≡ true → IsRightIn lists from to Six (make Four)) → (asked ≡ None → HaveBothFamilies lists from to)
+    → Explains lists from to (in_families asked make)
+explains-by lists from to (Some one) make only own both two = one_for_all (make one) refl (λ family. only one family refl)
+explains-by lists from to None make only own both two = by (same_sides (make Four) (make Six)) refl
   where
-    by : (same : Bool) → same_sides (make Four) (make Six) ≡ same → (f : Family) → P (make f) → (same_sides (make Four) (make Six) ≡ true → f ≡ Six → P (make Four))
-        → (made : Explanation) × (shown_of f (of_both (make Four) (make Six)) ≡ made ∷ []) × P made
-    by true is Four own both = (make Four, rw is refl, own)
-    by true is Six own both = (make Four, rw is refl, both is refl)
-    by false is Four own both = (make Four, rw is refl, own)
-    by false is Six own both = (make Six, rw is refl, own)
+    each : same_sides (make Four) (make Six) ≡ true → (family : Family) → IsRightIn lists from to family (make Four)
+    each same Four = own Four
+    each same Six = both same
 
--- ---- all of it
+    by : (same : Bool) → same_sides (make Four) (make Six) ≡ same → Explains lists from to (of_both (make Four) (make Six))
+    by true same = one_for_all (make Four) (rw same refl) (each same)
+    by false differ =
+        one_for_each (make Four) (make Six) (rw differ refl) (own Four) (own Six) (two refl)
+        (λ equal. false≢true (sym differ ∙ (same_sides-Decides (make Four) (make Six)).1 equal))
 
-pub says-deciders : (lists : EstateLists) (from : List ℕ) (source destination : AskedEnd) (ends : Ends) → IsLawful lists → IsAsked lists source → IsAsked lists destination
-    → ends_between (folding_of lists) from source destination ≡ Ok ends → SaysWhatDecidesBetween lists source destination (explanations lists ends)
+pub explained : (lists : EstateLists) (from to : EndWord) (source destination : AskedEnd) → IsLawful lists → AsksFor lists from source → AsksFor lists to destination
+    → IsAsked lists source → IsAsked lists destination → are_one (folding_of lists) source destination ≡ false
+    → Explains lists from to (explanations lists (record { source = source_end (folding_of lists) source; destination = destination_end (folding_of lists) source destination }))
 unfolding explanations
-says-deciders lists from source destination ends lawful source_in destination_in are = λ s d family s_is d_is apart between.
-    let told = ends-between lists from source destination ends are in
-    let near = source_end (folding_of lists) source in
-    let far = destination_end (folding_of lists) source destination in
-    let first = source-same lists source s lawful source_in s_is in
-    let second = destination-same lists source destination d lawful destination_in told.0 d_is in
-    let make : Family → Explanation = explanation_of lists near far in
-    let right : (made : Explanation) × (shown_of family (in_families (family_asked lists near far) make) ≡ made ∷ []) × IsRightFor lists s d family made =
-    one-shown (family_asked lists near far) make family (IsRightFor lists s d family)
-    (λ one is. asked-family lists source destination s d one family s_is d_is between is)
-    (right-for lists near far s d family (make family) first second (explanation-right lists near far family))
-    (λ same six. right-for lists near far s d family (make Four) first second
-    (subst (λ (f : Family). IsRightFor lists near far f (make Four)) (sym six) (same_sides-right lists near far Four Six same))) in
-    subst (λ (e : Ends). (made : Explanation) × (shown_of family (in_families (family_asked lists e.source e.destination) (explanation_of lists e.source e.destination)) ≡ made ∷ [])
-    × IsRightFor lists s d family made) (sym told.1) right
+explained lists from to source destination lawful asks asks' source_in destination_in apart =
+    explains-by lists from to (family_asked lists near far) make only own both two
+  where
+    near : End
+    near = source_end (folding_of lists) source
+
+    far : End
+    far = destination_end (folding_of lists) source destination
+
+    make : Family → Explanation
+    make = explanation_of lists near far
+
+    right : (family : Family) (one : Explanation) → IsRightFor lists near far family one → (s d : End) → AreNamed lists from to s d → IsRightFor lists s d family one
+    right family one is s d named =
+        right-for lists near far s d family one (source-same lists source s lawful source_in (named-of lists from source s lawful asks named.0))
+        (destination-same lists source destination d lawful destination_in apart (named-of lists to destination d lawful asks' named.1)) is
+
+    only : (one family : Family) → family_asked lists near far ≡ Some one → IsRightIn lists from to family (make one)
+    only one family is = λ s d named between.
+        let same : one ≡ family =
+        asked-family lists source destination s d one family (named-of lists from source s lawful asks named.0) (named-of lists to destination d lawful asks' named.1) between is in
+        subst (λ (f : Family). IsRightFor lists s d f (make one)) same (right one (make one) (explanation-right lists near far one) s d named)
+
+    own : (family : Family) → IsRightIn lists from to family (make family)
+    own family = λ s d named between. right family (make family) (explanation-right lists near far family) s d named
+
+    both : same_sides (make Four) (make Six) ≡ true → IsRightIn lists from to Six (make Four)
+    both same = λ s d named between. right Six (make Four) (same_sides-right lists near far Four Six same) s d named
+
+    two : family_asked lists near far ≡ None → HaveBothFamilies lists from to
+    two none = λ s d family named.
+        both-asked lists source destination s d family (named-of lists from source s lawful asks named.0) (named-of lists to destination d lawful asks' named.1) none

@@ -1,3 +1,4 @@
 pub mod ExplainLemmas
+pub mod NamedLemmas
 pub mod PromiseLemmas
 pub mod ShownLemmas

@@ -28,11 +28,11 @@ shown_text-is : (from to : List ℕ) (one : Shown)
 unfolding shown_text
 shown_text-is from to one = simp append_assoc
 
-pub left-shown : (before : Option (List ℕ)) (faults : ℕ) (held from to : List ℕ) (one : Shown) (sent received : List Part) → sent ≡ one.made.egress → received ≡ one.made.ingress
-    → HasLeft before before faults faults (held ++ shown_text from to one) held (side_text Egress from one.mark sent ++ (side_text Ingress to one.mark received ++ row_line from to one))
-left-shown before faults held from to one sent received egress ingress =
-    rw (egress, ingress)
-    (subst (HasLeft before before faults faults (held ++ shown_text from to one) held) (shown_text-is from to one) (HasLeft-held before faults held (shown_text from to one)))
+pub left-shown : (before : Option (List ℕ)) (faults : ℕ) (held from to : List ℕ) (one : Shown)
+    → HasLeft before before faults faults (held ++ shown_text from to one) held
+    (side_text Egress from one.mark one.made.egress ++ (side_text Ingress to one.mark one.made.ingress ++ row_line from to one))
+left-shown before faults held from to one =
+    subst (HasLeft before before faults faults (held ++ shown_text from to one) held) (shown_text-is from to one) (HasLeft-held before faults held (shown_text from to one))
 
 -- and that of all of them is one after another
 explain_text-is : (from to : List ℕ) (all : List Shown) → explain_text from to all ≡ flat_map (shown_text from to) all

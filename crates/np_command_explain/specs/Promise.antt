@@ -1,32 +1,41 @@
--- What a report of `explain` says of the bytes of its inputs.
-use Rattle.std.specs.Prelude.{◌≡◌, ◌<◌, ℕ, List, [], ◌∷◌, length, map, filter, Bool, true, false, Contains, Ok}
-use Rattle.std.specs.Option.{option_map_or}
+-- What a report of `explain` says of the bytes of its inputs, and why there is none.
+use Rattle.std.specs.Prelude.{◌≡◌, ℕ, List, [], ◌∷◌, Some, None, Contains, true, false, Ok}
 use Rattle.np_addr.specs.Addresses.{family_of}
 use Rattle.np_addr.specs.declared.address.Family.{Family}
+use Rattle.np_addr.specs.declared.address.Family.TheVariants.{Four, Six}
+use Rattle.np_args.specs.declared.end_word.EndWord.{EndWord}
+use Rattle.np_args.specs.declared.end_word.EndWord.TheVariants as word
+use Rattle.np_command.specs.Ends.{end_text}
 use Rattle.np_command.specs.Inputs.{lists_of}
 use Rattle.np_command.specs.Sinks.{SinkTrace, TookWhole}
-use Rattle.np_command.specs.Ends.{end_text}
-use Rattle.np_command_explain.specs.Report.{asked_end, ends_between, explain_text, explanations}
-use Rattle.np_command_explain.specs.declared.report.AskedEnd.{AskedEnd}
-use Rattle.np_command_explain.specs.declared.report.AskedEnd.TheVariants.{At, Work}
-use Rattle.np_command_explain.specs.declared.report.Ends.{Ends}
+use Rattle.np_command.specs.declared.fault.Fault.{Fault}
+use Rattle.np_command.specs.declared.fault.Fault.TheVariants.{SameEnd, UnknownEnd}
+use Rattle.np_command_explain.specs.Report.{explain_text, shown}
 use Rattle.np_command_explain.specs.declared.report.Shown.{Shown}
-use Rattle.np_model.specs.Families.{families_of, same_family}
-use Rattle.np_model.specs.Lawful.{IsLawful}
-use Rattle.np_model.specs.declared.lists.EstateLists.{EstateLists}
 use Rattle.np_explain.specs.Explanations.{IsRightFor}
 use Rattle.np_explain.specs.Sides.{are_one_pod}
 use Rattle.np_explain.specs.declared.explanation.Explanation.{Explanation}
-use Rattle.np_fold.specs.Workloads.{folding_of, number_of}
+use Rattle.np_fold.specs.Workloads.{Workload, workloads_of}
+use Rattle.np_model.specs.Families.{families_of}
+use Rattle.np_model.specs.declared.lists.EstateLists.{EstateLists}
 use Rattle.np_rules.specs.declared.packet.End.{End}
 use Rattle.np_rules.specs.declared.packet.End.TheVariants as end
-use Rattle.np_args.specs.declared.end_word.EndWord.{EndWord}
 
--- an end is one of those that are asked about: a pod of the workload, or the address
-abbrev pub IsOf : EstateLists → AskedEnd → End → Type 0
-IsOf lists (Work number) (end.Pod place) = (place < length lists.pods) × (number_of lists place ≡ number)
-IsOf lists (Work number) (end.At address) = ⊥
-IsOf lists (At address) one = one ≡ end.At address
+-- ---- the ends
+
+-- the pod at a place is one of the workload of a name
+abbrev pub IsPodOf : EstateLists → List ℕ → ℕ → Type 0
+IsPodOf lists name place = (one : Workload) × Contains (workloads_of lists) one × (one.name ≡ name) × Contains one.members place
+
+-- a word names an end: each pod of the workload of its name, or its address
+abbrev pub NamesEnd : EstateLists → EndWord → End → Type 0
+NamesEnd lists (word.Named name) (end.Pod place) = IsPodOf lists name place
+NamesEnd lists (word.Named name) (end.At address) = ⊥
+NamesEnd lists (word.At address) one = one ≡ end.At address
+
+-- two words name two ends, which are no one pod
+abbrev pub AreNamed : EstateLists → EndWord → EndWord → End → End → Type 0
+AreNamed lists from to source destination = NamesEnd lists from source × NamesEnd lists to destination × (are_one_pod source destination ≡ false)
 
 -- There are packets of the family between two ends: between pods those of the list's families, and else those of the
 -- address's, of the source's where both are addresses.
@@ -35,30 +44,52 @@ IsFamilyBetween lists (end.Pod p) (end.Pod q) family = Contains (families_of lis
 IsFamilyBetween lists (end.Pod p) (end.At address) family = family ≡ family_of address
 IsFamilyBetween lists (end.At address) destination family = family ≡ family_of address
 
--- whether what is shown speaks of a family: it has no mark, or the family's
-abbrev pub speaks_of : Family → Shown → Bool
-speaks_of family one = option_map_or (same_family family) one.mark true
+-- ---- what is shown
 
-abbrev pub shown_of : Family → List Shown → List Explanation
-shown_of family all = map (λ one. one.made) (filter (speaks_of family) all)
+-- between all ends that the words name, an explanation names what decides the packets of a family, and which are allowed
+abbrev pub IsRightIn : EstateLists → EndWord → EndWord → Family → Explanation → Type 0
+IsRightIn lists from to family made =
+    (source destination : End) → AreNamed lists from to source destination → IsFamilyBetween lists source destination family → IsRightFor lists source destination family made
 
--- Between every two ends of those that are asked about, which are not one pod, one explanation is shown of each family in
--- which there are packets, and it names what decides each of them at either side.
-abbrev pub SaysWhatDecidesBetween : EstateLists → AskedEnd → AskedEnd → List Shown → Type 0
-SaysWhatDecidesBetween lists source destination all = (s d : End) (family : Family) → IsOf lists source s → IsOf lists destination d → are_one_pod s d ≡ false
-    → IsFamilyBetween lists s d family → (made : Explanation) × (shown_of family all ≡ made ∷ []) × IsRightFor lists s d family made
+-- between all ends that the words name there are packets of both families
+abbrev pub HaveBothFamilies : EstateLists → EndWord → EndWord → Type 0
+HaveBothFamilies lists from to = (source destination : End) (family : Family) → AreNamed lists from to source destination → IsFamilyBetween lists source destination family
 
--- The bytes of the inputs are those of a lawful estate, the sink took the explanations of the two ends that the words name, and
--- these name what decides between all pods of their workloads.
+-- both sides of two explanations have the same parts
+abbrev pub HaveSameParts : Explanation → Explanation → Type 0
+HaveSameParts one other = (one.egress ≡ other.egress) × (one.ingress ≡ other.ingress)
+
+-- One explanation without a mark is shown, which is right in each family of packets; or, where there are both, that of IPv4
+-- and that of IPv6, which have other parts.
+pub data Explains (lists : EstateLists) (from to : EndWord) (all : List Shown) : Type 0 where
+  one_for_all : (made : Explanation) → all ≡ shown None made ∷ [] → ((family : Family) → IsRightIn lists from to family made) → Explains lists from to all
+  one_for_each : (four six : Explanation) → all ≡ shown (Some Four) four ∷ shown (Some Six) six ∷ [] → IsRightIn lists from to Four four → IsRightIn lists from to Six six
+      → HaveBothFamilies lists from to → (HaveSameParts four six → ⊥) → Explains lists from to all
+
+-- The bytes of the inputs are those of an estate, the words name two ends, and the sink took explanations that name what
+-- decides between all that they name.
 pub record ExplainsAll (out : SinkTrace) (from to : EndWord) (texts : List (List ℕ)) : Type 0 where
   pub lists : EstateLists
-  pub source : AskedEnd
-  pub destination : AskedEnd
-  pub ends : Ends
+  pub source : End
+  pub destination : End
+  pub all : List Shown
   pub read : lists_of texts ≡ Ok lists
-  pub lawful : IsLawful lists
-  pub from_is : asked_end lists from ≡ Ok source
-  pub to_is : asked_end lists to ≡ Ok destination
-  pub ends_are : ends_between (folding_of lists) (end_text from) source destination ≡ Ok ends
-  pub printed : TookWhole out (explain_text (end_text from) (end_text to) (explanations lists ends))
-  pub deciders : SaysWhatDecidesBetween lists source destination (explanations lists ends)
+  pub named : AreNamed lists from to source destination
+  pub explained : Explains lists from to all
+  pub printed : TookWhole out (explain_text (end_text from) (end_text to) all)
+
+-- ---- refusals
+
+-- a word names some end, or none
+abbrev pub NamesSome : EstateLists → EndWord → Type 0
+NamesSome lists named = (one : End) × NamesEnd lists named one
+
+abbrev pub NamesNone : EstateLists → EndWord → Type 0
+NamesNone lists named = (one : End) → NamesEnd lists named one → ⊥
+
+-- Why two words are refused: one names no end, the first that does not; or all that they name is one pod.
+pub data RefusesExplain (from to : EndWord) (lists : EstateLists) (fault : Fault) : Type 0 where
+  no_source : NamesNone lists from → fault ≡ UnknownEnd (end_text from) → RefusesExplain from to lists fault
+  no_destination : NamesSome lists from → NamesNone lists to → fault ≡ UnknownEnd (end_text to) → RefusesExplain from to lists fault
+  one_pod : NamesSome lists from → NamesSome lists to → ((source destination : End) → NamesEnd lists from source → NamesEnd lists to destination → are_one_pod source destination ≡ true)
+      → fault ≡ SameEnd (end_text from) → RefusesExplain from to lists fault

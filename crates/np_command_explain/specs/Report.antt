@@ -12,8 +12,8 @@ use Rattle.np_command.specs.declared.fault.Fault.TheVariants.{SameEnd}
 use Rattle.np_conns.specs.Conns.{has_spot}
 use Rattle.np_conns.specs.ConnsText.{conns_text}
 use Rattle.np_model.specs.declared.lists.EstateLists.{EstateLists}
-use Rattle.np_explain.specs.DeciderText.{decider_text}
 use Rattle.np_rules.specs.Texts.{direction_text}
+pub use Rattle.np_explain.specs.PartLine.{part_line}
 use Rattle.np_explain.specs.Explanations.{explanation_of, same_sides}
 use Rattle.np_explain.specs.declared.explanation.Explanation.{Explanation}
 use Rattle.np_explain.specs.declared.part.Part.{Part}
@@ -84,10 +84,6 @@ unfoldable pub explanations : EstateLists → Ends → List Shown
 explanations lists ends = in_families (family_asked lists ends.source ends.destination) (explanation_of lists ends.source ends.destination)
 
 -- ---- text
-
--- `connections : decider`
-abbrev pub part_line : Direction → Part → List ℕ
-part_line direction part = conns_text (has_spot part.conns) ++ codes " : " ++ decider_text direction part.decider ++ codes "\n"
 
 -- `egress of end`, where a mark may follow, and the parts of that side
 unfoldable pub side_text : Direction → List ℕ → Option Family → List Part → List ℕ

@@ -5,7 +5,7 @@ ghost use Rattle.np_command.specs.Prints.{Wrote};
 ghost use Rattle.np_command.specs.Sinks.{sunk};
 ghost use Rattle.np_command.specs.Written.{Writes};
 ghost use Rattle.np_command_explain.specs.Report as spec;
-ghost use Rattle.np_command_explain.specs.steps.Explaining.{AreEnds, HasPods, IsAsked, head_line, row_line};
+ghost use Rattle.np_command_explain.specs.steps.Explaining.{AreEnds, HasPods, IsAsked, head_line, parts_at, row_line};
 ghost use Rattle.np_command.specs.steps.Putting.{Puts};
 ghost use Rattle.np_model.specs.Lawful.{IsLawful};
 ghost use Rattle.np_explain.specs.Explanations.{explanation_of};
@@ -17,7 +17,7 @@ use np_args::EndWord;
 use np_base::{NoMemory, Seq, Text};
 use np_command::{Failure, Fault, WriteFault, end_text, family_asked, workload_of};
 use np_conns::print_conns;
-use np_explain::{Explanation, Part, explain_sides, print_decider, same_sides};
+use np_explain::{Explanation, Flow, Part, explain_sides, print_decider, same_sides};
 use np_fold::{Folded, Workloads};
 use np_io::{BufferedSink, Sink};
 use np_model::{Direction, Estate};
@@ -195,7 +195,12 @@ fn explanation_in<L: Ledger>(
     ensures made { IfOk result (λ made. made ≡ explanation_of estate.now ends.now.source ends.now.destination family) }
     ensures least { steps.old ≤ steps.new }
 {
-    explain_sides(alloc, estate, ends.source, ends.destination, family, steps)
+    let flow = Flow {
+        source: ends.source,
+        destination: ends.destination,
+        family,
+    };
+    explain_sides(alloc, estate, &flow, steps)
 }
 
 // One of them where both sides have the same parts in both families, and else both, with their marks.
@@ -255,26 +260,8 @@ fn put_shown<O: Sink>(
         (spec.shown_text from.now to.now one.now)
         result }
 {
-    let Shown { mark, made } = one;
-    let (sent, received) = (&made.egress, &made.ingress);
-    put_side(
-        alloc,
-        gathered,
-        out,
-        Direction::Egress,
-        from,
-        *mark,
-        sent.items(),
-    )?;
-    put_side(
-        alloc,
-        gathered,
-        out,
-        Direction::Ingress,
-        to,
-        *mark,
-        received.items(),
-    )?;
+    put_side(alloc, gathered, out, Direction::Egress, from, one)?;
+    put_side(alloc, gathered, out, Direction::Ingress, to, one)?;
     let row = row_line(alloc, from, to, one)?;
     gathered.put(out, row.as_bytes())?;
     Ok(())
@@ -287,20 +274,30 @@ fn put_side<O: Sink>(
     out: &mut O,
     direction: Direction,
     name: &Text,
-    mark: Option<Family>,
-    parts: &[Part],
+    one: &Shown,
 ) -> Result<(), WriteFault>
     ensures { Puts (sunk O.taken O.faults out.old out.new) gathered.old gathered.new
-        (spec.side_text direction name.now mark parts.now)
+        (spec.side_text direction name.now one.now.mark (parts_at direction one.now.made))
         result }
 {
-    let head = head_line(alloc, direction, name, mark)?;
+    let head = head_line(alloc, direction, name, one.mark)?;
     gathered.put(out, head.as_bytes())?;
+    let parts = parts_at(&one.made, direction);
     for part in parts {
         let line = part_line(alloc, direction, part)?;
         gathered.put(out, line.as_bytes())?;
     }
     Ok(())
+}
+
+// The parts of a side.
+fn parts_at(made: &Explanation, direction: Direction) -> &[Part]
+    ensures { result.now ≡ parts_at direction made.now }
+{
+    match direction {
+        Direction::Egress => made.egress.items(),
+        Direction::Ingress => made.ingress.items(),
+    }
 }
 
 // `egress of end`, where a mark may follow.

@@ -7,30 +7,18 @@ use Rattle.std.proofs.lemmas.Bool.Decides.{nat_tests}
 use Rattle.std.proofs.lemmas.Grind.{flat_map-append}
 use Rattle.std.proofs.lemmas.List.Elements.{All-from_recursion}
 use Rattle.std.specs.List.{AllByRecursion, range_with_len}
-use Rattle.np_command_exposure.specs.Promise.{SaysWhatIsExposed}
 use Rattle.np_command.specs.Inputs.{Refuses}
 use Rattle.np_command_exposure.specs.Report.{both_sides, first_fault, nothing_unless, or_later, side_rows, weight_at, weight_fault}
 use Rattle.np_command_exposure.specs.declared.report.ShownSide.{ShownSide}
 use Rattle.np_command.specs.declared.failure.Failure.{Failure}
 use Rattle.np_command.specs.declared.failure.Failure.TheVariants.{Usage, TooLarge, Refused, CannotRead, CannotWrite, NoMemory}
 use Rattle.np_command.specs.declared.fault.Fault.{Fault}
-use Rattle.np_model.specs.Lawful.{IsLawful}
 use Rattle.np_model.specs.declared.lists.EstateLists.{EstateLists}
-use Rattle.np_exposure.proofs.LeftLemmas.{rows_of-are}
-use Rattle.np_exposure.proofs.RightLemmas.{first_row-tells}
-use Rattle.np_exposure.proofs.WorkloadLemmas.{workload-rows}
-use Rattle.np_exposure.specs.Right.{FirstRowTells}
-use Rattle.np_exposure.specs.Rows.{rows_of}
-use Rattle.np_exposure.specs.declared.exposure_row.ExposureRow.{ExposureRow}
 use Rattle.np_exposure.specs.declared.exposures.TheConstants.{MOST_PATTERNS}
-use Rattle.np_fold.specs.Workloads.{folding_of, number_of}
 use Rattle.np_report.proofs.LineLemmas.{is_some_row, text_to_come-rows}
 use Rattle.np_report.specs.Forms.{Form, lines_of, text_to_come}
 use Rattle.np_report.specs.declared.row.RowText.{RowText}
-use Rattle.np_routes.proofs.ReachedLemmas.{number-workload}
-use Rattle.np_rules.specs.PodSides.{side_of}
-use Rattle.np_table.proofs.MemberLemmas.{member-number, members-some, members-within, source-member}
-use Rattle.np_table.specs.Table.{IsWorkload, number_of_workloads, source_pod}
+use Rattle.np_table.specs.Table.{IsWorkload, number_of_workloads}
 
 -- ---- what is shown
 
@@ -81,7 +69,7 @@ refuses-first TooLarge None later is = is
 refuses-first CannotWrite None later is = is
 
 -- a side without a fault has few patterns
-few-at : (lists : EstateLists) (side : ShownSide) → weight_fault lists side ≡ None → weight_at lists side ≤ MOST_PATTERNS
+pub few-at : (lists : EstateLists) (side : ShownSide) → weight_fault lists side ≡ None → weight_at lists side ≤ MOST_PATTERNS
 unfolding weight_fault
 few-at lists side none = by (nat_lt MOST_PATTERNS (weight_at lists side)) refl
   where
@@ -92,7 +80,7 @@ few-at lists side none = by (nat_lt MOST_PATTERNS (weight_at lists side)) refl
         some : {X : Type 0} {x : X} → Option.Some x ≡ None → ⊥
         some is = cc
 
-both-none : (found later : Option Fault) → or_later found later ≡ None → (found ≡ None) × (later ≡ None)
+pub both-none : (found later : Option Fault) → or_later found later ≡ None → (found ≡ None) × (later ≡ None)
 both-none None later none = (refl, none)
 both-none (Some fault) later none = absurd (cc)
 
@@ -138,19 +126,3 @@ left-next form lists sides i d came rows empty within made none =
 pub left-none : (form : Form) (lists : EstateLists) (sides : List ShownSide) (i : ℕ) (came : Bool) → length sides ≤ i
     → text_to_come form came (flat_map (side_rows lists) (drop i sides)) ≡ form.end came
 left-none form lists sides i came within = ap (λ (left : List ShownSide). text_to_come form came (flat_map (side_rows lists) left)) (drop-past sides i within)
-
--- ---- what is said
-
-pub says-exposed : (lists : EstateLists) (sides : List ShownSide) → IsLawful lists → SaysWhatIsExposed lists sides
-says-exposed lists sides lawful = λ shown p s has p_in number hypothetical.
-    let folding = folding_of lists in
-    let workload = shown.workload in
-    let w_in : IsWorkload lists workload = subst (IsWorkload lists) number (number-workload lists p p_in) in
-    let first = source_pod folding workload in
-    let first_has = source-member folding workload (members-some lists folding workload refl w_in) in
-    let first_in = members-within lists folding workload first refl w_in first_has in
-    let same : number_of lists first ≡ number_of lists p = member-number lists workload first first_in first_has ∙ sym number in
-    let rows : rows_of (side_of lists first shown.direction) ≡ rows_of (side_of lists p shown.direction) =
-    workload-rows lists first p shown.direction lawful first_in p_in same in
-    let side = side_of lists p shown.direction in
-    subst (λ (all : List ExposureRow). FirstRowTells side all s) (sym rows) (first_row-tells side (rows_of side) s (rows_of-are side) hypothetical)

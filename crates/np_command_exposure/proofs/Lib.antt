@@ -1,2 +1,3 @@
 pub mod ExposureLemmas
 pub mod PromiseLemmas
+pub mod SideLemmas

@@ -10,8 +10,11 @@ use Rattle.np_conns.specs.ConnsText.{conns_text}
 use Rattle.np_model.specs.declared.lists.EstateLists.{EstateLists}
 use Rattle.np_rules.specs.Texts.{direction_text}
 use Rattle.np_explain.specs.Sides.{are_one_pod}
+use Rattle.np_explain.specs.declared.explanation.Explanation.{Explanation}
+use Rattle.np_explain.specs.declared.part.Part.{Part}
 use Rattle.np_fold.specs.Workloads.{Folding, members_of}
 use Rattle.np_model.specs.declared.direction.Direction.{Direction}
+use Rattle.np_model.specs.declared.direction.Direction.TheVariants.{Ingress, Egress}
 use Rattle.np_report.specs.RowText.{family_suffix}
 use Rattle.np_rules.specs.model.Verdict.{IsEndOf}
 use Rattle.np_table.specs.Table.{IsWorkload}
@@ -33,6 +36,11 @@ pub record AreEnds (lists : EstateLists) (ends : Ends) : Type 0 where
   pub apart : are_one_pod ends.source ends.destination ≡ false
 
 -- ---- lines of the text
+
+-- the parts of a side
+abbrev pub parts_at : Direction → Explanation → List Part
+parts_at Egress made = made.egress
+parts_at Ingress made = made.ingress
 
 -- `egress of end`, where a mark may follow
 abbrev pub head_line : Direction → List ℕ → Option Family → List ℕ
