@@ -1,20 +1,25 @@
 -- Statements of a file, and what is found of them.
-use Rattle.std.proofs.Common.{◌≡◌, ℕ, List, Option, None, Some, Result, Ok, Err, refl, subst, true, false}
+use Rattle.std.proofs.Common.{◌≡◌, ℕ, List, Option, None, Some, Result, Ok, Err, codes, decimal, ◌++◌, refl, subst, true, false}
 use Rattle.std.specs.Prelude.{All, drop}
-use Rattle.np_command.specs.Prints.{fault_in, text_in}
-use Rattle.np_command_check.specs.Promise.{ChecksAll, FindsBroken}
+use Rattle.std.proofs.lemmas.Option.{none-some, same_Some}
 use Rattle.np_command.specs.Inputs.{lists_of}
+use Rattle.np_command.specs.Prints.{fault_in, text_in}
 use Rattle.np_command.specs.Sinks.{SinkTrace, TookWhole}
-use Rattle.np_command_check.specs.Report.{statement_bytes, all_hold, check_reply}
-use Rattle.np_command_check.specs.Report.{asked_in, asked_of, finding_of, hold_in, line_fault, name_fault}
 use Rattle.np_command.specs.declared.fault.Fault.{Fault}
+use Rattle.np_command.specs.declared.fault.Fault.TheVariants.{BadStatement, UnknownEnd}
+use Rattle.np_command_check.proofs.BrokenLemmas.{first-line}
+use Rattle.np_command_check.proofs.FileLemmas.{first-bad, lines-of}
+use Rattle.np_command_check.proofs.KnownLemmas.{first-unknown, forms-known}
+use Rattle.np_command_check.specs.FirstBroken.{IsFirstBrokenLine}
+use Rattle.np_command_check.specs.Promise.{ChecksAll, FindsBroken, IsAskedOf, RefusesCheck}
+use Rattle.np_command_check.specs.Report.{all_hold, asked_in, asked_of, check_reply, finding_of, hold_in, line_fault, name_fault, statement_bytes}
 use Rattle.np_model.specs.Lawful.{IsLawful}
 use Rattle.np_model.specs.declared.lists.EstateLists.{EstateLists}
 use Rattle.np_statements.proofs.BrokenLemmas.{first-is, nothing-broken}
+use Rattle.np_statements.proofs.FoundLemmas.{length-found}
 use Rattle.np_statements.proofs.LineLemmas.{statements-well}
 use Rattle.np_statements.specs.AskedLines.{IsWellLine}
 use Rattle.np_statements.specs.BrokenLines.{first_broken}
-use Rattle.np_statements.specs.FirstBrokenLine.{IsFirstBrokenLine}
 use Rattle.np_statements.specs.FoundEnds.{ends_found}
 use Rattle.np_statements.specs.Lines.{statements_of}
 use Rattle.np_statements.specs.declared.asked_line.AskedLine.{AskedLine}
@@ -24,7 +29,7 @@ use Rattle.np_statements.specs.declared.statement_line.StatementLine.{StatementL
 -- ---- what is asked
 
 -- what is asked was read of lines
-pub record IsOfLines (bytes : List ℕ) (lists : EstateLists) (asked : List AskedLine) : Type 0 where
+record IsOfLines (bytes : List ℕ) (lists : EstateLists) (asked : List AskedLine) : Type 0 where
   pub lines : List StatementLine
   pub read : statements_of bytes ≡ Ok lines
   pub found : ends_found lists lines ≡ Ok asked
@@ -48,7 +53,13 @@ asked-lines bytes lists asked is = lines-known bytes lists asked (statements_of 
 first-known : (lists : EstateLists) (lines : List StatementLine) (asked : List AskedLine) (broken : Broken) → IsLawful lists → All IsWellLine lines → ends_found lists lines ≡ Ok asked →
     first_broken lists asked ≡ Some broken → IsFirstBrokenLine lists lines broken
 unfolding first_broken
-first-known lists lines asked broken lawful well found is = first-is lists lines asked broken lawful well found is
+first-known lists lines asked broken lawful well found is = first-line lists lines broken lawful (first-is lists lines asked broken lawful well found is)
+
+-- what is asked of an estate, as the lines of the file have it
+asked-is : (texts : List (List ℕ)) (lists : EstateLists) (lines : List StatementLine) (asked : List AskedLine) → lists_of (drop 1 texts) ≡ Ok lists → IsLawful lists →
+    statements_of (statement_bytes texts) ≡ Ok lines → ends_found lists lines ≡ Ok asked → IsAskedOf texts lists lines
+asked-is texts lists lines asked read lawful lines_are found =
+    record { read = read; lines_are = lines-of (statement_bytes texts) lines lines_are; known = forms-known lists lines asked lawful found }
 
 -- ---- what is said
 
@@ -65,9 +76,8 @@ says-done out texts lists (Ok asked) read lawful is ended no_fault took = by (fi
         record {
           lists = lists;
           lines = of_lines.lines;
-          asked = asked;
-          asks = record { read = read; lawful = lawful; lines_are = of_lines.read; asked_is = of_lines.found };
-          printed = rw found at took;
+          asks = asked-is texts lists of_lines.lines asked read lawful of_lines.read of_lines.found;
+          printed = subst (λ (count : ℕ). TookWhole out (codes "holds: " ++ decimal count ++ codes "\n")) (length-found lists of_lines.lines asked of_lines.found) (rw found at took);
           hold = (nothing-broken lists of_lines.lines asked lawful well of_lines.found).0 found;
         }
 
@@ -84,9 +94,8 @@ says-violated out texts lists (Ok asked) read lawful is ended no_fault took = by
         record {
           lists = lists;
           lines = of_lines.lines;
-          asked = asked;
           broken = broken;
-          asks = record { read = read; lawful = lawful; lines_are = of_lines.read; asked_is = of_lines.found };
+          asks = asked-is texts lists of_lines.lines asked read lawful of_lines.read of_lines.found;
           printed = rw found at took;
           first = first-known lists of_lines.lines asked broken lawful well of_lines.found found;
         }
@@ -104,3 +113,21 @@ pub promised-broken : (out : SinkTrace) (texts : List (List ℕ)) (lists : Estat
     → TookWhole out (text_in (check_reply (statement_bytes texts) lists)) → FindsBroken out texts
 unfolding check_reply all_hold
 promised-broken out texts lists read lawful hold no_fault took = says-violated out texts lists (asked_in (statement_bytes texts) lists) read lawful refl hold no_fault took
+
+-- ---- what is refused
+
+names-refused : (bytes : List ℕ) (lists : EstateLists) (lines : List StatementLine) (found : Result (List AskedLine) (List ℕ)) (fault : Fault) → IsLawful lists → statements_of bytes ≡ Ok lines →
+    ends_found lists lines ≡ found → fault_in (finding_of lists (name_fault found)) ≡ Some fault → RefusesCheck bytes lists fault
+names-refused bytes lists lines (Ok asked) fault lawful read found told = absurd (none-some fault told)
+names-refused bytes lists lines (Err name) fault lawful read found told =
+    subst (RefusesCheck bytes lists) (same_Some (UnknownEnd name) fault told) (lines, lines-of bytes lines read, first-unknown lists lines name lawful found)
+
+lines-refused : (bytes : List ℕ) (lists : EstateLists) (found : Result (List StatementLine) ℕ) (fault : Fault) → IsLawful lists → statements_of bytes ≡ found →
+    fault_in (finding_of lists (asked_of lists (line_fault found))) ≡ Some fault → RefusesCheck bytes lists fault
+lines-refused bytes lists (Err number) fault lawful read told = subst (RefusesCheck bytes lists) (same_Some (BadStatement number) fault told) (first-bad bytes number read)
+lines-refused bytes lists (Ok lines) fault lawful read told = names-refused bytes lists lines (ends_found lists lines) fault lawful read refl told
+
+-- a refusal is for the first line that is no statement, or for the first name that no workload has
+pub refused : (bytes : List ℕ) (lists : EstateLists) (fault : Fault) → IsLawful lists → fault_in (check_reply bytes lists) ≡ Some fault → RefusesCheck bytes lists fault
+unfolding check_reply asked_in
+refused bytes lists fault lawful told = lines-refused bytes lists (statements_of bytes) fault lawful refl told

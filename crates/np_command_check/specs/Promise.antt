@@ -1,35 +1,33 @@
--- What a report of `check` says of the bytes of its statement file and of its inputs.
-use Rattle.std.specs.Prelude.{◌≡◌, ℕ, List, All, None, Some, drop, length, Ok}
+-- What a report of `check` says of the bytes of its statement file and of its inputs, and why there is none.
+use Rattle.std.specs.Prelude.{◌≡◌, ℕ, List, ◌++◌, All, codes, decimal, drop, length, Ok}
 use Rattle.np_command.specs.Inputs.{lists_of}
 use Rattle.np_command.specs.Sinks.{SinkTrace, TookWhole}
+use Rattle.np_command.specs.declared.fault.Fault.{Fault}
+use Rattle.np_command.specs.declared.fault.Fault.TheVariants.{BadStatement, UnknownEnd}
+use Rattle.np_command_check.specs.FileLines.{AreLinesOf, IsFirstBad}
+use Rattle.np_command_check.specs.FirstBroken.{IsFirstBrokenLine}
+use Rattle.np_command_check.specs.KnownEnds.{IsFirstUnknown, IsKnown, forms_of}
 use Rattle.np_command_check.specs.Report.{statement_bytes}
-use Rattle.np_command_check.specs.Report.{finding}
-use Rattle.np_model.specs.Lawful.{IsLawful}
 use Rattle.np_model.specs.declared.lists.EstateLists.{EstateLists}
-use Rattle.np_statements.specs.FirstBrokenLine.{IsFirstBrokenLine}
-use Rattle.np_statements.specs.FoundEnds.{ends_found}
+use Rattle.np_statements.specs.BrokenText.{broken_text}
 use Rattle.np_statements.specs.Holding.{LineHolds}
-use Rattle.np_statements.specs.Lines.{statements_of}
-use Rattle.np_statements.specs.declared.asked_line.AskedLine.{AskedLine}
 use Rattle.np_statements.specs.declared.broken.Broken.{Broken}
 use Rattle.np_statements.specs.declared.statement_line.StatementLine.{StatementLine}
 
--- The bytes behind those of the statement file are those of a lawful estate, the lines of the file are these
--- statements, and this is what they ask of the estate.
-pub record IsAskedOf (texts : List (List ℕ)) (lists : EstateLists) (lines : List StatementLine) (asked : List AskedLine) : Type 0 where
+-- The bytes behind those of the statement file are those of an estate, the file has these statements, and all
+-- workloads that they name are there.
+pub record IsAskedOf (texts : List (List ℕ)) (lists : EstateLists) (lines : List StatementLine) : Type 0 where
   pub read : lists_of (drop 1 texts) ≡ Ok lists
-  pub lawful : IsLawful lists
-  pub lines_are : statements_of (statement_bytes texts) ≡ Ok lines
-  pub asked_is : ends_found lists lines ≡ Ok asked
+  pub lines_are : AreLinesOf (statement_bytes texts) lines
+  pub known : All (IsKnown lists) (forms_of lines)
 
 -- The sink took how many statements there are, and each of them holds: for every two different pods that its ends name,
 -- in each family of the list, and for every pod and every address that they name.
 pub record ChecksAll (out : SinkTrace) (texts : List (List ℕ)) : Type 0 where
   pub lists : EstateLists
   pub lines : List StatementLine
-  pub asked : List AskedLine
-  pub asks : IsAskedOf texts lists lines asked
-  pub printed : TookWhole out (finding lists (length asked) None)
+  pub asks : IsAskedOf texts lists lines
+  pub printed : TookWhole out (codes "holds: " ++ decimal (length lines) ++ codes "\n")
   pub hold : All (LineHolds lists) lines
 
 -- The sink took the number of a line and a packet: all statements of earlier lines hold, that of the line does not, and
@@ -37,8 +35,13 @@ pub record ChecksAll (out : SinkTrace) (texts : List (List ℕ)) : Type 0 where
 pub record FindsBroken (out : SinkTrace) (texts : List (List ℕ)) : Type 0 where
   pub lists : EstateLists
   pub lines : List StatementLine
-  pub asked : List AskedLine
   pub broken : Broken
-  pub asks : IsAskedOf texts lists lines asked
-  pub printed : TookWhole out (finding lists (length asked) (Some broken))
+  pub asks : IsAskedOf texts lists lines
+  pub printed : TookWhole out (broken_text lists broken ++ codes "\n")
   pub first : IsFirstBrokenLine lists lines broken
+
+-- Why the statements of a file are not checked: the first line that is none, or else the first name that no workload has.
+abbrev pub RefusesCheck : List ℕ → EstateLists → Fault → Type 0
+RefusesCheck bytes lists (BadStatement number) = IsFirstBad bytes number
+RefusesCheck bytes lists (UnknownEnd name) = (lines : List StatementLine) × AreLinesOf bytes lines × IsFirstUnknown lists lines name
+RefusesCheck bytes lists other = ⊥

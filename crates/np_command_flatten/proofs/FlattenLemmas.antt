@@ -1,28 +1,14 @@
 -- Flat policies, as they are written one after another.
-use Rattle.std.proofs.Common.{◌≡◌, ℕ, zero, suc, ◌+◌, ◌-◌, ◌<◌, ◌≤◌, List, [], ◌∷◌, ◌++◌, flat_map, map, Bool, true, false, Option, None, Some, Result, Ok, Err, arith, codes, inl, inr, refl, ap, sym}
+use Rattle.std.proofs.Common.{◌≡◌, ℕ, zero, suc, ◌+◌, ◌-◌, ◌<◌, ◌≤◌, List, [], ◌∷◌, ◌++◌, flat_map, map, Bool, true, false, Option, None, Some, arith, codes, inl, inr, refl, ap, sym}
 use Rattle.std.proofs.Common.{subst, ◌∙◌, append_assoc}
 use Rattle.std.specs.List.{find, join_by, range_with_len}
-use Rattle.std.specs.Prelude.{◌⊎◌, All, nat_le}
+use Rattle.std.specs.Prelude.{◌⊎◌, All}
 use Rattle.std.proofs.lemmas.Bool.{ne_eqb}
 use Rattle.std.proofs.lemmas.List.Elements.{All-append, All-cons, All-head, All-nil, All-tail}
-use Rattle.np_command.specs.Prints.{fault_in, text_in}
-use Rattle.np_command_flatten.specs.Promise.{FlattensAll}
-use Rattle.np_command.specs.Inputs.{lists_of, small_estate, small_reading}
-use Rattle.np_command.specs.Sinks.{SinkTrace, TookWhole}
-use Rattle.np_command_flatten.specs.Report.{AreWorkloads, flatten_text, item_text, policies_unless, flatten_reply}
-use Rattle.np_command.specs.declared.fault.Fault.{Fault}
-use Rattle.np_model.specs.Lawful.{IsLawful}
-use Rattle.np_reading.specs.Reading.{estate_of}
-use Rattle.np_reading.specs.Readings.{Reading}
+use Rattle.np_command_flatten.specs.Report.{AreWorkloads, flatten_text, item_text}
 use Rattle.np_model.specs.declared.lists.EstateLists.{EstateLists}
-use Rattle.np_fold.specs.Workloads.{workload_count}
-use Rattle.np_fold.specs.declared.workloads.TheConstants.{MOST_WORKLOADS}
-use Rattle.np_manifests.proofs.FlatLemmas.{estate_of-flat, policies-printable}
-use Rattle.np_manifests.proofs.LawfulReads.{estate-lawful}
-use Rattle.np_manifests.proofs.ListLemmas.{json_of-list_line, list_text-joined}
-use Rattle.np_manifests.specs.Estates.{estate_with}
-use Rattle.np_manifests.specs.Lists.{list_line, policy_text}
-use Rattle.np_synth.proofs.FlatVerdicts.{addresses-same, pods-same}
+use Rattle.np_manifests.proofs.ListLemmas.{list_text-joined}
+use Rattle.np_manifests.specs.Lists.{policy_text}
 use Rattle.np_synth.specs.Faults.{fault_by, flat_fault, is_split, is_unlike}
 use Rattle.np_synth.specs.Flat.{flat_policies, flat_policy}
 use Rattle.np_synth.specs.Groups.{group_count}
@@ -138,58 +124,3 @@ fault-workloads lists fault which = elim which [
     by (Some pair) is_one unlike is_other is = subst (AreWorkloads lists) (one_fault (Split pair.0 pair.1) fault is) (pair-within (is_split lists) count pair is_one)
     by None is_one (Some pair) is_other is = subst (AreWorkloads lists) (one_fault (Alike pair.0 pair.1) fault is) (pair-within (is_unlike lists) count pair is_other)
     by None is_one None is_other is = absurd (cc)
-
--- ---- what is said
-
-abbrev Reads : EstateLists → EstateLists → Type 0
-Reads found lists = ◌≡◌ {A = Reading EstateLists} (Ok found) (Ok lists)
-
-abbrev Kept : EstateLists → EstateLists → Type 0
-Kept found lists = ◌≡◌ {A = Result EstateLists Fault} (Ok found) (Ok lists)
-
--- what is small enough was read
-read-small : (reads : Reading EstateLists) (lists : EstateLists) → small_reading reads ≡ Ok lists → reads ≡ Ok lists
-unfolding small_estate
-read-small (Err refusal) lists read = absurd (cc)
-read-small (Ok found) lists read = by (nat_le (workload_count found) MOST_WORKLOADS) refl read
-  where
-    by : (few : Bool) → nat_le (workload_count found) MOST_WORKLOADS ≡ few → small_reading (Ok found) ≡ Ok lists → Reads found lists
-    by true is read = let same : Kept found lists = rw is at read in cc
-    by false is read = absurd (let wrong = rw is at read in cc)
-
-memory-none : (split unlike : Option (ℕ × ℕ)) → fault_by split unlike ≡ Some NoMemory → ⊥
-memory-none (Some pair) unlike is = cc
-memory-none None (Some pair) is = cc
-memory-none None None is = cc
-
-fault-memory : (lists : EstateLists) → flat_fault lists ≡ Some NoMemory → ⊥
-unfolding flat_fault
-fault-memory lists is = memory-none (first_pair (is_split lists) (number_of_workloads lists)) (first_pair (is_unlike lists) (number_of_workloads lists)) is
-
-again : (lists : EstateLists) → estate_of (list_line (flat_policies lists) ∷ []) ≡ Ok (estate_with (flat_policies lists)) → estate_of (flatten_text lists ∷ []) ≡ Ok (estate_with (flat_policies lists))
-unfolding flatten_text
-again lists is = is
-
-says_policies : (out : SinkTrace) (texts : List (List ℕ)) (lists : EstateLists) (fault : Option FlatFault) → lists_of texts ≡ Ok lists → IsLawful lists
-    → flat_fault lists ≡ fault → fault_in (policies_unless lists fault) ≡ None → TookWhole out (text_in (policies_unless lists fault)) → FlattensAll out texts
-says_policies out texts lists (Some (Split source destination)) read lawful is none took = cc
-says_policies out texts lists (Some (Alike a b)) read lawful is none took = cc
-says_policies out texts lists (Some NoMemory) read lawful is none took = absurd (fault-memory lists is)
-says_policies out texts lists None read lawful is none took =
-    let reads : estate_of texts ≡ Ok lists = read-small (estate_of texts) lists read in
-    record {
-      lists = lists;
-      read = read;
-      lawful = lawful;
-      no_fault = is;
-      printed = took;
-      pods = λ p q family spot. pods-same lists p q family spot lawful is;
-      addresses = λ p direction family number spot. addresses-same lists p direction family number spot lawful is;
-      again = again lists (estate_of-flat texts lists (list_line (flat_policies lists)) reads (json_of-list_line (flat_policies lists) (policies-printable lists (estate-lawful texts lists reads))));
-    }
-
--- a whole report of accepted inputs says what passes without any other policy
-pub promised : (out : SinkTrace) (texts : List (List ℕ)) (lists : EstateLists) → lists_of texts ≡ Ok lists → IsLawful lists
-    → fault_in (flatten_reply lists) ≡ None → TookWhole out (text_in (flatten_reply lists)) → FlattensAll out texts
-unfolding flatten_reply
-promised out texts lists read lawful no_fault took = says_policies out texts lists (flat_fault lists) read lawful refl no_fault took

@@ -1,1 +1,4 @@
 pub mod FlattenLemmas
+pub mod PromiseLemmas
+pub mod RefusedLemmas
+pub mod VerdictLemmas

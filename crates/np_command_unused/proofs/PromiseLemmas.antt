@@ -20,11 +20,12 @@ unused_rules_of lists = All-weaker (Contains (unused_of lists)) (IsRuleOf lists)
 
 -- a whole report of accepted inputs says which rules are unused
 pub promised : (out : SinkTrace) (texts : List (List ℕ)) (lists : EstateLists) → lists_of texts ≡ Ok lists → IsLawful lists → TookWhole out (unused_text lists) → ListsUnused out texts
+unfolding unused_text
 promised out texts lists read lawful took =
     record {
       lists = lists;
       read = read;
-      lawful = lawful;
+      rules = unused_of lists;
       printed = took;
       each = decide_nothing lists;
       order = unused_in_order lists;

@@ -1,16 +1,15 @@
 -- What a report of `unused` says of the bytes of its inputs.
-use Rattle.std.specs.Prelude.{◌≡◌, ◌↔◌, ℕ, List, AllPairs, Contains, Ok}
+use Rattle.std.specs.Prelude.{◌≡◌, ◌↔◌, ℕ, List, AllPairs, Contains, Ok, flat_map}
 use Rattle.np_addr.specs.declared.address.Family.{Family}
 use Rattle.np_command.specs.Inputs.{lists_of}
 use Rattle.np_command.specs.Sinks.{SinkTrace, TookWhole}
-use Rattle.np_command_unused.specs.Report.{unused_text}
+use Rattle.np_command_unused.specs.Report.{rule_line}
 use Rattle.np_conns.specs.declared.port_spot.PortSpot.{PortSpot}
-use Rattle.np_model.specs.Lawful.{IsLawful}
 use Rattle.np_model.specs.declared.lists.EstateLists.{EstateLists}
 use Rattle.np_explain.specs.Sides.{packet_between}
 use Rattle.np_lint.specs.Order.{StandsBefore}
 use Rattle.np_lint.specs.Rules.{IsRuleOf}
-use Rattle.np_lint.specs.Used.{IsListedPacket, StandsIn, unused_of}
+use Rattle.np_lint.specs.Used.{IsListedPacket, StandsIn}
 use Rattle.np_lint.specs.Without.{without}
 use Rattle.np_lint.specs.declared.rule_ref.RuleRef.{RuleRef}
 use Rattle.np_rules.specs.model.Verdict.{allows}
@@ -26,13 +25,13 @@ abbrev pub ChangeNothing : EstateLists → List RuleRef → Type 0
 ChangeNothing lists rules = (source destination : End) (family : Family) (spot : PortSpot) → IsListedPacket lists source destination family spot
     → allows (without lists rules) (packet_between lists source destination family spot) ≡ allows lists (packet_between lists source destination family spot)
 
--- The bytes of the inputs are those of a lawful estate, the sink took a line for each rule that is unused: these are
--- exactly the rules that decide nothing, each once and in order, and without all of them nothing changes.
+-- The bytes of the inputs are those of an estate, and the sink took a line for each of some rules. These are exactly
+-- the rules of the estate that decide nothing, each once and in order, and without all of them nothing changes.
 pub record ListsUnused (out : SinkTrace) (texts : List (List ℕ)) : Type 0 where
   pub lists : EstateLists
   pub read : lists_of texts ≡ Ok lists
-  pub lawful : IsLawful lists
-  pub printed : TookWhole out (unused_text lists)
-  pub each : (rule : RuleRef) → Contains (unused_of lists) rule ↔ (IsRuleOf lists rule × DecidesNothing lists rule)
-  pub order : AllPairs StandsBefore (unused_of lists)
-  pub together : ChangeNothing lists (unused_of lists)
+  pub rules : List RuleRef
+  pub printed : TookWhole out (flat_map (rule_line lists) rules)
+  pub each : (rule : RuleRef) → Contains rules rule ↔ (IsRuleOf lists rule × DecidesNothing lists rule)
+  pub order : AllPairs StandsBefore rules
+  pub together : ChangeNothing lists rules

@@ -1,0 +1,105 @@
+-- What follows of a whole report of `flatten`, and of what is refused.
+use Rattle.std.proofs.Common.{◌≡◌, ℕ, List, [], ◌∷◌, Bool, true, false, Option, None, Some, Result, Ok, Err, refl, subst, ◌∙◌}
+use Rattle.std.specs.Prelude.{IsPermutation, nat_le}
+use Rattle.std.proofs.lemmas.Option.{none-some, same_Some}
+use Rattle.np_command.specs.Inputs.{lists_of, small_estate, small_reading}
+use Rattle.np_command.specs.Prints.{fault_in, text_in}
+use Rattle.np_command.specs.Sinks.{SinkTrace, TookWhole}
+use Rattle.np_command.specs.declared.fault.Fault.{Fault}
+use Rattle.np_command_flatten.proofs.RefusedLemmas.{tells-alike, tells-split}
+use Rattle.np_command_flatten.proofs.VerdictLemmas.{address-same, between-same}
+use Rattle.np_command_flatten.specs.Promise.{FlattensAll, RefusesFlatten}
+use Rattle.np_command_flatten.specs.Report.{flatten_reply, flatten_text, policies_unless}
+use Rattle.np_fold.specs.Workloads.{workload_count}
+use Rattle.np_fold.specs.declared.workloads.TheConstants.{MOST_WORKLOADS}
+use Rattle.np_manifests.proofs.EstateLemmas.{policies-once}
+use Rattle.np_manifests.proofs.FlatLemmas.{estate_of-flat, policies-apart, policies-printable}
+use Rattle.np_manifests.proofs.LawfulReads.{estate-lawful}
+use Rattle.np_manifests.proofs.ListLemmas.{json_of-list_line}
+use Rattle.np_manifests.specs.Estates.{estate_with}
+use Rattle.np_manifests.specs.Lists.{list_line}
+use Rattle.np_model.specs.Lawful.{IsLawful}
+use Rattle.np_model.specs.declared.lists.EstateLists.{EstateLists}
+use Rattle.np_model.specs.declared.network_policy.NetPolicy.{NetPolicy}
+use Rattle.np_reading.specs.Reading.{estate_of}
+use Rattle.np_reading.specs.Readings.{Reading}
+use Rattle.np_synth.proofs.FlatVerdicts.{addresses-same, pods-same}
+use Rattle.np_synth.specs.Faults.{fault_by, flat_fault, is_split, is_unlike}
+use Rattle.np_synth.specs.Flat.{flat_policies}
+use Rattle.np_synth.specs.Pairs.{first_pair}
+use Rattle.np_synth.specs.declared.fault.FlatFault.{FlatFault}
+use Rattle.np_synth.specs.declared.fault.FlatFault.TheVariants.{Alike, NoMemory, Split}
+use Rattle.np_table.specs.Table.{number_of_workloads}
+
+-- ---- what is said
+
+abbrev Reads : EstateLists → EstateLists → Type 0
+Reads found lists = ◌≡◌ {A = Reading EstateLists} (Ok found) (Ok lists)
+
+abbrev Kept : EstateLists → EstateLists → Type 0
+Kept found lists = ◌≡◌ {A = Result EstateLists Fault} (Ok found) (Ok lists)
+
+-- what is small enough was read
+read-small : (reads : Reading EstateLists) (lists : EstateLists) → small_reading reads ≡ Ok lists → reads ≡ Ok lists
+unfolding small_estate
+read-small (Err refusal) lists read = absurd (cc)
+read-small (Ok found) lists read = by (nat_le (workload_count found) MOST_WORKLOADS) refl read
+  where
+    by : (few : Bool) → nat_le (workload_count found) MOST_WORKLOADS ≡ few → small_reading (Ok found) ≡ Ok lists → Reads found lists
+    by true is read = let same : Kept found lists = rw is at read in cc
+    by false is read = absurd (let wrong = rw is at read in cc)
+
+memory-none : (split unlike : Option (ℕ × ℕ)) → fault_by split unlike ≡ Some NoMemory → ⊥
+memory-none (Some pair) unlike is = cc
+memory-none None (Some pair) is = cc
+memory-none None None is = cc
+
+fault-memory : (lists : EstateLists) → flat_fault lists ≡ Some NoMemory → ⊥
+unfolding flat_fault
+fault-memory lists is = memory-none (first_pair (is_split lists) (number_of_workloads lists)) (first_pair (is_unlike lists) (number_of_workloads lists)) is
+
+again : (lists : EstateLists) → estate_of (list_line (flat_policies lists) ∷ []) ≡ Ok (estate_with (flat_policies lists)) → estate_of (flatten_text lists ∷ []) ≡ Ok (estate_with (flat_policies lists))
+unfolding flatten_text
+again lists is = is
+
+says_policies : (out : SinkTrace) (texts : List (List ℕ)) (lists : EstateLists) (fault : Option FlatFault) → lists_of texts ≡ Ok lists → IsLawful lists
+    → flat_fault lists ≡ fault → fault_in (policies_unless lists fault) ≡ None → TookWhole out (text_in (policies_unless lists fault)) → FlattensAll out texts
+says_policies out texts lists (Some (Split source destination)) read lawful is none took = cc
+says_policies out texts lists (Some (Alike a b)) read lawful is none took = cc
+says_policies out texts lists (Some NoMemory) read lawful is none took = absurd (fault-memory lists is)
+says_policies out texts lists None read lawful is none took =
+    let reads : estate_of texts ≡ Ok lists = read-small (estate_of texts) lists read in
+    let flat : List NetPolicy = flat_policies lists in
+    let nets : List NetPolicy = (estate_with flat).net_policies in
+    let same : IsPermutation flat nets = policies-once flat (policies-apart lists lawful) in
+    record {
+      lists = lists;
+      read = read;
+      text = flatten_text lists;
+      policies = nets;
+      printed = took;
+      again = again lists (estate_of-flat texts lists (list_line flat) reads (json_of-list_line flat (policies-printable lists (estate-lawful texts lists reads))));
+      pods = λ p q family spot p_in q_in apart listed inside. between-same lists flat nets same p q family spot ∙ pods-same lists p q family spot lawful is p_in q_in apart listed inside;
+      addresses = λ p direction family number spot p_in in_family inside. address-same lists flat nets same direction _ family number spot
+          ∙ addresses-same lists p direction family number spot lawful is p_in in_family inside;
+    }
+
+-- a whole report of accepted inputs says what passes without any other policy
+pub promised : (out : SinkTrace) (texts : List (List ℕ)) (lists : EstateLists) → lists_of texts ≡ Ok lists → IsLawful lists
+    → fault_in (flatten_reply lists) ≡ None → TookWhole out (text_in (flatten_reply lists)) → FlattensAll out texts
+unfolding flatten_reply
+promised out texts lists read lawful no_fault took = says_policies out texts lists (flat_fault lists) read lawful refl no_fault took
+
+-- ---- what is refused
+
+refused-by : (lists : EstateLists) (found : Option FlatFault) (fault : Fault) → IsLawful lists → flat_fault lists ≡ found → fault_in (policies_unless lists found) ≡ Some fault →
+    RefusesFlatten lists fault
+refused-by lists None fault lawful is told = absurd (none-some fault told)
+refused-by lists (Some NoMemory) fault lawful is told = absurd (none-some fault told)
+refused-by lists (Some (Split a b)) fault lawful is told = subst (RefusesFlatten lists) (same_Some _ fault told) (tells-split lists a b lawful is)
+refused-by lists (Some (Alike a b)) fault lawful is told = subst (RefusesFlatten lists) (same_Some _ fault told) (tells-alike lists a b lawful is)
+
+-- a refusal names two workloads for which there are no flat policies, and they are the first
+pub refused : (lists : EstateLists) (fault : Fault) → IsLawful lists → fault_in (flatten_reply lists) ≡ Some fault → RefusesFlatten lists fault
+unfolding flatten_reply
+refused lists fault lawful told = refused-by lists (flat_fault lists) fault lawful refl told

@@ -1,0 +1,63 @@
+-- Verdicts by NetworkPolicies alone are the same in whatever order these stand.
+use Rattle.std.proofs.Common.{◌≡◌, ℕ, List, [], Bool, true, ◌&&◌, if◌then◌else◌, refl, sym, ap, ◌∙◌}
+use Rattle.std.specs.Prelude.{IsPermutation}
+use Rattle.std.specs.List.{list_any}
+use Rattle.std.proofs.lemmas.List.Sorted.{list_any-IsPermutation}
+use Rattle.np_addr.specs.declared.address.Family.{Family}
+use Rattle.np_command_flatten.specs.Promise.{with_policies}
+use Rattle.np_conns.specs.declared.port_spot.PortSpot.{PortSpot}
+use Rattle.np_model.specs.declared.direction.Direction.{Direction}
+use Rattle.np_model.specs.declared.direction.Direction.TheVariants.{Egress, Ingress}
+use Rattle.np_model.specs.declared.lists.EstateLists.{EstateLists}
+use Rattle.np_model.specs.declared.network_policy.NetPolicy.{NetPolicy}
+use Rattle.np_rules.specs.model.Ends.{Contact, End, Packet, PodEnd, address, contact_of, pod}
+use Rattle.np_rules.specs.model.NetTier.{is_isolated, isolates, permits, placed_net_matches}
+use Rattle.np_rules.specs.model.Places.{net_places_of}
+use Rattle.np_rules.specs.model.Selection.{net_selects}
+use Rattle.np_rules.specs.model.Sides.{side_allows}
+use Rattle.np_rules.specs.model.Verdict.{allows, end_allows, pod_at}
+use Rattle.np_synth.proofs.OnePolicy.{any-flat_map}
+use Rattle.np_table.specs.Table.{address_of, between_pods, with_address}
+
+-- whether some rule of a policy that selects the pod matches
+abbrev policy_permits : Direction → PodEnd → Contact → NetPolicy → Bool
+policy_permits direction p contact policy = list_any (placed_net_matches contact) (if net_selects policy p then net_places_of direction policy else [])
+
+permits-any : (policies : List NetPolicy) (direction : Direction) (p : PodEnd) (contact : Contact) → permits policies direction p contact ≡ list_any (policy_permits direction p contact) policies
+permits-any policies direction p contact = any-flat_map (placed_net_matches contact) (λ policy. if net_selects policy p then net_places_of direction policy else []) policies
+
+module _ (lists : EstateLists) (policies nets : List NetPolicy) (same : IsPermutation policies nets) where
+  isolated-same : (direction : Direction) (p : PodEnd) → is_isolated nets direction p ≡ is_isolated policies direction p
+  isolated-same direction p = sym (list_any-IsPermutation (isolates direction p) policies nets same)
+
+  permits-same : (direction : Direction) (p : PodEnd) (contact : Contact) → permits nets direction p contact ≡ permits policies direction p contact
+  permits-same direction p contact =
+      permits-any nets direction p contact
+      ∙ sym (list_any-IsPermutation (policy_permits direction p contact) policies nets same)
+      ∙ sym (permits-any policies direction p contact)
+
+  side-same : (direction : Direction) (p : PodEnd) (contact : Contact) →
+      side_allows (with_policies lists nets) direction p contact ≡ side_allows (with_policies lists policies) direction p contact
+  unfolding side_allows
+  side-same direction p contact =
+      ap (λ (isolated : Bool). if isolated then permits nets direction p contact else true) (isolated-same direction p)
+      ∙ ap (λ (permitted : Bool). if is_isolated policies direction p then permitted else true) (permits-same direction p contact)
+
+  end-same : (direction : Direction) (e : End) (contact : Contact) → end_allows (with_policies lists nets) direction e contact ≡ end_allows (with_policies lists policies) direction e contact
+  end-same direction (pod p) contact = side-same direction p contact
+  end-same direction (address a) contact = refl
+
+  packet-same : (packet : Packet) → allows (with_policies lists nets) packet ≡ allows (with_policies lists policies) packet
+  unfolding allows
+  packet-same packet =
+      ap (λ (sent : Bool). sent && end_allows (with_policies lists nets) Ingress packet.destination (contact_of Ingress packet)) (end-same Egress packet.source (contact_of Egress packet))
+      ∙ ap (λ (received : Bool). end_allows (with_policies lists policies) Egress packet.source (contact_of Egress packet) && received)
+      (end-same Ingress packet.destination (contact_of Ingress packet))
+
+  pub between-same : (p q : ℕ) (family : Family) (spot : PortSpot) → between_pods (with_policies lists nets) p q family spot ≡ between_pods (with_policies lists policies) p q family spot
+  between-same p q family spot = packet-same (record { source = pod (pod_at lists p); destination = pod (pod_at lists q); family = family; spot = spot })
+
+  pub address-same : (direction : Direction) (near : End) (family : Family) (number : ℕ) (spot : PortSpot) →
+      with_address (with_policies lists nets) direction near family number spot ≡ with_address (with_policies lists policies) direction near family number spot
+  address-same Ingress near family number spot = packet-same (record { source = address (address_of family number); destination = near; family = family; spot = spot })
+  address-same Egress near family number spot = packet-same (record { source = near; destination = address (address_of family number); family = family; spot = spot })
