@@ -2,6 +2,8 @@
 #![tactic(auto)]
 
 ghost use Rattle.std.specs.Prelude.{◌≡◌, ◌<◌, ℕ};
+ghost use Rattle.np_cli.specs.Bytes.{Bytes};
+ghost use Rattle.np_cli.specs.Counts.{Counted};
 ghost use Rattle.np_cli.specs.Promises.{Promises};
 ghost use Rattle.np_cli.specs.Runs.{ran};
 ghost use Rattle.np_command.specs.Sinks.{sunk};
@@ -59,8 +61,9 @@ fn run_counted<I: Inputs, O: Sink, E: Sink, L: Ledger>(
     ensures promises { let run = ran (asked_by words.now)
         (sourced I.holds I.left I.faults I.handed I.began inputs.old inputs.new)
         (sunk O.taken O.faults out.old out.new) in
+        let said = sunk E.taken E.faults err.old err.new in
         (status : SpecStatus) × (counted : ℕ) × (result ≡ code_of status)
-        × Promises run (sunk E.taken E.faults err.old err.new) 0 counted status }
+        × Promises run said status × Bytes run said status × Counted run 0 counted }
     ensures usage { result ≡ 2 → (inputs.new ≡ inputs.old) × (out.new ≡ out.old) }
 {
     let mut steps: Steps<L> = Steps::new(blank);

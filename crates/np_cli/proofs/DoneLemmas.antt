@@ -4,7 +4,8 @@ use Rattle.np_cli.proofs.PromisesLemmas.{one_job}
 use Rattle.np_cli.proofs.RunsLemmas.{output-fits}
 use Rattle.np_cli.specs.Answers.{IsLawfulIn, ending, ending_in, ending_of, objects_of, output, refusal, reply, reply_in, text_of}
 use Rattle.np_command.specs.Prints.{fault_in, text_in}
-use Rattle.np_cli.specs.Runs.{Cause, Run, KnowsBytes}
+use Rattle.np_cli.specs.Causes.{Cause}
+use Rattle.np_cli.specs.Runs.{Run, KnowsBytes}
 use Rattle.np_command.specs.Sinks.{SinkTrace, TookWhole}
 use Rattle.np_cli.specs.Statuses.{status_of}
 use Rattle.np_command.specs.declared.failure.Failure.{Failure}
@@ -34,7 +35,8 @@ written-read out job texts ends (Err fault) read lawful no_fault took ended = cc
 written-read out job texts ends (Ok lists) read lawful no_fault took ended =
     record { lists = lists; read = read; lawful = lawful; no_fault = no_fault; took = took; ended = ended }
 
-written-told : (run : Run) (ends : Ending) (job : Job) (texts : List (List ℕ)) → Cause run (Ok ends) → run.asked ≡ Some job → KnowsBytes run texts → IsWritten run.out job texts ends
+-- a run whose report was written whole wrote the reply of its job
+pub written-told : (run : Run) (ends : Ending) (job : Job) (texts : List (List ℕ)) → Cause run (Ok ends) → run.asked ≡ Some job → KnowsBytes run texts → IsWritten run.out job texts ends
 unfolding refusal text_of ending_of
 written-told run ends job texts cause is told =
     let same : cause.job ≡ job = one_job run.asked job cause.job is cause.asked in
@@ -58,15 +60,3 @@ done-told run answer (Err (Refused fault)) job texts cause answered is told done
 done-told run answer (Err (CannotRead name)) job texts cause answered is told done = cc
 done-told run answer (Err CannotWrite) job texts cause answered is told done = cc
 done-told run answer (Err NoMemory) job texts cause answered is told done = cc
-
--- and one that is violated ends so
-pub violated-told : (run : Run) (answer : Status) (outcome : Result Ending Failure) (job : Job) (texts : List (List ℕ)) → Cause run outcome → answer ≡ status_of outcome
-    → run.asked ≡ Some job → KnowsBytes run texts → answer ≡ status.Violated → IsWritten run.out job texts Violated
-violated-told run answer (Ok (Done notes)) job texts cause answered is told violated = cc
-violated-told run answer (Ok Violated) job texts cause answered is told violated = written-told run Violated job texts cause is told
-violated-told run answer (Err Usage) job texts cause answered is told violated = cc
-violated-told run answer (Err TooLarge) job texts cause answered is told violated = cc
-violated-told run answer (Err (Refused fault)) job texts cause answered is told violated = cc
-violated-told run answer (Err (CannotRead name)) job texts cause answered is told violated = cc
-violated-told run answer (Err CannotWrite) job texts cause answered is told violated = cc
-violated-told run answer (Err NoMemory) job texts cause answered is told violated = cc

@@ -1,70 +1,110 @@
 -- What reports say, from what was written of them.
-use Rattle.std.proofs.Common.{◌≡◌, Bool, true, false, Result, refl}
-use Rattle.np_args.specs.declared.job.Job.TheVariants.{Check as CheckJob, Explain as ExplainJob, Exposure as ExposureJob, Flatten as FlattenJob, List as ListJob, Unused as UnusedJob}
-use Rattle.np_cli.proofs.DoneLemmas.{done-told, violated-told}
-use Rattle.np_cli.specs.Answers.{ends_so, holds, reply}
-use Rattle.np_cli.specs.Promises.{SaysExposures, SaysFlatPolicies, SaysWhatDecides, SaysWhatHolds, SaysWhatIsUnused, SaysWhatPasses}
-use Rattle.np_cli.specs.Runs.{Cause, Run}
-use Rattle.np_cli.specs.Statuses.{status_of}
+use Rattle.std.proofs.Common.{◌≡◌, ℕ, List, Bool, true, false, Option, Some, None, Result, Ok, Err, refl, sym, subst, ◌∙◌}
+use Rattle.np_args.specs.declared.job.Job.{Job}
+use Rattle.np_args.specs.declared.job.Job.TheVariants.{Check, Evaluate, Explain, Exposure, Flatten, List as ListJob, Sample, Unused}
+use Rattle.np_cli.proofs.DoneLemmas.{written-told}
+use Rattle.np_cli.specs.Answers.{ending, ends_so, holds, objects_of, reply, report_notes}
+use Rattle.np_cli.specs.Causes.{Cause}
+use Rattle.np_cli.specs.Outcomes.{RefusesFor, Says}
+use Rattle.np_cli.specs.Promises.{SaysOfInputs}
+use Rattle.np_cli.specs.Runs.{Run}
+use Rattle.np_cli.specs.Statuses.{ending_status, status_of}
 use Rattle.np_cli.specs.declared.notes.ReportNotes.{ReportNotes}
 use Rattle.np_cli.specs.declared.outcome.Ending.{Ending}
 use Rattle.np_cli.specs.declared.outcome.Ending.TheVariants.{Done, Violated}
+use Rattle.np_command.specs.Prints.{fault_in, text_in}
+use Rattle.np_command.specs.Sinks.{SinkTrace, TookWhole}
+use Rattle.np_command.specs.Statuses.{failure_status}
 use Rattle.np_command.specs.declared.failure.Failure.{Failure}
+use Rattle.np_command.specs.declared.failure.Failure.TheVariants.{Usage, TooLarge, Refused, CannotRead, CannotWrite, NoMemory}
+use Rattle.np_command.specs.declared.fault.Fault.{Fault}
 use Rattle.np_command.specs.declared.status.Status.{Status}
-use Rattle.np_command_check.proofs.PromiseLemmas.{promised-broken, promised-held}
-use Rattle.np_command_explain.proofs.PromiseLemmas.{promised as explain_promised}
-use Rattle.np_command_exposure.proofs.PromiseLemmas.{promised as exposure_promised}
-use Rattle.np_command_flatten.proofs.FlattenLemmas.{promised as flatten_promised}
-use Rattle.np_command_list.proofs.PromiseLemmas.{promised as list_promised}
+use Rattle.np_command_check.proofs.PromiseLemmas.{promised-broken, promised-held, refused as check_refused}
+use Rattle.np_command_check.specs.Report.{all_hold, statement_bytes}
+use Rattle.np_command_evaluate.proofs.PromiseLemmas.{promised as evaluate_promised, refused as evaluate_refused}
+use Rattle.np_command_explain.proofs.PromiseLemmas.{promised as explain_promised, refused as explain_refused}
+use Rattle.np_command_exposure.proofs.PromiseLemmas.{promised as exposure_promised, refused as exposure_refused}
+use Rattle.np_command_flatten.proofs.PromiseLemmas.{promised as flatten_promised, refused as flatten_refused}
+use Rattle.np_command_list.proofs.PromiseLemmas.{promised as list_promised, refused as list_refused}
 use Rattle.np_command_unused.proofs.PromiseLemmas.{promised as unused_promised}
+use Rattle.np_model.specs.Lawful.{IsLawful}
+use Rattle.np_model.specs.declared.lists.EstateLists.{EstateLists}
 
-pub says_what_passes : (run : Run) (answer : Status) (outcome : Result Ending Failure) → Cause run outcome → answer ≡ status_of outcome → SaysWhatPasses run answer
-unfolding reply
-says_what_passes run answer outcome cause answered = λ format report controller focus side files texts is told done.
-    let told_by = (done-told run answer outcome (ListJob format report controller focus side files) texts cause answered is told done).1 in
-    list_promised run.out format report controller focus side texts told_by.lists told_by.read told_by.lawful told_by.no_fault told_by.took
+-- ---- what a report says
 
-pub says_what_decides : (run : Run) (answer : Status) (outcome : Result Ending Failure) → Cause run outcome → answer ≡ status_of outcome → SaysWhatDecides run answer
-unfolding reply
-says_what_decides run answer outcome cause answered = λ from to files texts is told done.
-    let told_by = (done-told run answer outcome (ExplainJob from to files) texts cause answered is told done).1 in
-    explain_promised run.out from to texts told_by.lists told_by.read told_by.lawful told_by.no_fault told_by.took
-
-pub says_exposures : (run : Run) (answer : Status) (outcome : Result Ending Failure) → Cause run outcome → answer ≡ status_of outcome → SaysExposures run answer
-unfolding reply
-says_exposures run answer outcome cause answered = λ workload format files texts is told done.
-    let told_by = (done-told run answer outcome (ExposureJob workload format files) texts cause answered is told done).1 in
-    exposure_promised run.out workload format texts told_by.lists told_by.read told_by.lawful told_by.no_fault told_by.took
-
-pub says_what_is_unused : (run : Run) (answer : Status) (outcome : Result Ending Failure) → Cause run outcome → answer ≡ status_of outcome → SaysWhatIsUnused run answer
-unfolding reply
-says_what_is_unused run answer outcome cause answered = λ files texts is told done.
-    let told_by = (done-told run answer outcome (UnusedJob files) texts cause answered is told done).1 in
-    unused_promised run.out texts told_by.lists told_by.read told_by.lawful told_by.took
-
-pub says_flat_policies : (run : Run) (answer : Status) (outcome : Result Ending Failure) → Cause run outcome → answer ≡ status_of outcome → SaysFlatPolicies run answer
-unfolding reply
-says_flat_policies run answer outcome cause answered = λ files texts is told done.
-    let told_by = (done-told run answer outcome (FlattenJob files) texts cause answered is told done).1 in
-    flatten_promised run.out texts told_by.lists told_by.read told_by.lawful told_by.no_fault told_by.took
-
--- how a report ends tells whether all holds
-done-held : (hold : Bool) (notes others : ReportNotes) → Done notes ≡ ends_so hold others → hold ≡ true
-done-held true notes others is = refl
-done-held false notes others is = cc
-
-violated-broken : (hold : Bool) (others : ReportNotes) → Violated ≡ ends_so hold others → hold ≡ false
-violated-broken true others is = cc
-violated-broken false others is = refl
-
-pub says_what_holds : (run : Run) (answer : Status) (outcome : Result Ending Failure) → Cause run outcome → answer ≡ status_of outcome → SaysWhatHolds run answer
+-- a whole report of accepted inputs says what its job is to say
+pub says-of : (out : SinkTrace) (job : Job) (texts : List (List ℕ)) (lists : EstateLists) → objects_of job texts ≡ Ok lists → IsLawful lists
+    → fault_in (reply job texts lists) ≡ None → TookWhole out (text_in (reply job texts lists)) → Says job (ending job texts lists) texts out
 unfolding reply holds
-says_what_holds run answer outcome cause answered = λ statement files texts is told. (
-  λ done.
-      let told_by = done-told run answer outcome (CheckJob statement files) texts cause answered is told done in
-      let written = told_by.1 in
-      promised-held run.out texts written.lists written.read written.lawful (done-held _ told_by.0 _ written.ended) written.no_fault written.took,
-  λ violated.
-      let written = violated-told run answer outcome (CheckJob statement files) texts cause answered is told violated in
-      promised-broken run.out texts written.lists written.read written.lawful (violated-broken _ _ written.ended) written.no_fault written.took,
-)
+says-of out (ListJob format report controller focus side files) texts lists read lawful none took =
+    list_promised out format report controller focus side texts lists read lawful none took
+says-of out (Explain from to files) texts lists read lawful none took = explain_promised out from to texts lists read lawful none took
+says-of out (Exposure workload format files) texts lists read lawful none took = exposure_promised out workload format texts lists read lawful none took
+says-of out (Evaluate from to proto port files) texts lists read lawful none took =
+    evaluate_promised out from to (record { proto = proto; port = port }) texts lists read lawful none took
+says-of out (Unused files) texts lists read lawful none took = unused_promised out texts lists read lawful took
+says-of out (Check statement files) texts lists read lawful none took = by (all_hold (statement_bytes texts) lists) refl
+  where
+    by : (hold : Bool) → all_hold (statement_bytes texts) lists ≡ hold → Says (Check statement files) (ends_so hold (report_notes (Check statement files) lists)) texts out
+    by true hold = promised-held out texts lists read lawful hold none took
+    by false hold = promised-broken out texts lists read lawful hold none took
+says-of out (Flatten files) texts lists read lawful none took = flatten_promised out texts lists read lawful none took
+says-of out (Sample n) texts lists read lawful none took = tt
+
+-- it says so whatever the notes are
+says-noted : (job : Job) (notes others : ReportNotes) (texts : List (List ℕ)) (out : SinkTrace) → Says job (Done notes) texts out → Says job (Done others) texts out
+says-noted (ListJob format report controller focus side files) notes others texts out says = says
+says-noted (Explain from to files) notes others texts out says = says
+says-noted (Exposure workload format files) notes others texts out says = says
+says-noted (Evaluate from to proto port files) notes others texts out says = says
+says-noted (Unused files) notes others texts out says = says
+says-noted (Check statement files) notes others texts out says = says
+says-noted (Flatten files) notes others texts out says = says
+says-noted (Sample n) notes others texts out says = says
+
+-- so it says what is to be said with its status
+says-ended : (job : Job) (ends wanted : Ending) (texts : List (List ℕ)) (out : SinkTrace) → ending_status ends ≡ ending_status wanted → Says job ends texts out → Says job wanted texts out
+says-ended job (Done notes) (Done others) texts out same says = says-noted job notes others texts out says
+says-ended job Violated Violated texts out same says = says
+says-ended job (Done notes) Violated texts out same says = cc
+says-ended job Violated (Done others) texts out same says = cc
+
+-- no failure has the status of a whole report
+failed-apart : (failure : Failure) (ends : Ending) → failure_status failure ≡ ending_status ends → ⊥
+failed-apart Usage (Done notes) same = cc
+failed-apart TooLarge (Done notes) same = cc
+failed-apart (Refused fault) (Done notes) same = cc
+failed-apart (CannotRead name) (Done notes) same = cc
+failed-apart CannotWrite (Done notes) same = cc
+failed-apart NoMemory (Done notes) same = cc
+failed-apart Usage Violated same = cc
+failed-apart TooLarge Violated same = cc
+failed-apart (Refused fault) Violated same = cc
+failed-apart (CannotRead name) Violated same = cc
+failed-apart CannotWrite Violated same = cc
+failed-apart NoMemory Violated same = cc
+
+pub says_of_inputs : (run : Run) (answer : Status) (outcome : Result Ending Failure) → Cause run outcome → answer ≡ status_of outcome → SaysOfInputs run answer
+says_of_inputs run answer (Ok ends) cause answered = λ job texts wanted is told done.
+    let written = written-told run ends job texts cause is told in
+    says-ended job ends wanted texts run.out (sym answered ∙ done)
+    (subst (λ (one : Ending). Says job one texts run.out) (sym written.ended)
+    (says-of run.out job texts written.lists written.read written.lawful written.no_fault written.took))
+says_of_inputs run answer (Err failure) cause answered = λ job texts wanted is told done. absurd (failed-apart failure wanted (sym answered ∙ done))
+
+-- ---- why there is none
+
+no_fault_is : (fault : Fault) → ◌≡◌ {A = Option Fault} None (Some fault) → ⊥
+no_fault_is fault is = cc
+
+-- a job that finds a fault of an estate may refuse it for that
+pub refuses-for : (job : Job) (texts : List (List ℕ)) (lists : EstateLists) (fault : Fault) → IsLawful lists → fault_in (reply job texts lists) ≡ Some fault → RefusesFor job texts lists fault
+unfolding reply
+refuses-for (ListJob format report controller focus side files) texts lists fault lawful found = list_refused format report controller focus side lists fault lawful found
+refuses-for (Explain from to files) texts lists fault lawful found = explain_refused from to lists fault lawful found
+refuses-for (Exposure workload format files) texts lists fault lawful found = exposure_refused workload format lists fault lawful found
+refuses-for (Evaluate from to proto port files) texts lists fault lawful found = evaluate_refused from to (record { proto = proto; port = port }) lists fault lawful found
+refuses-for (Unused files) texts lists fault lawful found = absurd (no_fault_is fault found)
+refuses-for (Check statement files) texts lists fault lawful found = check_refused (statement_bytes texts) lists fault lawful found
+refuses-for (Flatten files) texts lists fault lawful found = flatten_refused lists fault lawful found
+refuses-for (Sample n) texts lists fault lawful found = absurd (no_fault_is fault found)

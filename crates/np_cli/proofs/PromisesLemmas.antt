@@ -8,8 +8,10 @@ use Rattle.np_io.specs.Counts.{Rose}
 use Rattle.np_io.specs.Taken.{TookLess}
 use Rattle.np_cli.specs.Answers.{ending_of, output, refusal}
 use Rattle.np_cli.specs.Messages.{message}
-use Rattle.np_cli.specs.Promises.{IsStill, AcknowledgesReport, Completes, RefusesTooLarge, RefusesMore, RefusesFaults, BlamesDevice, BlamesWords}
-use Rattle.np_cli.specs.Runs.{Run, Cause}
+use Rattle.np_cli.specs.Bytes.{AcknowledgesReport, Completes, RefusesFaults}
+use Rattle.np_cli.specs.Causes.{Cause}
+use Rattle.np_cli.specs.Promises.{IsStill, RefusesTooLarge, RefusesMore, BlamesDevice, BlamesWords}
+use Rattle.np_cli.specs.Runs.{Run}
 use Rattle.np_command.specs.Messages.{NamesSomething}
 use Rattle.np_command.specs.Sinks.{SinkTrace, Said}
 use Rattle.np_cli.specs.Sources.{FailedAt, SourceTrace}

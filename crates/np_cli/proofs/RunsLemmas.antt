@@ -9,7 +9,8 @@ use Rattle.np_command.specs.Prints.{fault_in, text_in}
 use Rattle.np_cli.specs.Failures.{source_failure}
 use Rattle.np_command.specs.Failures.{words_failure}
 use Rattle.np_cli.specs.Prints.{Answers}
-use Rattle.np_cli.specs.Runs.{AskedNothing, Cause, IsAccepted, IsReported, Run, ran}
+use Rattle.np_cli.specs.Causes.{Cause, IsAccepted, IsReported}
+use Rattle.np_cli.specs.Runs.{AskedNothing, Run, ran}
 use Rattle.np_command.specs.Sinks.{SinkTrace, IsKept, TookWhole}
 use Rattle.np_cli.specs.Sources.{AreTold, BeganFront, FailedAt, IsUntouched, OverLimit, ReadOnce, SourceTrace, Unread, is_too_large, total_size}
 use Rattle.np_cli.specs.declared.sources.TheConstants.{SIZE_LIMIT}

@@ -5,8 +5,9 @@ use Rattle.np_cli.proofs.DoneLemmas.{done-told}
 use Rattle.np_cli.proofs.PromisesLemmas.{no_fault, one_job}
 use Rattle.np_cli.specs.Answers.{IsCountable, objects_of, refusal, reply}
 use Rattle.np_command.specs.Inputs.{lists_of}
-use Rattle.np_cli.specs.Promises.{SaysCounts}
-use Rattle.np_cli.specs.Runs.{Cause, Run, KnowsBytes}
+use Rattle.np_cli.specs.Bytes.{SaysCounts}
+use Rattle.np_cli.specs.Causes.{Cause}
+use Rattle.np_cli.specs.Runs.{Run, KnowsBytes}
 use Rattle.np_command_sample.specs.Promise.{CountsAll}
 use Rattle.np_cli.specs.Sources.{AreTold}
 use Rattle.np_cli.specs.Statuses.{status_of}

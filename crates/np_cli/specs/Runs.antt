@@ -1,18 +1,8 @@
--- What one call of the top call may do, and why.
-use Rattle.std.specs.Prelude.{◌≡◌, ℕ, List, false, Option, Some, None, is_some, true, Result, Ok, Err}
-use Rattle.np_io.specs.Counts.{Rose}
-use Rattle.np_io.specs.Taken.{TookFront, TookLess}
-use Rattle.np_cli.specs.Answers.{IsLawfulIn, ending_of, objects_of, output, refusal}
-use Rattle.np_cli.specs.Messages.{message}
-use Rattle.np_command.specs.Sinks.{SinkTrace, IsKept, TookWhole, Said}
-use Rattle.np_cli.specs.Sources.{SourceTrace, AreTold, BeganFront, FailedAt, IsUntouched, OverLimit, ReadOnce, is_too_large}
-use Rattle.np_cli.specs.Statuses.{status_of}
-use Rattle.np_cli.specs.Words.{names_asked, names_of}
-use Rattle.np_command.specs.declared.failure.Failure.{Failure}
-use Rattle.np_command.specs.declared.failure.Failure.TheVariants.{Usage, CannotRead, TooLarge, Refused, CannotWrite, NoMemory}
-use Rattle.np_command.specs.declared.fault.Fault.{Fault}
-use Rattle.np_cli.specs.declared.outcome.Ending.{Ending}
-use Rattle.np_command.specs.declared.status.Status.{Status}
+-- A run of the top call, and what holds of runs that end before their inputs are read.
+use Rattle.std.specs.Prelude.{◌≡◌, ℕ, List, Option, None, is_some, true}
+use Rattle.np_cli.specs.Sources.{SourceTrace, AreTold, FailedAt, IsUntouched, OverLimit}
+use Rattle.np_cli.specs.Words.{names_asked}
+use Rattle.np_command.specs.Sinks.{SinkTrace, IsKept}
 use Rattle.np_args.specs.declared.job.Job.{Job}
 
 -- a run: what the words ask for, and what it did to the source and to the sink of the report
@@ -28,28 +18,6 @@ ran asked source out = record { asked = asked; source = source; out = out }
 abbrev pub KnowsBytes : Run → List (List ℕ) → Type 0
 KnowsBytes run texts = AreTold run.source.holds run.source.left (names_asked run.asked) texts
 
--- the inputs are not too large, and have no fault
-pub record IsAccepted (job : Job) (texts : List (List ℕ)) : Type 0 where
-  pub fits : is_too_large texts ≡ false
-  pub no_fault : refusal job texts ≡ None
-
--- ---- how a run ends, and why
-
--- On these bytes, the sink of the report took the whole text, and the report ends so.
-pub record IsReported (run : Run) (job : Job) (ends : Ending) (texts : List (List ℕ)) : Type 0 where
-  pub accepted : IsAccepted job texts
-  pub took : TookWhole run.out (output run.asked texts)
-  pub ended : ends ≡ ending_of job texts
-  pub lawful : IsLawfulIn (objects_of job texts)
-
--- All inputs were read, and the report was written.
-pub record Reported (run : Run) (ends : Ending) : Type 0 where
-  pub job : Job
-  pub asked : run.asked ≡ Some job
-  pub read : ReadOnce run.source (names_of job)
-  pub unfailed : run.out.faults_after ≡ run.out.faults_before
-  pub told : (texts : List (List ℕ)) → KnowsBytes run texts → IsReported run job ends texts
-
 -- The words ask for nothing, and nothing was touched.
 pub record AskedNothing (run : Run) : Type 0 where
   pub asked : run.asked ≡ None
@@ -62,48 +30,7 @@ pub record ReadTooMuch (run : Run) : Type 0 where
   pub over : OverLimit run.source (names_asked run.asked)
   pub kept : IsKept run.out
 
--- All inputs were read, and have this fault first.
-pub record RefusedFor (run : Run) (fault : Fault) : Type 0 where
-  pub job : Job
-  pub asked : run.asked ≡ Some job
-  pub read : ReadOnce run.source (names_of job)
-  pub kept : IsKept run.out
-  pub fits : (texts : List (List ℕ)) → KnowsBytes run texts → is_too_large texts ≡ false
-  pub found : (texts : List (List ℕ)) → KnowsBytes run texts → refusal job texts ≡ Some fault
-
 -- A call for the input of this name failed.
 pub record StoppedReading (run : Run) (name : List ℕ) : Type 0 where
   pub at : FailedAt run.source (names_asked run.asked) name
   pub kept : IsKept run.out
-
--- All inputs were read and accepted, and a call on the sink of the report failed.
-pub record StoppedWriting (run : Run) : Type 0 where
-  pub job : Job
-  pub asked : run.asked ≡ Some job
-  pub read : ReadOnce run.source (names_of job)
-  pub rose : Rose run.out.faults_before run.out.faults_after
-  pub accepted : (texts : List (List ℕ)) → KnowsBytes run texts → IsAccepted job texts
-  pub front : (texts : List (List ℕ)) → KnowsBytes run texts → TookFront run.out.before run.out.after (output run.asked texts)
-
--- Memory was refused, at any time before the sink had the whole text. No field says that it was: this holds of every run that
--- began the first of its inputs in their order, and of whose text the sink took less than all.
-pub record LackedMemory (run : Run) : Type 0 where
-  pub began : BeganFront run.source (names_asked run.asked)
-  pub less : (texts : List (List ℕ)) → KnowsBytes run texts → TookLess run.out.before run.out.after (output run.asked texts)
-
--- Why a run may end so.
-abbrev pub Cause : Run → Result Ending Failure → Type 0
-Cause run (Ok ends) = Reported run ends
-Cause run (Err Usage) = AskedNothing run
-Cause run (Err TooLarge) = ReadTooMuch run
-Cause run (Err (Refused fault)) = RefusedFor run fault
-Cause run (Err (CannotRead name)) = StoppedReading run name
-Cause run (Err CannotWrite) = StoppedWriting run
-Cause run (Err NoMemory) = LackedMemory run
-
--- Some outcome has its cause, was said on the error sink, and gives the status.
-pub record Ends (run : Run) (err : SinkTrace) (status : Status) : Type 0 where
-  pub outcome : Result Ending Failure
-  pub cause : Cause run outcome
-  pub said : Said err (message outcome)
-  pub answered : status ≡ status_of outcome

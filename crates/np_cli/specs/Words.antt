@@ -22,6 +22,11 @@ names_asked (Some job) = names_of job
 
 -- ---- by the bytes of all of them
 
+-- the bytes of the inputs that hold the objects: of `check` those behind the statement file
+abbrev pub inputs_of : Job → List (List ℕ) → List (List ℕ)
+inputs_of (Check statement files) texts = drop 1 texts
+inputs_of job texts = texts
+
 -- The bytes that hold the objects: of `check` those behind the statement file, and of `sample`, which reads none, those
 -- of the sample itself.
 abbrev pub object_texts : Job → List (List ℕ) → List (List ℕ)

@@ -12,11 +12,11 @@ use np_args::Job;
 use np_base::{NoMemory, Seq};
 use np_command::Failure;
 use np_command_check::check_file;
-use np_command_evaluate::evaluate;
+use np_command_evaluate::{PacketWords, evaluate};
 use np_command_explain::explain;
 use np_command_exposure::exposure_of;
 use np_command_flatten::flatten_in;
-use np_command_list::{list, listing_of};
+use np_command_list::{Presentation, list, listing_of};
 use np_command_sample::count_rows;
 use np_command_unused::unused;
 use np_conns::PortSpot;
@@ -65,7 +65,11 @@ pub(crate) fn reply<O: Sink, L: Ledger>(
             ..
         } => {
             let asked = listing_of(folded, controller, focus, *side)?;
-            list(alloc, folded, asked, *format, *report, out, steps)?;
+            let told = Presentation {
+                format: *format,
+                report: *report,
+            };
+            list(alloc, folded, asked, told, out, steps)?;
         }
         Job::Explain { from, to, .. } => explain(alloc, folded, from, to, out, steps)?,
         Job::Exposure {
@@ -84,7 +88,7 @@ pub(crate) fn reply<O: Sink, L: Ledger>(
                 proto: *proto,
                 port: *port,
             };
-            evaluate(alloc, folded, from, to, spot, out, steps)?;
+            evaluate(alloc, folded, &PacketWords { from, to, spot }, out, steps)?;
         }
         Job::Unused { .. } => unused(alloc, folded, out, steps)?,
         Job::Check { .. } => return check_file(alloc, statement_of(texts), folded, out, steps),

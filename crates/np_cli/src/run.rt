@@ -1,11 +1,13 @@
 //! The top call: from the words of a command line and the bytes of its inputs to a report and a status.
 ghost use Rattle.std.specs.Prelude.{◌≡◌, ◌≤◌, ◌⊎◌, Err, IsErrAnd, Some, map};
 ghost use Rattle.np_cli.specs.Answers.{objects_of};
+ghost use Rattle.np_cli.specs.Bytes.{Bytes};
+ghost use Rattle.np_cli.specs.Causes.{Cause};
 ghost use Rattle.np_cli.specs.Counts.{Counted, RoseAtMost, steps_in};
 ghost use Rattle.np_cli.specs.Messages as messages;
 ghost use Rattle.np_cli.specs.Prints.{Answers};
 ghost use Rattle.np_cli.specs.Promises.{Promises};
-ghost use Rattle.np_cli.specs.Runs.{Cause, ran};
+ghost use Rattle.np_cli.specs.Runs.{ran};
 ghost use Rattle.np_command.specs.Messages.{NamesSomething, failure_text};
 ghost use Rattle.np_command.specs.Sinks.{Said, sunk};
 ghost use Rattle.np_cli.specs.Sources.{sourced};
@@ -43,7 +45,20 @@ pub fn np_main<I: Inputs, O: Sink, E: Sink, L: Ledger>(
     ensures promises { let run = ran (asked_by words.now)
         (sourced I.holds I.left I.faults I.handed I.began inputs.old inputs.new)
         (sunk O.taken O.faults out.old out.new) in
-        Promises run (sunk E.taken E.faults err.old err.new) steps.old steps.new result }
+        Promises run (sunk E.taken E.faults err.old err.new) result }
+
+    // Which bytes these are, for who writes a second program.
+    ensures bytes { let run = ran (asked_by words.now)
+        (sourced I.holds I.left I.faults I.handed I.began inputs.old inputs.new)
+        (sunk O.taken O.faults out.old out.new) in
+        Bytes run (sunk E.taken E.faults err.old err.new) result }
+
+    // How many rules were looked at: for a table at most four times as many for each pair of workloads, and six times for each
+    // workload, as speak of one of them in a direction.
+    ensures costs { let run = ran (asked_by words.now)
+        (sourced I.holds I.left I.faults I.handed I.began inputs.old inputs.new)
+        (sunk O.taken O.faults out.old out.new) in
+        Counted run steps.old steps.new }
 
     // Where the words ask for nothing, neither the inputs nor the sink of the report are touched.
     ensures usage { result ≡ Status.Usage → (inputs.new ≡ inputs.old) × (out.new ≡ out.old) }
