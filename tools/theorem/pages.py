@@ -7,7 +7,8 @@ from theorem import code, kit, project, specs
 
 WIDTH = 120
 
-# The parts, each with the files at its top, of which the definitions stand in it that the contract reaches.
+# The parts of the promises, each with the files at its top, of which the definitions stand in it that the promises reach. The last one
+# has what else these and the head of the contract reach.
 PARTS = [
     ("What the words ask for", ["np_args/specs/CommandLines.antt"]),
     ("What sources and sinks tell",
@@ -15,12 +16,16 @@ PARTS = [
     ("What `list` says: the headline", ["np_command_list/specs/Promise.antt"]),
     ("What `explain` says", ["np_command_explain/specs/Promise.antt"]),
     ("What `exposure` says", ["np_command_exposure/specs/Promise.antt"]),
-    ("What `evaluate` says", ["np_command_evaluate/specs/Report.antt"]),
+    ("What `evaluate` says", ["np_command_evaluate/specs/Promise.antt"]),
     ("What `unused` says", ["np_command_unused/specs/Promise.antt"]),
     ("What `check` says", ["np_command_check/specs/Promise.antt"]),
     ("What `flatten` says", ["np_command_flatten/specs/Promise.antt"]),
-    ("What `sample` says", ["np_command_sample/specs/Promise.antt"]),
-    ("What is promised of every run", ["np_cli/src/run.rt"]),
+    ("What is promised of every run", []),
+]
+# Behind them a part for each other clause: its title, and the file and the name of what the clause says.
+CLAUSES = [
+    ("Which bytes", "np_cli/specs/Bytes.antt", "Bytes"),
+    ("What it costs", "np_cli/specs/Counts.antt", "Counted"),
 ]
 PROMISES = "np_cli/specs/Promises.antt"
 # Stands where the contents are to stand.
@@ -35,7 +40,10 @@ class Document:
         self.project = project.Project()
         self.main = code.function_item(self.project.file("np_cli", "src/run.rt"), "np_main")
         self.all = self.project.reached([self.main])
-        self.promises = [item for item in self.all if item.home.title() == PROMISES]
+        self.clauses = [next(item for item in self.all if (item.home.title(), item.name) == (path, name)) for _, path, name in CLAUSES]
+        self.promised = self.project.reached([item for item in self.main.needs if item not in self.clauses])
+        self.promises = [item for item in self.promised if item.home.title() == PROMISES]
+        self.titles = [title for title, *_ in [*PARTS, *CLAUSES]]
         self.parts = self.in_parts()
         for trait in [item for item in self.all if item.kind == "trait"]:
             trait.lines += [line for item in self.all if item.kind == "model" for line in code.ghosts_of_impl(trait, item)]
@@ -47,9 +55,9 @@ class Document:
 
     def in_parts(self):
         """The items of each part, in order."""
+        tops = [[item for item in self.promised if item.home.title() in files] for _, files in PARTS[:-1]]
         done, parts = {*self.promises, self.main}, []
-        for _, tops in PARTS:
-            roots = [item for item in self.all if item.home.title() in tops]
+        for roots in [*tops, self.promised, *([clause] for clause in self.clauses)]:
             new = [item for item in self.project.reached(roots) if item not in done]
             parts.append(project.in_order(new))
             done.update(new)
@@ -79,10 +87,13 @@ class Document:
                 len(types), sum(item.code_lines() for item in types), comments)
 
     def table(self):
-        """How much there is to read, part by part."""
-        rows = [("The contract and its promises", self.counts([self.main, *self.promises]))]
-        rows += [(f"{number}. {title}", self.counts(part)) for number, ((title, _), part) in enumerate(zip(PARTS, self.parts), 1)]
-        rows.append(("All of it", tuple(map(sum, zip(*(numbers for _, numbers in rows))))))
+        """How much there is to read, part by part: for the promises, and in all."""
+        def together(rows):
+            return tuple(map(sum, zip(*(numbers for _, numbers in rows))))
+        parts = [(f"{number}. {title}", self.counts(part)) for number, (title, part) in enumerate(zip(self.titles, self.parts), 1)]
+        promised = [("The contract and its promises", self.counts([self.main, *self.promises])), *parts[:len(PARTS)]]
+        rows = [*promised, ("All that is promised", together(promised)), *parts[len(PARTS):]]
+        rows.append(("All of it", together([*promised, *parts[len(PARTS):]])))
         lines = [f"{'':<36}{'definitions':>12}{'lines':>7}{'types of code':>15}{'lines':>7}{'comments':>10}"]
         return lines + [f"{title:<36}{a:>12}{b:>7}{c:>15}{d:>7}{e:>10}" for title, (a, b, c, d, e) in rows]
 
@@ -196,14 +207,15 @@ class Document:
         lines += ["", title_line("THE CONTRACT"), "", f"━━━ {self.main.home.title()}", "", *self.main.comment, *self.main.lines, ""]
         lines += ["How the program calls it:", "", f"━━━ {main.home.title()}", "", *main.lines, ""]
         lines += [*counted.comment, *counted.lines, ""]
-        lines += ["", title_line("THE PROMISES"), "", "The words of these stand below:", *self.where_defined(), ""]
+        lines += ["", title_line("THE PROMISES"), "",
+                  "This is what the clause `promises` says. The words of the contract and of these stand below:", *self.where_defined(), ""]
         lines += [*self.shelf_lines(project.in_order(self.promises)), ""]
         lines += [f"({self.size_of([self.main, *self.promises])}.)", ""]
         return lines
 
     def lines(self):
         lines = self.front()
-        for number, ((title, _), part) in enumerate(zip(PARTS, self.parts), 1):
+        for number, (title, part) in enumerate(zip(self.titles, self.parts), 1):
             lines += ["", title_line(f"PART {number}. {title}"), *self.part_lines(part), "", f"(Part {number}: {self.size_of(part)}.)", ""]
         names = {name for item in self.all for name in item.kit}
         lines += ["", title_line("APPENDIX. Names of the kit"), "",
