@@ -4,7 +4,7 @@ use crate::asked::{Question, expect_answers};
 use np_addr::Family;
 use np_base::{NoMemory, Seq, Text};
 use np_conns::print_conns;
-use np_explain::{explain, print_decider};
+use np_explain::{Flow, explain, print_decider};
 use np_fold::Folded;
 use np_model::Direction;
 use np_rules::{Decider, End, PolicyNames};
@@ -27,8 +27,12 @@ pub fn explained_text<L: Ledger>(
     if source as usize >= count || destination as usize >= count || source == destination {
         return Ok(String::from_str(alloc, "no two pods")?);
     }
-    let (from, to) = (End::Pod(source), End::Pod(destination));
-    let parts = explain(alloc, estate, from, to, direction, Family::Four, steps)?;
+    let flow = Flow {
+        source: End::Pod(source),
+        destination: End::Pod(destination),
+        family: Family::Four,
+    };
+    let parts = explain(alloc, estate, &flow, direction, steps)?;
     let mut text = String::new(alloc);
     for part in parts.items() {
         let conns = print_conns(alloc, &part.conns)?;

@@ -1,9 +1,6 @@
 //! What passes between pods and the ranges of addresses that policies tell apart.
 
-use crate::script::expect_script;
-use std::test::Fail;
-
-static SCRIPT: &str = r#"# a block of which a part is left out
+pub static SCRIPT: &str = r#"# a block of which a part is left out
 < {"apiVersion":"v1","items":[
 < {"apiVersion":"v1","kind":"Pod","metadata":{"name":"a","namespace":"default"},"spec":{}},
 < {"apiVersion":"networking.k8s.io/v1","kind":"NetworkPolicy","metadata":{"name":"p"},"spec":{"podSelector":{},"ingress":[{"from":[{"ipBlock":{"cidr":"10.0.0.0/8","except":["10.1.0.0/16"]}}]}]}}
@@ -110,9 +107,3 @@ static SCRIPT: &str = r#"# a block of which a part is left out
 > default/b[Pod] => 0.0.0.0-255.255.255.255 : No Connections
 > default/b[Pod] => ::-ffff:ffff:ffff:ffff:ffff:ffff:ffff:ffff : All Connections
 ! note: pods without an address, matched by no networks peer: 1"#;
-
-#[test]
-fn ranges_of_addresses(rt: HostRuntime) -> Result<(), Fail> {
-    expect_script(&rt, rt.alloc(), SCRIPT, None)?;
-    Ok(())
-}

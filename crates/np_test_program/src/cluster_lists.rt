@@ -1,9 +1,6 @@
 //! Lists of several kinds of objects, and their tables.
 
-use crate::script::expect_script;
-use std::test::Fail;
-
-static SCRIPT: &str = r#"# a template stands for a pod
+pub static SCRIPT: &str = r#"# a template stands for a pod
 < {"apiVersion":"v1","items":[
 < {"apiVersion":"apps/v1","kind":"Deployment","metadata":{"name":"web"},"spec":{"replicas":2,"template":{"metadata":{"labels":{"app":"web"}},"spec":{}}}},
 < {"apiVersion":"v1","kind":"Pod","metadata":{"name":"c"},"spec":{}}
@@ -90,9 +87,3 @@ static SCRIPT: &str = r#"# a template stands for a pod
 > ::-ffff:ffff:ffff:ffff:ffff:ffff:ffff:ffff => y/b[Pod] : All Connections
 > y/b[Pod] => 0.0.0.0-255.255.255.255 : All Connections
 > y/b[Pod] => ::-ffff:ffff:ffff:ffff:ffff:ffff:ffff:ffff : All Connections"#;
-
-#[test]
-fn cluster_lists(rt: HostRuntime) -> Result<(), Fail> {
-    expect_script(&rt, rt.alloc(), SCRIPT, None)?;
-    Ok(())
-}

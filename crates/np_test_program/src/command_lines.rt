@@ -1,9 +1,6 @@
 //! Words that ask for nothing. No input is there, so that one that was begun would be told.
 
-use crate::script::expect_script;
-use std::test::Fail;
-
-static SCRIPT: &str = r#"# no command
+pub static SCRIPT: &str = r#"# no command
 2
 2 lst
 2 lists
@@ -155,9 +152,3 @@ static SCRIPT: &str = r#"# no command
 !        np check --statement FILE [FILE]...
 !        np flatten [FILE]...
 !        np sample N"#;
-
-#[test]
-fn command_lines(rt: HostRuntime) -> Result<(), Fail> {
-    expect_script(&rt, rt.alloc(), SCRIPT, None)?;
-    Ok(())
-}

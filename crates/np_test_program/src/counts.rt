@@ -1,9 +1,6 @@
 //! How many rows the table of a sample cluster has. No input is there, so that one that was begun would be told.
 
-use crate::script::expect_script;
-use std::test::Fail;
-
-static SCRIPT: &str = r#"# a pod alone, whose addresses are cut at one block
+pub static SCRIPT: &str = r#"# a pod alone, whose addresses are cut at one block
 0 sample 1
 > workloads 1
 > pair rows 0
@@ -45,9 +42,3 @@ static SCRIPT: &str = r#"# a pod alone, whose addresses are cut at one block
 > pair rows 171600
 > address rows 6000
 > ingress rows 0"#;
-
-#[test]
-fn counts(rt: HostRuntime) -> Result<(), Fail> {
-    expect_script(&rt, rt.alloc(), SCRIPT, None)?;
-    Ok(())
-}

@@ -1,9 +1,6 @@
 //! Verdicts of single packets.
 
-use crate::script::expect_script;
-use std::test::Fail;
-
-static SCRIPT: &str = r#"# from a pod to a pod
+pub static SCRIPT: &str = r#"# from a pod to a pod
 < {"apiVersion":"v1","items":[
 < {"apiVersion":"v1","kind":"Pod","metadata":{"name":"a","namespace":"default","labels":{"app":"a"}},"spec":{"containers":[{"ports":[]}]}},
 < {"apiVersion":"v1","kind":"Pod","metadata":{"name":"b","namespace":"default","labels":{"app":"b"}},"spec":{"containers":[{"ports":[]}]}},
@@ -182,9 +179,3 @@ static SCRIPT: &str = r#"# from a pod to a pod
 < []
 1 evaluate --from default/a --to default/a --protocol TCP --port 80
 ! error: input 1: NotAList"#;
-
-#[test]
-fn evaluations(rt: HostRuntime) -> Result<(), Fail> {
-    expect_script(&rt, rt.alloc(), SCRIPT, None)?;
-    Ok(())
-}

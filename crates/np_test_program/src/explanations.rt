@@ -1,9 +1,6 @@
 //! What decides between two ends.
 
-use crate::script::expect_script;
-use std::test::Fail;
-
-static SCRIPT: &str = r#"# a rule, and isolation
+pub static SCRIPT: &str = r#"# a rule, and isolation
 < {"apiVersion":"v1","items":[
 < {"apiVersion":"v1","kind":"Pod","metadata":{"name":"a","namespace":"default","labels":{"app":"a"}},"spec":{"containers":[{"ports":[]}]}},
 < {"apiVersion":"v1","kind":"Pod","metadata":{"name":"b","namespace":"default","labels":{"app":"b"}},"spec":{"containers":[{"ports":[]}]}},
@@ -174,9 +171,3 @@ static SCRIPT: &str = r#"# a rule, and isolation
 > ingress of default/db[StatefulSet]
 > All Connections : Allow by NetworkPolicy default/p ingress[0]
 > default/db[StatefulSet] => default/db[StatefulSet] : All Connections"#;
-
-#[test]
-fn explanations(rt: HostRuntime) -> Result<(), Fail> {
-    expect_script(&rt, rt.alloc(), SCRIPT, None)?;
-    Ok(())
-}

@@ -1,9 +1,6 @@
 //! What pods that nobody has written yet could send to workloads, and be sent by them.
 
-use crate::script::expect_script;
-use std::test::Fail;
-
-static SCRIPT: &str = r#"# pods of another namespace, and of the policy's own
+pub static SCRIPT: &str = r#"# pods of another namespace, and of the policy's own
 < {"apiVersion":"v1","items":[
 < {"apiVersion":"v1","kind":"Pod","metadata":{"name":"web","namespace":"shop"},"spec":{"containers":[{"ports":[]}]}},
 < {"apiVersion":"networking.k8s.io/v1","kind":"NetworkPolicy","metadata":{"name":"p","namespace":"shop"},"spec":{"podSelector":{},"ingress":[{"from":[{"namespaceSelector":{"matchLabels":{"kubernetes.io/metadata.name":"monitoring"}},"podSelector":{"matchLabels":{"app":"prom"}}}],"ports":[{"port":9090}]},{"from":[{"podSelector":{}}]}]}}
@@ -125,9 +122,3 @@ static SCRIPT: &str = r#"# pods of another namespace, and of the policy's own
 > {namespace team In (x)} => default/a[Pod] : TCP 8080
 > {any pod} => default/a[Pod] : No Connections
 > default/a[Pod] => {any pod} : No Connections"#;
-
-#[test]
-fn exposures(rt: HostRuntime) -> Result<(), Fail> {
-    expect_script(&rt, rt.alloc(), SCRIPT, None)?;
-    Ok(())
-}

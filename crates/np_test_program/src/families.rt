@@ -1,9 +1,6 @@
 //! Pods with addresses of both families, which a policy on IPv6 alone tells apart.
 
-use crate::script::expect_script;
-use std::test::Fail;
-
-static SCRIPT: &str = r#"# a port that is closed in one family
+pub static SCRIPT: &str = r#"# a port that is closed in one family
 < {"apiVersion":"v1","items":[
 < {"apiVersion":"v1","kind":"Pod","metadata":{"name":"a","namespace":"default"},"spec":{},"status":{"podIP":"10.0.0.1","podIPs":[{"ip":"10.0.0.1"},{"ip":"fd00::1"}]}},
 < {"apiVersion":"v1","kind":"Pod","metadata":{"name":"b","namespace":"default"},"spec":{},"status":{"podIP":"10.0.0.2","podIPs":[{"ip":"10.0.0.2"},{"ip":"fd00::2"}]}},
@@ -120,9 +117,3 @@ static SCRIPT: &str = r#"# a port that is closed in one family
 > default/web[ReplicaSet]#2 => ::/1,8000::/2,c000::/3,e000::/4,f000::/5,f800::/6,fc00::/8 : All Connections
 > default/web[ReplicaSet]#2 => fd00::/16 : No Connections
 > default/web[ReplicaSet]#2 => fd01::/16,fd02::/15,fd04::/14,fd08::/13,fd10::/12,fd20::/11,fd40::/10,fd80::/9,fe00::/7 : All Connections"#;
-
-#[test]
-fn families(rt: HostRuntime) -> Result<(), Fail> {
-    expect_script(&rt, rt.alloc(), SCRIPT, None)?;
-    Ok(())
-}

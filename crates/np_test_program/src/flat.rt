@@ -1,7 +1,6 @@
 //! The policies of one tier that give the same verdicts.
 
 use crate::runs::{LARGE_PIECE, Ran, run, sink};
-use crate::script::expect_script;
 use np_base::NoMemory;
 use np_cli::Status;
 use np_io::{MemInputs, MemSink};
@@ -9,7 +8,7 @@ use std::alloc::Global;
 use std::process::Abort;
 use std::test::Fail;
 
-static SCRIPT: &str = r#"# nothing is listed, and no pod is
+pub static SCRIPT: &str = r#"# nothing is listed, and no pod is
 < {"apiVersion":"v1","items":[],"kind":"List"}
 0 flatten
 0 flatten -
@@ -210,12 +209,6 @@ static SCRIPT: &str = r#"# nothing is listed, and no pod is
 # an input that is not there
 3 flatten - gone
 ! error: cannot read gone"#;
-
-#[test]
-fn flat_policies(rt: HostRuntime) -> Result<(), Fail> {
-    expect_script(&rt, rt.alloc(), SCRIPT, None)?;
-    Ok(())
-}
 
 // More bytes than a table of one of the clusters below has.
 const TABLE_ROOM: usize = 65536;

@@ -1,9 +1,6 @@
 //! Tables in which the rows of one workload alone stand.
 
-use crate::script::expect_script;
-use std::test::Fail;
-
-static SCRIPT: &str = r#"# CSV to a workload
+pub static SCRIPT: &str = r#"# CSV to a workload
 < {"apiVersion":"v1","items":[
 < {"apiVersion":"v1","kind":"Pod","metadata":{"name":"a","namespace":"default","labels":{"app":"a"}},"spec":{"containers":[{"ports":[]}]}},
 < {"apiVersion":"v1","kind":"Pod","metadata":{"name":"b","namespace":"default","labels":{"app":"b"}},"spec":{"containers":[{"ports":[]}]}},
@@ -168,9 +165,3 @@ static SCRIPT: &str = r#"# CSV to a workload
 < []
 1 list --focus x
 ! error: input 1: NotAList"#;
-
-#[test]
-fn focus(rt: HostRuntime) -> Result<(), Fail> {
-    expect_script(&rt, rt.alloc(), SCRIPT, None)?;
-    Ok(())
-}

@@ -1,9 +1,6 @@
 //! Pods of one owner as workloads: one where no rule tells them apart, else one for each class.
 
-use crate::script::expect_script;
-use std::test::Fail;
-
-static SCRIPT: &str =
+pub static SCRIPT: &str =
     r#"# pods of a Deployment, as kubectl prints them: one workload, which has a row with itself
 < {"apiVersion":"v1","items":[
 < {"apiVersion":"apps/v1","kind":"Deployment","metadata":{"annotations":{"deployment.kubernetes.io/revision":"2","note":"two words, and a \"quote\"!"},"creationTimestamp":"2024-05-01T10:00:00Z","generation":2,"labels":{"app":"web"},"managedFields":[{"apiVersion":"apps/v1","fieldsType":"FieldsV1","fieldsV1":{"f:metadata":{"f:labels":{".":{}}}},"manager":"kubectl-client-side-apply","operation":"Update","time":"2024-05-01T10:00:00Z"}],"name":"web","namespace":"default","resourceVersion":"1234","uid":"3b1f6f0e-0001"},"spec":{"progressDeadlineSeconds":600,"replicas":3,"revisionHistoryLimit":10,"selector":{"matchLabels":{"app":"web"}},"strategy":{"rollingUpdate":{"maxSurge":"25%","maxUnavailable":"25%"},"type":"RollingUpdate"},"template":{"metadata":{"creationTimestamp":null,"labels":{"app":"web"}},"spec":{"containers":[{"image":"nginx:1.25","imagePullPolicy":"IfNotPresent","name":"web","resources":{}}],"dnsPolicy":"ClusterFirst","restartPolicy":"Always","terminationGracePeriodSeconds":30}}},"status":{"availableReplicas":3,"conditions":[{"lastUpdateTime":"2024-05-01T10:00:05Z","status":"True","type":"Available"}],"observedGeneration":2,"readyReplicas":3,"replicas":3}},
@@ -154,9 +151,3 @@ static SCRIPT: &str =
 > ::-ffff:ffff:ffff:ffff:ffff:ffff:ffff:ffff => default/web[ReplicaSet]#2 : All Connections
 > default/web[ReplicaSet]#2 => 0.0.0.0-255.255.255.255 : All Connections
 > default/web[ReplicaSet]#2 => ::-ffff:ffff:ffff:ffff:ffff:ffff:ffff:ffff : All Connections"#;
-
-#[test]
-fn folds(rt: HostRuntime) -> Result<(), Fail> {
-    expect_script(&rt, rt.alloc(), SCRIPT, None)?;
-    Ok(())
-}

@@ -1,9 +1,6 @@
 //! Tables as CSV and JSON.
 
-use crate::script::expect_script;
-use std::test::Fail;
-
-static SCRIPT: &str = r#"# a whole table
+pub static SCRIPT: &str = r#"# a whole table
 < {"apiVersion":"v1","items":[
 < {"apiVersion":"v1","kind":"Pod","metadata":{"name":"a","namespace":"default","labels":{"app":"a"}},"spec":{"containers":[{"ports":[]}]}},
 < {"apiVersion":"v1","kind":"Pod","metadata":{"name":"b","namespace":"default","labels":{"app":"b"}},"spec":{"containers":[{"ports":[]}]}},
@@ -76,9 +73,3 @@ static SCRIPT: &str = r#"# a whole table
 > {"connections":"No Connections","destination":"default/a[Pod]","source":"::/0"},
 > {"connections":"All Connections","destination":"0.0.0.0/0","source":"default/a[Pod]"},
 > {"connections":"All Connections","destination":"::/0","source":"default/a[Pod]"}]"#;
-
-#[test]
-fn formats(rt: HostRuntime) -> Result<(), Fail> {
-    expect_script(&rt, rt.alloc(), SCRIPT, None)?;
-    Ok(())
-}

@@ -1,9 +1,6 @@
 //! Large lists that are accepted, and their tables.
 
-use crate::script::expect_script;
-use std::test::Fail;
-
-static SCRIPT: &str =
+pub static SCRIPT: &str =
     r#"# a pod of the first of 2,000 ReplicaSets, each owned by the next: its workload has the name of the last
 < {"apiVersion":"v1","kind":"List","items":[{"apiVersion":"v1","kind":"Pod","metadata":{"name":"p","ownerReferences":[{"kind":"ReplicaSet","name":"r0","controller":true}]},"spec":{}},
 <1999 {"apiVersion":"apps/v1","kind":"ReplicaSet","metadata":{"name":"r#","ownerReferences":[{"kind":"ReplicaSet","name":"r%n","controller":true}]},"spec":{"template":{"spec":{}}}},
@@ -61,9 +58,3 @@ static SCRIPT: &str =
 > ::/0 => default/a[Pod] : No Connections
 > default/a[Pod] => 0.0.0.0/0 : All Connections
 > default/a[Pod] => ::/0 : All Connections"#;
-
-#[test]
-fn large_lists(rt: HostRuntime) -> Result<(), Fail> {
-    expect_script(&rt, rt.alloc(), SCRIPT, None)?;
-    Ok(())
-}

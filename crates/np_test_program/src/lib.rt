@@ -55,6 +55,8 @@ mod sample;
 #[cfg(test)]
 mod script;
 #[cfg(test)]
+mod scripts;
+#[cfg(test)]
 mod statements;
 #[cfg(test)]
 mod tables;

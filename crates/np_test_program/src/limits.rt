@@ -1,7 +1,6 @@
 //! The greatest inputs that are read, and one more.
 
 use crate::runs::{LARGE_PIECE, Wanted, expect_over};
-use crate::script::expect_script;
 use np_cli::Status;
 use np_io::MemInputs;
 use std::test::Fail;
@@ -9,7 +8,7 @@ use std::test::Fail;
 // How many bytes all inputs may have together.
 const SIZE_LIMIT: usize = 33_554_432;
 
-static SCRIPT: &str = r#"# the most items
+pub static SCRIPT: &str = r#"# the most items
 < {"apiVersion":"v1","kind":"List","items":[
 <19999 {"apiVersion":"v1","kind":"ConfigMap"},
 < {"apiVersion":"v1","kind":"ConfigMap"}]}
@@ -65,12 +64,6 @@ static SCRIPT: &str = r#"# the most items
 < }]}
 1 list
 ! error: input 1: NotJson"#;
-
-#[test]
-fn limits(rt: HostRuntime) -> Result<(), Fail> {
-    expect_script(&rt, rt.alloc(), SCRIPT, None)?;
-    Ok(())
-}
 
 // Inputs of so many spaces, which are no JSON text.
 struct Spaces {

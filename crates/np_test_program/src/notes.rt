@@ -1,9 +1,6 @@
 //! Lists that list nothing, in each format, and what is said of objects that are left out.
 
-use crate::script::expect_script;
-use std::test::Fail;
-
-static SCRIPT: &str = r#"# no items
+pub static SCRIPT: &str = r#"# no items
 < {"apiVersion":"v1","items":[],"kind":"List"}
 * list
 
@@ -76,9 +73,3 @@ static SCRIPT: &str = r#"# no items
 * list --format json
 > []
 ! note: host network pods left out: 1"#;
-
-#[test]
-fn notes(rt: HostRuntime) -> Result<(), Fail> {
-    expect_script(&rt, rt.alloc(), SCRIPT, None)?;
-    Ok(())
-}

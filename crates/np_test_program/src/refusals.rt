@@ -1,9 +1,6 @@
 //! Lists that are refused, for one of their items or for what several of them say together.
 
-use crate::script::expect_script;
-use std::test::Fail;
-
-static SCRIPT: &str = r#"# another protocol
+pub static SCRIPT: &str = r#"# another protocol
 < {"apiVersion":"v1","items":[
 < {"apiVersion":"v1","kind":"Pod","metadata":{"name":"a","namespace":"default","labels":{"app":"a"}},"spec":{"containers":[{"ports":[]}]}},
 < {"apiVersion":"v1","kind":"Pod","metadata":{"name":"b","namespace":"default","labels":{"app":"b"}},"spec":{"containers":[{"ports":[]}]}},
@@ -231,9 +228,3 @@ static SCRIPT: &str = r#"# another protocol
 < ],"kind":"List"}
 1 list
 ! error: OwnerCycle default/x[ReplicaSet]"#;
-
-#[test]
-fn refusals(rt: HostRuntime) -> Result<(), Fail> {
-    expect_script(&rt, rt.alloc(), SCRIPT, None)?;
-    Ok(())
-}

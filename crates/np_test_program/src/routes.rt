@@ -1,9 +1,6 @@
 //! What comes through Ingresses: rows from their controller, and notes on backends that lead nowhere.
 
-use crate::script::expect_script;
-use std::test::Fail;
-
-static SCRIPT: &str = r#"# a named port of one pod of two
+pub static SCRIPT: &str = r#"# a named port of one pod of two
 < {"apiVersion":"v1","items":[
 < {"apiVersion":"v1","kind":"Pod","metadata":{"name":"x","namespace":"default","labels":{"app":"web"}},"spec":{"containers":[{"ports":[{"name":"http","containerPort":8080,"protocol":"TCP"}]}]}},
 < {"apiVersion":"v1","kind":"Pod","metadata":{"name":"y","namespace":"default","labels":{"app":"web"}},"spec":{"containers":[{"ports":[]}]}},
@@ -301,9 +298,3 @@ static SCRIPT: &str = r#"# a named port of one pod of two
 > ::-ffff:ffff:ffff:ffff:ffff:ffff:ffff:ffff => default/b[Pod] : No Connections
 > default/b[Pod] => 0.0.0.0-255.255.255.255 : All Connections
 > default/b[Pod] => ::-ffff:ffff:ffff:ffff:ffff:ffff:ffff:ffff : All Connections"#;
-
-#[test]
-fn routes(rt: HostRuntime) -> Result<(), Fail> {
-    expect_script(&rt, rt.alloc(), SCRIPT, None)?;
-    Ok(())
-}

@@ -1,9 +1,6 @@
 //! Whether all statements of a file hold.
 
-use crate::script::expect_script;
-use std::test::Fail;
-
-static SCRIPT: &str = r#"# two statements that hold, and one that fails at its last port
+pub static SCRIPT: &str = r#"# two statements that hold, and one that fails at its last port
 < {"apiVersion":"v1","items":[
 < {"apiVersion":"v1","kind":"Pod","metadata":{"name":"a","namespace":"default","labels":{"app":"a"}},"spec":{}},
 < {"apiVersion":"v1","kind":"Pod","metadata":{"name":"b","namespace":"default","labels":{"app":"b"}},"spec":{}},
@@ -350,9 +347,3 @@ static SCRIPT: &str = r#"# two statements that hold, and one that fails at its l
 = allow any address => namespace default : TCP 1
 0 check --statement statements
 > holds: 3"#;
-
-#[test]
-fn statements(rt: HostRuntime) -> Result<(), Fail> {
-    expect_script(&rt, rt.alloc(), SCRIPT, None)?;
-    Ok(())
-}

@@ -1,10 +1,7 @@
 //! Small lists that are accepted, and their tables. In none of them has a workload a row with itself, since each is one
 //! pod.
 
-use crate::script::expect_script;
-use std::test::Fail;
-
-static SCRIPT: &str = r#"# a policy on one of two pods
+pub static SCRIPT: &str = r#"# a policy on one of two pods
 < {"apiVersion":"v1","items":[
 < {"apiVersion":"v1","kind":"Pod","metadata":{"name":"a","namespace":"default","labels":{"app":"a"}},"spec":{"containers":[{"ports":[]}]}},
 < {"apiVersion":"v1","kind":"Pod","metadata":{"name":"b","namespace":"default","labels":{"app":"b"}},"spec":{"containers":[{"ports":[]}]}},
@@ -181,9 +178,3 @@ static SCRIPT: &str = r#"# a policy on one of two pods
 < ],"kind":"List"}
 * list
 ! note: objects of other kinds skipped: 2"#;
-
-#[test]
-fn example_np_main(rt: HostRuntime) -> Result<(), Fail> {
-    expect_script(&rt, rt.alloc(), SCRIPT, None)?;
-    Ok(())
-}

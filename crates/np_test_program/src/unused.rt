@@ -1,9 +1,6 @@
 //! The rules that decide nothing.
 
-use crate::script::expect_script;
-use std::test::Fail;
-
-static SCRIPT: &str = r#"# an admin rule behind one that takes all that it matches
+pub static SCRIPT: &str = r#"# an admin rule behind one that takes all that it matches
 < {"apiVersion":"v1","items":[
 < {"apiVersion":"v1","kind":"Pod","metadata":{"name":"a","namespace":"x"},"spec":{}},
 < {"apiVersion":"v1","kind":"Pod","metadata":{"name":"b","namespace":"y"},"spec":{}},
@@ -220,9 +217,3 @@ static SCRIPT: &str = r#"# an admin rule behind one that takes all that it match
 # an input that is not there
 3 unused gone
 ! error: cannot read gone"#;
-
-#[test]
-fn unused_rules(rt: HostRuntime) -> Result<(), Fail> {
-    expect_script(&rt, rt.alloc(), SCRIPT, None)?;
-    Ok(())
-}

@@ -1,32 +1,26 @@
-//! Verdicts by example: estates written out as values, and `allows` and the layers of np_rules on them, against answers
-//! that were written by hand. It holds tests alone.
+//! Verdicts by example: lists that are read, and `allows` and the layers of np_rules on their estates, against answers that were
+//! written by hand. It holds tests alone.
 #![tactic(auto)]
 
 #[cfg(test)]
-mod address_layers;
+mod addresses;
 #[cfg(test)]
-mod admin_cases;
+mod admin_policies;
 #[cfg(test)]
-mod built;
+mod ends;
 #[cfg(test)]
-mod clusters;
+mod net_policies;
 #[cfg(test)]
-mod layer_places;
+mod passing;
 #[cfg(test)]
-mod net_cases;
+mod peers;
 #[cfg(test)]
-mod packets;
+mod ports;
 #[cfg(test)]
-mod peer_cases;
+mod rule_ids;
 #[cfg(test)]
-mod port_cases;
-#[cfg(test)]
-mod side_layers;
-#[cfg(test)]
-mod sides;
+mod script;
 #[cfg(test)]
 mod strangers;
 #[cfg(test)]
 mod verdicts;
-#[cfg(test)]
-mod written;

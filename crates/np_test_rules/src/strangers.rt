@@ -1,38 +1,111 @@
 //! The layer of a pod with one that nobody has written yet, against `allows` in an estate that has such a pod, with no
 //! ports and no addresses.
-ghost use Rattle.std.specs.Prelude.{◌≡◌, ◌<◌, length, IfOk};
+ghost use Rattle.std.specs.Prelude.{◌<◌, length, IfOk};
 ghost use Rattle.np_rules.specs.StrangerRules.{ArePermitted};
 
-use crate::built::{estate, labels, name_label};
-use crate::clusters::SHOWN_TO_MONITORING;
-use crate::packets::{agrees_with, place_named};
-use crate::written::{
-    BARE, NOTHING, Pairs, WrittenEstate, WrittenNamedPort, WrittenPod, WrittenPolicy, WrittenPort,
-    WrittenRule,
-};
+use crate::ends::{Side, end_named, side_named};
+use crate::passing::put_agreed;
+use crate::script::wrong_rows;
 use np_addr::Family;
-use np_base::{Cells, NoMemory};
-use np_conns::{ConnSet, Proto, read_conns};
+use np_base::{Cells, NoMemory, Seq, Text};
+use np_conns::{ConnSet, print_conns};
+use np_labels::{Labels, Pair};
 use np_model::{Direction, Estate};
-use np_rules::{PodRules, Stranger, StrangerRules, joined_set};
+use np_rules::{End, PodRules, Stranger, StrangerRules, joined_set};
 use np_steps::Steps;
 use np_tiers::verdict_set;
 use std::alloc::Global;
-use std::marker::Brand;
-use std::process::Abort;
-use std::sync::ledger::{Blank, Ledger};
+use std::fmt::Write;
+use std::sync::ledger::Ledger;
 use std::test::Fail;
 
-const ALL: &str = "All Connections";
+// The labels of a text, as `app=a tier=web`.
+fn labels_of(alloc: Global, text: &str) -> Result<Labels, NoMemory> {
+    let mut pairs = Seq::new(alloc);
+    for label in text.split_whitespace() {
+        let (key, value) = label.split_once("=").unwrap_or((label, ""));
+        pairs.push(pair(alloc, key, value)?)?;
+    }
+    Labels::of(alloc, pairs)
+}
 
-const NONE: &str = "No Connections";
+fn pair(alloc: Global, key: &str, value: &str) -> Result<Pair, NoMemory> {
+    let key = Text::of(alloc, key)?;
+    let value = Text::of(alloc, value)?;
+    Ok(Pair { key, value })
+}
 
-// A pod that nobody has written yet, of a namespace and with labels.
-fn stranger(alloc: Global, namespace: &str, written: Pairs) -> Result<Stranger, Fail> {
-    Ok(Stranger {
-        namespace: name_label(alloc, namespace)?,
-        labels: labels(alloc, written)?,
-    })
+// The pod of a namespace and with labels, as `default app=a`.
+fn stranger_of(alloc: Global, text: &str) -> Result<Stranger, NoMemory> {
+    let (namespace, labels) = text.split_once(" ").unwrap_or((text, ""));
+    let name = format!(in alloc; "kubernetes.io/metadata.name={namespace}")?;
+    let namespace = labels_of(alloc, name.as_str())?;
+    let labels = labels_of(alloc, labels)?;
+    Ok(Stranger { namespace, labels })
+}
+
+/// Writes what a side of a pod lets pass with a stranger, where `allows` allows the same packets with one of the list that is such.
+pub fn put_stranger<L: Ledger>(
+    alloc: Global,
+    told: &mut String,
+    estate: &Estate,
+    text: &str,
+    steps: &mut Steps<L>,
+) -> Result<(), NoMemory> {
+    let (side, stranger) = text.split_once(" with ").unwrap_or((text, ""));
+    let (stranger, alike) = stranger.split_once(" as ").unwrap_or((stranger, ""));
+    let Some((pod, direction)) = side_named(estate, side) else {
+        return Ok(told.push_str("no such side")?);
+    };
+    let Some(far) = end_named(estate, alike) else {
+        return Ok(told.push_str("no such pod")?);
+    };
+    let side = Side {
+        direction,
+        near: End::Pod(pod),
+        far,
+        family: Family::Four,
+    };
+    let stranger = stranger_of(alloc, stranger)?;
+    let set = set_with(alloc, estate, pod, direction, &stranger, steps)?;
+    let kept = kept_set(alloc, estate, pod, direction, &stranger, steps)?;
+    if !kept.same(&set) {
+        told.push_str("by the rules that are kept something other than ")?;
+    }
+    put_agreed(alloc, told, estate, &side, &set, steps)
+}
+
+// What the layer of a side of a pod allows with a stranger.
+fn set_with<L: Ledger>(
+    alloc: Global,
+    estate: &Estate,
+    pod: u32,
+    direction: Direction,
+    stranger: &Stranger,
+    steps: &mut Steps<L>,
+) -> Result<ConnSet, NoMemory>
+    requires { pod < length estate.now.pods }
+{
+    let rules = PodRules::of(alloc, estate, pod, direction)?;
+    let layer = rules.stranger_layer(alloc, stranger, steps)?;
+    verdict_set(alloc, &layer)
+}
+
+// What that of the rules that are kept for strangers allows.
+fn kept_set<L: Ledger>(
+    alloc: Global,
+    estate: &Estate,
+    pod: u32,
+    direction: Direction,
+    stranger: &Stranger,
+    steps: &mut Steps<L>,
+) -> Result<ConnSet, NoMemory>
+    requires { pod < length estate.now.pods }
+{
+    let rules = StrangerRules::of(alloc, estate, pod, direction)?;
+    let net = permitted(alloc, &rules, stranger)?;
+    let layer = rules.layer(alloc, stranger, net, steps)?;
+    verdict_set(alloc, &layer)
 }
 
 // What the NetworkPolicies permit the stranger, by the rules that are kept for strangers.
@@ -52,238 +125,65 @@ fn permitted(
     joined_set(alloc, &sets)
 }
 
-// What the layer of the pod at a place allows with the stranger, and what the layer of the rules that are kept for
-// strangers does.
-fn stranger_sets<L: Ledger>(
+/// Writes for each rule that is kept for strangers whether it reaches one, and its connections.
+pub fn put_reached(
     alloc: Global,
+    told: &mut String,
     estate: &Estate,
-    pod: u32,
-    direction: Direction,
-    stranger: &Stranger,
-    blank: Blank,
-) -> Result<(ConnSet, ConnSet), Fail>
-    requires pod { pod < length estate.now.pods }
-    requires name { blank.name ≡ L.name }
-    requires parts { blank.parts ≡ L.parts }
-    requires some { 0 < blank.parts }
-{
-    let mut steps: Steps<L> = Steps::new(blank);
-    let layer = PodRules::of(alloc, estate, pod, direction)?.stranger_layer(
-        alloc, stranger, &mut steps,
-    )?;
+    text: &str,
+) -> Result<(), NoMemory> {
+    let (side, stranger) = text.split_once(" with ").unwrap_or((text, ""));
+    let Some((pod, direction)) = side_named(estate, side) else {
+        return Ok(told.push_str("no such side")?);
+    };
     let rules = StrangerRules::of(alloc, estate, pod, direction)?;
-    let net = permitted(alloc, &rules, stranger)?;
-    let kept = rules.layer(alloc, stranger, net, &mut steps)?;
-    Ok((verdict_set(alloc, &layer)?, verdict_set(alloc, &kept)?))
-}
-
-// The same of the pod of this name.
-fn sets_of(
-    alloc: Global,
-    estate: &Estate,
-    pod: &str,
-    direction: Direction,
-    stranger: &Stranger,
-) -> Result<(ConnSet, ConnSet), Fail> {
-    match place_named(estate, pod) {
-        Some(place) => stranger_sets::<Brand>(
-            alloc,
-            estate,
-            place,
-            direction,
-            stranger,
-            Blank::new(1),
-        ),
-        None => Err("no such pod")?,
-    }
-}
-
-// A stranger by its namespace and labels, a pod of the estate that is such, and what is allowed between it and the
-// pod that is asked for.
-type Likeness = (&'static str, Pairs, &'static str, &'static str);
-
-// Stops the test unless the layer of the pod allows the connections of each row with its stranger, and `allows` the
-// packets of them with the pod that is such.
-fn expect_likeness(
-    rt: &impl Abort,
-    alloc: Global,
-    written: &WrittenEstate,
-    pod: &str,
-    direction: Direction,
-    rows: &[Likeness],
-) -> Result<(), Fail> {
-    let estate = estate(alloc, written)?;
-    expect_rows(rt, alloc, &estate, pod, direction, rows)
-}
-
-// The same of an estate that stands.
-fn expect_rows(
-    rt: &impl Abort,
-    alloc: Global,
-    estate: &Estate,
-    pod: &str,
-    direction: Direction,
-    rows: &[Likeness],
-) -> Result<(), Fail> {
-    for row in rows {
-        let alike = is_alike(alloc, estate, pod, direction, row)?;
-        assert!(rt; alike, "{row:?}");
+    let stranger = stranger_of(alloc, stranger)?;
+    let namespace = rules.namespace();
+    told.push_str(namespace)?;
+    for rule in rules.net() {
+        let reaches = rule.reaches(namespace, &stranger);
+        let conns = print_conns(alloc, &rule.conns)?;
+        write!(told, ", {reaches} {conns}")?;
     }
     Ok(())
 }
 
-// The same of a row.
-fn is_alike(
-    alloc: Global,
-    estate: &Estate,
-    pod: &str,
-    direction: Direction,
-    row: &Likeness,
-) -> Result<bool, Fail> {
-    let (namespace, labels, alike, conns) = *row;
-    let stranger = stranger(alloc, namespace, labels)?;
-    let (set, kept) = sets_of(alloc, estate, pod, direction, &stranger)?;
-    let (source, destination) = match direction {
-        Direction::Ingress => (alike, pod),
-        Direction::Egress => (pod, alike),
-    };
-    let packets = agrees_with(estate, source, destination, Family::Four, &set);
-    let expected = read_conns(alloc, conns)?;
-    Ok(packets && set.same(&expected) && kept.same(&expected))
-}
+static SCRIPT: &str =
+    r#"# A port of `shop/web` is open to the pods `prom` of `monitoring`, and all ports to the pods of its own namespace. The policy
+# selects `shop/bare` too, but not in egress, so that what leaves it is free, as it is of a stranger.
+< {"apiVersion":"v1","kind":"Pod","metadata":{"namespace":"shop","name":"web"},"spec":{}},
+< {"apiVersion":"v1","kind":"Pod","metadata":{"namespace":"shop","name":"bare"},"spec":{}},
+< {"apiVersion":"v1","kind":"Pod","metadata":{"namespace":"monitoring","name":"prom","labels":{"app":"prom"}},"spec":{}},
+< {"apiVersion":"v1","kind":"Pod","metadata":{"namespace":"monitoring","name":"bare"},"spec":{}},
+< {"apiVersion":"v1","kind":"Pod","metadata":{"name":"prom","labels":{"app":"prom"}},"spec":{}},
+< {"apiVersion":"v1","kind":"Pod","metadata":{"name":"bare"},"spec":{}},
+< {"apiVersion":"networking.k8s.io/v1","kind":"NetworkPolicy","metadata":{"namespace":"shop","name":"p"},"spec":{"podSelector":{},
+< "ingress":[{"from":[{"namespaceSelector":{"matchLabels":{"kubernetes.io/metadata.name":"monitoring"}},
+< "podSelector":{"matchLabels":{"app":"prom"}}}],"ports":[{"port":9090}]},{"from":[{"podSelector":{}}]}]}}
+stranger shop/web Ingress with monitoring app=prom as monitoring/prom : TCP 9090
+stranger shop/web Ingress with monitoring as monitoring/bare : No Connections
+stranger shop/web Ingress with shop as shop/bare : All Connections
+stranger shop/web Ingress with default app=prom as default/prom : No Connections
+stranger shop/web Ingress with default as default/bare : No Connections
+stranger shop/web Egress with monitoring app=prom as monitoring/prom : All Connections
+stranger shop/web Egress with default as default/bare : All Connections
+reached shop/web Ingress with monitoring app=prom : shop, true TCP 9090, false All Connections
+reached shop/web Ingress with monitoring : shop, false TCP 9090, false All Connections
+reached shop/web Ingress with shop : shop, false TCP 9090, true All Connections
+reached shop/web Ingress with default app=prom : shop, false TCP 9090, false All Connections
 
-// The policy selects `shop/bare` too, but not in egress, so that what leaves it is free, as it is of a stranger.
-#[test]
-fn strangers_are_known_by_their_labels(rt: HostRuntime) -> Result<(), Fail> {
-    static ROWS: &[Likeness] = &[
-        (
-            "monitoring",
-            &[("app", "prom")],
-            "monitoring/prom",
-            "TCP 9090",
-        ),
-        ("monitoring", &[], "monitoring/bare", NONE),
-        ("shop", &[], "shop/bare", ALL),
-        ("default", &[("app", "prom")], "default/prom", NONE),
-        ("default", &[], "default/bare", NONE),
-    ];
-    static MORE_ROWS: &[Likeness] = &[
-        ("monitoring", &[("app", "prom")], "monitoring/prom", ALL),
-        ("default", &[], "default/bare", ALL),
-    ];
-    expect_likeness(
-        &rt,
-        rt.alloc(),
-        &SHOWN_TO_MONITORING,
-        "shop/web",
-        Direction::Ingress,
-        ROWS,
-    )?;
-    expect_likeness(
-        &rt,
-        rt.alloc(),
-        &SHOWN_TO_MONITORING,
-        "shop/web",
-        Direction::Egress,
-        MORE_ROWS,
-    )
-}
-
-// `asker`, whose egress is to a named port and to port 53, and a pod without ports.
-static ASKS_FOR_A_NAME: WrittenEstate = WrittenEstate {
-    pods: &[
-        WrittenPod {
-            name: "asker",
-            labels: &[("app", "asker")],
-            ports: &[WrittenNamedPort {
-                name: "http",
-                proto: Proto::Tcp,
-                number: 80,
-            }],
-            ..BARE
-        },
-        WrittenPod {
-            name: "plain",
-            ..BARE
-        },
-    ],
-    policies: &[WrittenPolicy {
-        namespace: "default",
-        name: "p",
-        subject: &[("app", "asker")],
-        ingress: Some(&[WrittenRule {
-            peers: &[],
-            ports: &[WrittenPort::Named(Proto::Tcp, "http")],
-        }]),
-        egress: Some(&[WrittenRule {
-            peers: &[],
-            ports: &[
-                WrittenPort::Named(Proto::Tcp, "http"),
-                WrittenPort::Span(Proto::Udp, 53, 53),
-            ],
-        }]),
-    }],
-    ..NOTHING
-};
+# strangers have no named ports, but `asker` has
+< {"apiVersion":"v1","kind":"Pod","metadata":{"name":"asker","labels":{"app":"asker"}},
+< "spec":{"containers":[{"ports":[{"name":"http","containerPort":80}]}]}},
+< {"apiVersion":"v1","kind":"Pod","metadata":{"name":"plain"},"spec":{}},
+< {"apiVersion":"networking.k8s.io/v1","kind":"NetworkPolicy","metadata":{"name":"p"},"spec":{
+< "podSelector":{"matchLabels":{"app":"asker"}},"ingress":[{"ports":[{"port":"http"}]}],
+< "egress":[{"ports":[{"port":"http"},{"protocol":"UDP","port":53}]}]}}
+stranger default/asker Egress with default as default/plain : UDP 53
+stranger default/asker Ingress with default as default/plain : TCP 80"#;
 
 #[test]
-fn strangers_have_no_named_ports(rt: HostRuntime) -> Result<(), Fail> {
-    static ROWS: &[Likeness] = &[("default", &[], "default/plain", "UDP 53")];
-    static MORE_ROWS: &[Likeness] = &[("default", &[], "default/plain", "TCP 80")];
-    let alloc = rt.alloc();
-    expect_likeness(
-        &rt,
-        alloc,
-        &ASKS_FOR_A_NAME,
-        "default/asker",
-        Direction::Egress,
-        ROWS,
-    )?;
-    expect_likeness(
-        &rt,
-        alloc,
-        &ASKS_FOR_A_NAME,
-        "default/asker",
-        Direction::Ingress,
-        MORE_ROWS,
-    )
-}
-
-// A stranger by its namespace and labels, and whether the first and the second rule of `shop/web` reach it.
-type Reached = (&'static str, Pairs, bool, bool);
-
-// Whether these are the two rules of `shop/web`, and reach the stranger as the row says.
-fn are_as_told(alloc: Global, rules: &StrangerRules<'_>, row: &Reached) -> Result<bool, Fail> {
-    let (namespace, labels, by_first, by_second) = *row;
-    let stranger = stranger(alloc, namespace, labels)?;
-    let [first, second] = rules.net() else {
-        return Ok(false);
-    };
-    let name = rules.namespace();
-    let reached = first.reaches(name, &stranger) == by_first
-        && second.reaches(name, &stranger) == by_second;
-    let sets = first.conns.same(&read_conns(alloc, "TCP 9090")?)
-        && second.conns.same(&read_conns(alloc, ALL)?);
-    Ok(name == "shop" && reached && sets)
-}
-
-#[test]
-fn kept_rules_are_asked_one_by_one(rt: HostRuntime) -> Result<(), Fail> {
-    static ROWS: &[Reached] = &[
-        ("monitoring", &[("app", "prom")], true, false),
-        ("monitoring", &[], false, false),
-        ("shop", &[], false, true),
-        ("default", &[("app", "prom")], false, false),
-    ];
-    let alloc = rt.alloc();
-    let estate = estate(alloc, &SHOWN_TO_MONITORING)?;
-    let Some(place) = place_named(&estate, "shop/web") else {
-        return Err("no such pod")?;
-    };
-    let rules = StrangerRules::of(alloc, &estate, place, Direction::Ingress)?;
-    for row in ROWS {
-        let told = are_as_told(alloc, &rules, row)?;
-        assert!(rt; told, "{row:?}");
-    }
+fn example_stranger(rt: HostRuntime) -> Result<(), Fail> {
+    assert_eq!(rt; wrong_rows(rt.alloc(), SCRIPT)?.as_str(), "");
     Ok(())
 }

@@ -1,301 +1,163 @@
-//! Texts of blocks of addresses, each with the answer that the grammar of CIDR gives.
-ghost use Rattle.std.specs.Prelude.{All, IfOk};
+//! Texts of blocks of addresses, each with the answer that the grammar of CIDR gives, and the addresses of blocks.
+ghost use Rattle.std.specs.Prelude.{All};
 ghost use Rattle.np_addr.specs.Addresses.{IsCidr};
 
-use np_addr::{
-    AddrSet, Address, Addresses, BlockFault, Cidr, block_set, cidr_has, family_of, print_address,
-    read_address, read_cidr,
-};
-use np_base::Seq;
+use crate::script::wrong_lines;
+use crate::sets::put;
+use np_addr::{Addresses, BlockFault, Cidr, block_set, print_cidr, read_address, read_cidr};
+use np_base::{NoMemory, Seq};
 use std::alloc::Global;
+use std::fmt::Write;
 use std::test::Fail;
 
-// The base and the length of the block that the text writes.
-fn block(alloc: Global, text: &str) -> Result<String, Fail> {
+/// Writes the text of the block that a text writes, or `none`.
+pub fn put_cidr(alloc: Global, told: &mut String, text: &str) -> Result<(), NoMemory> {
     let Ok(cidr) = read_cidr(text) else {
-        return Ok(String::from_str(alloc, "BadCidr")?);
+        return Ok(told.push_str("none")?);
     };
-    let (base, length) = parts(&cidr);
-    let base = print_address(alloc, base)?;
-    Ok(format!(in alloc; "{base}/{length}")?)
+    let printed = print_cidr(alloc, cidr)?;
+    Ok(told.push_str(printed.as_str())?)
 }
 
-fn parts(cidr: &Cidr) -> (Address, u8) {
-    match cidr {
-        Cidr::Four { base, length } => (Address::Four(*base), *length),
-        Cidr::Six { base, length } => (Address::Six(*base), *length),
-    }
+/// Writes whether some of the addresses before ` in ` is in the block behind it.
+pub fn put_is_listed(alloc: Global, told: &mut String, text: &str) -> Result<(), NoMemory> {
+    let (listed, block) = text.split_once(" in ").unwrap_or((text, ""));
+    let Ok(cidr) = read_cidr(block) else {
+        return Ok(told.push_str("no block")?);
+    };
+    let addresses = addresses_of(alloc, listed)?;
+    let is_in = addresses.some_in(&cidr);
+    Ok(write!(told, "{is_in}")?)
 }
 
-static READ: &[(&str, &str)] = &[
-    ("10.0.0.5/8", "10.0.0.0/8"),
-    ("010.0.0.0/8", "10.0.0.0/8"),
-    ("1.2.3/8", "BadCidr"),
-    ("1.2.3.4/33", "BadCidr"),
-    ("1.2.3.4/08", "BadCidr"),
-    ("0.0.0.0/0", "0.0.0.0/0"),
-    ("255.255.255.255/0", "0.0.0.0/0"),
-    ("255.255.255.255/1", "128.0.0.0/1"),
-    ("1.2.3.5/31", "1.2.3.4/31"),
-    ("1.2.3.5/32", "1.2.3.5/32"),
-    ("1.2.3.4/00", "BadCidr"),
-    ("1.2.3.4/032", "BadCidr"),
-    ("1.2.3.4/128", "BadCidr"),
-    ("1.2.3.4/256", "BadCidr"),
-    ("1.2.3.4/1000", "BadCidr"),
-    ("1.2.3.4/", "BadCidr"),
-    ("1.2.3.4", "BadCidr"),
-    ("/8", "BadCidr"),
-    ("", "BadCidr"),
-    ("1.2.3.4/8/8", "BadCidr"),
-    ("1.2.3.4//8", "BadCidr"),
-    ("1.2.3.4/+8", "BadCidr"),
-    ("1.2.3.4/-0", "BadCidr"),
-    ("1.2.3.4/8 ", "BadCidr"),
-    ("1.2.3.4/0x8", "BadCidr"),
-    ("1.2.3.4/255.0.0.0", "BadCidr"),
-    ("::/0", "::/0"),
-    ("::1/127", "::/127"),
-    ("::1/128", "::1/128"),
-    ("::1/129", "BadCidr"),
-    ("::/00", "BadCidr"),
-    ("::/0128", "BadCidr"),
-    ("ffff::1/0", "::/0"),
-    ("::ffff:1.2.3.4/104", "::ffff:100:0/104"),
-    // RFC 4291, section 2.3
-    (
-        "2001:0DB8:0000:CD30:0000:0000:0000:0000/60",
-        "2001:db8:0:cd30::/60",
-    ),
-    ("2001:0DB8::CD30:0:0:0:0/60", "2001:db8:0:cd30::/60"),
-    ("2001:0DB8:0:CD30::/60", "2001:db8:0:cd30::/60"),
-    ("2001:0DB8:0:CD3/60", "BadCidr"),
-    ("2001:0DB8::CD30/60", "2001:db8::/60"),
-    (
-        "2001:0DB8:0:CD30:123:4567:89AB:CDEF/60",
-        "2001:db8:0:cd30::/60",
-    ),
-];
-
-#[test]
-fn blocks_are_read(rt: HostRuntime) -> Result<(), Fail> {
-    for (text, want) in READ {
-        let got = block(rt.alloc(), text)?;
-        assert_eq!(rt; got.as_str(), *want, "{text}");
-    }
-    Ok(())
-}
-
-// Whether the block has the address, by their texts.
-fn has(cidr: &str, address: &str) -> Result<bool, Fail> {
-    Ok(cidr_has(&read_cidr(cidr)?, read_address(address)?))
-}
-
-static HAVE: &[(&str, &str, bool)] = &[
-    ("10.0.0.0/8", "10.0.0.0", true),
-    ("10.0.0.0/8", "10.255.255.255", true),
-    ("10.0.0.0/8", "9.255.255.255", false),
-    ("10.0.0.0/8", "11.0.0.0", false),
-    ("10.0.0.0/8", "::a00:0", false),
-    ("1.2.3.4/32", "1.2.3.4", true),
-    ("1.2.3.4/32", "1.2.3.5", false),
-    ("0.0.0.0/0", "255.255.255.255", true),
-    ("0.0.0.0/0", "::", false),
-    ("::/0", "ffff:ffff:ffff:ffff:ffff:ffff:ffff:ffff", true),
-    ("::/0", "0.0.0.0", false),
-    ("::ffff:0:0/96", "::ffff:1.2.3.4", true),
-    ("::ffff:0:0/96", "1.2.3.4", false),
-    ("2001:db8::/32", "2001:db9::", false),
-];
-
-#[test]
-fn blocks_have_addresses(rt: HostRuntime) -> Result<(), Fail> {
-    for (cidr, address, want) in HAVE {
-        assert!(rt; has(cidr, address)? == *want, "{cidr} {address}");
-    }
-    Ok(())
-}
-
-#[test]
-fn dotted_tails_are_of_the_other_family(rt: HostRuntime) -> Result<(), Fail> {
-    let four = read_address("1.2.3.4")?;
-    let six = read_address("::1.2.3.4")?;
-    assert!(rt; family_of(four) != family_of(six));
-    Ok(())
-}
-
-// Whether the set has the address.
-fn set_has(set: &AddrSet, address: Address) -> bool {
-    match address {
-        Address::Four(point) => set.first.has(point),
-        Address::Six(point) => set.second.has(point),
-    }
-}
-
-// Each second block of 65,536 addresses in 10.0.0.0/8.
-fn even_blocks(alloc: Global) -> Result<Vec<Cidr>, Fail>
-    ensures { IfOk result (λ made. All IsCidr made.items) }
-{
-    let mut blocks = Vec::new(alloc);
-    for place in 0u8..128 {
-        let second = 2 * place;
-        let text = format!(in alloc; "10.{second}.0.0/16")?;
-        blocks.push(read_cidr(text.as_str())?)?;
-    }
-    Ok(blocks)
-}
-
-// An address, and whether it is in 10.0.0.0/8 and in none of those blocks.
-static BETWEEN: &[(&str, bool)] = &[
-    ("9.255.255.255", false),
-    ("10.0.0.0", false),
-    ("10.0.255.255", false),
-    ("10.1.0.0", true),
-    ("10.1.255.255", true),
-    ("10.126.255.255", false),
-    ("10.127.0.0", true),
-    ("10.254.0.0", false),
-    ("10.255.255.255", true),
-    ("11.0.0.0", false),
-    ("::a01:0", false),
-];
-
-// What is left of 10.0.0.0/8 without those blocks.
-fn odd_blocks(alloc: Global) -> Result<AddrSet, Fail> {
-    let excepts = even_blocks(alloc)?;
-    Ok(block_set(alloc, read_cidr("10.0.0.0/8")?, &excepts)?)
-}
-
-#[test]
-fn example_block_set(rt: HostRuntime) -> Result<(), Fail> {
-    let set = odd_blocks(rt.alloc())?;
-    assert_eq!(rt; set.first.ranges().len(), 128);
-    for (address, wanted) in BETWEEN {
-        assert!(rt;
-            set_has(&set, read_address(address)?) == *wanted,
-            "{address}"
-        );
-    }
-    Ok(())
-}
-
-// A block, two excepts of it, an address, and whether the address is in the block without them, or out of it, or which
-// except is refused.
-type Without = (&'static str, [&'static str; 2], &'static str, &'static str);
-
-static WITHOUT: &[Without] = &[
-    (
-        "10.0.0.0/8",
-        ["10.1.0.0/16", "10.2.0.0/16"],
-        "10.0.255.255",
-        "in",
-    ),
-    (
-        "10.0.0.0/8",
-        ["10.1.0.0/16", "10.2.0.0/16"],
-        "10.1.0.0",
-        "out",
-    ),
-    (
-        "10.0.0.0/8",
-        ["10.1.0.0/16", "10.2.0.0/16"],
-        "10.2.255.255",
-        "out",
-    ),
-    (
-        "10.0.0.0/8",
-        ["10.1.0.0/16", "10.2.0.0/16"],
-        "10.3.0.0",
-        "in",
-    ),
-    (
-        "10.0.0.0/8",
-        ["10.1.0.0/16", "10.1.2.0/24"],
-        "11.0.0.0",
-        "out",
-    ),
-    ("10.0.0.0/8", ["10.1.0.0/16", "10.1.2.0/24"], "::", "out"),
-    ("0.0.0.0/0", ["0.0.0.0/1", "128.0.0.0/1"], "1.2.3.4", "out"),
-    ("::/0", ["::/1", "ffff::/16"], "ffff::1", "out"),
-    ("::/0", ["::/1", "ffff::/16"], "fffe::1", "in"),
-    (
-        "10.0.0.0/8",
-        ["10.0.0.0/8", "10.1.0.0/16"],
-        "::",
-        "first except",
-    ),
-    (
-        "10.0.0.0/8",
-        ["10.1.0.0/16", "10.0.0.0/8"],
-        "::",
-        "second except",
-    ),
-    (
-        "10.0.0.0/8",
-        ["0.0.0.0/0", "11.0.0.0/8"],
-        "::",
-        "first except",
-    ),
-    (
-        "10.0.0.0/8",
-        ["10.1.0.0/16", "11.1.0.0/16"],
-        "::",
-        "second except",
-    ),
-    ("10.0.0.0/8", ["::/16", "10.1.0.0/16"], "::", "first except"),
-    ("::/0", ["::/1", "10.1.0.0/16"], "::", "second except"),
-];
-
-// What is said of the address of a row.
-fn answer(alloc: Global, row: &Without) -> Result<&'static str, Fail> {
-    let (cidr, [first, second], address, _want) = *row;
-    let excepts = [read_cidr(first)?, read_cidr(second)?];
-    match block_set(alloc, read_cidr(cidr)?, &excepts) {
-        Ok(set) if set_has(&set, read_address(address)?) => Ok("in"),
-        Ok(_) => Ok("out"),
-        Err(BlockFault::BadExcept { place: 0 }) => Ok("first except"),
-        Err(BlockFault::BadExcept { place: 1 }) => Ok("second except"),
-        Err(_) => Ok("another fault"),
-    }
-}
-
-#[test]
-fn blocks_without_parts(rt: HostRuntime) -> Result<(), Fail> {
-    for row in WITHOUT {
-        assert_eq!(rt; answer(rt.alloc(), row)?, row.3, "{row:?}");
-    }
-    Ok(())
-}
-
-// Each block, with whether one of the addresses 10.0.1.5, fd00::1, 10.0.0.1 and 192.168.7.9 is in it.
-static LOOKED_UP: &[(&str, bool)] = &[
-    ("0.0.0.0/0", true),
-    ("10.0.0.0/24", true),
-    ("10.0.0.0/32", false),
-    ("10.0.0.1/32", true),
-    ("10.0.0.2/31", false),
-    ("10.0.1.4/31", true),
-    ("10.0.2.0/23", false),
-    ("192.168.7.8/30", true),
-    ("192.168.7.10/31", false),
-    ("224.0.0.0/4", false),
-    ("::/0", true),
-    ("fd00::/127", true),
-    ("fd00::2/127", false),
-    ("fe80::/10", false),
-];
-
-#[test]
-fn blocks_are_looked_up_in_addresses(rt: HostRuntime) -> Result<(), Fail> {
-    let alloc = rt.alloc();
+fn addresses_of(alloc: Global, texts: &str) -> Result<Addresses, NoMemory> {
     let mut listed = Seq::new(alloc);
-    for text in ["10.0.1.5", "fd00::1", "10.0.0.1", "192.168.7.9"] {
-        listed.push(read_address(text)?)?;
+    for text in texts.split_whitespace() {
+        if let Ok(address) = read_address(text) {
+            listed.push(address)?;
+        }
     }
-    let addresses = Addresses::of(alloc, listed)?;
-    for (text, expected) in LOOKED_UP {
-        let cidr = read_cidr(text)?;
-        assert_eq!(rt; addresses.some_in(&cidr), *expected, "{text}");
+    Addresses::of(alloc, listed)
+}
+
+/// Writes the addresses of the block before ` without ` that are in neither of the two behind it.
+pub fn put_block_set(alloc: Global, told: &mut String, text: &str) -> Result<(), NoMemory> {
+    let (block, excepts) = text.split_once(" without ").unwrap_or((text, ""));
+    let (first, second) = excepts.split_once(" ").unwrap_or((excepts, ""));
+    match (read_cidr(block), read_cidr(first), read_cidr(second)) {
+        (Ok(block), Ok(first), Ok(second)) => put_without(alloc, told, block, &[first, second]),
+        _ => Ok(told.push_str("no blocks")?),
     }
+}
+
+fn put_without(
+    alloc: Global,
+    told: &mut String,
+    block: Cidr,
+    excepts: &[Cidr],
+) -> Result<(), NoMemory>
+    requires block { IsCidr block }
+    requires excepts { All IsCidr excepts.now }
+{
+    match block_set(alloc, block, excepts) {
+        Ok(set) => put(alloc, told, &set),
+        Err(BlockFault::NoMemory) => Err(NoMemory),
+        Err(fault) => Ok(write!(told, "{fault}")?),
+    }
+}
+
+static SCRIPT: &str = r#"# texts of CIDR
+block 10.0.0.5/8 -> 10.0.0.0/8
+block 010.0.0.0/8 -> 10.0.0.0/8
+block 1.2.3/8 -> none
+block 1.2.3.4/33 -> none
+block 1.2.3.4/08 -> none
+block 0.0.0.0/0 -> 0.0.0.0/0
+block 255.255.255.255/0 -> 0.0.0.0/0
+block 255.255.255.255/1 -> 128.0.0.0/1
+block 1.2.3.5/31 -> 1.2.3.4/31
+block 1.2.3.5/32 -> 1.2.3.5/32
+block 1.2.3.4/00 -> none
+block 1.2.3.4/032 -> none
+block 1.2.3.4/128 -> none
+block 1.2.3.4/256 -> none
+block 1.2.3.4/1000 -> none
+block 1.2.3.4/ -> none
+block 1.2.3.4 -> none
+block /8 -> none
+block -> none
+block 1.2.3.4/8/8 -> none
+block 1.2.3.4//8 -> none
+block 1.2.3.4/+8 -> none
+block 1.2.3.4/-0 -> none
+block 1.2.3.4/8  -> none
+block 1.2.3.4/0x8 -> none
+block 1.2.3.4/255.0.0.0 -> none
+block ::/0 -> ::/0
+block ::1/127 -> ::/127
+block ::1/128 -> ::1/128
+block ::1/129 -> none
+block ::/00 -> none
+block ::/0128 -> none
+block ffff::1/0 -> ::/0
+block ::ffff:1.2.3.4/104 -> ::ffff:100:0/104
+
+# RFC 4291, section 2.3
+block 2001:0DB8:0000:CD30:0000:0000:0000:0000/60 -> 2001:db8:0:cd30::/60
+block 2001:0DB8::CD30:0:0:0:0/60 -> 2001:db8:0:cd30::/60
+block 2001:0DB8:0:CD30::/60 -> 2001:db8:0:cd30::/60
+block 2001:0DB8:0:CD3/60 -> none
+block 2001:0DB8::CD30/60 -> 2001:db8::/60
+block 2001:0DB8:0:CD30:123:4567:89AB:CDEF/60 -> 2001:db8:0:cd30::/60
+
+# whether an address is in a block
+listed 10.0.0.0 in 10.0.0.0/8 -> true
+listed 10.255.255.255 in 10.0.0.0/8 -> true
+listed 9.255.255.255 in 10.0.0.0/8 -> false
+listed 11.0.0.0 in 10.0.0.0/8 -> false
+listed ::a00:0 in 10.0.0.0/8 -> false
+listed 1.2.3.4 in 1.2.3.4/32 -> true
+listed 1.2.3.5 in 1.2.3.4/32 -> false
+listed 255.255.255.255 in 0.0.0.0/0 -> true
+listed :: in 0.0.0.0/0 -> false
+listed ffff:ffff:ffff:ffff:ffff:ffff:ffff:ffff in ::/0 -> true
+listed 0.0.0.0 in ::/0 -> false
+listed ::ffff:1.2.3.4 in ::ffff:0:0/96 -> true
+listed 1.2.3.4 in ::ffff:0:0/96 -> false
+listed 2001:db9:: in 2001:db8::/32 -> false
+
+# whether some of several are
+listed 10.0.1.5 fd00::1 10.0.0.1 192.168.7.9 in 0.0.0.0/0 -> true
+listed 10.0.1.5 fd00::1 10.0.0.1 192.168.7.9 in 10.0.0.0/24 -> true
+listed 10.0.1.5 fd00::1 10.0.0.1 192.168.7.9 in 10.0.0.0/32 -> false
+listed 10.0.1.5 fd00::1 10.0.0.1 192.168.7.9 in 10.0.0.1/32 -> true
+listed 10.0.1.5 fd00::1 10.0.0.1 192.168.7.9 in 10.0.0.2/31 -> false
+listed 10.0.1.5 fd00::1 10.0.0.1 192.168.7.9 in 10.0.1.4/31 -> true
+listed 10.0.1.5 fd00::1 10.0.0.1 192.168.7.9 in 10.0.2.0/23 -> false
+listed 10.0.1.5 fd00::1 10.0.0.1 192.168.7.9 in 192.168.7.8/30 -> true
+listed 10.0.1.5 fd00::1 10.0.0.1 192.168.7.9 in 192.168.7.10/31 -> false
+listed 10.0.1.5 fd00::1 10.0.0.1 192.168.7.9 in 224.0.0.0/4 -> false
+listed 10.0.1.5 fd00::1 10.0.0.1 192.168.7.9 in ::/0 -> true
+listed 10.0.1.5 fd00::1 10.0.0.1 192.168.7.9 in fd00::/127 -> true
+listed 10.0.1.5 fd00::1 10.0.0.1 192.168.7.9 in fd00::2/127 -> false
+listed 10.0.1.5 fd00::1 10.0.0.1 192.168.7.9 in fe80::/10 -> false
+
+# a block without two of its parts, which may lie in one another or leave nothing
+ipBlock 10.0.0.0/8 without 10.1.0.0/16 10.2.0.0/16 -> 10.0.0.0/16,10.3.0.0/16,10.4.0.0/14,10.8.0.0/13,10.16.0.0/12,10.32.0.0/11,10.64.0.0/10,10.128.0.0/9
+ipBlock 10.0.0.0/14 without 10.1.0.0/16 10.1.2.0/24 -> 10.0.0.0/16,10.2.0.0/15
+ipBlock 0.0.0.0/0 without 0.0.0.0/1 128.0.0.0/1 -> nothing
+ipBlock ::/0 without ::/1 c000::/2 -> 8000::/2
+
+# the first that is no strict part
+ipBlock 10.0.0.0/8 without 10.0.0.0/8 10.1.0.0/16 -> the except at place 0 is no strict part of its block
+ipBlock 10.0.0.0/8 without 10.1.0.0/16 10.0.0.0/8 -> the except at place 1 is no strict part of its block
+ipBlock 10.0.0.0/8 without 0.0.0.0/0 11.0.0.0/8 -> the except at place 0 is no strict part of its block
+ipBlock 10.0.0.0/8 without 10.1.0.0/16 11.1.0.0/16 -> the except at place 1 is no strict part of its block
+ipBlock 10.0.0.0/8 without ::/16 10.1.0.0/16 -> the except at place 0 is no strict part of its block
+ipBlock ::/0 without ::/1 10.1.0.0/16 -> the except at place 1 is no strict part of its block"#;
+
+#[test]
+fn example_blocks(rt: HostRuntime) -> Result<(), Fail> {
+    assert_eq!(rt; wrong_lines(rt.alloc(), SCRIPT)?.as_str(), "");
     Ok(())
 }

@@ -1,207 +1,150 @@
 //! Labels, selectors and what is possible, by example.
+//!
+//! Labels are written as `app=a tier=web`, and requirements as `app In a b`, apart by `, `.
 
+use crate::script::wrong_lines;
 use np_base::{NoMemory, Seq, Text};
 use np_labels::{Labels, Op, Pair, Requirement, Selector, SharedLabels, possible};
 use std::alloc::Global;
+use std::fmt::Write;
 use std::test::Fail;
 
+fn labels_of(alloc: Global, text: &str) -> Result<Labels, NoMemory> {
+    let mut pairs = Seq::new(alloc);
+    for label in text.split_whitespace() {
+        let (key, value) = label.split_once("=").unwrap_or((label, ""));
+        pairs.push(pair(alloc, key, value)?)?;
+    }
+    Labels::of(alloc, pairs)
+}
+
 fn pair(alloc: Global, key: &str, value: &str) -> Result<Pair, NoMemory> {
-    Ok(Pair {
-        key: Text::of(alloc, key)?,
-        value: Text::of(alloc, value)?,
-    })
+    let key = Text::of(alloc, key)?;
+    let value = Text::of(alloc, value)?;
+    Ok(Pair { key, value })
 }
 
-fn labels(alloc: Global, pairs: &[(&str, &str)]) -> Result<Labels, NoMemory> {
-    let mut made = Seq::new(alloc);
-    for (key, value) in pairs {
-        made.push(pair(alloc, key, value)?)?;
+fn requirement_of(alloc: Global, text: &str) -> Result<Requirement, NoMemory> {
+    let (key, asked) = text.split_once(" ").unwrap_or((text, ""));
+    let (op, values) = asked.split_once(" ").unwrap_or((asked, ""));
+    let values = values_of(alloc, values)?;
+    Requirement::of(alloc, Text::of(alloc, key)?, op_named(op), values)
+}
+
+fn values_of(alloc: Global, text: &str) -> Result<Seq<Text>, NoMemory> {
+    let mut values = Seq::new(alloc);
+    for value in text.split_whitespace() {
+        values.push(Text::of(alloc, value)?)?;
     }
-    Labels::of(alloc, made)
+    Ok(values)
 }
 
-fn texts(alloc: Global, values: &[&str]) -> Result<Seq<Text>, NoMemory> {
-    let mut made = Seq::new(alloc);
-    for value in values {
-        made.push(Text::of(alloc, value)?)?;
+fn op_named(name: &str) -> Op {
+    match name {
+        "In" => Op::OneOf,
+        "NotIn" => Op::NoneOf,
+        "Exists" => Op::Present,
+        _ => Op::Absent,
     }
-    Ok(made)
 }
 
-// A requirement as it is written down: its key, what it asks, and its values.
-type Demand = (&'static str, Op, &'static [&'static str]);
-
-fn requirement(alloc: Global, demand: &Demand) -> Result<Requirement, NoMemory> {
-    let (key, op, values) = *demand;
-    Requirement::of(alloc, Text::of(alloc, key)?, op, texts(alloc, values)?)
+/// Writes whether the labels behind ` by ` meet the requirement before it, and whether they meet its negation.
+pub fn put_is_met(alloc: Global, told: &mut String, text: &str) -> Result<(), NoMemory> {
+    let (requirement, labels) = text.split_once(" by ").unwrap_or((text, ""));
+    let labels = labels_of(alloc, labels)?;
+    let requirement = requirement_of(alloc, requirement)?;
+    let negated = requirement.negated()?;
+    let is_met = requirement.meets(&labels);
+    let is_negation_met = negated.meets(&labels);
+    Ok(write!(told, "{is_met}, else {is_negation_met}")?)
 }
 
-fn selector(alloc: Global, demands: &[Demand]) -> Result<Selector, NoMemory> {
+/// Writes the values of a copy of a requirement, each behind a space.
+pub fn put_values(alloc: Global, told: &mut String, text: &str) -> Result<(), NoMemory> {
+    let requirement = requirement_of(alloc, text)?.copy()?;
+    for value in requirement.values.items() {
+        write!(told, " {value}")?;
+    }
+    Ok(())
+}
+
+/// Writes the pairs of a copy of labels that several objects share, each behind a space.
+pub fn put_labels(alloc: Global, told: &mut String, text: &str) -> Result<(), NoMemory> {
+    let shared = SharedLabels::of(alloc, labels_of(alloc, text)?.copy()?)?;
+    put_pairs(told, shared.share()?.labels())
+}
+
+fn put_pairs(told: &mut String, labels: &Labels) -> Result<(), NoMemory> {
+    for pair in labels.pairs() {
+        let key = &pair.key;
+        let value = &pair.value;
+        write!(told, " {key}={value}")?;
+    }
+    Ok(())
+}
+
+/// Writes labels that meet all the requirements of a text, each behind a space, or `none`.
+pub fn put_possible(alloc: Global, told: &mut String, text: &str) -> Result<(), NoMemory> {
+    let selector = selector_of(alloc, text)?.copy()?;
+    match possible(alloc, selector.requirements.items())? {
+        Some(labels) if selector.meets(&labels) => put_pairs(told, &labels),
+        Some(_) => Ok(told.push_str("others")?),
+        None => Ok(told.push_str("none")?),
+    }
+}
+
+fn selector_of(alloc: Global, text: &str) -> Result<Selector, NoMemory> {
     let mut requirements = Seq::new(alloc);
-    for demand in demands {
-        requirements.push(requirement(alloc, demand)?)?;
+    for requirement in text.split(", ") {
+        requirements.push(requirement_of(alloc, requirement)?)?;
     }
     Ok(Selector { requirements })
 }
 
-const NOT_IN_A: Demand = ("app", Op::NoneOf, &["a"]);
+static SCRIPT: &str =
+    r#"# Kubernetes API reference, "Resources that support set-based requirements": `NotIn` is met where the key is absent, as
+# `DoesNotExist` is
+met app NotIn a by tier=web -> true, else false
+met app NotIn a by app=b -> true, else false
+met app NotIn a by app=a -> false, else true
+met app NotIn a -> true, else false
+met app DoesNotExist by tier=a -> true, else false
+met app DoesNotExist by app=a -> false, else true
+met app Exists by app=a -> true, else false
 
-// The values stand as `a`, `b`, `c` and `d`.
-const IN_FOUR: Demand = ("app", Op::OneOf, &["d", "b", "a", "c", "b"]);
+# the first and the last value, those between, and values before, between and after them
+met app In d b a c b by app=a -> true, else false
+met app In d b a c b by app=b -> true, else false
+met app In d b a c b by app=c -> true, else false
+met app In d b a c b by app=d -> true, else false
+met app In d b a c b by app= -> false, else true
+met app In d b a c b by app=aa -> false, else true
+met app In d b a c b by app=bb -> false, else true
+met app In d b a c b by app=dd -> false, else true
+met app NotIn d b a c b by app=c -> false, else true
+met app NotIn d b a c b by app=e -> true, else false
+met app In by app=a -> false, else true
+met app NotIn by app=a -> true, else false
 
-const NOT_IN_FOUR: Demand = ("app", Op::NoneOf, &["d", "b", "a", "c", "b"]);
+# values ascend and stand once
+values app In d b a c b ->  a b c d
 
-const IS_ABSENT: Demand = ("app", Op::Absent, &[]);
+# a later pair replaces an earlier one of its key
+labels b=1 a=2 b=3 ->  a=2 b=3
 
-// A requirement, the labels of an object, and whether it meets it.
-type Meeting = (Demand, &'static [(&'static str, &'static str)], bool);
+# one listed value is left, and none
+possible app In a b, app NotIn a ->  app=b
+possible app In a b, app NotIn a b -> none
 
-// Kubernetes API reference, "Resources that support set-based requirements": `NotIn` is met where the key is absent, as
-// `DoesNotExist` is.
-static MEETINGS: &[Meeting] = &[
-    (NOT_IN_A, &[("tier", "web")], true),
-    (NOT_IN_A, &[("app", "b")], true),
-    (NOT_IN_A, &[("app", "a")], false),
-    (NOT_IN_A, &[], true),
-    (IS_ABSENT, &[("tier", "a")], true),
-    (IS_ABSENT, &[("app", "a")], false),
-    // the first and the last value, those between, and values before, between and after them
-    (IN_FOUR, &[("app", "a")], true),
-    (IN_FOUR, &[("app", "b")], true),
-    (IN_FOUR, &[("app", "c")], true),
-    (IN_FOUR, &[("app", "d")], true),
-    (IN_FOUR, &[("app", "")], false),
-    (IN_FOUR, &[("app", "aa")], false),
-    (IN_FOUR, &[("app", "bb")], false),
-    (IN_FOUR, &[("app", "dd")], false),
-    (NOT_IN_FOUR, &[("app", "c")], false),
-    (NOT_IN_FOUR, &[("app", "e")], true),
-    (("app", Op::OneOf, &[]), &[("app", "a")], false),
-    (("app", Op::NoneOf, &[]), &[("app", "a")], true),
-];
+# a key that exists gets an unlisted value, and is not absent
+possible k Exists, k NotIn a aa ->  k=aaa
+possible k Exists, k DoesNotExist -> none
 
-// Whether labels meet a requirement as is said, and its negation exactly where they do not.
-fn is_as_said(alloc: Global, meeting: &Meeting) -> Result<bool, NoMemory> {
-    let (demand, pairs, met) = *meeting;
-    let labels = labels(alloc, pairs)?;
-    let requirement = requirement(alloc, &demand)?;
-    Ok(requirement.meets(&labels) == met && requirement.negated()?.meets(&labels) != met)
-}
+# each key is decided apart
+possible k0 In x y, k1 In x y, k2 In x y, k3 In x y, k4 In x y, k5 In x y ->  k0=x k1=x k2=x k3=x k4=x k5=x"#;
 
 #[test]
-fn example_requirement(rt: HostRuntime) -> Result<(), Fail> {
-    for meeting in MEETINGS {
-        assert!(rt; is_as_said(rt.alloc(), meeting)?, "{meeting:?}");
-    }
-    Ok(())
-}
-
-// The values of a requirement, each behind a space.
-fn values_of(alloc: Global, demand: &Demand) -> Result<String, NoMemory> {
-    let requirement = requirement(alloc, demand)?;
-    let mut text = String::new(alloc);
-    for value in requirement.values.items() {
-        write!(text, " {value}")?;
-    }
-    Ok(text)
-}
-
-#[test]
-fn values_ascend_and_stand_once(rt: HostRuntime) -> Result<(), Fail> {
-    let values = values_of(rt.alloc(), &IN_FOUR)?;
-    assert_eq!(rt; values.as_str(), " a b c d");
-    Ok(())
-}
-
-// Whether there are two pairs, and these are the values of these keys.
-fn has_two(labels: &Labels, wanted: &[(&str, Option<&str>)]) -> bool {
-    labels.pairs().len() == 2 && wanted.iter().all(|(key, value)| labels.get(key) == *value)
-}
-
-#[test]
-fn later_pair_replaces_earlier(rt: HostRuntime) -> Result<(), Fail> {
-    static PAIRS: &[(&str, &str)] = &[("b", "1"), ("a", "2"), ("b", "3")];
-    static WANTED: &[(&str, Option<&str>)] = &[("b", Some("3")), ("a", Some("2")), ("c", None)];
-    let made = labels(rt.alloc(), PAIRS)?;
-    assert!(rt; has_two(&made, WANTED));
-    assert!(rt; has_two(&made.copy()?, WANTED), "copy");
-    let shared = SharedLabels::of(rt.alloc(), made)?;
-    assert!(rt; has_two(shared.share()?.labels(), WANTED), "shared");
-    Ok(())
-}
-
-// Requirements, and the value of a key in labels that meet them all, where there are such labels.
-type Search = (&'static [Demand], Option<(&'static str, &'static str)>);
-
-static SEARCHES: &[Search] = &[
-    // one listed value is left, and none
-    (
-        &[("app", Op::OneOf, &["a", "b"]), ("app", Op::NoneOf, &["a"])],
-        Some(("app", "b")),
-    ),
-    (
-        &[
-            ("app", Op::OneOf, &["a", "b"]),
-            ("app", Op::NoneOf, &["a", "b"]),
-        ],
-        None,
-    ),
-    // a key that exists gets an unlisted value, and is not absent
-    (
-        &[("k", Op::Present, &[]), ("k", Op::NoneOf, &["a", "aa"])],
-        Some(("k", "aaa")),
-    ),
-    (&[("k", Op::Present, &[]), ("k", Op::Absent, &[])], None),
-];
-
-// Whether the labels that are found are such.
-fn is_found(alloc: Global, search: &Search) -> Result<bool, NoMemory> {
-    let (demands, wanted) = *search;
-    let all = selector(alloc, demands)?;
-    let found = possible(alloc, all.requirements.items())?;
-    Ok(match (&found, wanted) {
-        (Some(labels), Some((key, value))) => labels.get(key) == Some(value),
-        (None, None) => true,
-        _ => false,
-    })
-}
-
-#[test]
-fn labels_that_meet_requirements_are_found(rt: HostRuntime) -> Result<(), Fail> {
-    for search in SEARCHES {
-        assert!(rt; is_found(rt.alloc(), search)?, "{search:?}");
-    }
-    Ok(())
-}
-
-static EIGHT_KEYS: &[Demand] = &[
-    ("k0", Op::OneOf, &["x", "y"]),
-    ("k1", Op::OneOf, &["x", "y"]),
-    ("k2", Op::OneOf, &["x", "y"]),
-    ("k3", Op::OneOf, &["x", "y"]),
-    ("k4", Op::OneOf, &["x", "y"]),
-    ("k5", Op::OneOf, &["x", "y"]),
-    ("k6", Op::OneOf, &["x", "y"]),
-    ("k7", Op::OneOf, &["x", "y"]),
-];
-
-// Whether there are eight labels, the last key has its first value, and they meet the selector and its copy.
-fn are_eight(all: &Selector, labels: &Labels) -> Result<bool, NoMemory> {
-    let is_apart = labels.pairs().len() == 8 && labels.get("k7") == Some("x");
-    Ok(is_apart && all.meets(labels) && all.copy()?.meets(labels))
-}
-
-// Whether such labels are found.
-fn eight_are_found(alloc: Global) -> Result<bool, NoMemory> {
-    let all = selector(alloc, EIGHT_KEYS)?;
-    match possible(alloc, all.requirements.items())? {
-        Some(labels) => are_eight(&all, &labels),
-        None => Ok(false),
-    }
-}
-
-#[test]
-fn keys_are_decided_apart(rt: HostRuntime) -> Result<(), Fail> {
-    assert!(rt; eight_are_found(rt.alloc())?);
+fn example_labels(rt: HostRuntime) -> Result<(), Fail> {
+    assert_eq!(rt; wrong_lines(rt.alloc(), SCRIPT)?.as_str(), "");
     Ok(())
 }

@@ -1,216 +1,172 @@
-//! Layers of tiers over a few blocks of spots.
-ghost use Rattle.std.specs.Prelude.{◌≤◌};
+//! Layers of tiers, and what they decide.
+//!
+//! A layer is written as its parts, apart by ` / `: `allow ..`, `deny ..` and `pass ..` for an admin part with its set,
+//! `isolated`, `net ..` for a `net` set, and `else-allow ..` and `else-deny ..` for a base part.
 
-use crate::four::{self, Four};
-use np_base::{Cells, NoMemory, PortNum, Seq};
-use np_conns::{ConnSet, PortSpot, Proto};
-use np_sets::IntervalSet;
-use np_tiers::{Action, AdminPart, BasePart, Layer};
+use crate::script::wrong_lines;
+use crate::sets::{Written, put};
+use np_base::{NoMemory, Seq};
+use np_tiers::{Action, AdminPart, BasePart, Layer, Marked, carve, verdict_set};
 use std::alloc::Global;
+use std::fmt::Write;
+use std::test::Fail;
 
-/// A kind of set whose space falls into four blocks of spots, each of them a range.
-pub trait Sampled: Cells {
-    /// The spots of block `block`, from 0 to 3.
-    fn block(alloc: Global, block: u8) -> Result<Self, NoMemory>;
-
-    /// Whether the set has the first spot of the block, or its last one.
-    fn holds(&self, block: u8, last: bool) -> bool;
-}
-
-impl Sampled for IntervalSet<Four> {
-    fn block(alloc: Global, block: u8) -> Result<IntervalSet<Four>, NoMemory> {
-        four::only(alloc, block)
-    }
-
-    fn holds(&self, block: u8, _last: bool) -> bool {
-        four::has(self, block)
-    }
-}
-
-// The protocol of a block of connections, and its least and greatest port.
-fn ports_of(block: u8) -> (Proto, u16, u16)
-    ensures least { 1 ≤ result.1 }
-    ensures ordered { result.1 ≤ result.2 }
-{
-    match block {
-        0 => (Proto::Tcp, 1, 1000),
-        1 => (Proto::Tcp, 1001, 65535),
-        2 => (Proto::Udp, 1, 65535),
-        _ => (Proto::Sctp, 1, 65535),
-    }
-}
-
-impl Sampled for ConnSet {
-    fn block(alloc: Global, block: u8) -> Result<ConnSet, NoMemory> {
-        let (proto, lo, hi) = ports_of(block);
-        ConnSet::of(alloc, proto, PortNum::new(lo), PortNum::new(hi))
-    }
-
-    fn holds(&self, block: u8, last: bool) -> bool {
-        let (proto, lo, hi) = ports_of(block);
-        let number = if last { hi } else { lo };
-        let port = PortNum::new(number);
-        self.has(PortSpot { proto, port })
-    }
-}
-
-/// The union of the blocks whose bit is set.
-pub fn blocks<S: Sampled>(alloc: Global, bits: u8) -> Result<S, NoMemory> {
-    let mut set = S::nothing(alloc)?;
-    for block in 0u8..4 {
-        if bits & (1 << block) != 0 {
-            set = with_block(alloc, &set, block)?;
-        }
-    }
-    Ok(set)
-}
-
-// The set and a block of spots.
-fn with_block<S: Sampled>(alloc: Global, set: &S, block: u8) -> Result<S, NoMemory> {
-    let more = S::block(alloc, block)?;
-    set.join(&more)
-}
-
-// Admin tiers, each part with the bits of its blocks.
-fn admin_tier(number: u32) -> &'static [(Action, u8)] {
-    match number {
-        // Allow above Deny on the same spots, and Deny above Allow.
-        1 => &[(Action::Allow, 0b0011), (Action::Deny, 0b0011)],
-        2 => &[(Action::Deny, 0b0110), (Action::Allow, 0b0110)],
-        // A pass alone, over all spots and over some.
-        3 => &[(Action::Pass, 0b1111)],
-        4 => &[(Action::Pass, 0b0101)],
-        // A pass before rules that would decide its spots.
-        5 => &[
-            (Action::Pass, 0b0011),
-            (Action::Deny, 0b0111),
-            (Action::Allow, 0b1111),
-        ],
-        // A pass between, with a part that is never the first, and one without a spot.
-        6 => &[
-            (Action::Allow, 0b0001),
-            (Action::Pass, 0b0011),
-            (Action::Pass, 0b0010),
-            (Action::Deny, 0b0000),
-            (Action::Deny, 0b0100),
-        ],
-        // Two passes that hand different spots down.
-        7 => &[
-            (Action::Pass, 0b1001),
-            (Action::Pass, 0b0011),
-            (Action::Deny, 0b0100),
-        ],
-        _ => &[],
-    }
-}
-
-// The tiers below: isolated or not, the `net` sets, the base parts.
-fn lower_tiers(number: u32) -> (bool, &'static [u8], &'static [(bool, u8)]) {
-    match number {
-        // Isolated: no `net` set, overlapping ones, and with a baseline that is not looked at.
-        1 => (true, &[], &[]),
-        2 => (true, &[0b0011, 0b0110], &[]),
-        3 => (true, &[0b0100], &[(true, 0b1111)]),
-        // Not isolated: base parts that overlap either way, and `net` sets that are not looked at.
-        4 => (
-            false,
-            &[],
-            &[(false, 0b0001), (true, 0b0011), (false, 0b0111)],
-        ),
-        5 => (false, &[0b1111], &[(true, 0b0110), (false, 0b1111)]),
-        _ => (false, &[], &[]),
-    }
-}
-
-/// The layer of an admin tier and of tiers below it.
-pub fn layer_of<S: Sampled>(alloc: Global, above: u32, below: u32) -> Result<Layer<S>, NoMemory> {
-    let (isolated, sets, parts) = lower_tiers(below);
-    let admin = admin_parts(alloc, admin_tier(above))?;
-    let net = net_sets(alloc, sets)?;
-    let base = base_parts(alloc, parts)?;
-    Ok(Layer {
-        admin,
-        isolated,
-        net,
-        base,
-    })
-}
-
-// What the admin part at a place of a long layer does, and the block of its set. The first parts of the blocks lie 25
-// places apart.
-fn long_admin(turn: u32) -> (Action, u8) {
-    let action = match turn % 3 {
-        0 => Action::Allow,
-        1 => Action::Deny,
-        _ => Action::Pass,
-    };
-    (action, (turn / 25 % 4) as u8)
-}
-
-// Whether the base part at a place of a long layer allows, and the block of its set.
-fn long_base(turn: u32) -> (bool, u8) {
-    (turn % 2 == 0, (turn / 17 % 4) as u8)
-}
-
-/// A layer of a hundred admin parts and as many base parts or, where the number is odd, `net` sets. The number says which
-/// part is the first one.
-pub fn long_layer<S: Sampled>(alloc: Global, number: u32) -> Result<Layer<S>, NoMemory> {
-    let isolated = number % 2 == 1;
-    let mut admin = Seq::new(alloc);
-    let mut net = Seq::new(alloc);
-    let mut base = Seq::new(alloc);
-    let first = number % 100;
-    for turn in first..first + 100 {
-        let (action, block) = long_admin(turn);
-        let set = S::block(alloc, block)?;
-        admin.push(AdminPart { action, set })?;
-        let (allow, block) = long_base(turn);
-        let set = S::block(alloc, block)?;
-        if isolated {
-            net.push(set)?;
-        } else {
-            base.push(BasePart { allow, set })?;
-        }
-    }
-    Ok(Layer {
-        admin,
-        isolated,
-        net,
-        base,
-    })
-}
-
-fn admin_parts<S: Sampled>(
+/// Writes the set that a layer allows.
+pub fn put_allowed<S: Written>(
     alloc: Global,
-    rows: &[(Action, u8)],
-) -> Result<Seq<AdminPart<S>>, NoMemory> {
+    told: &mut String,
+    layer: &str,
+) -> Result<(), NoMemory> {
+    let layer = layer_of::<S>(alloc, layer)?;
+    put(alloc, told, &verdict_set(alloc, &layer)?)
+}
+
+/// Writes the set that a mark decides, and how many marks decide some spot. The text is the mark, ` in `, and the layer.
+pub fn put_decided<S: Written>(
+    alloc: Global,
+    told: &mut String,
+    text: &str,
+) -> Result<(), NoMemory> {
+    let (mark, layer) = text.split_once(" in ").unwrap_or((text, ""));
+    let layer = layer_of::<S>(alloc, layer)?;
+    let entries = carve(alloc, &layer)?;
+    put_marked(alloc, told, entries.items(), mark)?;
+    let count = entries.items().len();
+    Ok(write!(told, ", of {count}")?)
+}
+
+// Writes the sets of the entries that have this mark.
+fn put_marked<S: Written>(
+    alloc: Global,
+    told: &mut String,
+    entries: &[Marked<S>],
+    mark: &str,
+) -> Result<(), NoMemory> {
+    for entry in entries {
+        let marked = format!(in alloc; "{:?}", entry.mark)?;
+        if marked.as_str() == mark {
+            put(alloc, told, &entry.set)?;
+        }
+    }
+    Ok(())
+}
+
+fn layer_of<S: Written>(alloc: Global, text: &str) -> Result<Layer<S>, NoMemory> {
+    let admin = admin_parts(alloc, text)?;
+    let net = net_sets(alloc, text)?;
+    let base = base_parts(alloc, text)?;
+    let isolated = text.contains("isolated");
+    Ok(Layer {
+        admin,
+        isolated,
+        net,
+        base,
+    })
+}
+
+fn admin_parts<S: Written>(alloc: Global, text: &str) -> Result<Seq<AdminPart<S>>, NoMemory> {
     let mut parts = Seq::new(alloc);
-    for (action, bits) in rows {
-        let set = blocks(alloc, *bits)?;
-        parts.push(AdminPart {
-            action: *action,
-            set,
-        })?;
+    for part in text.split(" / ") {
+        let (word, set) = part.split_once(" ").unwrap_or((part, ""));
+        if let Some(action) = action_named(word) {
+            let set = S::read(alloc, set)?;
+            parts.push(AdminPart { action, set })?;
+        }
     }
     Ok(parts)
 }
 
-fn net_sets<S: Sampled>(alloc: Global, rows: &[u8]) -> Result<Seq<S>, NoMemory> {
+fn action_named(word: &str) -> Option<Action> {
+    match word {
+        "allow" => Some(Action::Allow),
+        "deny" => Some(Action::Deny),
+        "pass" => Some(Action::Pass),
+        _ => None,
+    }
+}
+
+fn net_sets<S: Written>(alloc: Global, text: &str) -> Result<Seq<S>, NoMemory> {
     let mut sets = Seq::new(alloc);
-    for bits in rows {
-        sets.push(blocks(alloc, *bits)?)?;
+    for part in text.split(" / ") {
+        if let Some(set) = part.strip_prefix("net ") {
+            sets.push(S::read(alloc, set)?)?;
+        }
     }
     Ok(sets)
 }
 
-fn base_parts<S: Sampled>(
-    alloc: Global,
-    rows: &[(bool, u8)],
-) -> Result<Seq<BasePart<S>>, NoMemory> {
+fn base_parts<S: Written>(alloc: Global, text: &str) -> Result<Seq<BasePart<S>>, NoMemory> {
     let mut parts = Seq::new(alloc);
-    for (allow, bits) in rows {
-        let set = blocks(alloc, *bits)?;
-        parts.push(BasePart { allow: *allow, set })?;
+    for part in text.split(" / ") {
+        let (word, set) = part.split_once(" ").unwrap_or((part, ""));
+        if word == "else-allow" || word == "else-deny" {
+            let allow = word == "else-allow";
+            let set = S::read(alloc, set)?;
+            parts.push(BasePart { allow, set })?;
+        }
     }
     Ok(parts)
+}
+
+static SCRIPT: &str = r#"# without parts all is free
+conns allowed -> All Connections
+conns decided Free { pass: None } in nothing -> All Connections, of 1
+
+# the first part that has a spot decides it, and a pass hands it down past the other admin parts
+conns allowed allow TCP 22 / pass TCP 22-23 / deny TCP 22-24 / else-allow TCP 80 / else-deny TCP 1-80 -> TCP 22,80-65535; UDP 1-65535; SCTP 1-65535
+conns decided Admin { place: 0 } in allow TCP 22 / pass TCP 22-23 / deny TCP 22-24 / else-allow TCP 80 / else-deny TCP 1-80 -> TCP 22, of 6
+conns decided Admin { place: 2 } in allow TCP 22 / pass TCP 22-23 / deny TCP 22-24 / else-allow TCP 80 / else-deny TCP 1-80 -> TCP 24, of 6
+conns decided Base { pass: Some(1), place: 1 } in allow TCP 22 / pass TCP 22-23 / deny TCP 22-24 / else-allow TCP 80 / else-deny TCP 1-80 -> TCP 23, of 6
+conns decided Base { pass: None, place: 0 } in allow TCP 22 / pass TCP 22-23 / deny TCP 22-24 / else-allow TCP 80 / else-deny TCP 1-80 -> TCP 80, of 6
+
+# an isolated layer allows what its sets have, and the baseline is not looked at
+conns allowed pass TCP 1-10 / pass TCP 5-20 / isolated / net TCP 8-15 / net TCP 9; UDP 53 / else-allow TCP 7 -> TCP 8-15; UDP 53
+conns decided Net { pass: Some(0), place: 0 } in pass TCP 1-10 / pass TCP 5-20 / isolated / net TCP 8-15 / net TCP 9; UDP 53 -> TCP 8-10, of 6
+conns decided Net { pass: Some(1), place: 0 } in pass TCP 1-10 / pass TCP 5-20 / isolated / net TCP 8-15 / net TCP 9; UDP 53 -> TCP 11-15, of 6
+conns decided Net { pass: None, place: 1 } in pass TCP 1-10 / pass TCP 5-20 / isolated / net TCP 8-15 / net TCP 9; UDP 53 -> UDP 53, of 6
+conns decided Isolated { pass: Some(1) } in pass TCP 1-10 / pass TCP 5-20 / isolated / net TCP 8-15 / net TCP 9; UDP 53 -> TCP 16-20, of 6
+conns allowed isolated -> nothing
+
+# sets that are not looked at, where nothing isolates
+conns allowed net TCP 80 / deny TCP 1-65535; UDP 53 -> UDP 1-52,54-65535; SCTP 1-65535
+
+# at addresses of both families
+pieces allowed allow TCP 80 at 10.0.0.0/8 / deny TCP 1-90 at 0.0.0.0/0 / isolated / net TCP 80-99 at 0.0.0.0/1,::/1 -> 0.0.0.0 TCP 91-99, 10.0.0.0 TCP 80,91-99, 11.0.0.0 TCP 91-99, 128.0.0.0 No Connections, :: TCP 80-99, 8000:: No Connections
+pieces decided Admin { place: 1 } in deny TCP 80 at ::/1 / allow TCP 80-81 at ::/0 -> 0.0.0.0 No Connections, :: TCP 81, 8000:: TCP 80-81, of 3
+addresses allowed isolated / net 10.0.0.0/9 / net 10.128.0.0/9 -> 10.0.0.0/8"#;
+
+#[test]
+fn example_verdict_set(rt: HostRuntime) -> Result<(), Fail> {
+    assert_eq!(rt; wrong_lines(rt.alloc(), SCRIPT)?.as_str(), "");
+    Ok(())
+}
+
+// A layer of a hundred parts more, with a port each from 1 on, and what it allows.
+fn long_line(alloc: Global, layer: &str, word: &str, wanted: &str) -> Result<String, NoMemory> {
+    let mut line = format!(in alloc; "conns allowed {layer}")?;
+    for port in 1u8..=100 {
+        write!(line, " / {word} TCP {port}")?;
+    }
+    write!(line, " -> {wanted}")?;
+    Ok(line)
+}
+
+static LONG: &[(&str, &str, &str)] = &[
+    ("isolated / deny TCP 35", "allow", "TCP 1-34,36-100"),
+    ("isolated / pass TCP 35", "net", "TCP 1-100"),
+    (
+        "else-allow TCP 35",
+        "else-deny",
+        "TCP 35,101-65535; UDP 1-65535; SCTP 1-65535",
+    ),
+];
+
+// Tiers of a hundred parts are put together in halves.
+#[test]
+fn long_tiers(rt: HostRuntime) -> Result<(), Fail> {
+    for (layer, word, wanted) in LONG {
+        let line = long_line(rt.alloc(), layer, word, wanted)?;
+        assert_eq!(rt; wrong_lines(rt.alloc(), line.as_str())?.as_str(), "");
+    }
+    Ok(())
 }

@@ -8,17 +8,9 @@ mod blocks;
 #[cfg(test)]
 mod conns;
 #[cfg(test)]
-mod four;
-#[cfg(test)]
 mod gathered;
 #[cfg(test)]
-mod generic;
-#[cfg(test)]
-mod interval_sets;
-#[cfg(test)]
 mod io;
-#[cfg(test)]
-mod joins;
 #[cfg(test)]
 mod labels;
 #[cfg(test)]
@@ -26,8 +18,6 @@ mod layers;
 #[cfg(test)]
 mod pieces;
 #[cfg(test)]
-mod prefixes;
+mod script;
 #[cfg(test)]
-mod tiers;
-#[cfg(test)]
-mod walk;
+mod sets;

@@ -1,4 +1,4 @@
-use Rattle.np_test_rules.proofs.verdicts.both_verdicts.Given as goal
+use Rattle.np_test_rules.proofs.script.wrong_of_estate.Given as goal
 
 -- the ledger of the blank that was just made
 abbrev pub ghosts-counted : goal.ghosts-counted
