@@ -84,7 +84,7 @@ def typed_words(shell, command, keys, room):
         os.write(terminal, key.encode())
     os.write(terminal, b"\r")
     shown += read_until(terminal, lambda text: os.path.exists(result))
-    os.kill(child, signal.SIGKILL)
+    os.killpg(child, signal.SIGKILL)
     os.waitpid(child, 0)
     if not os.path.exists(result):
         return "nothing was run; the terminal showed\n" + shown.decode("utf-8", "replace") + "\n"
@@ -93,7 +93,8 @@ def typed_words(shell, command, keys, room):
 
 
 def main(shell, command, keys):
-    with tempfile.TemporaryDirectory() as room:
+    # What a shell began in the background may still write there while the room is cleared.
+    with tempfile.TemporaryDirectory(ignore_cleanup_errors=True) as room:
         sys.stdout.write(typed_words(shell, command, keys, room))
 
 
