@@ -53,16 +53,12 @@ LITTLE = 30000000
 # The runs that are known to break the bounds, and why. One that does so and is not here is a finding.
 LONG_ANSWER = "the answer is as long as that"
 PAIRS = "the peers are asked about every two workloads"
-PATTERNS = "at each requirement all rules are looked at that are not settled yet"
-NAMESPACES = "all rules are asked for each namespace that one of them names"
 KNOWN = {(name, command): why for name, commands, why in (
     ("longNames", "list", LONG_ANSWER),
     ("samePorts", "list", LONG_ANSWER),
     ("ignored", "list", "the JSON is held whole, and an object of one member takes more than 500 bytes of memory"),
     ("mostBlocks", "list evaluate", "the JSON and the policies are held whole, at 50 bytes of memory for each byte"),
     ("groupKeys", "list", PAIRS),
-    ("exposureKeys", "exposure", PATTERNS),
-    ("exposureNamespaces", "exposure", NAMESPACES),
     ("groupKeys", "flatten", "each policy names all groups, and each group by all keys"),
 ) for command in commands.split()}
 
