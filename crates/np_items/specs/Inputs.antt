@@ -7,7 +7,8 @@ use Rattle.serde_json.specs.Read.{read}
 use Rattle.np_json.specs.Members.{text_of, list_of}
 use Rattle.np_json.specs.declared.field.Field.{Field}
 use Rattle.np_json.specs.declared.field.Field.TheVariants.{Missing, Wrong, Given}
-use Rattle.np_items.specs.Readings.{Reading, ◌>>=◌}
+use Rattle.np_json.specs.Shapes.{◌>>=◌}
+use Rattle.np_items.specs.Readings.{Reading}
 use Rattle.np_items.specs.declared.fault.ItemsFault.TheVariants.{NotJson, NotAList}
 
 -- The JSON value of a text in UTF-8, where it is one within the nesting that is read. Where an object has a member
@@ -15,13 +16,10 @@ use Rattle.np_items.specs.declared.fault.ItemsFault.TheVariants.{NotJson, NotALi
 unfoldable pub json_of : List ℕ → Option Data
 json_of text = if is_utf8 text then read text else None
 
+-- the JSON value that the input of that number must have
 abbrev pub or_not_json : ℕ → Option Data → Reading Data
 or_not_json input None = Err (NotJson input)
 or_not_json input (Some value) = Ok value
-
--- the JSON value of the input of that number
-abbrev pub value_of : ℕ → List ℕ → Reading Data
-value_of input text = or_not_json input (json_of text)
 
 -- whether a kind is that of a list: its name ends in `List`, whatever project it is of
 abbrev pub is_list_kind : List ℕ → Bool
@@ -32,10 +30,6 @@ abbrev pub or_no_list : {A : Type 0} → ℕ → Field A → Reading A
 or_no_list input Missing = Err (NotAList input)
 or_no_list input Wrong = Err (NotAList input)
 or_no_list input (Given x) = Ok x
-
--- the text at a name
-abbrev pub text_at : ℕ → List ℕ → Data → Reading (List ℕ)
-text_at input name value = or_no_list input (text_of name value)
 
 -- the items of a JSON list, one after another
 abbrev pub values : Items → List Data
@@ -48,28 +42,24 @@ or_none input Missing = Ok []
 or_none input Wrong = Err (NotAList input)
 or_none input (Given items) = Ok (values items)
 
--- the items of a `v1` List
-abbrev pub listed : ℕ → Data → Reading (List Data)
-listed input value = or_none input (list_of (codes "items") value)
-
 -- a `v1` List lists its items, and another value itself, unless it is another list
 unfoldable pub items_by : ℕ → List ℕ → List ℕ → Data → Reading (List Data)
 items_by input version kind value =
-    if bytes_eq version (codes "v1") && bytes_eq kind (codes "List") then listed input value
+    if bytes_eq version (codes "v1") && bytes_eq kind (codes "List") then or_none input (list_of (codes "items") value)
     else if is_list_kind kind then Err (NotAList input)
     else Ok (value ∷ [])
 
 -- what the value of an input lists
 unfoldable pub items_in : ℕ → Data → Reading (List Data)
 items_in input value = do
-  version ← text_at input (codes "apiVersion") value
-  kind ← text_at input (codes "kind") value
+  version ← or_no_list input (text_of (codes "apiVersion") value)
+  kind ← or_no_list input (text_of (codes "kind") value)
   items_by input version kind value
 
 -- what an input lists
 unfoldable pub input_values : ℕ → List ℕ → Reading (List Data)
 input_values input text = do
-  value ← value_of input text
+  value ← or_not_json input (json_of text)
   items_in input value
 
 -- what inputs list, numbered from `input` on

@@ -2,12 +2,12 @@
 use Rattle.std.specs.Prelude.{ℕ, ◌+◌, List, [], ◌∷◌, length, nat_le, if◌then◌else◌, Option, Some, None, Ok, Err, ⊤}
 use Rattle.serde_json.specs.Data.{Data}
 use Rattle.np_json.specs.Meta.{type_meta}
-use Rattle.np_json.specs.Shapes.{Read}
+use Rattle.np_json.specs.Shapes.{Read, ◌>>=◌, ◌>>◌}
 use Rattle.np_objects.specs.Objects.{object_of}
 use Rattle.np_policies.specs.Policies.{policy_of}
 use Rattle.np_policies.specs.declared.policy.Policy.{Policy}
 use Rattle.np_items.specs.Inputs.{all_values, is_list_kind}
-use Rattle.np_items.specs.Readings.{Reading, ◌>>=◌, ◌>>◌}
+use Rattle.np_items.specs.Readings.{Reading}
 use Rattle.np_items.specs.declared.item.Item.{Item}
 use Rattle.np_items.specs.declared.item.Item.TheVariants as item
 use Rattle.np_items.specs.declared.fault.ItemsFault.TheVariants.{TooManyItems, NestedList, Bad}
@@ -17,7 +17,8 @@ abbrev pub numbered : {A : Type 0} → ℕ → Read A → Reading A
 numbered number (Ok output) = Ok output
 numbered number (Err flaw) = Err (Bad (record { item = number; path = flaw.path; kind = flaw.kind }))
 
--- the rule that an item is no list, whatever its version: an item of any kind that ends in `List` is refused
+-- The rule that an item is no list: one of any kind that ends in `List`, whatever its version and project, is refused,
+-- since it would otherwise be skipped with all that it lists, policies among them.
 unfoldable pub must_be_no_list : ℕ → Data → Reading ⊤
 must_be_no_list number value = do
   type ← numbered number (type_meta value)

@@ -7,17 +7,6 @@ use Rattle.np_items.specs.declared.fault.ItemsFault.TheVariants.{NoMemory}
 abbrev pub Reading : Type 0 → Type 0
 Reading A = Result A ItemsFault
 
--- one step after another; the first fault stands, of whatever type faults are
-infixl 10 ◌>>=◌
-abbrev pub ◌>>=◌ : {A B E : Type 0} → Result A E → (A → Result B E) → Result B E
-(Ok x) >>= rest = rest x
-(Err fault) >>= rest = Err fault
-
-infixl 10 ◌>>◌
-abbrev pub ◌>>◌ : {A B E : Type 0} → Result A E → Result B E → Result B E
-(Ok x) >> rest = rest
-(Err fault) >> rest = Err fault
-
 -- what the code gives of a reading: its value as it is seen, or its very fault; want of memory may always come
 abbrev pub GivesAs : {A B : Type 0} → (A → B) → Result A ItemsFault → Reading B → Type 0
 GivesAs seen (Ok x) reading = reading ≡ Ok (seen x)

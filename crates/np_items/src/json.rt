@@ -10,7 +10,7 @@ use std::alloc::Global;
 /// The JSON value of the input of this number, from 1. It is `NotJson` where the bytes are no JSON text in UTF-8, or
 /// nest deeper than 127.
 pub(crate) fn value_of(alloc: Global, input: u64, text: &[u8]) -> Result<Value, ItemsFault>
-    ensures { GivesAs view result (spec.value_of input text.now) }
+    ensures { GivesAs view result (spec.or_not_json input (spec.json_of text.now)) }
 {
     match Value::from_slice(alloc, text) {
         Ok(value) => Ok(value),

@@ -1,8 +1,8 @@
 //! From the JSON value of an input to the items that it lists.
-ghost use Rattle.std.specs.Prelude.{◌≡◌, [], ◌∷◌, map, IfOk};
+ghost use Rattle.std.specs.Prelude.{◌≡◌, [], ◌∷◌, codes, map, IfOk};
 ghost use Rattle.serde_json.specs.Find.{as_array};
 ghost use Rattle.serde_json.specs.View.{view};
-ghost use Rattle.np_json.specs.Members.{field_by, unless_null};
+ghost use Rattle.np_json.specs.Members.{field_by, list_of, text_of, unless_null};
 ghost use Rattle.np_items.specs.Inputs as spec;
 ghost use Rattle.np_items.specs.Readings.{GivesAs};
 
@@ -22,7 +22,7 @@ pub(crate) fn items_in(alloc: Global, input: u64, value: Value) -> Result<Seq<Va
     let version = text_at(input, &value, "apiVersion")?;
     let kind = text_at(input, &value, "kind")?;
     if version == "v1" && kind == "List" {
-        listed(alloc, input, value)
+        listed_items(alloc, input, value)
     } else if is_list_kind(kind) {
         Err(ItemsFault::NotAList { input })
     } else {
@@ -39,7 +39,7 @@ pub(crate) fn is_list_kind(kind: &str) -> bool
 
 // The text at a name, which the value of an input must have.
 fn text_at<'a>(input: u64, value: &'a Value, name: &str) -> Result<&'a str, ItemsFault>
-    ensures { GivesAs (λ text. text.now) result (spec.text_at input name.now (view value.now)) }
+    ensures { GivesAs (λ text. text.now) result (spec.or_no_list input (text_of name.now (view value.now))) }
 {
     match text_field(value, name) {
         Field::Given(text) => Ok(text),
@@ -48,9 +48,9 @@ fn text_at<'a>(input: u64, value: &'a Value, name: &str) -> Result<&'a str, Item
     }
 }
 
-// The items of a list.
-fn listed(alloc: Global, input: u64, mut value: Value) -> Result<Seq<Value>, ItemsFault>
-    ensures { GivesAs (λ items. map view items) result (spec.listed input (view value)) }
+// The items of a `v1` List.
+fn listed_items(alloc: Global, input: u64, mut value: Value) -> Result<Seq<Value>, ItemsFault>
+    ensures { GivesAs (λ items. map view items) result (spec.or_none input (list_of (codes "items") (view value))) }
 {
     match value.get_mut("items") {
         Some(items) => items_of(alloc, input, items.take()),

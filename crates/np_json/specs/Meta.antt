@@ -31,6 +31,6 @@ namespace value = do
 unfoldable pub namespaced_name : Data → Read NamespacedName
 namespaced_name value = do
   must_be_object value
-  name ← required (codes "name") name value
-  namespace ← optional (codes "namespace") namespace value
-  Ok (record { namespace = unwrap_or namespace (codes "default"); name = name })
+  called ← required (codes "name") name value
+  space ← optional (codes "namespace") namespace value
+  Ok (record { namespace = unwrap_or space (codes "default"); name = called })

@@ -1,17 +1,18 @@
 -- Shapes of single values, and of the maps of labels.
-use Rattle.std.specs.Prelude.{ℤ, ℕ, pos, negsuc, List, length, Bool, not, ◌&&◌, ◌==◌, nat_le, if◌then◌else◌, Option, Some, None, Ok}
+use Rattle.std.specs.Prelude.{ℤ, ℕ, pos, negsuc, List, Bool, not, ◌&&◌, nat_le, if◌then◌else◌, Option, Ok}
 use Rattle.std.specs.List.{list_all}
 use Rattle.serde_json.specs.Data.{Data}
 use Rattle.serde_json.specs.Find.{as_str, as_bool}
+use Rattle.np_conns.specs.ConnsText.{proto_named}
+use Rattle.np_conns.specs.declared.proto.Proto.{Proto}
 use Rattle.np_json.specs.Members.{as_whole, as_pairs}
-use Rattle.np_json.specs.Shapes.{Read, ◌>>=◌, ◌>>◌, refuse, refuse_if}
+use Rattle.np_json.specs.Shapes.{Read, ◌>>=◌, ◌>>◌, or_refuse, refuse, refuse_if}
 use Rattle.np_model.specs.Words.{is_word, is_name, is_label}
-use Rattle.np_json.specs.declared.fault.FaultKind.TheVariants.{BadField, BadName, BadPort}
+use Rattle.np_json.specs.declared.fault.FaultKind.TheVariants.{BadField, BadName, BadPort, BadProtocol}
 
 -- a value of the type that is asked for, else BadField
 abbrev pub of_type : {A : Type 0} → Option A → Read A
-of_type None = refuse BadField
-of_type (Some x) = Ok x
+of_type found = or_refuse BadField found
 
 abbrev pub text : Data → Read (List ℕ)
 text value = of_type (as_str value)
@@ -46,6 +47,12 @@ unfoldable pub port : Data → Read ℕ
 port value = do
   n ← whole value
   port_number n
+
+-- a text that names a protocol, else BadProtocol
+unfoldable pub protocol_name : Data → Read Proto
+protocol_name value = do
+  s ← text value
+  or_refuse BadProtocol (proto_named s)
 
 -- an object from texts to texts that are labels, else BadField
 unfoldable pub labels : Data → Read (List (List ℕ × List ℕ))

@@ -1,5 +1,7 @@
 -- Shapes of members: a JSON value is read as an output, or refused with the flaw that stands first: first by the lines
--- of the shape and, in a list, by its items, whatever the order of the members in the text.
+-- of the shape and, in a list, by its items, whatever the order of the members in the text. Members that no line names
+-- are ignored: an API server drops those that it does not know, and the others say nothing of connections. Only an
+-- unknown member of a label selector is refused.
 use Rattle.std.specs.Prelude.{◌≡◌, ℕ, ◌+◌, ◌==◌, List, [], ◌∷◌, count_by, Bool, if◌then◌else◌, is_none, is_some, Option, Some, None, Result, Ok, Err, ⊤}
 use Rattle.serde_json.specs.Data.{Data, Items, no_items, item}
 use Rattle.serde_json.specs.Find.{as_array, as_object}
@@ -19,14 +21,14 @@ use Rattle.np_json.specs.declared.path.Step.TheVariants.{Field, Item}
 abbrev pub Read : Type 0 → Type 0
 Read Output = Result Output Flaw
 
--- one line of a shape after another; the first flaw stands
+-- one line after another; the first flaw stands, of whatever type flaws are
 infixl 10 ◌>>=◌
-abbrev pub ◌>>=◌ : {A B : Type 0} → Read A → (A → Read B) → Read B
+abbrev pub ◌>>=◌ : {A B E : Type 0} → Result A E → (A → Result B E) → Result B E
 (Ok x) >>= rest = rest x
 (Err flaw) >>= rest = Err flaw
 
 infixl 10 ◌>>◌
-abbrev pub ◌>>◌ : {A B : Type 0} → Read A → Read B → Read B
+abbrev pub ◌>>◌ : {A B E : Type 0} → Result A E → Result B E → Result B E
 (Ok x) >> rest = rest
 (Err flaw) >> rest = Err flaw
 
@@ -50,6 +52,11 @@ fault_of number NoMemory = whole.NoMemory
 -- a flaw of the whole value
 abbrev pub refuse : {A : Type 0} → FaultKind → Read A
 refuse kind = Err (record { path = []; kind = kind })
+
+-- what a value stands for, else a flaw of the whole value
+abbrev pub or_refuse : {A : Type 0} → FaultKind → Option A → Read A
+or_refuse kind None = refuse kind
+or_refuse kind (Some x) = Ok x
 
 -- what is read of the part of a value at one step
 unfoldable pub under : {A : Type 0} → Step → Read A → Read A

@@ -1,6 +1,6 @@
 //! Flaws: what is wrong in a value, seen from that value.
 ghost use Rattle.std.specs.Prelude.{◌≡◌, IfOk};
-ghost use Rattle.np_json.specs.Shapes.{Read, Gives, refuse, under};
+ghost use Rattle.np_json.specs.Shapes.{Read, Gives, or_refuse, refuse, under};
 ghost use Rattle.np_json.specs.declared.path.Step.TheVariants.{Field, Item};
 
 use crate::fault::{Fault, FaultKind, ReadFault};
@@ -126,6 +126,16 @@ pub fn refuse<T>(alloc: Global, kind: FaultKind) -> Result<T, ShapeFault>
         path: Path::empty(alloc),
         kind,
     }))
+}
+
+/// What a value stands for. One that stands for nothing is refused whole, with that flaw.
+pub fn or_refuse<T>(alloc: Global, found: Option<T>, kind: FaultKind) -> Result<T, ShapeFault>
+    ensures { Gives result (or_refuse kind found) }
+{
+    match found {
+        Some(value) => Ok(value),
+        None => refuse(alloc, kind),
+    }
 }
 
 /// What was read of a member, seen from its object: a flaw gets the member's name in front of its path. Nothing

@@ -1,4 +1,4 @@
-//! Shapes of single values: texts, words, names, whole numbers, ports, flags and maps of labels.
+//! Shapes of single values: texts, words, names, whole numbers, ports, protocols, flags and maps of labels.
 ghost use Rattle.std.specs.Prelude.{◌≡◌};
 ghost use Rattle.std.specs.List.{list_all};
 ghost use Rattle.serde_json.specs.View.{view};
@@ -7,10 +7,11 @@ ghost use Rattle.np_json.specs.Scalars.{of_type, port_number};
 ghost use Rattle.np_json.specs.Shapes.{Gives};
 
 use crate::fault::FaultKind;
-use crate::flaw::{ShapeFault, refuse};
+use crate::flaw::{ShapeFault, or_refuse, refuse};
 use crate::pairs::pairs;
 use crate::shape::{Shape, refuse_if};
 use np_base::{PortNum, Seq, Text};
+use np_conns::Proto;
 use np_model::{is_name, is_word};
 use serde_json::Value;
 use std::alloc::Global;
@@ -131,6 +132,24 @@ pub fn port_of(alloc: Global, number: i64) -> Result<PortNum, ShapeFault>
     }
 }
 
+/// The name of a protocol: `TCP`, `UDP` or `SCTP`. Another text is `BadProtocol`, another type `BadField`.
+#[derive(Clone, Copy, Debug, Drop)]
+pub struct ProtocolName;
+
+impl Shape for ProtocolName {
+    ghost use Rattle.np_json.specs.Scalars as scalars;
+
+    type Output = Proto;
+
+    ghost reads = { λ _. scalars.protocol_name };
+
+    #[tactic(auto, unfolding(crate::specs::Scalars::protocol_name))]
+    fn read(&self, alloc: Global, value: &Value) -> Result<Proto, ShapeFault> {
+        let text = of_type(alloc, value.as_str())?;
+        or_refuse(alloc, Proto::named(text), FaultKind::BadProtocol)
+    }
+}
+
 /// An object from texts to texts, each key a word that is not empty and each value a word: its entries, in the
 /// order of their keys' bytes. Anything else is `BadField` of the object, wherever in it the fault is.
 #[derive(Clone, Copy, Debug, Drop)]
@@ -170,8 +189,5 @@ fn is_label(key: &str, value: &str) -> bool
 pub fn of_type<T>(alloc: Global, read: Option<T>) -> Result<T, ShapeFault>
     ensures { Gives result (of_type read) }
 {
-    match read {
-        Some(value) => Ok(value),
-        None => refuse(alloc, FaultKind::BadField),
-    }
+    or_refuse(alloc, read, FaultKind::BadField)
 }

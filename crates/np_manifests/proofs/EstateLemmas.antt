@@ -9,7 +9,7 @@ use Rattle.np_reading.specs.Ends.{pods_from, pods_of}
 use Rattle.np_reading.specs.LeftOut.{count_left_out, is_for, is_left_out, left_out}
 use Rattle.np_reading.specs.Listed.{admin_policies_of, admin_policy, base_policy, baseline_of, first_equal, first_of, ingresses_from, ingresses_of, net_policies_of, net_policy, ranks_of, service}
 use Rattle.np_reading.specs.Listed.{services_of, with_admin, with_rank}
-use Rattle.np_reading.specs.Reading.{estate_of, lists_of, notes_of}
+use Rattle.np_reading.specs.Reading.{estate_of, estate_of_items, notes_of}
 use Rattle.np_model.specs.declared.notes.Notes.{Notes}
 use Rattle.np_reading.proofs.OnceLemmas.{net_policies-once}
 use Rattle.np_items.specs.Inputs.{json_of}
@@ -89,10 +89,10 @@ no-notes policies =
 
 same-lists : (items : List Item) (notes : Notes) → notes_of items ≡ notes → pods_of items ≡ [] → admin_policies_of items ≡ [] → baseline_of items ≡ None → services_of items ≡ [] →
     ingresses_of items ≡ []
-    → lists_of items ≡ record { pods = []; net_policies = net_policies_of items; admin_policies = []; baseline = None; services = []; ingresses = []; notes = notes }
+    → estate_of_items items ≡ record { pods = []; net_policies = net_policies_of items; admin_policies = []; baseline = None; services = []; ingresses = []; notes = notes }
 same-lists items notes counted pods admins baseline services ingresses = rw (counted, pods, admins, baseline, services, ingresses) refl
 
-lists-are : (policies : List NetPolicy) → lists_of (net_items policies) ≡ estate_with policies
+lists-are : (policies : List NetPolicy) → estate_of_items (net_items policies) ≡ estate_with policies
 lists-are policies =
     same-lists (net_items policies) _ (no-notes policies) (no-pods (net_items policies) 0 policies) (no-admins policies) (no-baseline policies) (nothing-given service (λ one. refl) policies)
     (no-ingresses 1 policies)
@@ -107,7 +107,7 @@ policies-once policies apart =
     subst (λ (nets : List NetPolicy). IsPermutation nets (net_policies_of (net_items policies))) (nets-given policies) (net_policies-once (net_items policies) (first_repeat-none policies apart))
 
 estate-read : (texts : List (List ℕ)) (items : List Item) → items_of texts ≡ Ok items → first_repeat items ≡ None → first_equal (ranks_of items) ≡ None → first_in_cycle items ≡ None →
-    estate_of texts ≡ Ok (lists_of items)
+    estate_of texts ≡ Ok (estate_of_items items)
 unfolding estate_of
 estate-read texts items read apart priorities cycles = rw (read, apart, priorities, cycles) refl
 

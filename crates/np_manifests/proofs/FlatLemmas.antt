@@ -56,10 +56,11 @@ use Rattle.np_synth.specs.Flat.{rules_from_group, rules_from_groups, rules_of_ad
 use Rattle.np_synth.specs.Groups.{first_of_group, group_count, group_firsts, relevant}
 use Rattle.np_synth.specs.Ports.{ports_of, span_of, spans_of_all}
 use Rattle.np_synth.specs.Selecting.{namespace_named, requirement_at, requirement_of_key}
-use Rattle.np_table.proofs.PairLemmas.{pod_there, source-within}
-use Rattle.np_table.specs.PairRules.{first_end}
+use Rattle.np_kinds.proofs.PairLemmas.{pod_there, source-within}
+use Rattle.np_kinds.specs.Kinds.{first_end}
 use Rattle.np_table.specs.Rows.{address_rows, is_nothing}
-use Rattle.np_table.specs.Table.{estate_table, number_of_workloads, pair_allows, source_pod}
+use Rattle.np_table.specs.Table.{estate_table}
+use Rattle.np_kinds.specs.Between.{number_of_workloads, pair_allows, source_pod}
 use Rattle.np_table.specs.declared.rows.AddressRow.{AddressRow}
 use Rattle.np_table.specs.declared.rows.AddressSpan.{AddressSpan}
 use Rattle.np_table.specs.declared.rows.AddressSpan.TheVariants as span

@@ -8,16 +8,16 @@ use Rattle.serde_json.specs.Data.{Data}
 use Rattle.np_model.specs.Lawful.{IsLawful}
 use Rattle.np_reading.specs.Reading.{estate_of, or_refused}
 use Rattle.np_model.specs.declared.lists.EstateLists.{EstateLists}
-use Rattle.np_reading.proofs.LawfulReading.{lists_of-lawful}
+use Rattle.np_reading.proofs.LawfulReading.{estate_of_items-lawful}
 use Rattle.np_reading.proofs.ReadingLemmas.{estate_of-passed}
 use Rattle.np_items.specs.Inputs.{all_values}
 use Rattle.np_items.specs.Items.{each_item, item_of, items_of, must_be_few, must_be_no_list, numbered, policy_or_object}
-use Rattle.np_items.specs.Readings.{Reading, ◌>>=◌, ◌>>◌}
+use Rattle.np_items.specs.Readings.{Reading}
 use Rattle.np_items.specs.WellFormed.{IsWellItem}
 use Rattle.np_items.specs.declared.fault.ItemsFault.TheVariants.{TooManyItems}
 use Rattle.np_items.specs.declared.item.Item.{Item}
 use Rattle.np_items.specs.declared.item.Item.TheVariants as item
-use Rattle.np_json.specs.Shapes.{Read}
+use Rattle.np_json.specs.Shapes.{Read, ◌>>=◌, ◌>>◌}
 use Rattle.np_objects.proofs.WellLemmas.{object_of-well}
 use Rattle.np_objects.specs.Objects.{object_of}
 use Rattle.np_policies.proofs.WellPolicies.{policy-well}
@@ -96,4 +96,4 @@ estate-lawful texts lists is =
     let accepted_items = accepted (items_of texts) items read.1 in
     let well = items-well texts items accepted_items in
     let passed = estate_of-passed texts items lists accepted_items is in
-    subst IsLawful passed.2 (lists_of-lawful items well.1 (All-from_recursion IsWellItem items well.0) passed.0)
+    subst IsLawful passed.2 (estate_of_items-lawful items well.1 (All-from_recursion IsWellItem items well.0) passed.0)

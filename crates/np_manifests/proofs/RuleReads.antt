@@ -13,13 +13,13 @@ use Rattle.np_conns.specs.ConnsText.{proto_name}
 use Rattle.np_conns.specs.declared.proto.Proto.{Proto}
 use Rattle.np_conns.specs.declared.proto.Proto.TheVariants.{Tcp, Udp, Sctp}
 use Rattle.np_json.specs.Members.{member_of}
-use Rattle.np_json.specs.Scalars.{port}
+use Rattle.np_json.specs.Scalars.{port, protocol_name}
 use Rattle.np_json.specs.Shapes.{listed, must_be_object, optional, refuse_if, required, under}
 use Rattle.np_model.specs.Words.{is_word, is_key}
 use Rattle.np_labels.specs.declared.selector.Selector.{Selector}
 use Rattle.np_policies.specs.Blocks.{cidr, ip_block}
 use Rattle.np_policies.specs.NetworkPolicies.{net_peer, net_rule}
-use Rattle.np_policies.specs.Ports.{end_port, net_port, port_name, port_value, proto, protocol}
+use Rattle.np_policies.specs.Ports.{end_port, net_port, port_name, port_value, protocol}
 use Rattle.np_policies.specs.Selectors.{selector}
 use Rattle.np_model.specs.WellPolicies.{is_well_cidr, is_well_selector}
 use Rattle.np_model.specs.declared.direction.Direction.{Direction}
@@ -37,15 +37,15 @@ use Rattle.np_manifests.proofs.ShapeLemmas.{all-passed, optional-none, optional-
 
 -- ---- ports
 
-proto-read : (one : Proto) → proto (string (proto_name one)) ≡ Ok one
-unfolding proto
-proto-read Tcp = refl
-proto-read Udp = refl
-proto-read Sctp = refl
+protocol_name-read : (one : Proto) → protocol_name (string (proto_name one)) ≡ Ok one
+unfolding protocol_name
+protocol_name-read Tcp = refl
+protocol_name-read Udp = refl
+protocol_name-read Sctp = refl
 
 protocol-read : (one : Proto) (value : Data) → member_of (codes "protocol") value ≡ Some (string (proto_name one)) → protocol value ≡ Ok one
 unfolding protocol
-protocol-read one value there = rw (optional-read (codes "protocol") proto value (string (proto_name one)) one there (proto-read one)) refl
+protocol-read one value there = rw (optional-read (codes "protocol") protocol_name value (string (proto_name one)) one there (protocol_name-read one)) refl
 
 port-read : (n : ℕ) → 1 ≤ n → n ≤ 65535 → port (number (unsigned n)) ≡ Ok n
 unfolding port

@@ -14,7 +14,7 @@ use Rattle.np_base.specs.declared.range.Range.{Range}
 use Rattle.np_fold.specs.Workloads.{folding_of, owner_name}
 use Rattle.np_meaning.specs.EstateRows.{IsEndOf, IsRangeOf, IsSpan}
 use Rattle.np_report.specs.RowText.{blocks_of, end_text, ends_text, names_of, span_text}
-use Rattle.np_table.specs.Table.{address_of}
+use Rattle.np_kinds.specs.Between.{address_of}
 use Rattle.np_table.specs.declared.rows.AddressSpan.{AddressSpan}
 use Rattle.np_table.specs.declared.rows.AddressSpan.TheVariants as span
 use Rattle.np_table.specs.declared.rows.RowEnd.{RowEnd}

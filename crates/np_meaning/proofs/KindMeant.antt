@@ -15,7 +15,7 @@ use Rattle.np_objects.specs.ControllerKinds.{kind_name}
 use Rattle.np_objects.specs.Controllers.{controller}
 use Rattle.np_objects.specs.Ingresses.{ingress}
 use Rattle.np_objects.specs.Namespaces.{namespace}
-use Rattle.np_objects.specs.Objects.{kind_of, object_by, object_of}
+use Rattle.np_objects.specs.Objects.{object_kind, object_by, object_of}
 use Rattle.np_objects.specs.Pods.{pod}
 use Rattle.np_objects.specs.Services.{service}
 use Rattle.np_objects.specs.declared.controller.ControllerItem.{ControllerItem}
@@ -53,7 +53,7 @@ taken value one make read so is =
     let item = bind-output one (λ item. Ok (make item)) read is in
     subst (λ read. IfOk read (IsOfItsKind value)) item.after (so item.first item.here)
 
-module _ (value : Data) (meta : TypeMeta) (names : Names meta.api_version meta.kind value) (read : Object) (is : object_by (kind_of meta.api_version meta.kind) value ≡ Ok read) where
+module _ (value : Data) (meta : TypeMeta) (names : Names meta.api_version meta.kind value) (read : Object) (is : object_by (object_kind meta.api_version meta.kind) value ≡ Ok read) where
   -- the kinds of `v1`
   as_service : bytes_eq meta.api_version (codes "v1") ≡ true → bytes_eq meta.kind (codes "Pod") ≡ false → bytes_eq meta.kind (codes "Namespace") ≡ false →
       bytes_eq meta.kind (codes "ReplicationController") ≡ false → (here : Bool) → bytes_eq meta.kind (codes "Service") ≡ here → IsOfItsKind value read

@@ -16,14 +16,14 @@ use Rattle.np_conns.specs.declared.proto.Proto.{Proto}
 use Rattle.np_conns.specs.declared.proto.Proto.TheVariants.{Tcp}
 use Rattle.np_json.specs.Members.{member_of}
 use Rattle.np_json.specs.Meta.{namespaced_name}
-use Rattle.np_json.specs.Scalars.{flag, name, port, text, word}
-use Rattle.np_json.specs.Shapes.{given, listed, must_be_object, optional, required}
+use Rattle.np_json.specs.Scalars.{flag, name, port, protocol_name, text, word}
+use Rattle.np_json.specs.Shapes.{given, listed, must_be_object, optional, or_refuse, required}
 use Rattle.np_json.specs.declared.fault.FaultKind.TheVariants.{BadAddress, BadProtocol}
 use Rattle.np_meaning.proofs.MetaMeant.{labels-meant, namespaced_name-meant, IsOwn}
 use Rattle.np_meaning.proofs.Outputs.{OutputOf, optional-output, each-output, number_at-required, is_true_at-optional, text_at-optional, text_at-required, IsOptional, text-output}
 use Rattle.np_policies.proofs.ReadLemmas.{bind-output, then-output, word-output}
 use Rattle.np_objects.specs.Labels.{label_map}
-use Rattle.np_objects.specs.Lists.{or_refuse, unless_empty}
+use Rattle.np_objects.specs.Lists.{unless_empty}
 use Rattle.np_objects.specs.Namespaces.{namespace, namespace_metadata}
 use Rattle.np_meaning.specs.EachPod.{AreEach}
 use Rattle.np_meaning.specs.ObjectMeaning.{has_name, is_address, is_final, is_text_empty, list_at, is_true_at, named_ports, number_at, protocol_of, says_address, text_at, AreLabelsOf, IsContainerPort}
@@ -31,7 +31,7 @@ use Rattle.np_meaning.specs.ObjectMeaning.{IsNamespaceOf, IsPodOf}
 use Rattle.np_objects.specs.Owners.{owner_reference}
 use Rattle.np_objects.specs.PodSpecs.{container, pod_spec}
 use Rattle.np_objects.specs.Pods.{pod, pod_item, pod_metadata}
-use Rattle.np_objects.specs.Ports.{container_port, if_named, port_name, protocol}
+use Rattle.np_objects.specs.Ports.{container_port, if_named, port_name}
 use Rattle.np_objects.specs.Statuses.{address, address_by, distinct, has_address, is_finished, is_same, kept_with, no_status, pod_ip, pod_status}
 use Rattle.np_model.specs.declared.named_port.NamedPort.{NamedPort}
 use Rattle.np_objects.specs.declared.namespace.NamespaceItem.{NamespaceItem}
@@ -79,9 +79,9 @@ port_name-meant value found is = by (member_of (codes "name") value) found (opti
     by (Some one) None is = absurd is
     by (Some one) (Some s) is = port_name-output one s is
 
-protocol-output : (value : Data) (read : Proto) → protocol value ≡ Ok read → unwrap_or (proto_named (unwrap_or (as_str value) [])) Tcp ≡ read
-unfolding protocol
-protocol-output value read is =
+protocol_name-output : (value : Data) (read : Proto) → protocol_name value ≡ Ok read → unwrap_or (proto_named (unwrap_or (as_str value) [])) Tcp ≡ read
+unfolding protocol_name
+protocol_name-output value read is =
     let s = bind-output (text value) (λ s. or_refuse BadProtocol (proto_named s)) read is in
     rw (text-output value s.first s.here) (by (proto_named s.first) s.after)
   where
@@ -89,15 +89,15 @@ protocol-output value read is =
     by None is = cc
     by (Some other) is = cc
 
-pub protocol-meant : (value : Data) (found : Option Proto) → optional (codes "protocol") protocol value ≡ Ok found → protocol_of value ≡ unwrap_or found Tcp
-protocol-meant value found is = by (member_of (codes "protocol") value) found (optional-output protocol (codes "protocol") value found is)
+pub protocol-meant : (value : Data) (found : Option Proto) → optional (codes "protocol") protocol_name value ≡ Ok found → protocol_of value ≡ unwrap_or found Tcp
+protocol-meant value found is = by (member_of (codes "protocol") value) found (optional-output protocol_name (codes "protocol") value found is)
   where
-    by : (member : Option Data) (found : Option Proto) → IsOptional protocol member found →
+    by : (member : Option Data) (found : Option Proto) → IsOptional protocol_name member found →
         unwrap_or (proto_named (unwrap_or (as_str (unwrap_or member (object no_members))) [])) Tcp ≡ unwrap_or found Tcp
     by None None is = refl
     by None (Some read) is = absurd is
     by (Some one) None is = absurd is
-    by (Some one) (Some read) is = protocol-output one read is
+    by (Some one) (Some read) is = protocol_name-output one read is
 
 -- a port, or none where it has no name
 abbrev IsPortOr : Data → Option NamedPort → Type 0
@@ -109,7 +109,7 @@ unfolding container_port
 container_port-meant value read is =
     let past = then-output (must_be_object value) _ read is in
     let called = bind-output (optional (codes "name") port_name value) _ read past in
-    let proto = bind-output (optional (codes "protocol") protocol value) _ read called.after in
+    let proto = bind-output (optional (codes "protocol") protocol_name value) _ read called.after in
     let number = bind-output (required (codes "containerPort") port value) (λ number. Ok (if_named (option_flatten called.first) (unwrap_or proto.first Tcp) number)) read proto.after in
     let made : if_named (option_flatten called.first) (unwrap_or proto.first Tcp) number.first ≡ read = let after = number.after in cc in
     subst (IsPortOr value) made (by (option_flatten called.first) (unwrap_or proto.first Tcp) number.first (port_name-meant value called.first called.here)

@@ -9,7 +9,7 @@ use Rattle.serde_json.specs.Find.{as_object, as_str}
 use Rattle.np_conns.specs.declared.proto.Proto.TheVariants.{Tcp}
 use Rattle.np_json.specs.Members.{as_whole, member_of, pairs_of_members}
 use Rattle.np_json.specs.Meta.{namespaced_name}
-use Rattle.np_json.specs.Scalars.{labels, port, port_number, text}
+use Rattle.np_json.specs.Scalars.{labels, port, port_number, protocol_name, text}
 use Rattle.np_json.specs.Shapes.{listed, must_be_object, optional, required}
 use Rattle.np_labels.specs.Labels.{value_of}
 use Rattle.np_labels.specs.Selectors.{allows, label_requirement, meets_requirement}
@@ -22,7 +22,7 @@ use Rattle.np_meaning.proofs.PodMeant.{port_name-meant, port_name-output, protoc
 use Rattle.np_objects.specs.Controllers.{is_zero}
 use Rattle.np_meaning.specs.EachPod.{AreEach}
 use Rattle.np_meaning.specs.ObjectMeaning.{entries_at, have_entries, is_text_of, list_at, number_at, target_at, text_at, IsServiceOf, IsServicePort, IsServiceSelector}
-use Rattle.np_objects.specs.Ports.{port_name, protocol}
+use Rattle.np_objects.specs.Ports.{port_name}
 use Rattle.np_objects.specs.Services.{by_name, by_number, is_text, selector_of, service, service_item, service_port, service_spec, target_by, target_port}
 use Rattle.np_model.specs.declared.service.PortName.{PortName}
 use Rattle.np_model.specs.declared.service.PortName.TheVariants.{Number, Named}
@@ -128,7 +128,7 @@ unfolding service_port
 service_port-meant value read is =
     let past = then-output (must_be_object value) _ read is in
     let called = bind-output (optional (codes "name") port_name value) _ read past in
-    let proto = bind-output (optional (codes "protocol") protocol value) _ read called.after in
+    let proto = bind-output (optional (codes "protocol") protocol_name value) _ read called.after in
     let number = bind-output (required (codes "port") port value) _ read proto.after in
     let target = bind-output (optional (codes "targetPort") target_port value)
     (λ target. Ok (record { name = option_flatten called.first; proto = unwrap_or proto.first Tcp; port = number.first; target = unwrap_or (option_flatten target) (Number number.first) })) read

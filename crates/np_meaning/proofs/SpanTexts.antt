@@ -31,7 +31,7 @@ use Rattle.np_base.specs.Ranges.{holds}
 use Rattle.np_meaning.specs.EstateRows.{IsRangeOf, IsSpan}
 use Rattle.np_report.specs.RowText.{blocks_of, ends_text, span_text}
 use Rattle.np_table.specs.Said.{IsInFamily}
-use Rattle.np_table.specs.Table.{address_of}
+use Rattle.np_kinds.specs.Between.{address_of}
 use Rattle.np_table.specs.declared.rows.AddressSpan.{AddressSpan}
 use Rattle.np_table.specs.declared.rows.AddressSpan.TheVariants as span
 use Rattle.np_meaning.proofs.AddressBytes.{IsForeign, address-lacks, block-lacks}

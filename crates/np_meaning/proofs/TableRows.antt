@@ -17,7 +17,8 @@ use Rattle.np_table.proofs.RangeWalks.{walk-right}
 use Rattle.np_table.specs.Right.{AreRight, Stretch, are_same_conns, conns_of, walk}
 use Rattle.np_table.specs.Rows.{address_row, address_rows, all_address_rows, all_pair_rows, all_rows, four_of, is_nothing, pair_key, pair_rows, row_if, row_of, rows_in, rows_of_addresses}
 use Rattle.np_table.specs.Rows.{rows_of_both, rows_towards, six_of}
-use Rattle.np_table.specs.Table.{IsWorkload, Table, estate_table, number_of_workloads, table_of}
+use Rattle.np_kinds.specs.Between.{IsWorkload, number_of_workloads}
+use Rattle.np_table.specs.Table.{Table, estate_table, table_of}
 use Rattle.np_table.specs.declared.rows.AddressRow.{AddressRow}
 use Rattle.np_table.specs.declared.rows.Row.{Row}
 use Rattle.np_table.specs.declared.rows.RowKey.{RowKey}

@@ -22,12 +22,14 @@ use Rattle.np_reading.proofs.LawfulLists.{AllLater}
 use Rattle.np_reading.proofs.LawfulNames.{items_apart, AreNamedApart}
 use Rattle.np_reading.proofs.ReadingLemmas.{estate_of-passed}
 use Rattle.np_reading.specs.Listed.{have_priorities_apart}
-use Rattle.np_reading.specs.Reading.{estate_of, have_names_apart, have_no_cycle, lists_of, or_cycle}
-use Rattle.np_reading.specs.Readings.{Reading}
+use Rattle.np_reading.specs.Reading.{estate_of, have_names_apart, have_no_cycle, estate_of_items}
+use Rattle.np_reading.specs.Readings.{Reading, refuse_found}
+use Rattle.np_reading.specs.declared.refusal.Refusal.TheVariants.{OwnerCycle}
 use Rattle.np_model.specs.declared.lists.EstateLists.{EstateLists}
 use Rattle.np_items.specs.Inputs.{all_values}
 use Rattle.np_items.specs.Items.{each_item, item_of, items_of, must_be_few}
-use Rattle.np_items.specs.Readings.{Reading as ItemsReading, ◌>>=◌, ◌>>◌}
+use Rattle.np_items.specs.Readings.{Reading as ItemsReading}
+use Rattle.np_json.specs.Shapes.{◌>>=◌, ◌>>◌}
 use Rattle.np_items.specs.declared.fault.ItemsFault.{ItemsFault}
 use Rattle.np_items.specs.declared.fault.ItemsFault.TheVariants.{TooManyItems}
 use Rattle.serde_json.specs.Data.{Data}
@@ -149,7 +151,7 @@ module _ (items : List Item) (apart : AllLater AreNamedApart items) (chains : Is
 no_cycle : (items : List Item) → have_no_cycle items ≡ Ok tt → first_cycle (ups items) ≡ None
 no_cycle items passed = by (first_cycle (ups items)) passed
   where
-    by : (found : Option ℕ) → or_cycle (option_map (full_name_at items) found) ≡ Ok tt → found ≡ None
+    by : (found : Option ℕ) → refuse_found OwnerCycle (option_map (full_name_at items) found) ≡ Ok tt → found ≡ None
     by None is = refl
     by (Some place) is = cc
 
@@ -163,7 +165,7 @@ steps-passed (Err refusal) priorities cycles made lists is = cc
 estate-no_cycle : (texts : List (List ℕ)) (items : List Item) (lists : EstateLists) → items_of texts ≡ Ok items → estate_of texts ≡ Ok lists → first_cycle (ups items) ≡ None
 unfolding estate_of
 estate-no_cycle texts items lists read is =
-    no_cycle items (steps-passed (have_names_apart items) (have_priorities_apart items) (have_no_cycle items) (lists_of items) lists (rw read at is))
+    no_cycle items (steps-passed (have_names_apart items) (have_priorities_apart items) (have_no_cycle items) (estate_of_items items) lists (rw read at is))
 
 each_item-count : (number : ℕ) (values : List Data) (items : List Item) → each_item number values ≡ Ok items → length items ≡ length values
 each_item-count number [] [] is = refl

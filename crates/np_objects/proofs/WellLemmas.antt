@@ -15,7 +15,7 @@ use Rattle.np_conns.specs.declared.proto.Proto.TheVariants.{Tcp}
 use Rattle.np_json.specs.Meta.{namespaced_name}
 use Rattle.np_json.specs.Members.{as_whole}
 use Rattle.np_model.specs.Words.{is_label, is_word, is_name}
-use Rattle.np_json.specs.Scalars.{text, name, whole, port, labels}
+use Rattle.np_json.specs.Scalars.{text, name, whole, port, protocol_name, labels}
 use Rattle.np_json.specs.Shapes.{Read, GivesItem, must_be_object, optional, required}
 use Rattle.np_json.specs.declared.fault.ReadFault.{ReadFault}
 use Rattle.np_labels.specs.Selectors.{label_requirement}
@@ -26,11 +26,11 @@ use Rattle.np_objects.specs.Ingresses.{ingress}
 use Rattle.np_objects.specs.Labels.{label_map, pair_of}
 use Rattle.np_objects.specs.Lists.{unless_empty}
 use Rattle.np_objects.specs.Namespaces.{namespace, namespace_metadata}
-use Rattle.np_objects.specs.Objects.{object_of, object_by, kind_of}
+use Rattle.np_objects.specs.Objects.{object_of, object_by, object_kind}
 use Rattle.np_objects.specs.Owners.{owner_reference, owner_of, names_owner}
 use Rattle.np_objects.specs.PodSpecs.{container, pod_spec}
 use Rattle.np_objects.specs.Pods.{pod, pod_metadata}
-use Rattle.np_objects.specs.Ports.{port_name, protocol, container_port, if_named}
+use Rattle.np_objects.specs.Ports.{port_name, container_port, if_named}
 use Rattle.np_objects.specs.Services.{service, service_spec, service_port, target_port, target_by, by_number, by_name, selector_of, is_text}
 use Rattle.np_objects.specs.Templates.{template, template_metadata}
 use Rattle.np_model.specs.WellObjects.{option_all, is_whole_word, is_well_label, is_well_labels, is_well_requirement, is_well_selector, is_well_port, is_well_ports, is_well_target}
@@ -160,7 +160,7 @@ container_port-well value =
     ReadsOnly-then (option_all is_well_port) _ _ (
     ReadsOnly-bind (option_all (option_all is_whole_word)) (option_all is_well_port) _ _ (ReadsOnly-optional (option_all is_whole_word) (codes "name") port_name value port_name-well)
     (λ called called_well.
-    ReadsOnly-after (option_all is_well_port) (optional (codes "protocol") protocol value) _ (λ proto.
+    ReadsOnly-after (option_all is_well_port) (optional (codes "protocol") protocol_name value) _ (λ proto.
     ReadsOnly-after (option_all is_well_port) (required (codes "containerPort") port value) _ (λ number.
     ReadsOnly-Ok (option_all is_well_port) (if_named (option_flatten called) (unwrap_or proto Tcp) number)
     (if_named-well (option_flatten called) (unwrap_or proto Tcp) number (flattened is_whole_word called called_well))))))
@@ -329,7 +329,7 @@ unfolding service_port
 service_port-well value =
     ReadsOnly-then is_well_service_port _ _ (
     ReadsOnly-bind (option_all (option_all is_whole_word)) is_well_service_port _ _ (ReadsOnly-optional (option_all is_whole_word) (codes "name") port_name value port_name-well) (λ called called_well.
-    ReadsOnly-after is_well_service_port (optional (codes "protocol") protocol value) _ (λ proto.
+    ReadsOnly-after is_well_service_port (optional (codes "protocol") protocol_name value) _ (λ proto.
     ReadsOnly-after is_well_service_port (required (codes "port") port value) _ (λ number.
     ReadsOnly-bind (option_all (option_all is_well_target)) is_well_service_port _ _ (ReadsOnly-optional (option_all is_well_target) (codes "targetPort") target_port value target_port-well)
     (λ target target_well.
@@ -401,7 +401,7 @@ object_by-well (Some kind.Ingress) value = ReadsOnly-bind is_well_ingress is_wel
 
 pub object_of-well : (value : Data) → ReadsOnly is_well_object (object_of value)
 unfolding object_of
-object_of-well value = ReadsOnly-after is_well_object _ _ (λ type. object_by-well (kind_of type.api_version type.kind) value)
+object_of-well value = ReadsOnly-after is_well_object _ _ (λ type. object_by-well (object_kind type.api_version type.kind) value)
 
 -- what the code gives of an item is well formed, if what is read of it is
 pub IsWellObject-of_item : (number : ℕ) (given : Result Object ReadFault) (read : Read Object) → ReadsOnly is_well_object read → GivesItem number given read → IfOk given IsWellObject

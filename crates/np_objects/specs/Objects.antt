@@ -46,8 +46,8 @@ networking_kind name = if bytes_eq name (codes "Ingress") then Some kind.Ingress
 
 -- The kind of an object by its API version and the name of its kind. A kind in another version, as a Deployment of
 -- `apps/v1beta1`, is none of them: it is skipped, and counted with the objects of other kinds.
-abbrev pub kind_of : List ℕ → List ℕ → Option ObjectKind
-kind_of version name =
+abbrev pub object_kind : List ℕ → List ℕ → Option ObjectKind
+object_kind version name =
     if bytes_eq version (codes "v1") then core_kind name
     else if bytes_eq version (codes "apps/v1") then apps_kind name
     else if bytes_eq version (codes "batch/v1") then batch_kind name
@@ -77,4 +77,4 @@ object_by (Some kind.Ingress) value = do
 unfoldable pub object_of : Data → Read Object
 object_of value = do
   type ← type_meta value
-  object_by (kind_of type.api_version type.kind) value
+  object_by (object_kind type.api_version type.kind) value

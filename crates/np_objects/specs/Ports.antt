@@ -2,20 +2,12 @@
 use Rattle.std.specs.Prelude.{ℕ, List, codes, Option, Some, None, unwrap_or, Ok}
 use Rattle.std.specs.Option.{option_flatten}
 use Rattle.serde_json.specs.Data.{Data}
-use Rattle.np_conns.specs.ConnsText.{proto_named}
 use Rattle.np_conns.specs.declared.proto.Proto.{Proto}
 use Rattle.np_conns.specs.declared.proto.Proto.TheVariants.{Tcp}
-use Rattle.np_json.specs.Scalars.{text, word, port}
+use Rattle.np_json.specs.Scalars.{word, port, protocol_name}
 use Rattle.np_json.specs.Shapes.{Read, ◌>>=◌, ◌>>◌, must_be_object, optional, required}
-use Rattle.np_json.specs.declared.fault.FaultKind.TheVariants.{BadProtocol}
-use Rattle.np_objects.specs.Lists.{unless_empty, or_refuse}
+use Rattle.np_objects.specs.Lists.{unless_empty}
 use Rattle.np_model.specs.declared.named_port.NamedPort.{NamedPort}
-
--- the name of a protocol
-unfoldable pub protocol : Data → Read Proto
-protocol value = do
-  s ← text value
-  or_refuse BadProtocol (proto_named s)
 
 -- a word; the empty text counts as missing
 unfoldable pub port_name : Data → Read (Option (List ℕ))
@@ -33,6 +25,6 @@ unfoldable pub container_port : Data → Read (Option NamedPort)
 container_port value = do
   must_be_object value
   name ← optional (codes "name") port_name value
-  proto ← optional (codes "protocol") protocol value
+  proto ← optional (codes "protocol") protocol_name value
   number ← required (codes "containerPort") port value
   Ok (if_named (option_flatten name) (unwrap_or proto Tcp) number)

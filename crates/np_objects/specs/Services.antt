@@ -6,13 +6,13 @@ use Rattle.serde_json.specs.Data.{Data}
 use Rattle.np_conns.specs.declared.proto.Proto.TheVariants.{Tcp}
 use Rattle.np_json.specs.Members.{as_whole}
 use Rattle.np_json.specs.Meta.{namespaced_name}
-use Rattle.np_json.specs.Scalars.{text, port, port_number, labels}
+use Rattle.np_json.specs.Scalars.{text, port, port_number, protocol_name, labels}
 use Rattle.np_json.specs.Shapes.{Read, ◌>>=◌, ◌>>◌, must_be_object, optional, required, listed}
 use Rattle.np_json.specs.declared.meta.NamespacedName.{NamespacedName}
 use Rattle.np_labels.specs.Selectors.{label_requirement}
 use Rattle.np_labels.specs.declared.selector.Selector.{Selector}
 use Rattle.np_objects.specs.Controllers.{is_zero}
-use Rattle.np_objects.specs.Ports.{protocol, port_name}
+use Rattle.np_objects.specs.Ports.{port_name}
 use Rattle.np_model.specs.declared.service.PortName.{PortName}
 use Rattle.np_model.specs.declared.service.PortName.TheVariants.{Number, Named}
 use Rattle.np_model.specs.declared.service.ServiceItem.{ServiceItem}
@@ -45,7 +45,7 @@ unfoldable pub service_port : Data → Read ServicePort
 service_port value = do
   must_be_object value
   name ← optional (codes "name") port_name value
-  proto ← optional (codes "protocol") protocol value
+  proto ← optional (codes "protocol") protocol_name value
   number ← required (codes "port") port value
   target ← optional (codes "targetPort") target_port value
   Ok (record { name = option_flatten name; proto = unwrap_or proto Tcp; port = number; target = unwrap_or (option_flatten target) (Number number) })

@@ -15,8 +15,8 @@ pub(crate) enum ObjectKind {
 }
 
 /// The kind of an object by its API version and the name of its kind. `None` where it is not read.
-pub(crate) fn kind_of(version: &str, name: &str) -> Option<ObjectKind>
-    ensures { result ≡ objects.kind_of version.now name.now }
+pub(crate) fn object_kind(version: &str, name: &str) -> Option<ObjectKind>
+    ensures { result ≡ objects.object_kind version.now name.now }
 {
     match version {
         "v1" => core_kind(name),

@@ -2,11 +2,9 @@
 ghost use Rattle.std.specs.Prelude.{◌≡◌, ◌++◌, IfOk};
 ghost use Rattle.std.specs.List.{filter_map, flat_map};
 ghost use Rattle.std.specs.Option.{option_to_list};
-ghost use Rattle.np_json.specs.Shapes.{Gives};
 ghost use Rattle.np_objects.specs.Lists as lists;
 
 use np_base::{NoMemory, Seq, Text};
-use np_json::{FaultKind, ShapeFault, refuse};
 use std::alloc::Global;
 
 /// A text, unless it is empty: the empty text counts as missing.
@@ -17,20 +15,6 @@ pub(crate) fn unless_empty(text: Text) -> Option<Text>
         None
     } else {
         Some(text)
-    }
-}
-
-/// A value that a text stands for, or the flaw of a text that stands for none.
-pub(crate) fn or_refuse<T>(
-    alloc: Global,
-    found: Option<T>,
-    kind: FaultKind,
-) -> Result<T, ShapeFault>
-    ensures { Gives result (lists.or_refuse kind found) }
-{
-    match found {
-        Some(value) => Ok(value),
-        None => refuse(alloc, kind),
     }
 }
 

@@ -13,6 +13,7 @@ pub enum Object {
     Controller(ControllerItem),
     Service(ServiceItem),
     Ingress(IngressItem),
-    /// An object of a kind that is not read here, policies among them.
+    /// An object of another kind or version, as a ConfigMap or a Deployment of `apps/v1beta1`, of which nothing is read.
+    /// Policies are of other kinds too, but an item is asked first whether it is one: no `Other` of an item is a policy.
     Other,
 }

@@ -7,7 +7,7 @@ ghost use Rattle.np_objects.specs.WellFormed.{IsWellObject};
 
 use crate::controller_shapes::ControllerShape;
 use crate::ingress_shapes::IngressShape;
-use crate::kind::{ObjectKind, kind_of};
+use crate::kind::{ObjectKind, object_kind};
 use crate::namespace::NamespaceShape;
 use crate::object::Object;
 use crate::pod_item::PodShape;
@@ -46,7 +46,7 @@ impl Shape for ObjectShape {
     #[tactic(auto, unfolding(crate::specs::Objects::object_of))]
     fn read(&self, alloc: Global, value: &Value) -> Result<Object, ShapeFault> {
         let meta = TypeMetaShape.read(alloc, value)?;
-        let kind = kind_of(meta.api_version.as_str(), meta.kind.as_str());
+        let kind = object_kind(meta.api_version.as_str(), meta.kind.as_str());
         object_by(alloc, kind, value)
     }
 }

@@ -5,10 +5,11 @@ ghost use Rattle.np_objects.specs.Statuses as statuses;
 ghost use Rattle.np_objects.specs.Lists as lists;
 
 use crate::distinct_addresses::distinct;
-use crate::lists::or_refuse;
 use np_addr::{Address, Addresses, read_address};
 use np_base::Text;
-use np_json::{AnyText, FaultKind, Shape, ShapeFault, listed, must_be_object, of_type, optional};
+use np_json::{
+    AnyText, FaultKind, Shape, ShapeFault, listed, must_be_object, of_type, optional, or_refuse,
+};
 use serde_json::Value;
 use std::alloc::Global;
 

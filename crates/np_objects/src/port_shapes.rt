@@ -2,33 +2,13 @@
 ghost use Rattle.std.specs.Prelude.{◌≡◌};
 ghost use Rattle.np_objects.specs.Ports as ports;
 
-use crate::lists::{or_refuse, unless_empty};
+use crate::lists::unless_empty;
 use np_base::{PortNum, Text};
 use np_conns::Proto;
-use np_json::{
-    FaultKind, Port, Shape, ShapeFault, Word, must_be_object, of_type, optional, required,
-};
+use np_json::{Port, ProtocolName, Shape, ShapeFault, Word, must_be_object, optional, required};
 use np_model::NamedPort;
 use serde_json::Value;
 use std::alloc::Global;
-
-/// The name of a protocol. Another text is `BadProtocol`, another type `BadField`.
-#[derive(Drop)]
-pub(crate) struct ProtocolShape;
-
-impl Shape for ProtocolShape {
-    ghost use Rattle.np_objects.specs.Ports.{protocol};
-
-    type Output = Proto;
-
-    ghost reads = { λ _. protocol };
-
-    #[tactic(auto, unfolding(crate::specs::Ports::protocol))]
-    fn read(&self, alloc: Global, value: &Value) -> Result<Proto, ShapeFault> {
-        let text = of_type(alloc, value.as_str())?;
-        or_refuse(alloc, Proto::named(text), FaultKind::BadProtocol)
-    }
-}
 
 /// A word, where the empty text counts as missing. Anything else is `BadField`.
 #[derive(Drop)]
@@ -69,7 +49,7 @@ impl Shape for ContainerPortShape {
     fn read(&self, alloc: Global, value: &Value) -> Result<Option<NamedPort>, ShapeFault> {
         must_be_object(alloc, value)?;
         let name = optional(alloc, value, "name", &PortNameShape)?;
-        let proto = optional(alloc, value, "protocol", &ProtocolShape)?;
+        let proto = optional(alloc, value, "protocol", &ProtocolName)?;
         let number = required(alloc, value, "containerPort", &Port)?;
         Ok(if_named(name.flatten(), proto.unwrap_or(Proto::Tcp), number))
     }

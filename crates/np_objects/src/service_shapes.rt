@@ -5,12 +5,12 @@ ghost use Rattle.np_json.specs.Shapes.{Gives};
 ghost use Rattle.np_objects.specs.Services as services;
 
 use crate::controller_spec::is_zero;
-use crate::port_shapes::{PortNameShape, ProtocolShape};
+use crate::port_shapes::PortNameShape;
 use crate::service_spec::{ServiceSpec, ServiceSpecShape};
 use np_conns::Proto;
 use np_json::{
-    NamespacedName, NamespacedNameShape, Port, Shape, ShapeFault, must_be_object, optional,
-    port_of, required,
+    NamespacedName, NamespacedNameShape, Port, ProtocolName, Shape, ShapeFault, must_be_object,
+    optional, port_of, required,
 };
 use np_model::{PortName, ServiceItem, ServicePort};
 use serde_json::Value;
@@ -78,7 +78,7 @@ impl Shape for ServicePortShape {
     fn read(&self, alloc: Global, value: &Value) -> Result<ServicePort, ShapeFault> {
         must_be_object(alloc, value)?;
         let name = optional(alloc, value, "name", &PortNameShape)?;
-        let proto = optional(alloc, value, "protocol", &ProtocolShape)?;
+        let proto = optional(alloc, value, "protocol", &ProtocolName)?;
         let port = required(alloc, value, "port", &Port)?;
         let target = optional(alloc, value, "targetPort", &TargetPortShape)?;
         Ok(ServicePort {

@@ -5,31 +5,22 @@ use Rattle.std.specs.Option.{option_map_or}
 use Rattle.np_chains.specs.Chains.{is_over_some}
 use Rattle.np_items.specs.declared.item.Item.{Item}
 use Rattle.np_items.specs.declared.item.Item.TheVariants as item
-use Rattle.np_objects.specs.declared.object.Object.{Object}
 use Rattle.np_objects.specs.declared.object.Object.TheVariants as object
 use Rattle.np_owners.specs.Owners.{owner_place, ups}
 
-abbrev pub is_pod_object : Object → Bool
-is_pod_object (object.Pod pod) = true
-is_pod_object _ = false
-
 abbrev pub is_pod : Item → Bool
-is_pod (item.Object object) = is_pod_object object
-is_pod (item.Policy policy) = false
+is_pod (item.Object (object.Pod pod)) = true
+is_pod other = false
 
 -- Whether some listed pod has the item at a place in its chain of owners. A pod that is left out of the estate counts
 -- too, so no pod is made for a CronJob between two runs where one of its Jobs and a finished pod of that are listed.
 abbrev pub has_pods : List Item → ℕ → Bool
 has_pods items place = is_over_some (ups items) (map is_pod items) place
 
-abbrev pub wants_pods_object : Object → Bool
-wants_pods_object (object.Controller controller) = is_some controller.template && not controller.none_wanted
-wants_pods_object _ = false
-
 -- whether an item is a controller that has a template and wants pods: only one whose `replicas` is 0 wants none
 abbrev pub wants_pods : Item → Bool
-wants_pods (item.Object object) = wants_pods_object object
-wants_pods (item.Policy policy) = false
+wants_pods (item.Object (object.Controller controller)) = is_some controller.template && not controller.none_wanted
+wants_pods other = false
 
 -- Whether the item at a place is a controller that makes pods of which none is listed: it has a template and wants
 -- pods, its own owner is not listed, and no pod has it in its chain of owners. The template then stands for one pod,

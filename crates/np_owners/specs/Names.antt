@@ -3,7 +3,7 @@ use Rattle.std.specs.Prelude.{◌≡◌, ℕ, ◌+◌, List, [], ◌∷◌, ◌+
 use Rattle.std.specs.Cmp.Lexicographic.{slice_cmp}
 use Rattle.std.specs.List.{position}
 use Rattle.std.specs.Map.{lookup}
-use Rattle.std.specs.Option.{option_and_then, option_map_or}
+use Rattle.std.specs.Option.{option_and_then, option_map_or, option_or}
 use Rattle.std.specs.Ordering.{nat_cmp, ordering_then, is_eq}
 use Rattle.std.specs.Str.{bytes_eq}
 use Rattle.std.specs.declared.cmp.Ordering.{Ordering}
@@ -66,14 +66,10 @@ HoldsPlaces items entries = (name : ObjectName) → noted_place entries name ≡
 abbrev pub repeated : List Item → Item → Option (ℕ × ℕ)
 repeated earlier one = option_and_then (λ name. option_and_then (λ first. Some (first + 1, length earlier + 1)) (place_of earlier name)) (name_of one)
 
-abbrev pub or_later : Option (ℕ × ℕ) → Option (ℕ × ℕ) → Option (ℕ × ℕ)
-or_later None later = later
-or_later (Some numbers) later = Some numbers
-
 -- the first item of a list that has the name of an earlier one
 abbrev pub repeat_after : List Item → List Item → Option (ℕ × ℕ)
 repeat_after earlier [] = None
-repeat_after earlier (one ∷ items) = or_later (repeated earlier one) (repeat_after (earlier ++ (one ∷ [])) items)
+repeat_after earlier (one ∷ items) = option_or (repeated earlier one) (repeat_after (earlier ++ (one ∷ [])) items)
 
 abbrev pub first_repeat : List Item → Option (ℕ × ℕ)
 first_repeat items = repeat_after [] items

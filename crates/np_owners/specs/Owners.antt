@@ -1,12 +1,11 @@
 -- The owners of objects, and the chains that they make.
 use Rattle.std.specs.Prelude.{◌≡◌, ℕ, List, [], ◌++◌, length, map, if◌then◌else◌, Option, Some, None, ⊤, codes}
 use Rattle.std.specs.List.{range_with_len, slice_get}
-use Rattle.std.specs.Option.{option_and_then, option_map}
+use Rattle.std.specs.Option.{option_and_then, option_map, option_map_or}
 use Rattle.np_chains.specs.Chains.{first_cycle, top}
 use Rattle.np_items.specs.declared.item.Item.{Item}
 use Rattle.np_items.specs.declared.item.Item.TheVariants as item
 use Rattle.np_objects.specs.ControllerKinds.{is_controller_kind}
-use Rattle.np_objects.specs.declared.object.Object.{Object}
 use Rattle.np_objects.specs.declared.object.Object.TheVariants as object
 use Rattle.np_objects.specs.declared.owner_ref.OwnerRef.{OwnerRef}
 use Rattle.np_owners.specs.Names.{name_of, place_of}
@@ -17,15 +16,11 @@ use Rattle.np_model.specs.declared.owner.Owner.{Owner}
 
 -- ---- owners that items name
 
-abbrev pub owner_in_object : Object → Option OwnerRef
-owner_in_object (object.Pod pod) = pod.owner
-owner_in_object (object.Controller controller) = controller.owner
-owner_in_object _ = None
-
 -- the owner of an item
 abbrev pub owner_of : Item → Option OwnerRef
-owner_of (item.Object object) = owner_in_object object
-owner_of (item.Policy policy) = None
+owner_of (item.Object (object.Pod pod)) = pod.owner
+owner_of (item.Object (object.Controller controller)) = controller.owner
+owner_of other = None
 
 -- ---- chains
 
@@ -51,15 +46,11 @@ ups items = map (owner_place items) items
 abbrev pub full_name : ObjectName → List ℕ
 full_name name = name.namespace ++ codes "/" ++ name.name ++ codes "[" ++ name.kind ++ codes "]"
 
-abbrev pub or_empty : Option (List ℕ) → List ℕ
-or_empty None = []
-or_empty (Some text) = text
-
 abbrev pub full_name_of : Item → List ℕ
-full_name_of one = or_empty (option_map full_name (name_of one))
+full_name_of one = option_map_or full_name (name_of one) []
 
 abbrev pub full_name_at : List Item → ℕ → List ℕ
-full_name_at items place = or_empty (option_map full_name_of (slice_get items place))
+full_name_at items place = option_map_or full_name_of (slice_get items place) []
 
 -- the name of the first listed controller that stands in its own chain of owners
 abbrev pub first_in_cycle : List Item → Option (List ℕ)

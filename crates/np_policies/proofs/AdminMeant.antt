@@ -7,18 +7,18 @@ use Rattle.serde_json.specs.Data.{Data}
 use Rattle.serde_json.specs.Find.{as_str}
 use Rattle.np_json.specs.Members.{as_whole, member_of}
 use Rattle.np_json.specs.Scalars.{name, port, port_number, text, whole}
-use Rattle.np_json.specs.Shapes.{Read, ◌>>=◌, ◌>>◌, has_member, has_one_of, listed, must_be_object, refuse, refuse_if, refuse_member_if, required}
+use Rattle.np_json.specs.Shapes.{Read, ◌>>=◌, ◌>>◌, has_member, has_one_of, listed, must_be_object, or_refuse, refuse, refuse_if, refuse_member_if, required}
 use Rattle.np_model.specs.Words.{is_word}
-use Rattle.np_json.specs.declared.fault.FaultKind.TheVariants.{BadField, BadPort, BadPriority, BaselineName, DomainPeer, EmptyPeers, NodePeer, PeerShape}
+use Rattle.np_json.specs.declared.fault.FaultKind.TheVariants.{BadAction, BadField, BadPort, BadPriority, BaselineName, DomainPeer, EmptyPeers, NodePeer, PeerShape}
 use Rattle.np_policies.proofs.KindReads.{admin-read, base-read}
 use Rattle.np_policies.proofs.MemberReads.{object_at-output, found-output, required-some, AreEach-listed, number_at-output, name-output}
 use Rattle.np_policies.proofs.PeersMeaning.{blocks_of-each_item, not_there}
 use Rattle.np_policies.proofs.PortsMeaning.{protocol-output}
-use Rattle.np_policies.proofs.ReadLemmas.{bind-output, then-output, required-output, listed-output, of_type-output, text_at-output}
+use Rattle.np_policies.proofs.ReadLemmas.{bind-output, then-output, required-output, listed-output, of_type-output, or_refuse-output, text_at-output}
 use Rattle.np_policies.proofs.WellLemmas.{not_false, unbroken-output, unbroken_member-output}
 use Rattle.np_policies.specs.AdminMeaning.{action_text, ArePodsBy, ArePodsOf, IsAdminPolicyOf, IsAdminPort, IsAdminSpec, IsBasePolicyOf, IsEgressPeer, IsEgressRule, IsIngressPeer, IsIngressRule}
 use Rattle.np_policies.specs.AdminMeaning.{IsPortBy, IsSpanOf}
-use Rattle.np_policies.specs.AdminPolicies.{action, action_by, action_named, admin_peer, admin_peers, admin_policy, admin_rule, admin_rules, admin_spec, all_pods, base_name, base_policy, base_spec}
+use Rattle.np_policies.specs.AdminPolicies.{action, action_named, admin_peer, admin_peers, admin_policy, admin_rule, admin_rules, admin_spec, all_pods, base_name, base_policy, base_spec}
 use Rattle.np_policies.specs.AdminPolicies.{egress_member, egress_peer, ingress_peer, namespace_selector, networks, object_name, pass_of, pods_member, priority, priority_number, some_pods, subject}
 use Rattle.np_policies.specs.Blocks.{cidr}
 use Rattle.np_policies.specs.Policies.{policy_of}
@@ -245,12 +245,8 @@ named-text which s one is = by (bytes_eq s (codes "Allow")) refl (bytes_eq s (co
 action-output : (which : Tier) (value : Data) (one : Action) → action which value ≡ Ok one → as_str value ≡ Some (action_text one)
 unfolding action
 action-output which value one is =
-    let read = bind-output (text value) (λ s. action_by (action_named which s)) one is in
-    of_type-output (as_str value) read.first read.here ∙ ap Some (named-text which read.first one (by (action_named which read.first) read.after))
-  where
-    by : (found : Option Action) → action_by found ≡ Ok one → found ≡ Some one
-    by None is = cc
-    by (Some other) is = cc
+    let read = bind-output (text value) (λ s. or_refuse BadAction (action_named which s)) one is in
+    of_type-output (as_str value) read.first read.here ∙ ap Some (named-text which read.first one (or_refuse-output BadAction (action_named which read.first) one read.after))
 
 action_at-output : (which : Tier) (value : Data) (one : Action) → required (codes "action") (action which) value ≡ Ok one → text_at (codes "action") value ≡ action_text one
 action_at-output which value one is =

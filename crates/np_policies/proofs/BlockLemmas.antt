@@ -10,9 +10,10 @@ use Rattle.np_addr.specs.declared.address.Address.{Address}
 use Rattle.np_addr.specs.declared.address.Address.TheVariants.{Four, Six}
 use Rattle.np_addr.specs.declared.cidr.Cidr.{Cidr}
 use Rattle.np_json.specs.Scalars.{of_type}
-use Rattle.np_json.specs.Shapes.{◌>>=◌, required}
+use Rattle.np_json.specs.Shapes.{◌>>=◌, or_refuse, required}
+use Rattle.np_json.specs.declared.fault.FaultKind.TheVariants.{BadCidr}
 use Rattle.np_policies.proofs.ReadLemmas.{required-output}
-use Rattle.np_policies.specs.Blocks.{cidr, cidr_by}
+use Rattle.np_policies.specs.Blocks.{cidr}
 
 block_of-well : (address : Address) (len : ℕ) → len ≤ width_of (family_of address) → IsCidr (block_of address len)
 block_of-well (Four n) len within = (within, rest_of_cleared _ n)
@@ -27,13 +28,13 @@ pub cidr-well : (value : Data) (block : Cidr) → cidr value ≡ Ok block → Is
 unfolding cidr
 cidr-well value block is = by (as_str value) is
   where
-    by_block : (found : Option Cidr) (text : List ℕ) → cidr_of text ≡ found → cidr_by found ≡ Ok block → IsCidr block
+    by_block : (found : Option Cidr) (text : List ℕ) → cidr_of text ≡ found → or_refuse BadCidr found ≡ Ok block → IsCidr block
     by_block None text found is = cc
     by_block (Some other) text found is =
         let same : other ≡ block = cc in
         subst IsCidr same (cidr_of-well text other found)
 
-    by : (read : Option (List ℕ)) → (of_type read >>= λ s. cidr_by (cidr_of s)) ≡ Ok block → IsCidr block
+    by : (read : Option (List ℕ)) → (of_type read >>= λ s. or_refuse BadCidr (cidr_of s)) ≡ Ok block → IsCidr block
     by None is = cc
     by (Some text) is = by_block (cidr_of text) text refl is
 

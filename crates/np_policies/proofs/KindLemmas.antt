@@ -11,7 +11,7 @@ use Rattle.np_json.specs.declared.path.Step.TheVariants.{Field}
 use Rattle.np_policies.proofs.ReadLemmas.{bind-output, under-output}
 use Rattle.np_policies.specs.AdminPolicies.{admin_policy, base_policy}
 use Rattle.np_policies.specs.NetworkPolicies.{net_policy}
-use Rattle.np_policies.specs.Policies.{is_network_policy, is_of, kind_of, policy_by, policy_of}
+use Rattle.np_policies.specs.Policies.{is_network_policy, is_of, policy_kind, policy_by, policy_of}
 use Rattle.np_policies.specs.declared.policy_shape.PolicyKind.TheVariants.{Net, Admin, Base, Foreign, NoPolicy}
 
 both_false : (b : Bool) → (b && false) ≡ false
@@ -35,13 +35,13 @@ no_policy value meta read is =
     let net = not_of (codes "networking.k8s.io/v1") (codes "NetworkPolicy") meta refl is in
     let admin = not_of (codes "policy.networking.k8s.io/v1alpha1") (codes "AdminNetworkPolicy") meta refl is in
     let base = not_of (codes "policy.networking.k8s.io/v1alpha1") (codes "BaselineAdminNetworkPolicy") meta refl is in
-    let kind : kind_of meta ≡ NoPolicy = rw (net, admin, base, is) refl in
+    let kind : policy_kind meta ≡ NoPolicy = rw (net, admin, base, is) refl in
     rw read (ap (λ k. policy_by k value) kind)
 
 pub other_kind : (value : Data) → policy_of value ≡ Ok None → (meta : TypeMeta) × (type_meta value ≡ Ok meta) × (is_network_policy meta.kind ≡ false)
 unfolding policy_of policy_by
 other_kind value is =
-    let read = bind-output (type_meta value) (λ meta. policy_by (kind_of meta) value) None is in
+    let read = bind-output (type_meta value) (λ meta. policy_by (policy_kind meta) value) None is in
     let meta = read.first in (
       meta,
       read.here,

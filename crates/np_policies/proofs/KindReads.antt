@@ -13,7 +13,7 @@ use Rattle.np_json.specs.declared.path.Step.TheVariants.{Field}
 use Rattle.np_policies.proofs.ReadLemmas.{bind-output, then-output, under-output, of_type-output, text_at-output}
 use Rattle.np_policies.specs.AdminPolicies.{admin_policy, base_policy}
 use Rattle.np_policies.specs.NetworkPolicies.{net_policy}
-use Rattle.np_policies.specs.Policies.{is_network_policy, is_of, kind_of, policy_by, policy_of}
+use Rattle.np_policies.specs.Policies.{is_network_policy, is_of, policy_kind, policy_by, policy_of}
 use Rattle.np_policies.specs.PolicyMeaning.{IsOfKind}
 use Rattle.np_model.specs.declared.admin_policy.AdminPolicy.{AdminPolicy}
 use Rattle.np_model.specs.declared.admin_policy.BasePolicy.{BasePolicy}
@@ -78,10 +78,10 @@ tested false false true network = record { is_net = λ same. cc; is_admin = λ s
 tested false false false true = record { is_net = λ same. cc; is_admin = λ same. cc; is_base = λ same. cc }
 tested false false false false = record { is_net = λ same. cc; is_admin = λ same. cc; is_base = λ same. cc }
 
-kind_of-tested : (meta : TypeMeta) →
+policy_kind-tested : (meta : TypeMeta) →
     IsTested (is_of (codes "networking.k8s.io/v1") (codes "NetworkPolicy") meta) (is_of (codes "policy.networking.k8s.io/v1alpha1") (codes "AdminNetworkPolicy") meta)
-    (is_of (codes "policy.networking.k8s.io/v1alpha1") (codes "BaselineAdminNetworkPolicy") meta) (kind_of meta)
-kind_of-tested meta =
+    (is_of (codes "policy.networking.k8s.io/v1alpha1") (codes "BaselineAdminNetworkPolicy") meta) (policy_kind meta)
+policy_kind-tested meta =
     tested (is_of (codes "networking.k8s.io/v1") (codes "NetworkPolicy") meta) (is_of (codes "policy.networking.k8s.io/v1alpha1") (codes "AdminNetworkPolicy") meta)
     (is_of (codes "policy.networking.k8s.io/v1alpha1") (codes "BaselineAdminNetworkPolicy") meta) (is_network_policy meta.kind)
 
@@ -89,30 +89,30 @@ kind_of-tested meta =
 record IsKindRead (value : Data) (read : Policy) : Type 0 where
   pub meta : TypeMeta
   pub here : type_meta value ≡ Ok meta
-  pub by : IsReadBy (kind_of meta) value read
+  pub by : IsReadBy (policy_kind meta) value read
 
 policy_of-output : (value : Data) (read : Policy) → policy_of value ≡ Ok (Some read) → IsKindRead value read
 unfolding policy_of
 policy_of-output value read is =
-    let meta = bind-output (type_meta value) (λ meta. policy_by (kind_of meta) value) (Some read) is in
-    record { meta = meta.first; here = meta.here; by = by_kind-output (kind_of meta.first) value read meta.after }
+    let meta = bind-output (type_meta value) (λ meta. policy_by (policy_kind meta) value) (Some read) is in
+    record { meta = meta.first; here = meta.here; by = by_kind-output (policy_kind meta.first) value read meta.after }
 
 pub net-read : (value : Data) (read : NetPolicy) → policy_of value ≡ Ok (Some (policy.Net read)) → IsOfKind (codes "networking.k8s.io/v1") (codes "NetworkPolicy") value × (net_policy value ≡ Ok read)
 net-read value read is =
     let one = policy_of-output value (policy.Net read) is in
     let by = one.by in
-    (meant_by (codes "networking.k8s.io/v1") (codes "NetworkPolicy") value one.meta one.here ((kind_of-tested one.meta).is_net by.0), by.1)
+    (meant_by (codes "networking.k8s.io/v1") (codes "NetworkPolicy") value one.meta one.here ((policy_kind-tested one.meta).is_net by.0), by.1)
 
 pub admin-read : (value : Data) (read : AdminPolicy) → policy_of value ≡ Ok (Some (policy.Admin read)) →
     IsOfKind (codes "policy.networking.k8s.io/v1alpha1") (codes "AdminNetworkPolicy") value × (admin_policy value ≡ Ok read)
 admin-read value read is =
     let one = policy_of-output value (policy.Admin read) is in
     let by = one.by in
-    (meant_by (codes "policy.networking.k8s.io/v1alpha1") (codes "AdminNetworkPolicy") value one.meta one.here ((kind_of-tested one.meta).is_admin by.0), by.1)
+    (meant_by (codes "policy.networking.k8s.io/v1alpha1") (codes "AdminNetworkPolicy") value one.meta one.here ((policy_kind-tested one.meta).is_admin by.0), by.1)
 
 pub base-read : (value : Data) (read : BasePolicy) → policy_of value ≡ Ok (Some (policy.Base read)) →
     IsOfKind (codes "policy.networking.k8s.io/v1alpha1") (codes "BaselineAdminNetworkPolicy") value × (base_policy value ≡ Ok read)
 base-read value read is =
     let one = policy_of-output value (policy.Base read) is in
     let by = one.by in
-    (meant_by (codes "policy.networking.k8s.io/v1alpha1") (codes "BaselineAdminNetworkPolicy") value one.meta one.here ((kind_of-tested one.meta).is_base by.0), by.1)
+    (meant_by (codes "policy.networking.k8s.io/v1alpha1") (codes "BaselineAdminNetworkPolicy") value one.meta one.here ((policy_kind-tested one.meta).is_base by.0), by.1)

@@ -7,12 +7,12 @@ use Rattle.np_addr.specs.Blocks.{first_bad_except}
 use Rattle.np_addr.specs.declared.cidr.Cidr.{Cidr}
 use Rattle.np_json.specs.Members.{member_of}
 use Rattle.np_json.specs.Scalars.{text}
-use Rattle.np_json.specs.Shapes.{Read, ◌>>◌, each_item, has_member, listed, must_be_object, optional, refuse_if, required}
-use Rattle.np_json.specs.declared.fault.FaultKind.TheVariants.{PeerShape}
+use Rattle.np_json.specs.Shapes.{Read, ◌>>◌, each_item, has_member, listed, must_be_object, optional, or_refuse, refuse_if, required}
+use Rattle.np_json.specs.declared.fault.FaultKind.TheVariants.{BadCidr, PeerShape}
 use Rattle.np_labels.specs.declared.selector.Selector.{Selector}
-use Rattle.np_policies.proofs.ReadLemmas.{bind-output, then-output, optional-output, required-output, listed-output, each_item-output, of_type-output, IsOptional}
+use Rattle.np_policies.proofs.ReadLemmas.{bind-output, then-output, optional-output, required-output, listed-output, each_item-output, of_type-output, or_refuse-output, IsOptional}
 use Rattle.np_policies.proofs.WellLemmas.{not_false, unbroken-output}
-use Rattle.np_policies.specs.Blocks.{cidr, cidr_by, ip_block, refuse_except}
+use Rattle.np_policies.specs.Blocks.{cidr, ip_block, refuse_except}
 use Rattle.np_policies.specs.NetworkPolicies.{is_misshapen, net_peer, net_peer_by}
 use Rattle.np_policies.specs.PolicyMeaning.{blocks_of, IsBlockOf, IsReadOf}
 use Rattle.np_policies.specs.SelectorMeaning.{items_at, text_at}
@@ -53,12 +53,8 @@ pub record IsAddressesOf (value : Data) (block : Cidr) (excepts : List Cidr) : T
 cidr-output : (value : Data) (block : Cidr) → cidr value ≡ Ok block → option_and_then cidr_of (as_str value) ≡ Some block
 unfolding cidr
 cidr-output value block is =
-    let read = bind-output (text value) (λ s. cidr_by (cidr_of s)) block is in
-    rw (of_type-output (as_str value) read.first read.here) (by (cidr_of read.first) read.after)
-  where
-    by : (found : Option Cidr) → cidr_by found ≡ Ok block → found ≡ Some block
-    by None is = cc
-    by (Some other) is = cc
+    let read = bind-output (text value) (λ s. or_refuse BadCidr (cidr_of s)) block is in
+    rw (of_type-output (as_str value) read.first read.here) (or_refuse-output BadCidr (cidr_of read.first) block read.after)
 
 of_text : (found : Option (List ℕ)) (block : Cidr) → option_and_then cidr_of found ≡ Some block → cidr_of (unwrap_or found []) ≡ Some block
 of_text None block is = cc

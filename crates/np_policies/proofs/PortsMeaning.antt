@@ -6,13 +6,13 @@ use Rattle.np_conns.specs.ConnsText.{proto_named}
 use Rattle.np_conns.specs.declared.proto.Proto.{Proto}
 use Rattle.np_conns.specs.declared.proto.Proto.TheVariants.{Tcp}
 use Rattle.np_json.specs.Members.{as_whole, member_of}
-use Rattle.np_json.specs.Scalars.{port, port_number, text, whole}
-use Rattle.np_json.specs.Shapes.{Read, ◌>>◌, must_be_object, optional, refuse, refuse_if}
+use Rattle.np_json.specs.Scalars.{port, port_number, protocol_name, text, whole}
+use Rattle.np_json.specs.Shapes.{Read, ◌>>◌, must_be_object, optional, or_refuse, refuse, refuse_if}
 use Rattle.np_model.specs.Words.{is_word}
-use Rattle.np_json.specs.declared.fault.FaultKind.TheVariants.{BadField, BadPort}
-use Rattle.np_policies.proofs.ReadLemmas.{bind-output, then-output, optional-output, of_type-output, IsOptional}
+use Rattle.np_json.specs.declared.fault.FaultKind.TheVariants.{BadField, BadPort, BadProtocol}
+use Rattle.np_policies.proofs.ReadLemmas.{bind-output, then-output, optional-output, of_type-output, or_refuse-output, IsOptional}
 use Rattle.np_policies.specs.PolicyMeaning.{number_at, protocol_of}
-use Rattle.np_policies.specs.Ports.{end_port, may_end, net_port, net_port_by, number_of, port_name, port_value, port_value_by, proto, proto_by, protocol}
+use Rattle.np_policies.specs.Ports.{end_port, may_end, net_port, net_port_by, number_of, port_name, port_value, port_value_by, protocol}
 use Rattle.np_policies.specs.declared.net_port_shape.PortValue.{PortValue}
 use Rattle.np_policies.specs.declared.net_port_shape.PortValue.TheVariants.{Number, Name}
 use Rattle.np_model.specs.declared.network_policy.NetPort.{NetPort}
@@ -59,27 +59,23 @@ missing-output : {A : Type 0} (shape : Data → Read A) (member : Option Data) (
 missing-output shape member None is there = refl
 missing-output shape member (Some output) is there = let one = is.there in cc
 
-proto-output : (value : Data) (read : Proto) → proto value ≡ Ok read → (s : List ℕ) × (as_str value ≡ Some s) × (proto_named s ≡ Some read)
-unfolding proto
-proto-output value read is =
-    let name = bind-output (text value) (λ s. proto_by (proto_named s)) read is in
-    (name.first, of_type-output (as_str value) name.first name.here, by (proto_named name.first) name.after)
-  where
-    by : (found : Option Proto) → proto_by found ≡ Ok read → found ≡ Some read
-    by None is = cc
-    by (Some other) is = cc
+protocol_name-output : (value : Data) (read : Proto) → protocol_name value ≡ Ok read → (s : List ℕ) × (as_str value ≡ Some s) × (proto_named s ≡ Some read)
+unfolding protocol_name
+protocol_name-output value read is =
+    let name = bind-output (text value) (λ s. or_refuse BadProtocol (proto_named s)) read is in
+    (name.first, of_type-output (as_str value) name.first name.here, or_refuse-output BadProtocol (proto_named name.first) read name.after)
 
 pub protocol-output : (value : Data) (read : Proto) → protocol value ≡ Ok read → read ≡ protocol_of value
 unfolding protocol
 protocol-output value read is =
-    let named = bind-output (optional (codes "protocol") proto value) (λ found. Ok (unwrap_or found Tcp)) read is in
+    let named = bind-output (optional (codes "protocol") protocol_name value) (λ found. Ok (unwrap_or found Tcp)) read is in
     let made : unwrap_or named.first Tcp ≡ read = let after = named.after in cc in
-    sym made ∙ by (member_of (codes "protocol") value) named.first (optional-output proto (codes "protocol") value named.first named.here)
+    sym made ∙ by (member_of (codes "protocol") value) named.first (optional-output protocol_name (codes "protocol") value named.first named.here)
   where
-    by : (member : Option Data) (found : Option Proto) → IsOptional proto member found → unwrap_or found Tcp ≡ unwrap_or (proto_named (unwrap_or (option_and_then as_str member) [])) Tcp
+    by : (member : Option Data) (found : Option Proto) → IsOptional protocol_name member found → unwrap_or found Tcp ≡ unwrap_or (proto_named (unwrap_or (option_and_then as_str member) [])) Tcp
     by member None is = rw is refl
     by member (Some other) is =
-        let name = proto-output is.found other is.read in
+        let name = protocol_name-output is.found other is.read in
         rw (is.there, name.1, name.2) refl
 
 port_value-number : (value : Data) (n : ℕ) (read : PortValue) → as_whole value ≡ Some (pos n) → port_value value ≡ Ok read → read ≡ Number n

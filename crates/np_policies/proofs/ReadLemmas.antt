@@ -5,8 +5,9 @@ use Rattle.serde_json.specs.Data.{Data, Items, no_items, item}
 use Rattle.serde_json.specs.Find.{as_array, as_str}
 use Rattle.np_json.specs.Members.{member_of}
 use Rattle.np_json.specs.Scalars.{of_type, text, word}
-use Rattle.np_json.specs.Shapes.{Read, ◌>>=◌, ◌>>◌, each_item, given, list_by, listed, optional, read_member, refuse, refuse_if, required, under}
+use Rattle.np_json.specs.Shapes.{Read, ◌>>=◌, ◌>>◌, each_item, given, list_by, listed, optional, or_refuse, read_member, refuse, refuse_if, required, under}
 use Rattle.np_model.specs.Words.{is_word}
+use Rattle.np_json.specs.declared.fault.FaultKind.{FaultKind}
 use Rattle.np_json.specs.declared.fault.FaultKind.TheVariants.{BadField}
 use Rattle.np_json.specs.declared.path.Step.{Step}
 use Rattle.np_json.specs.declared.path.Step.TheVariants.{Field, Item}
@@ -122,10 +123,14 @@ module _ {A : Type 0} (shape : Data → Read A) (on_output : A → Bool) (on_ite
       let others = list_any-each_item (place + 1) items each.more each.others in
       rw (each.are, first, others) refl
 
+-- what stands for something
+pub or_refuse-output : {A : Type 0} (kind : FaultKind) (found : Option A) (output : A) → or_refuse kind found ≡ Ok output → found ≡ Some output
+or_refuse-output kind None output is = cc
+or_refuse-output kind (Some other) output is = cc
+
 -- a value of its type
 pub of_type-output : {A : Type 0} (found : Option A) (output : A) → of_type found ≡ Ok output → found ≡ Some output
-of_type-output None output is = cc
-of_type-output (Some other) output is = cc
+of_type-output found output is = or_refuse-output BadField found output is
 
 -- a word is a text
 pub word-output : (value : Data) (s : List ℕ) → word value ≡ Ok s → as_str value ≡ Some s

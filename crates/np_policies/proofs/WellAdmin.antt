@@ -1,15 +1,15 @@
 -- What is read by the shapes of admin policies is well formed.
-use Rattle.std.proofs.Common.{◌≡◌, ℕ, ℤ, pos, negsuc, List, [], ◌∷◌, length, Bool, true, false, not, cond, ◌&&◌, ◌==◌, nat_le, Option, Some, None, codes, Ok, refl}
+use Rattle.std.proofs.Common.{◌≡◌, ℕ, ℤ, pos, negsuc, List, [], ◌∷◌, length, Bool, true, false, not, cond, ◌&&◌, ◌==◌, nat_le, Some, None, codes, Ok, refl}
 use Rattle.std.specs.List.{list_all}
 use Rattle.std.specs.Str.{bytes_eq}
 use Rattle.serde_json.specs.Data.{Data}
 use Rattle.np_json.specs.Scalars as scalars
-use Rattle.np_json.specs.Shapes.{◌>>=◌, ◌>>◌, has_member, has_one_of, listed, must_be_object, refuse, refuse_if, refuse_member_if, required}
+use Rattle.np_json.specs.Shapes.{◌>>=◌, ◌>>◌, has_member, has_one_of, listed, must_be_object, or_refuse, refuse, refuse_if, refuse_member_if, required}
 use Rattle.np_model.specs.Words.{is_name}
-use Rattle.np_json.specs.declared.fault.FaultKind.TheVariants.{BadPriority, DomainPeer, EmptyPeers, NodePeer, PeerShape}
-use Rattle.np_policies.proofs.ReadLemmas.{bind-output, then-output}
+use Rattle.np_json.specs.declared.fault.FaultKind.TheVariants.{BadAction, BadPriority, DomainPeer, EmptyPeers, NodePeer, PeerShape}
+use Rattle.np_policies.proofs.ReadLemmas.{bind-output, then-output, or_refuse-output}
 use Rattle.np_policies.proofs.WellLemmas.{both, unbroken_member-output, listed-well, required-well, selector-well, cidr_text-well, admin_port-well}
-use Rattle.np_policies.specs.AdminPolicies.{action, action_by, action_named, admin_peer, admin_peers, admin_policy, admin_rule, admin_rules, admin_spec, all_pods, base_name, base_policy, base_spec}
+use Rattle.np_policies.specs.AdminPolicies.{action, action_named, admin_peer, admin_peers, admin_policy, admin_rule, admin_rules, admin_spec, all_pods, base_name, base_policy, base_spec}
 use Rattle.np_policies.specs.AdminPolicies.{egress_member, egress_peer, ingress_peer, namespace_selector, networks, object_name, pods_member, priority, priority_number, some_pods, subject}
 use Rattle.np_policies.specs.Blocks.{cidr}
 use Rattle.np_policies.specs.NetworkPolicies.{peers_member, rules_member}
@@ -136,15 +136,11 @@ named-well tier.Baseline s one is = by (bytes_eq s (codes "Allow")) (bytes_eq s 
     by false false true Pass is = cc
     by false false false Pass is = cc
 
-action_by-output : (found : Option Action) (one : Action) → action_by found ≡ Ok one → found ≡ Some one
-action_by-output None one is = cc
-action_by-output (Some other) one is = cc
-
 action-well : (which : Tier) (value : Data) (one : Action) → action which value ≡ Ok one → may_stand which one ≡ true
 unfolding action
 action-well which value one is =
-    let read = bind-output (scalars.text value) (λ s. action_by (action_named which s)) one is in
-    named-well which read.first one (action_by-output (action_named which read.first) one read.after)
+    let read = bind-output (scalars.text value) (λ s. or_refuse BadAction (action_named which s)) one is in
+    named-well which read.first one (or_refuse-output BadAction (action_named which read.first) one read.after)
 
 abbrev is_well_rule : Tier → AdminRule → Bool
 is_well_rule which rule = may_stand which rule.action && is_well_admin_rule rule

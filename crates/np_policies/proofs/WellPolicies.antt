@@ -9,7 +9,7 @@ use Rattle.np_json.specs.declared.path.Step.TheVariants.{Field}
 use Rattle.np_policies.proofs.ReadLemmas.{bind-output, under-output}
 use Rattle.np_policies.specs.AdminPolicies.{admin_policy, base_policy}
 use Rattle.np_policies.specs.NetworkPolicies.{net_policy}
-use Rattle.np_policies.specs.Policies.{kind_of, policy_by, policy_of}
+use Rattle.np_policies.specs.Policies.{policy_kind, policy_by, policy_of}
 use Rattle.np_model.specs.WellPolicies.{if_there}
 use Rattle.np_policies.specs.WellFormed.{is_well_policy}
 use Rattle.np_policies.specs.declared.policy.Policy.{Policy}
@@ -42,8 +42,8 @@ by_kind-well NoPolicy value read is = cc
 pub policy-well : (value : Data) (read : Policy) → policy_of value ≡ Ok (Some read) → is_well_policy read ≡ true
 unfolding policy_of
 policy-well value read is =
-    let meta = bind-output (type_meta value) (λ meta. policy_by (kind_of meta) value) (Some read) is in
-    by_kind-well (kind_of meta.first) value read meta.after
+    let meta = bind-output (type_meta value) (λ meta. policy_by (policy_kind meta) value) (Some read) is in
+    by_kind-well (policy_kind meta.first) value read meta.after
 
 -- what is given of an item, if it is a policy, is well formed
 pub item-well : (number : ℕ) (result : Result (Option Policy) ReadFault) (value : Data) → GivesItem number result (policy_of value) → IfOk result (λ read. if_there is_well_policy read ≡ true)

@@ -4,7 +4,7 @@ use Rattle.std.specs.Prelude.{ℕ, ℤ, pos, negsuc, List, [], ◌∷◌, length
 use Rattle.std.specs.Str.{bytes_eq}
 use Rattle.serde_json.specs.Data.{Data}
 use Rattle.np_json.specs.Scalars.{name, text, whole}
-use Rattle.np_json.specs.Shapes.{Read, ◌>>=◌, ◌>>◌, has_member, has_one_of, listed, must_be_object, refuse, refuse_if, refuse_member_if, required}
+use Rattle.np_json.specs.Shapes.{Read, ◌>>=◌, ◌>>◌, has_member, has_one_of, listed, must_be_object, or_refuse, refuse, refuse_if, refuse_member_if, required}
 use Rattle.np_json.specs.declared.fault.FaultKind.TheVariants.{BadAction, BadPriority, BaselineName, DomainPeer, EmptyPeers, NodePeer, PeerShape}
 use Rattle.np_labels.specs.declared.selector.Selector.{Selector}
 use Rattle.np_policies.specs.Blocks.{cidr}
@@ -107,25 +107,20 @@ action_named tier s =
     else if bytes_eq s (codes "Pass") then pass_of tier
     else None
 
--- an action that the policy may have, else BadAction
-abbrev pub action_by : Option Action → Read Action
-action_by None = refuse BadAction
-action_by (Some action) = Ok action
-
--- `action` of a rule
+-- `action` of a rule: one that the policy may have, else BadAction
 unfoldable pub action : Tier → Data → Read Action
 action tier value = do
   s ← text value
-  action_by (action_named tier s)
+  or_refuse BadAction (action_named tier s)
 
 -- an entry of `ingress` or `egress`
 unfoldable pub admin_rule : Tier → Direction → Data → Read AdminRule
 admin_rule tier direction value = do
   must_be_object value
-  action ← required (codes "action") (action tier) value
+  effect ← required (codes "action") (action tier) value
   peers ← admin_peers direction value
   ports ← listed (codes "ports") admin_port value
-  Ok (record { action = action; peers = peers; ports = ports })
+  Ok (record { action = effect; peers = peers; ports = ports })
 
 -- the rules of a direction
 unfoldable pub admin_rules : Tier → Direction → Data → Read (List AdminRule)
@@ -159,11 +154,11 @@ base_name value = do
 unfoldable pub admin_spec : Data → Read AdminSpec
 admin_spec value = do
   must_be_object value
-  priority ← required (codes "priority") priority value
-  subject ← required (codes "subject") subject value
+  rank ← required (codes "priority") priority value
+  selected ← required (codes "subject") subject value
   ingress ← admin_rules Admin Ingress value
   egress ← admin_rules Admin Egress value
-  Ok (record { priority = priority; subject = subject; ingress = ingress; egress = egress })
+  Ok (record { priority = rank; subject = selected; ingress = ingress; egress = egress })
 
 -- an AdminNetworkPolicy
 unfoldable pub admin_policy : Data → Read AdminPolicy
@@ -176,10 +171,10 @@ admin_policy value = do
 unfoldable pub base_spec : Data → Read BasePolicy
 base_spec value = do
   must_be_object value
-  subject ← required (codes "subject") subject value
+  selected ← required (codes "subject") subject value
   ingress ← admin_rules Baseline Ingress value
   egress ← admin_rules Baseline Egress value
-  Ok (record { subject = subject; ingress = ingress; egress = egress })
+  Ok (record { subject = selected; ingress = ingress; egress = egress })
 
 -- a BaselineAdminNetworkPolicy
 unfoldable pub base_policy : Data → Read BasePolicy

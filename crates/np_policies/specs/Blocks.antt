@@ -5,21 +5,16 @@ use Rattle.np_addr.specs.AddressGrammar.{cidr_of}
 use Rattle.np_addr.specs.Blocks.{first_bad_except}
 use Rattle.np_addr.specs.declared.cidr.Cidr.{Cidr}
 use Rattle.np_json.specs.Scalars.{text}
-use Rattle.np_json.specs.Shapes.{Read, ◌>>=◌, ◌>>◌, listed, must_be_object, refuse, required, under}
+use Rattle.np_json.specs.Shapes.{Read, ◌>>=◌, ◌>>◌, listed, must_be_object, or_refuse, refuse, required, under}
 use Rattle.np_json.specs.declared.fault.FaultKind.TheVariants.{BadCidr, BadExcept}
 use Rattle.np_json.specs.declared.path.Step.TheVariants.{Field, Item}
 use Rattle.np_policies.specs.declared.ip_block_shape.IpBlock.{IpBlock}
 
--- a block that was read, else BadCidr
-abbrev pub cidr_by : Option Cidr → Read Cidr
-cidr_by None = refuse BadCidr
-cidr_by (Some block) = Ok block
-
--- a text that writes a block of addresses
+-- a text that writes a block of addresses, else BadCidr
 unfoldable pub cidr : Data → Read Cidr
 cidr value = do
   s ← text value
-  cidr_by (cidr_of s)
+  or_refuse BadCidr (cidr_of s)
 
 -- BadExcept at the except of that place, if there is one
 abbrev pub refuse_except : Option ℕ → Read ⊤

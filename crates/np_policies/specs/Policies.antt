@@ -25,8 +25,8 @@ is_network_policy kind = ends_with nat_eq kind (codes "NetworkPolicy")
 
 -- Which policy an object is, by its version and kind. One of another project, as a CiliumNetworkPolicy, or of another
 -- version is foreign.
-abbrev pub kind_of : TypeMeta → PolicyKind
-kind_of meta =
+abbrev pub policy_kind : TypeMeta → PolicyKind
+policy_kind meta =
     if is_of (codes "networking.k8s.io/v1") (codes "NetworkPolicy") meta then Net
     else if is_of (codes "policy.networking.k8s.io/v1alpha1") (codes "AdminNetworkPolicy") meta then Admin
     else if is_of (codes "policy.networking.k8s.io/v1alpha1") (codes "BaselineAdminNetworkPolicy") meta then Base
@@ -51,4 +51,4 @@ policy_by NoPolicy value = Ok None
 unfoldable pub policy_of : Data → Read (Option Policy)
 policy_of value = do
   meta ← type_meta value
-  policy_by (kind_of meta) value
+  policy_by (policy_kind meta) value

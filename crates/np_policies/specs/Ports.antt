@@ -2,14 +2,13 @@
 -- AdminNetworkPolicyPort).
 use Rattle.std.specs.Prelude.{ℕ, ℤ, List, [], ◌∷◌, length, Bool, false, not, ◌==◌, nat_le, nat_lt, if◌then◌else◌, Option, Some, None, unwrap_or, codes, Ok}
 use Rattle.serde_json.specs.Data.{Data}
-use Rattle.np_conns.specs.ConnsText.{proto_named}
 use Rattle.np_conns.specs.declared.proto.Proto.{Proto}
 use Rattle.np_conns.specs.declared.proto.Proto.TheVariants.{Tcp}
 use Rattle.np_json.specs.Members.{as_whole}
-use Rattle.np_json.specs.Scalars.{text, port, port_number}
-use Rattle.np_json.specs.Shapes.{Read, ◌>>=◌, ◌>>◌, has_member, has_one_of, must_be_object, optional, refuse, refuse_if, refuse_member_if, required}
+use Rattle.np_json.specs.Scalars.{text, port, port_number, protocol_name}
+use Rattle.np_json.specs.Shapes.{Read, ◌>>=◌, ◌>>◌, has_member, has_one_of, must_be_object, optional, refuse_if, refuse_member_if, required}
 use Rattle.np_model.specs.Words.{is_word}
-use Rattle.np_json.specs.declared.fault.FaultKind.TheVariants.{BadField, BadPort, BadProtocol}
+use Rattle.np_json.specs.declared.fault.FaultKind.TheVariants.{BadField, BadPort}
 use Rattle.np_model.specs.declared.admin_policy.AdminPort.{AdminPort}
 use Rattle.np_model.specs.declared.admin_policy.AdminPort.TheVariants as admin
 use Rattle.np_policies.specs.declared.net_port_shape.PortValue.{PortValue}
@@ -17,22 +16,11 @@ use Rattle.np_policies.specs.declared.net_port_shape.PortValue.TheVariants.{Numb
 use Rattle.np_model.specs.declared.network_policy.NetPort.{NetPort}
 use Rattle.np_model.specs.declared.network_policy.NetPort.TheVariants as net
 
--- a protocol that is known, else BadProtocol
-abbrev pub proto_by : Option Proto → Read Proto
-proto_by None = refuse BadProtocol
-proto_by (Some proto) = Ok proto
-
--- a text that names a protocol
-unfoldable pub proto : Data → Read Proto
-proto value = do
-  s ← text value
-  proto_by (proto_named s)
-
 -- the member `protocol`, which is TCP where it is missing
 unfoldable pub protocol : Data → Read Proto
 protocol value = do
-  proto ← optional (codes "protocol") proto value
-  Ok (unwrap_or proto Tcp)
+  found ← optional (codes "protocol") protocol_name value
+  Ok (unwrap_or found Tcp)
 
 -- the name of a container port: the empty text is BadPort, another that is no word BadField
 unfoldable pub port_name : Data → Read (List ℕ)

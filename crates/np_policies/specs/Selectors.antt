@@ -6,7 +6,7 @@ use Rattle.serde_json.specs.Find.{as_object}
 use Rattle.np_json.specs.Members.{unless_null}
 use Rattle.np_json.specs.Scalars.{text, word, labels}
 use Rattle.np_json.specs.Shapes.{Read, ◌>>=◌, ◌>>◌, listed, must_be_object, optional, refuse, refuse_if, required}
-use Rattle.np_model.specs.Words.{is_key, is_word}
+use Rattle.np_model.specs.Words.{is_key}
 use Rattle.np_json.specs.declared.fault.FaultKind.TheVariants.{BadField, BadSelector}
 use Rattle.np_labels.specs.Selectors.{label_requirement, requirement_of}
 use Rattle.np_labels.specs.WellFormed.{fits}
@@ -40,11 +40,11 @@ fitting (Some op) has_values = if fits op has_values then Ok op else refuse BadS
 unfoldable pub expression : Data → Read Requirement
 expression value = do
   must_be_object value
-  key ← required (codes "key") key value
+  label ← required (codes "key") key value
   operator ← required (codes "operator") text value
   values ← listed (codes "values") word value
   op ← fitting (op_named operator) (not (length values == 0))
-  Ok (requirement_of key op values)
+  Ok (requirement_of label op values)
 
 -- whether the member is one that a selector does not have; a null counts as missing
 abbrev pub is_other : List ℕ → Data → Bool
@@ -63,9 +63,9 @@ unfoldable pub selector : Data → Read Selector
 selector value = do
   must_be_object value
   refuse_if (has_other (as_object value)) BadSelector
-  labels ← optional (codes "matchLabels") labels value
+  pairs ← optional (codes "matchLabels") labels value
   expressions ← listed (codes "matchExpressions") expression value
-  Ok (record { requirements = map label_requirement (unwrap_or labels []) ++ expressions })
+  Ok (record { requirements = map label_requirement (unwrap_or pairs []) ++ expressions })
 
 -- the selector that everything meets
 abbrev pub everything : Selector

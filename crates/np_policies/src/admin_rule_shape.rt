@@ -8,7 +8,7 @@ use crate::admin_peer_shape::admin_peers;
 use crate::admin_port_shape::AdminPortShape;
 use crate::net_rule_shape::rules_member;
 use np_base::Seq;
-use np_json::{FaultKind, Shape, ShapeFault, listed, must_be_object, of_type, refuse, required};
+use np_json::{FaultKind, Shape, ShapeFault, listed, must_be_object, of_type, or_refuse, required};
 use np_model::{Action, AdminRule, Direction};
 use serde_json::Value;
 use std::alloc::Global;
@@ -75,10 +75,7 @@ impl Shape for ActionName {
     #[tactic(auto, unfolding(crate::specs::AdminPolicies::action))]
     fn read(&self, alloc: Global, value: &Value) -> Result<Action, ShapeFault> {
         let text = of_type(alloc, value.as_str())?;
-        match action_named(self.tier, text) {
-            Some(action) => Ok(action),
-            None => refuse(alloc, FaultKind::BadAction),
-        }
+        or_refuse(alloc, action_named(self.tier, text), FaultKind::BadAction)
     }
 }
 

@@ -5,7 +5,8 @@ ghost use Rattle.np_policies.specs.Blocks as shapes;
 use np_addr::{Cidr, first_bad_except, read_cidr};
 use np_base::Seq;
 use np_json::{
-    FaultKind, Shape, ShapeFault, at, at_item, listed, must_be_object, of_type, refuse, required,
+    FaultKind, Shape, ShapeFault, at, at_item, listed, must_be_object, of_type, or_refuse, refuse,
+    required,
 };
 use serde_json::Value;
 use std::alloc::Global;
@@ -22,10 +23,7 @@ impl Shape for CidrText {
     #[tactic(auto, unfolding(crate::specs::Blocks::cidr))]
     fn read(&self, alloc: Global, value: &Value) -> Result<Cidr, ShapeFault> {
         let text = of_type(alloc, value.as_str())?;
-        match read_cidr(text) {
-            Ok(cidr) => Ok(cidr),
-            Err(_) => refuse(alloc, FaultKind::BadCidr),
-        }
+        or_refuse(alloc, read_cidr(text).ok(), FaultKind::BadCidr)
     }
 }
 

@@ -41,7 +41,7 @@ impl Shape for PolicyShape {
     #[tactic(auto, unfolding(crate::specs::Policies::policy_of))]
     fn read(&self, alloc: Global, value: &Value) -> Result<Option<Policy>, ShapeFault> {
         let meta = TypeMetaShape.read(alloc, value)?;
-        policy_by(alloc, kind_of(&meta), value)
+        policy_by(alloc, policy_kind(&meta), value)
     }
 }
 
@@ -71,8 +71,8 @@ fn policy_by(alloc: Global, kind: PolicyKind, value: &Value) -> Result<Option<Po
 }
 
 // Which policy an object is, by its version and kind.
-fn kind_of(meta: &TypeMeta) -> PolicyKind
-    ensures { result ≡ shapes.kind_of meta.now }
+fn policy_kind(meta: &TypeMeta) -> PolicyKind
+    ensures { result ≡ shapes.policy_kind meta.now }
 {
     if is_of(meta, "networking.k8s.io/v1", "NetworkPolicy") {
         PolicyKind::Net

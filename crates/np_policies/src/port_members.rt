@@ -6,7 +6,7 @@ ghost use Rattle.np_policies.specs.Ports as shapes;
 
 use np_base::Text;
 use np_conns::Proto;
-use np_json::{FaultKind, Shape, ShapeFault, of_type, optional, refuse, refuse_if};
+use np_json::{FaultKind, ProtocolName, Shape, ShapeFault, of_type, optional, refuse_if};
 use np_model::is_word;
 use serde_json::Value;
 use std::alloc::Global;
@@ -16,27 +16,8 @@ use std::alloc::Global;
 pub(crate) fn protocol(alloc: Global, object: &Value) -> Result<Proto, ShapeFault>
     ensures { Gives result (shapes.protocol (view object.now)) }
 {
-    let proto = optional(alloc, object, "protocol", &ProtoName)?;
+    let proto = optional(alloc, object, "protocol", &ProtocolName)?;
     Ok(proto.unwrap_or(Proto::Tcp))
-}
-
-// A text that names a protocol.
-#[derive(Drop)]
-struct ProtoName;
-
-impl Shape for ProtoName {
-    type Output = Proto;
-
-    ghost reads = { λ _. shapes.proto };
-
-    #[tactic(auto, unfolding(crate::specs::Ports::proto))]
-    fn read(&self, alloc: Global, value: &Value) -> Result<Proto, ShapeFault> {
-        let text = of_type(alloc, value.as_str())?;
-        match Proto::named(text) {
-            Some(proto) => Ok(proto),
-            None => refuse(alloc, FaultKind::BadProtocol),
-        }
-    }
 }
 
 /// The name of a container port: a word that is not empty. The empty text is `BadPort`, anything else `BadField`.

@@ -1,9 +1,9 @@
 -- What the rest of a list says of the pods of its items.
-use Rattle.std.proofs.Common.{◌≡◌, ℕ, suc, ◌+◌, ◌<◌, List, [], ◌∷◌, ◌++◌, length, drop, get_or, Bool, Option, refl, sym, ap, ◌∙◌, append_assoc, add-one}
+use Rattle.std.proofs.Common.{◌≡◌, ℕ, suc, ◌+◌, ◌<◌, List, [], ◌∷◌, ◌++◌, length, drop, get_or, Bool, true, false, Option, None, refl, sym, ap, ◌∙◌, append_assoc, add-one}
 use Rattle.std.proofs.Math.Nat.{zero-add}
 use Rattle.std.proofs.Math.Seq.{drop-cons}
 use Rattle.std.proofs.lemmas.List.FromFn.{length-map-range_with_len, get_or-map-range_with_len}
-use Rattle.np_reading.specs.Ends.{context_at, context_if, contexts_from, contexts_of}
+use Rattle.np_reading.specs.Ends.{context_at, context_of, contexts_from, contexts_of, gives_end}
 use Rattle.np_reading.specs.declared.context.PodContext.{PodContext}
 use Rattle.np_items.specs.declared.item.Item.{Item}
 use Rattle.np_owners.specs.MadePods.{makes_pod}
@@ -19,10 +19,13 @@ owner_at items owners place d are within =
     ap (λ (all : List (Option Owner)). get_or all place d) are
     ∙ get_or-map-range_with_len (top_owner items) 0 (length items) place place d within (zero-add place)
 
--- what the rest of the list says of the pod of the item at a place
-pub context_here : (items : List Item) (place : ℕ) (one : Item) (makes : Bool) (owner : Option Owner) (context : Option PodContext) → context ≡ context_if makes items one owner
-    → makes ≡ makes_pod items place → owner ≡ top_owner items place → context ≡ context_at items place one
-context_here items place one makes owner context is marked owned = is ∙ rw (marked, owned) refl
+-- what the rest of the list says of the pod of the item at a place, where it gives one, and where it gives none
+pub context_there : (items : List Item) (place : ℕ) (one : Item) (makes : Bool) (owner : Option Owner) (context : Option PodContext) → gives_end makes one ≡ true
+    → makes ≡ makes_pod items place → owner ≡ top_owner items place → context ≡ context_of items one owner → context ≡ context_at items place one
+context_there items place one makes owner context gives marked owned is = is ∙ rw (← marked, gives, owned) refl
+
+pub context_none : (items : List Item) (place : ℕ) (one : Item) (makes : Bool) → gives_end makes one ≡ false → makes ≡ makes_pod items place → None ≡ context_at items place one
+context_none items place one makes gives marked = rw (← marked, gives) refl
 
 -- one item more
 pub contexts-more : (items : List Item) (place : ℕ) (one : Item) (context : Option PodContext) (before after : List (Option PodContext)) → place < length items → one ≡ get_or items place one

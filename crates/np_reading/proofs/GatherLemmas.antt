@@ -7,7 +7,7 @@ use Rattle.np_reading.specs.Ends.{end_of, end_of_object, pods_from, context_at, 
 use Rattle.np_reading.specs.steps.Gathering.{Seen, in_order, nothing, or_first, with_item, with_items, with_object, with_pairs, with_pod, with_policy}
 use Rattle.np_reading.specs.LeftOut.{count_left_out}
 use Rattle.np_reading.specs.Listed.{admin_policy, base_policy, first_of, ingress, ingresses_from, net_policy, placed, service, with_admin, with_net}
-use Rattle.np_reading.specs.Reading.{lists_of, notes_of}
+use Rattle.np_reading.specs.Reading.{estate_of_items, notes_of}
 use Rattle.np_reading.specs.declared.left_out.LeftOut.TheVariants.{Host, Finished, Skipped}
 use Rattle.np_model.specs.declared.lists.EstateLists.{EstateLists}
 use Rattle.np_model.specs.declared.placed_ingress.PlacedIngress.{PlacedIngress}
@@ -128,11 +128,11 @@ pairs-same (pair ∷ pairs) = ap (λ (others : List (Item × Option PodContext))
 
 pub lists-gathered : (items : List Item) (so_far : Seen) (host finished skipped : ℕ) → so_far ≡ with_items nothing 1 items (contexts_of items)
     → host ≡ count_left_out items Host → finished ≡ count_left_out items Finished → skipped ≡ count_left_out items Skipped
-    → in_order so_far (record { host = host; finished = finished; skipped = skipped; unaddressed = 0 }) ≡ lists_of items
+    → in_order so_far (record { host = host; finished = finished; skipped = skipped; unaddressed = 0 }) ≡ estate_of_items items
 lists-gathered items so_far host finished skipped all hosts ends kinds =
     ap (λ (s : Seen). in_order s (record { host = host; finished = finished; skipped = skipped; unaddressed = 0 })) (all ∙ gathers items 0 nothing 1 items)
     ∙ ap (λ n. noted n finished skipped) hosts ∙ ap (λ n. noted (count_left_out items Host) n skipped) ends
     ∙ ap (λ n. noted (count_left_out items Host) (count_left_out items Finished) n) kinds
   where
     noted : ℕ → ℕ → ℕ → EstateLists
-    noted host finished skipped = record (lists_of items) { notes = record (notes_of items) { host = host; finished = finished; skipped = skipped } }
+    noted host finished skipped = record (estate_of_items items) { notes = record (notes_of items) { host = host; finished = finished; skipped = skipped } }

@@ -1,12 +1,12 @@
 -- Items of which no two have one name.
 use Rattle.std.proofs.Common.{◌≡◌, ℕ, ◌+◌, List, [], ◌∷◌, ◌++◌, length, Bool, true, false, Option, Some, None, refl, sym, ◌∙◌}
 use Rattle.std.specs.List.{AllByRecursion, position_from}
-use Rattle.std.specs.Option.{option_and_then}
+use Rattle.std.specs.Option.{option_and_then, option_or}
 use Rattle.std.proofs.lemmas.Iterator.Adapters.{position_from-zero}
 use Rattle.np_reading.proofs.LawfulLists.{AllLater, all_weaker, all_front}
 use Rattle.np_items.specs.declared.item.Item.{Item}
 use Rattle.np_owners.proofs.PlaceLemmas.{same_name-sym}
-use Rattle.np_owners.specs.Names.{name_of, same_name, is_named, place_of, repeated, or_later, repeat_after, first_repeat}
+use Rattle.np_owners.specs.Names.{name_of, same_name, is_named, place_of, repeated, repeat_after, first_repeat}
 use Rattle.np_owners.specs.declared.object_name.ObjectName.{ObjectName}
 
 -- two items have not one name
@@ -51,7 +51,7 @@ apart_from_earlier earlier one nothing = by (name_of one) refl nothing
             rw (← same) (same_name-sym x name ∙ rw x_is at other)
 
 -- an item repeats no name, and nor does one after it
-neither : (first later : Option (ℕ × ℕ)) → or_later first later ≡ None → (first ≡ None) × (later ≡ None)
+neither : (first later : Option (ℕ × ℕ)) → option_or first later ≡ None → (first ≡ None) × (later ≡ None)
 neither None later nothing = (refl, nothing)
 neither (Some numbers) later nothing = cc
 

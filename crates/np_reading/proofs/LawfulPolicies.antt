@@ -1,6 +1,6 @@
 -- Policies that are read stand in their order.
 use Rattle.std.proofs.Common.{◌≡◌, ℕ, ◌≤◌, List, [], ◌∷◌, length, true, Ordering, Less, Equal, Greater, refl, sym, ap, ◌∙◌, arith}
-use Rattle.std.specs.Prelude.{AllPairs}
+use Rattle.std.specs.Prelude.{AllPairs, fold}
 use Rattle.std.specs.Cmp.{IsTotalOrder}
 use Rattle.std.specs.List.{AllByRecursion, filter_map}
 use Rattle.std.specs.List.Sorted.{IsStrictlySortedBy}
@@ -11,7 +11,7 @@ use Rattle.std.proofs.lemmas.List.{length-map}
 use Rattle.np_reading.proofs.LawfulEntries.{length-with_values-le, all-with_values, sorted_values, later-with_values, Less-from_sorted_keys}
 use Rattle.np_reading.proofs.LawfulLists.{AllLater, length-filter_map-le}
 use Rattle.np_model.specs.Lawful.{ascends, HasAscendingPriorities, comes_before, StandsBefore}
-use Rattle.np_reading.specs.Listed.{net_policy, net_name, nets_by_name, net_policies_of, admin_policy, admins_by_priority, admin_policies_of}
+use Rattle.np_reading.specs.Listed.{net_policy, net_name, with_net, net_policies_of, admin_policy, with_admin, admin_policies_of}
 use Rattle.np_items.specs.declared.item.Item.{Item}
 use Rattle.np_owners.proofs.PlaceLemmas.{is_eq-compare_names, equal_names}
 use Rattle.np_owners.specs.Names.{compare_names}
@@ -41,7 +41,7 @@ before-from_Less Greater second is = cc
 
 pub length-net_policies-le : (items : List Item) → length (net_policies_of items) ≤ length items
 length-net_policies-le items =
-    rw (length-map (nets_by_name items) (λ entry. entry.1)) (omega
+    rw (length-map (fold with_net [] (filter_map net_policy items)) (λ entry. entry.1)) (omega
     (arith, length-with_values-le compare_names-total compare_names-exact net_name [] (filter_map net_policy items), length-filter_map-le net_policy items))
 
 pub net_policies-ascend : (items : List Item) → AllPairs StandsBefore (net_policies_of items)
@@ -63,7 +63,7 @@ ascends-from_sorted (n ∷ next ∷ ns) sorted =
 
 pub length-admin_policies-le : (items : List Item) → length (admin_policies_of items) ≤ length items
 length-admin_policies-le items =
-    rw (length-map (admins_by_priority items) (λ entry. entry.1))
+    rw (length-map (fold with_admin [] (filter_map admin_policy items)) (λ entry. entry.1))
     (omega (arith, length-with_values-le nat_cmp_total nat_cmp-exact (λ admin. admin.priority) [] (filter_map admin_policy items), length-filter_map-le admin_policy items))
 
 pub admin_policies-ascend : (items : List Item) → HasAscendingPriorities (admin_policies_of items)

@@ -9,11 +9,11 @@ use Rattle.np_reading.proofs.LawfulLists.{AllLater, AllPairs-from_later, all_wea
 use Rattle.np_reading.proofs.LawfulNamespaces.{AgreeOnNamespace-from_labels, HasNamespaceLabels, SaysItsNamespace-from_labels}
 use Rattle.np_reading.proofs.LawfulPods.{all-pods_from, length-pods_from-le}
 use Rattle.np_reading.proofs.LawfulPolicies.{admin_policies-ascend, length-admin_policies-le, length-net_policies-le, net_policies-ascend}
-use Rattle.np_reading.proofs.LawfulWell.{lists_of-well}
+use Rattle.np_reading.proofs.LawfulWell.{estate_of_items-well}
 use Rattle.np_reading.specs.Ends.{pods_of}
 use Rattle.np_model.specs.Lawful.{IsEarlierItem, IsFew, IsLawful}
 use Rattle.np_reading.specs.Listed.{ingress, ingresses_from, ingresses_of, placed, service}
-use Rattle.np_reading.specs.Reading.{lists_of}
+use Rattle.np_reading.specs.Reading.{estate_of_items}
 use Rattle.np_items.specs.WellFormed.{IsWellItem}
 use Rattle.np_items.specs.declared.item.Item.{Item}
 use Rattle.np_model.specs.declared.ingress.IngressItem.{IngressItem}
@@ -65,8 +65,8 @@ pods_have_namespace_labels items =
 
 -- ---- all of it
 
-lists_of-few : (items : List Item) → length items ≤ 20000 → IsFew (lists_of items)
-lists_of-few items few = record {
+estate_of_items-few : (items : List Item) → length items ≤ 20000 → IsFew (estate_of_items items)
+estate_of_items-few items few = record {
   pods = omega (arith, length-pods_from-le items 0 items);
   net_policies = omega (arith, length-net_policies-le items);
   admin_policies = omega (arith, length-admin_policies-le items);
@@ -74,9 +74,9 @@ lists_of-few items few = record {
   ingresses = omega (arith, length-ingresses_from-le 1 items);
 }
 
-pub lists_of-lawful : (items : List Item) → length items ≤ 20000 → All IsWellItem items → first_repeat items ≡ None → IsLawful (lists_of items)
-lists_of-lawful items few all apart = record {
-  few = lists_of-few items few;
+pub estate_of_items-lawful : (items : List Item) → length items ≤ 20000 → All IsWellItem items → first_repeat items ≡ None → IsLawful (estate_of_items items)
+estate_of_items-lawful items few all apart = record {
+  few = estate_of_items-few items few;
   pods_apart = pods-apart items apart;
   namespaces_agree = λ i j d before below.
       AgreeOnNamespace-from_labels items (get_or (pods_of items) i d) (get_or (pods_of items) j d) (pods_have_namespace_labels items i d (omega arith)) (pods_have_namespace_labels items j d below);
@@ -86,5 +86,5 @@ lists_of-lawful items few all apart = record {
   admin_policies_apart = admin_policies-apart items apart;
   services_apart = services-apart items apart;
   ingresses_ascend = AllPairs-from_later IsEarlierItem (ingresses_of items) (ingresses_from-ascend 1 items);
-  well = lists_of-well items all;
+  well = estate_of_items-well items all;
 }

@@ -14,7 +14,7 @@ use Rattle.np_reading.specs.Ends.{pods_of}
 use Rattle.np_model.specs.Lawful.{is_well, is_well_pod}
 use Rattle.np_reading.specs.Listed.{admin_policy, admin_policies_of, base_policy, baseline_of, first_of, ingress, ingresses_from, ingresses_of, net_policy, net_policies_of, placed, service}
 use Rattle.np_reading.specs.Listed.{services_of}
-use Rattle.np_reading.specs.Reading.{lists_of}
+use Rattle.np_reading.specs.Reading.{estate_of_items}
 use Rattle.np_model.specs.declared.pod.Pod.{Pod}
 use Rattle.np_items.specs.WellFormed.{IsWellItem}
 use Rattle.np_items.specs.declared.item.Item.{Item}
@@ -101,8 +101,8 @@ is_well_pod-from_parts items all one pod of is =
 
 -- ---- all of it
 
-pub lists_of-well : (items : List Item) → All IsWellItem items → is_well (lists_of items) ≡ true
-lists_of-well items all =
+pub estate_of_items-well : (items : List Item) → All IsWellItem items → is_well (estate_of_items items) ≡ true
+estate_of_items-well items all =
     and_from _ _ (and_from _ _ (and_from _ _ (and_from _ _ (and_from _ _ pods nets) admins) base) services) ingresses
   where
     each : AllByRecursion IsWellItem items

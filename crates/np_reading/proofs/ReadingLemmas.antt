@@ -1,23 +1,19 @@
 -- What is so of a list that is not refused.
 use Rattle.std.proofs.Common.{◌≡◌, ℕ, List, Option, Some, None, Ok, Err, refl}
 use Rattle.std.specs.Prelude.{⊤}
-use Rattle.np_reading.specs.Listed.{first_equal, have_priorities_apart, or_equal, ranks_of}
-use Rattle.np_reading.specs.Reading.{estate_of, have_names_apart, have_no_cycle, lists_of, or_duplicate}
-use Rattle.np_reading.specs.Readings.{Reading}
+use Rattle.np_reading.specs.Listed.{equal_priority, first_equal, have_priorities_apart, ranks_of}
+use Rattle.np_reading.specs.Reading.{estate_of, have_names_apart, have_no_cycle, estate_of_items}
+use Rattle.np_reading.specs.Readings.{Reading, refuse_found}
+use Rattle.np_reading.specs.declared.refusal.Refusal.{Refusal}
 use Rattle.np_model.specs.declared.lists.EstateLists.{EstateLists}
-use Rattle.np_reading.specs.declared.priorities.Rank.{Rank}
 use Rattle.np_items.specs.Items.{items_of}
-use Rattle.np_items.specs.Readings.{◌>>◌}
+use Rattle.np_json.specs.Shapes.{◌>>◌}
 use Rattle.np_items.specs.declared.item.Item.{Item}
 use Rattle.np_owners.specs.Names.{first_repeat}
 
-none_repeats : (found : Option (ℕ × ℕ)) → or_duplicate found ≡ Ok tt → found ≡ None
-none_repeats None apart = refl
-none_repeats (Some numbers) apart = cc
-
-none_equal : (found : Option (Rank × Rank)) → or_equal found ≡ Ok tt → found ≡ None
-none_equal None apart = refl
-none_equal (Some ranks) apart = cc
+none_found : {A : Type 0} (refusal : A → Refusal) (found : Option A) → refuse_found refusal found ≡ Ok tt → found ≡ None
+none_found refusal None passed = refl
+none_found refusal (Some one) passed = cc
 
 -- steps that end in lists are passed
 passed : (names priorities cycles : Reading ⊤) (made lists : EstateLists) → (names >> (priorities >> (cycles >> Ok made))) ≡ Ok lists → (names ≡ Ok tt) × (priorities ≡ Ok tt) × (made ≡ lists)
@@ -28,8 +24,8 @@ passed (Err refusal) priorities cycles made lists is = cc
 
 -- where an estate is read of items, none repeats a name, no two admin policies have one priority, and it is theirs
 pub estate_of-passed : (texts : List (List ℕ)) (items : List Item) (lists : EstateLists) → items_of texts ≡ Ok items → estate_of texts ≡ Ok lists →
-    (first_repeat items ≡ None) × (first_equal (ranks_of items) ≡ None) × (lists_of items ≡ lists)
+    (first_repeat items ≡ None) × (first_equal (ranks_of items) ≡ None) × (estate_of_items items ≡ lists)
 unfolding estate_of
 estate_of-passed texts items lists read is =
-    let parts = passed (have_names_apart items) (have_priorities_apart items) (have_no_cycle items) (lists_of items) lists (rw read at is) in
-    (none_repeats (first_repeat items) parts.0, none_equal (first_equal (ranks_of items)) parts.1, parts.2)
+    let parts = passed (have_names_apart items) (have_priorities_apart items) (have_no_cycle items) (estate_of_items items) lists (rw read at is) in
+    (none_found _ (first_repeat items) parts.0, none_found equal_priority (first_equal (ranks_of items)) parts.1, parts.2)

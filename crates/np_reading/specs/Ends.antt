@@ -23,16 +23,12 @@ use Rattle.np_model.specs.declared.owner.Owner.{Owner}
 abbrev pub is_on_host : ControllerItem → Bool
 is_on_host controller = option_map_or (λ template. template.host_network) controller.template false
 
--- An object gives a pod: a pod, unless it is on the network of its node or finished, and a controller that makes pods
--- of which none is listed, unless they are on the network of their node.
-abbrev pub gives_end_object : Bool → Object → Bool
-gives_end_object makes (object.Pod pod) = not (pod.host_network || pod.finished)
-gives_end_object makes (object.Controller controller) = makes && not (is_on_host controller)
-gives_end_object makes _ = false
-
+-- Whether an item gives a pod: a pod, unless it is on the network of its node or finished, and a controller that makes
+-- pods of which none is listed, unless they are on the network of their node.
 abbrev pub gives_end : Bool → Item → Bool
-gives_end makes (item.Object object) = gives_end_object makes object
-gives_end makes (item.Policy policy) = false
+gives_end makes (item.Object (object.Pod pod)) = not (pod.host_network || pod.finished)
+gives_end makes (item.Object (object.Controller controller)) = makes && not (is_on_host controller)
+gives_end makes other = false
 
 -- ---- the pod that an item gives
 
@@ -43,13 +39,9 @@ context labels owner = record { namespace_labels = labels; owner = owner }
 abbrev pub context_of : List Item → Item → Option Owner → Option PodContext
 context_of items one owner = option_and_then (λ name. option_map (context (namespace_labels items name.namespace)) owner) (name_of one)
 
--- what the rest of the list says of the pod of an item, if the item gives one
-abbrev pub context_if : Bool → List Item → Item → Option Owner → Option PodContext
-context_if makes items one owner = if gives_end makes one then context_of items one owner else None
-
 -- what the rest of the list says of the pod of the item at a place, if the item gives one
 abbrev pub context_at : List Item → ℕ → Item → Option PodContext
-context_at items place one = context_if (makes_pod items place) items one (top_owner items place)
+context_at items place one = if gives_end (makes_pod items place) one then context_of items one (top_owner items place) else None
 
 abbrev pub contexts_from : List Item → ℕ → List Item → List (Option PodContext)
 contexts_from items place [] = []

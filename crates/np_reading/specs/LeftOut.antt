@@ -8,7 +8,6 @@ use Rattle.np_reading.specs.declared.left_out.LeftOut.TheVariants.{Host, Finishe
 use Rattle.np_model.specs.declared.pod.Pod.{Pod}
 use Rattle.np_items.specs.declared.item.Item.{Item}
 use Rattle.np_items.specs.declared.item.Item.TheVariants as item
-use Rattle.np_objects.specs.declared.object.Object.{Object}
 use Rattle.np_objects.specs.declared.object.Object.TheVariants as object
 use Rattle.np_objects.specs.declared.pod_item.PodItem.{PodItem}
 use Rattle.np_owners.specs.MadePods.{makes_pod}
@@ -25,16 +24,12 @@ if_counts counts why = if counts then Some why else None
 abbrev pub pod_left_out : PodItem → Option LeftOut
 pod_left_out pod = if pod.host_network then Some Host else if_counts pod.finished Finished
 
-abbrev pub object_left_out : Bool → Object → Option LeftOut
-object_left_out makes (object.Pod pod) = pod_left_out pod
-object_left_out makes (object.Controller controller) = if_counts (makes && is_on_host controller) Host
-object_left_out makes object.Other = Some Skipped
-object_left_out makes _ = None
-
 -- why an item is left out, if it is one that is counted; `makes` says whether it is a controller that stands for a pod
 abbrev pub left_out : Bool → Item → Option LeftOut
-left_out makes (item.Object object) = object_left_out makes object
-left_out makes (item.Policy policy) = None
+left_out makes (item.Object (object.Pod pod)) = pod_left_out pod
+left_out makes (item.Object (object.Controller controller)) = if_counts (makes && is_on_host controller) Host
+left_out makes (item.Object object.Other) = Some Skipped
+left_out makes other = None
 
 abbrev pub is_for : LeftOut → LeftOut → Bool
 is_for Host Host = true

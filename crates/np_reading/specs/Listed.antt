@@ -1,13 +1,14 @@
 -- The policies, services and ingresses that items are, and the order in which they stand.
-use Rattle.std.specs.Prelude.{ℕ, ◌+◌, List, [], ◌∷◌, ◌++◌, fold, map, ◌==◌, if◌then◌else◌, Option, Some, None, Ok, Err, ⊤}
+use Rattle.std.specs.Prelude.{ℕ, ◌+◌, List, [], ◌∷◌, ◌++◌, fold, map, ◌==◌, if◌then◌else◌, Option, Some, None, ⊤}
 use Rattle.std.specs.BTreeMap.{insert_entry}
 use Rattle.std.specs.Cmp.Lexicographic.{slice_cmp}
 use Rattle.std.specs.List.{filter_map}
 use Rattle.std.specs.Ordering.{nat_cmp, ordering_then}
 use Rattle.std.specs.declared.cmp.Ordering.{Ordering}
-use Rattle.np_reading.specs.Readings.{Reading}
+use Rattle.np_reading.specs.Readings.{Reading, refuse_found}
 use Rattle.np_model.specs.declared.placed_ingress.PlacedIngress.{PlacedIngress}
 use Rattle.np_reading.specs.declared.priorities.Rank.{Rank}
+use Rattle.np_reading.specs.declared.refusal.Refusal.{Refusal}
 use Rattle.np_reading.specs.declared.refusal.Refusal.TheVariants.{EqualPriority}
 use Rattle.np_items.specs.declared.item.Item.{Item}
 use Rattle.np_items.specs.declared.item.Item.TheVariants as item
@@ -51,22 +52,16 @@ net_name net = record { kind = []; namespace = net.namespace; name = net.name }
 abbrev pub with_net : List (ObjectName × NetPolicy) → NetPolicy → List (ObjectName × NetPolicy)
 with_net entries net = insert_entry compare_names entries (net_name net) net
 
-abbrev pub nets_by_name : List Item → List (ObjectName × NetPolicy)
-nets_by_name items = fold with_net [] (filter_map net_policy items)
-
 abbrev pub net_policies_of : List Item → List NetPolicy
-net_policies_of items = map (λ entry. entry.1) (nets_by_name items)
+net_policies_of items = map (λ entry. entry.1) (fold with_net [] (filter_map net_policy items))
 
 -- ---- admin policies, in the order of their priorities
 
 abbrev pub with_admin : List (ℕ × AdminPolicy) → AdminPolicy → List (ℕ × AdminPolicy)
 with_admin entries admin = insert_entry nat_cmp entries admin.priority admin
 
-abbrev pub admins_by_priority : List Item → List (ℕ × AdminPolicy)
-admins_by_priority items = fold with_admin [] (filter_map admin_policy items)
-
 abbrev pub admin_policies_of : List Item → List AdminPolicy
-admin_policies_of items = map (λ entry. entry.1) (admins_by_priority items)
+admin_policies_of items = map (λ entry. entry.1) (fold with_admin [] (filter_map admin_policy items))
 
 -- ---- the baseline, services and ingresses, in the order of the items
 
@@ -121,10 +116,11 @@ first_equal [] = None
 first_equal (a ∷ []) = None
 first_equal (a ∷ b ∷ ranks) = if a.priority == b.priority then Some (a, b) else first_equal (b ∷ ranks)
 
-abbrev pub or_equal : Option (Rank × Rank) → Reading ⊤
-or_equal None = Ok tt
-or_equal (Some ranks) = Err (EqualPriority ranks.0.priority ranks.0.name ranks.1.name)
+abbrev pub equal_priority : Rank × Rank → Refusal
+equal_priority ranks = EqualPriority ranks.0.priority ranks.0.name ranks.1.name
 
--- no two admin policies have one priority
+-- The rule that no two admin policies have one priority. An API server takes such policies, but leaves open which of them
+-- goes first where both match a connection (network-policy-api reference, AdminNetworkPolicySpec, `priority`): there is
+-- no one answer, so they are refused, whatever they match.
 abbrev pub have_priorities_apart : List Item → Reading ⊤
-have_priorities_apart items = or_equal (first_equal (ranks_of items))
+have_priorities_apart items = refuse_found equal_priority (first_equal (ranks_of items))

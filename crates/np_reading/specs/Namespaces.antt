@@ -6,17 +6,12 @@ use Rattle.np_items.specs.declared.item.Item.{Item}
 use Rattle.np_items.specs.declared.item.Item.TheVariants as item
 use Rattle.np_labels.specs.Labels.{labels_of}
 use Rattle.np_labels.specs.declared.pair.Pair.{Pair}
-use Rattle.np_objects.specs.declared.object.Object.{Object}
 use Rattle.np_objects.specs.declared.object.Object.TheVariants as object
 use Rattle.np_owners.specs.Names.{place_of}
 use Rattle.np_owners.specs.declared.object_name.ObjectName.{ObjectName}
 
-abbrev pub labels_in_object : Object → List Pair
-labels_in_object (object.Namespace namespace) = namespace.labels
-labels_in_object _ = []
-
 abbrev pub labels_in : Option Item → List Pair
-labels_in (Some (item.Object object)) = labels_in_object object
+labels_in (Some (item.Object (object.Namespace namespace))) = namespace.labels
 labels_in other = []
 
 abbrev pub namespace_name : List ℕ → ObjectName

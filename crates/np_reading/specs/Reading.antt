@@ -1,16 +1,16 @@
 -- What the bytes of inputs are read as.
-use Rattle.std.specs.Prelude.{ℕ, List, Option, Some, None, Result, Ok, Err, ⊤}
+use Rattle.std.specs.Prelude.{ℕ, List, Result, Ok, Err, ⊤}
 use Rattle.np_reading.specs.Ends.{pods_of}
 use Rattle.np_reading.specs.LeftOut.{count_left_out, unaddressed}
 use Rattle.np_reading.specs.Listed.{admin_policies_of, baseline_of, have_priorities_apart, ingresses_of, net_policies_of, services_of}
-use Rattle.np_reading.specs.Readings.{Reading}
+use Rattle.np_reading.specs.Readings.{Reading, refuse_found}
 use Rattle.np_reading.specs.Refusals.{items_refusal}
 use Rattle.np_reading.specs.declared.left_out.LeftOut.TheVariants.{Host, Finished, Skipped}
 use Rattle.np_model.specs.declared.lists.EstateLists.{EstateLists}
 use Rattle.np_model.specs.declared.notes.Notes.{Notes}
 use Rattle.np_reading.specs.declared.refusal.Refusal.TheVariants.{Duplicate, OwnerCycle}
 use Rattle.np_items.specs.Items.{items_of}
-use Rattle.np_items.specs.Readings.{◌>>=◌, ◌>>◌}
+use Rattle.np_json.specs.Shapes.{◌>>=◌, ◌>>◌}
 use Rattle.np_items.specs.declared.fault.ItemsFault.{ItemsFault}
 use Rattle.np_items.specs.declared.item.Item.{Item}
 use Rattle.np_owners.specs.Names.{first_repeat}
@@ -25,8 +25,8 @@ notes_of items = record {
 }
 
 -- the estate of these items
-abbrev pub lists_of : List Item → EstateLists
-lists_of items = record {
+abbrev pub estate_of_items : List Item → EstateLists
+estate_of_items items = record {
   pods = pods_of items;
   net_policies = net_policies_of items;
   admin_policies = admin_policies_of items;
@@ -41,21 +41,13 @@ abbrev pub or_refused : Result (List Item) ItemsFault → Reading (List Item)
 or_refused (Ok items) = Ok items
 or_refused (Err fault) = Err (items_refusal fault)
 
-abbrev pub or_duplicate : Option (ℕ × ℕ) → Reading ⊤
-or_duplicate None = Ok tt
-or_duplicate (Some numbers) = Err (Duplicate numbers.0 numbers.1)
-
--- no two items have one name
+-- the rule that no two items have one name
 abbrev pub have_names_apart : List Item → Reading ⊤
-have_names_apart items = or_duplicate (first_repeat items)
+have_names_apart items = refuse_found (λ numbers. Duplicate numbers.0 numbers.1) (first_repeat items)
 
-abbrev pub or_cycle : Option (List ℕ) → Reading ⊤
-or_cycle None = Ok tt
-or_cycle (Some name) = Err (OwnerCycle name)
-
--- no listed controller stands in its own chain of owners
+-- the rule that no listed controller stands in its own chain of owners
 abbrev pub have_no_cycle : List Item → Reading ⊤
-have_no_cycle items = or_cycle (first_in_cycle items)
+have_no_cycle items = refuse_found OwnerCycle (first_in_cycle items)
 
 -- The estate of inputs, or the first refusal: that of the items, else of two items of one name, else of two admin
 -- policies of one priority, else of a controller in its own chain of owners.
@@ -65,4 +57,4 @@ estate_of texts = do
   have_names_apart items
   have_priorities_apart items
   have_no_cycle items
-  Ok (lists_of items)
+  Ok (estate_of_items items)

@@ -39,36 +39,18 @@ pub(crate) fn contexts(
     let mut known = KnownLabels::new(alloc);
     let mut made = Vec::new(alloc);
     for (place, item) in items.iter().enumerate() {
-        let makes = makers[place];
-        let owner = &owners[place];
-        made.push(context_if(alloc, items, places, &mut known, makes, item, owner)?)?;
+        let context = if gives_end(makers[place], item) {
+            context_of(alloc, items, places, &mut known, item, &owners[place])?
+        } else {
+            None
+        };
+        made.push(context)?;
     }
     Ok(made)
 }
 
-// What the rest of the list says of the pod of an item whose top owner this is, if it gives one.
-fn context_if(
-    alloc: Global,
-    items: &[Item],
-    places: &Places,
-    known: &mut KnownLabels,
-    makes: bool,
-    item: &Item,
-    owner: &Option<Owner>,
-) -> Result<Option<PodContext>, NoMemory>
-    requires places { HoldsPlaces items.now places.now }
-    requires known { KnowsLabels items.now known.old }
-    ensures context { IfOk result (λ made. made ≡ spec.context_if makes items.now item.now owner.now) }
-    ensures known { OnOk result (KnowsLabels items.now known.new) }
-{
-    if gives_end(makes, item) {
-        context_of(alloc, items, places, known, item, owner)
-    } else {
-        Ok(None)
-    }
-}
-
-// The same, whether or not the item gives a pod: its top owner, and the labels of its namespace.
+// What the rest of the list says of the pod of an item whose top owner this is: that owner, and the labels of its
+// namespace.
 fn context_of(
     alloc: Global,
     items: &[Item],
@@ -100,18 +82,8 @@ fn gives_end(makes: bool, item: &Item) -> bool
     ensures { result ≡ spec.gives_end makes item.now }
 {
     match item {
-        Item::Object(object) => gives_end_object(makes, object),
-        Item::Policy(_) => false,
-    }
-}
-
-// Whether an object does.
-fn gives_end_object(makes: bool, object: &Object) -> bool
-    ensures { result ≡ spec.gives_end_object makes object.now }
-{
-    match object {
-        Object::Pod(pod) => !(pod.host_network || pod.finished),
-        Object::Controller(controller) => makes && !is_on_host(controller),
+        Item::Object(Object::Pod(pod)) => !(pod.host_network || pod.finished),
+        Item::Object(Object::Controller(controller)) => makes && !is_on_host(controller),
         _ => false,
     }
 }

@@ -2,7 +2,7 @@
 ghost use Rattle.std.specs.Prelude.{◌≡◌, ◌≤◌, ℕ, List, Some, None, Ok, All, length, slice_get};
 ghost use Rattle.np_reading.specs.EachOnce.{HoldsEachOnce};
 ghost use Rattle.np_model.specs.Lawful.{IsLawful};
-ghost use Rattle.np_reading.specs.Reading.{estate_of, lists_of};
+ghost use Rattle.np_reading.specs.Reading.{estate_of, estate_of_items};
 ghost use Rattle.np_model.specs.declared.lists.EstateLists.{EstateLists};
 ghost use Rattle.np_reading.specs.TopOwners.{named_or_itself};
 ghost use Rattle.np_items.specs.Items.{items_of};
@@ -18,7 +18,7 @@ ghost use Rattle.np_owners.specs.Owners.{owner_place, top_owner};
 /// which no two have one name.
 pub fn read_estates_are_lawful()
     ensures { (items : List Item) → length items ≤ 20000 → All IsWellItem items → first_repeat items ≡ None
-        → IsLawful (lists_of items) }
+        → IsLawful (estate_of_items items) }
 {}
 
 /// Each policy, Service and Ingress of a list that is read stands in its estate exactly once, and nothing else stands

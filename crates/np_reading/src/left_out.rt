@@ -52,19 +52,11 @@ fn left_out(makes: bool, item: &Item) -> Option<LeftOut>
     ensures { result ≡ spec.left_out makes item.now }
 {
     match item {
-        Item::Object(object) => object_left_out(makes, object),
-        Item::Policy(_) => None,
-    }
-}
-
-// Why an object is left out.
-fn object_left_out(makes: bool, object: &Object) -> Option<LeftOut>
-    ensures { result ≡ spec.object_left_out makes object.now }
-{
-    match object {
-        Object::Pod(pod) => pod_left_out(pod),
-        Object::Controller(controller) if makes && is_on_host(controller) => Some(LeftOut::Host),
-        Object::Other => Some(LeftOut::Skipped),
+        Item::Object(Object::Pod(pod)) => pod_left_out(pod),
+        Item::Object(Object::Controller(controller)) if makes && is_on_host(controller) => {
+            Some(LeftOut::Host)
+        }
+        Item::Object(Object::Other) => Some(LeftOut::Skipped),
         _ => None,
     }
 }

@@ -2,7 +2,7 @@
 ghost use Rattle.std.specs.Prelude.{◌≡◌, IfOk, OnOk};
 ghost use Rattle.std.specs.Option.{option_copied};
 ghost use Rattle.np_reading.specs.Listed as spec;
-ghost use Rattle.np_reading.specs.Readings.{Gives};
+ghost use Rattle.np_reading.specs.Readings.{Gives, refuse_found};
 
 use crate::refusal::Refusal;
 use np_base::{NoMemory, Text};
@@ -29,7 +29,7 @@ pub(crate) fn refuse_equal_priorities(alloc: Global, items: &[Item]) -> Result<(
 
 // Refuses the first two neighbours of one priority.
 fn refuse_equal_neighbours(ranks: &[Rank]) -> Result<(), Refusal>
-    ensures { Gives result (spec.or_equal (spec.first_equal ranks.now)) }
+    ensures { Gives result (refuse_found spec.equal_priority (spec.first_equal ranks.now)) }
 {
     for place in 1..ranks.len() {
         let before = &ranks[place - 1];

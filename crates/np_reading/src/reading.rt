@@ -45,7 +45,7 @@ fn lists_of(
     requires few { length items ≤ 20000 }
     requires places { HoldsPlaces items places.now }
     requires chains { chains.now ≡ ups items }
-    ensures { IfOk result (λ lists. lists ≡ spec.lists_of items) }
+    ensures { IfOk result (λ lists. lists ≡ spec.estate_of_items items) }
 {
     let makers = made_pods(alloc, items.items(), chains)?;
     let owners = top_owners(alloc, items.items(), chains)?;

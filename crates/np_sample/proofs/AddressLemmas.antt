@@ -12,7 +12,7 @@ use Rattle.np_rules.specs.model.Places.{net_places, net_places_of}
 use Rattle.np_rules.specs.model.Selection.{net_selects}
 use Rattle.np_rules.specs.model.Sides.{side_allows}
 use Rattle.np_rules.specs.model.Verdict.{allows}
-use Rattle.np_table.specs.Table.{with_address}
+use Rattle.np_kinds.specs.Between.{with_address}
 use Rattle.np_sample.specs.Estate.{estate_net_policy, sample_estate}
 use Rattle.np_sample.specs.Objects.{namespace_count}
 

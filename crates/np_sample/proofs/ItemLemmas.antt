@@ -2,7 +2,7 @@
 use Rattle.std.proofs.Common.{◌≡◌, ℕ, ◌%◌, ◌^◌, ◌<◌, codes, false, None, Ok, decimal, refl, arith}
 use Rattle.np_items.specs.Items.{item_of, must_be_no_list}
 use Rattle.np_json.specs.Meta.{namespaced_name, type_meta}
-use Rattle.np_json.specs.Scalars.{word}
+use Rattle.np_json.specs.Scalars.{protocol_name, word}
 use Rattle.np_json.specs.Shapes.{listed, must_be_object, optional, refuse_if, required, under}
 use Rattle.np_objects.specs.Labels.{label_map}
 use Rattle.np_objects.specs.Namespaces as namespaces
@@ -10,7 +10,7 @@ use Rattle.np_objects.specs.Objects.{object_by, object_of}
 use Rattle.np_objects.specs.PodSpecs.{container, pod_spec}
 use Rattle.np_objects.specs.Pods.{pod_metadata}
 use Rattle.np_objects.specs.Pods as pods
-use Rattle.np_objects.specs.Ports.{container_port, port_name, protocol}
+use Rattle.np_objects.specs.Ports.{container_port, port_name}
 use Rattle.np_policies.specs.Policies.{policy_by, policy_of}
 use Rattle.np_sample.specs.Objects as spec
 use Rattle.np_sample.proofs.ShapeLemmas.{labels-of, name-of, namespace-of, port-of}
@@ -36,7 +36,7 @@ read_metadata i small =
     ) refl
 
 read_spec : (i : ℕ) → pod_spec (spec.pod_spec (spec.port_of i)) ≡ Ok (record { ports = ports_of i; host_network = false })
-unfolding pod_spec required optional listed under must_be_object refuse_if container container_port port_name protocol word
+unfolding pod_spec required optional listed under must_be_object refuse_if container container_port port_name protocol_name word
 read_spec i = rw (port-of (spec.port_of i) (omega arith) (omega arith)) refl
 
 pub item_of-pod : (number i : ℕ) → i < 2 ^ 64 → item_of number (spec.pod i) ≡ Ok (pod_item i)

@@ -6,13 +6,13 @@ use Rattle.np_addr.specs.Ipv4Grammar.{ipv4_of, part_of, parts_of}
 use Rattle.np_addr.specs.Numeral.{numeral_of}
 use Rattle.np_items.specs.Items.{item_of, must_be_no_list}
 use Rattle.np_json.specs.Meta.{namespace, namespaced_name, type_meta}
-use Rattle.np_json.specs.Scalars.{labels, name, port}
+use Rattle.np_json.specs.Scalars.{labels, name, port, protocol_name}
 use Rattle.np_json.specs.Shapes.{listed, must_be_object, optional, refuse_if, refuse_member_if, required, under}
 use Rattle.np_policies.specs.AdminPolicies as admins
 use Rattle.np_policies.specs.Blocks.{cidr, ip_block}
 use Rattle.np_policies.specs.NetworkPolicies as nets
 use Rattle.np_policies.specs.Policies.{policy_by, policy_of}
-use Rattle.np_policies.specs.Ports.{end_port, net_port, port_name, port_value, proto, protocol}
+use Rattle.np_policies.specs.Ports.{end_port, net_port, port_name, port_value, protocol}
 use Rattle.np_policies.specs.Selectors.{selector}
 use Rattle.np_sample.specs.Objects as spec
 use Rattle.np_sample.specs.Estate.{block_of}
@@ -39,7 +39,7 @@ IsRead j = (number : ℕ) → item_of number (spec.net_policy j) ≡ Ok (net_pol
 
 pub net_policies_read : IsRead 0 × IsRead 1 × IsRead 2 × IsRead 3 × IsRead 4
 unfolding item_of must_be_no_list type_meta required optional listed under must_be_object refuse_if name namespace namespaced_name labels port policy_of policy_by selector cidr ip_block end_port
-    net_port port_name port_value proto protocol nets.net_peer nets.net_rule nets.net_rules nets.policy_type nets.net_spec nets.net_policy_by nets.net_policy digits
+    net_port port_name port_value protocol_name protocol nets.net_peer nets.net_rule nets.net_rules nets.policy_type nets.net_spec nets.net_policy_by nets.net_policy digits
 net_policies_read = (
   (λ number. rw blocks.0 refl),
   (λ number. rw blocks.1 refl),

@@ -21,7 +21,8 @@ use Rattle.np_table.proofs.RangeSets.{conns_of-agrees}
 use Rattle.np_table.specs.Right.{IsNext, Stretch, are_same_conns, conns_of, stretch_at, walk, walk_on}
 use Rattle.np_table.specs.Rows.{address_row, address_rows, all_address_rows, all_pair_rows, all_rows, four_of, is_nothing, pair_key, pair_rows, row_if, row_of, rows_in, rows_of_addresses}
 use Rattle.np_table.specs.Rows.{rows_of_both, rows_towards, six_of, workloads}
-use Rattle.np_table.specs.Table.{Table, address_allows, estate_table, source_pod, table_of}
+use Rattle.np_table.specs.Table.{Table, estate_table, table_of}
+use Rattle.np_kinds.specs.Between.{address_allows, source_pod}
 use Rattle.np_table.specs.declared.rows.Row.{Row}
 use Rattle.np_table.specs.declared.rows.RowKey.{RowKey}
 use Rattle.np_sample.specs.Estate.{sample_estate}

@@ -7,7 +7,7 @@ use Rattle.np_reading.specs.Listed.{admin_policies_of, admin_policy, base_policy
 use Rattle.np_reading.specs.Listed.{service, services_of, with_admin, with_net, with_rank}
 use Rattle.np_reading.specs.Ends.{pods_of}
 use Rattle.np_reading.specs.Namespaces.{labels_in}
-use Rattle.np_reading.specs.Reading.{estate_of, lists_of, notes_of}
+use Rattle.np_reading.specs.Reading.{estate_of, estate_of_items, notes_of}
 use Rattle.np_model.specs.declared.notes.Notes.{Notes}
 use Rattle.np_model.specs.declared.placed_ingress.PlacedIngress.{PlacedIngress}
 use Rattle.np_model.specs.declared.pod.Pod.{Pod}
@@ -82,11 +82,11 @@ same_lists : (items : List Item) (pods : List Pod) (nets : List NetPolicy) (admi
     (notes : Notes)
     → pods_of items ≡ pods → net_policies_of items ≡ nets → admin_policies_of items ≡ admins → baseline_of items ≡ baseline → services_of items ≡ services → ingresses_of items ≡ ingresses →
     notes_of items ≡ notes
-    → lists_of items ≡ record { pods = pods; net_policies = nets; admin_policies = admins; baseline = baseline; services = services; ingresses = ingresses; notes = notes }
+    → estate_of_items items ≡ record { pods = pods; net_policies = nets; admin_policies = admins; baseline = baseline; services = services; ingresses = ingresses; notes = notes }
 same_lists items pods nets admins baseline services ingresses notes p n a b s i o = rw (o, p, n, a, b, s, i) refl
 
-lists_of-sample : (n : ℕ) → lists_of (sample_items n) ≡ sample_estate n
-lists_of-sample n =
+estate_of_items-sample : (n : ℕ) → estate_of_items (sample_items n) ≡ sample_estate n
+estate_of_items-sample n =
     let items = sample_items n in
     let baseline : baseline_of items ≡ None = ap first_of (nothing_given base_policy items (all-items (λ one. base_policy one ≡ None) n (λ j. refl) (λ i. refl) (λ j. refl) refl)) in
     let kept = all-items IsKept n (λ j makes. refl) (λ i makes. refl) (λ j makes. refl) (λ makes. refl) in
@@ -96,7 +96,7 @@ lists_of-sample n =
     (notes_of-kept items kept (rw (admin_policies_of-sample n, baseline) refl))
 
 estate_of-read : (texts : List (List ℕ)) (items : List Item) → items_of texts ≡ Ok items → first_repeat items ≡ None → first_equal (ranks_of items) ≡ None → first_in_cycle items ≡ None →
-    estate_of texts ≡ Ok (lists_of items)
+    estate_of texts ≡ Ok (estate_of_items items)
 unfolding estate_of
 estate_of-read texts items read apart priorities cycles = rw (read, apart, priorities, cycles) refl
 
@@ -104,4 +104,4 @@ pub estate_of-sample : (n : ℕ) → n ≤ 1000 → estate_of (sample_text n ∷
 estate_of-sample n few =
     let items = sample_items n in
     let ownerless = all-items (λ one. owner_of one ≡ None) n (λ j. refl) (λ i. refl) (λ j. refl) refl in
-    estate_of-read (sample_text n ∷ []) items (items_of-sample n few) (first_repeat-sample n few) (first_equal-sample n) (first_in_cycle-none items ownerless) ∙ ap Ok (lists_of-sample n)
+    estate_of-read (sample_text n ∷ []) items (items_of-sample n few) (first_repeat-sample n few) (first_equal-sample n) (first_in_cycle-none items ownerless) ∙ ap Ok (estate_of_items-sample n)
