@@ -1,7 +1,6 @@
 -- The line of a part tells the part.
-use Rattle.std.proofs.Common.{◌≡◌, ℕ, List, [], ◌∷◌, ◌++◌, Bool, true, false, not, ◌&&◌, eqb, codes, refl, sym, ◌∙◌, ap, subst, arith}
+use Rattle.std.proofs.Common.{◌≡◌, ℕ, List, [], ◌∷◌, ◌++◌, true, not, eqb, codes, refl, sym, ◌∙◌, ap, subst, arith}
 use Rattle.std.proofs.lemmas.Bool.{and_parts, cond_both, eqb-false, not-true}
-use Rattle.std.proofs.lemmas.List.{append_cancel_left}
 use Rattle.std.specs.List.{AllByRecursion, flat_map}
 use Rattle.np_base.specs.declared.range.Range.{Range}
 use Rattle.np_conns.proofs.ConnLemmas.{conns_text-has_spot}
@@ -9,7 +8,7 @@ use Rattle.np_conns.proofs.OneText.{all-append, all_whole, conns_text-injective,
 use Rattle.np_conns.proofs.RunLemmas.{IsRun-from_ascending}
 use Rattle.np_conns.proofs.SplitLemmas.{lacks, lacks-append, run_text-lacks}
 use Rattle.np_conns.specs.Conns.{Conns, IsConns, IsRun, has_spot}
-use Rattle.np_conns.specs.ConnsText.{conns_text, joined, part, part_text, proto_name, run_text, text_of_runs}
+use Rattle.np_conns.specs.ConnsText.{conns_text, joined, part, proto_name, run_text}
 use Rattle.np_conns.specs.declared.proto.Proto.{Proto}
 use Rattle.np_conns.specs.declared.proto.Proto.TheVariants.{Tcp, Udp, Sctp}
 use Rattle.np_explain.proofs.TextLemmas.{decider_text-one}
@@ -18,7 +17,6 @@ use Rattle.np_explain.specs.PartLine.{part_line}
 use Rattle.np_explain.specs.WellNamed.{is_well_named}
 use Rattle.np_explain.specs.declared.part.Part.{Part}
 use Rattle.np_model.specs.declared.direction.Direction.{Direction}
-use Rattle.np_rules.specs.declared.decider.Decider.{Decider}
 
 -- ---- the text of connections has no colon
 

@@ -90,35 +90,32 @@ fn pod_parts<L: Ledger>(
     ensures least { steps.old ≤ steps.new }
     ensures most { steps.new ≤ steps.old + side_rule_count (side_of estate.now pod direction) }
 {
-    let layer = layer_at(alloc, estate, pod, flow, direction, steps)?;
+    let rules = PodRules::of(alloc, estate, pod, direction)?;
+    let layer = layer_with(alloc, &rules, flow.far(direction), flow.family, steps)?;
     let entries = carve(alloc, &layer)?;
-    let side = Side::of(alloc, estate, pod, direction, &layer)?;
+    let side = Side::of(alloc, &rules, &layer)?;
     let mut parts = named_parts(alloc, &side, entries)?;
     parts.sort_unstable_by_key(|part| first_number(&part.conns));
     Ok(Seq::from_vec(parts))
 }
 
-// The rules that speak of a pod, the near end of a flow at that side, as sets of what they match with the far end.
-fn layer_at<L: Ledger>(
+// The rules that speak of a pod, as sets of what they match with a far end.
+fn layer_with<L: Ledger>(
     alloc: Global,
-    estate: &Estate,
-    pod: u32,
-    flow: &Flow,
-    direction: Direction,
+    rules: &PodRules<'_>,
+    far: End,
+    family: Family,
     steps: &mut Steps<L>,
 ) -> Result<Layer<ConnSet>, NoMemory>
-    requires pod { pod < length estate.now.pods }
-    requires far { IsEndOf estate.now (placed_at direction flow.now.destination flow.now.source) }
-    requires family { IsFamilyAt (placed_at direction flow.now.destination flow.now.source) flow.now.family }
-    ensures layer { IfOk result (IsSideLayer has_spot is_spot (side_of estate.now pod direction)
-        (with_end (placed_at direction flow.now.destination flow.now.source) flow.now.family)) }
-    ensures cost { OnOk result (steps.new ≡ steps.old + side_rule_count (side_of estate.now pod direction)) }
+    requires far { IsEndOf rules.now.lists far }
+    requires family { IsFamilyAt far family }
+    ensures layer { IfOk result (IsSideLayer has_spot is_spot rules.now (with_end far family)) }
+    ensures cost { OnOk result (steps.new ≡ steps.old + side_rule_count rules.now) }
     ensures least { steps.old ≤ steps.new }
-    ensures most { steps.new ≤ steps.old + side_rule_count (side_of estate.now pod direction) }
+    ensures most { steps.new ≤ steps.old + side_rule_count rules.now }
 {
-    let rules = PodRules::of(alloc, estate, pod, direction)?;
-    match flow.far(direction) {
-        End::Pod(peer) => rules.pod_layer(alloc, peer, flow.family, steps),
+    match far {
+        End::Pod(peer) => rules.pod_layer(alloc, peer, family, steps),
         End::At(address) => rules.point_layer(alloc, address, steps),
     }
 }
@@ -126,7 +123,7 @@ fn layer_at<L: Ledger>(
 // The carved sets, with what decides in place of their marks.
 fn named_parts(
     alloc: Global,
-    side: &Side<'_>,
+    side: &Side<'_, '_>,
     entries: Seq<Marked<ConnSet>>,
 ) -> Result<Vec<Part>, NoMemory>
     requires { All (λ entry. IsMarkOf side.now entry.mark) entries }

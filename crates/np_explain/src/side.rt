@@ -7,14 +7,12 @@ ghost use Rattle.np_model.specs.declared.admin_policy.Action.{Action as PolicyAc
 ghost use Rattle.np_rules.specs.Deciders.{admin_rule_name, base_rule_name, net_rule_name};
 ghost use Rattle.np_rules.specs.Layers.{tier_action};
 ghost use Rattle.np_rules.specs.model.Places.{PlacedAdminRule, PlacedBaseRule, PlacedNetRule};
-ghost use Rattle.np_rules.specs.PodSides.{side_of};
 ghost use Rattle.np_rules.specs.model.Sides.{is_allow};
 
 use crate::rule_names::{admin_rule_name, net_policy_names, net_rule_name};
 use np_base::{NoMemory, Text};
 use np_conns::ConnSet;
-use np_model::{Direction, Estate};
-use np_rules::{Decider, LayerRules, PolicyNames, RuleName, layer_rules};
+use np_rules::{Decider, LayerRules, PodRules, PolicyNames, RuleName};
 use np_tiers::{Action, Layer, Mark};
 use std::alloc::Global;
 use std::marker::Model;
@@ -23,47 +21,41 @@ use std::marker::Model;
 /// NetworkPolicies that isolate the pod are held once, whatever number of deciders have them. Contracts see the estate's lists,
 /// the pod's place among its pods, and the direction.
 #[derive(Drop)]
-pub(crate) struct Side<'a> {
-    estate: &'a Estate,
-    pod: u32,
-    direction: Direction,
-    layer: &'a Layer<ConnSet>,
+pub(crate) struct Side<'s, 'e> {
+    side: &'s PodRules<'e>,
+    layer: &'s Layer<ConnSet>,
     rules: LayerRules,
     isolating: PolicyNames,
 }
 
-impl<'a> Model for Side<'a> {
+impl<'s, 'e> Model for Side<'s, 'e> {
     ghost use Rattle.np_explain.specs.Marks.{KeepsSide};
-    ghost use Rattle.np_rules.specs.PodSides.{PodSide, side_of};
+    ghost use Rattle.np_rules.specs.PodSides.{PodSide};
 
     ghost Value = { PodSide };
 
-    ghost view = { λ s. side_of s.estate.now s.pod s.direction };
+    ghost view = { λ s. s.side.now };
 
-    ghost invariant = { λ s. KeepsSide (side_of s.estate.now s.pod s.direction) s.layer.now s.rules s.isolating };
+    ghost invariant = { λ s. KeepsSide s.side.now s.layer.now s.rules s.isolating };
 }
 
-impl<'a> Side<'a> {
-    /// The side of a pod, which is named by its place in the estate.
+impl<'s, 'e> Side<'s, 'e> {
+    /// The side whose rules these are, as one of its layers has them.
     pub(crate) fn of(
         alloc: Global,
-        estate: &'a Estate,
-        pod: u32,
-        direction: Direction,
-        layer: &'a Layer<ConnSet>,
-    ) -> Result<Side<'a>, NoMemory>
-        requires few { IsFew estate.now }
-        requires pod { pod < length estate.now.pods }
-        requires says { SaysActions (side_of estate.now pod direction) layer.now }
-        ensures { IfOk result (λ made. made ≡ side_of estate.now pod direction) }
+        side: &'s PodRules<'e>,
+        layer: &'s Layer<ConnSet>,
+    ) -> Result<Side<'s, 'e>, NoMemory>
+        requires few { IsFew side.now.lists }
+        requires says { SaysActions side.now layer.now }
+        ensures { IfOk result (λ made. made ≡ side.now) }
     {
-        let rules = layer_rules(alloc, estate, pod, direction)?;
-        let names = net_policy_names(alloc, estate.net_policies(), rules.isolating.items())?;
+        let rules = side.names(alloc)?;
+        let policies = side.estate().net_policies();
+        let names = net_policy_names(alloc, policies, rules.isolating.items())?;
         let isolating = PolicyNames::of(alloc, names)?;
         Ok(Side {
-            estate,
-            pod,
-            direction,
+            side,
             layer,
             rules,
             isolating,
@@ -122,7 +114,7 @@ impl<'a> Side<'a> {
             slice_get (admin_rules self.now) place ≡ Some placed → name ≡ admin_rule_name placed) }
     {
         let id = self.rules.admin.items()[place as usize];
-        admin_rule_name(self.estate.admin_policies(), id)
+        admin_rule_name(self.side.estate().admin_policies(), id)
     }
 
     // Whether an admin rule allows.
@@ -141,7 +133,7 @@ impl<'a> Side<'a> {
             slice_get (net_rules self.now) place ≡ Some placed → name ≡ net_rule_name placed) }
     {
         let id = self.rules.net.items()[place as usize];
-        net_rule_name(alloc, self.estate.net_policies(), id)
+        net_rule_name(alloc, self.side.estate().net_policies(), id)
     }
 
     // The name of a rule of the baseline.

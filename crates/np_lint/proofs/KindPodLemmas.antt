@@ -21,13 +21,12 @@ use Rattle.np_model.specs.declared.direction.Direction.TheVariants.{Ingress, Egr
 use Rattle.np_rules.specs.Deciders.{decider}
 use Rattle.np_rules.specs.model.Ends.{End, contact, pod}
 use Rattle.np_rules.specs.model.Verdict.{pod_at, pod_or_none}
-use Rattle.np_table.proofs.KindLemmas.{first_pod-there, kinds-by}
-use Rattle.np_table.proofs.KindVerdicts.{SameKindEnd-ends, got-same, sent-same}
-use Rattle.np_table.proofs.MemberLemmas.{member-number, members-some, source-member}
-use Rattle.np_table.proofs.PairLemmas.{one_kind-sources, pod_there, source-within}
-use Rattle.np_table.proofs.SideLemmas.{firsts-workloads}
-use Rattle.np_table.specs.Ends.{AreOneKind}
-use Rattle.np_table.specs.Table.{source_pod}
+use Rattle.np_kinds.proofs.KindNumbers.{first_pod-there, firsts-workloads, kinds-by}
+use Rattle.np_kinds.proofs.KindVerdicts.{SameKindEnd-ends, got-same, sent-same}
+use Rattle.np_kinds.proofs.MemberLemmas.{member-number, members-some, source-member}
+use Rattle.np_kinds.proofs.PairLemmas.{one_kind-sources, pod_there, source-within}
+use Rattle.np_kinds.specs.Ends.{AreOneKind}
+use Rattle.np_kinds.specs.Between.{source_pod}
 
 -- ---- pods that may stand for one another
 

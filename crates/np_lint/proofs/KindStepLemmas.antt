@@ -13,9 +13,8 @@ use Rattle.np_lint.proofs.FlagLemmas.{get-set_other, get-set_same}
 use Rattle.np_lint.proofs.KindPodLemmas.{kind_within}
 use Rattle.np_lint.specs.declared.kind_pods.KindPod.{KindPod}
 use Rattle.np_lint.specs.steps.Kinds.{AreKindPods, AreKindPodsOf, IsKindPodOf, first_of_kind, pod_kind}
-use Rattle.np_table.proofs.KindLemmas.{kind-there}
-use Rattle.np_table.proofs.MemberLemmas.{members-some}
-use Rattle.np_table.proofs.SideLemmas.{firsts-workloads}
+use Rattle.np_kinds.proofs.KindNumbers.{firsts-workloads, kind-there}
+use Rattle.np_kinds.proofs.MemberLemmas.{members-some}
 
 -- ---- numbers and kinds of pods
 

@@ -38,7 +38,7 @@ use Rattle.np_rules.specs.declared.decider.Decider.{Decider}
 use Rattle.np_rules.specs.declared.decider.Decider.TheVariants as decides
 use Rattle.np_rules.specs.declared.decider.RuleName.{RuleName}
 use Rattle.np_rules.specs.declared.rule_ids.LayerRules.{LayerRules}
-use Rattle.np_table.specs.PairRules.{first_end, first_ends}
+use Rattle.np_kinds.specs.Kinds.{first_end, first_ends}
 
 -- ---- deciders
 

@@ -165,11 +165,7 @@ nothing_sound lists direction used none tier policy place valid known = cc (none
 
 -- ---- the side of a kind
 
--- the rules of a side, by its lists
-pub rules_of_side : (side : PodSide) (lists : EstateLists) (pod : ℕ) (direction : Direction) (rules : LayerRules) → side ≡ side_of lists pod direction →
-    AreRulesOf (side_of lists pod direction) rules → AreRulesOf side rules
-rules_of_side side lists pod direction rules is are = subst (λ (s : PodSide). AreRulesOf s rules) (sym is) are
-
+-- what holds of a side, by its lists
 pub by_side : (P : PodSide → Type 0) (side : PodSide) (lists : EstateLists) (pod : ℕ) (direction : Direction) → side ≡ side_of lists pod direction → P (side_of lists pod direction) → P side
 by_side P side lists pod direction is holds = subst P (sym is) holds
 

@@ -10,7 +10,7 @@ ghost use Rattle.np_lint.specs.steps.Search.{KnowsAll, KnowsPods, KnowsSide, Pod
 ghost use Rattle.np_reach.specs.Reach.{reach_of};
 ghost use Rattle.np_rules.specs.EveryAddress.{is_place};
 ghost use Rattle.np_rules.specs.PodSides.{side_of, with_addresses, with_pod};
-ghost use Rattle.np_table.specs.PairRules.{first_ends};
+ghost use Rattle.np_kinds.specs.Kinds.{first_ends};
 
 use crate::kind_pods::{KindPod, kind_pods};
 use crate::used_rules::{UsedRules, has_each};
@@ -19,7 +19,7 @@ use np_base::NoMemory;
 use np_fold::Folded;
 use np_model::{Direction, Estate};
 use np_reach::Reach;
-use np_rules::{LayerRules, PodRules, layer_rules};
+use np_rules::{LayerRules, PodRules};
 use np_steps::Steps;
 use std::alloc::Global;
 use std::sync::ledger::Ledger;
@@ -103,11 +103,11 @@ fn search_side<L: Ledger>(
     ensures least { steps.old ≤ steps.new }
 {
     let pod = kinds.pods[near].pod;
-    let rules = layer_rules(kinds.alloc, kinds.estate, pod, kinds.direction)?;
+    let side = PodRules::of(kinds.alloc, kinds.estate, pod, kinds.direction)?;
+    let rules = side.names(kinds.alloc)?;
     if used.has_all(&rules) {
         return Ok(());
     }
-    let side = PodRules::of(kinds.alloc, kinds.estate, pod, kinds.direction)?;
     let search = Search {
         kinds: *kinds,
         near,

@@ -9,9 +9,9 @@ use crate::search::used_rules;
 use crate::used_rules::UsedRules;
 use np_base::{NoMemory, Seq};
 use np_fold::Folded;
+use np_kinds::KindReach;
 use np_model::Direction;
 use np_steps::Steps;
-use np_table::KindReach;
 use std::alloc::Global;
 use std::sync::ledger::Ledger;
 

@@ -1,5 +1,5 @@
 -- Rules that match no address may be left out of a layer for addresses.
-use Rattle.std.proofs.Common.{◌≡◌, ℕ, ◌+◌, ◌<◌, List, [], ◌∷◌, ◌++◌, Bool, true, false, ◌||◌, append-nil, filter, find, get_or, length, map, take, Option, Some, refl, sym, ap, subst, ◌∙◌}
+use Rattle.std.proofs.Common.{◌≡◌, ℕ, ◌+◌, ◌<◌, List, [], ◌∷◌, ◌++◌, Bool, true, false, append-nil, filter, find, get_or, length, map, take, Option, refl, sym, ap, subst, ◌∙◌}
 use Rattle.std.proofs.Common.{if◌then◌else◌}
 use Rattle.std.specs.List.{list_any}
 use Rattle.std.proofs.lemmas.Bool.{and_left, false≢true, or_from, or_parts}
@@ -13,6 +13,7 @@ use Rattle.np_model.specs.declared.admin_policy.AdminRule.{AdminRule}
 use Rattle.np_model.specs.declared.network_policy.NetPeer.{NetPeer}
 use Rattle.np_model.specs.declared.network_policy.NetPeer.TheVariants as net
 use Rattle.np_model.specs.declared.network_policy.NetRule.{NetRule}
+use Rattle.np_rules.proofs.FilterLemmas.{any_kept, find_kept}
 use Rattle.np_rules.proofs.LayerLemmas.{admin_same, base_same, matches_in, matches_in_namespace, net_same, walk_by_tiers}
 use Rattle.np_rules.proofs.PairwiseLemmas.{Pairwise-map, map-map}
 use Rattle.np_rules.specs.AddressRules.{admin_rule_of_addresses, is_block, is_networks, net_rule_of_addresses}
@@ -63,24 +64,6 @@ admin_rule_nowhere contact a far rule none =
     ∙ quieter is_networks (λ peer. admin_peer_matches peer (address a) contact.family) rule.peers (admin_peer_nowhere a contact.family) none)
 
 -- ---- what is left out
-
--- the first item that passes is found without some that do not
-find_kept : {X : Type 0} (test keep : X → Bool) (xs : List X) → ((x : X) → keep x ≡ false → test x ≡ false) → find test (filter keep xs) ≡ find test xs
-find_kept test keep [] fails = refl
-find_kept {X} test keep (x ∷ xs) fails = go (keep x) (fails x) (find_kept test keep xs fails)
-  where
-    go : (b : Bool) → (b ≡ false → test x ≡ false) → find test (filter keep xs) ≡ find test xs →
-        find test (if b then x ∷ filter keep xs else filter keep xs) ≡ (if test x then Some x else find test xs)
-    go true is rest = ap (λ (found : Option X). if test x then Some x else found) rest
-    go false is rest = rest ∙ sym (ap (λ (b : Bool). if b then Some x else find test xs) (is refl))
-
-any_kept : {X : Type 0} (test keep : X → Bool) (xs : List X) → ((x : X) → keep x ≡ false → test x ≡ false) → list_any test (filter keep xs) ≡ list_any test xs
-any_kept test keep [] fails = refl
-any_kept {X} test keep (x ∷ xs) fails = go (keep x) (fails x) (any_kept test keep xs fails)
-  where
-    go : (b : Bool) → (b ≡ false → test x ≡ false) → list_any test (filter keep xs) ≡ list_any test xs → list_any test (if b then x ∷ filter keep xs else filter keep xs) ≡ (test x || list_any test xs)
-    go true is rest = ap (λ (b : Bool). test x || b) rest
-    go false is rest = rest ∙ sym (ap (λ (b : Bool). b || list_any test xs) (is refl))
 
 filter-map : {X Y : Type 0} (f : X → Y) (keep : Y → Bool) (xs : List X) → filter keep (map f xs) ≡ map f (filter (λ x. keep (f x)) xs)
 filter-map f keep [] = refl

@@ -1,5 +1,5 @@
 -- Layers of rules, policy by policy, and what their walk says.
-use Rattle.std.proofs.Common.{◌≡◌, ℕ, ◌+◌, ◌<◌, List, [], ◌∷◌, ◌++◌, Bool, true, false, ◌||◌, length, take, get_or, map, Some, refl, sym, ap, ◌∙◌, unwrap_or, if◌then◌else◌}
+use Rattle.std.proofs.Common.{◌≡◌, ℕ, ◌+◌, List, [], ◌∷◌, ◌++◌, Bool, true, false, ◌||◌, map, Some, refl, sym, ap, ◌∙◌, unwrap_or, if◌then◌else◌}
 use Rattle.std.specs.List.{list_any, find, enumerate_from}
 use Rattle.std.specs.Str.{bytes_eq}
 use Rattle.std.proofs.lemmas.Bool.{and_parts}
@@ -10,8 +10,6 @@ use Rattle.np_model.specs.declared.lists.EstateLists.{EstateLists}
 use Rattle.np_labels.specs.Selectors.{meets_selector}
 use Rattle.np_model.specs.declared.admin_policy.Action.{Action}
 use Rattle.np_model.specs.declared.admin_policy.Action.TheVariants as policy
-use Rattle.np_model.specs.declared.admin_policy.AdminPolicy.{AdminPolicy}
-use Rattle.np_model.specs.declared.admin_policy.AdminRule.{AdminRule}
 use Rattle.np_model.specs.declared.direction.Direction.{Direction}
 use Rattle.np_model.specs.declared.network_policy.NetPolicy.{NetPolicy}
 use Rattle.np_model.specs.declared.network_policy.NetRule.{NetRule}
@@ -22,46 +20,18 @@ use Rattle.np_tiers.specs.declared.layer.Layer.{Layer}
 use Rattle.np_rules.specs.model.Ends.{Contact, PodEnd}
 use Rattle.np_rules.specs.Layers.{Pairwise, IsSetOf, IsAdminPart, IsBasePart, IsLayer, tier_action, matches_of}
 use Rattle.np_rules.specs.model.NetTier.{is_isolated, placed_net_matches}
-use Rattle.np_rules.specs.model.Places.{PlacedAdminRule, PlacedBaseRule, PlacedNetRule, admin_places, admin_places_of, admin_rules_of, base_places, net_places, net_places_of, net_rules_of}
+use Rattle.np_rules.specs.model.Places.{PlacedAdminRule, PlacedBaseRule, PlacedNetRule, admin_places, base_places, net_places, net_places_of, net_rules_of}
 use Rattle.np_rules.specs.model.Rules.{admin_rule_matches, net_rule_matches}
-use Rattle.np_rules.specs.model.Selection.{net_selects, subject_selects}
+use Rattle.np_rules.specs.model.Selection.{net_selects}
 use Rattle.np_rules.specs.model.Sides as sides
 use Rattle.np_rules.specs.model.Sides.{action_says, admin_says, base_says, side_allows}
-use Rattle.np_rules.proofs.AdminTierLemmas as admin
 use Rattle.np_rules.proofs.AdminTierLemmas.{decider_is_first}
 use Rattle.np_rules.proofs.NetTierLemmas as net
-use Rattle.np_rules.proofs.PlacesLemmas.{flat_map-next, if_both, map-numbered}
-
--- ---- the rules of one policy more
-
--- the rules of the admin policies, with those of one more
-pub admin_rules-next : (policies : List AdminPolicy) (direction : Direction) (p : PodEnd) (i : ℕ) (policy : AdminPolicy) → i < length policies → policy ≡ get_or policies i policy →
-    map (λ placed. placed.rule) (admin_places (take (i + 1) policies) direction p) ≡ map (λ placed. placed.rule) (admin_places (take i policies) direction p) ++
-    (if subject_selects policy.subject p then admin_rules_of direction policy else [])
-admin_rules-next policies direction p i policy within is =
-    let rule_of : PlacedAdminRule → AdminRule = λ placed. placed.rule in
-    let before = map rule_of (admin_places (take i policies) direction p) in
-    ap (map rule_of) (flat_map-next (admin.places_by direction p) policies i policy within is)
-    ∙ map-append rule_of (admin_places (take i policies) direction p) (admin.places_by direction p policy)
-    ∙ ap (λ rules. before ++ rules) (if_both (λ places rules. map rule_of places ≡ rules) (subject_selects policy.subject p) (admin_places_of direction policy) (admin_rules_of direction policy)
-    (map-numbered (λ numbered. record { policy = policy; place = numbered.0; rule = numbered.1 }) rule_of (λ numbered. refl) 0 (admin_rules_of direction policy)) refl)
-
--- the rules of the NetworkPolicies, with those of one more
-pub net_rules-next : (policies : List NetPolicy) (direction : Direction) (p : PodEnd) (i : ℕ) (policy : NetPolicy) → i < length policies → policy ≡ get_or policies i policy →
-    map (λ placed. placed.rule) (net_places (take (i + 1) policies) direction p) ≡ map (λ placed. placed.rule) (net_places (take i policies) direction p) ++
-    (if net_selects policy p then unwrap_or (net_rules_of direction policy) [] else [])
-net_rules-next policies direction p i policy within is =
-    let rule_of : PlacedNetRule → NetRule = λ placed. placed.rule in
-    let before = map rule_of (net_places (take i policies) direction p) in
-    ap (map rule_of) (flat_map-next (net.places_by direction p) policies i policy within is)
-    ∙ map-append rule_of (net_places (take i policies) direction p) (net.places_by direction p policy)
-    ∙ ap (λ rules. before ++ rules) (if_both (λ places rules. map rule_of places ≡ rules) (net_selects policy p) (net_places_of direction policy) (unwrap_or (net_rules_of direction policy) [])
-    (map-numbered (λ numbered. record { policy = policy; place = numbered.0; rule = numbered.1 }) rule_of (λ numbered. refl) 0 (unwrap_or (net_rules_of direction policy) [])) refl)
 
 -- ---- the namespace of the policies that select a pod
 
 -- a rule in its place
-abbrev placed_in : NetPolicy → ℕ × NetRule → PlacedNetRule
+abbrev pub placed_in : NetPolicy → ℕ × NetRule → PlacedNetRule
 placed_in policy numbered = record { policy = policy; place = numbered.0; rule = numbered.1 }
 
 -- what a rule matches in a namespace

@@ -12,7 +12,9 @@ pub mod SideLemmas
 pub mod BlockPeers
 pub mod FamilyLemmas
 pub mod LayerRulesLemmas
+pub mod PolicyRulesLemmas
 pub mod PodSideLemmas
+pub mod FilterLemmas
 pub mod OwnPolicies
 pub mod KeptLemmas
 pub mod Protocols

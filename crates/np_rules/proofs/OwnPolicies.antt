@@ -1,5 +1,5 @@
 -- The policies of one namespace, which stand together, and what they say of its pods.
-use Rattle.std.proofs.Common.{◌≡◌, ℕ, suc, ◌+◌, ◌<◌, ◌≤◌, List, [], ◌∷◌, ◌++◌, Bool, true, false, ◌||◌, length, take, drop, get_or, filter, refl, sym, ap, subst, ◌∙◌, arith, if◌then◌else◌}
+use Rattle.std.proofs.Common.{◌≡◌, ℕ, zero, suc, ◌+◌, ◌<◌, ◌≤◌, List, [], ◌∷◌, ◌++◌, Bool, true, false, length, take, drop, get_or, filter, slice_get, refl, sym, ap, subst, ◌∙◌, arith}
 use Rattle.std.specs.Prelude.{AllPairs, IsTrue}
 use Rattle.std.specs.Cmp.Lexicographic.{slice_cmp, nat_list_cmp_total}
 use Rattle.std.specs.List.Sorted.{IsNonDecreasingBy, IsPartitionPoint, IsPartitionedBy, IsSortedBy}
@@ -17,38 +17,18 @@ use Rattle.np_model.specs.declared.direction.Direction.{Direction}
 use Rattle.np_model.specs.declared.network_policy.NetPolicy.{NetPolicy}
 use Rattle.np_rules.specs.model.Ends.{PodEnd}
 use Rattle.np_rules.specs.model.NetTier.{is_isolated, isolates}
-use Rattle.np_rules.specs.model.Places.{PlacedNetRule, net_places, net_places_of}
-use Rattle.np_rules.specs.model.Selection.{net_selects}
+use Rattle.np_rules.proofs.FilterLemmas.{any_kept, filter_kept}
 
 -- ---- what they say of the pods of the namespace
 
--- the policies of a pod's namespace have the rules that speak of it
-pub own-net_places : (direction : Direction) (p : PodEnd) (policies : List NetPolicy) →
-    net_places (filter (λ policy. bytes_eq policy.namespace p.namespace) policies) direction p ≡ net_places policies direction p
-own-net_places direction p [] = refl
-own-net_places direction p (policy ∷ policies) = go (bytes_eq policy.namespace p.namespace) refl (own-net_places direction p policies)
-  where
-    own : NetPolicy → Bool
-    own one = bytes_eq one.namespace p.namespace
+-- those of them that isolate a pod are all that do
+pub own-isolating : (direction : Direction) (p : PodEnd) (policies : List NetPolicy) →
+    filter (isolates direction p) (filter (λ policy. bytes_eq policy.namespace p.namespace) policies) ≡ filter (isolates direction p) policies
+own-isolating direction p policies = filter_kept (isolates direction p) (λ policy. bytes_eq policy.namespace p.namespace) policies (λ policy other. rw other refl)
 
-    go : (b : Bool) → bytes_eq policy.namespace p.namespace ≡ b → net_places (filter own policies) direction p ≡ net_places policies direction p →
-        net_places (if b then policy ∷ filter own policies else filter own policies) direction p ≡ net_places (policy ∷ policies) direction p
-    go true is rest = ap (λ (rules : List PlacedNetRule). (if net_selects policy p then net_places_of direction policy else []) ++ rules) rest
-    go false is rest = rw is rest
-
--- and isolate it where some do
 pub own-is_isolated : (direction : Direction) (p : PodEnd) (policies : List NetPolicy) →
     is_isolated (filter (λ policy. bytes_eq policy.namespace p.namespace) policies) direction p ≡ is_isolated policies direction p
-own-is_isolated direction p [] = refl
-own-is_isolated direction p (policy ∷ policies) = go (bytes_eq policy.namespace p.namespace) refl (own-is_isolated direction p policies)
-  where
-    own : NetPolicy → Bool
-    own one = bytes_eq one.namespace p.namespace
-
-    go : (b : Bool) → bytes_eq policy.namespace p.namespace ≡ b → is_isolated (filter own policies) direction p ≡ is_isolated policies direction p →
-        is_isolated (if b then policy ∷ filter own policies else filter own policies) direction p ≡ is_isolated (policy ∷ policies) direction p
-    go true is rest = ap (λ (b : Bool). isolates direction p policy || b) rest
-    go false is rest = rw is rest
+own-is_isolated direction p policies = any_kept (isolates direction p) (λ policy. bytes_eq policy.namespace p.namespace) policies (λ policy other. rw other refl)
 
 -- ---- they stand together
 
@@ -175,3 +155,25 @@ own-split policies namespace first count rest own within rest_is within' own_is 
     ∙ own-between policies namespace first count within (subst (λ (r : List NetPolicy). count ≤ length r) rest_is within') lower
     (subst (λ (r : List NetPolicy). IsPartitionPoint (λ policy. is_le (compared namespace policy) ≡ true) (λ policy. is_le (compared namespace policy) ≡ false) r count) rest_is
     (upto (subst (λ (r : List NetPolicy). IsPartitionedBy (λ policy. is_le (compared namespace policy)) r) (sym rest_is) (parted first))))
+
+-- ---- their places
+
+slice_get-take : {X : Type 0} (n : ℕ) (xs : List X) (k : ℕ) → k < length (take n xs) → slice_get (take n xs) k ≡ slice_get xs k
+slice_get-take zero xs k within = absurd (omega arith)
+slice_get-take (suc n) [] k within = absurd (omega arith)
+slice_get-take (suc n) (x ∷ xs) zero within = refl
+slice_get-take (suc n) (x ∷ xs) (suc k) within = slice_get-take n xs k (omega arith)
+
+slice_get-drop : {X : Type 0} (n : ℕ) (xs : List X) (k : ℕ) → slice_get (drop n xs) k ≡ slice_get xs (n + k)
+slice_get-drop zero xs k = ap (slice_get xs) (let same : k ≡ 0 + k = omega arith in same)
+slice_get-drop (suc n) [] k = refl
+slice_get-drop (suc n) (x ∷ xs) k = slice_get-drop n xs k ∙ ap (slice_get (x ∷ xs)) (let same : suc (n + k) ≡ suc n + k = omega arith in same)
+
+-- what stands at a place among those that two splits gave
+pub split-place : {X : Type 0} (xs rest own : List X) (first count among : ℕ) → rest ≡ drop first xs → own ≡ take count rest → among < length own →
+    slice_get xs (first + among) ≡ slice_get own among
+split-place xs rest own first count among is_rest is_own within =
+    sym (slice_get-drop first xs among)
+    ∙ ap (λ (back : List _). slice_get back among) (sym is_rest)
+    ∙ sym (slice_get-take count rest among (rw is_own at within))
+    ∙ ap (λ (front : List _). slice_get front among) (sym is_own)

@@ -8,12 +8,21 @@ pub map-map : {A B C : Type 0} (f : A → B) (g : B → C) (xs : List A) → map
 map-map f g [] = refl
 map-map f g (x ∷ xs) = ap (λ ys. g (f x) ∷ ys) (map-map f g xs)
 
+-- what holds of two empty lists, and of one more related pair, holds of related lists
+pub Pairwise-ind : {A B : Type 0} (R : A → B → Type 0) (C : List A → List B → Type 0) → C [] [] → ((x : A) (y : B) (xs : List A) (ys : List B) → R x y → C xs ys → C (x ∷ xs) (y ∷ ys)) →
+    (xs : List A) (ys : List B) → Pairwise R xs ys → C xs ys
+Pairwise-ind R C none more [] [] related = none
+Pairwise-ind R C none more [] (y ∷ ys) related = absurd related
+Pairwise-ind R C none more (x ∷ xs) [] related = absurd related
+Pairwise-ind R C none more (x ∷ xs) (y ∷ ys) related = more x y xs ys related.0 (Pairwise-ind R C none more xs ys related.1)
+
+-- one after another
+pub Pairwise-append : {A B : Type 0} (R : A → B → Type 0) (xs : List A) (ys : List B) (xs' : List A) (ys' : List B) → Pairwise R xs ys → Pairwise R xs' ys' → Pairwise R (xs ++ xs') (ys ++ ys')
+Pairwise-append R xs ys xs' ys' front back = Pairwise-ind R (λ fronts others. Pairwise R (fronts ++ xs') (others ++ ys')) back (λ x y fronts others here rest. (here, rest)) xs ys front
+
 -- one more at the end of both
 pub Pairwise-push : {A B : Type 0} (R : A → B → Type 0) (xs : List A) (ys : List B) (x : A) (y : B) → Pairwise R xs ys → R x y → Pairwise R (xs ++ x ∷ []) (ys ++ y ∷ [])
-Pairwise-push R [] [] x y related here = (here, tt)
-Pairwise-push R [] (b ∷ ys) x y related here = absurd related
-Pairwise-push R (a ∷ xs) [] x y related here = absurd related
-Pairwise-push R (a ∷ xs) (b ∷ ys) x y related here = (related.0, Pairwise-push R xs ys x y related.1 here)
+Pairwise-push R xs ys x y related here = Pairwise-append R xs ys (x ∷ []) (y ∷ []) related (here, tt)
 
 -- where the second list is that of images, its items are related by their images
 pub Pairwise-map : {A B C : Type 0} (R : A → C → Type 0) (f : B → C) (xs : List A) (ys : List B) → Pairwise R xs (map f ys) → Pairwise (λ x y. R x (f y)) xs ys

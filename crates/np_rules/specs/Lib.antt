@@ -8,6 +8,7 @@ pub mod Layers
 pub mod model
 pub mod OneEnd
 pub mod PodSides
+pub mod PolicyRules
 pub mod StrangerRules
 pub mod Texts
 pub mod Views

@@ -17,6 +17,8 @@ use Rattle.np_rules.specs.model.NetTier.{is_isolated}
 use Rattle.np_rules.specs.model.Places.{admin_places, base_places, net_places, rule_count}
 use Rattle.np_rules.specs.model.Sides.{side_allows}
 use Rattle.np_rules.specs.model.Verdict.{pod_at}
+use Rattle.np_rules.specs.PolicyRules.{AreIsolating, AreSelecting}
+use Rattle.np_rules.specs.declared.policy_rules.PolicyRules.{PolicyRules}
 use Rattle.np_rules.specs.declared.stranger.Stranger.{Stranger}
 use Rattle.np_tiers.specs.Walk.{walk_allows}
 use Rattle.np_tiers.specs.declared.layer.Layer.{Layer}
@@ -68,6 +70,14 @@ SaysVerdicts {S} {Spot} has in_space side looks_at made =
     (spot : Spot) → in_space spot ≡ true → walk_allows (λ set. has set spot) made ≡ side_allows side.lists side.direction (near_pod side) (looks_at side spot)
 
 -- ---- what is kept of a side
+
+-- The pod is one of the estate. The policies that speak of it are kept with their rules, and the rules of the baseline.
+pub record KeepsPolicies (side : PodSide) (admin : List (PolicyRules AdminRule)) (net : List (PolicyRules NetRule)) (base : List AdminRule) : Type 0 where
+  pub place : side.pod < length side.lists.pods
+  pub selecting : AreSelecting side.lists.admin_policies side.direction (near_pod side) admin
+  pub isolating : AreIsolating side.lists.net_policies side.direction (near_pod side) net
+  pub base_rules : base ≡ map (λ placed. placed.rule) (base_places side.lists.baseline side.direction (near_pod side))
+  pub ascending : HasAscendingPriorities side.lists.admin_policies
 
 -- The pod is one of the estate. The rules of the policies that select it are kept tier by tier, in the order of the
 -- estate, and whether some NetworkPolicy isolates it.

@@ -57,8 +57,8 @@ fn action_by<L: Ledger>(
     first_action(rules, contact)
 }
 
-/// The rules of a direction, where the policy selects the pod.
-pub(crate) fn admin_rules_for<'a>(
+// The rules of a direction, where the policy selects the pod.
+fn admin_rules_for<'a>(
     policy: &'a AdminPolicy,
     direction: Direction,
     pod: &PodView<'_>,

@@ -29,7 +29,7 @@ pub fn isolates_pod(policies: &[NetPolicy], direction: Direction, pod: &Pod) -> 
     ensures { result ≡ is_isolated policies.now direction (pod_end pod.now) }
 {
     let own = own_policies(policies, pod.namespace.as_str());
-    is_isolated(own, direction, &view_of_pod(pod))
+    is_isolated(own.policies, direction, &view_of_pod(pod))
 }
 
 /// Whether the subject of an admin policy or of the baseline selects a pod.

@@ -24,8 +24,8 @@ pub(crate) fn is_isolated(policies: &[NetPolicy], direction: Direction, pod: &Po
         .any(|policy| isolates(policy, direction, pod))
 }
 
-/// Whether a policy isolates the pod.
-pub(crate) fn isolates(policy: &NetPolicy, direction: Direction, pod: &PodView<'_>) -> bool
+// Whether a policy isolates the pod.
+fn isolates(policy: &NetPolicy, direction: Direction, pod: &PodView<'_>) -> bool
     ensures { result ≡ spec.isolates direction (pod_view pod.now) policy.now }
 {
     net_selects(policy, pod) && net_rules_of(policy, direction).is_some()
@@ -83,8 +83,8 @@ fn permits_by<L: Ledger>(
     some_rule_matches(policy.namespace.as_str(), rules, contact)
 }
 
-/// The rules of a direction, where the policy selects the pod and the direction is among its types.
-pub(crate) fn net_rules_for<'a>(
+// The rules of a direction, where the policy selects the pod and the direction is among its types.
+fn net_rules_for<'a>(
     policy: &'a NetPolicy,
     direction: Direction,
     pod: &PodView<'_>,

@@ -1,9 +1,15 @@
 //! The rules that speak of a pod.
-ghost use Rattle.std.specs.Prelude.{◌≡◌, ◌+◌, ◌-◌, ◌^◌, ◌≤◌, ◌<◌, length, true, IfOk, OnOk};
+ghost use Rattle.std.specs.Prelude.{◌≡◌, ◌+◌, ◌-◌, ◌^◌, ◌≤◌, ◌<◌, filter, length, map, true, Some, IfOk, OnOk};
+ghost use Rattle.std.specs.List.{slice_get};
 ghost use Rattle.np_conns.specs.Conns.{IsConns, is_spot, has_spot};
+ghost use Rattle.np_model.specs.Lawful.{IsFew};
 ghost use Rattle.np_pieces.specs.Pieces.{Covers};
 ghost use Rattle.np_rules.specs.EveryAddress.{AddressSpot, has_place, is_place};
-ghost use Rattle.np_rules.specs.PodSides.{IsSideLayer, SaysVerdicts, near_pod, side_of, side_rule_count};
+ghost use Rattle.np_rules.specs.LayerRules as spec;
+ghost use Rattle.np_rules.specs.Layers.{Pairwise};
+ghost use Rattle.np_rules.specs.model.NetTier.{isolates};
+ghost use Rattle.np_rules.specs.model.Places.{admin_places, base_places, net_places};
+ghost use Rattle.np_rules.specs.PodSides.{IsSideLayer, KeepsRules, SaysVerdicts, near_pod, side_of, side_rule_count};
 ghost use Rattle.np_rules.specs.PodSides.{with_addresses, with_pod, with_point, with_stranger};
 ghost use Rattle.np_rules.specs.model.Sides.{side_allows};
 
@@ -11,43 +17,43 @@ use crate::address_rules::rules_of_addresses;
 use crate::base_tier::base_rules_for;
 use crate::every_address::{AddrConns, EveryAddress};
 use crate::far_ends::FarEnds;
-use crate::gathering::{NetRules, admin_rules, net_rules};
 use crate::layer_parts::{admin_parts, base_parts, net_sets};
 use crate::near_ends::{between_pods, view_at, with_address, with_stranger};
+use crate::policy_rules::{PolicyRules, isolating_policies, rules_of, selecting_policies};
+use crate::rule_ids::{LayerRules, places_of, rule_ids};
+use crate::side_rules::SideRules;
 use crate::stranger::Stranger;
 use crate::views::EndView;
 use np_addr::{Address, Family};
 use np_base::{Cells, NoMemory};
 use np_conns::ConnSet;
-use np_model::{AdminRule, Direction, Estate};
+use np_model::{AdminRule, Direction, Estate, NetRule};
 use np_steps::Steps;
 use np_tiers::{Layer, verdict_set};
 use std::alloc::Global;
 use std::marker::Model;
 use std::sync::ledger::Ledger;
 
-/// The rules that speak of a pod in a direction, found once, to be looked at with any far end. Contracts see the estate's
-/// lists, the pod's place among its pods, and the direction.
+/// The rules that speak of a pod in a direction, found once, to be looked at with any far end. They are kept policy by
+/// policy. Contracts see the estate's lists, the pod's place among its pods, and the direction.
 #[derive(Drop)]
 pub struct PodRules<'a> {
     estate: &'a Estate,
     pod: u32,
     direction: Direction,
-    admin: Vec<&'a AdminRule>,
-    net: NetRules<'a>,
+    admin: Vec<PolicyRules<'a, AdminRule>>,
+    net: Vec<PolicyRules<'a, NetRule>>,
     base: &'a [AdminRule],
 }
 
 impl<'a> Model for PodRules<'a> {
-    ghost use Rattle.std.specs.Prelude.{map};
-    ghost use Rattle.np_rules.specs.PodSides.{PodSide, KeepsRules, side_of};
+    ghost use Rattle.np_rules.specs.PodSides.{PodSide, KeepsPolicies, side_of};
 
     ghost Value = { PodSide };
 
     ghost view = { λ r. side_of r.estate.now r.pod r.direction };
 
-    ghost invariant = { λ r. KeepsRules (side_of r.estate.now r.pod r.direction) (map (λ rule. rule.now) r.admin.items)
-        r.net.isolated (map (λ rule. rule.now) r.net.rules.items) r.base.now };
+    ghost invariant = { λ r. KeepsPolicies (side_of r.estate.now r.pod r.direction) r.admin.items r.net.items r.base.now };
 }
 
 impl<'a> PodRules<'a> {
@@ -62,8 +68,8 @@ impl<'a> PodRules<'a> {
         ensures { IfOk result (λ made. made ≡ side_of estate.now pod direction) }
     {
         let near = view_at(estate, pod);
-        let admin = admin_rules(alloc, estate.admin_policies(), direction, &near)?;
-        let net = net_rules(alloc, estate.net_policies(), direction, &near)?;
+        let admin = selecting_policies(alloc, estate.admin_policies(), direction, &near)?;
+        let net = isolating_policies(alloc, estate.net_policies(), direction, &near)?;
         let base = base_rules_for(estate.baseline(), direction, &near);
         Ok(PodRules {
             estate,
@@ -75,12 +81,45 @@ impl<'a> PodRules<'a> {
         })
     }
 
+    /// The estate.
+    pub fn estate(&self) -> &'a Estate
+        ensures { result.now ≡ self.now.lists }
+    {
+        self.estate
+    }
+
     /// The pod's place in the estate.
     pub fn pod(&self) -> u32
         ensures value { result ≡ self.now.pod }
         ensures within { self.now.pod < length self.now.lists.pods }
     {
         self.pod
+    }
+
+    /// The rules by name, place by place those of the layers, and the NetworkPolicies that isolate the pod. No policy is
+    /// asked again.
+    pub fn names(&self, alloc: Global) -> Result<LayerRules, NoMemory>
+        requires few { IsFew self.now.lists }
+        ensures admin { IfOk result (λ rules. Pairwise (spec.NamesAdmin self.now.lists.admin_policies)
+            rules.admin (admin_places self.now.lists.admin_policies self.now.direction (near_pod self.now))) }
+        ensures net { IfOk result (λ rules. Pairwise (spec.NamesNet self.now.lists.net_policies)
+            rules.net (net_places self.now.lists.net_policies self.now.direction (near_pod self.now))) }
+        ensures isolating { IfOk result (λ rules.
+            Pairwise (λ place policy. slice_get self.now.lists.net_policies place ≡ Some policy)
+            rules.isolating (filter (isolates self.now.direction (near_pod self.now)) self.now.lists.net_policies)) }
+        ensures base { IfOk result (λ rules. Pairwise spec.NamesBase
+            rules.base (base_places self.now.lists.baseline self.now.direction (near_pod self.now))) }
+    {
+        let baseline = PolicyRules {
+            place: 0,
+            rules: self.base,
+        };
+        Ok(LayerRules {
+            admin: rule_ids(alloc, &self.admin)?,
+            net: rule_ids(alloc, &self.net)?,
+            isolating: places_of(alloc, &self.net)?,
+            base: rule_ids(alloc, &[baseline])?,
+        })
     }
 
     /// The rules as sets of the protocols and ports that they match with another pod as the far end, which is named by its
@@ -175,22 +214,36 @@ impl<'a> PodRules<'a> {
         ensures least { steps.old ≤ steps.new }
         ensures most { steps.new ≤ steps.old + side_rule_count self.now }
     {
-        self.count(steps);
+        let rules = self.rules(alloc)?;
+        rules.count(steps);
         let near = view_at(self.estate, self.pod);
         let ends = EveryAddress {
             direction: self.direction,
             near: EndView::Pod(view_at(self.estate, self.pod)),
         };
-        let admin = rules_of_addresses(alloc, &self.admin)?;
-        let net = rules_of_addresses(alloc, &self.net.rules)?;
+        let admin = rules_of_addresses(alloc, &rules.admin)?;
+        let net = rules_of_addresses(alloc, &rules.net)?;
         let layer = Layer {
             admin: admin_parts(alloc, &admin, &ends)?,
-            isolated: self.net.isolated,
+            isolated: rules.isolated,
             net: net_sets(alloc, near.namespace, &net, &ends)?,
-            base: base_parts(alloc, self.base, &ends)?,
+            base: base_parts(alloc, rules.base, &ends)?,
         };
         let set = verdict_set(alloc, &layer)?;
         Ok(set)
+    }
+
+    /// The rules, one after another.
+    pub(crate) fn rules(&self, alloc: Global) -> Result<SideRules<'a>, NoMemory>
+        ensures { IfOk result (λ made. KeepsRules self.now (map (λ rule. rule.now) made.admin.items)
+            made.isolated (map (λ rule. rule.now) made.net.items) made.base.now) }
+    {
+        Ok(SideRules {
+            admin: rules_of(alloc, &self.admin)?,
+            isolated: !self.net.is_empty(),
+            net: rules_of(alloc, &self.net)?,
+            base: self.base,
+        })
     }
 
     // The rules as sets of what the spots stand for with these far ends.
@@ -206,25 +259,17 @@ impl<'a> PodRules<'a> {
         ensures least { steps.old ≤ steps.new }
         ensures most { steps.new ≤ steps.old + side_rule_count self.now }
     {
-        self.count(steps);
+        let rules = self.rules(alloc)?;
+        rules.count(steps);
         let near = view_at(self.estate, self.pod);
-        let admin = admin_parts(alloc, &self.admin, far)?;
-        let net = net_sets(alloc, near.namespace, &self.net.rules, far)?;
-        let base = base_parts(alloc, self.base, far)?;
+        let admin = admin_parts(alloc, &rules.admin, far)?;
+        let net = net_sets(alloc, near.namespace, &rules.net, far)?;
+        let base = base_parts(alloc, rules.base, far)?;
         Ok(Layer {
             admin,
-            isolated: self.net.isolated,
+            isolated: rules.isolated,
             net,
             base,
         })
-    }
-
-    // Counts all rules.
-    fn count<L: Ledger>(&self, steps: &mut Steps<L>)
-        ensures { steps.new ≡ steps.old + side_rule_count self.now }
-    {
-        steps.add(self.admin.len() as u64);
-        steps.add(self.net.rules.len() as u64);
-        steps.add(self.base.len() as u64);
     }
 }

@@ -8,12 +8,11 @@ ghost use Rattle.np_rules.specs.PodSides.{SaysVerdicts, near_pod, side_of, side_
 ghost use Rattle.np_rules.specs.StrangerRules.{ArePermitted, HasPorts, IsNetOf, kept_reaches, rule_of};
 ghost use Rattle.np_rules.specs.Views.{end_view};
 
-use crate::base_tier::base_rules_for;
 use crate::every_address::EveryAddress;
-use crate::gathering::{admin_rules, net_rules};
 use crate::layer_parts::{admin_parts, base_parts};
 use crate::near_ends::{view_at, with_stranger};
 use crate::peers::net_peers_match;
+use crate::pod_rules::PodRules;
 use crate::stranger::Stranger;
 use crate::views::{EndView, view_of_stranger};
 use np_base::{Cells, NoMemory, Seq};
@@ -81,23 +80,20 @@ impl<'a> StrangerRules<'a> {
         requires { pod < length estate.now.pods }
         ensures { IfOk result (λ made. made ≡ side_of estate.now pod direction) }
     {
-        let near = view_at(estate, pod);
-        let admin = admin_rules(alloc, estate.admin_policies(), direction, &near)?;
-        let net = net_rules(alloc, estate.net_policies(), direction, &near)?;
-        let base = base_rules_for(estate.baseline(), direction, &near);
+        let rules = PodRules::of(alloc, estate, pod, direction)?.rules(alloc)?;
         let far = EveryAddress {
             direction,
-            near: EndView::Pod(near),
+            near: EndView::Pod(view_at(estate, pod)),
         };
-        let conns = rules_with_conns(alloc, &net.rules, &far)?;
+        let net = rules_with_conns(alloc, &rules.net, &far)?;
         Ok(StrangerRules {
             estate,
             pod,
             direction,
-            admin,
-            isolated: net.isolated,
-            net: conns,
-            base,
+            admin: rules.admin,
+            isolated: rules.isolated,
+            net,
+            base: rules.base,
         })
     }
 

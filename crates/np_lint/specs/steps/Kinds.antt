@@ -3,7 +3,7 @@ use Rattle.std.specs.Prelude.{◌≡◌, ◌≢◌, ℕ, ◌<◌, List, length, 
 use Rattle.np_model.specs.declared.lists.EstateLists.{EstateLists}
 use Rattle.np_fold.specs.Workloads.{folding_of}
 use Rattle.np_lint.specs.declared.kind_pods.KindPod.{KindPod}
-use Rattle.np_table.specs.Table.{source_pod}
+use Rattle.np_kinds.specs.Between.{source_pod}
 
 -- the kind of the workload of the pod at a place
 abbrev pub pod_kind : EstateLists → ℕ → ℕ

@@ -29,7 +29,7 @@ use Rattle.np_rules.specs.PodSides.{PodSide, near_pod, side_of, with_addresses, 
 use Rattle.np_rules.specs.model.Verdict.{pod_at}
 use Rattle.np_rules.specs.declared.decider.Decider.{Decider}
 use Rattle.np_rules.specs.declared.rule_ids.LayerRules.{LayerRules}
-use Rattle.np_table.specs.PairRules.{first_ends}
+use Rattle.np_kinds.specs.Kinds.{first_ends}
 
 -- ---- rules of one direction
 

@@ -10,7 +10,7 @@ pub returns : goal.returns
 returns c =
     let near = pod_end c.args.pod.now in
     c.is_isolated.ensures
-    ∙ ap (λ (p : PodEnd). is_isolated c.own_policies-own.result.now c.args.direction p) c.view_of_pod.ensures
+    ∙ ap (λ (p : PodEnd). is_isolated c.own_policies-own.result.policies.now c.args.direction p) c.view_of_pod.ensures
     ∙ ap (λ (policies : List NetPolicy). is_isolated policies c.args.direction near)
-    (c.own_policies-own.ensures ∙ ap (λ (namespace : List ℕ). filter (λ policy. bytes_eq policy.namespace namespace) c.args.policies.now) c.as_str.ensures)
+    (c.own_policies-own.ensures.own ∙ ap (λ (namespace : List ℕ). filter (λ policy. bytes_eq policy.namespace namespace) c.args.policies.now) c.as_str.ensures)
     ∙ own-is_isolated c.args.direction near c.args.policies.now

@@ -2,6 +2,7 @@ use Rattle.std.proofs.Common.{◌<◌, length, ap, ◌∙◌, rules}
 use Rattle.std.proofs.lemmas.Result.{IfOk-weaker}
 use Rattle.np_explain.proofs.SideLemmas.{keeps, net_at, net_policy_within, net_within}
 use Rattle.np_explain.proofs.side.Side.net_rule.Goals as goal
+use Rattle.np_model.specs.declared.lists.EstateLists.{EstateLists}
 use Rattle.np_rules.specs.PodSides.{PodSide}
 
 pub bounds-items-place : goal.bounds-items-place
@@ -13,11 +14,11 @@ offset_bounds-items-place c = let within : c.args.place < length c.items.result.
 
 pub net_rule_name-requires : goal.net_rule_name-requires
 net_rule_name-requires c = net_policy_within (keeps c.self.invariant.names c.self.view_is) c.args.place c.items.result.now _ c.net_policies.result.now c.items.ensures
-    (c.net_policies.ensures.value ∙ ap (λ (side : PodSide). side.lists.net_policies) c.self.view_is) c.requires
+    (c.net_policies.ensures.value ∙ ap (λ (lists : EstateLists). lists.net_policies) c.estate.ensures ∙ ap (λ (side : PodSide). side.lists.net_policies) c.self.view_is) c.requires
 
 pub returns : goal.returns
 returns c =
     IfOk-weaker c.net_rule_name.result _ _
     (λ name named placed is. named placed (net_at (keeps c.self.invariant.names c.self.view_is) c.args.place c.items.result.now _ c.net_policies.result.now c.items.ensures
-    (c.net_policies.ensures.value ∙ ap (λ (side : PodSide). side.lists.net_policies) c.self.view_is) placed is))
+    (c.net_policies.ensures.value ∙ ap (λ (lists : EstateLists). lists.net_policies) c.estate.ensures ∙ ap (λ (side : PodSide). side.lists.net_policies) c.self.view_is) placed is))
     c.net_rule_name.ensures

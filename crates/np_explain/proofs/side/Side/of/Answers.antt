@@ -1,12 +1,12 @@
-use Rattle.std.proofs.Common.{◌∙◌}
+use Rattle.std.proofs.Common.{ap, ◌∙◌}
 use Rattle.np_explain.proofs.SideLemmas.{isolating_named, isolating_within}
 use Rattle.np_explain.proofs.side.Side.of.Goals as goal
-use Rattle.np_rules.specs.PodSides.{side_of}
+use Rattle.np_model.specs.declared.lists.EstateLists.{EstateLists}
 
 pub net_policy_names-requires : goal.net_policy_names-requires
 net_policy_names-requires c =
-    isolating_within (side_of c.args.estate.now c.args.pod c.args.direction) c.in_ok-rules.rules.isolating c.items.result.now c.net_policies.result.now
-    c.in_ok-rules.ensures.isolating c.items.ensures c.net_policies.ensures.value
+    isolating_within c.args.side.now c.in_ok-rules.rules.isolating c.items.result.now c.net_policies-policies.result.now
+    c.in_ok-rules.ensures.isolating c.items.ensures (c.net_policies-policies.ensures.value ∙ ap (λ (lists : EstateLists). lists.net_policies) c.estate.ensures)
 
 pub invariant_of-result : goal.invariant_of-result
 invariant_of-result c = record {
@@ -18,6 +18,6 @@ invariant_of-result c = record {
     base = c.in_ok-rules.ensures.base;
   };
   isolating = c.in_ok-isolating.ensures ∙ c.in_ok-names.ensures
-      ∙ isolating_named (side_of c.args.estate.now c.args.pod c.args.direction) c.in_ok-rules.rules.isolating c.items.result.now c.net_policies.result.now
-      c.in_ok-rules.ensures.isolating c.items.ensures c.net_policies.ensures.value;
+      ∙ isolating_named c.args.side.now c.in_ok-rules.rules.isolating c.items.result.now c.net_policies-policies.result.now
+      c.in_ok-rules.ensures.isolating c.items.ensures (c.net_policies-policies.ensures.value ∙ ap (λ (lists : EstateLists). lists.net_policies) c.estate.ensures);
 }

@@ -1,28 +1,39 @@
-use Rattle.std.proofs.Common.{◌≡◌, ℕ, List, map, refl, ap, ◌∙◌, subst}
+use Rattle.std.proofs.Common.{ℕ, List, map, refl, ap, ◌∙◌, arith}
 use Rattle.np_base.specs.declared.beside.Beside.{Beside}
 use Rattle.np_conns.specs.Conns.{Conns}
 use Rattle.np_pieces.specs.declared.piece.Piece.{Piece}
 use Rattle.np_rules.specs.model.Ends.{PodEnd, pod}
 use Rattle.np_rules.specs.EveryAddress.{address_contact, address_of, has_place, is_place}
-use Rattle.np_rules.specs.PodSides.{PodSide, near_pod, side_of, with_addresses}
+use Rattle.np_rules.specs.PodSides.{PodSide, near_pod, with_addresses}
 use Rattle.np_rules.specs.model.Sides.{side_allows}
 use Rattle.np_rules.specs.Views.{pod_view}
 use Rattle.np_rules.proofs.KeptLemmas.{walk_of_kept}
+use Rattle.np_rules.proofs.PodSideLemmas.{kept_count}
 use Rattle.np_rules.proofs.pod_rules.PodRules.address_set.Goals as goal
-use Rattle.np_tiers.specs.Walk.{walk_allows}
 use Rattle.np_tiers.specs.declared.layer.Layer.{Layer}
 
 pub returns-clause-members : goal.returns-clause-members
 returns-clause-members g c = λ place within.
-    let inside = c.self.inside in
-    let side = side_of inside.estate.now inside.pod inside.direction in
+    let direction = c.self.inside.direction in
+    let side = c.args.self.now in
+    let rules = c.in_ok-rules.rules in
     let layer : Layer (Beside (List (Piece ℕ Conns)) (List (Piece ℕ Conns))) =
-    record { admin = c.in_ok-admin_parts.field-0; isolated = inside.net.isolated; net = c.in_ok-net_sets.field-0; base = c.in_ok-base_parts.field-0 } in
+    record { admin = c.in_ok-admin_parts.field-0; isolated = rules.isolated; net = c.in_ok-net_sets.field-0; base = c.in_ok-base_parts.field-0 } in
     c.in_ok-set.ensures.members place within
-    ∙ subst (λ (s : PodSide). walk_allows (λ set. has_place set place) layer ≡ side_allows s.lists s.direction (near_pod s) (with_addresses s place)) c.self.view_is
-    (walk_of_kept has_place is_place (address_contact side.direction (pod (pod_view c.view_at.result))) address_of (λ spot. refl) side (map (λ rule. rule.now) inside.admin.items) inside.net.isolated
-    (map (λ rule. rule.now) inside.net.rules.items) inside.base.now c.in_ok-admin.admin.items (λ rule. rule.now) c.in_ok-net.net.items
-    (λ rule. rule.now) c.view_at-near.result.namespace.now layer c.self.invariant (rw c.deref.ensures.value at c.in_ok-admin.ensures) (rw c.deref-2.ensures.value at c.in_ok-net.ensures)
-    (ap (λ (p : PodEnd). p.namespace) c.view_at-near.ensures) (rw c.deref-3.ensures.value at c.in_ok-admin_parts.ensures) refl
+    ∙ walk_of_kept has_place is_place (address_contact direction (pod (pod_view c.view_at.result))) address_of (λ spot. refl) side (map (λ rule. rule.now) rules.admin.items) rules.isolated
+    (map (λ rule. rule.now) rules.net.items) rules.base.now c.in_ok-admin.admin.items (λ rule. rule.now) c.in_ok-net.net.items
+    (λ rule. rule.now) c.view_at-near.result.namespace.now layer c.in_ok-rules.ensures (rw c.deref.ensures.value at c.in_ok-admin.ensures) (rw c.deref-2.ensures.value at c.in_ok-net.ensures)
+    (ap (λ (p : PodEnd). p.namespace) c.view_at-near.ensures ∙ ap (λ (s : PodSide). (near_pod s).namespace) c.self.view_is) (rw c.deref-3.ensures.value at c.in_ok-admin_parts.ensures) refl
     (rw c.deref-4.ensures.value at c.in_ok-net_sets.ensures) c.in_ok-base_parts.ensures place within
-    ∙ ap (λ (p : PodEnd). side_allows side.lists side.direction (near_pod side) (address_contact side.direction (pod p) place)) c.view_at.ensures)
+    ∙ ap (λ (p : PodEnd). side_allows side.lists side.direction (near_pod side) (address_contact direction (pod p) place)) c.view_at.ensures
+    ∙ ap (λ (s : PodSide). side_allows side.lists side.direction (near_pod side) (with_addresses s place)) c.self.view_is
+
+pub returns-clause-cost : goal.returns-clause-cost
+returns-clause-cost g c =
+    let rules = c.in_ok-rules.rules in
+    omega (arith, kept_count c.args.self.now rules.admin.items (λ rule. rule.now) rules.isolated rules.net.items (λ rule. rule.now) rules.base.now c.in_ok-rules.ensures)
+
+pub returns-clause-most : goal.returns-clause-most
+returns-clause-most g c =
+    let rules = c.in_ok-rules.rules in
+    omega (arith, kept_count c.args.self.now rules.admin.items (λ rule. rule.now) rules.isolated rules.net.items (λ rule. rule.now) rules.base.now c.in_ok-rules.ensures)
