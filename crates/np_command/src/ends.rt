@@ -3,7 +3,7 @@ ghost use Rattle.std.specs.Prelude.{◌≡◌, ◌<◌, IfOk, length};
 ghost use Rattle.np_command.specs.Inputs.{Gives};
 ghost use Rattle.np_command.specs.Ends as spec;
 ghost use Rattle.np_fold.specs.Workloads.{folding_of, number_named};
-ghost use Rattle.np_table.specs.Table.{IsWorkload, source_pod};
+ghost use Rattle.np_kinds.specs.Between.{IsWorkload, source_pod};
 
 use crate::failure::Failure;
 use crate::fault::Fault;

@@ -18,7 +18,7 @@ use Rattle.np_exposure.specs.declared.exposures.TheConstants.{MOST_PATTERNS}
 use Rattle.np_report.proofs.LineLemmas.{is_some_row, text_to_come-rows}
 use Rattle.np_report.specs.Forms.{Form, lines_of, text_to_come}
 use Rattle.np_report.specs.declared.row.RowText.{RowText}
-use Rattle.np_table.specs.Table.{IsWorkload, number_of_workloads}
+use Rattle.np_kinds.specs.Between.{IsWorkload, number_of_workloads}
 
 -- ---- what is shown
 

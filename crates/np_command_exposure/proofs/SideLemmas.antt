@@ -38,8 +38,8 @@ use Rattle.np_model.specs.declared.lists.EstateLists.{EstateLists}
 use Rattle.np_report.specs.declared.row.RowText.{RowText}
 use Rattle.np_rules.specs.PodSides.{PodSide, side_of}
 use Rattle.np_rules.specs.declared.stranger.Stranger.{Stranger}
-use Rattle.np_table.proofs.MemberLemmas.{member-number, members-some, members-within, source-member}
-use Rattle.np_table.specs.Table.{IsWorkload, source_pod}
+use Rattle.np_kinds.proofs.MemberLemmas.{member-number, members-some, members-within, source-member}
+use Rattle.np_kinds.specs.Between.{IsWorkload, source_pod}
 
 -- ---- the workload of a number
 

@@ -20,7 +20,7 @@ use Rattle.np_model.specs.declared.direction.Direction.TheVariants.{Ingress, Egr
 use Rattle.np_report.specs.Forms.{report_text}
 use Rattle.np_report.specs.declared.row.RowText.{RowText}
 use Rattle.np_rules.specs.PodSides.{PodSide, side_of}
-use Rattle.np_table.specs.Table.{number_of_workloads, source_pod}
+use Rattle.np_kinds.specs.Between.{number_of_workloads, source_pod}
 use Rattle.np_args.specs.declared.format.Format.{Format}
 
 -- ---- what is shown

@@ -8,7 +8,7 @@ ghost use Rattle.np_command.specs.Written.{Writes};
 ghost use Rattle.np_command_exposure.specs.Report as spec;
 ghost use Rattle.np_exposure.specs.declared.exposures.TheConstants.{MOST_PATTERNS as MOST};
 ghost use Rattle.np_report.specs.Forms.{text_to_come};
-ghost use Rattle.np_table.specs.Table.{IsWorkload};
+ghost use Rattle.np_kinds.specs.Between.{IsWorkload};
 
 use np_args::Format;
 use np_base::{NoMemory, Seq, Text};

@@ -15,7 +15,7 @@ use Rattle.np_synth.specs.Groups.{group_count}
 use Rattle.np_synth.specs.Pairs.{first_pair, pairs_below}
 use Rattle.np_synth.specs.declared.fault.FlatFault.{FlatFault}
 use Rattle.np_synth.specs.declared.fault.FlatFault.TheVariants.{Alike, NoMemory, Split}
-use Rattle.np_table.specs.Table.{number_of_workloads}
+use Rattle.np_kinds.specs.Between.{number_of_workloads}
 
 -- ---- one policy after another
 

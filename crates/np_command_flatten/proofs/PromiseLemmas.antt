@@ -29,7 +29,7 @@ use Rattle.np_synth.specs.Flat.{flat_policies}
 use Rattle.np_synth.specs.Pairs.{first_pair}
 use Rattle.np_synth.specs.declared.fault.FlatFault.{FlatFault}
 use Rattle.np_synth.specs.declared.fault.FlatFault.TheVariants.{Alike, NoMemory, Split}
-use Rattle.np_table.specs.Table.{number_of_workloads}
+use Rattle.np_kinds.specs.Between.{number_of_workloads}
 
 -- ---- what is said
 

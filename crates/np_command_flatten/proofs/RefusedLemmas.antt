@@ -32,14 +32,15 @@ use Rattle.np_synth.specs.Groups.{are_together, look_alike, relevant}
 use Rattle.np_synth.specs.Refused.{AreFamiliesAlike as FamiliesPassAlike, AreTreatedAlike as WorkloadsPassAlike, PassTheSame}
 use Rattle.np_synth.specs.steps.Seen.{seen}
 use Rattle.np_synth.specs.declared.fault.FlatFault.TheVariants.{Alike, Split}
-use Rattle.np_table.proofs.MemberLemmas.{destination-member, member-number, members-some, members-within, not-alone, own-member, source-member}
-use Rattle.np_table.proofs.PairLemmas.{between_pods-pair_allows, pair_allows-alone, pod_there, with_address-address_allows}
+use Rattle.np_kinds.proofs.MemberLemmas.{destination-member, member-number, members-some, members-within, not-alone, own-member, source-member}
+use Rattle.np_kinds.proofs.PairLemmas.{between_pods-pair_allows, pair_allows-alone, pod_there, with_address-address_allows}
 use Rattle.np_table.proofs.RangeOneList.{walk-agrees}
-use Rattle.np_table.specs.PairRules.{first_end}
+use Rattle.np_kinds.specs.Kinds.{first_end}
 use Rattle.np_table.specs.Right.{Stretch, walk}
 use Rattle.np_table.specs.Rows.{address_row, address_rows, four_of, rows_of_addresses, six_of}
 use Rattle.np_table.specs.Said.{IsInFamily}
-use Rattle.np_table.specs.Table.{address_allows, between_pods, destination_pod, estate_table, is_alone, number_of_workloads, pair_allows, source_pod, table_of}
+use Rattle.np_kinds.specs.Between.{address_allows, between_pods, destination_pod, is_alone, number_of_workloads, pair_allows, source_pod}
+use Rattle.np_table.specs.Table.{estate_table, table_of}
 use Rattle.np_table.specs.declared.rows.AddressRow.{AddressRow}
 
 -- ---- pods of workloads

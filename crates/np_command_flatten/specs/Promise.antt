@@ -18,7 +18,7 @@ use Rattle.np_rules.specs.model.Verdict.{pod_at}
 use Rattle.np_synth.specs.Groups.{look_alike, relevant}
 use Rattle.np_synth.specs.Refused.{ComesBefore}
 use Rattle.np_table.specs.Said.{IsInFamily}
-use Rattle.np_table.specs.Table.{between_pods, with_address}
+use Rattle.np_kinds.specs.Between.{between_pods, with_address}
 
 -- ---- the same verdicts
 

@@ -9,7 +9,7 @@ use Rattle.np_synth.specs.Faults.{flat_fault}
 use Rattle.np_synth.specs.Flat.{flat_policies, flat_policy}
 use Rattle.np_synth.specs.declared.fault.FlatFault.{FlatFault}
 use Rattle.np_synth.specs.declared.fault.FlatFault.TheVariants.{Alike, NoMemory, Split}
-use Rattle.np_table.specs.Table.{IsWorkload}
+use Rattle.np_kinds.specs.Between.{IsWorkload}
 
 -- the policies of all groups as one line
 unfoldable pub flatten_text : EstateLists → List ℕ

@@ -25,12 +25,13 @@ use Rattle.np_model.specs.declared.direction.Direction.TheVariants.{Egress, Ingr
 use Rattle.np_model.specs.declared.lists.EstateLists.{EstateLists}
 use Rattle.np_routes.specs.ClusterTable.{all_ingress_rows, cluster_rows, cluster_table, ingress_key, ingress_row}
 use Rattle.np_routes.specs.Controllers.{ingress_allows}
-use Rattle.np_table.proofs.MemberLemmas.{destination-member, member-number, members-some, members-within, source-member}
-use Rattle.np_table.proofs.PairLemmas.{pair_allows-alone, pair_allows-between}
+use Rattle.np_kinds.proofs.MemberLemmas.{destination-member, member-number, members-some, members-within, source-member}
+use Rattle.np_kinds.proofs.PairLemmas.{pair_allows-alone, pair_allows-between}
 use Rattle.np_table.proofs.SetLemmas.{has_spot-conns_of}
 use Rattle.np_table.specs.Right.{Stretch, conns_of, walk}
 use Rattle.np_table.specs.Rows.{address_row, address_rows, all_address_rows, all_pair_rows, all_rows, four_of, pair_key, pair_rows, row_of, rows_of_addresses, rows_towards, six_of}
-use Rattle.np_table.specs.Table.{IsWorkload, address_allows, between_pods, destination_pod, estate_table, is_alone, number_of_workloads, pair_allows, source_pod, table_of}
+use Rattle.np_kinds.specs.Between.{IsWorkload, address_allows, between_pods, destination_pod, is_alone, number_of_workloads, pair_allows, source_pod}
+use Rattle.np_table.specs.Table.{estate_table, table_of}
 use Rattle.np_table.specs.declared.rows.AddressRow.{AddressRow}
 use Rattle.np_table.specs.declared.rows.Row.{Row}
 

@@ -41,7 +41,8 @@ use Rattle.np_table.proofs.RowLemmas.{rows_between-kept, rows_of_address-kept}
 use Rattle.np_table.proofs.SaidLemmas.{allows_in-pods}
 use Rattle.np_table.specs.Rows.{all_rows, key_of}
 use Rattle.np_table.specs.Said.{allows_in, is_address, is_of_address, is_workload, rows_between, rows_of_address}
-use Rattle.np_table.specs.Table.{Table, source_pod, table_of}
+use Rattle.np_table.specs.Table.{Table, table_of}
+use Rattle.np_kinds.specs.Between.{source_pod}
 use Rattle.np_table.specs.declared.rows.AddressSpan.{AddressSpan}
 use Rattle.np_table.specs.declared.rows.Row.{Row}
 use Rattle.np_table.specs.declared.rows.RowEnd.{RowEnd}

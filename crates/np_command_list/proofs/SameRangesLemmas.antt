@@ -20,7 +20,7 @@ use Rattle.np_report.specs.Keeps.{keeps}
 use Rattle.np_report.specs.declared.query.Query.{Query}
 use Rattle.np_table.specs.Rows.{key_of}
 use Rattle.np_table.specs.Said.{IsInFamily, OneRowSays, is_address, is_of_address, is_workload, rows_of_address, span_has}
-use Rattle.np_table.specs.Table.{with_address}
+use Rattle.np_kinds.specs.Between.{with_address}
 use Rattle.np_table.specs.declared.rows.AddressSpan.{AddressSpan}
 use Rattle.np_table.specs.declared.rows.AddressSpan.TheVariants as span
 use Rattle.np_table.specs.declared.rows.Row.{Row}

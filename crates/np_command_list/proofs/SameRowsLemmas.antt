@@ -19,7 +19,7 @@ use Rattle.np_report.specs.declared.query.Query.{Query}
 use Rattle.np_routes.specs.ClusterTable.{ingress_key, is_from_controller, is_ingress_controller, rows_from_controller}
 use Rattle.np_table.specs.Rows.{pair_key}
 use Rattle.np_table.specs.Said.{allows_in, is_between, is_workload, rows_between, says, speaks_of}
-use Rattle.np_table.specs.Table.{between_pods}
+use Rattle.np_kinds.specs.Between.{between_pods}
 use Rattle.np_table.specs.declared.rows.Row.{Row}
 use Rattle.np_table.specs.declared.rows.RowEnd.{RowEnd}
 use Rattle.np_table.specs.declared.rows.RowEnd.TheVariants.{Controller, Span, Work}

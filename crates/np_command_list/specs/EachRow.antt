@@ -13,7 +13,7 @@ use Rattle.np_model.specs.declared.lists.EstateLists.{EstateLists}
 use Rattle.np_rules.specs.model.Ends.{pod}
 use Rattle.np_rules.specs.model.Verdict.{pod_at}
 use Rattle.np_table.specs.Said.{AllowSamePorts, IsInFamily, IsUnmarked}
-use Rattle.np_table.specs.Table.{between_pods, with_address}
+use Rattle.np_kinds.specs.Between.{between_pods, with_address}
 use Rattle.np_table.specs.declared.rows.AddressSpan.{AddressSpan}
 use Rattle.np_table.specs.declared.rows.AddressSpan.TheVariants as span
 use Rattle.np_table.specs.declared.rows.Row.{Row}

@@ -28,7 +28,7 @@ use Rattle.np_rules.specs.model.Ends.{pod}
 use Rattle.np_rules.specs.model.Verdict.{pod_at}
 use Rattle.np_table.specs.Rows.{key_of, pair_key}
 use Rattle.np_table.specs.Said.{IsInFamily, OneRowSays, allows_in, rows_between}
-use Rattle.np_table.specs.Table.{between_pods, with_address}
+use Rattle.np_kinds.specs.Between.{between_pods, with_address}
 use Rattle.np_table.specs.declared.rows.AddressSpan.{AddressSpan}
 use Rattle.np_table.specs.declared.rows.Row.{Row}
 use Rattle.np_table.specs.declared.rows.RowEnd.TheVariants.{Span}

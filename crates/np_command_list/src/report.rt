@@ -10,7 +10,7 @@ ghost use Rattle.np_report.specs.Keeps.{keeps};
 ghost use Rattle.np_report.specs.RowText.{names_of, row_text};
 ghost use Rattle.np_report.specs.TableText.{list_text, rows_to_come};
 ghost use Rattle.np_routes.specs.ClusterTable.{cluster_rows, cluster_table};
-ghost use Rattle.np_table.specs.Table.{IsWorkload};
+ghost use Rattle.np_kinds.specs.Between.{IsWorkload};
 
 use np_args::Format;
 use np_base::{NoMemory, Text};

@@ -11,7 +11,7 @@ use Rattle.np_conns.specs.Conns.{has_spot}
 use Rattle.np_conns.specs.ConnsText.{conns_text}
 use Rattle.np_fold.specs.Workloads.{Folding}
 use Rattle.np_report.specs.declared.row.RowText.{RowText}
-use Rattle.np_table.specs.Table.{address_of}
+use Rattle.np_kinds.specs.Between.{address_of}
 use Rattle.np_table.specs.declared.rows.AddressSpan.{AddressSpan}
 use Rattle.np_table.specs.declared.rows.AddressSpan.TheVariants as span
 use Rattle.np_table.specs.declared.rows.Row.{Row}

@@ -24,7 +24,8 @@ use Rattle.np_table.proofs.SetLemmas.{has_spot-conns_of}
 use Rattle.np_table.specs.Right.{conns_of}
 use Rattle.np_table.specs.Rows.{address_rows, all_address_rows, all_pair_rows, all_rows, is_none, is_nothing, pair_key, pair_rows, row_if, row_of, rows_towards, workloads}
 use Rattle.np_table.specs.Said.{allows_in, is_between, is_of_address, is_workload, rows_between, rows_of_address}
-use Rattle.np_table.specs.Table.{IsWorkload, Table, number_of_workloads, table_of}
+use Rattle.np_kinds.specs.Between.{IsWorkload, number_of_workloads}
+use Rattle.np_table.specs.Table.{Table, table_of}
 use Rattle.np_table.specs.declared.rows.Row.{Row}
 use Rattle.np_table.specs.declared.rows.RowEnd.{RowEnd}
 use Rattle.np_table.specs.declared.rows.RowEnd.TheVariants.{Controller, Span, Work}

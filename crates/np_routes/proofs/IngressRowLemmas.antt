@@ -17,7 +17,8 @@ use Rattle.np_table.proofs.KindLemmas.{rules-most}
 use Rattle.np_table.proofs.SetLemmas.{row_if-none}
 use Rattle.np_table.specs.Right.{conns_of}
 use Rattle.np_table.specs.Rows.{all_rows, is_nothing, row_if}
-use Rattle.np_table.specs.Table.{IsWorkload, estate_table, number_of_workloads}
+use Rattle.np_kinds.specs.Between.{IsWorkload, number_of_workloads}
+use Rattle.np_table.specs.Table.{estate_table}
 use Rattle.np_table.specs.ToCome.{most_rules}
 use Rattle.np_table.specs.declared.rows.Row.{Row}
 use Rattle.np_table.specs.declared.rows.RowKey.{RowKey}

@@ -37,12 +37,12 @@ use Rattle.np_rules.specs.Deciders.{decider_allows}
 use Rattle.np_rules.specs.model.Ends.{Contact, End, PodEnd, contact, pod, pod_end, stranger_end}
 use Rattle.np_rules.specs.model.PortEntries.{is_named}
 use Rattle.np_rules.specs.model.Verdict.{pod_at, pod_or_none}
-use Rattle.np_table.proofs.KindLists.{All-append, All-each, All-flat, All-parts, list_any-same}
-use Rattle.np_table.proofs.KindSelectors.{AgreeOn, All-from_listed, selector-same}
-use Rattle.np_table.proofs.KindVerdicts.{SameKindEnd-ends, got-same, packet-same}
-use Rattle.np_table.proofs.PairLemmas.{pod_there}
-use Rattle.np_table.specs.Ends.{AreOneKind}
-use Rattle.np_table.specs.Table.{between_pods}
+use Rattle.np_kinds.proofs.KindLists.{All-append, All-each, All-flat, All-parts, list_any-same}
+use Rattle.np_kinds.proofs.KindSelectors.{AgreeOn, All-from_listed, selector-same}
+use Rattle.np_kinds.proofs.KindVerdicts.{SameKindEnd-ends, got-same, packet-same}
+use Rattle.np_kinds.proofs.PairLemmas.{pod_there}
+use Rattle.np_kinds.specs.Ends.{AreOneKind}
+use Rattle.np_kinds.specs.Between.{between_pods}
 
 -- ---- items of lists
 

@@ -5,7 +5,7 @@ use Rattle.std.specs.List.{list_any}
 use Rattle.std.specs.Option.{option_eq}
 use Rattle.std.proofs.Math.Nat.{mul-le-mul_right}
 use Rattle.std.proofs.lemmas.List.{get_or_default}
-use Rattle.std.proofs.lemmas.List.Folds.{list_any-append}
+use Rattle.std.proofs.lemmas.List.Folds.{list_any-append, list_any_more}
 use Rattle.np_addr.specs.declared.address.Family.{Family}
 use Rattle.np_addr.specs.declared.address.Family.TheVariants.{Four, Six}
 use Rattle.np_conns.specs.Conns.{Conns, IsConns, has_spot, is_spot}
@@ -22,14 +22,13 @@ use Rattle.np_routes.specs.Controllers.{ingress_allows, ingress_reaches, ingress
 use Rattle.np_routes.specs.Routes.{is_routed}
 use Rattle.np_routes.specs.declared.senders.Sender.{Sender}
 use Rattle.np_routes.specs.steps.Senders.{reaches, send_steps, sender_for, sends}
-use Rattle.np_rules.proofs.JoinsLemmas.{joins-next}
 use Rattle.np_rules.specs.PodSides.{side_of, side_rule_count}
 use Rattle.np_rules.specs.model.Verdict.{pod_at}
-use Rattle.np_table.proofs.MemberLemmas.{member-number, members-some, members-within, own-member, source-member}
+use Rattle.np_kinds.proofs.MemberLemmas.{member-number, members-some, members-within, own-member, source-member}
 use Rattle.np_table.proofs.SetLemmas.{conns_of-set, has_spot-conns_of}
-use Rattle.np_table.specs.PairRules.{first_side}
+use Rattle.np_kinds.specs.Kinds.{first_side}
 use Rattle.np_table.specs.Right.{conns_of}
-use Rattle.np_table.specs.Table.{IsWorkload, source_pod}
+use Rattle.np_kinds.specs.Between.{IsWorkload, source_pod}
 
 -- ---- the sender
 
@@ -37,6 +36,14 @@ sends-is : (lists : EstateLists) (controller : Option ℕ) (place : ℕ) (spot :
     sends (sender_for lists controller) (side_of lists place Ingress) (families_of lists.pods) spot ≡ may_send lists (sender_of (folding_of lists) controller) place spot
 sends-is lists None place spot = refl
 sends-is lists (Some number) place spot = refl
+
+-- what the joined set has is what some item up to the next one has
+joins-next : {X : Type 0} (has : X → Bool) (items : List X) (i : ℕ) (item : X) (so_far here made : Bool) → i < length items → item ≡ get_or items i item → made ≡ (so_far || here) →
+    so_far ≡ list_any has (take i items) → here ≡ has item → made ≡ list_any has (take (i + 1) items)
+joins-next {X} has items i item so_far here made below is joined before at =
+    let or_here : Bool → Bool = λ b. b || here in
+    let or_at : Bool → Bool = λ b. list_any has (take i items) || b in
+    joined ∙ ap or_here before ∙ ap or_at (at ∙ ap has is) ∙ sym (list_any_more has items i item below)
 
 -- the sets of the families so far and of one more have what passes in some of these
 pub sets-next : (passes : Family → PortSpot → Bool) (families : List Family) (i : ℕ) (d : Family) (sets more : List Conns) (set : Conns) (spot : PortSpot) → i < length families →

@@ -14,8 +14,9 @@ use Rattle.np_rules.specs.PodSides.{side_rule_count}
 use Rattle.np_rules.specs.model.Sides.{side_allows}
 use Rattle.np_rules.specs.model.Verdict.{pod_at}
 use Rattle.np_rules.specs.declared.stranger.Stranger.{Stranger}
-use Rattle.np_table.specs.PairRules.{first_side, rules_of_pair}
-use Rattle.np_table.specs.Table.{between_pods, source_pod}
+use Rattle.np_kinds.specs.Kinds.{first_side}
+use Rattle.np_table.specs.PairRules.{rules_of_pair}
+use Rattle.np_kinds.specs.Between.{between_pods, source_pod}
 
 -- ---- a controller that is not known
 

@@ -5,7 +5,7 @@ ghost use Rattle.np_fold.specs.Workloads.{folding_of};
 ghost use Rattle.np_routes.specs.ClusterTable as spec;
 ghost use Rattle.np_routes.specs.Controllers.{ingress_steps};
 ghost use Rattle.np_routes.specs.steps.IngressRows.{due_left, rows_left};
-ghost use Rattle.np_table.specs.Table.{IsWorkload};
+ghost use Rattle.np_kinds.specs.Between.{IsWorkload};
 ghost use Rattle.np_table.specs.ToCome.{most_rules};
 
 use crate::routes::Routes;

@@ -2,7 +2,7 @@
 ghost use Rattle.std.specs.Prelude.{◌≡◌, ◌<◌, length};
 ghost use Rattle.np_model.specs.Lawful.{IsLawful};
 ghost use Rattle.np_fold.specs.Workloads.{folding_of};
-ghost use Rattle.np_table.specs.Table.{IsWorkload, source_pod};
+ghost use Rattle.np_kinds.specs.Between.{IsWorkload, source_pod};
 
 use np_fold::Folded;
 

@@ -14,7 +14,7 @@ ghost use Rattle.np_routes.specs.Routes.{LeadsTo, is_routed};
 ghost use Rattle.np_rules.specs.model.Ends.{PodEnd};
 ghost use Rattle.np_table.specs.Rows.{all_rows};
 ghost use Rattle.np_table.specs.Said.{allows_in, rows_between, rows_of_address};
-ghost use Rattle.np_table.specs.Table.{IsWorkload};
+ghost use Rattle.np_kinds.specs.Between.{IsWorkload};
 
 /// A route leads to a TCP port of a pod exactly where the API says so: an ingress of the pod's namespace has a backend that
 /// names a listed service and one of its TCP ports, the service serves the pod, and the port leads to the number there. To

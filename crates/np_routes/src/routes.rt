@@ -9,7 +9,7 @@ ghost use Rattle.np_routes.specs.Controllers as spec;
 ghost use Rattle.np_routes.specs.steps.Senders.{IsReceiver, reaches, send_steps};
 ghost use Rattle.np_rules.specs.PodSides.{side_of};
 ghost use Rattle.np_table.specs.Right.{conns_of};
-ghost use Rattle.np_table.specs.Table.{IsWorkload};
+ghost use Rattle.np_kinds.specs.Between.{IsWorkload};
 
 use crate::backends::Backends;
 use crate::first_pods::first_pod;

@@ -7,7 +7,7 @@ ghost use Rattle.np_routes.specs.Controllers as controllers;
 ghost use Rattle.np_routes.specs.steps.Senders as spec;
 ghost use Rattle.np_rules.specs.PodSides.{side_rule_count};
 ghost use Rattle.np_table.specs.PairRules.{AreEnds};
-ghost use Rattle.np_table.specs.Table.{IsWorkload, between_pods};
+ghost use Rattle.np_kinds.specs.Between.{IsWorkload, between_pods};
 
 use crate::first_pods::first_pod;
 use np_addr::Family;

@@ -33,7 +33,7 @@ use Rattle.np_statements.specs.Holding.{IsNamedPod, LineHolds}
 use Rattle.np_statements.specs.declared.asked_line.AskedLine.{AskedLine}
 use Rattle.np_statements.specs.declared.broken.Broken.{Broken}
 use Rattle.np_statements.specs.declared.statement_line.StatementLine.{StatementLine}
-use Rattle.np_table.specs.Table.{IsWorkload}
+use Rattle.np_kinds.specs.Between.{IsWorkload}
 
 -- ---- one line
 

@@ -22,7 +22,7 @@ use Rattle.np_model.specs.declared.pod.Pod.{Pod}
 use Rattle.np_fold.specs.Workloads.{Workload, folding_of, members_of, number_named}
 use Rattle.np_statements.proofs.StepLemmas.{same_ok}
 use Rattle.np_statements.specs.Ends.{addresses_alone, addresses_in, all_works, ends_of, every_address, is_in_namespace, named_alone, works_alone}
-use Rattle.np_table.specs.Table.{IsWorkload, number_of_workloads, source_pod}
+use Rattle.np_kinds.specs.Between.{IsWorkload, number_of_workloads, source_pod}
 
 -- ---- workloads of a namespace
 

@@ -38,8 +38,8 @@ use Rattle.np_statements.proofs.EndLemmas.{named-within}
 use Rattle.np_statements.proofs.StepLemmas.{same_ok}
 use Rattle.np_statements.specs.Ends.{addresses_alone, addresses_in, all_works, ends_of, every_address, is_in_namespace, named_alone, no_address, works_alone}
 use Rattle.np_statements.specs.NamedEnds.{NamesAddress, NamesPod}
-use Rattle.np_table.proofs.MemberLemmas.{member-number, members-some, members-within, source-member}
-use Rattle.np_table.specs.Table.{IsWorkload, number_of_workloads, source_pod}
+use Rattle.np_kinds.proofs.MemberLemmas.{member-number, members-some, members-within, source-member}
+use Rattle.np_kinds.specs.Between.{IsWorkload, number_of_workloads, source_pod}
 
 -- ---- numbers
 

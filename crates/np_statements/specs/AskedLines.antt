@@ -9,7 +9,7 @@ use Rattle.np_check.specs.declared.statement_text.EndForm.TheVariants.{Pods, Add
 use Rattle.np_model.specs.declared.lists.EstateLists.{EstateLists}
 use Rattle.np_statements.specs.declared.asked_line.AskedLine.{AskedLine}
 use Rattle.np_statements.specs.declared.statement_line.StatementLine.{StatementLine}
-use Rattle.np_table.specs.Table.{IsWorkload}
+use Rattle.np_kinds.specs.Between.{IsWorkload}
 
 -- a block has no host bits
 abbrev pub IsWellForm : EndForm → Type 0

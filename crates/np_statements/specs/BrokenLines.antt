@@ -11,7 +11,7 @@ use Rattle.np_statements.specs.Steps.{◌>>=◌}
 use Rattle.np_statements.specs.declared.asked_line.AskedLine.{AskedLine}
 use Rattle.np_statements.specs.declared.broken.Broken.{Broken}
 use Rattle.np_statements.specs.declared.statement_line.StatementLine.{StatementLine}
-use Rattle.np_table.specs.Table.{IsWorkload}
+use Rattle.np_kinds.specs.Between.{IsWorkload}
 
 -- whether a packet is allowed
 abbrev pub is_allowed : EstateLists → Counterexample → Bool

@@ -11,7 +11,7 @@ use Rattle.np_check.specs.declared.statement_text.EndForm.{EndForm}
 use Rattle.np_check.specs.declared.statement_text.EndForm.TheVariants.{Pods, Addresses, Namespace, Work, Block}
 use Rattle.np_model.specs.declared.lists.EstateLists.{EstateLists}
 use Rattle.np_fold.specs.Workloads.{folding_of, number_named}
-use Rattle.np_table.specs.Table.{number_of_workloads, source_pod}
+use Rattle.np_kinds.specs.Between.{number_of_workloads, source_pod}
 
 -- ---- workloads
 

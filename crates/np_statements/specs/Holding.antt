@@ -15,7 +15,7 @@ use Rattle.np_rules.specs.model.Ends.{pod}
 use Rattle.np_rules.specs.model.Verdict.{pod_at}
 use Rattle.np_statements.specs.NamedEnds.{NamesAddress, NamesPod}
 use Rattle.np_statements.specs.declared.statement_line.StatementLine.{StatementLine}
-use Rattle.np_table.specs.Table.{between_pods, with_address}
+use Rattle.np_kinds.specs.Between.{between_pods, with_address}
 
 -- a place of a pod that the form names
 abbrev pub IsNamedPod : EstateLists → EndForm → ℕ → Type 0

@@ -5,7 +5,7 @@ ghost use Rattle.np_fold.specs.Workloads.{folding_of, number_named};
 ghost use Rattle.np_statements.specs.Answers.{GivesEnds};
 ghost use Rattle.np_statements.specs.AskedLines.{IsWellForm};
 ghost use Rattle.np_statements.specs.Ends as spec;
-ghost use Rattle.np_table.specs.Table.{IsWorkload};
+ghost use Rattle.np_kinds.specs.Between.{IsWorkload};
 
 use crate::end_fault::EndFault;
 use np_addr::{AddrSet, cidr_set};

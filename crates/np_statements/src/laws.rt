@@ -25,7 +25,7 @@ ghost use Rattle.np_statements.specs.ReadStatement.{statement_read};
 ghost use Rattle.np_statements.specs.declared.asked_line.AskedLine.{AskedLine};
 ghost use Rattle.np_statements.specs.declared.broken.Broken.{Broken};
 ghost use Rattle.np_statements.specs.declared.statement_line.StatementLine.{StatementLine};
-ghost use Rattle.np_table.specs.Table.{IsWorkload};
+ghost use Rattle.np_kinds.specs.Between.{IsWorkload};
 
 /// A line is read as the statement whose text it is, and as none where it is that of no statement.
 pub fn lines_are_read_by_the_grammar()

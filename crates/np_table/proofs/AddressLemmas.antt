@@ -20,7 +20,7 @@ use Rattle.np_rules.specs.EveryAddress.{AddressSpot, address_contact, has_place,
 use Rattle.np_rules.specs.model.Sides.{side_allows}
 use Rattle.np_rules.specs.model.Verdict.{allows}
 use Rattle.np_table.specs.Rows.{address_row, four_of, rows_of_addresses, six_of}
-use Rattle.np_table.specs.Table.{with_address}
+use Rattle.np_kinds.specs.Between.{with_address}
 
 -- ---- pieces
 

@@ -16,7 +16,7 @@ use Rattle.np_model.specs.declared.direction.Direction.{Direction}
 use Rattle.np_model.specs.declared.direction.Direction.TheVariants.{Egress, Ingress}
 use Rattle.np_rules.specs.model.Ends.{pod}
 use Rattle.np_rules.specs.model.Verdict.{pod_at}
-use Rattle.np_table.proofs.PairLemmas.{with_address-address_allows}
+use Rattle.np_kinds.proofs.PairLemmas.{with_address-address_allows}
 use Rattle.np_table.proofs.RangeCounts.{one_range}
 use Rattle.np_table.proofs.RangeWalks.{walk-right}
 use Rattle.np_table.proofs.RowLemmas.{HasKey, filter-by, filter-flat_map, filter-map, filter-map_none, pair_rows-key, range-none, range-only}
@@ -25,7 +25,8 @@ use Rattle.np_table.proofs.SetLemmas.{has_spot-conns_of}
 use Rattle.np_table.specs.Right.{AreRight, Stretch, conns_of, is_within, walk}
 use Rattle.np_table.specs.Rows.{address_row, address_rows, all_address_rows, all_pair_rows, all_rows, four_of, pair_key, pair_rows, row_of, rows_of_addresses, rows_towards, six_of, workloads}
 use Rattle.np_table.specs.Said.{IsInFamily, OneRowSays, is_address, is_of_address, is_workload, rows_of_address, span_has}
-use Rattle.np_table.specs.Table.{Table, address_allows, table_of, with_address}
+use Rattle.np_table.specs.Table.{Table, table_of}
+use Rattle.np_kinds.specs.Between.{address_allows, with_address}
 use Rattle.np_table.specs.declared.rows.AddressRow.{AddressRow}
 use Rattle.np_table.specs.declared.rows.Row.{Row}
 use Rattle.np_table.specs.declared.rows.RowKey.{RowKey}

@@ -4,31 +4,26 @@ use Rattle.std.proofs.Common.{ap, subst, ◌∙◌, inl, inr, if◌then◌else�
 use Rattle.std.specs.Option.{option_map}
 use Rattle.std.proofs.Math.Nat.{mul-le-mul_left}
 use Rattle.std.proofs.lemmas.Bool.Decides.{eqb_tells}
-use Rattle.std.proofs.lemmas.List.{length-map}
-use Rattle.std.proofs.lemmas.List.FromFn.{get_or-map-range_with_len, length-range_with_len}
 use Rattle.np_addr.specs.declared.address.Family.{Family}
 use Rattle.np_addr.specs.declared.address.Family.TheVariants.{Four, Six}
-use Rattle.np_classes.proofs.Relations.{class_within}
-use Rattle.np_classes.specs.Classes.{class_of}
 use Rattle.np_conns.specs.Conns.{Conns, has_spot}
 use Rattle.np_conns.specs.declared.port_spot.PortSpot.{PortSpot}
 use Rattle.np_conns.specs.declared.proto.Proto.TheVariants.{Tcp, Udp, Sctp}
 use Rattle.np_model.specs.Lawful.{IsLawful}
 use Rattle.np_model.specs.declared.lists.EstateLists.{EstateLists}
-use Rattle.np_model.specs.declared.pod.Pod.{Pod}
-use Rattle.np_fold.proofs.AlikeLemmas.{kinds-are}
-use Rattle.np_fold.proofs.WorkloadLemmas.{first-is, workloads-count}
-use Rattle.np_fold.specs.Workloads.{Folding, first_pod, folding_of, kinds_alike, members_of, workload_count}
+use Rattle.np_fold.specs.Workloads.{Folding, folding_of}
 use Rattle.np_model.specs.declared.direction.Direction.{Direction}
 use Rattle.np_model.specs.declared.direction.Direction.TheVariants.{Egress, Ingress}
 use Rattle.np_table.proofs.RangeSets.{conns_of-agrees, conns_of-has_spot}
 use Rattle.np_table.specs.Right.{are_same_conns, conns_of}
 use Rattle.np_table.proofs.DueLemmas.{greatest-at, over-source, same_source, source-behind}
 use Rattle.np_table.proofs.KeptLemmas.{kept_count-below}
-use Rattle.np_table.proofs.PairLemmas.{first_there, in_workloads, pair_allows-alone, pair_allows-kinds, pod_there, source-within}
+use Rattle.np_kinds.proofs.KindNumbers.{kinds-by}
+use Rattle.np_kinds.proofs.PairLemmas.{pair_allows-alone, pair_allows-kinds}
 use Rattle.np_table.specs.RowCache.{IsKept, KeepsAlso, KeepsTheSame, kept_at, kept_count, kept_of, row_with}
 use Rattle.np_table.specs.Rows.{is_nothing, pair_key, pair_rows, row_if, rows_in, rows_of_both}
-use Rattle.np_table.specs.Table.{is_alone, pair_allows, source_pod, table_of}
+use Rattle.np_kinds.specs.Between.{is_alone, pair_allows}
+use Rattle.np_table.specs.Table.{table_of}
 use Rattle.np_table.specs.ToCome.{IsOfSameSource, most_rules, rules_of}
 use Rattle.np_table.specs.declared.row_cache.CachedConns.{CachedConns}
 use Rattle.np_table.specs.declared.rows.Row.{Row}
@@ -114,41 +109,6 @@ pair_rows-alone lists folding source destination alone =
     ∙ rows_in-nothing (table_of lists folding).families (pair_key source destination))
 
 -- ---- kinds
-
-pub kinds-by : (lists : EstateLists) (number : ℕ) → number < length (folding_of lists).workloads →
-    (number < workload_count lists) × (number < length (folding_of lists).kinds) × (slice_index (folding_of lists).kinds number ≡ class_of (kinds_alike lists) (workload_count lists) number)
-unfolding folding_of
-kinds-by lists number within =
-    let low : number < workload_count lists = subst (λ (n : ℕ). number < n) (workloads-count lists) within in
-    let kind : ℕ → ℕ = class_of (kinds_alike lists) (workload_count lists) in
-    let all : length (folding_of lists).kinds ≡ workload_count lists = length-map _ kind ∙ length-range_with_len 0 (workload_count lists) in
-    (low, subst (λ (n : ℕ). number < n) (sym all) low, get_or-map-range_with_len kind 0 (workload_count lists) number number 0 low (omega arith))
-
--- each workload has a first pod
-pub first_pod-there : (lists : EstateLists) (number : ℕ) → number < workload_count lists → (pod : Pod) × (first_pod lists number ≡ Some pod)
-first_pod-there lists number within =
-    let folding = folding_of lists in
-    let first = first_there (members_of folding number) lists.pods (first_pod lists number) (first-is lists number (in_workloads lists number within)) in
-    let there = pod_there lists (source_pod folding number) (source-within lists number within) in
-    (there.0, sym first ∙ there.1)
-
-kind_count-within : (lists : EstateLists) (number : ℕ) → number < workload_count lists → class_of (kinds_alike lists) (workload_count lists) number < (folding_of lists).kind_count
-unfolding folding_of
-kind_count-within lists number within = class_within (kinds_alike lists) (workload_count lists) (kinds-are lists (workload_count lists) (first_pod-there lists)) number within
-
--- each workload has a kind
-pub kind-there : (lists : EstateLists) (folding : Folding) (number : ℕ) → folding ≡ folding_of lists → number < length folding.workloads → number < length folding.kinds
-kind-there lists folding number folded =
-    let of : Folding → Type 0 = λ f. number < length f.workloads → number < length f.kinds in
-    subst of (sym folded) (λ within. (kinds-by lists number within).1)
-
--- which is one of the kinds
-pub kind-within : (lists : EstateLists) (folding : Folding) (number : ℕ) → folding ≡ folding_of lists → number < length folding.workloads → slice_index folding.kinds number < folding.kind_count
-kind-within lists folding number folded =
-    let of : Folding → Type 0 = λ f. number < length f.workloads → slice_index f.kinds number < f.kind_count in
-    subst of (sym folded) (λ within.
-    let kind = kinds-by lists number within in
-    subst (λ (n : ℕ). n < (folding_of lists).kind_count) (sym kind.2) (kind_count-within lists number kind.0))
 
 -- the same passes to destinations of one kind
 conns-same_kind : (lists : EstateLists) (folding : Folding) (source b b' : ℕ) (family : Family) → folding ≡ folding_of lists → IsLawful lists → source < length folding.workloads →

@@ -3,14 +3,6 @@ pub mod AddressRowLemmas
 pub mod DueLemmas
 pub mod KeptLemmas
 pub mod KindLemmas
-pub mod KindLists
-pub mod KindPeers
-pub mod KindRules
-pub mod KindSelectors
-pub mod KindSides
-pub mod KindVerdicts
-pub mod MemberLemmas
-pub mod PairLemmas
 pub mod PlaceLemmas
 pub mod RangeCounts
 pub mod RangeOneList

@@ -25,12 +25,13 @@ use Rattle.np_model.specs.declared.direction.Direction.{Direction}
 use Rattle.np_model.specs.declared.direction.Direction.TheVariants.{Egress, Ingress}
 use Rattle.np_table.proofs.RangeSets.{are_same_conns-Decides, conns_of-agrees}
 use Rattle.np_table.specs.Right.{are_same_conns, conns_of}
-use Rattle.np_table.proofs.PairLemmas.{between_pods-pair_allows, pair_allows-alone}
+use Rattle.np_kinds.proofs.PairLemmas.{between_pods-pair_allows, pair_allows-alone}
 use Rattle.np_table.proofs.RowLemmas.{HasKey, filter-by, filter-flat_map, filter-map_none, pair_rows-key, range-none, range-only}
 use Rattle.np_table.proofs.SetLemmas.{has_spot-conns_of, rows_of_both-same}
 use Rattle.np_table.specs.Rows.{address_rows, all_address_rows, all_pair_rows, all_rows, is_none, is_nothing, pair_key, pair_rows, row_if, row_of, rows_in, rows_of_both, rows_towards, workloads}
 use Rattle.np_table.specs.Said.{AllowSamePorts, IsUnmarked, allows_in, is_between, is_workload, rows_between, says, speaks_of}
-use Rattle.np_table.specs.Table.{Table, between_pods, pair_allows, table_of}
+use Rattle.np_table.specs.Table.{Table, table_of}
+use Rattle.np_kinds.specs.Between.{between_pods, pair_allows}
 use Rattle.np_table.specs.declared.rows.Row.{Row}
 use Rattle.np_table.specs.declared.rows.RowKey.{RowKey}
 

@@ -1,4 +1,3 @@
-pub mod Ends
 pub mod RowCache
 pub mod PairRules
 pub mod Right

@@ -3,7 +3,8 @@ use Rattle.std.specs.Prelude.{ℕ, ◌≡◌, ◌≢◌, ◌<◌, List, false, O
 use Rattle.np_model.specs.declared.lists.EstateLists.{EstateLists}
 use Rattle.np_fold.specs.Workloads.{Folding}
 use Rattle.np_table.specs.Rows.{pair_key, pair_rows}
-use Rattle.np_table.specs.Table.{is_alone, table_of}
+use Rattle.np_kinds.specs.Between.{is_alone}
+use Rattle.np_table.specs.Table.{table_of}
 use Rattle.np_table.specs.declared.row_cache.CachedConns.{CachedConns}
 use Rattle.np_table.specs.declared.rows.Row.{Row}
 use Rattle.np_table.specs.declared.rows.RowKey.{RowKey}

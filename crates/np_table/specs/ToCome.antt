@@ -9,7 +9,8 @@ use Rattle.np_rules.specs.model.Places.{rule_count}
 use Rattle.np_rules.specs.model.Verdict.{pod_at}
 use Rattle.np_table.specs.RowCache.{IsKept, kept_count}
 use Rattle.np_table.specs.Rows.{pair_rows, rows_towards}
-use Rattle.np_table.specs.Table.{Table, number_of_workloads, source_pod}
+use Rattle.np_table.specs.Table.{Table}
+use Rattle.np_kinds.specs.Between.{number_of_workloads, source_pod}
 use Rattle.np_table.specs.declared.row_cache.CachedConns.{CachedConns}
 use Rattle.np_table.specs.declared.rows.Row.{Row}
 

@@ -3,20 +3,20 @@ ghost use Rattle.std.specs.Prelude.{◌≡◌, ◌≤◌, ◌<◌, ◌+◌, ◌*
 ghost use Rattle.std.specs.Prelude.{IfOk, OnErr, OnOk, MatchOption, length, map, reverse};
 ghost use Rattle.np_fold.specs.Workloads.{folding_of};
 ghost use Rattle.np_model.specs.declared.direction.Direction.{Direction};
+ghost use Rattle.np_kinds.specs.Between.{number_of_workloads};
+ghost use Rattle.np_kinds.specs.Kinds.{IsKindReach};
 ghost use Rattle.np_table.specs.RowCache.{IsKept};
-ghost use Rattle.np_table.specs.PairRules.{AreOfKinds, IsKindReach};
 ghost use Rattle.np_table.specs.Rows as table;
-ghost use Rattle.np_table.specs.Table.{estate_table, number_of_workloads};
+ghost use Rattle.np_table.specs.Table.{estate_table};
 ghost use Rattle.np_table.specs.ToCome as spec;
 
-use crate::kind_reach::KindReach;
 use crate::row_cache::RowCache;
 use crate::rows::{AddressRow, Row, RowEnd, RowKey};
 use crate::rows_by_kind::{WorkloadPair, rows_by_kind};
-use crate::rows_of_addresses::rows_by_addresses;
-use crate::rules_by_kind::KindRules;
+use crate::rows_of_addresses::address_rows_by_kind;
 use np_base::{NoMemory, Seq};
 use np_fold::{Folded, Workloads};
+use np_kinds::{KindReach, Sides};
 use np_model::Direction;
 use np_steps::Steps;
 use std::alloc::Global;
@@ -25,14 +25,15 @@ use std::sync::ledger::Ledger;
 
 /// The rows of the table that are still to come: those of all pairs of workloads, by source and then by destination, and
 /// behind them, for each workload, those of all addresses, ingress and then egress. They are made pair by pair, and never
-/// all of them are held. Which policies select a pod is asked once for each kind of workloads, at the first call of `next`.
-/// The rules are asked once for each source and each kind of destinations, and what they give is kept until the next
-/// source. Contracts see the rows, and as `due` an upper bound of the rules that are still to be looked at.
+/// all of them are held. Which policies select a pod is asked once for each kind of workloads, when its rules are first
+/// asked for. The rules are asked once for each source and each kind of destinations, and what they give is kept until the
+/// next source. Contracts see the rows, and as `due` an upper bound of the rules that are still to be looked at.
 #[derive(Drop)]
 pub struct Rows<'a> {
     alloc: Global,
-    folded: &'a Folded,
-    rules: KindRules<'a>,
+    sides: Sides<'a>,
+    // What kinds let through, found at the first call of `next`.
+    reach: KindReach,
     // The place of the next rows to be made, and the one behind the last.
     place: u64,
     end: u64,
@@ -45,18 +46,18 @@ pub struct Rows<'a> {
 impl<'a> Model for Rows<'a> {
     ghost use Rattle.std.specs.Prelude.{◌++◌, reverse};
     ghost use Rattle.np_fold.specs.Workloads.{folding_of};
-    ghost use Rattle.np_table.specs.PairRules.{AreOfKindsIfAny};
+    ghost use Rattle.np_kinds.specs.Kinds.{IsKindReach};
     ghost use Rattle.np_table.specs.Table.{estate_table};
     ghost use Rattle.np_table.specs.ToCome.{IsUnderWay, RowsToCome, due_from, rows_from};
 
     ghost Value = { RowsToCome };
 
     ghost view = { λ r. record {
-      rows = reverse r.ready.items ++ rows_from (estate_table r.folded.now) r.place;
-      due = due_from r.folded.now (folding_of r.folded.now) r.place r.kept;
+      rows = reverse r.ready.items ++ rows_from (estate_table r.sides.lists) r.place;
+      due = due_from r.sides.lists (folding_of r.sides.lists) r.place r.kept;
     } };
 
-    ghost invariant = { λ r. IsUnderWay r.folded.now r.place r.end r.kept × AreOfKindsIfAny r.folded.now r.rules };
+    ghost invariant = { λ r. IsUnderWay r.sides.lists r.place r.end r.kept × IsKindReach r.sides.lists r.reach };
 }
 
 impl<'a> Rows<'a> {
@@ -70,8 +71,8 @@ impl<'a> Rows<'a> {
         let end = place_count(folded.workloads());
         Rows {
             alloc,
-            folded,
-            rules: KindRules::nothing(alloc),
+            sides: Sides::new(alloc, folded),
+            reach: KindReach::nothing(alloc),
             place: 0,
             end,
             kept: RowCache::nothing(alloc),
@@ -88,16 +89,17 @@ impl<'a> Rows<'a> {
         ensures most { OnErr result (steps.new ≤ steps.old + self.old.due) }
         ensures least { steps.old ≤ steps.new }
     {
-        self.rules.ask(self.alloc, self.folded)?;
+        let folded = self.sides.folded();
+        ask_reach(self.alloc, folded, self.place, &mut self.reach)?;
         while self.ready.is_empty() {
             if self.place == self.end {
                 return Ok(None);
             }
-            self.place = pass_over(self.folded, &self.rules.reach, self.place);
+            self.place = pass_over(folded, &self.reach, self.place);
             let rows = rows_at(
                 self.alloc,
-                self.folded,
-                &self.rules,
+                &mut self.sides,
+                &self.reach,
                 self.place,
                 &mut self.kept,
                 steps,
@@ -107,6 +109,22 @@ impl<'a> Rows<'a> {
         }
         Ok(self.ready.pop())
     }
+}
+
+// Finds what kinds let through before the rows at the first place are made.
+fn ask_reach(
+    alloc: Global,
+    folded: &Folded,
+    place: u64,
+    reach: &mut KindReach,
+) -> Result<(), NoMemory>
+    requires { IsKindReach folded.now reach.old }
+    ensures { IsKindReach folded.now reach.new }
+{
+    if place == 0 {
+        *reach = KindReach::of(alloc, folded)?;
+    }
+    Ok(())
 }
 
 // Rows with the last one first.
@@ -154,35 +172,38 @@ fn pass_over(folded: &Folded, reach: &KindReach, place: u64) -> u64
 // The rows at a place. What is kept is made ready for the next place.
 fn rows_at<L: Ledger>(
     alloc: Global,
-    folded: &Folded,
-    rules: &KindRules<'_>,
+    sides: &mut Sides<'_>,
+    reach: &KindReach,
     place: u64,
     kept: &mut RowCache,
     steps: &mut Steps<L>,
 ) -> Result<Seq<Row>, NoMemory>
-    requires rules { AreOfKinds folded.now rules.now }
-    requires place { place < spec.place_count (number_of_workloads folded.now) }
-    requires few { length kept.old ≤ (folding_of folded.now).kind_count }
-    requires kept { IsKept folded.now (folding_of folded.now) (place / number_of_workloads folded.now) kept.old }
-    ensures rows { IfOk result (λ made. made ≡ spec.rows_at (estate_table folded.now) place) }
-    ensures few { length kept.new ≤ (folding_of folded.now).kind_count }
-    ensures kept { OnOk result (IsKept folded.now (folding_of folded.now) ((place + 1) / number_of_workloads folded.now) kept.new) }
-    ensures kept_on_err { OnErr result (IsKept folded.now (folding_of folded.now) (place / number_of_workloads folded.now) kept.new) }
-    ensures counted { OnOk result (steps.new + spec.due_from folded.now (folding_of folded.now) (place + 1) kept.new
-        ≤ steps.old + spec.due_from folded.now (folding_of folded.now) place kept.old) }
-    ensures most { OnErr result (steps.new ≤ steps.old + spec.due_from folded.now (folding_of folded.now) place kept.old) }
+    requires reach { IsKindReach sides.old.lists reach.now }
+    requires place { place < spec.place_count (number_of_workloads sides.old.lists) }
+    requires few { length kept.old ≤ (folding_of sides.old.lists).kind_count }
+    requires kept { IsKept sides.old.lists (folding_of sides.old.lists) (place / number_of_workloads sides.old.lists) kept.old }
+    ensures rows { IfOk result (λ made. made ≡ spec.rows_at (estate_table sides.old.lists) place) }
+    ensures lists { sides.new.lists ≡ sides.old.lists }
+    ensures few { length kept.new ≤ (folding_of sides.old.lists).kind_count }
+    ensures kept { let lists = sides.old.lists in
+        OnOk result (IsKept lists (folding_of lists) ((place + 1) / number_of_workloads lists) kept.new) }
+    ensures kept_on_err { let lists = sides.old.lists in
+        OnErr result (IsKept lists (folding_of lists) (place / number_of_workloads lists) kept.new) }
+    ensures counted { OnOk result (steps.new + spec.due_from sides.old.lists (folding_of sides.old.lists) (place + 1) kept.new
+        ≤ steps.old + spec.due_from sides.old.lists (folding_of sides.old.lists) place kept.old) }
+    ensures most { OnErr result (steps.new ≤ steps.old + spec.due_from sides.old.lists (folding_of sides.old.lists) place kept.old) }
     ensures least { steps.old ≤ steps.new }
 {
-    let count = u64::from(folded.workloads().count());
+    let count = u64::from(sides.folded().workloads().count());
     let pairs = count * count;
     if place >= pairs {
-        return address_rows_at(alloc, folded, rules, place - pairs, steps);
+        return address_rows_at(alloc, sides, place - pairs, steps);
     }
     let pair = WorkloadPair {
         source: (place / count) as u32,
         destination: (place % count) as u32,
     };
-    let rows = rows_by_kind(alloc, folded, rules, pair, kept, steps)?;
+    let rows = rows_by_kind(alloc, sides, reach, pair, kept, steps)?;
     if place % count + 1 == count {
         *kept = RowCache::nothing(alloc);
     }
@@ -192,22 +213,20 @@ fn rows_at<L: Ledger>(
 // The rows of addresses at a place behind the pairs.
 fn address_rows_at<L: Ledger>(
     alloc: Global,
-    folded: &Folded,
-    rules: &KindRules<'_>,
+    sides: &mut Sides<'_>,
     place: u64,
     steps: &mut Steps<L>,
 ) -> Result<Seq<Row>, NoMemory>
-    requires rules { AreOfKinds folded.now rules.now }
-    requires few { number_of_workloads folded.now < 2 ^ 32 }
-    requires place { place < 2 * number_of_workloads folded.now }
-    ensures rows { IfOk result (λ made. made ≡ spec.address_rows_at (estate_table folded.now) place) }
-    ensures most { steps.new ≤ steps.old + spec.most_rules folded.now (folding_of folded.now) }
+    requires few { number_of_workloads sides.old.lists < 2 ^ 32 }
+    requires place { place < 2 * number_of_workloads sides.old.lists }
+    ensures rows { IfOk result (λ made. made ≡ spec.address_rows_at (estate_table sides.old.lists) place) }
+    ensures lists { sides.new.lists ≡ sides.old.lists }
+    ensures most { steps.new ≤ steps.old + spec.most_rules sides.old.lists (folding_of sides.old.lists) }
     ensures least { steps.old ≤ steps.new }
 {
     let workload = (place / 2) as u32;
     let direction = direction_at(place);
-    let near = rules.at(direction, folded.workloads().kind_of(workload));
-    let rows = rows_by_addresses(alloc, near, steps)?;
+    let rows = address_rows_by_kind(alloc, sides, workload, direction, steps)?;
     with_keys(alloc, rows, workload, direction)
 }
 

@@ -15,7 +15,8 @@ ghost use Rattle.np_rules.specs.model.Ends.{pod};
 ghost use Rattle.np_rules.specs.model.Verdict.{pod_at};
 ghost use Rattle.np_table.specs.Rows.{all_rows, pair_rows};
 ghost use Rattle.np_table.specs.Said.{AllowSamePorts, IsInFamily, IsUnmarked, OneRowSays, allows_in, rows_between};
-ghost use Rattle.np_table.specs.Table.{Table, address_allows, between_pods, is_alone, pair_allows, table_of, with_address};
+ghost use Rattle.np_table.specs.Table.{Table, table_of};
+ghost use Rattle.np_kinds.specs.Between.{address_allows, between_pods, is_alone, pair_allows, with_address};
 
 /// Folding loses no verdict: between every two different pods passes what passes between their workloads, and between a
 /// pod and every address what passes between its workload and the address.

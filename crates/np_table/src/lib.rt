@@ -2,8 +2,6 @@
 #![tactic(auto)]
 
 mod all_rows;
-mod kind_laws;
-mod kind_reach;
 mod laws;
 mod pair_sets;
 mod range_laws;
@@ -12,19 +10,16 @@ mod rows;
 mod rows_by_kind;
 mod rows_of_addresses;
 mod rows_of_pairs;
-mod rules_by_kind;
 
 pub use all_rows::Rows;
-pub use kind_laws::{kinds_give_the_deciders, kinds_give_the_rule_counts, kinds_give_the_verdict};
-pub use kind_reach::{KindReach, first_pod};
 pub use laws::{
     kinds_give_the_pairs, no_row_with_itself, one_row_for_each_address,
     one_row_where_the_same_ports_pass, rows_say_what_passes, workloads_stand_for_their_pods,
 };
-pub use pair_sets::{pair_set, set_between};
+pub use pair_sets::{pair_set, set_between, set_by_kinds};
 pub use range_laws::{
     each_number_is_in_one_range, equal_tests_have_one_list, one_list_is_right, pieces_are_right,
 };
 pub use rows::{AddressRow, AddressSpan, Row, RowEnd, RowKey};
-pub use rows_of_addresses::{address_rows, rows_by_addresses};
+pub use rows_of_addresses::{address_rows, address_rows_by_kind, rows_by_addresses};
 pub use rows_of_pairs::pair_rows;

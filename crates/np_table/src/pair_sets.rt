@@ -1,20 +1,22 @@
 //! What passes between two pods, and so between two workloads.
 ghost use Rattle.std.specs.Prelude.{◌≡◌, ◌≢◌, ◌≤◌, ◌<◌, ◌+◌, ℕ, if◌then◌else◌};
-ghost use Rattle.std.specs.Prelude.{None, Some, Contains, length, true, IfOk, IfSome};
+ghost use Rattle.std.specs.Prelude.{None, Some, Contains, false, length, true, IfOk, IfSome};
 ghost use Rattle.np_conns.specs.Conns.{IsConns, has_spot, is_spot};
 ghost use Rattle.np_conns.specs.declared.port_spot.PortSpot.{PortSpot};
 ghost use Rattle.np_model.specs.Lawful.{IsLawful};
 ghost use Rattle.np_fold.specs.Workloads.{folding_of, members_of};
 ghost use Rattle.np_rules.specs.PodSides.{side_rule_count};
+ghost use Rattle.np_kinds.specs.Between as spec;
+ghost use Rattle.np_kinds.specs.Kinds.{side_allows_pod};
 ghost use Rattle.np_table.specs.PairRules as rules;
 ghost use Rattle.np_table.specs.Right.{conns_of};
-ghost use Rattle.np_table.specs.Table as spec;
-ghost use Rattle.np_table.specs.steps.PairSides.{ends_of, side_allows_pod};
+ghost use Rattle.np_table.specs.steps.PairSides.{ends_of};
 
 use np_addr::Family;
 use np_base::{Cells, NoMemory};
 use np_conns::ConnSet;
 use np_fold::{Folded, Workloads};
+use np_kinds::Sides;
 use np_model::Direction;
 use np_rules::PodRules;
 use np_steps::Steps;
@@ -49,6 +51,32 @@ pub fn pair_set<L: Ledger>(
     };
     let set = set_between(alloc, &ends.sender, &ends.receiver, family, steps)?;
     Ok(Some(set))
+}
+
+/// The protocols and ports that pass from a workload to another in packets of a family, by the rules of the pods that stand
+/// for their kinds, which are found unless they are known. It is right of a workload with itself, too, where that has two
+/// pods.
+pub fn set_by_kinds<L: Ledger>(
+    alloc: Global,
+    sides: &mut Sides<'_>,
+    source: u32,
+    destination: u32,
+    family: Family,
+    steps: &mut Steps<L>,
+) -> Result<ConnSet, NoMemory>
+    requires source { spec.IsWorkload sides.old.lists source }
+    requires destination { spec.IsWorkload sides.old.lists destination }
+    requires apart { spec.is_alone (folding_of sides.old.lists) source destination ≡ false }
+    ensures set { IfOk result (λ made. made
+        ≡ conns_of (spec.pair_allows sides.old.lists (folding_of sides.old.lists) source destination family)) }
+    ensures lists { sides.new.lists ≡ sides.old.lists }
+    ensures least { steps.old ≤ steps.new }
+    ensures most { steps.new ≤ steps.old + rules.rules_of_pair sides.old.lists source destination }
+{
+    sides.ask_pair(source, destination)?;
+    let sender = sides.at(Direction::Egress, source);
+    let receiver = sides.at(Direction::Ingress, destination);
+    set_between(alloc, sender, receiver, family, steps)
 }
 
 /// The rules of a pod that sends, and those of one that receives.

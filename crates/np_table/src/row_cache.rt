@@ -1,5 +1,5 @@
 //! What is kept of the rows from the source at hand, so that the rules are asked once for each kind of destinations.
-ghost use Rattle.std.specs.Prelude.{◌≡◌, ◌<◌, ◌≤◌, ◌+◌, [], ℕ, IfOk, None, OnErr, OnOk, length, map, option_map};
+ghost use Rattle.std.specs.Prelude.{◌≡◌, ◌<◌, ◌≤◌, ◌+◌, [], IfOk, None, OnErr, OnOk, length, map, option_map};
 ghost use Rattle.np_table.specs.RowCache as spec;
 
 use crate::rows::{Row, RowKey};

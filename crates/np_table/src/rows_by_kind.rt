@@ -1,19 +1,20 @@
 //! The rows of two workloads, by their kinds.
-ghost use Rattle.std.specs.Prelude.{◌≡◌, ◌<◌, ◌≤◌, ◌+◌, length, IfOk, OnErr, OnOk};
+ghost use Rattle.std.specs.Prelude.{◌≡◌, ◌<◌, ◌≤◌, ◌+◌, ◌*◌, false, length, IfOk, OnErr, OnOk};
 ghost use Rattle.np_fold.specs.Workloads.{folding_of};
+ghost use Rattle.np_kinds.specs.Between as pairs;
+ghost use Rattle.np_kinds.specs.Between.{IsWorkload};
+ghost use Rattle.np_kinds.specs.Kinds.{IsKindReach};
 ghost use Rattle.np_table.specs.RowCache.{IsKept};
-ghost use Rattle.np_table.specs.PairRules.{AreOfKinds};
 ghost use Rattle.np_table.specs.Rows as spec;
-ghost use Rattle.np_table.specs.Table as table;
-ghost use Rattle.np_table.specs.Table.{IsWorkload, estate_table};
-ghost use Rattle.np_table.specs.ToCome.{due_for_kinds};
+ghost use Rattle.np_table.specs.Table.{estate_table};
+ghost use Rattle.np_table.specs.ToCome.{due_for_kinds, most_rules};
 
 use crate::row_cache::RowCache;
 use crate::rows::Row;
 use crate::rows_of_pairs::{pair_key, rows_between};
-use crate::rules_by_kind::KindRules;
 use np_base::{NoMemory, Seq};
-use np_fold::{Folded, Workloads};
+use np_fold::Workloads;
+use np_kinds::{KindReach, Sides};
 use np_model::Direction;
 use np_steps::Steps;
 use std::alloc::Global;
@@ -32,30 +33,32 @@ pub(crate) struct WorkloadPair {
 /// pass.
 pub(crate) fn rows_by_kind<L: Ledger>(
     alloc: Global,
-    folded: &Folded,
-    rules: &KindRules<'_>,
+    sides: &mut Sides<'_>,
+    reach: &KindReach,
     pair: WorkloadPair,
     kept: &mut RowCache,
     steps: &mut Steps<L>,
 ) -> Result<Seq<Row>, NoMemory>
-    requires rules { AreOfKinds folded.now rules.now }
-    requires source { IsWorkload folded.now pair.source }
-    requires destination { IsWorkload folded.now pair.destination }
-    requires few { length kept.old ≤ (folding_of folded.now).kind_count }
-    requires kept { IsKept folded.now (folding_of folded.now) pair.source kept.old }
-    ensures rows { IfOk result (λ made. made ≡ spec.pair_rows (estate_table folded.now) pair.source pair.destination) }
-    ensures few { length kept.new ≤ (folding_of folded.now).kind_count }
-    ensures kept { IsKept folded.now (folding_of folded.now) pair.source kept.new }
+    requires reach { IsKindReach sides.old.lists reach.now }
+    requires source { IsWorkload sides.old.lists pair.source }
+    requires destination { IsWorkload sides.old.lists pair.destination }
+    requires few { length kept.old ≤ (folding_of sides.old.lists).kind_count }
+    requires kept { IsKept sides.old.lists (folding_of sides.old.lists) pair.source kept.old }
+    ensures rows { IfOk result (λ made. made ≡ spec.pair_rows (estate_table sides.old.lists) pair.source pair.destination) }
+    ensures lists { sides.new.lists ≡ sides.old.lists }
+    ensures few { length kept.new ≤ (folding_of sides.old.lists).kind_count }
+    ensures kept { IsKept sides.old.lists (folding_of sides.old.lists) pair.source kept.new }
     ensures least { steps.old ≤ steps.new }
-    ensures counted { OnOk result (steps.new + due_for_kinds folded.now (folding_of folded.now) kept.new
-        ≤ steps.old + due_for_kinds folded.now (folding_of folded.now) kept.old) }
-    ensures most { OnErr result (steps.new ≤ steps.old + due_for_kinds folded.now (folding_of folded.now) kept.old) }
+    ensures counted { OnOk result (steps.new + due_for_kinds sides.old.lists (folding_of sides.old.lists) kept.new
+        ≤ steps.old + due_for_kinds sides.old.lists (folding_of sides.old.lists) kept.old) }
+    ensures most { OnErr result (steps.new ≤ steps.old + due_for_kinds sides.old.lists (folding_of sides.old.lists) kept.old) }
 {
+    let folded = sides.folded();
     let workloads = folded.workloads();
     if is_alone(workloads, pair.source, pair.destination) {
         return Ok(Seq::new(alloc));
     }
-    if rules.reach.is_silent(folded, pair.source, pair.destination) {
+    if reach.is_silent(folded, pair.source, pair.destination) {
         return Ok(Seq::new(alloc));
     }
     let kind = workloads.kind_of(pair.destination);
@@ -63,18 +66,38 @@ pub(crate) fn rows_by_kind<L: Ledger>(
     if let Some(rows) = kept.rows(alloc, kind, &key)? {
         return Ok(rows);
     }
-    let sender = rules.at(Direction::Egress, workloads.kind_of(pair.source));
-    let receiver = rules.at(Direction::Ingress, kind);
-    let families = folded.estate().families();
-    let rows = rows_between(alloc, families, &key, sender, receiver, steps)?;
+    let rows = rows_of_kinds(alloc, sides, pair, steps)?;
     kept.keep(alloc, kind, workloads.kinds(), rows.items())?;
     Ok(rows)
+}
+
+// The rows of two workloads by the rules of their kinds.
+fn rows_of_kinds<L: Ledger>(
+    alloc: Global,
+    sides: &mut Sides<'_>,
+    pair: WorkloadPair,
+    steps: &mut Steps<L>,
+) -> Result<Seq<Row>, NoMemory>
+    requires source { IsWorkload sides.old.lists pair.source }
+    requires destination { IsWorkload sides.old.lists pair.destination }
+    requires apart { pairs.is_alone (folding_of sides.old.lists) pair.source pair.destination ≡ false }
+    ensures rows { IfOk result (λ made. made ≡ spec.pair_rows (estate_table sides.old.lists) pair.source pair.destination) }
+    ensures lists { sides.new.lists ≡ sides.old.lists }
+    ensures least { steps.old ≤ steps.new }
+    ensures most { steps.new ≤ steps.old + 4 * most_rules sides.old.lists (folding_of sides.old.lists) }
+{
+    sides.ask_pair(pair.source, pair.destination)?;
+    let sender = sides.at(Direction::Egress, pair.source);
+    let receiver = sides.at(Direction::Ingress, pair.destination);
+    let families = sides.folded().estate().families();
+    let key = pair_key(pair.source, pair.destination);
+    rows_between(alloc, families, &key, sender, receiver, steps)
 }
 
 // Whether a workload of one pod meets itself.
 fn is_alone(workloads: &Workloads, source: u32, destination: u32) -> bool
     requires { source < length workloads.now.workloads }
-    ensures { result ≡ table.is_alone workloads.now source destination }
+    ensures { result ≡ pairs.is_alone workloads.now source destination }
 {
     source == destination && workloads.members(source).len() == 1
 }

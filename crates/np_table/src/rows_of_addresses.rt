@@ -2,16 +2,18 @@
 ghost use Rattle.std.specs.Prelude.{◌≡◌, ◌≤◌, ◌+◌, ◌-◌, ◌^◌, [], ◌∷◌, ◌++◌, map, IfOk, OnOk};
 ghost use Rattle.np_addr.specs.declared.address.Family.TheVariants.{Four, Six};
 ghost use Rattle.np_rules.specs.PodSides.{side_rule_count};
-ghost use Rattle.np_table.specs.PairRules.{first_side, side_with_address};
+ghost use Rattle.np_kinds.specs.Kinds.{first_side};
+ghost use Rattle.np_table.specs.PairRules.{side_with_address};
 ghost use Rattle.np_table.specs.Right.{stretches_of, walk};
 ghost use Rattle.np_table.specs.Rows as spec;
-ghost use Rattle.np_table.specs.Table.{IsWorkload, estate_table};
+ghost use Rattle.np_kinds.specs.Between.{IsWorkload};
+ghost use Rattle.np_table.specs.Table.{estate_table};
 
 use crate::rows::{AddressRow, AddressSpan};
-use crate::rules_by_kind::first_side;
 use np_base::{Cells, NoMemory, Range, Seq, V4, V6};
 use np_conns::ConnSet;
 use np_fold::Folded;
+use np_kinds::{Sides, first_side};
 use np_model::Direction;
 use np_pieces::Piece;
 use np_rules::{AddrConns, PodRules};
@@ -36,6 +38,26 @@ pub fn address_rows<L: Ledger>(
 {
     let near = first_side(alloc, folded, direction, workload)?;
     rows_by_addresses(alloc, &near, steps)
+}
+
+/// What passes between a workload and each address, as `address_rows` has it, by the rules of the pod that stands for its
+/// kind, which are found unless they are known.
+pub fn address_rows_by_kind<L: Ledger>(
+    alloc: Global,
+    sides: &mut Sides<'_>,
+    workload: u32,
+    direction: Direction,
+    steps: &mut Steps<L>,
+) -> Result<Seq<AddressRow>, NoMemory>
+    requires { IsWorkload sides.old.lists workload }
+    ensures rows { IfOk result (λ made. made ≡ spec.address_rows (estate_table sides.old.lists) workload direction) }
+    ensures lists { sides.new.lists ≡ sides.old.lists }
+    ensures least { steps.old ≤ steps.new }
+    ensures most { steps.new ≤ steps.old + side_rule_count (first_side sides.old.lists direction workload) }
+{
+    sides.ask(direction, workload)?;
+    let near = sides.at(direction, workload);
+    rows_by_addresses(alloc, near, steps)
 }
 
 /// What passes between a pod and each address, by the pod's rules, as `address_rows` has it for the workload that the pod

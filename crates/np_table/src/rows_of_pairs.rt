@@ -1,10 +1,11 @@
 //! The rows of two workloads.
-ghost use Rattle.std.specs.Prelude.{◌≡◌, ◌≤◌, ◌+◌, ◌*◌, ◌++◌, None, length, IfOk, OnOk};
+ghost use Rattle.std.specs.Prelude.{◌≡◌, ◌≤◌, ◌+◌, ◌*◌, ◌++◌, None, IfOk, OnOk};
 ghost use Rattle.np_rules.specs.PodSides.{side_rule_count};
 ghost use Rattle.np_table.specs.PairRules as rules;
 ghost use Rattle.np_table.specs.Right.{conns_of};
 ghost use Rattle.np_table.specs.Rows as spec;
-ghost use Rattle.np_table.specs.Table.{IsWorkload, between_pods, estate_table};
+ghost use Rattle.np_kinds.specs.Between.{IsWorkload, between_pods};
+ghost use Rattle.np_table.specs.Table.{estate_table};
 
 use crate::pair_sets::{rules_of_pair, set_between};
 use crate::rows::{Row, RowEnd, RowKey};

@@ -6,7 +6,7 @@ use Rattle.np_model.specs.declared.lists.EstateLists.{EstateLists}
 use Rattle.np_fold.specs.Workloads.{folding_of}
 use Rattle.np_routes.specs.ClusterTable.{ClusterTable, ingress_row}
 use Rattle.np_routes.specs.Controllers.{Routing}
-use Rattle.np_table.specs.Table.{IsWorkload, number_of_workloads}
+use Rattle.np_kinds.specs.Between.{IsWorkload, number_of_workloads}
 use Rattle.np_table.specs.ToCome.{RowsToCome, most_rules}
 use Rattle.np_table.specs.declared.rows.Row.{Row}
 

@@ -14,8 +14,9 @@ use Rattle.np_rules.specs.PodSides.{PodSide, near_pod, side_of, side_rule_count,
 use Rattle.np_rules.specs.model.Sides.{side_allows}
 use Rattle.np_rules.specs.model.Verdict.{pod_at}
 use Rattle.np_rules.specs.declared.stranger.Stranger.{Stranger}
-use Rattle.np_table.specs.PairRules.{AreEnds, first_side}
-use Rattle.np_table.specs.Table.{between_pods}
+use Rattle.np_table.specs.PairRules.{AreEnds}
+use Rattle.np_kinds.specs.Kinds.{first_side}
+use Rattle.np_kinds.specs.Between.{between_pods}
 
 -- the first pod of the controller, or one that is not known
 abbrev pub sender_for : EstateLists → Option ℕ → Sender

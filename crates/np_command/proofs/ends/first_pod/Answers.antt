@@ -1,7 +1,7 @@
 use Rattle.std.proofs.Common.{refl}
 use Rattle.np_command.proofs.ends.first_pod.Goals as goal
 use Rattle.np_fold.specs.Workloads.{folding_of}
-use Rattle.np_table.proofs.MemberLemmas.{members-some, members-within, source-member}
+use Rattle.np_kinds.proofs.MemberLemmas.{members-some, members-within, source-member}
 
 pub bounds-members-0 : goal.bounds-members-0
 bounds-members-0 c = rw (c.members.ensures, c.workloads.ensures.value) (members-some c.args.folded.now (folding_of c.args.folded.now) c.args.workload refl c.requires)

@@ -7,7 +7,7 @@ use Rattle.np_conns.specs.Conns.{Conns, has_spot}
 use Rattle.np_routes.proofs.ReachedLemmas.{sets-next, steps-families}
 use Rattle.np_routes.proofs.senders.sent_in_some.Goals as goal
 use Rattle.np_rules.specs.PodSides.{side_rule_count}
-use Rattle.np_table.specs.Table.{between_pods}
+use Rattle.np_kinds.specs.Between.{between_pods}
 
 pub returns-in_err-set_between-clause-most : goal.returns-in_err-set_between-clause-most
 returns-in_err-set_between-clause-most g c =

@@ -4,7 +4,7 @@ use Rattle.np_conns.specs.Conns.{has_spot, is_spot}
 use Rattle.np_conns.specs.declared.port_spot.PortSpot.{PortSpot}
 use Rattle.np_routes.proofs.senders.sent_in_some.Given as goal
 use Rattle.np_rules.specs.PodSides.{side_rule_count}
-use Rattle.np_table.specs.Table.{between_pods}
+use Rattle.np_kinds.specs.Between.{between_pods}
 
 -- what may be sent in some of the families so far, and the rules that were looked at for them
 abbrev pub invariant-loop-family : goal.invariant-loop-family

@@ -3,7 +3,7 @@ use Rattle.std.specs.Str.{bytes_eq}
 use Rattle.np_model.specs.declared.pod.Pod.{Pod}
 use Rattle.np_fold.specs.Workloads.{folding_of}
 use Rattle.np_statements.proofs.EndLemmas.{in_namespace-by}
-use Rattle.np_table.proofs.MemberLemmas.{members-some, members-within, source-member}
+use Rattle.np_kinds.proofs.MemberLemmas.{members-some, members-within, source-member}
 use Rattle.np_statements.proofs.ends.is_in_namespace.Goals as goal
 
 pub bounds-members-0 : goal.bounds-members-0

@@ -9,7 +9,7 @@ use Rattle.np_table.proofs.SideLemmas.{ends-are, ends-both, ends-count, ends-non
 use Rattle.np_table.proofs.rows_of_pairs.pair_rows.Goals as goal
 use Rattle.np_table.specs.Right.{conns_of}
 use Rattle.np_table.specs.Rows.{rows_in}
-use Rattle.np_table.specs.Table.{between_pods}
+use Rattle.np_kinds.specs.Between.{between_pods}
 use Rattle.np_table.specs.declared.rows.RowKey.{RowKey}
 
 pub rows_between-requires : goal.rows_between-requires

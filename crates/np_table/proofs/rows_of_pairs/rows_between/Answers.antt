@@ -5,7 +5,7 @@ use Rattle.np_table.proofs.SetLemmas.{rows_in-both, rows_in-one}
 use Rattle.np_table.proofs.rows_of_pairs.rows_between.Goals as goal
 use Rattle.np_table.specs.Right.{conns_of}
 use Rattle.np_table.specs.Rows.{row_if}
-use Rattle.np_table.specs.Table.{between_pods}
+use Rattle.np_kinds.specs.Between.{between_pods}
 use Rattle.np_table.specs.declared.rows.Row.{Row}
 
 pub returns-then-families-ne1-clause-rows : goal.returns-then-families-ne1-clause-rows

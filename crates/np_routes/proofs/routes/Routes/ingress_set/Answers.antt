@@ -7,7 +7,7 @@ use Rattle.np_routes.proofs.routes.Routes.ingress_set.Goals as goal
 use Rattle.np_routes.specs.Controllers.{Routing}
 use Rattle.np_routes.specs.steps.Senders.{sender_for}
 use Rattle.np_table.proofs.SetLemmas.{IfOk-both}
-use Rattle.np_table.specs.Table.{source_pod}
+use Rattle.np_kinds.specs.Between.{source_pod}
 
 pub returns-then-eq-clause-set : goal.returns-then-eq-clause-set
 returns-then-eq-clause-set g c =

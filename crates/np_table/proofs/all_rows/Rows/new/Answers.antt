@@ -9,18 +9,18 @@ use Rattle.np_table.specs.ToCome.{place_count}
 
 pub invariant_of-result : goal.invariant_of-result
 invariant_of-result c = (
-  record {
+  rw c.new.ensures (record {
     last = c.place_count-end.ensures.value ∙ ap (λ (f : Folding). place_count (length f.workloads)) c.workloads.ensures.value;
     within = omega arith;
     fits = c.place_count-end.ensures.fits;
     few = rw c.nothing-2.ensures (omega arith);
     keeps = rw c.nothing-2.ensures (IsKept-nothing c.args.folded.now (folding_of c.args.folded.now) _);
-  },
-  λ some. absurd (omega (arith, some, c.nothing.ensures)),
+  }),
+  c.nothing.ensures c.new.result.lists,
 )
 
 pub returns-clause-rows : goal.returns-clause-rows
-returns-clause-rows c = rw c.new.ensures.items (all_rows-from (estate_table c.args.folded.now))
+returns-clause-rows c = rw (c.new-2.ensures.items, c.new.ensures) (all_rows-from (estate_table c.args.folded.now))
 
 pub returns-clause-due : goal.returns-clause-due
-returns-clause-due c = rw c.nothing-2.ensures (due_from-start c.args.folded.now (folding_of c.args.folded.now))
+returns-clause-due c = rw (c.nothing-2.ensures, c.new.ensures) (due_from-start c.args.folded.now (folding_of c.args.folded.now))

@@ -1,4 +1,4 @@
-use Rattle.std.proofs.Common.{◌≡◌, length, reverse, arith, sym, ap, ◌∙◌}
+use Rattle.std.proofs.Common.{◌≡◌, length, reverse, arith, sym, ap, subst, ◌∙◌}
 use Rattle.std.proofs.lemmas.Bool.{eqb-true}
 use Rattle.np_fold.specs.Workloads.{folding_of}
 use Rattle.np_table.proofs.DueLemmas.{due_from-over, over-within}
@@ -6,55 +6,70 @@ use Rattle.np_table.proofs.PlaceLemmas.{made-ready, nothing-left, passed-over}
 use Rattle.np_table.proofs.SetLemmas.{OnErr-from}
 use Rattle.np_table.proofs.all_rows.Rows.next.Goals as goal
 use Rattle.np_table.specs.ToCome.{RowsToCome}
+use Rattle.np_kinds.specs.Between.{number_of_workloads}
+use Rattle.np_kinds.specs.Kinds.{IsKindReach}
+use Rattle.np_model.specs.declared.lists.EstateLists.{EstateLists}
+use Rattle.np_table.specs.Table.{estate_table}
+use Rattle.np_table.specs.ToCome.{IsOfSameSource, rows_from}
 
 pub returns-then-self-clause-given : goal.returns-then-self-clause-given
 returns-then-self-clause-given g c =
-    let empty : length c.loop-self.self-inside.ready.items ≡ 0 = omega
-    (arith, c.loop-self.self-inside.ready.ok, eqb-true c.loop-self.self-inside.ready.len 0 (sym c.is_empty.ensures ∙ c.loop-self-test.true)) in
-    nothing-left c.loop-self.self-inside.folded.now (folding_of c.loop-self.self-inside.folded.now) c.loop-self.self-inside.ready.items c.args.self.now.rows c.loop-self.self-inside.place
-    c.loop-self.self-inside.end empty (omega arith) c.loop-self.invariant.under_way.last c.loop-self.invariant.to_come
+    let empty : length c.loop-folded.self-inside.ready.items ≡ 0 = omega
+    (arith, c.loop-folded.self-inside.ready.ok, eqb-true c.loop-folded.self-inside.ready.len 0 (sym c.is_empty.ensures ∙ c.loop-folded-test.true)) in
+    nothing-left c.loop-folded.self-inside.sides.lists (folding_of c.loop-folded.self-inside.sides.lists) c.loop-folded.self-inside.ready.items c.args.self.now.rows c.loop-folded.self-inside.place
+    c.loop-folded.self-inside.end empty (omega arith) c.loop-folded.invariant.under_way.last c.loop-folded.invariant.to_come
 
-pub loop-self-init : goal.loop-self-init
-loop-self-init g c = record {
+pub loop-folded-init : goal.loop-folded-init
+loop-folded-init g c = record {
   to_come = ap (λ (to_come : RowsToCome). to_come.rows) c.self.view_is;
   under_way = c.self.invariant.0;
-  rules = c.in_ok-ask.ensures.all;
+  lists = c.folded-folded.ensures;
+  reach = subst (λ (lists : EstateLists). IsKindReach lists c.ask_reach.new.reach) c.folded-folded.ensures c.ask_reach.ensures;
   counted = omega (arith, ap (λ (to_come : RowsToCome). to_come.due) c.self.view_is);
   least = omega arith;
 }
 
-pub loop-self-preserved : goal.loop-self-preserved
-loop-self-preserved g c =
-    let folding = folding_of c.loop-self.self-inside.folded.now in
-    let empty : length c.loop-self.self-inside.ready.items ≡ 0 = omega
-    (arith, c.loop-self.self-inside.ready.ok, eqb-true c.loop-self.self-inside.ready.len 0 (sym c.is_empty.ensures ∙ c.loop-self-test.true)) in
-    let same = c.pass_over-self-inside.ensures.source in
-    let within = over-within (length folding.workloads) c.loop-self.self-inside.place c.pass_over-self-inside.result same (omega (arith, c.loop-self.invariant.under_way.last)) in
+pub loop-folded-preserved : goal.loop-folded-preserved
+loop-folded-preserved g c =
+    let lists = c.loop-folded.self-inside.sides.lists in
+    let folding = folding_of lists in
+    let empty : length c.loop-folded.self-inside.ready.items ≡ 0 = omega
+    (arith, c.loop-folded.self-inside.ready.ok, eqb-true c.loop-folded.self-inside.ready.len 0 (sym c.is_empty.ensures ∙ c.loop-folded-test.true)) in
+    let same : IsOfSameSource (number_of_workloads lists) c.loop-folded.self-inside.place c.pass_over-self-inside.result =
+    subst (λ (l : EstateLists). IsOfSameSource
+    (number_of_workloads l) c.loop-folded.self-inside.place c.pass_over-self-inside.result) c.loop-folded.invariant.lists c.pass_over-self-inside.ensures.source in
+    let rows : rows_from (estate_table lists) c.pass_over-self-inside.result ≡ rows_from (estate_table lists) c.loop-folded.self-inside.place =
+    subst (λ (l : EstateLists). rows_from (estate_table l) c.pass_over-self-inside.result ≡ rows_from (estate_table l) c.loop-folded.self-inside.place) c.loop-folded.invariant.lists
+    c.pass_over-self-inside.ensures.rows in
+    let within = over-within (length folding.workloads) c.loop-folded.self-inside.place c.pass_over-self-inside.result same (omega (arith, c.loop-folded.invariant.under_way.last)) in
     record {
-      to_come = made-ready c.loop-self.self-inside.folded.now folding c.loop-self.self-inside.ready.items c.in_reverse.result.items c.args.self.now.rows c.pass_over-self-inside.result empty within
+      to_come = rw c.in_ok-rows.ensures.lists
+          (made-ready lists folding c.loop-folded.self-inside.ready.items c.in_reverse.result.items c.args.self.now.rows c.pass_over-self-inside.result empty within
           (c.in_reverse.ensures ∙ ap reverse c.in_ok-rows.ensures.rows)
-          (passed-over c.loop-self.self-inside.folded.now folding c.loop-self.self-inside.ready.items c.args.self.now.rows c.loop-self.self-inside.place c.pass_over-self-inside.result
-          c.pass_over-self-inside.ensures.rows c.loop-self.invariant.to_come);
-      under_way = record {
-        last = c.loop-self.invariant.under_way.last;
-        within = omega (arith, within, c.loop-self.invariant.under_way.last);
-        fits = c.loop-self.invariant.under_way.fits;
-        few =
-            c.in_ok-rows.ensures.few;
+          (passed-over lists folding c.loop-folded.self-inside.ready.items c.args.self.now.rows c.loop-folded.self-inside.place c.pass_over-self-inside.result rows c.loop-folded.invariant.to_come));
+      under_way = rw c.in_ok-rows.ensures.lists (record {
+        last = c.loop-folded.invariant.under_way.last;
+        within = omega (arith, within, c.loop-folded.invariant.under_way.last);
+        fits = c.loop-folded.invariant.under_way.fits;
+        few = c.in_ok-rows.ensures.few;
         keeps = c.in_ok-rows.ensures.kept;
-      };
-      rules = c.loop-self.invariant.rules;
-      counted = omega (
+      });
+      lists = c.loop-folded.invariant.lists ∙ sym c.in_ok-rows.ensures.lists;
+      reach = rw c.in_ok-rows.ensures.lists c.loop-folded.invariant.reach;
+      counted = rw c.in_ok-rows.ensures.lists (omega (
         arith,
         c.in_ok-rows.ensures.counted,
-        c.loop-self.invariant.counted,
-        due_from-over c.loop-self.self-inside.folded.now folding c.loop-self.self-inside.place c.pass_over-self-inside.result c.loop-self.self-inside.kept same,
-      );
-      least = omega (arith, c.in_ok-rows.ensures.least, c.loop-self.invariant.least);
+        c.loop-folded.invariant.counted,
+        due_from-over lists folding c.loop-folded.self-inside.place c.pass_over-self-inside.result c.loop-folded.self-inside.kept same,
+      ));
+      least = omega (arith, c.in_ok-rows.ensures.least, c.loop-folded.invariant.least);
     }
 
 pub returns-in_err-rows-clause-most : goal.returns-in_err-rows-clause-most
 returns-in_err-rows-clause-most g c =
-    let due = due_from-over c.loop-self.self-inside.folded.now (folding_of c.loop-self.self-inside.folded.now) c.loop-self.self-inside.place c.pass_over-self-inside.result c.loop-self.self-inside.kept
-    c.pass_over-self-inside.ensures.source in
-    OnErr-from c.from_residual-in_err-rows.result _ (omega (arith, due, c.in_err-rows.ensures.most, c.loop-self.invariant.counted))
+    let lists = c.loop-folded.self-inside.sides.lists in
+    let same : IsOfSameSource (number_of_workloads lists) c.loop-folded.self-inside.place c.pass_over-self-inside.result =
+    subst (λ (l : EstateLists). IsOfSameSource
+    (number_of_workloads l) c.loop-folded.self-inside.place c.pass_over-self-inside.result) c.loop-folded.invariant.lists c.pass_over-self-inside.ensures.source in
+    let due = due_from-over lists (folding_of lists) c.loop-folded.self-inside.place c.pass_over-self-inside.result c.loop-folded.self-inside.kept same in
+    OnErr-from c.from_residual-in_err-rows.result _ (omega (arith, due, c.in_err-rows.ensures.most, c.loop-folded.invariant.counted))

@@ -1,0 +1,149 @@
+-- Pods and contacts that the side of a pod does not tell apart.
+use Rattle.std.proofs.Common.{◌≡◌, List, [], ◌∷◌, ◌++◌, ◌&&◌, map, Option, Some, None, unwrap_or, refl, ap, ◌∙◌, if◌then◌else◌}
+use Rattle.std.specs.List.{AllByRecursion, enumerate_from, flat_map}
+use Rattle.std.specs.Str.{bytes_eq}
+use Rattle.np_fold.specs.Blocks.{cidrs_of_admin_policy, cidrs_of_baseline, cidrs_of_base_policy, cidrs_of_rule}
+use Rattle.np_fold.specs.Keys.{keys_of_admin_policy, keys_of_admin_rule, keys_of_base_policy, keys_of_baseline, keys_of_net_direction, keys_of_net_policy, keys_of_net_rule, keys_of_selector}
+use Rattle.np_fold.specs.Keys.{keys_of_subject}
+use Rattle.np_kinds.proofs.KindLists.{All-append, All-flat, All-if, All-numbered, All-parts, All-three, All-weaker}
+use Rattle.np_kinds.proofs.KindPeers.{AgreeAt, AgreeIn, SamePod}
+use Rattle.np_kinds.proofs.KindRules.{IsAlikeAt, SameContact, admin_rules-same, net_rule-same}
+use Rattle.np_kinds.proofs.KindSelectors.{AgreeOn, selector-same}
+use Rattle.np_labels.specs.Selectors.{meets_selector}
+use Rattle.np_model.specs.declared.admin_policy.AdminPolicy.{AdminPolicy}
+use Rattle.np_model.specs.declared.admin_policy.BasePolicy.{BasePolicy}
+use Rattle.np_model.specs.declared.admin_policy.Subject.{Subject}
+use Rattle.np_model.specs.declared.direction.Direction.{Direction}
+use Rattle.np_model.specs.declared.direction.Direction.TheVariants.{Ingress, Egress}
+use Rattle.np_model.specs.declared.network_policy.NetPolicy.{NetPolicy}
+use Rattle.np_model.specs.declared.network_policy.NetRule.{NetRule}
+use Rattle.np_rules.specs.model.Ends.{Contact, PodEnd}
+use Rattle.np_rules.specs.model.NetTier.{placed_net_matches}
+use Rattle.np_rules.specs.model.Places.{PlacedNetRule, admin_places, admin_places_of, admin_rules_of, base_places, base_rules_of, net_places, net_places_of, net_rules_of}
+use Rattle.np_rules.specs.model.Selection.{net_selects, subject_selects}
+
+-- ---- which policies select
+
+subject-same : (p q : PodEnd) → SamePod p q → (subject : Subject) → AllByRecursion (AgreeOn p.labels q.labels) (keys_of_subject subject) → subject_selects subject p ≡ subject_selects subject q
+subject-same p q same subject agree =
+    let parts = All-parts (AgreeOn p.labels q.labels) (keys_of_selector subject.namespaces) (keys_of_selector subject.pods) agree in
+    ap (λ labels. meets_selector subject.namespaces labels && meets_selector subject.pods p.labels) same.namespace_labels
+    ∙ ap (λ b. meets_selector subject.namespaces q.namespace_labels && b) (selector-same p.labels q.labels subject.pods parts.1)
+
+net-same : (p q : PodEnd) → SamePod p q → (policy : NetPolicy) → AllByRecursion (AgreeOn p.labels q.labels) (keys_of_net_policy policy) → net_selects policy p ≡ net_selects policy q
+net-same p q same policy agree =
+    let parts = All-three (AgreeOn p.labels q.labels) (keys_of_selector policy.subject) (keys_of_net_direction policy.ingress) (keys_of_net_direction policy.egress) agree in
+    ap (λ namespace. bytes_eq policy.namespace namespace && meets_selector policy.subject p.labels) same.namespace
+    ∙ ap (λ b. bytes_eq policy.namespace q.namespace && b) (selector-same p.labels q.labels policy.subject parts.0)
+
+module _ (p q : PodEnd) (one other : Contact) (pods : SamePod p q) (same : SameContact one other) where
+  -- ---- admin policies
+
+  admin_rules : (direction : Direction) (policy : AdminPolicy) → AllByRecursion (AgreeAt one.far other.far) (keys_of_admin_policy policy) →
+      AllByRecursion (AgreeIn one.far other.far) (cidrs_of_admin_policy policy) → AllByRecursion (IsAlikeAt one other) (admin_rules_of direction policy)
+  admin_rules direction policy agree within =
+      let keys = All-three (AgreeAt one.far other.far) (keys_of_subject policy.subject) (flat_map keys_of_admin_rule policy.ingress) (flat_map keys_of_admin_rule policy.egress) agree in
+      let cidrs = All-parts (AgreeIn one.far other.far) (flat_map cidrs_of_rule policy.ingress) (flat_map cidrs_of_rule policy.egress) within in
+      by direction (admin_rules-same one other same policy.ingress keys.1.0 cidrs.0) (admin_rules-same one other same policy.egress keys.1.1 cidrs.1)
+    where
+      by : (direction : Direction) → AllByRecursion (IsAlikeAt one other) policy.ingress → AllByRecursion (IsAlikeAt one other) policy.egress →
+          AllByRecursion (IsAlikeAt one other) (admin_rules_of direction policy)
+      by Ingress ingress egress = ingress
+      by Egress ingress egress = egress
+
+  pub admin_places-same : (direction : Direction) (policies : List AdminPolicy) → AllByRecursion (AgreeOn p.labels q.labels) (flat_map keys_of_admin_policy policies) →
+      admin_places policies direction p ≡ admin_places policies direction q
+  admin_places-same direction [] agree = refl
+  admin_places-same direction (policy ∷ policies) agree =
+      let parts = All-parts (AgreeOn p.labels q.labels) (keys_of_admin_policy policy) (flat_map keys_of_admin_policy policies) agree in
+      let subject = All-three (AgreeOn p.labels q.labels) (keys_of_subject policy.subject) (flat_map keys_of_admin_rule policy.ingress) (flat_map keys_of_admin_rule policy.egress) parts.0 in
+      ap (λ b. (if b then admin_places_of direction policy else []) ++ admin_places policies direction p) (subject-same p q pods policy.subject subject.0)
+      ∙ ap (λ rest. (if subject_selects policy.subject q then admin_places_of direction policy else []) ++ rest) (admin_places-same direction policies parts.1)
+
+  pub admin_places-alike : (direction : Direction) (policies : List AdminPolicy) → AllByRecursion (AgreeAt one.far other.far) (flat_map keys_of_admin_policy policies) →
+      AllByRecursion (AgreeIn one.far other.far) (flat_map cidrs_of_admin_policy policies) → AllByRecursion (λ placed. IsAlikeAt one other placed.rule) (admin_places policies direction q)
+  admin_places-alike direction [] agree within = tt
+  admin_places-alike direction (policy ∷ policies) agree within =
+      let keys = All-parts (AgreeAt one.far other.far) (keys_of_admin_policy policy) (flat_map keys_of_admin_policy policies) agree in
+      let cidrs = All-parts (AgreeIn one.far other.far) (cidrs_of_admin_policy policy) (flat_map cidrs_of_admin_policy policies) within in
+      let here = All-numbered (IsAlikeAt one other) (λ placed. IsAlikeAt one other placed.rule) (λ numbered. record { policy = policy; place = numbered.0; rule = numbered.1 }) (λ numbered is. is) 0
+      (admin_rules_of direction policy) (admin_rules direction policy keys.0 cidrs.0) in
+      All-append (λ placed. IsAlikeAt one other placed.rule) (if subject_selects policy.subject q then admin_places_of direction policy else []) (admin_places policies direction q)
+      (All-if (λ placed. IsAlikeAt one other placed.rule) (subject_selects policy.subject q) (admin_places_of direction policy) here) (admin_places-alike direction policies keys.1 cidrs.1)
+
+  -- ---- the baseline
+
+  base_rules : (direction : Direction) (policy : BasePolicy) → AllByRecursion (AgreeAt one.far other.far) (keys_of_base_policy policy) →
+      AllByRecursion (AgreeIn one.far other.far) (cidrs_of_base_policy policy) → AllByRecursion (IsAlikeAt one other) (base_rules_of direction policy)
+  base_rules direction policy agree within =
+      let keys = All-three (AgreeAt one.far other.far) (keys_of_subject policy.subject) (flat_map keys_of_admin_rule policy.ingress) (flat_map keys_of_admin_rule policy.egress) agree in
+      let cidrs = All-parts (AgreeIn one.far other.far) (flat_map cidrs_of_rule policy.ingress) (flat_map cidrs_of_rule policy.egress) within in
+      by direction (admin_rules-same one other same policy.ingress keys.1.0 cidrs.0) (admin_rules-same one other same policy.egress keys.1.1 cidrs.1)
+    where
+      by : (direction : Direction) → AllByRecursion (IsAlikeAt one other) policy.ingress → AllByRecursion (IsAlikeAt one other) policy.egress →
+          AllByRecursion (IsAlikeAt one other) (base_rules_of direction policy)
+      by Ingress ingress egress = ingress
+      by Egress ingress egress = egress
+
+  pub base_places-same : (direction : Direction) (baseline : Option BasePolicy) → AllByRecursion (AgreeOn p.labels q.labels) (keys_of_baseline baseline) →
+      base_places baseline direction p ≡ base_places baseline direction q
+  base_places-same direction None agree = refl
+  base_places-same direction (Some policy) agree =
+      let subject = All-three (AgreeOn p.labels q.labels) (keys_of_subject policy.subject) (flat_map keys_of_admin_rule policy.ingress) (flat_map keys_of_admin_rule policy.egress) agree in
+      ap (λ b. if b then map (λ numbered. record { place = numbered.0; rule = numbered.1 }) (enumerate_from 0 (base_rules_of direction policy)) else [])
+      (subject-same p q pods policy.subject subject.0)
+
+  pub base_places-alike : (direction : Direction) (baseline : Option BasePolicy) → AllByRecursion (AgreeAt one.far other.far) (keys_of_baseline baseline) →
+      AllByRecursion (AgreeIn one.far other.far) (cidrs_of_baseline baseline) → AllByRecursion (λ placed. IsAlikeAt one other placed.rule) (base_places baseline direction q)
+  base_places-alike direction None agree within = tt
+  base_places-alike direction (Some policy) agree within =
+      All-if (λ placed. IsAlikeAt one other placed.rule) (subject_selects policy.subject q)
+      (map (λ numbered. record { place = numbered.0; rule = numbered.1 }) (enumerate_from 0 (base_rules_of direction policy)))
+      (All-numbered (IsAlikeAt one other) (λ placed. IsAlikeAt one other placed.rule) (λ numbered. record { place = numbered.0; rule = numbered.1 }) (λ numbered is. is) 0
+      (base_rules_of direction policy) (base_rules direction policy agree within))
+
+  -- ---- NetworkPolicies
+
+  -- the rule, as one of its policy's namespace, matches both contacts, or neither
+  abbrev IsPlacedAlike : PlacedNetRule → Type 0
+  IsPlacedAlike placed = placed_net_matches one placed ≡ placed_net_matches other placed
+
+  pub net_selects-same : (policies : List NetPolicy) → AllByRecursion (AgreeOn p.labels q.labels) (flat_map keys_of_net_policy policies) →
+      AllByRecursion (λ policy. net_selects policy p ≡ net_selects policy q) policies
+  net_selects-same policies agree =
+      All-weaker (λ policy. AllByRecursion (AgreeOn p.labels q.labels) (keys_of_net_policy policy)) (λ policy. net_selects policy p ≡ net_selects policy q) (net-same p q pods) policies
+      (All-flat (AgreeOn p.labels q.labels) keys_of_net_policy policies agree)
+
+  pub net_places-same : (direction : Direction) (policies : List NetPolicy) → AllByRecursion (λ policy. net_selects policy p ≡ net_selects policy q) policies →
+      net_places policies direction p ≡ net_places policies direction q
+  net_places-same direction [] selects = refl
+  net_places-same direction (policy ∷ policies) selects =
+      ap (λ b. (if b then net_places_of direction policy else []) ++ net_places policies direction p) selects.0
+      ∙ ap (λ rest. (if net_selects policy q then net_places_of direction policy else []) ++ rest) (net_places-same direction policies selects.1)
+
+  net_rules : (direction : Direction) (policy : NetPolicy) → AllByRecursion (AgreeAt one.far other.far) (keys_of_net_policy policy) →
+      AllByRecursion (λ rule. AllByRecursion (AgreeAt one.far other.far) (keys_of_net_rule rule)) (unwrap_or (net_rules_of direction policy) [])
+  net_rules direction policy agree =
+      let keys = All-three (AgreeAt one.far other.far) (keys_of_selector policy.subject) (keys_of_net_direction policy.ingress) (keys_of_net_direction policy.egress) agree in
+      by direction keys.1.0 keys.1.1
+    where
+      written : (rules : Option (List NetRule)) → AllByRecursion (AgreeAt one.far other.far) (keys_of_net_direction rules) →
+          AllByRecursion (λ rule. AllByRecursion (AgreeAt one.far other.far) (keys_of_net_rule rule)) (unwrap_or rules [])
+      written None all = tt
+      written (Some rules) all = All-flat (AgreeAt one.far other.far) keys_of_net_rule rules all
+
+      by : (direction : Direction) → AllByRecursion (AgreeAt one.far other.far) (keys_of_net_direction policy.ingress) →
+          AllByRecursion (AgreeAt one.far other.far) (keys_of_net_direction policy.egress) →
+          AllByRecursion (λ rule. AllByRecursion (AgreeAt one.far other.far) (keys_of_net_rule rule)) (unwrap_or (net_rules_of direction policy) [])
+      by Ingress ingress egress = written policy.ingress ingress
+      by Egress ingress egress = written policy.egress egress
+
+  pub net_places-alike : (direction : Direction) (policies : List NetPolicy) → AllByRecursion (AgreeAt one.far other.far) (flat_map keys_of_net_policy policies) →
+      AllByRecursion IsPlacedAlike (net_places policies direction q)
+  net_places-alike direction [] agree = tt
+  net_places-alike direction (policy ∷ policies) agree =
+      let keys = All-parts (AgreeAt one.far other.far) (keys_of_net_policy policy) (flat_map keys_of_net_policy policies) agree in
+      let here = All-numbered (λ rule. AllByRecursion (AgreeAt one.far other.far) (keys_of_net_rule rule)) IsPlacedAlike (λ numbered. record { policy = policy; place = numbered.0; rule = numbered.1 })
+      (λ numbered on. net_rule-same policy.namespace one other same numbered.1 on) 0 (unwrap_or (net_rules_of direction policy) []) (net_rules direction policy keys.0) in
+      All-append IsPlacedAlike (if net_selects policy q then net_places_of direction policy else []) (net_places policies direction q)
+      (All-if IsPlacedAlike (net_selects policy q) (net_places_of direction policy) here) (net_places-alike direction policies keys.1)

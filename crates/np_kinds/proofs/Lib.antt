@@ -1,0 +1,11 @@
+pub mod KindLists
+pub mod KindNumbers
+pub mod KindPeers
+pub mod KindRules
+pub mod KindSelectors
+pub mod KindSides
+pub mod KindVerdicts
+pub mod MemberLemmas
+pub mod PairLemmas
+pub mod ReachLemmas
+pub mod SideLemmas

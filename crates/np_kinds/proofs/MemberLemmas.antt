@@ -1,0 +1,136 @@
+-- The pods of workloads.
+use Rattle.std.proofs.Common.{◌≡◌, ◌≢◌, ◌<◌, ◌==◌, ◌&&◌, ℕ, List, [], ◌∷◌, Bool, true, false, Option, Some, None, Contains, length, slice_index, slice_index_or, slice_get, get_or, if◌then◌else◌}
+use Rattle.std.proofs.Common.{arith, refl, sym, subst, ◌∙◌, ap, eq-eqb, inl, inr}
+use Rattle.std.specs.Option.{option_map_or}
+use Rattle.std.specs.Prelude.{IsSomeAnd}
+use Rattle.std.proofs.lemmas.Bool.{and_parts, eqb-true, false_from_ne_true}
+use Rattle.std.proofs.lemmas.Bool.Decides.{eqb_tells}
+use Rattle.std.proofs.lemmas.List.Elements.{All-contains, Contains-get_or}
+use Rattle.std.proofs.lemmas.List.Folds.{Any-from_list_any, list_any_at}
+use Rattle.std.proofs.lemmas.Option.{slice_get-get_or}
+use Rattle.np_model.specs.declared.lists.EstateLists.{EstateLists}
+use Rattle.np_fold.specs.Workloads.{Folding, Workload, folding_of, has_member, members_of, number_of, workloads_of}
+use Rattle.np_fold.proofs.WorkloadLemmas.{first-is, member-by_number, number-in_workloads, pods-within}
+use Rattle.np_model.specs.declared.pod.Pod.{Pod}
+use Rattle.np_rules.specs.model.Ends.{pod_end}
+use Rattle.np_rules.specs.model.Verdict.{pod_or_none}
+use Rattle.np_kinds.specs.Between.{destination_pod, is_alone, source_pod}
+
+-- ---- workloads have pods
+
+workload-within : (lists : EstateLists) (number : ℕ) → number < length (folding_of lists).workloads → number < length (workloads_of lists)
+unfolding folding_of
+workload-within lists number within = within
+
+some_first : (xs : List ℕ) (P : ℕ → Type 0) → IsSomeAnd (slice_get xs 0) P → 0 < length xs
+some_first [] P some = absurd some
+some_first (x ∷ xs) P some = omega arith
+
+-- each workload has a pod
+pub members-some : (lists : EstateLists) (folding : Folding) (number : ℕ) → folding ≡ folding_of lists → number < length folding.workloads → 0 < length (members_of folding number)
+members-some lists folding number folded within =
+    let of : Folding → Type 0 = λ f. number < length f.workloads → 0 < length (members_of f number) in
+    subst of (sym folded) (λ here. some_first (members_of (folding_of lists) number) _ (first-is lists number (workload-within lists number here))) within
+
+-- each of its pods is one of the estate
+pub members-within : (lists : EstateLists) (folding : Folding) (number place : ℕ) → folding ≡ folding_of lists → number < length folding.workloads → Contains (members_of folding number) place →
+    place < length lists.pods
+members-within lists folding number place folded within has =
+    let of : Folding → Type 0 = λ f. number < length f.workloads → Contains (members_of f number) place → place < length lists.pods in
+    subst of (sym folded) (λ here has. All-contains (λ (p : ℕ). p < length lists.pods) (members_of (folding_of lists) number) place (pods-within lists number (workload-within lists number here)) has)
+    within has
+
+-- ---- the pods that stand for a workload
+
+-- the one for the source is one of its pods
+pub source-member : (folding : Folding) (number : ℕ) → 0 < length (members_of folding number) → Contains (members_of folding number) (source_pod folding number)
+source-member folding number some = Contains-get_or (members_of folding number) 0 0 some
+
+index-within : (same : Bool) (count : ℕ) → 0 < count → (same && count == 1) ≡ false → (if same then 1 else 0) < count
+index-within true count some alone = grind arith
+index-within false count some alone = some
+
+-- a workload meets itself alone where the destination has one pod
+is_alone-destination : (folding : Folding) (source destination : ℕ) → is_alone folding source destination ≡ (source == destination && length (members_of folding destination) == 1)
+is_alone-destination folding source destination =
+    elim (eqb_tells source destination) [
+      | inl same ↦ ap (λ (n : ℕ). source == destination && length (members_of folding n) == 1) same.1
+      | inr apart ↦ rw apart.0 refl
+    ]
+
+-- and that for the destination one of its, unless a workload of one pod meets itself
+pub destination-member : (folding : Folding) (source destination : ℕ) → 0 < length (members_of folding destination) → is_alone folding source destination ≡ false →
+    Contains (members_of folding destination) (destination_pod folding source destination)
+destination-member folding source destination some alone =
+    Contains-get_or (members_of folding destination) (if source == destination then 1 else 0) 0
+    (index-within (source == destination) (length (members_of folding destination)) some (sym (is_alone-destination folding source destination) ∙ alone))
+
+-- ---- members and numbers
+
+-- members are found by the question
+has_member-from : (one : Workload) (place : ℕ) → Contains one.members place → has_member place one ≡ true
+has_member-from one place has = list_any_at (λ (member : ℕ). member == place) one.members has.0 place has.1 (eq-eqb _ place has.2)
+
+-- and no other places
+from_has_member : (one : Workload) (place : ℕ) → has_member place one ≡ true → Contains one.members place
+from_has_member one place has =
+    let any = Any-from_list_any (λ (member : ℕ). member == place) one.members has in
+    let at : ℕ → Type 0 = λ n. slice_index_or one.members any.0 n ≡ n in
+    (any.0, any.2, subst at (eqb-true any.1 place any.4) any.3)
+
+nothing_in_none : (place : ℕ) → Contains [] place → ⊥
+nothing_in_none place has = omega (arith, has.1)
+
+number-by : (lists : EstateLists) (number place : ℕ) (found : Option Workload) → slice_get (workloads_of lists) number ≡ found → place < length lists.pods →
+    Contains (option_map_or (λ one. one.members) found []) place → number_of lists place ≡ number
+number-by lists number place None is within has = absurd (nothing_in_none place has)
+number-by lists number place (Some one) is within has =
+    sym (eqb-true number (number_of lists place) (sym (member-by_number lists place number one within is) ∙ has_member-from one place has))
+
+-- a member of a workload has the workload's number
+pub member-number : (lists : EstateLists) (number place : ℕ) → place < length lists.pods → Contains (members_of (folding_of lists) number) place → number_of lists place ≡ number
+unfolding folding_of
+member-number lists number place within has = number-by lists number place (slice_get (workloads_of lists) number) refl within has
+
+own-by : (lists : EstateLists) (place : ℕ) (found : Option Workload) → slice_get (workloads_of lists) (number_of lists place) ≡ found → place < length lists.pods →
+    Contains (option_map_or (λ one. one.members) found []) place
+own-by lists place None is within = absurd (none (workloads_of lists) (number_of lists place) (number-in_workloads lists place within) is)
+  where
+    none : (xs : List Workload) (i : ℕ) → i < length xs → slice_get xs i ≡ None → ⊥
+    none [] i below is = omega arith
+    none (x ∷ xs) i below is = let here : slice_get (x ∷ xs) i ≡ Some (get_or (x ∷ xs) i x) = slice_get-get_or (x ∷ xs) i x below in cc
+own-by lists place (Some one) is within =
+    from_has_member one place (member-by_number lists place (number_of lists place) one within is ∙ eq-eqb (number_of lists place) (number_of lists place) refl)
+
+-- and a pod is a member of the workload of its number
+pub own-member : (lists : EstateLists) (place : ℕ) → place < length lists.pods → Contains (members_of (folding_of lists) (number_of lists place)) place
+unfolding folding_of
+own-member lists place within = own-by lists place (slice_get (workloads_of lists) (number_of lists place)) refl within
+
+-- ---- two pods
+
+only_one : (x p : ℕ) (xs : List ℕ) → Contains (x ∷ xs) p → length (x ∷ xs) ≡ 1 → x ≡ p
+only_one x p xs has one =
+    let first : has.0 ≡ 0 = omega (arith, has.1, one) in
+    let at : ℕ → Type 0 = λ k. slice_index_or (x ∷ xs) k p ≡ p in
+    subst at first has.2
+
+two_in_one : (xs : List ℕ) (p q : ℕ) → Contains xs p → Contains xs q → p ≢ q → length xs ≡ 1 → ⊥
+two_in_one [] p q has has' differ one = nothing_in_none p has
+two_in_one (x ∷ xs) p q has has' differ one = differ (sym (only_one x p xs has one) ∙ only_one x q xs has' one)
+
+-- workloads of two different pods are no workload of one pod with itself
+pub not-alone : (folding : Folding) (a b p q : ℕ) → Contains (members_of folding a) p → Contains (members_of folding b) q → p ≢ q → is_alone folding a b ≡ false
+not-alone folding a b p q has has' differ =
+    false_from_ne_true (is_alone folding a b) (λ yes.
+    let parts = and_parts (a == b) (length (members_of folding a) == 1) yes in
+    let in_a : Contains (members_of folding a) q = subst (λ (n : ℕ). Contains (members_of folding n) q) (sym (eqb-true a b parts.0)) has' in
+    two_in_one (members_of folding a) p q has in_a differ (eqb-true (length (members_of folding a)) 1 parts.1))
+
+-- the pod at the first of some places, as rules see it
+pub pod-first : (pods all : List Pod) (members others : List ℕ) (a : Pod) → pods ≡ all → members ≡ others → slice_index members 0 < length pods → a ≡ get_or pods (slice_index members 0) a →
+    pod_end a ≡ pod_or_none (slice_get all (slice_index others 0))
+pod-first pods all members others a same same' within is =
+    sym (ap pod_or_none (slice_get-get_or pods (slice_index members 0) a within ∙ ap (λ (x : Pod). Some x) (sym is)))
+    ∙ ap (λ (xs : List Pod). pod_or_none (slice_get xs (slice_index members 0))) same
+    ∙ ap (λ (ms : List ℕ). pod_or_none (slice_get all (slice_index ms 0))) same'

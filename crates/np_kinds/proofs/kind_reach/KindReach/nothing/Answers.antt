@@ -1,0 +1,6 @@
+use Rattle.np_model.specs.declared.direction.Direction.TheVariants.{Egress, Ingress}
+use Rattle.np_kinds.proofs.ReachLemmas.{reach-nothing}
+use Rattle.np_kinds.proofs.kind_reach.KindReach.nothing.Goals as goal
+
+pub returns : goal.returns
+returns c = λ lists. rw (c.nothing.ensures, c.nothing-2.ensures) (record { sent = reach-nothing lists Egress; received = reach-nothing lists Ingress })

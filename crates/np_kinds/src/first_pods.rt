@@ -1,0 +1,34 @@
+//! The first pods of workloads, which stand for these.
+ghost use Rattle.std.specs.Prelude.{◌≡◌, IfOk};
+ghost use Rattle.np_kinds.specs.Between.{IsWorkload};
+ghost use Rattle.np_kinds.specs.Kinds as spec;
+ghost use Rattle.np_rules.specs.model.Ends.{pod_end};
+
+use np_base::NoMemory;
+use np_fold::Folded;
+use np_model::{Direction, Pod};
+use np_rules::PodRules;
+use std::alloc::Global;
+
+/// The first pod of a workload.
+pub fn first_pod(folded: &Folded, workload: u32) -> &Pod
+    requires { IsWorkload folded.now workload }
+    ensures { pod_end result.now ≡ spec.first_end folded.now workload }
+{
+    let place = folded.workloads().members(workload)[0];
+    &folded.estate().pods()[place as usize]
+}
+
+/// The rules of the first pod of a workload in a direction.
+pub fn first_side<'a>(
+    alloc: Global,
+    folded: &'a Folded,
+    direction: Direction,
+    workload: u32,
+) -> Result<PodRules<'a>, NoMemory>
+    requires { IsWorkload folded.now workload }
+    ensures { IfOk result (λ made. made ≡ spec.first_side folded.now direction workload) }
+{
+    let pod = folded.workloads().members(workload)[0];
+    PodRules::of(alloc, folded.estate(), pod, direction)
+}

@@ -1,0 +1,127 @@
+//! The rules of the pods that stand for kinds of workloads.
+ghost use Rattle.std.specs.Prelude.{◌≡◌, OnOk, is_some, slice_index, true};
+ghost use Rattle.np_fold.specs.Workloads.{folding_of};
+ghost use Rattle.np_kinds.specs.Between.{IsWorkload};
+ghost use Rattle.np_kinds.specs.Kinds.{AreKnown, KnowsMore, StayKnown, kind_side, known_at, knows};
+ghost use Rattle.np_model.specs.Lawful.{IsLawful};
+ghost use Rattle.np_model.specs.declared.direction.Direction.TheVariants.{Egress, Ingress};
+
+use crate::first_pods::first_side;
+use np_base::NoMemory;
+use np_fold::Folded;
+use np_model::Direction;
+use np_rules::PodRules;
+use std::alloc::Global;
+use std::collections::HashMap;
+use std::marker::Model;
+
+/// The rules of the pods that stand for kinds of workloads, as they send and as they receive. No rule tells pods of one kind
+/// apart, so that the first pod of a kind's first workload stands for all. The rules of a kind are found when they are first
+/// asked for, and kept. Contracts see the lists of the estate, and of which workloads' kinds the rules are known.
+#[derive(Drop)]
+pub struct Sides<'a> {
+    alloc: Global,
+    folded: &'a Folded,
+    // By the numbers of kinds, as these send and as they receive.
+    senders: HashMap<u32, PodRules<'a>>,
+    receivers: HashMap<u32, PodRules<'a>>,
+}
+
+impl<'a> Model for Sides<'a> {
+    ghost use Rattle.np_kinds.specs.Kinds.{AreKnown, KnownSides};
+    ghost use Rattle.np_model.specs.declared.direction.Direction.TheVariants.{Egress, Ingress};
+
+    ghost Value = { KnownSides };
+
+    ghost view = { λ s. record { lists = s.folded.now; senders = s.senders.entries; receivers = s.receivers.entries } };
+
+    ghost invariant = { λ s. AreKnown s.folded.now Egress s.senders.entries × AreKnown s.folded.now Ingress s.receivers.entries };
+}
+
+impl<'a> Sides<'a> {
+    /// No rules are known. It takes no memory.
+    pub fn new(alloc: Global, folded: &'a Folded) -> Sides<'a>
+        ensures { result.lists ≡ folded.now }
+    {
+        Sides {
+            alloc,
+            folded,
+            senders: HashMap::new(alloc),
+            receivers: HashMap::new(alloc),
+        }
+    }
+
+    /// The estate with its workloads.
+    pub fn folded(&self) -> &'a Folded
+        ensures { result.now ≡ self.now.lists }
+    {
+        self.folded
+    }
+
+    /// Finds the rules of a workload's kind in a direction, unless they are known. On `NoMemory` what was known is known.
+    pub fn ask(&mut self, direction: Direction, workload: u32) -> Result<(), NoMemory>
+        requires { IsWorkload self.old.lists workload }
+        ensures known { OnOk result (knows self.new direction workload ≡ true) }
+        ensures more { KnowsMore self.old self.new }
+    {
+        let alloc = self.alloc;
+        let folded = self.folded;
+        match direction {
+            Direction::Egress => find(alloc, folded, direction, workload, &mut self.senders),
+            Direction::Ingress => find(alloc, folded, direction, workload, &mut self.receivers),
+        }
+    }
+
+    /// The same for two workloads, of the one as it sends and of the other as it receives.
+    pub fn ask_pair(&mut self, source: u32, destination: u32) -> Result<(), NoMemory>
+        requires source { IsWorkload self.old.lists source }
+        requires destination { IsWorkload self.old.lists destination }
+        ensures sender { OnOk result (knows self.new Egress source ≡ true) }
+        ensures receiver { OnOk result (knows self.new Ingress destination ≡ true) }
+        ensures more { KnowsMore self.old self.new }
+    {
+        self.ask(Direction::Egress, source)?;
+        self.ask(Direction::Ingress, destination)
+    }
+
+    /// The rules of a workload's kind in a direction, which were asked for. The lists of the estate are lawful.
+    pub fn at(&self, direction: Direction, workload: u32) -> &PodRules<'a>
+        requires workload { IsWorkload self.now.lists workload }
+        requires known { knows self.now direction workload ≡ true }
+        ensures side { result.now ≡ kind_side self.now.lists direction workload }
+        ensures lawful { IsLawful self.now.lists }
+    {
+        let kind = self.folded.workloads().kind_of(workload);
+        let sides = match direction {
+            Direction::Egress => &self.senders,
+            Direction::Ingress => &self.receivers,
+        };
+        sides.get(&kind).unwrap()
+    }
+}
+
+// Finds the rules of a workload's kind in a direction, unless they are known.
+fn find<'a>(
+    alloc: Global,
+    folded: &'a Folded,
+    direction: Direction,
+    workload: u32,
+    sides: &mut HashMap<u32, PodRules<'a>>,
+) -> Result<(), NoMemory>
+    requires workload { IsWorkload folded.now workload }
+    requires known { AreKnown folded.now direction sides.old.entries }
+    ensures there { OnOk result
+        (is_some (known_at sides.new.entries (slice_index (folding_of folded.now).kinds workload)) ≡ true) }
+    ensures more { StayKnown sides.old.entries sides.new.entries }
+    ensures known { AreKnown folded.now direction sides.new.entries }
+{
+    let workloads = folded.workloads();
+    let kind = workloads.kind_of(workload);
+    if sides.contains_key(&kind) {
+        return Ok(());
+    }
+    let first = workloads.first_of_kinds()[kind as usize];
+    let side = first_side(alloc, folded, direction, first)?;
+    sides.insert(kind, side)?;
+    Ok(())
+}

@@ -1,5 +1,0 @@
-use Rattle.np_table.proofs.KindVerdicts.{SameKindEnd-ends, end_rule_count-same}
-use Rattle.np_table.proofs.kind_laws.kinds_give_the_rule_counts.Goals as goal
-
-pub returns : goal.returns
-returns c lists direction a a' kind = end_rule_count-same lists direction a a' (SameKindEnd-ends lists a a' kind)
