@@ -25,7 +25,8 @@ use Rattle.np_fold.specs.Workloads.{folding_of}
 use Rattle.np_model.specs.declared.direction.Direction.{Direction}
 use Rattle.np_model.specs.declared.direction.Direction.TheVariants.{Egress, Ingress}
 use Rattle.np_table.specs.Rows.{address_rows, rows_of_addresses}
-use Rattle.np_table.specs.Table.{address_allows, estate_table, table_of}
+use Rattle.np_kinds.specs.Between.{address_allows}
+use Rattle.np_table.specs.Table.{estate_table, table_of}
 
 -- the rows of a workload are those of what passes between it and each address
 pub table_rows : (lists : EstateLists) (work : ℕ) (direction : Direction) →

@@ -32,9 +32,9 @@ use Rattle.np_model.specs.declared.lists.EstateLists.{EstateLists}
 use Rattle.np_fold.specs.Workloads.{Workload, folding_of, first_of as first_named, members_of, named_first_pods, number_of, pods_alike, workload, workloads_of}
 use Rattle.np_names.specs.declared.named.Named.{Named}
 use Rattle.np_model.specs.declared.direction.Direction.TheVariants.{Egress, Ingress}
-use Rattle.np_table.proofs.MemberLemmas.{destination-member, member-number, members-some, members-within, not-alone, own-member, source-member}
-use Rattle.np_table.proofs.PairLemmas.{between_pods-pair_allows, pair_allows-between, with_address-address_allows}
-use Rattle.np_table.specs.Table.{IsWorkload, address_allows, destination_pod, is_alone, pair_allows, source_pod}
+use Rattle.np_kinds.proofs.MemberLemmas.{destination-member, member-number, members-some, members-within, not-alone, own-member, source-member}
+use Rattle.np_kinds.proofs.PairLemmas.{between_pods-pair_allows, pair_allows-between, with_address-address_allows}
+use Rattle.np_kinds.specs.Between.{IsWorkload, address_allows, destination_pod, is_alone, pair_allows, source_pod}
 
 -- ---- from a workload
 

@@ -28,7 +28,7 @@ use Rattle.np_model.specs.Families.{families_of, has_family, or_four}
 use Rattle.np_model.specs.declared.lists.EstateLists.{EstateLists}
 use Rattle.np_model.specs.declared.pod.Pod.{Pod}
 use Rattle.np_fold.specs.Workloads.{folding_of}
-use Rattle.np_table.specs.Table.{is_alone}
+use Rattle.np_kinds.specs.Between.{is_alone}
 
 -- ---- members and orders
 

@@ -1,8 +1,8 @@
 -- The first packet between two ends.
-use Rattle.std.proofs.Common.{◌≡◌, Bor, ℕ, suc, ◌<◌, ◌≤◌, ◌==◌, ◌&&◌, List, [], ◌∷◌, Bool, true, false, Option, Some, None, drop, get_or, length, map, option_map, is_some, not, refl, sym, ap, ◌∙◌}
+use Rattle.std.proofs.Common.{◌≡◌, ℕ, suc, ◌<◌, ◌≤◌, ◌==◌, ◌&&◌, List, [], ◌∷◌, Bool, true, false, Option, Some, None, drop, get_or, length, map, option_map, is_some, not, refl, sym, ap, ◌∙◌}
 use Rattle.std.proofs.Common.{inl, inr, if◌then◌else◌}
 use Rattle.std.specs.List.{find, range_with_len}
-use Rattle.std.specs.Option.{option_copied, option_or}
+use Rattle.std.specs.Option.{option_or}
 use Rattle.std.proofs.Math.Seq.{drop-cons}
 use Rattle.std.proofs.lemmas.List.{drop_all}
 use Rattle.std.proofs.lemmas.Bool.{and_parts, cases_Bool, eqb-true, ne_eqb}
@@ -24,15 +24,11 @@ use Rattle.np_model.specs.Families.{families_of}
 use Rattle.np_model.specs.Lawful.{IsLawful}
 use Rattle.np_model.specs.declared.lists.EstateLists.{EstateLists}
 use Rattle.np_fold.specs.Workloads.{folding_of, members_of}
-use Rattle.np_model.specs.declared.direction.Direction.TheVariants.{Egress, Ingress}
-use Rattle.np_rules.specs.PodSides.{PodSide}
-use Rattle.np_table.proofs.KindLemmas.{kinds-by}
-use Rattle.np_table.proofs.PairLemmas.{pair_allows-firsts, pair_allows-kinds}
-use Rattle.np_table.proofs.RangeSets.{conns_of-agrees}
+use Rattle.np_kinds.proofs.KindNumbers.{kinds-by}
+use Rattle.np_kinds.proofs.PairLemmas.{pair_allows-kinds}
 use Rattle.np_table.proofs.SetLemmas.{has_spot-conns_of}
-use Rattle.np_table.specs.PairRules.{first_side}
 use Rattle.np_table.specs.Right.{conns_of}
-use Rattle.np_table.specs.Table.{IsWorkload, between_pods, is_alone, pair_allows, source_pod}
+use Rattle.np_kinds.specs.Between.{IsWorkload, is_alone, pair_allows}
 
 -- ---- the first of a list in a loop
 
@@ -60,26 +56,6 @@ none_of_is None wanted none is yes_none same = sym same
 none_of_is (Some y) wanted none is yes_none same = cc
 
 -- ---- what passes between workloads
-
-same_some : (a b : PodSide) → Some a ≡ Some b → a ≡ b
-same_some a b is = cc
-
--- the rules that are given of those that are known
-pub known-is : (known : Option PodSide) (found : Option (Bor PodSide)) (given : Bor PodSide) (side : PodSide) → found ≡ Some given → option_copied found ≡ known → known ≡ Some side → given.now ≡ side
-known-is known found given side is copied there = same_some given.now side (ap option_copied (sym is) ∙ copied ∙ there)
-
--- two workloads are told by the rules of their first pods, also where they are one
-pub passing-is : (lists : EstateLists) (source destination : ℕ) (family : Family) (sender receiver : PodSide) → sender ≡ first_side lists Egress source →
-    receiver ≡ first_side lists Ingress destination → IsLawful lists → IsWorkload lists source → IsWorkload lists destination → is_alone
-    (folding_of lists) source destination ≡ false → conns_of (between_pods sender.lists sender.pod receiver.pod family) ≡ conns_of (pair_allows lists
-    (folding_of lists) source destination family)
-passing-is lists source destination family sender receiver sends receives lawful source_in destination_in apart =
-    let from = (kinds-by lists source source_in).0 in
-    let to = (kinds-by lists destination destination_in).0 in
-    conns_of-agrees (between_pods sender.lists sender.pod receiver.pod family) (pair_allows lists (folding_of lists) source destination family) (λ spot is.
-    ap (λ (side : PodSide). between_pods side.lists side.pod receiver.pod family spot) sends
-    ∙ ap (λ (side : PodSide). between_pods lists (source_pod (folding_of lists) source) side.pod family spot) receives
-    ∙ sym (pair_allows-firsts lists source source destination destination family spot lawful from from to to refl refl apart))
 
 -- the first by the set of what passes
 by_set : (lists : EstateLists) (wanted : Wanted) (conns passes : Conns) (a b : ℕ) (family : Family) → passes ≡ conns_of (pair_allows lists (folding_of lists) a b family) →
@@ -160,16 +136,15 @@ settled-more lists wanted conns pairs more a b lawful a_in b_in differ none has 
 
 -- ---- from a workload
 
-pub from-work : (lists : EstateLists) (wanted : Wanted) (conns : Conns) (ends : Ends) (source : ℕ) (destinations : List ℕ) → ends.works ≡ destinations →
-    counter_from lists wanted conns ends (Work source) ≡ option_or (first_of (λ destination. counter_between lists wanted conns (Work source) (Work destination)) destinations)
+pub from-work : (lists : EstateLists) (wanted : Wanted) (conns : Conns) (ends : Ends) (source : ℕ) →
+    counter_from lists wanted conns ends (Work source) ≡ option_or (first_of (λ destination. counter_between lists wanted conns (Work source) (Work destination)) ends.works)
     (first_of (λ address. counter_between lists wanted conns (Work source) (At address)) (addresses_of ends.block))
 unfolding counter_from
-from-work lists wanted conns ends source destinations are =
+from-work lists wanted conns ends source =
     first_of-append (counter_between lists wanted conns (Work source)) (map Work ends.works) (map At (addresses_of ends.block))
     ∙ ap (λ first. option_or first (first_of (counter_between lists wanted conns (Work source)) (map At (addresses_of ends.block))))
-    (first_of-map (counter_between lists wanted conns (Work source)) Work ends.works
-    ∙ ap (first_of (λ destination. counter_between lists wanted conns (Work source) (Work destination))) are)
-    ∙ ap (λ rest. option_or (first_of (λ destination. counter_between lists wanted conns (Work source) (Work destination)) destinations) rest)
+    (first_of-map (counter_between lists wanted conns (Work source)) Work ends.works)
+    ∙ ap (λ rest. option_or (first_of (λ destination. counter_between lists wanted conns (Work source) (Work destination)) ends.works) rest)
     (first_of-map (counter_between lists wanted conns (Work source)) At (addresses_of ends.block))
 
 -- ---- workloads between which nothing passes

@@ -20,7 +20,7 @@ use Rattle.np_model.specs.Families.{families_of}
 use Rattle.np_model.specs.declared.lists.EstateLists.{EstateLists}
 use Rattle.np_fold.specs.Workloads.{folding_of}
 use Rattle.np_model.specs.declared.direction.Direction.TheVariants.{Egress, Ingress}
-use Rattle.np_table.specs.Table.{address_allows, is_alone, pair_allows}
+use Rattle.np_kinds.specs.Between.{address_allows, is_alone, pair_allows}
 
 -- ---- ends
 

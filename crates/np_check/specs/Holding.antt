@@ -16,7 +16,7 @@ use Rattle.np_fold.specs.Workloads.{number_of}
 use Rattle.np_model.specs.declared.direction.Direction.TheVariants.{Egress, Ingress}
 use Rattle.np_rules.specs.model.Ends.{pod}
 use Rattle.np_rules.specs.model.Verdict.{pod_at}
-use Rattle.np_table.specs.Table.{between_pods, with_address}
+use Rattle.np_kinds.specs.Between.{between_pods, with_address}
 
 -- the pod at a place is one of the workloads of a side
 abbrev pub IsOf : EstateLists → ℕ → Ends → Type 0

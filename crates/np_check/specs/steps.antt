@@ -1,5 +1,4 @@
 -- What the steps of the code make, which private contracts and proofs cite: no public contract needs it.
 pub mod Broken
 pub mod Cuts
-pub mod Known
 pub mod Pairs

@@ -10,7 +10,7 @@ ghost use Rattle.np_check.specs.steps.Broken as spec;
 ghost use Rattle.np_check.specs.declared.counterexample.PlaceEnd.TheVariants.{At, Work};
 ghost use Rattle.np_conns.specs.declared.port_spot.PortSpot.{PortSpot};
 ghost use Rattle.np_table.specs.Rows.{rows_of_addresses};
-ghost use Rattle.np_table.specs.Table.{IsWorkload};
+ghost use Rattle.np_kinds.specs.Between.{IsWorkload};
 
 use crate::asked::Asked;
 use crate::checker::Checker;

@@ -1,16 +1,13 @@
 //! Whether the statements of a cluster hold.
-ghost use Rattle.std.specs.Prelude.{◌≡◌, ◌≤◌, false, nat_eq, true, All, IfOk, OnOk, Some};
-ghost use Rattle.std.specs.HashMap.{get};
+ghost use Rattle.std.specs.Prelude.{◌≡◌, ◌≤◌, false, true, All, IfOk};
 ghost use Rattle.np_addr.specs.declared.address.Family.{Family as SpecFamily};
 ghost use Rattle.np_check.specs.Counters.{counter_of};
-ghost use Rattle.np_check.specs.steps.Known.{AreKnown};
 ghost use Rattle.np_conns.specs.declared.port_spot.PortSpot.{PortSpot};
-ghost use Rattle.np_model.specs.Lawful.{IsLawful};
 ghost use Rattle.np_fold.specs.Workloads.{folding_of};
-ghost use Rattle.np_table.specs.PairRules.{first_side};
 ghost use Rattle.np_table.specs.Right.{conns_of};
 ghost use Rattle.np_table.specs.Rows.{address_rows};
-ghost use Rattle.np_table.specs.Table.{IsWorkload, estate_table, is_alone, pair_allows};
+ghost use Rattle.np_kinds.specs.Between.{IsWorkload, is_alone, pair_allows};
+ghost use Rattle.np_table.specs.Table.{estate_table};
 
 use crate::addresses::first_from_addresses;
 use crate::asked::Asked;
@@ -21,28 +18,24 @@ use np_addr::Family;
 use np_base::{NoMemory, Seq};
 use np_conns::ConnSet;
 use np_fold::Folded;
+use np_kinds::{KindReach, Sides};
 use np_model::Direction;
-use np_rules::PodRules;
 use np_steps::Steps;
-use np_table::{AddressRow, KindReach, rows_by_addresses, set_between};
+use np_table::{AddressRow, address_rows_by_kind, set_by_kinds};
 use std::alloc::Global;
-use std::collections::HashMap;
 use std::marker::Model;
 use std::sync::ledger::Ledger;
 
 // From so many pairs a workload on it is worth it to find out first which kinds may send anything to which.
 const PAIRS_PER_WORKLOAD: u64 = 50;
 
-/// A cluster of which statements are checked, one after the other. The rules of a workload are found when they are first
-/// asked for, once as it sends and once as it receives, and kept for the statements to come. Which kinds may send anything
-/// to which is found once many pairs were asked for. Contracts see the lists of the cluster.
+/// A cluster of which statements are checked, one after the other. The rules of a kind of workloads are found when they are
+/// first asked for, once as it sends and once as it receives, and kept for the statements to come. Which kinds may send
+/// anything to which is found once many pairs were asked for. Contracts see the lists of the cluster.
 #[derive(Drop)]
 pub struct Checker<'a> {
     alloc: Global,
-    folded: &'a Folded,
-    // The rules of the first pods of workloads, by the numbers of these, as they send and as they receive.
-    senders: HashMap<u32, PodRules<'a>>,
-    receivers: HashMap<u32, PodRules<'a>>,
+    sides: Sides<'a>,
     // How many pairs of workloads were asked for.
     pairs: u64,
     reach: Option<KindReach>,
@@ -53,16 +46,12 @@ impl<'a> Model for Checker<'a> {
 
     ghost Value = { EstateLists };
 
-    ghost use Rattle.np_check.specs.steps.Known.{AreKnown};
-    ghost use Rattle.np_model.specs.declared.direction.Direction.TheVariants.{Egress, Ingress};
-
-    ghost view = { λ c. c.folded.now };
+    ghost view = { λ c. c.sides.lists };
 
     ghost use Rattle.std.specs.Prelude.{IfSome};
-    ghost use Rattle.np_table.specs.PairRules.{IsKindReach};
+    ghost use Rattle.np_kinds.specs.Kinds.{IsKindReach};
 
-    ghost invariant = { λ c. AreKnown c.folded.now Egress c.senders × AreKnown c.folded.now Ingress c.receivers
-        × IfSome c.reach (IsKindReach c.folded.now) };
+    ghost invariant = { λ c. IfSome c.reach (IsKindReach c.sides.lists) };
 }
 
 impl<'a> Checker<'a> {
@@ -72,9 +61,7 @@ impl<'a> Checker<'a> {
     {
         Checker {
             alloc,
-            folded,
-            senders: HashMap::new(alloc),
-            receivers: HashMap::new(alloc),
+            sides: Sides::new(alloc, folded),
             pairs: 0,
             reach: None,
         }
@@ -97,8 +84,7 @@ impl<'a> Checker<'a> {
         ensures least { steps.old ≤ steps.new }
     {
         let alloc = self.alloc;
-        let folded = self.folded;
-        let count = folded.workloads().count();
+        let count = self.folded().workloads().count();
         let sources = statement.sources(alloc, count)?;
         let destinations = statement.destinations(alloc, count)?;
         self.expect(sources.len() as u64, destinations.len() as u64)?;
@@ -107,8 +93,7 @@ impl<'a> Checker<'a> {
             wanted: question.wanted,
             conns: &question.conns,
         };
-        let ends = &question.destination;
-        let found = first_from_works(self, &asked, &sources, &destinations, ends, steps)?;
+        let found = first_from_works(self, &asked, &sources, &question.destination, steps)?;
         if found.is_some() {
             return Ok(found);
         }
@@ -122,9 +107,10 @@ impl<'a> Checker<'a> {
     {
         let pairs = sources.saturating_mul(destinations);
         self.pairs = self.pairs.saturating_add(pairs);
-        let few = PAIRS_PER_WORKLOAD * u64::from(self.folded.workloads().count());
+        let folded = self.sides.folded();
+        let few = PAIRS_PER_WORKLOAD * u64::from(folded.workloads().count());
         if self.reach.is_none() && self.pairs > few {
-            self.reach = Some(KindReach::of(self.alloc, self.folded)?);
+            self.reach = Some(KindReach::of(self.alloc, folded)?);
         }
         Ok(())
     }
@@ -137,7 +123,7 @@ impl<'a> Checker<'a> {
             pair_allows self.now (folding_of self.now) source destination family spot ≡ false }
     {
         match &self.reach {
-            Some(reach) => reach.is_silent(self.folded, source, destination),
+            Some(reach) => reach.is_silent(self.sides.folded(), source, destination),
             None => false,
         }
     }
@@ -151,7 +137,7 @@ impl<'a> Checker<'a> {
     pub(crate) fn folded(&self) -> &'a Folded
         ensures { result.now ≡ self.now }
     {
-        self.folded
+        self.sides.folded()
     }
 
     /// What passes between a workload and each address: from the addresses to it in the direction of ingress, and from it to
@@ -167,20 +153,11 @@ impl<'a> Checker<'a> {
         ensures same { self.new ≡ self.old }
         ensures least { steps.old ≤ steps.new }
     {
-        let alloc = self.alloc;
-        let folded = self.folded;
-        match direction {
-            Direction::Egress => {
-                rows_by_known(alloc, folded, direction, work, &mut self.senders, steps)
-            }
-            Direction::Ingress => {
-                rows_by_known(alloc, folded, direction, work, &mut self.receivers, steps)
-            }
-        }
+        address_rows_by_kind(self.alloc, &mut self.sides, work, direction, steps)
     }
 
-    /// The protocols and ports that pass from a workload to another in a family, by the rules of their first pods. No rule
-    /// tells the pods of a workload apart, so this is right of a workload with itself, too.
+    /// The protocols and ports that pass from a workload to another in a family, by the rules of their kinds. It is right of a
+    /// workload with itself, too.
     pub(crate) fn passing<L: Ledger>(
         &mut self,
         source: u32,
@@ -196,66 +173,13 @@ impl<'a> Checker<'a> {
         ensures same { self.new ≡ self.old }
         ensures least { steps.old ≤ steps.new }
     {
-        let alloc = self.alloc;
-        ask(
-            alloc,
-            self.folded,
-            Direction::Egress,
+        set_by_kinds(
+            self.alloc,
+            &mut self.sides,
             source,
-            &mut self.senders,
-        )?;
-        ask(
-            alloc,
-            self.folded,
-            Direction::Ingress,
             destination,
-            &mut self.receivers,
-        )?;
-        let sender = self.senders.get(&source).unwrap();
-        let receiver = self.receivers.get(&destination).unwrap();
-        set_between(alloc, sender, receiver, family, steps)
+            family,
+            steps,
+        )
     }
-}
-
-// What passes between a workload and each address in a direction, by its rules, which are found unless they are known.
-fn rows_by_known<'a, L: Ledger>(
-    alloc: Global,
-    folded: &'a Folded,
-    direction: Direction,
-    work: u32,
-    known: &mut HashMap<u32, PodRules<'a>>,
-    steps: &mut Steps<L>,
-) -> Result<Seq<AddressRow>, NoMemory>
-    requires work { IsWorkload folded.now work }
-    requires known { AreKnown folded.now direction known.old }
-    ensures rows { IfOk result (λ made. made ≡ address_rows (estate_table folded.now) work direction) }
-    ensures known { AreKnown folded.now direction known.new }
-    ensures least { steps.old ≤ steps.new }
-{
-    ask(alloc, folded, direction, work, known)?;
-    let near = known.get(&work).unwrap();
-    rows_by_addresses(alloc, near, steps)
-}
-
-// Finds the rules of a workload in a direction, unless they are known. The lists of the cluster are lawful.
-fn ask<'a>(
-    alloc: Global,
-    folded: &'a Folded,
-    direction: Direction,
-    work: u32,
-    known: &mut HashMap<u32, PodRules<'a>>,
-) -> Result<(), NoMemory>
-    requires work { IsWorkload folded.now work }
-    requires known { AreKnown folded.now direction known.old }
-    ensures there { OnOk result (get nat_eq known.new work ≡ Some (first_side folded.now direction work)) }
-    ensures known { AreKnown folded.now direction known.new }
-    ensures lawful { IsLawful folded.now }
-{
-    let members = folded.workloads().members(work);
-    if known.contains_key(&work) {
-        return Ok(());
-    }
-    let rules = PodRules::of(alloc, folded.estate(), members[0], direction)?;
-    known.insert(work, rules)?;
-    Ok(())
 }

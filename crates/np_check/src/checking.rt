@@ -4,7 +4,7 @@ ghost use Rattle.np_check.specs.Counters.{counter_from};
 ghost use Rattle.np_check.specs.Firsts.{first_of};
 ghost use Rattle.np_check.specs.steps.Pairs.{AreSettled};
 ghost use Rattle.np_check.specs.declared.counterexample.PlaceEnd.TheVariants.{Work};
-ghost use Rattle.np_table.specs.Table.{IsWorkload};
+ghost use Rattle.np_kinds.specs.Between.{IsWorkload};
 
 use crate::addresses::first_to_addresses;
 use crate::asked::Asked;
@@ -22,13 +22,11 @@ pub(crate) fn first_from_works<L: Ledger>(
     checker: &mut Checker<'_>,
     asked: &Asked<'_>,
     sources: &[u32],
-    destinations: &[u32],
     ends: &Ends,
     steps: &mut Steps<L>,
 ) -> Result<Option<Counterexample>, NoMemory>
     requires sources { All (IsWorkload checker.old) sources.now }
-    requires destinations { All (IsWorkload checker.old) destinations.now }
-    requires ends { ends.now.works ≡ destinations.now }
+    requires destinations { All (IsWorkload checker.old) ends.now.works }
     ensures counter { IfOk result (λ made. made ≡ first_of
         (λ source. counter_from checker.old asked.now.wanted asked.now.conns.now ends.now (Work source)) sources.now) }
     ensures same { checker.new ≡ checker.old }
@@ -36,15 +34,7 @@ pub(crate) fn first_from_works<L: Ledger>(
 {
     let mut settled = HashSet::new(checker.alloc());
     for source in sources {
-        let found = first_from_work(
-            checker,
-            asked,
-            *source,
-            destinations,
-            ends,
-            &mut settled,
-            steps,
-        )?;
+        let found = first_from_work(checker, asked, *source, ends, &mut settled, steps)?;
         if found.is_some() {
             return Ok(found);
         }
@@ -57,14 +47,12 @@ fn first_from_work<L: Ledger>(
     checker: &mut Checker<'_>,
     asked: &Asked<'_>,
     source: u32,
-    destinations: &[u32],
     ends: &Ends,
     settled: &mut Settled,
     steps: &mut Steps<L>,
 ) -> Result<Option<Counterexample>, NoMemory>
     requires source { IsWorkload checker.old source }
-    requires destinations { All (IsWorkload checker.old) destinations.now }
-    requires ends { ends.now.works ≡ destinations.now }
+    requires destinations { All (IsWorkload checker.old) ends.now.works }
     requires settled { AreSettled checker.old asked.now.wanted asked.now.conns.now settled.old.keys }
     ensures counter { IfOk result (λ made.
         made ≡ counter_from checker.old asked.now.wanted asked.now.conns.now ends.now (Work source)) }
@@ -72,6 +60,7 @@ fn first_from_work<L: Ledger>(
     ensures settled { AreSettled checker.new asked.now.wanted asked.now.conns.now settled.new.keys }
     ensures least { steps.old ≤ steps.new }
 {
+    let destinations = ends.works.items();
     let found = first_to_works(checker, asked, source, destinations, settled, steps)?;
     if found.is_some() {
         return Ok(found);

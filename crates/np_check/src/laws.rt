@@ -11,7 +11,7 @@ ghost use Rattle.np_check.specs.declared.question.Question.{Question};
 ghost use Rattle.np_check.specs.declared.statement_text.StatementText.{StatementText};
 ghost use Rattle.np_model.specs.Lawful.{IsLawful};
 ghost use Rattle.np_model.specs.declared.lists.EstateLists.{EstateLists};
-ghost use Rattle.np_table.specs.Table.{IsWorkload};
+ghost use Rattle.np_kinds.specs.Between.{IsWorkload};
 
 /// A line is the text of one statement at most.
 pub fn one_statement_of_a_line()

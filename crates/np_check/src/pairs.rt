@@ -5,7 +5,7 @@ ghost use Rattle.np_check.specs.Firsts.{first_of};
 ghost use Rattle.np_check.specs.steps.Pairs.{AreSettled};
 ghost use Rattle.np_check.specs.declared.counterexample.PlaceEnd.TheVariants.{Work};
 ghost use Rattle.np_fold.specs.Workloads.{folding_of};
-ghost use Rattle.np_table.specs.Table.{IsWorkload, is_alone};
+ghost use Rattle.np_kinds.specs.Between.{IsWorkload, is_alone};
 
 use crate::asked::Asked;
 use crate::checker::Checker;

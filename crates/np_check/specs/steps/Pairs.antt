@@ -8,7 +8,7 @@ use Rattle.np_check.specs.declared.statement_text.Wanted.TheVariants.{Allow, Den
 use Rattle.np_conns.specs.Conns.{Conns}
 use Rattle.np_model.specs.declared.lists.EstateLists.{EstateLists}
 use Rattle.np_fold.specs.Workloads.{folding_of}
-use Rattle.np_table.specs.Table.{IsWorkload}
+use Rattle.np_kinds.specs.Between.{IsWorkload}
 
 -- whether a statement wants that no packet is allowed
 abbrev pub is_deny : Wanted → Bool

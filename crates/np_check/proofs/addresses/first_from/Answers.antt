@@ -5,7 +5,7 @@ use Rattle.np_check.specs.Counters.{counter_at}
 use Rattle.np_check.specs.declared.counterexample.PlaceEnd.TheVariants.{At, Work}
 use Rattle.np_fold.specs.Workloads.{folding_of}
 use Rattle.np_model.specs.declared.direction.Direction.TheVariants.{Ingress}
-use Rattle.np_table.specs.Table.{address_allows}
+use Rattle.np_kinds.specs.Between.{address_allows}
 use Rattle.np_check.proofs.addresses.first_from.Goals as goal
 
 pub returns-in_default-clause-counter : goal.returns-in_default-clause-counter

@@ -1,6 +1,6 @@
 use Rattle.std.proofs.Common.{ℕ, List, get_or, refl, sym, ap, subst, ◌∙◌, arith}
 use Rattle.np_model.specs.declared.lists.EstateLists.{EstateLists}
-use Rattle.np_table.specs.Table.{IsWorkload}
+use Rattle.np_kinds.specs.Between.{IsWorkload}
 use Rattle.std.proofs.lemmas.List.{take_all}
 use Rattle.np_addr.specs.declared.address.Address.{Address}
 use Rattle.np_base.specs.declared.beside.Which.TheVariants.{First, Second}

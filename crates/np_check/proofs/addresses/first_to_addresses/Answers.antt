@@ -6,7 +6,7 @@ use Rattle.np_check.specs.Counters.{counter_at, counter_between}
 use Rattle.np_check.specs.declared.counterexample.PlaceEnd.TheVariants.{At, Work}
 use Rattle.np_fold.specs.Workloads.{folding_of}
 use Rattle.np_model.specs.declared.direction.Direction.TheVariants.{Egress}
-use Rattle.np_table.specs.Table.{address_allows}
+use Rattle.np_kinds.specs.Between.{address_allows}
 use Rattle.np_check.proofs.addresses.first_to_addresses.Goals as goal
 
 pub returns-then-is_empty-clause-counter : goal.returns-then-is_empty-clause-counter

@@ -6,7 +6,7 @@ use Rattle.np_check.specs.declared.counterexample.PlaceEnd.TheVariants.{Work}
 use Rattle.np_model.specs.Families.{families_of}
 use Rattle.np_model.specs.declared.lists.EstateLists.{EstateLists}
 use Rattle.np_fold.specs.Workloads.{Folding, folding_of}
-use Rattle.np_table.specs.Table.{is_alone}
+use Rattle.np_kinds.specs.Between.{is_alone}
 use Rattle.np_check.proofs.pairs.first_between.Goals as goal
 
 pub returns-then-is_alone-clause-counter : goal.returns-then-is_alone-clause-counter

@@ -5,7 +5,7 @@ use Rattle.np_check.specs.steps.Pairs.{has_pair, kind_of}
 use Rattle.np_check.specs.declared.counterexample.PlaceEnd.TheVariants.{Work}
 use Rattle.np_model.specs.Lawful.{IsLawful}
 use Rattle.np_fold.specs.Workloads.{Folding, folding_of}
-use Rattle.np_table.proofs.KindLemmas.{kind-there}
+use Rattle.np_kinds.proofs.KindNumbers.{kind-there}
 use Rattle.np_check.proofs.pairs.first_to_work.Goals as goal
 use Rattle.np_check.proofs.pairs.first_to_work.Goals.{then-is_none+then-source-destination+in_ok-insert, else-is_none}
 

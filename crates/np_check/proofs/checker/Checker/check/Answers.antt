@@ -33,7 +33,7 @@ returns-clause-counter g c =
     let all = none_or c.in_ok-found.found rest (sym c.is_some.ensures ∙ c.if-is_some.false)
     ∙ ap (λ (first : Option Counterexample). option_or first rest) works
     ∙ sym (of-question c.args.self.now question) in
-    IfOk-weaker c.first_from_addresses.result (λ (made : Option Counterexample). made ≡ from_all c.first_from_works.new.checker c.deref-3.result.now)
+    IfOk-weaker c.first_from_addresses.result (λ (made : Option Counterexample). made ≡ from_all c.first_from_works.new.checker c.deref-2.result.now)
     (λ (made : Option Counterexample). made ≡ counter_of c.args.self.now question)
-    (λ made is. is ∙ ap (λ (lists : EstateLists). from_all lists c.deref-3.result.now) (c.in_ok-found.ensures.same ∙ c.expect.ensures) ∙ ap (from_all c.args.self.now) (c.deref-3.ensures.value
+    (λ made is. is ∙ ap (λ (lists : EstateLists). from_all lists c.deref-2.result.now) (c.in_ok-found.ensures.same ∙ c.expect.ensures) ∙ ap (from_all c.args.self.now) (c.deref-2.ensures.value
     ∙ c.in_ok-destinations.ensures) ∙ all) c.first_from_addresses.ensures.counter
