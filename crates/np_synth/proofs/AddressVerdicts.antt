@@ -34,7 +34,7 @@ use Rattle.np_table.proofs.SetLemmas.{has_spot-conns_of}
 use Rattle.np_table.specs.Right.{AreRight, Stretch, is_within, walk}
 use Rattle.np_table.specs.Rows.{address_row, four_of, is_none, is_nothing, rows_of_addresses, six_of}
 use Rattle.np_table.specs.Said.{IsInFamily, span_has}
-use Rattle.np_table.specs.Table.{address_of}
+use Rattle.np_kinds.specs.Between.{address_of}
 use Rattle.np_table.specs.declared.rows.AddressRow.{AddressRow}
 use Rattle.np_table.specs.declared.rows.AddressSpan.{AddressSpan}
 use Rattle.np_table.specs.declared.rows.AddressSpan.TheVariants as span

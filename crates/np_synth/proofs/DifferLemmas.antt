@@ -21,7 +21,8 @@ use Rattle.np_synth.specs.steps.Agree.{Agree}
 use Rattle.np_table.proofs.RangeSets.{are_same_conns-Decides}
 use Rattle.np_table.specs.Right.{are_same_conns, are_same_range}
 use Rattle.np_table.specs.Rows.{address_rows}
-use Rattle.np_table.specs.Table.{estate_table, number_of_workloads}
+use Rattle.np_table.specs.Table.{estate_table}
+use Rattle.np_kinds.specs.Between.{number_of_workloads}
 use Rattle.np_table.specs.declared.rows.AddressRow.{AddressRow}
 use Rattle.np_table.specs.declared.rows.AddressSpan.{AddressSpan}
 use Rattle.np_table.specs.declared.rows.AddressSpan.TheVariants as span

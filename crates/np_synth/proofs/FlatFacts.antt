@@ -24,7 +24,7 @@ use Rattle.np_synth.specs.Groups.{are_together, first_of_group, group_of}
 use Rattle.np_synth.specs.Pairs.{first_pair}
 use Rattle.np_table.proofs.RangeSets.{are_same_conns-Decides}
 use Rattle.np_table.specs.Right.{are_same_conns}
-use Rattle.np_table.specs.Table.{number_of_workloads}
+use Rattle.np_kinds.specs.Between.{number_of_workloads}
 
 -- ---- no fault
 

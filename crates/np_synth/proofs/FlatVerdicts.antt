@@ -43,15 +43,16 @@ use Rattle.np_synth.specs.Faults.{flat_fault, is_defined, set_in}
 use Rattle.np_synth.specs.Flat.{egress_rules, flat_policy, flattened, group_namespace, group_peer, group_rows, ingress_rules, rule_if, rules_from_group, rules_from_groups, rules_of_addresses}
 use Rattle.np_synth.specs.Flat.{rules_of_set, set_from}
 use Rattle.np_synth.specs.Groups.{are_together, first_of_group, group_count, group_of, look_alike, relevant}
-use Rattle.np_table.specs.PairRules.{first_end}
+use Rattle.np_kinds.specs.Kinds.{first_end}
 use Rattle.np_synth.specs.Ports.{ports_of}
 use Rattle.np_synth.specs.steps.Seen.{seen}
-use Rattle.np_table.proofs.MemberLemmas.{member-number, members-some, members-within, not-alone, own-member, source-member}
-use Rattle.np_table.proofs.PairLemmas.{between_pods-pair_allows, pod_there, with_address-address_allows}
+use Rattle.np_kinds.proofs.MemberLemmas.{member-number, members-some, members-within, not-alone, own-member, source-member}
+use Rattle.np_kinds.proofs.PairLemmas.{between_pods-pair_allows, pod_there, with_address-address_allows}
 use Rattle.np_table.proofs.SetLemmas.{has_spot-conns_of}
 use Rattle.np_table.specs.Rows.{address_rows, is_nothing}
 use Rattle.np_table.specs.Said.{IsInFamily}
-use Rattle.np_table.specs.Table.{address_allows, address_of, between_pods, estate_table, number_of_workloads, pair_allows, source_pod, table_of, with_address}
+use Rattle.np_kinds.specs.Between.{address_allows, address_of, between_pods, number_of_workloads, pair_allows, source_pod, with_address}
+use Rattle.np_table.specs.Table.{estate_table, table_of}
 use Rattle.np_table.specs.declared.rows.AddressRow.{AddressRow}
 
 -- ---- pods and groups

@@ -23,9 +23,9 @@ use Rattle.np_fold.specs.declared.traits.Traits.{Traits}
 use Rattle.np_labels.specs.Labels.{value_of}
 use Rattle.np_rules.specs.model.Ends.{PodEnd}
 use Rattle.np_synth.specs.Groups.{are_together, group_firsts, group_of, have_same_value, look_alike, relevant}
-use Rattle.np_table.specs.PairRules.{first_end}
+use Rattle.np_kinds.specs.Kinds.{first_end}
 use Rattle.np_synth.specs.steps.Seen.{seen, seen_at}
-use Rattle.np_table.specs.Table.{number_of_workloads}
+use Rattle.np_kinds.specs.Between.{number_of_workloads}
 
 -- ---- what a selector sees
 

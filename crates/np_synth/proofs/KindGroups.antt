@@ -29,16 +29,17 @@ use Rattle.np_synth.proofs.DifferLemmas.{apart-defined, from_agree, own_rows, to
 use Rattle.np_synth.proofs.GroupLemmas.{together-is, values_decide}
 use Rattle.np_synth.specs.Faults.{differ, family_of_list, is_defined, is_unlike, set_in, set_of}
 use Rattle.np_synth.specs.Groups.{are_together, have_same_value, look_alike, relevant}
-use Rattle.np_table.specs.PairRules.{first_end}
+use Rattle.np_kinds.specs.Kinds.{first_end}
 use Rattle.np_synth.specs.Pairs.{first_pair}
 use Rattle.np_synth.specs.steps.Unlike.{IsLeastUnlike, first_with}
-use Rattle.np_table.proofs.KindLemmas.{first_pod-there}
-use Rattle.np_table.proofs.PairLemmas.{first_there, in_workloads, one_kind-sources, pair_allows-kinds, with_address-same}
+use Rattle.np_kinds.proofs.KindNumbers.{first_pod-there}
+use Rattle.np_kinds.proofs.PairLemmas.{first_there, in_workloads, one_kind-sources, pair_allows-kinds, with_address-same}
 use Rattle.np_table.proofs.RangeOneList.{walk-agrees}
 use Rattle.np_table.proofs.RangeSets.{conns_of-agrees}
 use Rattle.np_table.specs.Right.{Stretch, walk}
 use Rattle.np_table.specs.Rows.{address_row, address_rows, four_of, six_of}
-use Rattle.np_table.specs.Table.{address_allows, estate_table, is_alone, number_of_workloads, source_pod, table_of}
+use Rattle.np_kinds.specs.Between.{address_allows, is_alone, number_of_workloads, source_pod}
+use Rattle.np_table.specs.Table.{estate_table, table_of}
 use Rattle.np_table.specs.declared.rows.AddressRow.{AddressRow}
 
 -- ---- counts

@@ -11,11 +11,11 @@ pub mod GroupSets
 pub mod KindGroups
 pub mod LeastSteps
 pub mod OnePolicy
+pub mod PassingFacts
 pub mod PolicyFacts
 pub mod PortLemmas
 pub mod ReceiverFacts
 pub mod RefusedLemmas
 pub mod SelectLemmas
-pub mod SideFacts
 pub mod SplitLemmas
 pub mod UnlikeFacts

@@ -11,7 +11,7 @@ use Rattle.np_model.specs.declared.network_policy.NetRule.{NetRule}
 use Rattle.np_rules.specs.model.Ends.{PodEnd}
 use Rattle.np_synth.specs.Flat.{egress_rules, flat_name, flat_policy, group_peer, ingress_rules, rules_from_group, rules_of_set, set_from}
 use Rattle.np_synth.specs.Groups.{first_of_group, relevant}
-use Rattle.np_table.specs.PairRules.{first_end}
+use Rattle.np_kinds.specs.Kinds.{first_end}
 use Rattle.np_synth.specs.Ports.{ports_of}
 use Rattle.np_synth.specs.Selecting.{namespace_named, selector_of}
 use Rattle.np_table.specs.Rows.{is_nothing}

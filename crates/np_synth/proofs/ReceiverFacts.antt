@@ -28,7 +28,8 @@ use Rattle.np_synth.specs.Groups.{are_together, first_of_group, group_count, gro
 use Rattle.np_synth.specs.steps.Filled.{IsFilled}
 use Rattle.np_synth.specs.steps.Next.{next_in}
 use Rattle.np_table.specs.Rows.{address_rows}
-use Rattle.np_table.specs.Table.{estate_table, is_alone, number_of_workloads}
+use Rattle.np_table.specs.Table.{estate_table}
+use Rattle.np_kinds.specs.Between.{is_alone, number_of_workloads}
 use Rattle.np_table.specs.declared.rows.AddressRow.{AddressRow}
 use Rattle.np_table.specs.declared.rows.AddressSpan.{AddressSpan}
 use Rattle.np_table.specs.declared.rows.AddressSpan.TheVariants as span

@@ -24,7 +24,8 @@ use Rattle.np_synth.specs.declared.fault.FlatFault.TheVariants.{Alike, Split}
 use Rattle.np_table.proofs.RangeSets.{are_same_conns-Decides, conns_of-agrees}
 use Rattle.np_table.proofs.SetLemmas.{has_spot-conns_of}
 use Rattle.np_table.specs.Rows.{address_rows}
-use Rattle.np_table.specs.Table.{estate_table, is_alone, number_of_workloads, pair_allows}
+use Rattle.np_table.specs.Table.{estate_table}
+use Rattle.np_kinds.specs.Between.{is_alone, number_of_workloads, pair_allows}
 use Rattle.np_table.specs.declared.rows.AddressRow.{AddressRow}
 
 -- ---- sets and packets

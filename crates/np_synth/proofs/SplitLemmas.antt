@@ -22,11 +22,12 @@ use Rattle.np_synth.proofs.FirstPairs.{first_pair-none}
 use Rattle.np_synth.specs.Faults.{is_defined, is_split, set_in, two_differ}
 use Rattle.np_synth.specs.Pairs.{first_pair}
 use Rattle.np_synth.specs.steps.SplitRows.{first_split_of, split_of}
-use Rattle.np_table.proofs.PairLemmas.{pair_allows-alone}
+use Rattle.np_kinds.proofs.PairLemmas.{pair_allows-alone}
 use Rattle.np_table.proofs.RangeSets.{are_same_conns-Decides, conns_of-agrees}
 use Rattle.np_table.specs.Right.{are_same_conns}
 use Rattle.np_table.specs.Rows.{all_address_rows, all_pair_rows, address_rows, all_rows, is_none, is_nothing, pair_key, pair_rows, row_if, row_of, rows_in, rows_towards, workloads}
-use Rattle.np_table.specs.Table.{Table, estate_table, is_alone, number_of_workloads, table_of}
+use Rattle.np_table.specs.Table.{Table, estate_table, table_of}
+use Rattle.np_kinds.specs.Between.{is_alone, number_of_workloads}
 use Rattle.np_table.specs.declared.rows.AddressRow.{AddressRow}
 use Rattle.np_table.specs.declared.rows.Row.{Row}
 

@@ -12,8 +12,8 @@ use Rattle.np_synth.proofs.ClassFirsts.{first-in}
 use Rattle.np_synth.proofs.GroupLemmas.{get-map, together-is}
 use Rattle.np_synth.specs.Groups.{are_together, group_firsts, group_of}
 use Rattle.np_synth.specs.steps.Unlike.{first_by, first_with}
-use Rattle.np_table.proofs.SideLemmas.{firsts-workloads}
-use Rattle.np_table.specs.Table.{IsWorkload, number_of_workloads}
+use Rattle.np_kinds.proofs.KindNumbers.{firsts-workloads}
+use Rattle.np_kinds.specs.Between.{IsWorkload, number_of_workloads}
 
 -- the first workload of a kind is a workload
 pub item-in : (lists : EstateLists) (items : List ℕ) (i : ℕ) → items ≡ (folding_of lists).first_of_kinds → i < length items → slice_index items i < number_of_workloads lists

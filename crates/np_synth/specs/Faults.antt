@@ -17,7 +17,8 @@ use Rattle.np_synth.specs.declared.fault.FlatFault.{FlatFault}
 use Rattle.np_synth.specs.declared.fault.FlatFault.TheVariants.{Split, Alike}
 use Rattle.np_table.specs.Right.{are_same_conns, are_same_range, conns_of}
 use Rattle.np_table.specs.Rows.{address_rows}
-use Rattle.np_table.specs.Table.{estate_table, is_alone, number_of_workloads, pair_allows}
+use Rattle.np_table.specs.Table.{estate_table}
+use Rattle.np_kinds.specs.Between.{is_alone, number_of_workloads, pair_allows}
 use Rattle.np_table.specs.declared.rows.AddressRow.{AddressRow}
 use Rattle.np_table.specs.declared.rows.AddressSpan.{AddressSpan}
 use Rattle.np_table.specs.declared.rows.AddressSpan.TheVariants as span

@@ -14,11 +14,12 @@ use Rattle.np_model.specs.declared.network_policy.NetPolicy.{NetPolicy}
 use Rattle.np_model.specs.declared.network_policy.NetRule.{NetRule}
 use Rattle.np_synth.specs.Faults.{is_defined, set_of}
 use Rattle.np_synth.specs.Groups.{first_of_group, group_count, group_of, relevant}
-use Rattle.np_table.specs.PairRules.{first_end}
+use Rattle.np_kinds.specs.Kinds.{first_end}
 use Rattle.np_synth.specs.Ports.{ports_of}
 use Rattle.np_synth.specs.Selecting.{namespace_named, selector_of}
 use Rattle.np_table.specs.Rows.{address_rows, is_nothing}
-use Rattle.np_table.specs.Table.{estate_table, number_of_workloads}
+use Rattle.np_table.specs.Table.{estate_table}
+use Rattle.np_kinds.specs.Between.{number_of_workloads}
 use Rattle.np_table.specs.declared.rows.AddressRow.{AddressRow}
 use Rattle.np_table.specs.declared.rows.AddressSpan.{AddressSpan}
 use Rattle.np_table.specs.declared.rows.AddressSpan.TheVariants as span

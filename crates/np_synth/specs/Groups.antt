@@ -8,8 +8,8 @@ use Rattle.np_model.specs.declared.lists.EstateLists.{EstateLists}
 use Rattle.np_fold.specs.Workloads.{folding_of}
 use Rattle.np_labels.specs.Labels.{value_of}
 use Rattle.np_rules.specs.model.Ends.{PodEnd}
-use Rattle.np_table.specs.PairRules.{first_end}
-use Rattle.np_table.specs.Table.{number_of_workloads}
+use Rattle.np_kinds.specs.Kinds.{first_end}
+use Rattle.np_kinds.specs.Between.{number_of_workloads}
 
 -- the keys of labels that selectors name, in ascending order
 abbrev pub relevant : EstateLists → List (List ℕ)

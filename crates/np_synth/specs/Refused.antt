@@ -10,7 +10,8 @@ use Rattle.np_fold.specs.Workloads.{folding_of}
 use Rattle.np_model.specs.declared.direction.Direction.{Direction}
 use Rattle.np_synth.specs.Faults.{family_of_list, is_defined}
 use Rattle.np_table.specs.Rows.{address_rows}
-use Rattle.np_table.specs.Table.{estate_table, number_of_workloads, pair_allows}
+use Rattle.np_table.specs.Table.{estate_table}
+use Rattle.np_kinds.specs.Between.{number_of_workloads, pair_allows}
 
 -- a pair of numbers comes before another: by the first number, and then by the second
 abbrev pub ComesBefore : ℕ → ℕ → ℕ → ℕ → Type 0

@@ -6,9 +6,9 @@ ghost use Rattle.np_classes.specs.Classes.{places};
 ghost use Rattle.np_synth.specs.Faults as spec;
 ghost use Rattle.np_synth.specs.steps.OwnSets.{AreTwo, own_set};
 ghost use Rattle.np_table.specs.Right.{are_same_conns, are_same_range};
-ghost use Rattle.np_table.specs.Table.{IsWorkload, number_of_workloads};
+ghost use Rattle.np_kinds.specs.Between.{IsWorkload, number_of_workloads};
 
-use crate::sides::Sides;
+use crate::passing::Passing;
 use np_base::{Cells, NoMemory, Point, Range};
 use np_conns::ConnSet;
 use np_model::Direction;
@@ -20,43 +20,43 @@ use std::sync::ledger::Ledger;
 /// direction. At most four sets are held at a time.
 #[tactic(auto, unfolding(crate::specs::Faults::differ))]
 pub(crate) fn differ<L: Ledger>(
-    sides: &Sides<'_>,
+    passing: &Passing<'_>,
     a: u32,
     b: u32,
     steps: &mut Steps<L>,
 ) -> Result<bool, NoMemory>
-    requires a { IsWorkload sides.now a }
-    requires b { IsWorkload sides.now b }
+    requires a { IsWorkload passing.now a }
+    requires b { IsWorkload passing.now b }
     requires apart { a ≢ b }
-    ensures answer { IfOk result (λ answer. answer ≡ spec.differ sides.now a b) }
+    ensures answer { IfOk result (λ answer. answer ≡ spec.differ passing.now a b) }
     ensures least { steps.old ≤ steps.new }
 {
-    if differ_at_some(sides, a, b, steps)? {
+    if differ_at_some(passing, a, b, steps)? {
         return Ok(true);
     }
-    if differ_within(sides, a, b, steps)? {
+    if differ_within(passing, a, b, steps)? {
         return Ok(true);
     }
-    if differ_towards(sides, a, b, Direction::Ingress, steps)? {
+    if differ_towards(passing, a, b, Direction::Ingress, steps)? {
         return Ok(true);
     }
-    differ_towards(sides, a, b, Direction::Egress, steps)
+    differ_towards(passing, a, b, Direction::Egress, steps)
 }
 
 // Whether they differ in what passes between them and some third workload.
 fn differ_at_some<L: Ledger>(
-    sides: &Sides<'_>,
+    passing: &Passing<'_>,
     a: u32,
     b: u32,
     steps: &mut Steps<L>,
 ) -> Result<bool, NoMemory>
-    requires a { IsWorkload sides.now a }
-    requires b { IsWorkload sides.now b }
-    ensures answer { IfOk result (λ answer. answer ≡ list_any (spec.differ_at sides.now a b) (places (number_of_workloads sides.now))) }
+    requires a { IsWorkload passing.now a }
+    requires b { IsWorkload passing.now b }
+    ensures answer { IfOk result (λ answer. answer ≡ list_any (spec.differ_at passing.now a b) (places (number_of_workloads passing.now))) }
     ensures least { steps.old ≤ steps.new }
 {
-    for third in 0..sides.folded().workloads().count() {
-        if differ_at(sides, a, b, third, steps)? {
+    for third in 0..passing.folded().workloads().count() {
+        if differ_at(passing, a, b, third, steps)? {
             return Ok(true);
         }
     }
@@ -65,78 +65,78 @@ fn differ_at_some<L: Ledger>(
 
 // Whether they differ in what they send to a third workload, or in what they receive of it.
 fn differ_at<L: Ledger>(
-    sides: &Sides<'_>,
+    passing: &Passing<'_>,
     a: u32,
     b: u32,
     third: u32,
     steps: &mut Steps<L>,
 ) -> Result<bool, NoMemory>
-    requires a { IsWorkload sides.now a }
-    requires b { IsWorkload sides.now b }
-    requires third { IsWorkload sides.now third }
-    ensures answer { IfOk result (λ answer. answer ≡ spec.differ_at sides.now a b third) }
+    requires a { IsWorkload passing.now a }
+    requires b { IsWorkload passing.now b }
+    requires third { IsWorkload passing.now third }
+    ensures answer { IfOk result (λ answer. answer ≡ spec.differ_at passing.now a b third) }
     ensures least { steps.old ≤ steps.new }
 {
     if third == a || third == b {
         return Ok(false);
     }
-    if pass_otherwise(sides, (a, third), (b, third), steps)? {
+    if pass_otherwise(passing, (a, third), (b, third), steps)? {
         return Ok(true);
     }
-    pass_otherwise(sides, (third, a), (third, b), steps)
+    pass_otherwise(passing, (third, a), (third, b), steps)
 }
 
 // Whether what passes from one workload to another differs from what passes from one of the other pair to its other.
 fn pass_otherwise<L: Ledger>(
-    sides: &Sides<'_>,
+    passing: &Passing<'_>,
     pair: (u32, u32),
     other: (u32, u32),
     steps: &mut Steps<L>,
 ) -> Result<bool, NoMemory>
-    requires pair { AreTwo sides.now pair.0 pair.1 }
-    requires other { AreTwo sides.now other.0 other.1 }
+    requires pair { AreTwo passing.now pair.0 pair.1 }
+    requires other { AreTwo passing.now other.0 other.1 }
     ensures answer { IfOk result (λ answer.
-        answer ≡ not (are_same_conns (spec.set_of sides.now pair.0 pair.1) (spec.set_of sides.now other.0 other.1))) }
+        answer ≡ not (are_same_conns (spec.set_of passing.now pair.0 pair.1) (spec.set_of passing.now other.0 other.1))) }
     ensures least { steps.old ≤ steps.new }
 {
-    let set = sides.between(pair.0, pair.1, steps)?;
-    let others = sides.between(other.0, other.1, steps)?;
+    let set = passing.between(pair.0, pair.1, steps)?;
+    let others = passing.between(other.0, other.1, steps)?;
     Ok(!are_same(&set, &others))
 }
 
 // Whether what passes within and between them differs.
 fn differ_within<L: Ledger>(
-    sides: &Sides<'_>,
+    passing: &Passing<'_>,
     a: u32,
     b: u32,
     steps: &mut Steps<L>,
 ) -> Result<bool, NoMemory>
-    requires a { IsWorkload sides.now a }
-    requires b { IsWorkload sides.now b }
+    requires a { IsWorkload passing.now a }
+    requires b { IsWorkload passing.now b }
     requires apart { a ≢ b }
-    ensures answer { IfOk result (λ answer. answer ≡ spec.two_differ (spec.own_sets sides.now a b)) }
+    ensures answer { IfOk result (λ answer. answer ≡ spec.two_differ (spec.own_sets passing.now a b)) }
     ensures least { steps.old ≤ steps.new }
 {
-    let mut sets = Vec::new(sides.alloc());
-    add_within(&mut sets, sides, a, steps)?;
-    sets.push(sides.between(a, b, steps)?)?;
-    sets.push(sides.between(b, a, steps)?)?;
-    add_within(&mut sets, sides, b, steps)?;
+    let mut sets = Vec::new(passing.alloc());
+    add_within(&mut sets, passing, a, steps)?;
+    sets.push(passing.between(a, b, steps)?)?;
+    sets.push(passing.between(b, a, steps)?)?;
+    add_within(&mut sets, passing, b, steps)?;
     Ok(two_differ(&sets))
 }
 
 // Adds what passes within a workload, where it is defined.
 fn add_within<L: Ledger>(
     sets: &mut Vec<ConnSet>,
-    sides: &Sides<'_>,
+    passing: &Passing<'_>,
     workload: u32,
     steps: &mut Steps<L>,
 ) -> Result<(), NoMemory>
-    requires { IsWorkload sides.now workload }
-    ensures sets { OnOk result (sets.new.items ≡ sets.old.items ++ own_set sides.now workload workload) }
+    requires { IsWorkload passing.now workload }
+    ensures sets { OnOk result (sets.new.items ≡ sets.old.items ++ own_set passing.now workload workload) }
     ensures least { steps.old ≤ steps.new }
 {
-    if let Some(set) = sides.within(workload, steps)? {
+    if let Some(set) = passing.within(workload, steps)? {
         sets.push(set)?;
     }
     Ok(())
@@ -165,19 +165,19 @@ fn are_same(one: &ConnSet, other: &ConnSet) -> bool
 
 // Whether they differ in what passes at some address in a direction.
 fn differ_towards<L: Ledger>(
-    sides: &Sides<'_>,
+    passing: &Passing<'_>,
     a: u32,
     b: u32,
     direction: Direction,
     steps: &mut Steps<L>,
 ) -> Result<bool, NoMemory>
-    requires a { IsWorkload sides.now a }
-    requires b { IsWorkload sides.now b }
-    ensures answer { IfOk result (λ answer. answer ≡ spec.differ_towards sides.now a b direction) }
+    requires a { IsWorkload passing.now a }
+    requires b { IsWorkload passing.now b }
+    ensures answer { IfOk result (λ answer. answer ≡ spec.differ_towards passing.now a b direction) }
     ensures least { steps.old ≤ steps.new }
 {
-    let rows_of_a = address_rows(sides.alloc(), sides.folded(), a, direction, steps)?;
-    let rows_of_b = address_rows(sides.alloc(), sides.folded(), b, direction, steps)?;
+    let rows_of_a = address_rows(passing.alloc(), passing.folded(), a, direction, steps)?;
+    let rows_of_b = address_rows(passing.alloc(), passing.folded(), b, direction, steps)?;
     Ok(!are_same_rows(rows_of_a.items(), rows_of_b.items()))
 }
 

@@ -4,20 +4,21 @@ ghost use Rattle.np_classes.specs.Classes.{places};
 ghost use Rattle.np_synth.specs.Flat as spec;
 ghost use Rattle.np_synth.specs.Groups.{first_of_group, group_count, group_firsts, group_of, relevant};
 ghost use Rattle.np_synth.specs.steps.Next.{next_in};
-ghost use Rattle.np_table.specs.Table.{IsWorkload, number_of_workloads};
+ghost use Rattle.np_kinds.specs.Between.{IsWorkload, number_of_workloads};
 
 use crate::address_rules::add_rules_of_addresses;
+use crate::passing::Passing;
 use crate::policy_parts::{
     flat_name, is_nothing, peer_like, ports_of, rule_to_everyone, selector_of,
 };
-use crate::sides::Sides;
 use np_base::{NoMemory, Seq, Text};
 use np_classes::Classes;
 use np_conns::ConnSet;
 use np_fold::Folded;
+use np_kinds::first_pod;
 use np_model::{Direction, NetPolicy, NetRule};
 use np_steps::Steps;
-use np_table::{address_rows, first_pod};
+use np_table::address_rows;
 use std::marker::Model;
 use std::sync::ledger::Ledger;
 
@@ -26,7 +27,7 @@ use std::sync::ledger::Ledger;
 /// it is asked for. Contracts see the lists of the estate.
 #[derive(Drop)]
 pub struct Flat<'a> {
-    sides: Sides<'a>,
+    passing: Passing<'a>,
     groups: Classes,
 }
 
@@ -35,26 +36,26 @@ impl<'a> Model for Flat<'a> {
     ghost use Rattle.np_classes.specs.Classes.{places};
     ghost use Rattle.np_model.specs.declared.lists.EstateLists.{EstateLists};
     ghost use Rattle.np_synth.specs.Groups.{group_firsts, group_of};
-    ghost use Rattle.np_table.specs.Table.{number_of_workloads};
+    ghost use Rattle.np_kinds.specs.Between.{number_of_workloads};
 
     ghost Value = { EstateLists };
 
-    ghost view = { λ f. f.sides };
+    ghost view = { λ f. f.passing };
 
-    ghost invariant = { λ f. (f.groups.firsts ≡ group_firsts f.sides)
-        × (f.groups.numbers ≡ map (group_of f.sides) (places (number_of_workloads f.sides)))
-        × (number_of_workloads f.sides < 2 ^ 32) };
+    ghost invariant = { λ f. (f.groups.firsts ≡ group_firsts f.passing)
+        × (f.groups.numbers ≡ map (group_of f.passing) (places (number_of_workloads f.passing)))
+        × (number_of_workloads f.passing < 2 ^ 32) };
 }
 
 impl<'a> Flat<'a> {
     // The flat policies by what passes in an estate and by its groups.
-    pub(crate) fn of(sides: Sides<'a>, groups: Classes) -> Flat<'a>
-        requires firsts { groups.firsts ≡ group_firsts sides }
-        requires numbers { groups.numbers ≡ map (group_of sides) (places (number_of_workloads sides)) }
-        requires few { number_of_workloads sides < 2 ^ 32 }
-        ensures { result ≡ sides.entry }
+    pub(crate) fn of(passing: Passing<'a>, groups: Classes) -> Flat<'a>
+        requires firsts { groups.firsts ≡ group_firsts passing }
+        requires numbers { groups.numbers ≡ map (group_of passing) (places (number_of_workloads passing)) }
+        requires few { number_of_workloads passing < 2 ^ 32 }
+        ensures { result ≡ passing.entry }
     {
-        Flat { sides, groups }
+        Flat { passing, groups }
     }
 
     /// How many groups there are. It takes no memory.
@@ -76,7 +77,7 @@ impl<'a> Flat<'a> {
     {
         let ingress = self.ingress_rules(group, steps)?;
         let egress = self.egress_rules(group, steps)?;
-        let alloc = self.sides.alloc();
+        let alloc = self.passing.alloc();
         let pod = first_pod(self.folded(), self.first(group));
         Ok(NetPolicy {
             namespace: pod.namespace.copy()?,
@@ -97,7 +98,7 @@ impl<'a> Flat<'a> {
         ensures rules { IfOk result (λ made. made ≡ spec.ingress_rules self.now group) }
         ensures least { steps.old ≤ steps.new }
     {
-        let mut rules = Seq::new(self.sides.alloc());
+        let mut rules = Seq::new(self.passing.alloc());
         for sender in 0..self.count() {
             self.add_rule_from(&mut rules, sender, group, steps)?;
         }
@@ -115,7 +116,7 @@ impl<'a> Flat<'a> {
         ensures rules { IfOk result (λ made. made ≡ spec.egress_rules self.now group) }
         ensures least { steps.old ≤ steps.new }
     {
-        let alloc = self.sides.alloc();
+        let alloc = self.passing.alloc();
         let mut rules = Seq::new(alloc);
         rules.push(rule_to_everyone(alloc)?)?;
         self.add_rules_of_addresses(&mut rules, group, Direction::Egress, steps)?;
@@ -141,7 +142,7 @@ impl<'a> Flat<'a> {
         if is_nothing(&set) {
             return Ok(());
         }
-        let alloc = self.sides.alloc();
+        let alloc = self.passing.alloc();
         let pod = first_pod(self.folded(), self.first(sender));
         let mut peers = Seq::new(alloc);
         peers.push(peer_like(alloc, self.keys(), pod)?)?;
@@ -165,7 +166,7 @@ impl<'a> Flat<'a> {
             return self.set_within(group, steps);
         }
         let set = self
-            .sides
+            .passing
             .between(self.first(sender), self.first(group), steps)?;
         Ok(Some(set))
     }
@@ -181,12 +182,12 @@ impl<'a> Flat<'a> {
         ensures least { steps.old ≤ steps.new }
     {
         let first = self.first(group);
-        let within = self.sides.within(first, steps)?;
+        let within = self.passing.within(first, steps)?;
         if within.is_some() {
             return Ok(within);
         }
         match self.next_like(first, group) {
-            Some(next) => Ok(Some(self.sides.between(first, next, steps)?)),
+            Some(next) => Ok(Some(self.passing.between(first, next, steps)?)),
             None => Ok(None),
         }
     }
@@ -217,7 +218,7 @@ impl<'a> Flat<'a> {
         ensures rules { OnOk result (rules.new ≡ rules.old ++ spec.rules_of_addresses (spec.group_rows self.now group direction)) }
         ensures least { steps.old ≤ steps.new }
     {
-        let alloc = self.sides.alloc();
+        let alloc = self.passing.alloc();
         let rows = address_rows(alloc, self.folded(), self.first(group), direction, steps)?;
         add_rules_of_addresses(alloc, rules, rows.items())
     }
@@ -235,13 +236,13 @@ impl<'a> Flat<'a> {
     fn folded(&self) -> &'a Folded
         ensures { result.now ≡ self.now }
     {
-        self.sides.folded()
+        self.passing.folded()
     }
 
     // The keys of labels that selectors name.
     fn keys(&self) -> &[Text]
         ensures { result.now ≡ relevant self.now }
     {
-        self.sides.folded().workloads().relevant()
+        self.passing.folded().workloads().relevant()
     }
 }

@@ -6,7 +6,7 @@ ghost use Rattle.np_synth.specs.declared.fault.FlatFault.TheVariants.{NoMemory};
 use crate::fault::FlatFault;
 use crate::flat::Flat;
 use crate::groups::groups_of;
-use crate::sides::Sides;
+use crate::passing::Passing;
 use crate::split::first_split;
 use crate::unlike::first_unlike;
 use np_fold::Folded;
@@ -39,9 +39,9 @@ pub fn flatten<'a, L: Ledger>(
         });
     }
     let groups = groups_of(alloc, folded)?;
-    let sides = Sides::of(alloc, folded)?;
-    if let Some((a, b)) = first_unlike(&sides, &groups, steps)? {
+    let passing = Passing::of(alloc, folded)?;
+    if let Some((a, b)) = first_unlike(&passing, &groups, steps)? {
         return Err(FlatFault::Alike { a, b });
     }
-    Ok(Flat::of(sides, groups))
+    Ok(Flat::of(passing, groups))
 }

@@ -7,13 +7,13 @@ ghost use Rattle.np_classes.specs.Classes.{places};
 ghost use Rattle.np_rules.specs.model.Ends.{pod_end};
 ghost use Rattle.np_synth.specs.Groups as spec;
 ghost use Rattle.np_synth.specs.steps.Seen.{nobody, seen, seen_at};
-ghost use Rattle.np_table.specs.Table.{number_of_workloads};
+ghost use Rattle.np_kinds.specs.Between.{number_of_workloads};
 
 use np_base::{NoMemory, Seq, Text};
 use np_classes::Classes;
 use np_fold::{Folded, Traits};
+use np_kinds::first_pod;
 use np_model::{Owner, Pod};
-use np_table::first_pod;
 use std::alloc::Global;
 
 /// The groups of the workloads of an estate: those of one namespace whose pods have the same values of all keys that some

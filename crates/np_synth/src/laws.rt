@@ -15,7 +15,7 @@ ghost use Rattle.np_synth.specs.Groups.{are_together, group_of};
 ghost use Rattle.np_synth.specs.Refused.{AreFamiliesAlike, AreTreatedAlike, ComesBefore};
 ghost use Rattle.np_synth.specs.declared.fault.FlatFault.TheVariants.{Alike, Split};
 ghost use Rattle.np_table.specs.Said.{IsInFamily};
-ghost use Rattle.np_table.specs.Table.{between_pods, number_of_workloads, with_address};
+ghost use Rattle.np_kinds.specs.Between.{between_pods, number_of_workloads, with_address};
 
 /// Where an estate has no fault, its flat policies without any other policy give the verdicts of the whole estate: between
 /// every two different pods, in each family of the list, and between each pod and every address, either way.

@@ -9,8 +9,8 @@ mod flat;
 mod flattening;
 mod groups;
 mod laws;
+mod passing;
 mod policy_parts;
-mod sides;
 mod split;
 mod unlike;
 

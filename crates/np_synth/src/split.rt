@@ -3,7 +3,7 @@ ghost use Rattle.std.specs.Prelude.{◌≡◌, ◌≤◌, IfOk};
 ghost use Rattle.np_synth.specs.Faults.{is_split};
 ghost use Rattle.np_synth.specs.Pairs.{first_pair};
 ghost use Rattle.np_synth.specs.steps.SplitRows as spec;
-ghost use Rattle.np_table.specs.Table.{number_of_workloads};
+ghost use Rattle.np_kinds.specs.Between.{number_of_workloads};
 
 use np_base::NoMemory;
 use np_fold::Folded;

@@ -6,10 +6,10 @@ ghost use Rattle.np_synth.specs.Groups.{group_firsts, group_of};
 ghost use Rattle.np_synth.specs.Pairs.{first_pair};
 ghost use Rattle.np_synth.specs.steps.Least.{comes_before, with_number};
 ghost use Rattle.np_synth.specs.steps.Unlike.{first_by};
-ghost use Rattle.np_table.specs.Table.{IsWorkload, number_of_workloads};
+ghost use Rattle.np_kinds.specs.Between.{IsWorkload, number_of_workloads};
 
 use crate::differ::differ;
-use crate::sides::Sides;
+use crate::passing::Passing;
 use np_base::NoMemory;
 use np_classes::Classes;
 use np_steps::Steps;
@@ -19,40 +19,40 @@ use std::sync::ledger::Ledger;
 /// kind is held against the first of its group: workloads of one kind never differ, and where none differs from the first of
 /// its group no two of a group do.
 pub(crate) fn first_unlike<L: Ledger>(
-    sides: &Sides<'_>,
+    passing: &Passing<'_>,
     groups: &Classes,
     steps: &mut Steps<L>,
 ) -> Result<Option<(u32, u32)>, NoMemory>
-    requires firsts { groups.now.firsts ≡ group_firsts sides.now }
-    requires numbers { groups.now.numbers ≡ map (group_of sides.now) (places (number_of_workloads sides.now)) }
-    ensures found { IfOk result (λ found. found ≡ first_pair (faults.is_unlike sides.now) (number_of_workloads sides.now)) }
+    requires firsts { groups.now.firsts ≡ group_firsts passing.now }
+    requires numbers { groups.now.numbers ≡ map (group_of passing.now) (places (number_of_workloads passing.now)) }
+    ensures found { IfOk result (λ found. found ≡ first_pair (faults.is_unlike passing.now) (number_of_workloads passing.now)) }
     ensures least { steps.old ≤ steps.new }
 {
     let mut found = None;
-    for workload in sides.folded().workloads().first_of_kinds() {
+    for workload in passing.folded().workloads().first_of_kinds() {
         let first = first_of_group(groups, *workload);
-        found = least_with(sides, first, *workload, found, steps)?;
+        found = least_with(passing, first, *workload, found, steps)?;
     }
     Ok(found)
 }
 
 // The least pair, where these two are looked at as well: the first of a group and a workload of it.
 fn least_with<L: Ledger>(
-    sides: &Sides<'_>,
+    passing: &Passing<'_>,
     first: u32,
     workload: u32,
     found: Option<(u32, u32)>,
     steps: &mut Steps<L>,
 ) -> Result<Option<(u32, u32)>, NoMemory>
-    requires first { IsWorkload sides.now first }
-    requires workload { IsWorkload sides.now workload }
-    ensures found { IfOk result (λ least. least ≡ with_number (faults.differ sides.now) first workload found) }
+    requires first { IsWorkload passing.now first }
+    requires workload { IsWorkload passing.now workload }
+    ensures found { IfOk result (λ least. least ≡ with_number (faults.differ passing.now) first workload found) }
     ensures least { steps.old ≤ steps.new }
 {
     if !comes_before(first, workload, found) {
         return Ok(found);
     }
-    if differ(sides, first, workload, steps)? {
+    if differ(passing, first, workload, steps)? {
         return Ok(Some((first, workload)));
     }
     Ok(found)

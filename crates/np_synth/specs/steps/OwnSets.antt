@@ -4,7 +4,7 @@ use Rattle.np_conns.specs.Conns.{Conns}
 use Rattle.np_model.specs.declared.lists.EstateLists.{EstateLists}
 use Rattle.np_fold.specs.Workloads.{folding_of}
 use Rattle.np_synth.specs.Faults.{set_of}
-use Rattle.np_table.specs.Table.{IsWorkload, is_alone}
+use Rattle.np_kinds.specs.Between.{IsWorkload, is_alone}
 
 -- what passes from one workload to another, where it is defined
 abbrev pub own_set : EstateLists → ℕ → ℕ → List Conns

@@ -7,7 +7,7 @@ use Rattle.np_fold.specs.declared.traits.Traits.{Traits}
 use Rattle.np_model.specs.declared.owner.Owner.{Owner}
 use Rattle.np_rules.specs.model.Ends.{PodEnd}
 use Rattle.np_synth.specs.Groups.{relevant}
-use Rattle.np_table.specs.PairRules.{first_end}
+use Rattle.np_kinds.specs.Kinds.{first_end}
 
 -- an owner of no name
 abbrev pub nobody : Owner

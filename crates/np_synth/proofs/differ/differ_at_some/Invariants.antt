@@ -7,6 +7,6 @@ use Rattle.np_synth.specs.Faults.{differ_at}
 -- at none of the workloads so far do they differ
 abbrev pub invariant-loop-third : goal.invariant-loop-third
 invariant-loop-third g l = record {
-  none : list_any (differ_at l.sides l.a l.b) (places l.third) ≡ false;
+  none : list_any (differ_at l.passing l.a l.b) (places l.third) ≡ false;
   least : l.fn.steps ≤ l.steps;
 }

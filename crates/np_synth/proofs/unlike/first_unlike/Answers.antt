@@ -10,34 +10,34 @@ use Rattle.np_synth.proofs.unlike.first_unlike.Goals as goal
 use Rattle.np_synth.specs.Faults.{differ}
 use Rattle.np_synth.specs.steps.Least.{with_number}
 use Rattle.np_synth.specs.steps.Unlike.{IsLeastUnlike, first_with}
-use Rattle.np_table.specs.Table.{number_of_workloads}
+use Rattle.np_kinds.specs.Between.{number_of_workloads}
 
 pub first_of_group-first-requires-clause-number : goal.first_of_group-first-requires-clause-number
 first_of_group-first-requires-clause-number g c =
     let is = c.first_of_kinds-workload-items.ensures ∙ ap (λ (f : Folding). f.first_of_kinds) c.workloads.ensures.value ∙ ap (λ (l : EstateLists). (folding_of l).first_of_kinds) c.folded.ensures in
-    let within = item-in c.args.sides.now c.first_of_kinds-workload-items.result.now c.loop-workload.workload-index is c.loop-workload-test.true in
-    omega (arith, within, numbers-count c.args.sides.now c.args.groups.now.numbers c.args.groups.now.firsts c.requires.numbers c.requires.firsts)
+    let within = item-in c.args.passing.now c.first_of_kinds-workload-items.result.now c.loop-workload.workload-index is c.loop-workload-test.true in
+    omega (arith, within, numbers-count c.args.passing.now c.args.groups.now.numbers c.args.groups.now.firsts c.requires.numbers c.requires.firsts)
 
 pub first_of_group-first-requires-clause-within : goal.first_of_group-first-requires-clause-within
 first_of_group-first-requires-clause-within g c =
     let is = c.first_of_kinds-workload-items.ensures ∙ ap (λ (f : Folding). f.first_of_kinds) c.workloads.ensures.value ∙ ap (λ (l : EstateLists). (folding_of l).first_of_kinds) c.folded.ensures in
-    number-in c.args.sides.now c.args.groups.now.numbers c.args.groups.now.firsts c.requires.numbers c.requires.firsts _
-    (item-in c.args.sides.now c.first_of_kinds-workload-items.result.now c.loop-workload.workload-index is c.loop-workload-test.true)
+    number-in c.args.passing.now c.args.groups.now.numbers c.args.groups.now.firsts c.requires.numbers c.requires.firsts _
+    (item-in c.args.passing.now c.first_of_kinds-workload-items.result.now c.loop-workload.workload-index is c.loop-workload-test.true)
 
 pub least_with-requires-clause-first : goal.least_with-requires-clause-first
 least_with-requires-clause-first g c =
     let is = c.first_of_kinds-workload-items.ensures ∙ ap (λ (f : Folding). f.first_of_kinds) c.workloads.ensures.value ∙ ap (λ (l : EstateLists). (folding_of l).first_of_kinds) c.folded.ensures in
-    rw c.first_of_group-first.ensures (first_by-in c.args.sides.now c.args.groups.now.numbers c.args.groups.now.firsts c.requires.numbers c.requires.firsts _
-    (item-in c.args.sides.now c.first_of_kinds-workload-items.result.now c.loop-workload.workload-index is c.loop-workload-test.true))
+    rw c.first_of_group-first.ensures (first_by-in c.args.passing.now c.args.groups.now.numbers c.args.groups.now.firsts c.requires.numbers c.requires.firsts _
+    (item-in c.args.passing.now c.first_of_kinds-workload-items.result.now c.loop-workload.workload-index is c.loop-workload-test.true))
 
 pub least_with-requires-clause-workload : goal.least_with-requires-clause-workload
 least_with-requires-clause-workload g c =
     let is = c.first_of_kinds-workload-items.ensures ∙ ap (λ (f : Folding). f.first_of_kinds) c.workloads.ensures.value ∙ ap (λ (l : EstateLists). (folding_of l).first_of_kinds) c.folded.ensures in
-    item-in c.args.sides.now c.first_of_kinds-workload-items.result.now c.loop-workload.workload-index is c.loop-workload-test.true
+    item-in c.args.passing.now c.first_of_kinds-workload-items.result.now c.loop-workload.workload-index is c.loop-workload-test.true
 
 pub loop-workload-preserved : goal.loop-workload-preserved
 loop-workload-preserved g c =
-    let lists = c.args.sides.now in
+    let lists = c.args.passing.now in
     let items = c.first_of_kinds-workload-items.result.now in
     let i = c.loop-workload.workload-index in
     let w = slice_index items i in
@@ -53,7 +53,7 @@ loop-workload-preserved g c =
 
 pub returns-clause-found : goal.returns-clause-found
 returns-clause-found g c =
-    let lists = c.args.sides.now in
+    let lists = c.args.passing.now in
     let items = c.first_of_kinds-workload-items.result.now in
     let is = c.first_of_kinds-workload-items.ensures ∙ ap (λ (f : Folding). f.first_of_kinds) c.workloads.ensures.value ∙ ap (λ (l : EstateLists). (folding_of l).first_of_kinds) c.folded.ensures in
     unlike-first lists c.loop-workload.found (subst IsLawful c.folded.ensures c.workloads.ensures.lawful)

@@ -5,6 +5,6 @@ use Rattle.np_synth.specs.steps.Unlike.{IsLeastUnlike}
 -- what was found is the least among the workloads so far
 abbrev pub invariant-loop-workload : goal.invariant-loop-workload
 invariant-loop-workload g l = record {
-  found : IsLeastUnlike l.sides (take l.workload-index l.workload-items) l.found;
+  found : IsLeastUnlike l.passing (take l.workload-index l.workload-items) l.found;
   least : l.fn.steps ≤ l.steps;
 }

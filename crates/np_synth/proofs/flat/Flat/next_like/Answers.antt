@@ -5,19 +5,19 @@ use Rattle.np_synth.proofs.FindFacts.{range-none, range-some}
 use Rattle.np_synth.proofs.UnlikeFacts.{number-is, numbers-count}
 use Rattle.np_synth.proofs.flat.Flat.next_like.Goals as goal
 use Rattle.np_synth.specs.Groups.{group_of}
-use Rattle.np_table.specs.Table.{number_of_workloads}
+use Rattle.np_kinds.specs.Between.{number_of_workloads}
 
 pub overflow_step-other : goal.overflow_step-other
 overflow_step-other c = omega (arith, c.requires, ap number_of_workloads c.self.view_is, c.self.invariant.2)
 
 pub overflow_cast-other-end : goal.overflow_cast-other-end
 overflow_cast-other-end c =
-    let count = numbers-count c.self.inside.sides c.items-numbers.result.now c.self.inside.groups.firsts (c.items-numbers.ensures ∙ c.self.invariant.1) c.self.invariant.0 in
+    let count = numbers-count c.self.inside.passing c.items-numbers.result.now c.self.inside.groups.firsts (c.items-numbers.ensures ∙ c.self.invariant.1) c.self.invariant.0 in
     omega (arith, count, c.self.invariant.2)
 
 pub returns-then-numbers-other : goal.returns-then-numbers-other
 returns-then-numbers-other c =
-    let lists = c.self.inside.sides in
+    let lists = c.self.inside.passing in
     let count = numbers-count lists c.items-numbers.result.now c.self.inside.groups.firsts (c.items-numbers.ensures ∙ c.self.invariant.1) c.self.invariant.0 in
     let same = ap number_of_workloads c.self.view_is in
     let within : c.loop-other.other < number_of_workloads lists = omega (arith, c.loop-other-test.true, count) in
@@ -30,7 +30,7 @@ returns-then-numbers-other c =
 
 pub loop-other-preserved : goal.loop-other-preserved
 loop-other-preserved c =
-    let lists = c.self.inside.sides in
+    let lists = c.self.inside.passing in
     let count = numbers-count lists c.items-numbers.result.now c.self.inside.groups.firsts (c.items-numbers.ensures ∙ c.self.invariant.1) c.self.invariant.0 in
     let within : c.loop-other.other < number_of_workloads lists = omega (arith, c.loop-other-test.true, count) in
     let is = number-is lists c.items-numbers.result.now c.self.inside.groups.firsts (c.items-numbers.ensures ∙ c.self.invariant.1) c.self.invariant.0 c.loop-other.other within in
@@ -42,7 +42,7 @@ loop-other-preserved c =
 
 pub returns : goal.returns
 returns c =
-    let lists = c.self.inside.sides in
+    let lists = c.self.inside.passing in
     let count = numbers-count lists c.items-numbers.result.now c.self.inside.groups.firsts (c.items-numbers.ensures ∙ c.self.invariant.1) c.self.invariant.0 in
     let same = ap number_of_workloads c.self.view_is in
     sym (range-none (λ (k : ℕ). group_of c.args.self.now k == c.args.group) (c.args.workload + 1) (number_of_workloads c.args.self.now - (c.args.workload + 1))

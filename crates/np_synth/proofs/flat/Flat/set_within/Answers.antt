@@ -5,7 +5,7 @@ use Rattle.np_fold.specs.Workloads.{folding_of}
 use Rattle.np_synth.proofs.ReceiverFacts.{alone-from, next-in, next-is, own-is}
 use Rattle.np_synth.proofs.flat.Flat.set_within.Goals as goal
 use Rattle.np_synth.specs.Faults.{set_of}
-use Rattle.np_table.specs.Table.{is_alone, number_of_workloads}
+use Rattle.np_kinds.specs.Between.{is_alone, number_of_workloads}
 
 pub returns-then-is_some-clause-set : goal.returns-then-is_some-clause-set
 returns-then-is_some-clause-set g c =
