@@ -26,7 +26,7 @@ use Rattle.np_statements.specs.FirstBrokenLine.{IsFirstBrokenLine as IsFoundLine
 use Rattle.np_statements.specs.declared.asked_line.AskedLine.{AskedLine}
 use Rattle.np_statements.specs.declared.broken.Broken.{Broken}
 use Rattle.np_statements.specs.declared.statement_line.StatementLine.{StatementLine}
-use Rattle.np_table.specs.Table.{IsWorkload, source_pod}
+use Rattle.np_kinds.specs.Between.{IsWorkload, source_pod}
 
 -- ---- ends
 

@@ -113,7 +113,7 @@ part-at (byte ∷ before) line after begins ends plain = by (is_feed byte) refl 
         (onto_first-later byte parts (line_feeds later.0) ∙ sym (ap (λ (n : ℕ). slice_get parts n) count) ∙ rest (inr later))
 
 -- a line of a file is one of its parts
-part-of : (bytes : List ℕ) (number : ℕ) (text : List ℕ) → IsLineOf bytes number text → (k : ℕ) × (number ≡ 1 + k) × (slice_get (lines_of bytes) k ≡ Some text)
+pub part-of : (bytes : List ℕ) (number : ℕ) (text : List ℕ) → IsLineOf bytes number text → (k : ℕ) × (number ≡ 1 + k) × (slice_get (lines_of bytes) k ≡ Some text)
 part-of bytes number text is =
     let counted = is.counted in (
       line_feeds is.before,

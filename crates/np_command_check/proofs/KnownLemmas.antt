@@ -20,8 +20,8 @@ use Rattle.np_statements.specs.FoundEnds.{asked_of, ends_found}
 use Rattle.np_statements.specs.Steps.{◌>>=◌}
 use Rattle.np_statements.specs.declared.asked_line.AskedLine.{AskedLine}
 use Rattle.np_statements.specs.declared.statement_line.StatementLine.{StatementLine}
-use Rattle.np_table.proofs.MemberLemmas.{member-number, members-some, members-within, source-member}
-use Rattle.np_table.specs.Table.{IsWorkload, source_pod}
+use Rattle.np_kinds.proofs.MemberLemmas.{member-number, members-some, members-within, source-member}
+use Rattle.np_kinds.specs.Between.{IsWorkload, source_pod}
 
 -- ---- pods of workloads
 

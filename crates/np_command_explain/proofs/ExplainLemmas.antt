@@ -33,9 +33,9 @@ use Rattle.np_routes.proofs.KindRoutes.{one_workload-alike}
 use Rattle.np_rules.specs.model.Verdict.{IsEndOf, end_of}
 use Rattle.np_rules.specs.declared.packet.End.{End}
 use Rattle.np_rules.specs.declared.packet.End.TheVariants as end
-use Rattle.np_table.proofs.KindVerdicts.{SameKindEnd, SameKindEnd-ends, got-same, sent-same}
-use Rattle.np_table.proofs.MemberLemmas.{destination-member, member-number, members-some, members-within, source-member}
-use Rattle.np_table.specs.Table.{IsWorkload, destination_pod, is_alone, source_pod}
+use Rattle.np_kinds.proofs.KindVerdicts.{SameKindEnd, SameKindEnd-ends, got-same, sent-same}
+use Rattle.np_kinds.proofs.MemberLemmas.{destination-member, member-number, members-some, members-within, source-member}
+use Rattle.np_kinds.specs.Between.{IsWorkload, destination_pod, is_alone, source_pod}
 use Rattle.np_args.specs.declared.end_word.EndWord.{EndWord}
 use Rattle.np_args.specs.declared.end_word.EndWord.TheVariants as word
 

@@ -1,4 +1,5 @@
 pub mod ExplainLemmas
 pub mod NamedLemmas
+pub mod OneTextLemmas
 pub mod PromiseLemmas
 pub mod ShownLemmas

@@ -34,8 +34,8 @@ use Rattle.np_model.specs.Lawful.{IsLawful}
 use Rattle.np_model.specs.declared.lists.EstateLists.{EstateLists}
 use Rattle.np_rules.specs.declared.packet.End.{End}
 use Rattle.np_rules.specs.declared.packet.End.TheVariants as end
-use Rattle.np_table.proofs.MemberLemmas.{destination-member, member-number, members-some, members-within, not-alone, source-member}
-use Rattle.np_table.specs.Table.{destination_pod, source_pod}
+use Rattle.np_kinds.proofs.MemberLemmas.{destination-member, member-number, members-some, members-within, not-alone, source-member}
+use Rattle.np_kinds.specs.Between.{destination_pod, source_pod}
 
 -- an end is one of those that are asked about: a pod of the workload, or the address
 abbrev pub IsOf : EstateLists → AskedEnd → End → Type 0

@@ -23,7 +23,7 @@ use Rattle.np_model.specs.declared.direction.Direction.TheVariants.{Ingress, Egr
 use Rattle.np_report.specs.RowText.{family_suffix}
 use Rattle.np_rules.specs.declared.packet.End.{End}
 use Rattle.np_rules.specs.declared.packet.End.TheVariants as end
-use Rattle.np_table.specs.Table.{destination_pod, is_alone, source_pod}
+use Rattle.np_kinds.specs.Between.{destination_pod, is_alone, source_pod}
 use Rattle.np_args.specs.declared.end_word.EndWord.{EndWord}
 use Rattle.np_args.specs.declared.end_word.EndWord.TheVariants as word
 

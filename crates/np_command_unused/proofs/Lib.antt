@@ -1,1 +1,2 @@
+pub mod OneListLemmas
 pub mod PromiseLemmas

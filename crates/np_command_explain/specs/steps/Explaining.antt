@@ -17,7 +17,7 @@ use Rattle.np_model.specs.declared.direction.Direction.{Direction}
 use Rattle.np_model.specs.declared.direction.Direction.TheVariants.{Ingress, Egress}
 use Rattle.np_report.specs.RowText.{family_suffix}
 use Rattle.np_rules.specs.model.Verdict.{IsEndOf}
-use Rattle.np_table.specs.Table.{IsWorkload}
+use Rattle.np_kinds.specs.Between.{IsWorkload}
 
 -- the number is a workload's
 abbrev pub IsAsked : EstateLists → AskedEnd → Type 0
