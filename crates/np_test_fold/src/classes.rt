@@ -1,32 +1,40 @@
-//! The classes of a list of numbers.
+//! The classes of a list of numbers, and names for things of which several wish for one name.
 
+use np_base::Text;
 use np_classes::{Classes, groups};
+use np_names::all_by_name;
 
 #[test]
-fn classes_of_numbers(rt: HostRuntime) {
-    let keys: [u64; 7] = [7, 3, 7, u64::MAX, 0, 3, u64::MAX - 1];
+fn example_classes(rt: HostRuntime) {
+    let keys: [u64; 4] = [7, u64::MAX, 7, 0];
     let keys = Vec::from_array(rt.alloc(), keys).expect(&rt, "keys");
     let classes = Classes::of(rt.alloc(), keys).expect(&rt, "classes");
-    assert!(rt; classes.firsts.items() == [0, 1, 3, 4, 6].as_slice());
-    assert!(rt; classes.numbers.items() == [0, 1, 0, 2, 3, 1, 4].as_slice());
+    assert!(rt; classes.firsts.items() == [0, 1, 3].as_slice());
+    assert!(rt; classes.numbers.items() == [0, 1, 0, 2].as_slice());
 }
 
 #[test]
-fn places_by_their_numbers(rt: HostRuntime) {
-    let made = groups(rt.alloc(), &[2, 0, 2, 1, 0], 4).expect(&rt, "groups");
-    assert_eq!(rt; made.items().len(), 4);
-    assert!(rt; made.items()[0].items() == [1, 4].as_slice());
-    assert!(rt; made.items()[1].items() == [3].as_slice());
-    assert!(rt; made.items()[2].items() == [0, 2].as_slice());
-    assert!(rt; made.items()[3].items().is_empty());
+fn example_groups(rt: HostRuntime) {
+    let made = groups(rt.alloc(), &[1, 0, 1], 3).expect(&rt, "groups");
+    assert_eq!(rt; made.items().len(), 3);
+    assert!(rt; made.items()[0].items() == [1].as_slice());
+    assert!(rt; made.items()[1].items() == [0, 2].as_slice());
+    assert!(rt; made.items()[2].items().is_empty());
 }
 
+// The byte of `#` stands between those of `!` and `$`.
 #[test]
-fn nothing_has_no_classes(rt: HostRuntime) {
-    let keys: Vec<u64> = Vec::new(rt.alloc());
-    let classes = Classes::of(rt.alloc(), keys).expect(&rt, "classes");
-    assert!(rt; classes.firsts.items().is_empty());
-    assert!(rt; classes.numbers.items().is_empty());
-    let made = groups(rt.alloc(), &[], 0).expect(&rt, "groups");
-    assert!(rt; made.items().is_empty());
+fn example_names(rt: HostRuntime) {
+    let mut wishes = Vec::new(rt.alloc());
+    for wish in ["b$", "b", "b!", "b"] {
+        let wish = Text::of(rt.alloc(), wish).expect(&rt, "a wish");
+        wishes.push(wish).expect(&rt, "a place");
+    }
+    assert!(rt; wishes.len() == 4);
+    let made = all_by_name(rt.alloc(), &wishes).expect(&rt, "names");
+    static WANTED: &[(&str, u32)] = &[("b!", 2), ("b#1", 1), ("b#2", 3), ("b$", 0)];
+    assert!(rt; made.items().len() == 4);
+    for (one, (name, place)) in made.items().iter().zip(WANTED) {
+        assert!(rt; one.name.as_str() == *name && one.place == *place, "{name}");
+    }
 }

@@ -1,41 +1,14 @@
-//! Folding by example: what rules see of the pods of lists that are read, the workloads that they make, and the rows of
-//! these. It holds tests alone. What a list must answer follows by hand from the rules of docs/use/MODEL.md and the forms of
-//! docs/use/OUTPUT.md.
+//! Folding by example: what rules see of the pods of a list, the workloads that they make, the rows of these, and reports of
+//! rows. It holds tests alone: a call each of all that may want memory. What many other lists give stands in transcripts/.
 #![tactic(auto)]
 
 #[cfg(test)]
-mod answers;
+mod asked;
 #[cfg(test)]
 mod classes;
 #[cfg(test)]
-mod described;
-#[cfg(test)]
-mod limits;
-#[cfg(test)]
-mod lists;
-#[cfg(test)]
-mod names;
-#[cfg(test)]
-mod numbers;
-#[cfg(test)]
-mod owners;
-#[cfg(test)]
-mod pairs;
-#[cfg(test)]
-mod question;
-#[cfg(test)]
-mod ranges;
+mod folding;
 #[cfg(test)]
 mod reports;
 #[cfg(test)]
-mod rows;
-#[cfg(test)]
-mod seen;
-#[cfg(test)]
 mod tables;
-#[cfg(test)]
-mod told_apart;
-#[cfg(test)]
-mod traits;
-#[cfg(test)]
-mod written;

@@ -1,7 +1,7 @@
-//! Runs of which one call fails.
+//! A run of each command at least: what comes of it, and what where one call fails.
 
 use crate::failing::Place;
-use crate::script::expect_script;
+use crate::transcript::expect_transcript;
 use std::test::Fail;
 
 static TABLES: &str = r#"# two pods
@@ -103,11 +103,11 @@ static MESSAGES: &str = r#"# notes
 < {"apiVersion":"v1","kind":"Pod","metadata":{"name":"f"},"spec":{},"status":{"phase":"Succeeded"}},
 < {"apiVersion":"v1","kind":"ConfigMap","metadata":{"name":"c"}}
 < ],"kind":"List"}
-* list
-> 0.0.0.0-255.255.255.255 => default/a[Pod] : All Connections
-> ::-ffff:ffff:ffff:ffff:ffff:ffff:ffff:ffff => default/a[Pod] : All Connections
-> default/a[Pod] => 0.0.0.0-255.255.255.255 : All Connections
-> default/a[Pod] => ::-ffff:ffff:ffff:ffff:ffff:ffff:ffff:ffff : All Connections
+0 list
+> 0.0.0.0/0 => default/a[Pod] : All Connections
+> ::/0 => default/a[Pod] : All Connections
+> default/a[Pod] => 0.0.0.0/0 : All Connections
+> default/a[Pod] => ::/0 : All Connections
 ! note: host network pods left out: 1
 ! note: finished pods left out: 1
 ! note: objects of other kinds skipped: 1
@@ -184,14 +184,20 @@ static USAGE: &str = r#"# other words
 !        np sample N"#;
 
 #[test]
+fn example_np_main(rt: HostRuntime) -> Result<(), Fail> {
+    expect_transcript(&rt, rt.alloc(), TABLES, None)?;
+    expect_transcript(&rt, rt.alloc(), OTHERS, None)?;
+    Ok(())
+}
+
+#[test]
 fn failures(rt: HostRuntime) -> Result<(), Fail> {
     let alloc = rt.alloc();
-    expect_script(&rt, alloc, TABLES, None)?;
-    expect_script(&rt, alloc, TABLES, Some(Place::Begin))?;
-    expect_script(&rt, alloc, TABLES, Some(Place::Read))?;
-    expect_script(&rt, alloc, TABLES, Some(Place::Out))?;
-    expect_script(&rt, alloc, OTHERS, Some(Place::Out))?;
-    expect_script(&rt, alloc, MESSAGES, Some(Place::Err))?;
-    expect_script(&rt, alloc, USAGE, Some(Place::Err))?;
+    expect_transcript(&rt, alloc, TABLES, Some(Place::Begin))?;
+    expect_transcript(&rt, alloc, TABLES, Some(Place::Read))?;
+    expect_transcript(&rt, alloc, TABLES, Some(Place::Out))?;
+    expect_transcript(&rt, alloc, OTHERS, Some(Place::Out))?;
+    expect_transcript(&rt, alloc, MESSAGES, Some(Place::Err))?;
+    expect_transcript(&rt, alloc, USAGE, Some(Place::Err))?;
     Ok(())
 }

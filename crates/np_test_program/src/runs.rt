@@ -93,15 +93,14 @@ pub fn words_of(alloc: Global, line: &str) -> Result<Vec<String>, NoMemory> {
     Ok(words)
 }
 
-/// Stops the test where the run over these inputs, in which no call fails, gives anything else.
+/// Stops the test where the run over these inputs gives anything else.
 pub fn expect_over(
     rt: &impl Abort,
     alloc: Global,
     inputs: MemInputs,
     wanted: Wanted,
 ) -> Result<(), NoMemory> {
-    let room = AMPLE_ROOM.saturating_add(wanted.out.len());
-    let out = MemSink::new(alloc, room, LARGE_PIECE)?;
+    let out = sink(alloc, LARGE_PIECE)?;
     let ran = run(alloc, wanted.words, inputs, out, sink(alloc, LARGE_PIECE)?)?;
     expect(rt, &ran, wanted);
     Ok(())

@@ -1,26 +1,15 @@
-//! Verdicts by example: lists that are read, and `allows` and the layers of np_rules on their estates, against answers that were
-//! written by hand. It holds tests alone.
+//! An example of each call of np_rules that may want memory, on one list as kubectl prints it. It holds tests alone.
 #![tactic(auto)]
 
 #[cfg(test)]
 mod addresses;
 #[cfg(test)]
-mod admin_policies;
+mod asked;
 #[cfg(test)]
-mod ends;
+mod layers;
 #[cfg(test)]
-mod net_policies;
+mod packets;
 #[cfg(test)]
-mod passing;
-#[cfg(test)]
-mod peers;
-#[cfg(test)]
-mod ports;
-#[cfg(test)]
-mod rule_ids;
-#[cfg(test)]
-mod script;
+mod rule_names;
 #[cfg(test)]
 mod strangers;
-#[cfg(test)]
-mod verdicts;
