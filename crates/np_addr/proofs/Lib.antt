@@ -15,6 +15,7 @@ pub mod Pairs
 pub mod PieceLemmas
 pub mod PrefixLemmas
 pub mod RightPrefixes
+pub mod SameLists
 pub mod SideLemmas
 pub mod SubsetLemmas
 pub mod TextLemmas

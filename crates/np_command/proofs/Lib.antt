@@ -1,4 +1,5 @@
 pub mod EndLemmas
+pub mod InputLemmas
 pub mod LeftLemmas
 pub mod PuttingLemmas
 pub mod SinkLemmas

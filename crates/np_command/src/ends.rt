@@ -1,9 +1,9 @@
 //! Ends as words name them, and as they are printed.
-ghost use Rattle.std.specs.Prelude.{◌≡◌, ◌<◌, IfOk, length};
+ghost use Rattle.std.specs.Prelude.{◌≡◌, IfOk};
 ghost use Rattle.np_command.specs.Inputs.{Gives};
 ghost use Rattle.np_command.specs.Ends as spec;
 ghost use Rattle.np_fold.specs.Workloads.{folding_of, number_named};
-ghost use Rattle.np_kinds.specs.Between.{IsWorkload, source_pod};
+ghost use Rattle.np_kinds.specs.Between.{IsWorkload};
 
 use crate::failure::Failure;
 use crate::fault::Fault;
@@ -25,15 +25,6 @@ pub fn workload_of(folded: &Folded, name: &Text) -> Result<u32, Failure>
         Some(workload) => Ok(workload),
         None => Err(Failure::Refused(Fault::UnknownEnd { name: name.copy()? })),
     }
-}
-
-/// The place of the pod that stands for a workload: its first one.
-pub fn first_pod(folded: &Folded, workload: u32) -> u32
-    requires { IsWorkload folded.now workload }
-    ensures value { result ≡ source_pod (folding_of folded.now) workload }
-    ensures within { result < length folded.now.pods }
-{
-    folded.workloads().members(workload)[0]
 }
 
 /// An end as it is printed.

@@ -12,11 +12,12 @@ ghost use Rattle.np_kinds.specs.Between.{IsWorkload};
 
 use np_args::Format;
 use np_base::{NoMemory, Seq, Text};
-use np_command::{Failure, Fault, WriteFault, first_pod, workload_of};
+use np_command::{Failure, Fault, WriteFault, workload_of};
 use np_conns::print_conns;
 use np_exposure::{ExposureFault, ExposureRow, MOST_PATTERNS, exposure, print_peer, weight};
 use np_fold::Folded;
 use np_io::{BufferedSink, Sink};
+use np_kinds::first_place;
 use np_model::Direction;
 use np_report::{CsvForm, Form, JsonForm, RowText, TextForm, lines_of};
 use np_steps::Steps;
@@ -119,7 +120,7 @@ fn must_be_light(alloc: Global, folded: &Folded, side: ShownSide) -> Result<(), 
     ensures { Gives result (spec.nothing_unless (spec.weight_fault folded.now side)) }
 {
     let workloads = folded.workloads();
-    let pod = first_pod(folded, side.workload);
+    let pod = first_place(folded, side.workload);
     let weight = weight(alloc, folded.estate(), pod, side.direction)?;
     if weight <= MOST_PATTERNS {
         return Ok(());
@@ -200,7 +201,7 @@ fn rows_at<L: Ledger>(
 {
     let workloads = folded.workloads();
     let name = workloads.name(side.workload);
-    let pod = first_pod(folded, side.workload);
+    let pod = first_place(folded, side.workload);
     match exposure(alloc, folded.estate(), pod, side.direction, steps) {
         Ok(rows) => row_texts(alloc, name, side.direction, rows.items()),
         Err(ExposureFault::NoMemory) => Err(NoMemory),

@@ -1,17 +1,16 @@
 -- What follows of a whole report of `flatten`, and of what is refused.
-use Rattle.std.proofs.Common.{◌≡◌, ℕ, List, [], ◌∷◌, Bool, true, false, Option, None, Some, Result, Ok, Err, refl, subst, ◌∙◌}
-use Rattle.std.specs.Prelude.{IsPermutation, nat_le}
+use Rattle.std.proofs.Common.{◌≡◌, ℕ, List, [], ◌∷◌, Option, None, Some, Ok, refl, subst, ◌∙◌}
+use Rattle.std.specs.Prelude.{IsPermutation}
 use Rattle.std.proofs.lemmas.Option.{none-some, same_Some}
-use Rattle.np_command.specs.Inputs.{lists_of, small_estate, small_reading}
+use Rattle.np_command.specs.Inputs.{lists_of}
 use Rattle.np_command.specs.Prints.{fault_in, text_in}
 use Rattle.np_command.specs.Sinks.{SinkTrace, TookWhole}
 use Rattle.np_command.specs.declared.fault.Fault.{Fault}
+use Rattle.np_command.proofs.InputLemmas.{read-small}
 use Rattle.np_command_flatten.proofs.RefusedLemmas.{tells-alike, tells-split}
 use Rattle.np_command_flatten.proofs.VerdictLemmas.{address-same, between-same}
 use Rattle.np_command_flatten.specs.Promise.{FlattensAll, RefusesFlatten}
 use Rattle.np_command_flatten.specs.Report.{flatten_reply, flatten_text, policies_unless}
-use Rattle.np_fold.specs.Workloads.{workload_count}
-use Rattle.np_fold.specs.declared.workloads.TheConstants.{MOST_WORKLOADS}
 use Rattle.np_manifests.proofs.EstateLemmas.{policies-once}
 use Rattle.np_manifests.proofs.FlatLemmas.{estate_of-flat, policies-apart, policies-printable}
 use Rattle.np_manifests.proofs.LawfulReads.{estate-lawful}
@@ -22,7 +21,6 @@ use Rattle.np_model.specs.Lawful.{IsLawful}
 use Rattle.np_model.specs.declared.lists.EstateLists.{EstateLists}
 use Rattle.np_model.specs.declared.network_policy.NetPolicy.{NetPolicy}
 use Rattle.np_reading.specs.Reading.{estate_of}
-use Rattle.np_reading.specs.Readings.{Reading}
 use Rattle.np_synth.proofs.FlatVerdicts.{addresses-same, pods-same}
 use Rattle.np_synth.specs.Faults.{fault_by, flat_fault, is_split, is_unlike}
 use Rattle.np_synth.specs.Flat.{flat_policies}
@@ -32,22 +30,6 @@ use Rattle.np_synth.specs.declared.fault.FlatFault.TheVariants.{Alike, NoMemory,
 use Rattle.np_kinds.specs.Between.{number_of_workloads}
 
 -- ---- what is said
-
-abbrev Reads : EstateLists → EstateLists → Type 0
-Reads found lists = ◌≡◌ {A = Reading EstateLists} (Ok found) (Ok lists)
-
-abbrev Kept : EstateLists → EstateLists → Type 0
-Kept found lists = ◌≡◌ {A = Result EstateLists Fault} (Ok found) (Ok lists)
-
--- what is small enough was read
-read-small : (reads : Reading EstateLists) (lists : EstateLists) → small_reading reads ≡ Ok lists → reads ≡ Ok lists
-unfolding small_estate
-read-small (Err refusal) lists read = absurd (cc)
-read-small (Ok found) lists read = by (nat_le (workload_count found) MOST_WORKLOADS) refl read
-  where
-    by : (few : Bool) → nat_le (workload_count found) MOST_WORKLOADS ≡ few → small_reading (Ok found) ≡ Ok lists → Reads found lists
-    by true is read = let same : Kept found lists = rw is at read in cc
-    by false is read = absurd (let wrong = rw is at read in cc)
 
 memory-none : (split unlike : Option (ℕ × ℕ)) → fault_by split unlike ≡ Some NoMemory → ⊥
 memory-none (Some pair) unlike is = cc

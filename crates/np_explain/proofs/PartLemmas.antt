@@ -120,12 +120,12 @@ module _ (side : PodSide) (looks_at : PortSpot → Contact) (layer : Layer Conns
   entry_marks k d within =
       let filled = carved.some_spot k d within in
       let exact = (carved.exact k d within filled.0).0 filled.1 in
-      subst (IsMarkOf side) exact.1 (mark_named side looks_at layer lawful is filled.0 exact.0).1
+      subst (IsMarkOf side) exact.1 (mark_named has_spot is_spot side looks_at layer lawful is filled.0 exact.0).1
 
   entry_spots : All (λ entry. (spot : PortSpot) → is_spot spot ≡ true → IsTrue (has_spot entry.set spot) ↔
       (decider side.lists side.direction (pod (near_pod side)) (looks_at spot) ≡ mark_decider side entry.mark)) entries
   entry_spots k d within = λ spot inside.
-      let named = mark_named side looks_at layer lawful is spot inside in
+      let named = mark_named has_spot is_spot side looks_at layer lawful is spot inside in
       let exact = carved.exact k d within spot in (
         λ has. sym named.0 ∙ ap (mark_decider side) (exact.0 has).1,
         λ same. exact.1 (inside, marks_told side lawful (mark_of (λ set. has_spot set spot) layer) _ named.1 (entry_marks k d within) (named.0 ∙ same)),

@@ -14,7 +14,7 @@ use Rattle.np_rules.specs.declared.decider.Decider.{Decider}
 use Rattle.np_rules.specs.declared.decider.Decider.TheVariants.{NoSide, Admin, Net, Isolated, Base, Free}
 use Rattle.np_rules.specs.declared.decider.RuleName.{RuleName}
 
-same_rule-Decides : (a b : RuleName) → Decides (same_rule a b) (a ≡ b)
+pub same_rule-Decides : (a b : RuleName) → Decides (same_rule a b) (a ≡ b)
 same_rule-Decides a b =
     let parts = Decides-and (bytes_eq a.policy b.policy) (a.place == b.place) (bytes_eq-Decides a.policy b.policy) (Decides-eqb a.place b.place) in
     let of_policy : List ℕ → RuleName = λ policy. record { policy = policy; place = a.place } in

@@ -1,4 +1,4 @@
--- The mark of a spot stands for what decides it.
+-- The mark of a spot stands for what decides it, whatever the spots are.
 use Rattle.std.proofs.Common.{◌≡◌, ℕ, suc, ◌+◌, List, [], ◌∷◌, Bool, true, false, find, Option, Some, None, refl, sym, ap, ◌∙◌, subst, arith, if◌then◌else◌}
 use Rattle.std.specs.List.{enumerate_from, position_from, slice_get}
 use Rattle.std.specs.Option.{option_map, option_map_or}
@@ -32,16 +32,16 @@ use Rattle.np_tiers.specs.declared.mark.Mark.{Mark}
 -- ---- places and items
 
 -- what stands at the places from n on
-abbrev StandsFrom : {X : Type 0} → List X → ℕ → List X → Type 0
+abbrev pub StandsFrom : {X : Type 0} → List X → ℕ → List X → Type 0
 StandsFrom all n items = (k : ℕ) → slice_get all (n + k) ≡ slice_get items k
 
-stands_all : {X : Type 0} (all : List X) → StandsFrom all 0 all
+pub stands_all : {X : Type 0} (all : List X) → StandsFrom all 0 all
 stands_all all k = let same : 0 + k ≡ k = omega arith in ap (slice_get all) same
 
-stands_first : {X : Type 0} (all : List X) (n : ℕ) (x : X) (items : List X) → StandsFrom all n (x ∷ items) → slice_get all n ≡ Some x
+pub stands_first : {X : Type 0} (all : List X) (n : ℕ) (x : X) (items : List X) → StandsFrom all n (x ∷ items) → slice_get all n ≡ Some x
 stands_first all n x items stands = let same : n ≡ n + 0 = omega arith in ap (slice_get all) same ∙ stands 0
 
-stands_rest : {X : Type 0} (all : List X) (n : ℕ) (x : X) (items : List X) → StandsFrom all n (x ∷ items) → StandsFrom all (n + 1) items
+pub stands_rest : {X : Type 0} (all : List X) (n : ℕ) (x : X) (items : List X) → StandsFrom all n (x ∷ items) → StandsFrom all (n + 1) items
 stands_rest all n x items stands k = let same : n + 1 + k ≡ n + suc k = omega arith in ap (slice_get all) same ∙ stands (suc k)
 
 -- the first set that has a spot stands at the place of the first item that passes
@@ -59,14 +59,14 @@ found {S} {X} at test all n (set ∷ sets) (x ∷ items) related stands =
     go false rest = rest
 
 -- the rule at the place of an admin part, and what the part says; and a rule with what it says
-abbrev seen : List PlacedAdminRule → ℕ × AdminPart Conns → Option PlacedAdminRule × TierAction
+abbrev seen : {S : Type 0} → List PlacedAdminRule → ℕ × AdminPart S → Option PlacedAdminRule × TierAction
 seen all numbered = (slice_get all numbered.0, numbered.1.action)
 
 abbrev spoken : PlacedAdminRule → Option PlacedAdminRule × TierAction
 spoken placed = (Some placed, tier_action placed.rule.action)
 
 -- so it is for the admin parts, of which each says what its rule says
-admin_found : (at : Conns → Bool) (test : PlacedAdminRule → Bool) (all : List PlacedAdminRule) (n : ℕ) (parts : List (AdminPart Conns)) (items : List PlacedAdminRule) →
+admin_found : {S : Type 0} (at : S → Bool) (test : PlacedAdminRule → Bool) (all : List PlacedAdminRule) (n : ℕ) (parts : List (AdminPart S)) (items : List PlacedAdminRule) →
     Pairwise (λ part placed. (part.action ≡ tier_action placed.rule.action) × (at part.set ≡ test placed)) parts items → StandsFrom all n items →
     option_map (seen all) (find (λ numbered. at numbered.1.set) (enumerate_from n parts)) ≡ option_map spoken (find test items)
 admin_found at test all n [] [] related stands = refl
@@ -129,7 +129,7 @@ action_named side place placed policy.Pass lower decides is says below =
     let passed = below (Some place) (slice_get_within (admin_rules side) place placed is) in
     (passed.0 ∙ ap met is, passed.1)
 
-admin_named : (side : PodSide) (numbered : Option (ℕ × AdminPart Conns)) (decides : Option PlacedAdminRule) (lower : Option ℕ → Mark) (below : Option RuleName → Decider) →
+admin_named : {S : Type 0} (side : PodSide) (numbered : Option (ℕ × AdminPart S)) (decides : Option PlacedAdminRule) (lower : Option ℕ → Mark) (below : Option RuleName → Decider) →
     option_map (seen (admin_rules side)) numbered ≡ option_map spoken decides →
     ((pass : Option ℕ) → IsPassOf side pass → (mark_decider side (lower pass) ≡ below (pass_name side pass)) × IsMarkOf side (lower pass)) →
     (mark_decider side (admin_mark numbered lower) ≡ admin_decides decides below) × IsMarkOf side (admin_mark numbered lower)
@@ -161,39 +161,36 @@ says_of side looks_at layer is = record {
       (base_rules side) is.base;
 }
 
-module _ (side : PodSide) (looks_at : PortSpot → Contact) (layer : Layer Conns) (lawful : IsLawful side.lists) (is : IsLayer has_spot is_spot looks_at side.lists side.direction (near_pod side) layer)
-    (spot : PortSpot) (within : is_spot spot ≡ true) where
-  at : Conns → Bool
-  at set = has_spot set spot
-
-  nets : option_map (slice_get (net_rules side)) (position_from (λ set. has_spot set spot) 0 layer.net) ≡ option_map Some (find (placed_net_matches (looks_at spot)) (net_rules side))
+module _ {S Spot : Type 0} (has : S → Spot → Bool) (in_space : Spot → Bool) (side : PodSide) (looks_at : Spot → Contact) (layer : Layer S) (lawful : IsLawful side.lists)
+    (is : IsLayer has in_space looks_at side.lists side.direction (near_pod side) layer) (spot : Spot) (within : in_space spot ≡ true) where
+  nets : option_map (slice_get (net_rules side)) (position_from (λ set. has set spot) 0 layer.net) ≡ option_map Some (find (placed_net_matches (looks_at spot)) (net_rules side))
   nets =
-      found (λ set. has_spot set spot) (placed_net_matches (looks_at spot)) (net_rules side) 0 layer.net (net_rules side)
-      (Pairwise-weaker (λ set placed. IsSetOf has_spot is_spot looks_at set (matches_of placed)) (λ set placed. has_spot set spot ≡ placed_net_matches (looks_at spot) placed)
+      found (λ set. has set spot) (placed_net_matches (looks_at spot)) (net_rules side) 0 layer.net (net_rules side)
+      (Pairwise-weaker (λ set placed. IsSetOf has in_space looks_at set (matches_of placed)) (λ set placed. has set spot ≡ placed_net_matches (looks_at spot) placed)
       (λ set placed members. members spot within) layer.net (net_rules side) is.net)
       (stands_all (net_rules side))
 
-  bases : option_map (slice_get (base_rules side)) (position_from (λ part. has_spot part.set spot) 0 layer.base) ≡ option_map Some
+  bases : option_map (slice_get (base_rules side)) (position_from (λ part. has part.set spot) 0 layer.base) ≡ option_map Some
       (find (λ placed. admin_rule_matches placed.rule (looks_at spot)) (base_rules side))
   bases =
-      found (λ part. has_spot part.set spot) (λ placed. admin_rule_matches placed.rule (looks_at spot)) (base_rules side) 0 layer.base (base_rules side)
-      (Pairwise-weaker (λ part placed. IsBasePart has_spot is_spot looks_at part placed.rule) (λ part placed. has_spot part.set spot ≡ admin_rule_matches placed.rule (looks_at spot))
+      found (λ part. has part.set spot) (λ placed. admin_rule_matches placed.rule (looks_at spot)) (base_rules side) 0 layer.base (base_rules side)
+      (Pairwise-weaker (λ part placed. IsBasePart has in_space looks_at part placed.rule) (λ part placed. has part.set spot ≡ admin_rule_matches placed.rule (looks_at spot))
       (λ part placed one. one.members spot within) layer.base (base_rules side) is.base)
       (stands_all (base_rules side))
 
-  admins : option_map (seen (admin_rules side)) (find (λ n. has_spot n.1.set spot) (enumerate_from 0 layer.admin)) ≡ option_map spoken
+  admins : option_map (seen (admin_rules side)) (find (λ n. has n.1.set spot) (enumerate_from 0 layer.admin)) ≡ option_map spoken
       (find (λ placed. admin_rule_matches placed.rule (looks_at spot)) (admin_rules side))
   admins =
-      admin_found (λ set. has_spot set spot) (λ placed. admin_rule_matches placed.rule (looks_at spot)) (admin_rules side) 0 layer.admin (admin_rules side)
-      (Pairwise-weaker (λ part placed. IsAdminPart has_spot is_spot looks_at part placed.rule)
-      (λ part placed. (part.action ≡ tier_action placed.rule.action) × (has_spot part.set spot ≡ admin_rule_matches placed.rule (looks_at spot)))
+      admin_found (λ set. has set spot) (λ placed. admin_rule_matches placed.rule (looks_at spot)) (admin_rules side) 0 layer.admin (admin_rules side)
+      (Pairwise-weaker (λ part placed. IsAdminPart has in_space looks_at part placed.rule)
+      (λ part placed. (part.action ≡ tier_action placed.rule.action) × (has part.set spot ≡ admin_rule_matches placed.rule (looks_at spot)))
       (λ part placed one. (one.action, one.members spot within)) layer.admin (admin_rules side) is.admin)
       (stands_all (admin_rules side))
 
   -- below the admin tier
   lower_named : (pass : Option ℕ) → IsPassOf side pass →
-      (mark_decider side (lower_mark (λ set. has_spot set spot) layer pass) ≡ lower_decider side.lists side.direction (near_pod side) (looks_at spot) (pass_name side pass)) × IsMarkOf side
-      (lower_mark (λ set. has_spot set spot) layer pass)
+      (mark_decider side (lower_mark (λ set. has set spot) layer pass) ≡ lower_decider side.lists side.direction (near_pod side) (looks_at spot) (pass_name side pass)) × IsMarkOf side
+      (lower_mark (λ set. has set spot) layer pass)
   lower_named pass there =
       by (is_isolated side.lists.net_policies side.direction (near_pod side)) layer.isolated is.isolated
     where
@@ -201,24 +198,24 @@ module _ (side : PodSide) (looks_at : PortSpot → Contact) (layer : Layer Conns
       names = isolating_names side.lists.net_policies side.direction (near_pod side)
 
       by : (isolated made : Bool) → made ≡ isolated →
-          (mark_decider side (if made then net_mark pass (position_from (λ set. has_spot set spot) 0 layer.net) else base_mark pass (position_from (λ part. has_spot part.set spot) 0 layer.base)) ≡
+          (mark_decider side (if made then net_mark pass (position_from (λ set. has set spot) 0 layer.net) else base_mark pass (position_from (λ part. has part.set spot) 0 layer.base)) ≡
           (if isolated then net_decides (pass_name side pass) names (net_decider side.lists.net_policies side.direction (near_pod side) (looks_at spot)) else base_decides (pass_name side pass)
           (base_decider side.lists.baseline side.direction (near_pod side) (looks_at spot)))) × IsMarkOf side
-          (if made then net_mark pass (position_from (λ set. has_spot set spot) 0 layer.net) else base_mark pass (position_from (λ part. has_spot part.set spot) 0 layer.base))
+          (if made then net_mark pass (position_from (λ set. has set spot) 0 layer.net) else base_mark pass (position_from (λ part. has part.set spot) 0 layer.base))
       by true true same =
-          let one = net_named side pass (position_from (λ set. has_spot set spot) 0 layer.net) (find (placed_net_matches (looks_at spot)) (net_rules side)) there nets in
+          let one = net_named side pass (position_from (λ set. has set spot) 0 layer.net) (find (placed_net_matches (looks_at spot)) (net_rules side)) there nets in
           (one.0 ∙ ap (net_decides (pass_name side pass) names) (sym (net_decider_is_first side.lists.net_policies side.direction (near_pod side) (looks_at spot) lawful.net_policies_ascend)), one.1)
-      by false false same = base_named side pass (position_from (λ part. has_spot part.set spot) 0 layer.base)
+      by false false same = base_named side pass (position_from (λ part. has part.set spot) 0 layer.base)
           (find (λ placed. admin_rule_matches placed.rule (looks_at spot)) (base_rules side)) there bases
       by true false same = cc
       by false true same = cc
 
   -- What the mark of a spot stands for decides it, and the rules at its places are there.
-  pub mark_named : (mark_decider side (mark_of (λ set. has_spot set spot) layer) ≡ decider side.lists side.direction (pod (near_pod side)) (looks_at spot)) × IsMarkOf side
-      (mark_of (λ set. has_spot set spot) layer)
+  pub mark_named : (mark_decider side (mark_of (λ set. has set spot) layer) ≡ decider side.lists side.direction (pod (near_pod side)) (looks_at spot)) × IsMarkOf side
+      (mark_of (λ set. has set spot) layer)
   mark_named =
-      let one = admin_named side (find (λ n. has_spot n.1.set spot) (enumerate_from 0 layer.admin)) (find (λ placed. admin_rule_matches placed.rule (looks_at spot)) (admin_rules side))
-      (lower_mark (λ set. has_spot set spot) layer) (lower_decider side.lists side.direction (near_pod side) (looks_at spot)) admins lower_named in (
+      let one = admin_named side (find (λ n. has n.1.set spot) (enumerate_from 0 layer.admin)) (find (λ placed. admin_rule_matches placed.rule (looks_at spot)) (admin_rules side))
+      (lower_mark (λ set. has set spot) layer) (lower_decider side.lists side.direction (near_pod side) (looks_at spot)) admins lower_named in (
         one.0 ∙ ap (λ decides. admin_decides decides (lower_decider side.lists side.direction (near_pod side) (looks_at spot)))
             (sym (decider_is_first side.lists.admin_policies side.direction (near_pod side) (looks_at spot) lawful.admin_policies_ascend)),
         one.1,

@@ -7,7 +7,7 @@ use Rattle.std.specs.Cmp.Lexicographic.{bytes_decides, nat_list_eq_equiv}
 use Rattle.std.proofs.lemmas.Bool.{and_parts, and_from, false≢true, true≢false, or_cases}
 use Rattle.std.proofs.lemmas.List.{length-append}
 use Rattle.np_exposure.proofs.FirstLemmas.{first-parts}
-use Rattle.np_exposure.proofs.ListLemmas.{All-each, All-from, IsAmong-filter, list_all-from}
+use Rattle.np_exposure.proofs.ListLemmas.{All-from, IsAmong-filter, list_all-from}
 use Rattle.np_exposure.proofs.SameLemmas.{is_same-equal}
 use Rattle.np_exposure.proofs.StandsLemmas.{Alike, HasLike, Stands, walked-rows}
 use Rattle.np_exposure.specs.Mentions.{each_once, is_same, mentions, same_side, with_more}
@@ -26,6 +26,7 @@ use Rattle.np_labels.specs.Labels.{value_of}
 use Rattle.np_labels.specs.Selectors.{allows, is_listed}
 use Rattle.np_labels.specs.declared.op.Op.{Op}
 use Rattle.np_labels.specs.declared.op.Op.TheVariants.{OneOf, NoneOf, Present, Absent}
+use Rattle.np_rules.proofs.EachItem.{All-append, All-each}
 use Rattle.np_rules.specs.Laws.{IsAmong}
 use Rattle.np_rules.specs.PodSides.{PodSide}
 use Rattle.np_rules.specs.declared.stranger.Stranger.{Stranger}
@@ -209,10 +210,6 @@ likes-side : (all : List SidedRequirement) (s : Stranger) (side : Side) (keys : 
 likes-side all s side [] named = tt
 likes-side all s side (key ∷ keys) named =
     (like-found all side key (value_of (labels_at side s) key) (name-some s side key named), likes-side all s side keys named)
-
-All-append : {X : Type 0} (P : X → Type 0) (xs ys : List X) → AllByRecursion P xs → AllByRecursion P ys → AllByRecursion P (xs ++ ys)
-All-append P [] ys left right = right
-All-append P (x ∷ xs) ys left right = (left.0, All-append P xs ys left.1 right)
 
 -- ---- each requirement looks at a key
 

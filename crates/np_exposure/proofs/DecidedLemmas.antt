@@ -1,6 +1,6 @@
 -- Where one choice is left at each key, the requirements that are left change nothing.
-use Rattle.std.proofs.Common.{◌≡◌, ℕ, ◌≤◌, List, [], ◌∷◌, length, ◌==◌, Bool, true, false, not, cond, ◌&&◌, ◌||◌, Option, Some, None, refl, sym, ap, ◌∙◌, subst, arith}
-use Rattle.std.specs.List.{list_all, list_any}
+use Rattle.std.proofs.Common.{◌≡◌, ℕ, ◌≤◌, List, [], ◌∷◌, length, Bool, true, false, not, cond, ◌&&◌, ◌||◌, Option, Some, None, refl, sym, ap, ◌∙◌, subst, arith}
+use Rattle.std.specs.List.{list_any}
 use Rattle.std.proofs.lemmas.Bool.{and_parts, eqb-true, false≢true, true≢false}
 use Rattle.np_exposure.proofs.StandsLemmas.{all_at-narrowed}
 use Rattle.np_exposure.proofs.StateLemmas.{alone-step}
@@ -11,7 +11,7 @@ use Rattle.np_exposure.specs.declared.exposure_row.ExposureRow.{ExposureRow}
 use Rattle.np_exposure.specs.declared.pending.Pending.{Pending}
 use Rattle.np_exposure.specs.declared.sided_requirement.SidedRequirement.{SidedRequirement}
 use Rattle.np_exposure.specs.declared.step.Aside.{Aside}
-use Rattle.np_exposure.specs.steps.States.{IsState, are_at, can_be, is_at, is_decided, is_made, narrowed, suits}
+use Rattle.np_exposure.specs.steps.States.{IsState, are_at, can_be, is_at, is_decided, is_made, suits}
 use Rattle.np_exposure.specs.steps.Walks.{AreWalked, Fills, IsLeaf, IsStepTo, still_asked}
 use Rattle.np_rules.specs.PodSides.{PodSide}
 

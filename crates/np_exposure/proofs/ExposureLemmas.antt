@@ -5,7 +5,6 @@ use Rattle.std.specs.Str.{bytes_eq}
 use Rattle.std.proofs.lemmas.Bool.{false≢true}
 use Rattle.np_addr.specs.declared.address.Family.TheVariants.{Four}
 use Rattle.np_conns.specs.declared.port_spot.PortSpot.{PortSpot}
-use Rattle.np_exposure.proofs.ListLemmas.{All-each, All-flat, All-parts, All-weaker, filter-same, find-same, list_any-same, none_or_any-same}
 use Rattle.np_exposure.specs.Mentions.{mentions, named, of_admin_peer, of_admin_rule, of_net_peer, of_net_rule, of_placed, of_selector}
 use Rattle.np_exposure.specs.Strangers.{exposes, is_hypothetical, labels_at, meets}
 use Rattle.np_exposure.specs.declared.side.Side.{Side}
@@ -28,6 +27,7 @@ use Rattle.np_model.specs.declared.network_policy.NetPeer.TheVariants as net
 use Rattle.np_model.specs.declared.network_policy.NetPort.{NetPort}
 use Rattle.np_model.specs.declared.network_policy.NetPort.TheVariants as net_port
 use Rattle.np_model.specs.declared.network_policy.NetRule.{NetRule}
+use Rattle.np_rules.proofs.EachItem.{All-each, All-flat, All-parts, All-weaker, filter-same, find-same, list_any-same, none_or_any-same}
 use Rattle.np_rules.specs.model.AdminTier.{admin_decider, admin_precedes, least_by}
 use Rattle.np_rules.specs.model.BaseTier.{base_decider}
 use Rattle.np_rules.specs.model.Ends.{Contact, PodEnd, destination_of, pod, stranger_end}

@@ -6,7 +6,7 @@ use Rattle.np_exposure.proofs.BeginLemmas.{Stands-first}
 use Rattle.np_exposure.proofs.FirstLemmas.{IsState-first}
 use Rattle.np_exposure.proofs.FirstStrangerLemmas.{IsWitness-first_stranger}
 use Rattle.np_exposure.proofs.LeftLemmas.{all-left, left-narrowed}
-use Rattle.np_exposure.proofs.ListLemmas.{All-from, All-weaker, list_any-at}
+use Rattle.np_exposure.proofs.ListLemmas.{All-from, list_any-at}
 use Rattle.np_exposure.proofs.StandsLemmas.{HasLike, IsDecided, Stands, Stands-more, answered, witness-assumed}
 use Rattle.np_exposure.proofs.StateLemmas.{apart-narrowed, named-narrowed}
 use Rattle.np_exposure.specs.Choices.{Choices, can_be_assumed, choices_at_first, choices_left, first_stranger, has_choice, is_open}
@@ -14,6 +14,7 @@ use Rattle.np_exposure.specs.Strangers.{negated}
 use Rattle.np_exposure.specs.Tree.{IsPossible}
 use Rattle.np_exposure.specs.declared.sided_requirement.SidedRequirement.{SidedRequirement}
 use Rattle.np_exposure.specs.steps.States.{IsState, is_apart, is_named_at, narrowed}
+use Rattle.np_rules.proofs.EachItem.{All-weaker}
 use Rattle.np_rules.specs.Laws.{IsAmong}
 use Rattle.np_rules.specs.declared.stranger.Stranger.{Stranger}
 

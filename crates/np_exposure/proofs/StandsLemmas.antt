@@ -6,7 +6,7 @@ use Rattle.std.specs.Cmp.Lexicographic.{bytes_decides}
 use Rattle.std.proofs.lemmas.Bool.{and_parts, and_from, false≢true}
 use Rattle.np_conns.specs.Conns.{Conns}
 use Rattle.np_exposure.proofs.ExposureLemmas.{Agree, exposes-same}
-use Rattle.np_exposure.proofs.ListLemmas.{All-at, All-weaker, IsAmong-filter, list_all-at, list_all-from, list_any-at}
+use Rattle.np_exposure.proofs.ListLemmas.{All-at, IsAmong-filter, list_all-at, list_all-from, list_any-at}
 use Rattle.np_exposure.proofs.SameLemmas.{same_side-equal}
 use Rattle.np_exposure.specs.Mentions.{mentions, same_side}
 use Rattle.np_exposure.specs.Strangers.{IsExposure, is_hypothetical, labels_at, meets, meets_all, negated}
@@ -22,6 +22,7 @@ use Rattle.np_labels.specs.Labels.{value_of}
 use Rattle.np_labels.specs.Selectors.{allows, opposite_of}
 use Rattle.np_labels.specs.declared.op.Op.{Op}
 use Rattle.np_labels.specs.declared.op.Op.TheVariants.{OneOf, NoneOf, Present, Absent}
+use Rattle.np_rules.proofs.EachItem.{All-weaker}
 use Rattle.np_rules.specs.Laws.{IsAmong}
 use Rattle.np_rules.specs.PodSides.{PodSide}
 use Rattle.np_rules.specs.declared.stranger.Stranger.{Stranger}

@@ -1,9 +1,8 @@
 -- The pods of a workload have one list of rows.
-use Rattle.std.proofs.Common.{◌≡◌, ◌<◌, ℕ, List, [], ◌∷◌, AllPairs, Option, Some, length, slice_get, get_or, sym, ap, subst, ◌∙◌, inl, inr, arith}
-use Rattle.std.proofs.lemmas.Bool.{cases_order}
-use Rattle.std.proofs.lemmas.Option.{get_or_from_slice_get, slice_get-get_or, slice_get_within}
+use Rattle.std.proofs.Common.{◌≡◌, ◌<◌, ℕ, List, [], ◌∷◌, Some, length, slice_get, get_or, sym, ap, subst, ◌∙◌, arith}
+use Rattle.std.proofs.lemmas.Option.{slice_get-get_or}
 use Rattle.np_conns.specs.declared.port_spot.PortSpot.{PortSpot}
-use Rattle.np_model.specs.Lawful.{AgreeOnNamespace, IsLawful}
+use Rattle.np_model.specs.Lawful.{IsLawful}
 use Rattle.np_model.specs.declared.lists.EstateLists.{EstateLists}
 use Rattle.np_model.specs.declared.pod.Pod.{Pod}
 use Rattle.np_exposure.proofs.AlikePodLemmas.{AgreeOn, All-from_listed, AreAlikePods, exposes-agree, mentions-agree}
@@ -14,6 +13,7 @@ use Rattle.np_exposure.specs.Rows.{row_of, rows_at, rows_left, rows_of}
 use Rattle.np_exposure.specs.Strangers.{exposes, negated}
 use Rattle.np_exposure.specs.declared.exposure_row.ExposureRow.{ExposureRow}
 use Rattle.np_exposure.specs.declared.sided_requirement.SidedRequirement.{SidedRequirement}
+use Rattle.np_fold.proofs.NamespaceLemmas.{labels_agree}
 use Rattle.np_fold.proofs.WorkloadLemmas.{one_workload}
 use Rattle.np_fold.specs.Alike.{IsSameKind}
 use Rattle.np_fold.specs.Keys.{keys_of_estate}
@@ -52,25 +52,6 @@ module _ (a b : PodSide) (same : mentions a ≡ mentions b) (alike : (s : Strang
 pod_there : (pods : List Pod) (place : ℕ) → place < length pods → (a : Pod) × (slice_get pods place ≡ Some a)
 pod_there [] place within = absurd (omega arith)
 pod_there (first ∷ pods) place within = (get_or (first ∷ pods) place first, slice_get-get_or (first ∷ pods) place first within)
-
--- pods that stand in order and are of one namespace have the same labels of it
-namespaces_agree : (pods : List Pod) (i j : ℕ) (a b : Pod) → AllPairs AgreeOnNamespace pods → slice_get pods i ≡ Some a → slice_get pods j ≡ Some b → i < j → AgreeOnNamespace a b
-namespaces_agree pods i j a b agree is is' before =
-    let later = agree i j a before (slice_get_within pods j b is') in
-    subst (λ (x : Pod). AgreeOnNamespace x b) (get_or_from_slice_get pods i a a is) (subst (λ (y : Pod). AgreeOnNamespace (get_or pods i a) y) (get_or_from_slice_get pods j b a is') later)
-
-same_some : (found : Option Pod) (a b : Pod) → found ≡ Some a → found ≡ Some b → a ≡ b
-same_some found a b is is' = cc
-
--- and so in whatever order they stand
-labels_agree : (lists : EstateLists) (i j : ℕ) (a b : Pod) → IsLawful lists → slice_get lists.pods i ≡ Some a → slice_get lists.pods j ≡ Some b → a.namespace ≡ b.namespace →
-    a.namespace_labels ≡ b.namespace_labels
-labels_agree lists i j a b lawful is is' same =
-    elim (cases_order i j) [
-      | inl equal ↦ ap (λ (p : Pod). p.namespace_labels) (same_some (slice_get lists.pods j) a b (subst (λ (k : ℕ). slice_get lists.pods k ≡ Some a) equal is) is')
-      | inr (inl before) ↦ namespaces_agree lists.pods i j a b lawful.namespaces_agree is is' before same
-      | inr (inr after) ↦ sym (namespaces_agree lists.pods j i b a lawful.namespaces_agree is' is after (sym same))
-    ]
 
 alike-by : (lists : EstateLists) (p q : ℕ) (a b : Pod) → IsLawful lists → slice_get lists.pods p ≡ Some a → slice_get lists.pods q ≡ Some b → IsSameKind lists a b →
     AreAlikePods lists (pod_at lists p) (pod_at lists q)

@@ -4,6 +4,7 @@ pub mod FoldLemmas
 pub mod InForceLemmas
 pub mod LabelLemmas
 pub mod MemberLemmas
+pub mod NamespaceLemmas
 pub mod NumberLemmas
 pub mod OrderLemmas
 pub mod OwnerNameLemmas

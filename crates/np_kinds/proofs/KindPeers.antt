@@ -10,7 +10,7 @@ use Rattle.np_conns.specs.declared.port_spot.PortSpot.{PortSpot}
 use Rattle.np_fold.specs.Alike.{is_in}
 use Rattle.np_fold.specs.Blocks.{cidrs_of_peer}
 use Rattle.np_fold.specs.Keys.{keys_of_admin_peer, keys_of_net_peer, keys_of_optional, keys_of_selector}
-use Rattle.np_kinds.proofs.KindLists.{All-parts}
+use Rattle.np_rules.proofs.EachItem.{All-parts}
 use Rattle.np_kinds.proofs.KindSelectors.{AgreeOn, selector-same}
 use Rattle.np_labels.specs.Labels.{value_of}
 use Rattle.np_labels.specs.declared.selector.Selector.{Selector}

@@ -4,7 +4,7 @@ use Rattle.std.specs.Cmp.Lexicographic.{bytes_decides}
 use Rattle.std.specs.List.{AllByRecursion}
 use Rattle.std.specs.Str.{bytes_eq}
 use Rattle.np_fold.specs.Keys.{keys_of_selector}
-use Rattle.np_kinds.proofs.KindLists.{list_all-same}
+use Rattle.np_rules.proofs.EachItem.{list_all-same}
 use Rattle.np_labels.specs.Labels.{value_of}
 use Rattle.np_labels.specs.Selectors.{allows, is_listed, meets_requirement, meets_selector}
 use Rattle.np_labels.specs.declared.pair.Pair.{Pair}

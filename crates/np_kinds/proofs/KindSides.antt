@@ -5,7 +5,7 @@ use Rattle.std.specs.Str.{bytes_eq}
 use Rattle.np_fold.specs.Blocks.{cidrs_of_admin_policy, cidrs_of_baseline, cidrs_of_base_policy, cidrs_of_rule}
 use Rattle.np_fold.specs.Keys.{keys_of_admin_policy, keys_of_admin_rule, keys_of_base_policy, keys_of_baseline, keys_of_net_direction, keys_of_net_policy, keys_of_net_rule, keys_of_selector}
 use Rattle.np_fold.specs.Keys.{keys_of_subject}
-use Rattle.np_kinds.proofs.KindLists.{All-append, All-flat, All-if, All-numbered, All-parts, All-three, All-weaker}
+use Rattle.np_rules.proofs.EachItem.{All-append, All-flat, All-if, All-numbered, All-parts, All-three, All-weaker}
 use Rattle.np_kinds.proofs.KindPeers.{AgreeAt, AgreeIn, SamePod}
 use Rattle.np_kinds.proofs.KindRules.{IsAlikeAt, SameContact, admin_rules-same, net_rule-same}
 use Rattle.np_kinds.proofs.KindSelectors.{AgreeOn, selector-same}

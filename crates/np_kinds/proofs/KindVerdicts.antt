@@ -12,7 +12,7 @@ use Rattle.np_fold.specs.Alike.{IsSameKind}
 use Rattle.np_fold.specs.Blocks.{cidrs_of_admin_policy, cidrs_of_baseline, cidrs_of_estate}
 use Rattle.np_fold.specs.Keys.{keys_of_admin_policy, keys_of_baseline, keys_of_estate, keys_of_net_policy, keys_of_service}
 use Rattle.np_kinds.specs.Ends.{AreOneKind}
-use Rattle.np_kinds.proofs.KindLists.{All-each, All-parts, All-three, All-weaker, filter-same, find-same, list_any-same}
+use Rattle.np_rules.proofs.EachItem.{All-each, All-parts, All-three, All-weaker, filter-same, find-same, list_any-same}
 use Rattle.np_kinds.proofs.KindPeers.{AgreeAt, AgreeIn, SameEnd, SamePod}
 use Rattle.np_kinds.proofs.KindRules.{SameContact}
 use Rattle.np_kinds.proofs.KindSelectors.{AgreeOn, All-from_listed}

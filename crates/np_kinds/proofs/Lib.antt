@@ -1,4 +1,3 @@
-pub mod KindLists
 pub mod KindNumbers
 pub mod KindPeers
 pub mod KindRules

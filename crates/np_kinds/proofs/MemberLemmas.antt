@@ -127,10 +127,9 @@ not-alone folding a b p q has has' differ =
     let in_a : Contains (members_of folding a) q = subst (λ (n : ℕ). Contains (members_of folding n) q) (sym (eqb-true a b parts.0)) has' in
     two_in_one (members_of folding a) p q has in_a differ (eqb-true (length (members_of folding a)) 1 parts.1))
 
--- the pod at the first of some places, as rules see it
-pub pod-first : (pods all : List Pod) (members others : List ℕ) (a : Pod) → pods ≡ all → members ≡ others → slice_index members 0 < length pods → a ≡ get_or pods (slice_index members 0) a →
-    pod_end a ≡ pod_or_none (slice_get all (slice_index others 0))
-pod-first pods all members others a same same' within is =
-    sym (ap pod_or_none (slice_get-get_or pods (slice_index members 0) a within ∙ ap (λ (x : Pod). Some x) (sym is)))
-    ∙ ap (λ (xs : List Pod). pod_or_none (slice_get xs (slice_index members 0))) same
-    ∙ ap (λ (ms : List ℕ). pod_or_none (slice_get all (slice_index ms 0))) same'
+-- the pod at a place, as rules see it
+pub pod-first : (pods all : List Pod) (place first : ℕ) (a : Pod) → pods ≡ all → place ≡ first → place < length pods → a ≡ get_or pods place a → pod_end a ≡ pod_or_none (slice_get all first)
+pod-first pods all place first a same same' within is =
+    sym (ap pod_or_none (slice_get-get_or pods place a within ∙ ap (λ (x : Pod). Some x) (sym is)))
+    ∙ ap (λ (xs : List Pod). pod_or_none (slice_get xs place)) same
+    ∙ ap (λ (n : ℕ). pod_or_none (slice_get all n)) same'

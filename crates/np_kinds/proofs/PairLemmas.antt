@@ -1,15 +1,15 @@
 -- What passes between workloads is what passes between their pods.
-use Rattle.std.proofs.Common.{◌≡◌, ◌≢◌, ◌<◌, ℕ, List, [], ◌∷◌, Bool, true, false, Option, Some, None, AllPairs, Contains, length, slice_get, slice_index, get_or, if◌then◌else◌, arith, refl, sym, ap}
+use Rattle.std.proofs.Common.{◌≡◌, ◌≢◌, ◌<◌, ℕ, List, [], ◌∷◌, Bool, true, false, Option, Some, None, Contains, length, slice_get, slice_index, get_or, if◌then◌else◌, arith, refl, sym, ap}
 use Rattle.std.proofs.Common.{subst, ◌∙◌, inl, inr}
 use Rattle.std.specs.Prelude.{IsSomeAnd}
-use Rattle.std.proofs.lemmas.Bool.{cases_order}
-use Rattle.std.proofs.lemmas.Option.{get_or_from_slice_get, slice_get-get_or, slice_get_within}
+use Rattle.std.proofs.lemmas.Option.{slice_get-get_or}
 use Rattle.np_addr.specs.declared.address.Family.{Family}
 use Rattle.np_classes.specs.Classes.{class_of}
 use Rattle.np_conns.specs.declared.port_spot.PortSpot.{PortSpot}
-use Rattle.np_model.specs.Lawful.{AgreeOnNamespace, IsLawful}
+use Rattle.np_model.specs.Lawful.{IsLawful}
 use Rattle.np_model.specs.declared.lists.EstateLists.{EstateLists}
 use Rattle.np_model.specs.declared.pod.Pod.{Pod}
+use Rattle.np_fold.proofs.NamespaceLemmas.{labels_agree}
 use Rattle.np_fold.proofs.WorkloadLemmas.{first-is, number-in_workloads, one_kind, one_workload, workloads-count}
 use Rattle.np_fold.specs.Alike.{IsSameKind}
 use Rattle.np_fold.specs.Workloads.{Folding, first_pod, folding_of, kinds_alike, members_of, number_of, workload_count, workloads_of}
@@ -25,27 +25,8 @@ use Rattle.np_kinds.specs.Between.{address_allows, address_of, between_pods, des
 
 -- ---- pods of one kind
 
--- pods that stand in order and are of one namespace have the same labels of it
-namespaces_agree : (pods : List Pod) (i j : ℕ) (a b : Pod) → AllPairs AgreeOnNamespace pods → slice_get pods i ≡ Some a → slice_get pods j ≡ Some b → i < j → AgreeOnNamespace a b
-namespaces_agree pods i j a b agree is is' before =
-    let later = agree i j a before (slice_get_within pods j b is') in
-    subst (λ (x : Pod). AgreeOnNamespace x b) (get_or_from_slice_get pods i a a is) (subst (λ (y : Pod). AgreeOnNamespace (get_or pods i a) y) (get_or_from_slice_get pods j b a is') later)
-
-same_some : (found : Option Pod) (a b : Pod) → found ≡ Some a → found ≡ Some b → a ≡ b
-same_some found a b is is' = cc
-
--- and so in whatever order they stand
-labels_agree : (lists : EstateLists) (i j : ℕ) (a b : Pod) → IsLawful lists → slice_get lists.pods i ≡ Some a → slice_get lists.pods j ≡ Some b → a.namespace ≡ b.namespace →
-    a.namespace_labels ≡ b.namespace_labels
-labels_agree lists i j a b lawful is is' same =
-    elim (cases_order i j) [
-      | inl equal ↦ ap (λ (p : Pod). p.namespace_labels) (same_some (slice_get lists.pods j) a b (subst (λ (k : ℕ). slice_get lists.pods k ≡ Some a) equal is) is')
-      | inr (inl before) ↦ namespaces_agree lists.pods i j a b lawful.namespaces_agree is is' before same
-      | inr (inr after) ↦ sym (namespaces_agree lists.pods j i b a lawful.namespaces_agree is' is after (sym same))
-    ]
-
 -- pods of one kind are ends of one kind
-one_kind-by : (lists : EstateLists) (i j : ℕ) (a b : Pod) → IsLawful lists → slice_get lists.pods i ≡ Some a → slice_get lists.pods j ≡ Some b → IsSameKind lists a b →
+pub one_kind-by : (lists : EstateLists) (i j : ℕ) (a b : Pod) → IsLawful lists → slice_get lists.pods i ≡ Some a → slice_get lists.pods j ≡ Some b → IsSameKind lists a b →
     AreOneKind lists (pod (pod_at lists i)) (pod (pod_at lists j))
 one_kind-by lists i j a b lawful is is' kind =
     inl (record {

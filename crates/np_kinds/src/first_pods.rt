@@ -1,7 +1,9 @@
 //! The first pods of workloads, which stand for these.
-ghost use Rattle.std.specs.Prelude.{◌≡◌, IfOk};
-ghost use Rattle.np_kinds.specs.Between.{IsWorkload};
+ghost use Rattle.std.specs.Prelude.{◌≡◌, ◌<◌, IfOk, length};
+ghost use Rattle.np_fold.specs.Workloads.{folding_of};
+ghost use Rattle.np_kinds.specs.Between.{IsWorkload, source_pod};
 ghost use Rattle.np_kinds.specs.Kinds as spec;
+ghost use Rattle.np_model.specs.Lawful.{IsLawful};
 ghost use Rattle.np_rules.specs.model.Ends.{pod_end};
 
 use np_base::NoMemory;
@@ -10,12 +12,22 @@ use np_model::{Direction, Pod};
 use np_rules::PodRules;
 use std::alloc::Global;
 
+/// The place of the first pod of a workload. The estate is lawful.
+pub fn first_place(folded: &Folded, workload: u32) -> u32
+    requires { IsWorkload folded.now workload }
+    ensures value { result ≡ source_pod (folding_of folded.now) workload }
+    ensures within { result < length folded.now.pods }
+    ensures lawful { IsLawful folded.now }
+{
+    folded.workloads().members(workload)[0]
+}
+
 /// The first pod of a workload.
 pub fn first_pod(folded: &Folded, workload: u32) -> &Pod
     requires { IsWorkload folded.now workload }
     ensures { pod_end result.now ≡ spec.first_end folded.now workload }
 {
-    let place = folded.workloads().members(workload)[0];
+    let place = first_place(folded, workload);
     &folded.estate().pods()[place as usize]
 }
 
@@ -29,6 +41,6 @@ pub fn first_side<'a>(
     requires { IsWorkload folded.now workload }
     ensures { IfOk result (λ made. made ≡ spec.first_side folded.now direction workload) }
 {
-    let pod = folded.workloads().members(workload)[0];
-    PodRules::of(alloc, folded.estate(), pod, direction)
+    let place = first_place(folded, workload);
+    PodRules::of(alloc, folded.estate(), place, direction)
 }

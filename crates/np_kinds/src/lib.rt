@@ -6,7 +6,7 @@ mod kind_reach;
 mod laws;
 mod sides;
 
-pub use first_pods::{first_pod, first_side};
+pub use first_pods::{first_place, first_pod, first_side};
 pub use kind_reach::KindReach;
 pub use laws::{kinds_give_the_deciders, kinds_give_the_rule_counts, kinds_give_the_verdict};
 pub use sides::Sides;

@@ -5,7 +5,8 @@ use Rattle.std.specs.Option.{option_map, option_map_or}
 use Rattle.np_model.specs.Lawful.{IsLawful}
 use Rattle.np_model.specs.declared.lists.EstateLists.{EstateLists}
 use Rattle.np_explain.proofs.RuleLemmas.{net_decider_is_first}
-use Rattle.np_lint.proofs.StayLemmas.{any_found, any_map, find_map, first_stays, found_is, stands_all}
+use Rattle.np_explain.proofs.WalkLemmas.{stands_all}
+use Rattle.np_lint.proofs.StayLemmas.{any_found, any_map, find_map, first_stays, found_is}
 use Rattle.np_lint.proofs.WithoutLemmas.{IsAdminAt, IsBaseAt, IsNetAt, admin_are, admin_from, admin_left, admin_placed, admin_stays, ascending_left, base_are, base_from, base_left, base_placed}
 use Rattle.np_lint.proofs.WithoutLemmas.{base_stays, isolated_left, net_are, net_from, net_left, net_placed, net_stays, spaced}
 use Rattle.np_lint.specs.Rules.{admin_count, net_count, rule_count_at, rule_name}

@@ -1,18 +1,15 @@
 -- Pods that stand for their kinds.
-use Rattle.std.proofs.Common.{◌≡◌, ℕ, ◌<◌, List, false, length, get_or, slice_index, slice_get, Option, Some, AllPairs, refl, sym, ap, ◌∙◌, subst, arith, inl, inr}
-use Rattle.std.proofs.lemmas.Bool.{cases_order}
+use Rattle.std.proofs.Common.{◌≡◌, ℕ, ◌<◌, List, false, length, get_or, slice_index, slice_get, Some, refl, sym, ap, ◌∙◌, subst, arith, inr}
 use Rattle.std.proofs.lemmas.List.FromFn.{get_or-map-range_with_len}
 use Rattle.std.proofs.lemmas.Option.{get_or_from_slice_get, slice_get-get_or, slice_get_within}
 use Rattle.np_addr.specs.declared.address.Family.{Family}
 use Rattle.np_classes.proofs.Relations.{class_of_first, first_of, same_class}
 use Rattle.np_classes.specs.Classes.{class_of}
 use Rattle.np_conns.specs.declared.port_spot.PortSpot.{PortSpot}
-use Rattle.np_model.specs.Lawful.{AgreeOnNamespace, IsLawful}
+use Rattle.np_model.specs.Lawful.{IsLawful}
 use Rattle.np_model.specs.declared.lists.EstateLists.{EstateLists}
-use Rattle.np_model.specs.declared.pod.Pod.{Pod}
 use Rattle.np_fold.proofs.AlikeLemmas.{kinds-are}
 use Rattle.np_fold.proofs.WorkloadLemmas.{number-in_workloads, one_workload}
-use Rattle.np_fold.specs.Alike.{IsSameKind}
 use Rattle.np_fold.specs.Workloads.{folding_of, kinds_alike, number_of, workload_count}
 use Rattle.np_lint.specs.declared.kind_pods.KindPod.{KindPod}
 use Rattle.np_lint.specs.steps.Kinds.{AreKindPods, pod_kind}
@@ -20,11 +17,11 @@ use Rattle.np_model.specs.declared.direction.Direction.{Direction}
 use Rattle.np_model.specs.declared.direction.Direction.TheVariants.{Ingress, Egress}
 use Rattle.np_rules.specs.Deciders.{decider}
 use Rattle.np_rules.specs.model.Ends.{End, contact, pod}
-use Rattle.np_rules.specs.model.Verdict.{pod_at, pod_or_none}
+use Rattle.np_rules.specs.model.Verdict.{pod_at}
 use Rattle.np_kinds.proofs.KindNumbers.{first_pod-there, firsts-workloads, kinds-by}
 use Rattle.np_kinds.proofs.KindVerdicts.{SameKindEnd-ends, got-same, sent-same}
 use Rattle.np_kinds.proofs.MemberLemmas.{member-number, members-some, source-member}
-use Rattle.np_kinds.proofs.PairLemmas.{one_kind-sources, pod_there, source-within}
+use Rattle.np_kinds.proofs.PairLemmas.{one_kind-by, one_kind-sources, pod_there, source-within}
 use Rattle.np_kinds.specs.Ends.{AreOneKind}
 use Rattle.np_kinds.specs.Between.{source_pod}
 
@@ -98,38 +95,6 @@ kind_within lists p within =
     let by = kind_by_number lists p within in
     let first = kind_first lists (number_of lists p) by.0 in
     slice_get_within (folding_of lists).first_of_kinds (pod_kind lists p) first.0 (ap (slice_get (folding_of lists).first_of_kinds) by.1 ∙ first.1)
-
--- pods that stand in order and are of one namespace have the same labels of it
-namespaces_agree : (pods : List Pod) (i j : ℕ) (a b : Pod) → AllPairs AgreeOnNamespace pods → slice_get pods i ≡ Some a → slice_get pods j ≡ Some b → i < j → AgreeOnNamespace a b
-namespaces_agree pods i j a b agree is is' before =
-    let later = agree i j a before (slice_get_within pods j b is') in
-    subst (λ (x : Pod). AgreeOnNamespace x b) (get_or_from_slice_get pods i a a is) (subst (λ (y : Pod). AgreeOnNamespace (get_or pods i a) y) (get_or_from_slice_get pods j b a is') later)
-
-same_some : (found : Option Pod) (a b : Pod) → found ≡ Some a → found ≡ Some b → a ≡ b
-same_some found a b is is' = cc
-
--- and so in whatever order they stand
-labels_agree : (lists : EstateLists) (i j : ℕ) (a b : Pod) → IsLawful lists → slice_get lists.pods i ≡ Some a → slice_get lists.pods j ≡ Some b → a.namespace ≡ b.namespace →
-    a.namespace_labels ≡ b.namespace_labels
-labels_agree lists i j a b lawful is is' same =
-    elim (cases_order i j) [
-      | inl equal ↦ ap (λ (p : Pod). p.namespace_labels) (same_some (slice_get lists.pods j) a b (subst (λ (k : ℕ). slice_get lists.pods k ≡ Some a) equal is) is')
-      | inr (inl before) ↦ namespaces_agree lists.pods i j a b lawful.namespaces_agree is is' before same
-      | inr (inr after) ↦ sym (namespaces_agree lists.pods j i b a lawful.namespaces_agree is' is after (sym same))
-    ]
-
--- pods of one kind are ends of one kind
-one_kind-by : (lists : EstateLists) (i j : ℕ) (a b : Pod) → IsLawful lists → slice_get lists.pods i ≡ Some a → slice_get lists.pods j ≡ Some b → IsSameKind lists a b →
-    AreOneKind lists (pod (pod_at lists i)) (pod (pod_at lists j))
-one_kind-by lists i j a b lawful is is' kind =
-    inl (record {
-      first = a;
-      second = b;
-      one_is = ap (λ (found : Option Pod). pod (pod_or_none found)) is;
-      other_is = ap (λ (found : Option Pod). pod (pod_or_none found)) is';
-      kind = kind;
-      namespace = labels_agree lists i j a b lawful is is' kind.namespace;
-    })
 
 -- a pod and the first of its workload
 first_stands : (lists : EstateLists) (p : ℕ) → IsLawful lists → p < length lists.pods → StandsFor lists p (source_pod (folding_of lists) (number_of lists p))

@@ -1,16 +1,13 @@
 -- Unused rules decide nothing.
-use Rattle.std.proofs.Common.{◌≡◌, ◌↔◌, ℕ, zero, suc, ◌<◌, List, [], ◌∷◌, Bool, true, false, ◌==◌, not, filter, length, get_or, Option, Some, None, All, refl, sym, ap, ◌∙◌, arith, if◌then◌else◌}
+use Rattle.std.proofs.Common.{◌≡◌, ◌↔◌, ℕ, zero, suc, ◌<◌, List, [], ◌∷◌, Bool, true, false, not, filter, length, get_or, Option, Some, None, All, refl, sym, ap, ◌∙◌, arith, if◌then◌else◌}
 use Rattle.std.specs.List.{Contains}
 use Rattle.std.specs.Option.{option_map_or}
-use Rattle.std.specs.Str.{bytes_eq}
 use Rattle.std.proofs.lemmas.Bool.{false≢true, not-true}
-use Rattle.std.proofs.lemmas.Bool.Decides.{Decides-and, Decides-eqb}
 use Rattle.std.proofs.lemmas.List.Elements.{All-cons, All-contains, All-head, All-nil, All-tail, Contains-append_right}
-use Rattle.std.proofs.lemmas.Slice.Eq.{bytes_eq-Decides}
-use Rattle.std.specs.Bool.{Decides}
 use Rattle.np_addr.specs.declared.address.Family.{Family}
 use Rattle.np_conns.specs.declared.port_spot.PortSpot.{PortSpot}
 use Rattle.np_model.specs.declared.lists.EstateLists.{EstateLists}
+use Rattle.np_explain.proofs.SameDecider.{same_rule-Decides}
 use Rattle.np_explain.specs.RightParts.{same_rule}
 use Rattle.np_explain.specs.Sides.{decider_between}
 use Rattle.np_lint.proofs.PacketLemmas.{is_used_by, used_by}
@@ -45,15 +42,6 @@ filter_has_at {X} test (y ∷ xs) (suc k) x within at passes = go (test y) (filt
     go false has = has
 
 -- ---- names
-
-pub same_rule-Decides : (a b : RuleName) → Decides (same_rule a b) (a ≡ b)
-same_rule-Decides a b =
-    let parts = Decides-and (bytes_eq a.policy b.policy) (a.place == b.place) (bytes_eq-Decides a.policy b.policy) (Decides-eqb a.place b.place) in
-    let of_policy : List ℕ → RuleName = λ policy. record { policy = policy; place = a.place } in
-    let of_place : ℕ → RuleName = λ place. record { policy = b.policy; place = place } in (
-      λ same. ap of_policy (parts.0 same).0 ∙ ap of_place (parts.0 same).1,
-      λ same. parts.1 (ap (λ (rule : RuleName). rule.policy) same, ap (λ (rule : RuleName). rule.place) same),
-    )
 
 -- a rule stands in a decider exactly where its name does
 pub stands_by_name : (name : RuleName) (found : Option RuleName) → found ≡ Some name → option_map_or (same_rule name) found false ≡ true

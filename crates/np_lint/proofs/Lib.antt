@@ -19,5 +19,4 @@ pub mod RuleListLemmas
 pub mod SearchLemmas
 pub mod StayLemmas
 pub mod StepLemmas
-pub mod WalkLemmas
 pub mod WithoutLemmas

@@ -5,8 +5,8 @@ use Rattle.std.proofs.lemmas.Bool.{and_parts}
 use Rattle.np_model.specs.Lawful.{IsLawful}
 use Rattle.np_explain.specs.Marks.{IsMarkOf, admin_rules, base_rules, mark_decider, net_rules}
 use Rattle.np_explain.specs.RightParts.{same_rule}
+use Rattle.np_explain.proofs.WalkLemmas.{mark_named}
 use Rattle.np_lint.proofs.NameLemmas.{mark_rule, met_flagged, met_named}
-use Rattle.np_lint.proofs.WalkLemmas.{mark_named}
 use Rattle.np_lint.specs.Rules.{rule_count_at, rule_name}
 use Rattle.np_lint.specs.Used.{stands_in}
 use Rattle.np_lint.specs.declared.rule_ref.Tier.{Tier}

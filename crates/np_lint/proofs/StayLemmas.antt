@@ -1,6 +1,6 @@
 -- What is found in a list of which items are taken out.
-use Rattle.std.proofs.Common.{◌≡◌, ℕ, suc, ◌+◌, List, [], ◌∷◌, Bool, true, false, ◌||◌, map, filter, find, is_some, Option, Some, All, refl, sym, subst, ap, ◌∙◌, arith, if◌then◌else◌}
-use Rattle.std.specs.List.{list_any, slice_get}
+use Rattle.std.proofs.Common.{◌≡◌, List, [], ◌∷◌, Bool, true, false, ◌||◌, map, filter, find, is_some, Option, Some, All, refl, sym, subst, ap, ◌∙◌, if◌then◌else◌}
+use Rattle.std.specs.List.{list_any}
 use Rattle.std.specs.Option.{option_map}
 use Rattle.std.proofs.lemmas.Bool.{false≢true}
 use Rattle.std.proofs.lemmas.List.Elements.{All-head, All-tail}
@@ -59,18 +59,3 @@ found_is {X} P test (y ∷ xs) all x found = go (test y) found (found_is P test 
     go : (b : Bool) → (if b then Some y else find test xs) ≡ Some x → (find test xs ≡ Some x → P x) → P x
     go true is later = let same : y ≡ x = cc in subst P same (All-head P y xs all)
     go false is later = later is
-
--- ---- numbered items
-
--- what stands at the places from n on
-abbrev pub StandsFrom : {X : Type 0} → List X → ℕ → List X → Type 0
-StandsFrom all n items = (k : ℕ) → slice_get all (n + k) ≡ slice_get items k
-
-pub stands_all : {X : Type 0} (all : List X) → StandsFrom all 0 all
-stands_all all k = let same : 0 + k ≡ k = omega arith in ap (slice_get all) same
-
-pub stands_first : {X : Type 0} (all : List X) (n : ℕ) (x : X) (items : List X) → StandsFrom all n (x ∷ items) → slice_get all n ≡ Some x
-stands_first all n x items stands = let same : n ≡ n + 0 = omega arith in ap (slice_get all) same ∙ stands 0
-
-pub stands_rest : {X : Type 0} (all : List X) (n : ℕ) (x : X) (items : List X) → StandsFrom all n (x ∷ items) → StandsFrom all (n + 1) items
-stands_rest all n x items stands k = let same : n + 1 + k ≡ n + suc k = omega arith in ap (slice_get all) same ∙ stands (suc k)

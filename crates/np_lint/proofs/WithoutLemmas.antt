@@ -6,7 +6,7 @@ use Rattle.std.specs.Option.{option_map, option_map_or}
 use Rattle.std.proofs.lemmas.List.{map-append}
 use Rattle.std.proofs.lemmas.List.Elements.{All-append, All-cons, All-nil, filter-append}
 use Rattle.np_model.specs.Lawful.{HasAscendingPriorities, ascends}
-use Rattle.np_lint.proofs.StayLemmas.{StandsFrom, stands_first, stands_rest}
+use Rattle.np_explain.proofs.WalkLemmas.{StandsFrom, stands_first, stands_rest}
 use Rattle.np_lint.specs.Rules.{admin_count, base_count, net_count}
 use Rattle.np_lint.specs.Without.{admin_without, base_without, goes, net_without, without_places}
 use Rattle.np_lint.specs.declared.rule_ref.RuleRef.{RuleRef}

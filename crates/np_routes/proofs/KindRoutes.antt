@@ -1,20 +1,19 @@
 -- Pods that no service and no rule tells apart.
-use Rattle.std.proofs.Common.{◌≡◌, ◌<◌, ℕ, List, [], ◌∷◌, ◌++◌, Bool, true, false, not, ◌&&◌, ◌==◌, AllPairs, Option, Some, None, IfSome, length, map, flat_map, slice_get, get_or, refl, sym, ap}
+use Rattle.std.proofs.Common.{◌≡◌, ◌<◌, ℕ, List, [], ◌∷◌, ◌++◌, Bool, true, false, not, ◌&&◌, ◌==◌, Option, Some, None, IfSome, length, map, flat_map, slice_get, refl, sym, ap}
 use Rattle.std.proofs.Common.{subst, ◌∙◌, inl, inr, if◌then◌else◌}
 use Rattle.std.specs.Prelude.{filter}
 use Rattle.std.specs.List.{AllByRecursion, find, list_any}
 use Rattle.std.specs.Option.{option_map_or}
 use Rattle.std.specs.Str.{bytes_eq}
-use Rattle.std.proofs.lemmas.Bool.{cases_order}
-use Rattle.std.proofs.lemmas.Option.{get_or_from_slice_get, slice_get_within}
 use Rattle.np_addr.specs.declared.address.Family.TheVariants.{Four}
 use Rattle.np_conns.specs.Conns.{same_proto}
 use Rattle.np_conns.specs.declared.port_spot.PortSpot.{PortSpot}
 use Rattle.np_conns.specs.declared.proto.Proto.TheVariants.{Tcp}
 use Rattle.np_model.specs.Families.{families_of}
-use Rattle.np_model.specs.Lawful.{AgreeOnNamespace, IsLawful}
+use Rattle.np_model.specs.Lawful.{IsLawful}
 use Rattle.np_model.specs.declared.lists.EstateLists.{EstateLists}
 use Rattle.np_model.specs.declared.pod.Pod.{Pod}
+use Rattle.np_fold.proofs.NamespaceLemmas.{labels_agree}
 use Rattle.np_fold.proofs.WorkloadLemmas.{one_workload}
 use Rattle.np_fold.specs.Alike.{IsSameKind}
 use Rattle.np_fold.specs.Keys.{keys_of_admin_policy, keys_of_baseline, keys_of_estate, keys_of_net_policy, keys_of_optional, keys_of_service}
@@ -37,7 +36,7 @@ use Rattle.np_rules.specs.Deciders.{decider_allows}
 use Rattle.np_rules.specs.model.Ends.{Contact, End, PodEnd, contact, pod, pod_end, stranger_end}
 use Rattle.np_rules.specs.model.PortEntries.{is_named}
 use Rattle.np_rules.specs.model.Verdict.{pod_at, pod_or_none}
-use Rattle.np_kinds.proofs.KindLists.{All-append, All-each, All-flat, All-parts, list_any-same}
+use Rattle.np_rules.proofs.EachItem.{All-append, All-each, All-flat, All-parts, list_any-same}
 use Rattle.np_kinds.proofs.KindSelectors.{AgreeOn, All-from_listed, selector-same}
 use Rattle.np_kinds.proofs.KindVerdicts.{SameKindEnd-ends, got-same, packet-same}
 use Rattle.np_kinds.proofs.PairLemmas.{pod_there}
@@ -129,25 +128,6 @@ served-pods lists a b kind =
     let services = (All-parts (AgreeOn a.labels b.labels) (flat_map keys_of_net_policy lists.net_policies ++ flat_map keys_of_admin_policy lists.admin_policies ++ keys_of_baseline lists.baseline)
     (flat_map keys_of_service lists.services) all).1 in
     record { namespace = kind.namespace; ports = kind.ports; labels = All-flat (AgreeOn a.labels b.labels) keys_of_service lists.services services }
-
--- pods that stand in order and are of one namespace have the same labels of it
-namespaces_agree : (pods : List Pod) (i j : ℕ) (a b : Pod) → AllPairs AgreeOnNamespace pods → slice_get pods i ≡ Some a → slice_get pods j ≡ Some b → i < j → AgreeOnNamespace a b
-namespaces_agree pods i j a b agree is is' before =
-    let later = agree i j a before (slice_get_within pods j b is') in
-    subst (λ (x : Pod). AgreeOnNamespace x b) (get_or_from_slice_get pods i a a is) (subst (λ (y : Pod). AgreeOnNamespace (get_or pods i a) y) (get_or_from_slice_get pods j b a is') later)
-
-same_some : (found : Option Pod) (a b : Pod) → found ≡ Some a → found ≡ Some b → a ≡ b
-same_some found a b is is' = cc
-
--- and so in whatever order they stand
-labels_agree : (lists : EstateLists) (i j : ℕ) (a b : Pod) → IsLawful lists → slice_get lists.pods i ≡ Some a → slice_get lists.pods j ≡ Some b → a.namespace ≡ b.namespace →
-    a.namespace_labels ≡ b.namespace_labels
-labels_agree lists i j a b lawful is is' same =
-    elim (cases_order i j) [
-      | inl equal ↦ ap (λ (p : Pod). p.namespace_labels) (same_some (slice_get lists.pods j) a b (subst (λ (k : ℕ). slice_get lists.pods k ≡ Some a) equal is) is')
-      | inr (inl before) ↦ namespaces_agree lists.pods i j a b lawful.namespaces_agree is is' before same
-      | inr (inr after) ↦ sym (namespaces_agree lists.pods j i b a lawful.namespaces_agree is' is after (sym same))
-    ]
 
 -- the pods at two places are of one kind, and the same ports of both are routed
 pub record AreAlikeAt (lists : EstateLists) (p q : ℕ) : Type 0 where

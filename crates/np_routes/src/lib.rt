@@ -6,7 +6,6 @@ mod asked_services;
 mod backend_flaws;
 mod backends;
 mod cluster_rows;
-mod first_pods;
 mod laws;
 mod port_set;
 mod route_note;

@@ -12,12 +12,12 @@ ghost use Rattle.np_table.specs.Right.{conns_of};
 ghost use Rattle.np_kinds.specs.Between.{IsWorkload};
 
 use crate::backends::Backends;
-use crate::first_pods::first_pod;
 use crate::senders::Sender;
 use crate::targets::routed_set;
 use np_base::{Cells, NoMemory};
 use np_conns::ConnSet;
 use np_fold::Folded;
+use np_kinds::first_place;
 use np_model::Direction;
 use np_rules::PodRules;
 use np_steps::Steps;
@@ -90,7 +90,7 @@ impl<'a> Routes<'a> {
         ensures least { steps.old ≤ steps.new }
         ensures most { steps.new ≤ steps.old + spec.ingress_steps self.now.lists self.now.controller workload }
     {
-        let place = first_pod(self.folded, workload);
+        let place = first_place(self.folded, workload);
         if self.controller == Some(workload) {
             return ConnSet::nothing(alloc);
         }

@@ -9,11 +9,11 @@ ghost use Rattle.np_rules.specs.PodSides.{side_rule_count};
 ghost use Rattle.np_table.specs.PairRules.{AreEnds};
 ghost use Rattle.np_kinds.specs.Between.{IsWorkload, between_pods};
 
-use crate::first_pods::first_pod;
 use np_addr::Family;
 use np_base::{NoMemory, Seq, Text, join_all};
 use np_conns::ConnSet;
 use np_fold::Folded;
+use np_kinds::first_side;
 use np_labels::{Labels, Pair};
 use np_model::Direction;
 use np_rules::{PodRules, Stranger};
@@ -45,8 +45,7 @@ impl<'a> Sender<'a> {
         let Some(workload) = controller else {
             return Ok(Sender::Anyone(any_controller(alloc)?));
         };
-        let pod = first_pod(folded, workload);
-        let rules = PodRules::of(alloc, folded.estate(), pod, Direction::Egress)?;
+        let rules = first_side(alloc, folded, Direction::Egress, workload)?;
         Ok(Sender::Pod(rules))
     }
 

@@ -11,6 +11,7 @@ use Rattle.np_model.specs.declared.admin_policy.Action.{Action}
 use Rattle.np_model.specs.declared.admin_policy.AdminPolicy.{AdminPolicy}
 use Rattle.np_model.specs.declared.admin_policy.AdminRule.{AdminRule}
 use Rattle.np_model.specs.declared.direction.Direction.{Direction}
+use Rattle.np_rules.proofs.EachItem.{All-append, All-weaker}
 use Rattle.np_rules.specs.model.AdminTier.{least_by, sooner, admin_precedes, admin_decider}
 use Rattle.np_rules.specs.model.Ends.{Contact, PodEnd}
 use Rattle.np_rules.specs.model.Places.{PlacedAdminRule, admin_places, admin_places_of, admin_rules_of}
@@ -42,14 +43,6 @@ least_is_first {X} precedes test (x ∷ xs) ordered = go (test x) (least_is_firs
     go : (b : Bool) → least_by precedes (filter test xs) ≡ find test xs → least_by precedes (if b then x ∷ filter test xs else filter test xs) ≡ (if b then Some x else find test xs)
     go true rest = ap {A = X} Some (ap (sooner precedes x) rest ∙ stays_first precedes test x xs ordered.0)
     go false rest = rest
-
-All-append : {X : Type 0} (P : X → Type 0) (xs ys : List X) → AllByRecursion P xs → AllByRecursion P ys → AllByRecursion P (xs ++ ys)
-All-append P [] ys left right = right
-All-append P (x ∷ xs) ys left right = (left.0, All-append P xs ys left.1 right)
-
-All-weaker : {X : Type 0} (P Q : X → Type 0) → ((x : X) → P x → Q x) → (xs : List X) → AllByRecursion P xs → AllByRecursion Q xs
-All-weaker P Q weaker [] all = tt
-All-weaker P Q weaker (x ∷ xs) all = (weaker x all.0, All-weaker P Q weaker xs all.1)
 
 -- lists in order, one after another
 InOrder-append : {X : Type 0} (precedes : X → X → Bool) (xs ys : List X) → IsInOrder precedes xs → IsInOrder precedes ys → AllByRecursion (λ x. AllByRecursion (λ y. precedes y x ≡ false) ys) xs →

@@ -6,6 +6,7 @@ use Rattle.np_model.specs.declared.lists.EstateLists.{EstateLists}
 use Rattle.np_model.specs.declared.admin_policy.Action.{Action}
 use Rattle.np_model.specs.declared.admin_policy.Action.TheVariants.{Allow, Deny, Pass}
 use Rattle.np_model.specs.declared.direction.Direction.{Direction}
+use Rattle.np_rules.proofs.EachItem.{All-weaker}
 use Rattle.np_rules.specs.model.AdminTier.{admin_decider, admin_precedes, least_by, sooner}
 use Rattle.np_rules.specs.model.BaseTier.{base_decider}
 use Rattle.np_rules.specs.Deciders.{action_decides, admin_decides, admin_rule_name, base_decides, decider, decider_allows, isolating_names, lower_decider, net_decider, net_decides, net_precedes}
@@ -94,10 +95,6 @@ least_is_among {X} precedes (item ∷ items) least is = go (least_by precedes it
         pick : (b : Bool) → (if b then other else item) ≡ least → IsAmong least (item ∷ items)
         pick true same = inr (subst (λ (x : X). IsAmong x items) same (among other found))
         pick false same = inl (sym same)
-
-All-weaker : {X : Type 0} (P Q : X → Type 0) → ((x : X) → P x → Q x) → (xs : List X) → AllByRecursion P xs → AllByRecursion Q xs
-All-weaker P Q weaker [] all = tt
-All-weaker P Q weaker (x ∷ xs) all = (weaker x all.0, All-weaker P Q weaker xs all.1)
 
 -- an order in which what does not precede is passed on
 pub record IsOrder {X : Type 0} (precedes : X → X → Bool) : Type 0 where

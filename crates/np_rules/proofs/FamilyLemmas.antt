@@ -1,6 +1,6 @@
 -- Without networks a family changes nothing.
-use Rattle.std.proofs.Common.{◌≡◌, ℕ, ◌+◌, List, [], ◌∷◌, ◌++◌, Bool, true, false, ◌&&◌, ◌||◌, map, filter, Option, Some, None, refl, ap, ◌∙◌, if◌then◌else◌}
-use Rattle.std.specs.List.{AllByRecursion, enumerate_from, find, list_any}
+use Rattle.std.proofs.Common.{◌≡◌, ℕ, ◌+◌, List, [], ◌∷◌, Bool, true, false, ◌&&◌, ◌||◌, map, Option, Some, None, refl, ap, ◌∙◌, if◌then◌else◌}
+use Rattle.std.specs.List.{AllByRecursion, enumerate_from, list_any}
 use Rattle.std.specs.Option.{option_map_or}
 use Rattle.std.proofs.lemmas.Bool.{or_parts}
 use Rattle.np_addr.specs.declared.address.Family.{Family}
@@ -12,6 +12,7 @@ use Rattle.np_model.specs.declared.admin_policy.AdminRule.{AdminRule}
 use Rattle.np_model.specs.declared.admin_policy.BasePolicy.{BasePolicy}
 use Rattle.np_model.specs.declared.direction.Direction.{Direction}
 use Rattle.np_model.specs.declared.direction.Direction.TheVariants.{Ingress, Egress}
+use Rattle.np_rules.proofs.EachItem.{All-append, All-weaker, filter-same, find-same}
 use Rattle.np_rules.specs.model.AdminTier.{admin_decider, admin_precedes, least_by}
 use Rattle.np_rules.specs.model.BaseTier.{base_decider}
 use Rattle.np_rules.specs.model.Ends.{Contact, End, Packet, PodEnd, pod, address, contact_of}
@@ -64,10 +65,6 @@ numbered_all : {Y : Type 0} (make : ℕ × AdminRule → Y) (rule_of : Y → Adm
 numbered_all make rule_of same n [] all = tt
 numbered_all make rule_of same n (rule ∷ rules) all = (ap (λ r. list_any is_networks r.peers) (same (n, rule)) ∙ all.0, numbered_all make rule_of same (n + 1) rules all.1)
 
-All-append : {X : Type 0} (P : X → Type 0) (xs ys : List X) → AllByRecursion P xs → AllByRecursion P ys → AllByRecursion P (xs ++ ys)
-All-append P [] ys left right = right
-All-append P (x ∷ xs) ys left right = (left.0, All-append P xs ys left.1 right)
-
 if_all : {X : Type 0} (P : X → Type 0) (b : Bool) (xs : List X) → AllByRecursion P xs → AllByRecursion P (if b then xs else [])
 if_all P true xs all = all
 if_all P false xs all = tt
@@ -105,20 +102,6 @@ base_plain (Some policy) direction p plain = if_all (λ placed. IsPlain placed.r
     (all_plain (base_rules_of direction policy) (of_base direction policy plain)))
 
 -- ---- what decides
-
-filter-same : {X : Type 0} (one other : X → Bool) (xs : List X) → AllByRecursion (λ x. one x ≡ other x) xs → filter one xs ≡ filter other xs
-filter-same one other [] same = refl
-filter-same one other (x ∷ xs) same =
-    ap (λ b. if b then x ∷ filter one xs else filter one xs) same.0 ∙ ap (λ rest. if other x then x ∷ rest else rest) (filter-same one other xs same.1)
-
-find-same : {X : Type 0} (one other : X → Bool) (xs : List X) → AllByRecursion (λ x. one x ≡ other x) xs → find one xs ≡ find other xs
-find-same one other [] same = refl
-find-same {X} one other (x ∷ xs) same =
-    ap (λ b. if b then Some x else find one xs) same.0 ∙ ap (λ rest. if other x then Some x else rest) (find-same one other xs same.1)
-
-All-weaker : {X : Type 0} (P Q : X → Type 0) → ((x : X) → P x → Q x) → (xs : List X) → AllByRecursion P xs → AllByRecursion Q xs
-All-weaker P Q weaker [] all = tt
-All-weaker P Q weaker (x ∷ xs) all = (weaker x all.0, All-weaker P Q weaker xs all.1)
 
 side_other : (lists : EstateLists) (direction : Direction) (p : PodEnd) (contact : Contact) (other : Family) → has_networks lists ≡ false →
     side_allows lists direction p (record contact { family = other }) ≡ side_allows lists direction p contact

@@ -1,3 +1,4 @@
+pub mod EachItem
 pub mod PlacesLemmas
 pub mod AdminTierLemmas
 pub mod NetTierLemmas

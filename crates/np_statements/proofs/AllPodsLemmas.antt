@@ -1,5 +1,5 @@
 -- Statements of any pod and any pod, asked at once.
-use Rattle.std.proofs.Common.{◌≡◌, ℕ, ◌+◌, ◌<◌, ◌&&◌, ◌||◌, not, List, [], ◌∷◌, Bool, true, false, Option, Some, None, Ok, option_map, All, get_or, length, refl, sym, ap, subst, ◌∙◌, inl, inr}
+use Rattle.std.proofs.Common.{◌≡◌, ℕ, ◌+◌, ◌<◌, ◌&&◌, not, List, [], ◌∷◌, Bool, true, Option, Some, None, Ok, option_map, All, get_or, length, refl, sym, ap, ◌∙◌, inl, inr}
 use Rattle.std.specs.List.{list_any}
 use Rattle.std.proofs.lemmas.Bool.{and_from, and_parts, cases_Bool, or_left}
 use Rattle.std.proofs.lemmas.List.Elements.{All-cons, All-nil}
@@ -11,7 +11,6 @@ use Rattle.np_check.specs.declared.counterexample.Counterexample.{Counterexample
 use Rattle.np_check.specs.declared.question.Question.{Question}
 use Rattle.np_check.specs.declared.statement_text.EndForm.{EndForm}
 use Rattle.np_check.specs.declared.statement_text.EndForm.TheVariants.{Pods, Addresses, Namespace, Work, Block}
-use Rattle.np_check.specs.declared.statement_text.StatementText.{StatementText}
 use Rattle.np_check.specs.declared.statement_text.Wanted.{Wanted}
 use Rattle.np_check.specs.declared.statement_text.Wanted.TheVariants.{Allow, Deny}
 use Rattle.np_conns.specs.Conns.{Conns, has_spot}
@@ -25,7 +24,6 @@ use Rattle.np_statements.specs.AskedLines.{IsQuestion}
 use Rattle.np_statements.specs.BrokenLines.{broken_by, broken_of}
 use Rattle.np_statements.specs.Ends.{all_works, ends_of, works_alone}
 use Rattle.np_statements.specs.FoundEnds.{asked_of}
-use Rattle.np_statements.specs.Steps.{◌>>=◌}
 use Rattle.np_statements.specs.declared.all_pods.CheckedKinds.{CheckedKinds}
 use Rattle.np_statements.specs.declared.asked_line.AskedLine.{AskedLine}
 use Rattle.np_statements.specs.declared.statement_line.StatementLine.{StatementLine}

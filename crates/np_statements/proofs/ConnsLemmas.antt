@@ -15,7 +15,7 @@ use Rattle.np_conns.specs.ConnsText.{conns_text}
 use Rattle.np_conns.specs.declared.proto.Proto.TheVariants.{Tcp, Udp, Sctp}
 use Rattle.np_conns.specs.Runs.{onto_runs, runs, runs_from}
 use Rattle.np_statements.specs.ReadConns.{all_conns, all_runs, choices, conns_read}
-use Rattle.np_kinds.proofs.KindLists.{All-append, All-flat, All-parts, All-weaker}
+use Rattle.np_rules.proofs.EachItem.{All-append, All-flat, All-parts, All-weaker}
 
 -- ---- lists
 

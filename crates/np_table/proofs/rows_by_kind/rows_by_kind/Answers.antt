@@ -1,9 +1,7 @@
-use Rattle.std.proofs.Common.{◌≡◌, ◌<◌, None, false, slice_index, arith, ap, sym, refl, subst, ◌∙◌}
-use Rattle.np_addr.specs.declared.address.Family.{Family}
-use Rattle.np_conns.specs.declared.port_spot.PortSpot.{PortSpot}
+use Rattle.std.proofs.Common.{◌≡◌, ◌<◌, None, false, slice_index, ap, sym, refl, subst, ◌∙◌}
 use Rattle.np_fold.specs.Workloads.{Folding, folding_of}
 use Rattle.np_kinds.proofs.KindNumbers.{kind-there, kind-within}
-use Rattle.np_kinds.specs.Between.{is_alone, pair_allows}
+use Rattle.np_kinds.specs.Between.{is_alone}
 use Rattle.np_model.specs.Lawful.{IsLawful}
 use Rattle.np_table.proofs.KindLemmas.{IsKept-also, IsKept-same, none_kept, pair-counted, pair-due, pair_rows-alone, rows-kept}
 use Rattle.np_table.proofs.SetLemmas.{OnErr-from}

@@ -1,4 +1,4 @@
-use Rattle.std.proofs.Common.{false, arith, ap, ◌∙◌}
+use Rattle.std.proofs.Common.{arith, ap, ◌∙◌}
 use Rattle.std.proofs.lemmas.Result.{IfOk-weaker}
 use Rattle.np_addr.specs.declared.address.Family.{Family}
 use Rattle.np_kinds.specs.Between.{between_pods}

@@ -20,25 +20,25 @@ pub returns-clause-set : goal.returns-clause-set
 returns-clause-set g c =
     let same = ap (λ (r : Routing). r.controller) c.self.view_is in
     let other = controller-asked c.args.self.now.controller c.self.inside.controller c.args.workload c.eq.result _ same c.eq.ensures c.if-eq.false in
-    let stands = c.first_pod-place.ensures.value ∙ ap (λ (r : Routing). source_pod (folding_of r.lists) c.args.workload) c.self.view_is in
+    let stands = c.first_place-place.ensures.value ∙ ap (λ (r : Routing). source_pod (folding_of r.lists) c.args.workload) c.self.view_is in
     let lists = c.self.invariant.0 ∙ ap (λ (r : Routing). r.lists) c.self.view_is in
     let sender = c.self.invariant.1 ∙ ap (λ (r : Routing). sender_for r.lists r.controller) c.self.view_is in
-    IfOk-both c.reached_set.result _ _ _ (λ made members well. set-of_other c.args.self.now.lists c.args.self.now.controller c.args.workload c.first_pod-place.result c.self.inside.backends
+    IfOk-both c.reached_set.result _ _ _ (λ made members well. set-of_other c.args.self.now.lists c.args.self.now.controller c.args.workload c.first_place-place.result c.self.inside.backends
     c.self.inside.sender made other stands lists sender well members) c.reached_set.ensures.members c.reached_set.ensures.well
 
 pub returns-clause-every_pod : goal.returns-clause-every_pod
 returns-clause-every_pod g c other =
-    let lawful = subst (λ (r : Routing). IsLawful r.lists) c.self.view_is c.first_pod-place.ensures.lawful in
+    let lawful = subst (λ (r : Routing). IsLawful r.lists) c.self.view_is c.first_place-place.ensures.lawful in
     IfOk-weaker c.reached_set.result _ _ (λ made is. every_pod-of c.args.self.now.lists c.args.self.now.controller c.args.workload made lawful c.requires is other) (returns-clause-set g c)
 
 pub returns-clause-most : goal.returns-clause-most
 returns-clause-most g c =
-    let stands = c.first_pod-place.ensures.value ∙ ap (λ (r : Routing). source_pod (folding_of r.lists) c.args.workload) c.self.view_is in
+    let stands = c.first_place-place.ensures.value ∙ ap (λ (r : Routing). source_pod (folding_of r.lists) c.args.workload) c.self.view_is in
     let lists = c.self.invariant.0 ∙ ap (λ (r : Routing). r.lists) c.self.view_is in
     let sender = c.self.invariant.1 ∙ ap (λ (r : Routing). sender_for r.lists r.controller) c.self.view_is in
     omega (
       arith,
       c.reached_set.ensures.most,
-      send_steps-most c.args.self.now.lists c.args.self.now.controller c.args.workload c.first_pod-place.result c.self.inside.backends c.self.inside.sender
+      send_steps-most c.args.self.now.lists c.args.self.now.controller c.args.workload c.first_place-place.result c.self.inside.backends c.self.inside.sender
           stands lists sender,
     )

@@ -1,6 +1,6 @@
 use Rattle.std.proofs.Common.{refl}
 use Rattle.np_fold.specs.Workloads.{folding_of}
-use Rattle.np_routes.proofs.first_pods.first_pod.Goals as goal
+use Rattle.np_kinds.proofs.first_pods.first_place.Goals as goal
 use Rattle.np_kinds.proofs.MemberLemmas.{members-some, members-within, source-member}
 
 pub bounds-members-0 : goal.bounds-members-0

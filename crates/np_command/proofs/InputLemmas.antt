@@ -1,0 +1,25 @@
+-- What small inputs say is what they are read as.
+use Rattle.std.proofs.Common.{◌≡◌, Bool, true, false, Result, Ok, Err, refl}
+use Rattle.std.specs.Prelude.{nat_le}
+use Rattle.np_command.specs.Inputs.{small_estate, small_reading}
+use Rattle.np_command.specs.declared.fault.Fault.{Fault}
+use Rattle.np_fold.specs.Workloads.{workload_count}
+use Rattle.np_fold.specs.declared.workloads.TheConstants.{MOST_WORKLOADS}
+use Rattle.np_model.specs.declared.lists.EstateLists.{EstateLists}
+use Rattle.np_reading.specs.Readings.{Reading}
+
+abbrev Reads : EstateLists → EstateLists → Type 0
+Reads found lists = ◌≡◌ {A = Reading EstateLists} (Ok found) (Ok lists)
+
+abbrev Kept : EstateLists → EstateLists → Type 0
+Kept found lists = ◌≡◌ {A = Result EstateLists Fault} (Ok found) (Ok lists)
+
+-- what is small enough was read
+pub read-small : (reads : Reading EstateLists) (lists : EstateLists) → small_reading reads ≡ Ok lists → reads ≡ Ok lists
+unfolding small_estate
+read-small (Err refusal) lists read = absurd (cc)
+read-small (Ok found) lists read = by (nat_le (workload_count found) MOST_WORKLOADS) refl read
+  where
+    by : (few : Bool) → nat_le (workload_count found) MOST_WORKLOADS ≡ few → small_reading (Ok found) ≡ Ok lists → Reads found lists
+    by true is read = let same : Kept found lists = rw is at read in cc
+    by false is read = absurd (let wrong = rw is at read in cc)
