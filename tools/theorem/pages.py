@@ -12,7 +12,7 @@ WIDTH = 120
 PARTS = [
     ("What the words ask for", ["np_args/specs/CommandLines.antt"]),
     ("What sources and sinks tell",
-     ["np_io/src/inputs.rt", "np_io/src/sink.rt", "np_cli/specs/Sources.antt", "np_command/specs/Sinks.antt"]),
+     ["np_io/src/inputs.rt", "np_io/src/sink.rt", "np_frame/specs/Sources.antt", "np_command/specs/Sinks.antt"]),
     ("What `list` says: the headline", ["np_command_list/specs/Promise.antt"]),
     ("What `explain` says", ["np_command_explain/specs/Promise.antt"]),
     ("What `exposure` says", ["np_command_exposure/specs/Promise.antt"]),

@@ -7,7 +7,7 @@ ghost use Rattle.np_cli.specs.Counts.{Counted};
 ghost use Rattle.np_cli.specs.Promises.{Promises};
 ghost use Rattle.np_cli.specs.Runs.{ran};
 ghost use Rattle.np_command.specs.Sinks.{sunk};
-ghost use Rattle.np_cli.specs.Sources.{sourced};
+ghost use Rattle.np_frame.specs.Sources.{sourced};
 ghost use Rattle.np_command.specs.Statuses.{code_of};
 ghost use Rattle.np_command.specs.declared.status.Status.{Status as SpecStatus};
 ghost use Rattle.np_args.specs.CommandLines.{asked_by};

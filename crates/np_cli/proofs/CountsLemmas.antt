@@ -1,11 +1,10 @@
 -- How many rules a run looks at.
 use Rattle.std.proofs.Common.{◌≡◌, ℕ, ◌≤◌, List, Option, None, Some, arith, subst}
-use Rattle.np_cli.specs.Answers.{objects_of}
 use Rattle.np_cli.specs.Counts.{Counted, RoseAtMost, most_steps, steps_in}
 use Rattle.np_cli.specs.Runs.{ran}
 use Rattle.np_command.specs.Sinks.{SinkTrace}
-use Rattle.np_cli.specs.Sources.{AreTold, SourceTrace}
-use Rattle.np_cli.specs.Words.{names_of}
+use Rattle.np_frame.specs.Sources.{AreTold, SourceTrace}
+use Rattle.np_frame.specs.Words.{names_of, objects_of}
 use Rattle.np_args.specs.declared.job.Job.{Job}
 
 -- no rule was looked at

@@ -2,7 +2,8 @@
 use Rattle.std.proofs.Common.{◌≡◌, ℕ, List, Option, None, Some, Result, Ok, Err, refl, subst, ap, ◌∙◌}
 use Rattle.np_cli.proofs.PromisesLemmas.{one_job}
 use Rattle.np_cli.proofs.RunsLemmas.{output-fits}
-use Rattle.np_cli.specs.Answers.{IsLawfulIn, ending, ending_in, ending_of, objects_of, output, refusal, reply, reply_in, text_of}
+use Rattle.np_frame.specs.Words.{objects_of}
+use Rattle.np_cli.specs.Answers.{IsLawfulIn, ending, ending_in, ending_of, output, refusal, reply, reply_in, text_of}
 use Rattle.np_command.specs.Prints.{fault_in, text_in}
 use Rattle.np_cli.specs.Causes.{Cause}
 use Rattle.np_cli.specs.Runs.{Run, KnowsBytes}
@@ -11,7 +12,7 @@ use Rattle.np_cli.specs.Statuses.{status_of}
 use Rattle.np_command.specs.declared.failure.Failure.{Failure}
 use Rattle.np_command.specs.declared.failure.Failure.TheVariants.{Usage, TooLarge, Refused, CannotRead, CannotWrite, NoMemory}
 use Rattle.np_command.specs.declared.fault.Fault.{Fault}
-use Rattle.np_cli.specs.declared.notes.ReportNotes.{ReportNotes}
+use Rattle.np_frame.specs.declared.notes.ReportNotes.{ReportNotes}
 use Rattle.np_cli.specs.declared.outcome.Ending.{Ending}
 use Rattle.np_cli.specs.declared.outcome.Ending.TheVariants.{Done, Violated}
 use Rattle.np_command.specs.declared.status.Status.{Status}

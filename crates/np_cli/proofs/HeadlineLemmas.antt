@@ -3,13 +3,14 @@ use Rattle.std.proofs.Common.{◌≡◌, ℕ, List, Bool, true, false, Option, S
 use Rattle.np_args.specs.declared.job.Job.{Job}
 use Rattle.np_args.specs.declared.job.Job.TheVariants.{Check, Evaluate, Explain, Exposure, Flatten, List as ListJob, Sample, Unused}
 use Rattle.np_cli.proofs.DoneLemmas.{written-told}
-use Rattle.np_cli.specs.Answers.{ending, ends_so, holds, objects_of, reply, report_notes}
+use Rattle.np_frame.specs.Words.{objects_of}
+use Rattle.np_cli.specs.Answers.{ending, ends_so, holds, reply, report_notes}
 use Rattle.np_cli.specs.Causes.{Cause}
 use Rattle.np_cli.specs.Outcomes.{RefusesFor, Says}
 use Rattle.np_cli.specs.Promises.{SaysOfInputs}
 use Rattle.np_cli.specs.Runs.{Run}
 use Rattle.np_cli.specs.Statuses.{ending_status, status_of}
-use Rattle.np_cli.specs.declared.notes.ReportNotes.{ReportNotes}
+use Rattle.np_frame.specs.declared.notes.ReportNotes.{ReportNotes}
 use Rattle.np_cli.specs.declared.outcome.Ending.{Ending}
 use Rattle.np_cli.specs.declared.outcome.Ending.TheVariants.{Done, Violated}
 use Rattle.np_command.specs.Prints.{fault_in, text_in}

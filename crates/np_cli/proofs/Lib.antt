@@ -5,4 +5,3 @@ pub mod OutcomesLemmas
 pub mod PromisesLemmas
 pub mod RunsLemmas
 pub mod SampleLemmas
-pub mod SourcesLemmas

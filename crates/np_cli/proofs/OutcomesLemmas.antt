@@ -1,51 +1,33 @@
 -- What a run leaves, from why it ends as it does.
 use Rattle.std.proofs.Common.{◌≡◌, ℕ, List, [], ◌∷◌, ◌++◌, append-nil, Bool, true, false, Option, Some, None, Result, Ok, Err, refl, sym, ap, subst, ◌∙◌, inl, inr}
 use Rattle.std.specs.Io.KnownBytes.{append_known}
-use Rattle.std.specs.Prelude.{◌⊎◌, nat_le}
+use Rattle.std.specs.Prelude.{◌⊎◌}
 use Rattle.np_io.specs.Taken.{TookFront, TookLess}
 use Rattle.np_args.specs.declared.job.Job.{Job}
 use Rattle.np_args.specs.declared.job.Job.TheVariants.{Check, Evaluate, Explain, Exposure, Flatten, List as ListJob, Sample, Unused}
 use Rattle.np_cli.proofs.HeadlineLemmas.{refuses-for, says-of}
 use Rattle.np_cli.proofs.RunsLemmas.{output-fits}
-use Rattle.np_cli.specs.Answers.{ending, ending_in, ending_of, ends_so, holds, objects_of, output, refusal, reply, reply_in, report_notes, text_of}
+use Rattle.np_cli.specs.Answers.{ending, ending_in, ending_of, ends_so, holds, output, refusal, reply, reply_in, report_notes, text_of}
 use Rattle.np_cli.specs.Causes.{Cause}
 use Rattle.np_cli.specs.Outcomes.{HaveFault, IsReportOn, Leaves, NotesLeftOut, RefusesFor, taking}
 use Rattle.np_cli.specs.Runs.{Run}
-use Rattle.np_cli.specs.Sources.{is_too_large}
-use Rattle.np_cli.specs.Words.{inputs_of, object_texts}
+use Rattle.np_frame.specs.Sources.{is_too_large}
+use Rattle.np_frame.specs.Words.{inputs_of, object_texts, objects_of}
 use Rattle.np_cli.specs.declared.outcome.Ending.{Ending}
 use Rattle.np_cli.specs.declared.outcome.Ending.TheVariants.{Done, Violated}
-use Rattle.np_command.specs.Inputs.{lists_of, small_estate, small_reading}
+use Rattle.np_command.proofs.InputLemmas.{read-small}
+use Rattle.np_command.specs.Inputs.{lists_of}
 use Rattle.np_command.specs.Prints.{fault_in, text_in}
 use Rattle.np_command.specs.Sinks.{SinkTrace}
 use Rattle.np_command.specs.declared.failure.Failure.{Failure}
 use Rattle.np_command.specs.declared.failure.Failure.TheVariants.{Usage, TooLarge, Refused, CannotRead, CannotWrite, NoMemory}
 use Rattle.np_command.specs.declared.fault.Fault.{Fault}
-use Rattle.np_fold.specs.Workloads.{workload_count}
-use Rattle.np_fold.specs.declared.workloads.TheConstants.{MOST_WORKLOADS}
 use Rattle.np_manifests.proofs.LawfulReads.{estate-lawful}
 use Rattle.np_model.specs.Lawful.{IsLawful}
 use Rattle.np_model.specs.declared.lists.EstateLists.{EstateLists}
 use Rattle.np_reading.specs.Reading.{estate_of}
-use Rattle.np_reading.specs.Readings.{Reading}
 
 -- ---- what is read is lawful
-
-abbrev Reads : EstateLists → EstateLists → Type 0
-Reads found lists = ◌≡◌ {A = Reading EstateLists} (Ok found) (Ok lists)
-
-abbrev Kept : EstateLists → EstateLists → Type 0
-Kept found lists = ◌≡◌ {A = Result EstateLists Fault} (Ok found) (Ok lists)
-
--- what is small enough was read
-read-small : (reads : Reading EstateLists) (lists : EstateLists) → small_reading reads ≡ Ok lists → reads ≡ Ok lists
-unfolding small_estate
-read-small (Err refusal) lists read = absurd (cc)
-read-small (Ok found) lists read = by (nat_le (workload_count found) MOST_WORKLOADS) refl read
-  where
-    by : (few : Bool) → nat_le (workload_count found) MOST_WORKLOADS ≡ few → small_reading (Ok found) ≡ Ok lists → Reads found lists
-    by true is read = let same : Kept found lists = rw is at read in cc
-    by false is read = absurd (let wrong = rw is at read in cc)
 
 lawful-read : (job : Job) (texts : List (List ℕ)) (lists : EstateLists) → objects_of job texts ≡ Ok lists → IsLawful lists
 lawful-read job texts lists read = estate-lawful (object_texts job texts) lists (read-small (estate_of (object_texts job texts)) lists read)

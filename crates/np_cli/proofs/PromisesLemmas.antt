@@ -14,10 +14,10 @@ use Rattle.np_cli.specs.Promises.{IsStill, RefusesTooLarge, RefusesMore, BlamesD
 use Rattle.np_cli.specs.Runs.{Run}
 use Rattle.np_command.specs.Messages.{NamesSomething}
 use Rattle.np_command.specs.Sinks.{SinkTrace, Said}
-use Rattle.np_cli.specs.Sources.{FailedAt, SourceTrace}
+use Rattle.np_frame.specs.Sources.{FailedAt, SourceTrace}
 use Rattle.np_cli.specs.Statuses.{ending_status, status_of}
-use Rattle.np_cli.specs.Words.{names_asked}
-use Rattle.np_cli.proofs.SourcesLemmas.{Contains-middle}
+use Rattle.np_frame.specs.Words.{names_asked}
+use Rattle.np_frame.proofs.SourcesLemmas.{Contains-middle}
 use Rattle.np_command.specs.declared.fault.Fault.{Fault}
 use Rattle.np_args.specs.declared.job.Job.{Job}
 use Rattle.np_command.specs.declared.failure.Failure.{Failure}

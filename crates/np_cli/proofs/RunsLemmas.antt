@@ -3,24 +3,24 @@ use Rattle.std.proofs.Common.{◌≡◌, ℕ, ◌≤◌, List, [], ◌∷◌, �
 use Rattle.std.specs.Prelude.{◌⊎◌, IsErrAnd}
 use Rattle.std.proofs.lemmas.Bool.{le-ltb}
 use Rattle.np_io.specs.Taken.{TookFront, TookLess}
-use Rattle.np_cli.proofs.SourcesLemmas.{BeganNext-none}
-use Rattle.np_cli.specs.Answers.{ending_of, objects_of, output, refusal, reply_in, text_of}
+use Rattle.np_frame.proofs.SourcesLemmas.{BeganNext-none}
+use Rattle.np_cli.specs.Answers.{ending_of, output, refusal, reply_in, text_of}
 use Rattle.np_command.specs.Prints.{fault_in, text_in}
-use Rattle.np_cli.specs.Failures.{source_failure}
+use Rattle.np_frame.specs.Failures.{source_failure}
 use Rattle.np_command.specs.Failures.{words_failure}
 use Rattle.np_cli.specs.Prints.{Answers}
 use Rattle.np_cli.specs.Causes.{Cause, IsAccepted, IsReported}
 use Rattle.np_cli.specs.Runs.{AskedNothing, Run, ran}
 use Rattle.np_command.specs.Sinks.{SinkTrace, IsKept, TookWhole}
-use Rattle.np_cli.specs.Sources.{AreTold, BeganFront, FailedAt, IsUntouched, OverLimit, ReadOnce, SourceTrace, Unread, is_too_large, total_size}
-use Rattle.np_cli.specs.declared.sources.TheConstants.{SIZE_LIMIT}
-use Rattle.np_cli.specs.Words.{names_asked, names_of}
+use Rattle.np_frame.specs.Sources.{AreTold, BeganFront, FailedAt, IsUntouched, OverLimit, ReadOnce, SourceTrace, Unread, is_too_large, total_size}
+use Rattle.np_frame.specs.declared.sources.TheConstants.{SIZE_LIMIT}
+use Rattle.np_frame.specs.Words.{names_asked, names_of, objects_of}
 use Rattle.np_args.specs.declared.job.Job.{Job}
 use Rattle.np_command.specs.declared.failure.Failure.{Failure}
 use Rattle.np_command.specs.declared.failure.Failure.TheVariants.{Usage, TooLarge, Refused, CannotRead, CannotWrite, NoMemory}
 use Rattle.np_command.specs.declared.fault.Fault.{Fault}
-use Rattle.np_cli.specs.declared.sources.SourceFault.{SourceFault}
-use Rattle.np_cli.specs.declared.sources.SourceFault.TheVariants as unread
+use Rattle.np_frame.specs.declared.sources.SourceFault.{SourceFault}
+use Rattle.np_frame.specs.declared.sources.SourceFault.TheVariants as unread
 use Rattle.np_cli.specs.declared.outcome.Ending.{Ending}
 use Rattle.np_args.specs.declared.words_fault.WordsFault.{WordsFault}
 use Rattle.np_args.specs.declared.words_fault.WordsFault.TheVariants as words

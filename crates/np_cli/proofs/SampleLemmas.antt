@@ -3,15 +3,15 @@ use Rattle.std.proofs.Common.{◌≡◌, ℕ, ◌≤◌, List, [], ◌∷◌, No
 use Rattle.std.proofs.lemmas.Bool.{both_ways}
 use Rattle.np_cli.proofs.DoneLemmas.{done-told}
 use Rattle.np_cli.proofs.PromisesLemmas.{no_fault, one_job}
-use Rattle.np_cli.specs.Answers.{IsCountable, objects_of, refusal, reply}
+use Rattle.np_cli.specs.Answers.{IsCountable, refusal, reply}
 use Rattle.np_command.specs.Inputs.{lists_of}
 use Rattle.np_cli.specs.Bytes.{SaysCounts}
 use Rattle.np_cli.specs.Causes.{Cause}
 use Rattle.np_cli.specs.Runs.{Run, KnowsBytes}
 use Rattle.np_command_sample.specs.Promise.{CountsAll}
-use Rattle.np_cli.specs.Sources.{AreTold}
+use Rattle.np_frame.specs.Sources.{AreTold}
 use Rattle.np_cli.specs.Statuses.{status_of}
-use Rattle.np_cli.specs.Words.{names_asked}
+use Rattle.np_frame.specs.Words.{names_asked, objects_of}
 use Rattle.np_command_sample.specs.Report.{HasFewRows}
 use Rattle.np_command.specs.declared.failure.Failure.{Failure}
 use Rattle.np_command.specs.declared.failure.Failure.TheVariants.{Usage, TooLarge, Refused, CannotRead, CannotWrite, NoMemory}

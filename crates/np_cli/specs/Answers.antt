@@ -2,9 +2,8 @@
 use Rattle.std.specs.Prelude.{ℕ, List, [], Bool, true, false, Option, Some, None, Result, Ok, Err, if◌then◌else◌}
 use Rattle.np_model.specs.Lawful.{IsLawful}
 use Rattle.np_model.specs.declared.lists.EstateLists.{EstateLists}
-use Rattle.np_command.specs.Inputs.{lists_of}
-use Rattle.np_cli.specs.Sources.{is_too_large}
-use Rattle.np_cli.specs.Words.{object_texts}
+use Rattle.np_frame.specs.Sources.{is_too_large}
+use Rattle.np_frame.specs.Words.{objects_of}
 use Rattle.np_command_check.specs.Report.{statement_bytes}
 use Rattle.np_command_check.specs.Report.{all_hold, check_reply}
 use Rattle.np_command_evaluate.specs.Report.{evaluate_reply}
@@ -15,17 +14,13 @@ use Rattle.np_command_list.specs.Report.{list_reply}
 use Rattle.np_command_sample.specs.Report.{HasFewRows, sample_summary}
 use Rattle.np_command_unused.specs.Report.{unused_text}
 use Rattle.np_command.specs.declared.fault.Fault.{Fault}
-use Rattle.np_cli.specs.declared.notes.ReportNotes.{ReportNotes}
+use Rattle.np_frame.specs.declared.notes.ReportNotes.{ReportNotes}
 use Rattle.np_cli.specs.declared.outcome.Ending.{Ending}
 use Rattle.np_cli.specs.declared.outcome.Ending.TheVariants.{Done, Violated}
 use Rattle.np_routes.specs.RouteNotes.{notes_of_routes}
 use Rattle.np_args.specs.declared.job.Job.{Job}
 use Rattle.np_args.specs.declared.job.Job.TheVariants.{Check, Evaluate, Explain, Exposure, Flatten, List as ListJob, Sample, Unused}
 use Rattle.np_command.specs.Prints.{fault_in, text_in}
-
--- what the bytes of a job say, or why they are refused
-abbrev pub objects_of : Job → List (List ℕ) → Result EstateLists Fault
-objects_of job texts = lists_of (object_texts job texts)
 
 -- ---- what is printed
 

@@ -7,7 +7,7 @@ use Rattle.np_cli.specs.Promises.{IsStill, NoInputFailed}
 use Rattle.np_cli.specs.Runs.{Run, KnowsBytes}
 use Rattle.np_command_sample.specs.Promise.{CountsAll}
 use Rattle.np_command.specs.Sinks.{SinkTrace, IsKept, TookWhole, Said}
-use Rattle.np_cli.specs.Sources.{is_too_large}
+use Rattle.np_frame.specs.Sources.{is_too_large}
 use Rattle.np_cli.specs.Statuses.{ending_status}
 use Rattle.np_command.specs.declared.failure.Failure.TheVariants as failure
 use Rattle.np_command.specs.declared.fault.Fault.{Fault}

@@ -2,13 +2,13 @@
 use Rattle.std.specs.Prelude.{◌≡◌, ℕ, List, false, Some, None, Result, Ok, Err}
 use Rattle.np_io.specs.Counts.{Rose}
 use Rattle.np_io.specs.Taken.{TookFront, TookLess}
-use Rattle.np_cli.specs.Answers.{IsLawfulIn, ending_of, objects_of, output, refusal}
+use Rattle.np_cli.specs.Answers.{IsLawfulIn, ending_of, output, refusal}
 use Rattle.np_cli.specs.Messages.{message}
 use Rattle.np_cli.specs.Runs.{AskedNothing, KnowsBytes, ReadTooMuch, Run, StoppedReading}
 use Rattle.np_command.specs.Sinks.{SinkTrace, IsKept, TookWhole, Said}
-use Rattle.np_cli.specs.Sources.{BeganFront, ReadOnce, is_too_large}
+use Rattle.np_frame.specs.Sources.{BeganFront, ReadOnce, is_too_large}
 use Rattle.np_cli.specs.Statuses.{status_of}
-use Rattle.np_cli.specs.Words.{names_asked, names_of}
+use Rattle.np_frame.specs.Words.{names_asked, names_of, objects_of}
 use Rattle.np_command.specs.declared.failure.Failure.{Failure}
 use Rattle.np_command.specs.declared.failure.Failure.TheVariants.{Usage, CannotRead, TooLarge, Refused, CannotWrite, NoMemory}
 use Rattle.np_command.specs.declared.fault.Fault.{Fault}

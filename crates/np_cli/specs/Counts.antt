@@ -1,6 +1,6 @@
 -- How many rules a job looks at.
 use Rattle.std.specs.Prelude.{◌≡◌, ℕ, ◌+◌, ◌≤◌, List, Option, Some, None, Result, Ok, Err}
-use Rattle.np_cli.specs.Answers.{objects_of}
+use Rattle.np_frame.specs.Words.{objects_of}
 use Rattle.np_cli.specs.Runs.{Run, KnowsBytes}
 use Rattle.np_command.specs.declared.fault.Fault.{Fault}
 use Rattle.np_args.specs.declared.job.Job.{Job}

@@ -2,13 +2,9 @@ pub mod Answers
 pub mod Bytes
 pub mod Causes
 pub mod Counts
-pub mod Failures
 pub mod Messages
-pub mod NoteTexts
 pub mod Outcomes
 pub mod Prints
 pub mod Promises
 pub mod Runs
-pub mod Sources
 pub mod Statuses
-pub mod Words

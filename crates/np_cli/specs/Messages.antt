@@ -3,7 +3,7 @@ use Rattle.std.specs.Prelude.{ℕ, List, [], Result, Ok, Err}
 use Rattle.np_command.specs.declared.failure.Failure.{Failure}
 use Rattle.np_cli.specs.declared.outcome.Ending.{Ending}
 use Rattle.np_cli.specs.declared.outcome.Ending.TheVariants.{Done, Violated}
-use Rattle.np_cli.specs.NoteTexts.{notes_text}
+use Rattle.np_frame.specs.NoteTexts.{notes_text}
 use Rattle.np_command.specs.Messages.{failure_text}
 
 -- the notes of a report that is done, and nothing where a statement does not hold

@@ -5,9 +5,9 @@ use Rattle.np_io.specs.Counts.{Rose}
 use Rattle.np_io.specs.Taken.{TookFront, TookLess}
 use Rattle.np_cli.specs.Messages.{message}
 use Rattle.np_cli.specs.Runs.{AskedNothing, KnowsBytes, ReadTooMuch, Run, StoppedReading}
-use Rattle.np_cli.specs.Sources.{BeganFront, ReadOnce, is_too_large}
+use Rattle.np_frame.specs.Sources.{BeganFront, ReadOnce, is_too_large}
 use Rattle.np_cli.specs.Statuses.{status_of}
-use Rattle.np_cli.specs.Words.{inputs_of, names_asked, names_of}
+use Rattle.np_frame.specs.Words.{inputs_of, names_asked, names_of}
 use Rattle.np_command.specs.Inputs.{lists_of}
 use Rattle.np_command.specs.Sinks.{SinkTrace, IsKept, Said}
 use Rattle.np_command_check.specs.Promise.{ChecksAll, FindsBroken, RefusesCheck}

@@ -1,6 +1,7 @@
 -- What a job leaves of its report, once its inputs are read.
 use Rattle.std.specs.Prelude.{◌≡◌, ℕ, List, Result, Ok, Err}
-use Rattle.np_cli.specs.Answers.{IsLawfulIn, ending_in, objects_of, reply_in}
+use Rattle.np_frame.specs.Words.{objects_of}
+use Rattle.np_cli.specs.Answers.{IsLawfulIn, ending_in, reply_in}
 use Rattle.np_command.specs.Sinks.{SinkTrace}
 use Rattle.np_command.specs.declared.failure.Failure.{Failure}
 use Rattle.np_cli.specs.declared.outcome.Ending.{Ending}

@@ -5,12 +5,12 @@ use Rattle.np_cli.specs.Messages.{message}
 use Rattle.np_cli.specs.Outcomes.{Ends, Says}
 use Rattle.np_cli.specs.Runs.{Run, KnowsBytes}
 use Rattle.np_command.specs.Sinks.{SinkTrace, IsKept, Said}
-use Rattle.np_cli.specs.Sources.{BeganFront, is_too_large}
+use Rattle.np_frame.specs.Sources.{BeganFront, is_too_large}
 use Rattle.np_cli.specs.Statuses.{ending_status}
-use Rattle.np_cli.specs.Words.{names_asked}
+use Rattle.np_frame.specs.Words.{names_asked}
 use Rattle.np_command.specs.declared.failure.Failure.TheVariants as failure
 use Rattle.np_cli.specs.declared.outcome.Ending.{Ending}
-use Rattle.np_cli.specs.declared.sources.TheConstants.{SIZE_LIMIT}
+use Rattle.np_frame.specs.declared.sources.TheConstants.{SIZE_LIMIT}
 use Rattle.np_command.specs.declared.status.Status.{Status}
 use Rattle.np_command.specs.declared.status.Status.TheVariants as status
 use Rattle.np_args.specs.declared.job.Job.{Job}

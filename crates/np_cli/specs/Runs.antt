@@ -1,7 +1,7 @@
 -- A run of the top call, and what holds of runs that end before their inputs are read.
 use Rattle.std.specs.Prelude.{◌≡◌, ℕ, List, Option, None, is_some, true}
-use Rattle.np_cli.specs.Sources.{SourceTrace, AreTold, FailedAt, IsUntouched, OverLimit}
-use Rattle.np_cli.specs.Words.{names_asked}
+use Rattle.np_frame.specs.Sources.{SourceTrace, AreTold, FailedAt, IsUntouched, OverLimit}
+use Rattle.np_frame.specs.Words.{names_asked}
 use Rattle.np_command.specs.Sinks.{SinkTrace, IsKept}
 use Rattle.np_args.specs.declared.job.Job.{Job}
 

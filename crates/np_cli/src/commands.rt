@@ -7,7 +7,6 @@ ghost use Rattle.np_command.specs.Sinks.{sunk};
 ghost use Rattle.np_command_check.specs.Report.{statement_bytes};
 ghost use Rattle.np_model.specs.Lawful.{IsLawful};
 
-use crate::notes::{PreparedNotes, ReportNotes};
 use np_args::Job;
 use np_base::{NoMemory, Seq};
 use np_command::Failure;
@@ -21,6 +20,7 @@ use np_command_sample::count_rows;
 use np_command_unused::unused;
 use np_conns::PortSpot;
 use np_fold::Folded;
+use np_frame::{PreparedNotes, ReportNotes};
 use np_io::Sink;
 use np_model::Notes;
 use np_routes::route_notes;

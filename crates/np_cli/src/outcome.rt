@@ -2,8 +2,8 @@
 ghost use Rattle.std.specs.Prelude.{◌≡◌};
 ghost use Rattle.np_cli.specs.Statuses as statuses;
 
-use crate::notes::PreparedNotes;
 use np_command::{Failure, Status};
+use np_frame::PreparedNotes;
 
 /// How a report that was written whole ends.
 #[derive(Debug, Drop)]

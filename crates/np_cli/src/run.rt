@@ -1,6 +1,6 @@
 //! The top call: from the words of a command line and the bytes of its inputs to a report and a status.
 ghost use Rattle.std.specs.Prelude.{◌≡◌, ◌≤◌, ◌⊎◌, Err, IsErrAnd, Some, map};
-ghost use Rattle.np_cli.specs.Answers.{objects_of};
+ghost use Rattle.np_frame.specs.Words.{objects_of};
 ghost use Rattle.np_cli.specs.Bytes.{Bytes};
 ghost use Rattle.np_cli.specs.Causes.{Cause};
 ghost use Rattle.np_cli.specs.Counts.{Counted, RoseAtMost, steps_in};
@@ -10,16 +10,15 @@ ghost use Rattle.np_cli.specs.Promises.{Promises};
 ghost use Rattle.np_cli.specs.Runs.{ran};
 ghost use Rattle.np_command.specs.Messages.{NamesSomething, failure_text};
 ghost use Rattle.np_command.specs.Sinks.{Said, sunk};
-ghost use Rattle.np_cli.specs.Sources.{sourced};
+ghost use Rattle.np_frame.specs.Sources.{sourced};
 ghost use Rattle.np_args.specs.CommandLines.{asked_by};
 ghost use Rattle.np_args.specs.Jobs.{IsWell};
 
 use crate::commands::{reply, report_notes};
-use crate::job_texts::{names_of, read_objects};
 use crate::outcome::{Ending, Outcome, status_of};
-use crate::sources::read_all;
 use np_args::{Job, read_words};
 use np_command::{Failure, Status};
+use np_frame::{names_of, read_all, read_objects};
 use np_io::{Inputs, Sink, write_whole};
 use np_steps::Steps;
 use std::alloc::Global;

@@ -1,5 +1,5 @@
 use Rattle.std.proofs.Common.{◌≡◌, ◌++◌, take}
-use Rattle.np_cli.proofs.job_texts.add_copies.Given as goal
+use Rattle.np_frame.proofs.job_texts.add_copies.Given as goal
 
 abbrev pub invariant-loop-name : goal.invariant-loop-name
 invariant-loop-name l = l.names ≡ l.fn.names ++ take l.name-index l.more

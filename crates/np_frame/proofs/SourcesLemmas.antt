@@ -10,10 +10,10 @@ use Rattle.std.proofs.lemmas.List.Elements.{Contains-append_left, Contains-appen
 use Rattle.std.proofs.lemmas.List.Sums.{sum_by-append, sum_by_more_le}
 use Rattle.np_io.specs.Counts.{Rose, RosePast, handed_after}
 use Rattle.np_io.specs.Source.{BeganNext, IsTold}
-use Rattle.np_cli.specs.Sources.{AreTold, BeganFront, FailedAt, HandedOut, SourceTrace, Unread, NextUnread, total_size, is_too_large}
-use Rattle.np_cli.specs.declared.sources.TheConstants.{SIZE_LIMIT}
-use Rattle.np_cli.specs.declared.sources.SourceFault.{SourceFault}
-use Rattle.np_cli.specs.declared.sources.SourceFault.TheVariants.{CannotRead, TooLarge, NoMemory}
+use Rattle.np_frame.specs.Sources.{AreTold, BeganFront, FailedAt, HandedOut, SourceTrace, Unread, NextUnread, total_size, is_too_large}
+use Rattle.np_frame.specs.declared.sources.TheConstants.{SIZE_LIMIT}
+use Rattle.np_frame.specs.declared.sources.SourceFault.{SourceFault}
+use Rattle.np_frame.specs.declared.sources.SourceFault.TheVariants.{CannotRead, TooLarge, NoMemory}
 
 -- the bytes of texts, as contracts see them
 abbrev pub bytes_of : List (Vec ℕ Global) → List (List ℕ)

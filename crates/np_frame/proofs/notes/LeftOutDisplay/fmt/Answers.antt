@@ -1,5 +1,5 @@
 use Rattle.std.proofs.Common.{append_assoc}
-use Rattle.np_cli.proofs.notes.LeftOutDisplay.fmt.Goals as goal
+use Rattle.np_frame.proofs.notes.LeftOutDisplay.fmt.Goals as goal
 
 pub returns-clause-writes : goal.returns-clause-writes
 returns-clause-writes g c = λ plain ok. simp append_assoc (c.write.ensures.writes plain ok)

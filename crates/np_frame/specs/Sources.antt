@@ -2,9 +2,9 @@
 use Rattle.std.specs.Prelude.{◌≡◌, ◌<◌, ◌≤◌, ◌+◌, ◌-◌, ◌^◌, min, ℕ, List, [], ◌∷◌, ◌++◌, Bool, true, Option, length, sum_by, nat_lt, take}
 use Rattle.np_io.specs.Counts.{Rose, RosePast}
 use Rattle.np_io.specs.Source.{BeganNext, IsTold}
-use Rattle.np_cli.specs.declared.sources.TheConstants.{SIZE_LIMIT}
-use Rattle.np_cli.specs.declared.sources.SourceFault.{SourceFault}
-use Rattle.np_cli.specs.declared.sources.SourceFault.TheVariants.{CannotRead, TooLarge, NoMemory}
+use Rattle.np_frame.specs.declared.sources.TheConstants.{SIZE_LIMIT}
+use Rattle.np_frame.specs.declared.sources.SourceFault.{SourceFault}
+use Rattle.np_frame.specs.declared.sources.SourceFault.TheVariants.{CannotRead, TooLarge, NoMemory}
 
 -- ---- what is told
 

@@ -2,15 +2,15 @@
 ghost use Rattle.std.specs.Prelude.{◌≡◌, ◌≤◌, ◌<◌, ℕ, List, [], ◌∷◌, length, map, is_some, IfOk, IfErr, OnOk, IsErrOf};
 ghost use Rattle.np_io.specs.Counts.{Rose, RosePast, handed_after};
 ghost use Rattle.np_io.specs.Source.{BeganNext, IsTold};
-ghost use Rattle.np_cli.specs.Sources.{AreTold, ReadOnce, Unread, NextUnread, NamesInput, sourced, total_size};
+ghost use Rattle.np_frame.specs.Sources.{AreTold, ReadOnce, Unread, NextUnread, NamesInput, sourced, total_size};
 
 use np_base::{NoMemory, Text};
 use np_command::Failure;
 use np_io::{Inputs, WholeFault, read_whole};
 use std::alloc::{AllocFailed, Global};
 
-/// How many bytes all inputs may have together.
-const SIZE_LIMIT: u64 = 33_554_432;
+/// How many bytes all inputs of a job may have together.
+pub const SIZE_LIMIT: u64 = 33_554_432;
 
 /// Why inputs are not read.
 #[derive(Debug, Drop)]
@@ -24,7 +24,7 @@ pub enum SourceFault {
 }
 
 impl<T: Drop> From<AllocFailed<T>> for SourceFault {
-    ghost use Rattle.np_cli.specs.declared.sources.SourceFault.TheVariants.{NoMemory};
+    ghost use Rattle.np_frame.specs.declared.sources.SourceFault.TheVariants.{NoMemory};
 
     ghost from_gives = { λ _ fault. fault ≡ NoMemory };
 
@@ -35,7 +35,7 @@ impl<T: Drop> From<AllocFailed<T>> for SourceFault {
 
 impl From<SourceFault> for Failure {
     ghost use Rattle.std.specs.Prelude.{◌≡◌};
-    ghost use Rattle.np_cli.specs.Failures.{source_failure};
+    ghost use Rattle.np_frame.specs.Failures.{source_failure};
 
     ghost from_gives = { λ fault failure. failure ≡ source_failure fault };
 

@@ -1,9 +1,9 @@
 use Rattle.std.proofs.Common.{◌≡◌, ◌+◌, ℕ, List, map, take, is_some}
-use Rattle.np_cli.proofs.SourcesLemmas.{RoseBy}
+use Rattle.np_frame.proofs.SourcesLemmas.{RoseBy}
 use Rattle.np_io.specs.Source.{BeganNext}
-use Rattle.np_cli.specs.Sources.{AreTold, HandedOut, total_size}
-use Rattle.np_cli.specs.declared.sources.TheConstants.{SIZE_LIMIT}
-use Rattle.np_cli.proofs.sources.read_all.Given as goal
+use Rattle.np_frame.specs.Sources.{AreTold, HandedOut, total_size}
+use Rattle.np_frame.specs.declared.sources.TheConstants.{SIZE_LIMIT}
+use Rattle.np_frame.proofs.sources.read_all.Given as goal
 
 abbrev pub invariant-loop-name : goal.invariant-loop-name
 invariant-loop-name g l = record {

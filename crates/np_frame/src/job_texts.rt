@@ -1,8 +1,7 @@
 //! What a job reads, and which of its bytes hold the objects.
 ghost use Rattle.std.specs.Prelude.{◌≡◌, ◌++◌, IfOk, OnOk, map};
-ghost use Rattle.np_cli.specs.Answers.{objects_of};
 ghost use Rattle.np_command.specs.Inputs.{Gives};
-ghost use Rattle.np_cli.specs.Words as spec;
+ghost use Rattle.np_frame.specs.Words as spec;
 ghost use Rattle.np_args.specs.Jobs.{IsWell};
 
 use crate::folded::read_folded;
@@ -48,7 +47,7 @@ fn add_copies(names: &mut Seq<Text>, more: &[Text]) -> Result<(), NoMemory>
 /// those of its statement file, which hold no objects, and `sample` makes its own.
 pub fn read_objects(alloc: Global, job: &Job, texts: &[Vec<u8>]) -> Result<Folded, Failure>
     requires { IsWell job.now }
-    ensures { Gives result (objects_of job.now (map (λ text. text.items) texts.now)) }
+    ensures { Gives result (spec.objects_of job.now (map (λ text. text.items) texts.now)) }
 {
     match job {
         Job::Check { .. } => match texts.split_first() {

@@ -1,7 +1,7 @@
 -- The notes on a whole report, as their lines.
 use Rattle.std.specs.Prelude.{ℕ, List, [], ◌++◌, ◌==◌, codes, decimal, flat_map, if◌then◌else◌}
 use Rattle.np_model.specs.declared.notes.Notes.{Notes}
-use Rattle.np_cli.specs.declared.notes.ReportNotes.{ReportNotes}
+use Rattle.np_frame.specs.declared.notes.ReportNotes.{ReportNotes}
 use Rattle.np_routes.specs.RouteNotes.{route_note_text}
 use Rattle.np_routes.specs.declared.route_note.RouteNote.{RouteNote}
 

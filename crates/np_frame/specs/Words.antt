@@ -1,6 +1,9 @@
 -- The names that a command line asks for, and which of their bytes are read for objects.
-use Rattle.std.specs.Prelude.{ℕ, List, [], ◌∷◌, Option, Some, None, drop}
+use Rattle.std.specs.Prelude.{ℕ, List, [], ◌∷◌, Option, Some, None, Result, drop}
 use Rattle.np_sample.specs.Sample.{sample_text}
+use Rattle.np_model.specs.declared.lists.EstateLists.{EstateLists}
+use Rattle.np_command.specs.Inputs.{lists_of}
+use Rattle.np_command.specs.declared.fault.Fault.{Fault}
 use Rattle.np_args.specs.declared.job.Job.{Job}
 use Rattle.np_args.specs.declared.job.Job.TheVariants.{Check, Evaluate, Explain, Exposure, Flatten, List as ListJob, Sample, Unused}
 
@@ -38,3 +41,7 @@ object_texts (Unused files) texts = texts
 object_texts (Check statement files) texts = drop 1 texts
 object_texts (Flatten files) texts = texts
 object_texts (Sample n) texts = sample_text n ∷ []
+
+-- what the bytes of a job say, or why they are refused
+abbrev pub objects_of : Job → List (List ℕ) → Result EstateLists Fault
+objects_of job texts = lists_of (object_texts job texts)

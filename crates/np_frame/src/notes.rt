@@ -1,6 +1,6 @@
 //! What is said of a whole report.
 ghost use Rattle.std.specs.Prelude.{◌≡◌, IfOk, string_bytes};
-ghost use Rattle.np_cli.specs.NoteTexts as spec;
+ghost use Rattle.np_frame.specs.NoteTexts as spec;
 
 use np_base::{NoMemory, Seq};
 use np_model::Notes;
@@ -19,7 +19,7 @@ pub struct ReportNotes {
 
 impl ReportNotes {
     ghost use Rattle.std.specs.Prelude.{◌≡◌, IfOk, string_bytes};
-    ghost use Rattle.np_cli.specs.NoteTexts.{notes_text};
+    ghost use Rattle.np_frame.specs.NoteTexts.{notes_text};
 
     /// The lines of the notes: those of the objects first, each where its number is not 0.
     pub fn text(&self, alloc: Global) -> Result<String, NoMemory>
@@ -46,8 +46,8 @@ pub struct PreparedNotes {
 
 impl Model for PreparedNotes {
     ghost use Rattle.std.specs.Prelude.{◌≡◌, string_bytes};
-    ghost use Rattle.np_cli.specs.NoteTexts.{notes_text};
-    ghost use Rattle.np_cli.specs.declared.notes.ReportNotes.{ReportNotes};
+    ghost use Rattle.np_frame.specs.NoteTexts.{notes_text};
+    ghost use Rattle.np_frame.specs.declared.notes.ReportNotes.{ReportNotes};
 
     ghost Value = { ReportNotes };
 
@@ -58,7 +58,7 @@ impl Model for PreparedNotes {
 
 impl PreparedNotes {
     ghost use Rattle.std.specs.Prelude.{◌≡◌, IfOk};
-    ghost use Rattle.np_cli.specs.NoteTexts.{notes_text};
+    ghost use Rattle.np_frame.specs.NoteTexts.{notes_text};
 
     /// Makes the lines of these notes.
     pub fn of(alloc: Global, notes: ReportNotes) -> Result<PreparedNotes, NoMemory>
@@ -91,7 +91,7 @@ struct LeftOut {
 
 impl fmt::Display for LeftOut {
     ghost use Rattle.std.specs.Prelude.{Some};
-    ghost use Rattle.np_cli.specs.NoteTexts.{left_out_text};
+    ghost use Rattle.np_frame.specs.NoteTexts.{left_out_text};
 
     ghost output = { λ text. Some (left_out_text text.notes) };
 
@@ -125,7 +125,7 @@ struct Note {
 
 impl fmt::Display for Note {
     ghost use Rattle.std.specs.Prelude.{Some};
-    ghost use Rattle.np_cli.specs.NoteTexts.{note};
+    ghost use Rattle.np_frame.specs.NoteTexts.{note};
 
     ghost output = { λ line. Some (note line.what.now line.count) };
 

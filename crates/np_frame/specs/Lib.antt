@@ -1,0 +1,4 @@
+pub mod Failures
+pub mod NoteTexts
+pub mod Sources
+pub mod Words
