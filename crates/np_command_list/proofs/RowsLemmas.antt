@@ -1,6 +1,7 @@
 -- Rows that are still to come.
-use Rattle.std.proofs.Common.{◌≡◌, ℕ, Bool, true, false, ◌||◌, if◌then◌else◌, List, [], ◌∷◌, ◌++◌, refl, sym, ap, ◌∙◌}
-use Rattle.np_report.proofs.ToComeLemmas.{rows_to_come-kept, rows_to_come-left_out}
+use Rattle.std.proofs.Common.{◌≡◌, ℕ, Bool, true, false, ◌||◌, if◌then◌else◌, List, [], ◌∷◌, ◌++◌, Option, refl, sym, ap, subst, ◌∙◌}
+use Rattle.np_command.proofs.LeftLemmas.{HasLeft, HasLeft-last}
+use Rattle.np_report.proofs.ToComeLemmas.{rows_to_come-kept, rows_to_come-left_out, rows_to_come-none}
 use Rattle.np_report.specs.Forms.{Form}
 use Rattle.np_report.specs.Keeps.{keeps}
 use Rattle.np_report.specs.RowText.{row_text}
@@ -31,3 +32,17 @@ rows_to_come-next form names query report came row rows = by (keeps query row.ke
     by false is =
         rows_to_come-left_out form names query report came row rows is
         ∙ ap (λ (c : Bool). rows_to_come form names query report c rows) (sym (or_false came))
+
+module _ (form : Form) (names : List (List ℕ)) (query : Query) (report : Report) (came : Bool) (before after : Option (List ℕ)) (faults_before faults_after : ℕ) (whole held : List ℕ)
+    (all : List Row) (left : HasLeft before after faults_before faults_after whole held (rows_to_come form names query report came all)) where
+  -- of a text of which rows are to come, the bytes of the next one are, if it is asked for, and those of the others
+  pub HasLeft-row : (row : Row) (rows : List Row) → all ≡ row ∷ rows → HasLeft before after faults_before faults_after whole held
+      ((if keeps query row.key then form.row came (row_text names report row) else []) ++ rows_to_come form names query report (came || keeps query row.key) rows)
+  HasLeft-row row rows is =
+      subst (HasLeft before after faults_before faults_after whole held) (ap (rows_to_come form names query report came) is ∙ rows_to_come-next form names query report came row rows) left
+
+  -- and where no row is to come, its end
+  pub HasLeft-end : all ≡ [] → HasLeft before after faults_before faults_after whole held (form.end came ++ [])
+  HasLeft-end is =
+      HasLeft-last before after faults_before faults_after whole held (form.end came)
+      (subst (HasLeft before after faults_before faults_after whole held) (ap (rows_to_come form names query report came) is ∙ rows_to_come-none form names query report came) left)

@@ -17,12 +17,10 @@ use np_base::{NoMemory, Text};
 use np_command::{Failure, WriteFault, workload_of};
 use np_fold::Folded;
 use np_io::{BufferedSink, Sink};
-use np_report::{
-    CsvForm, Focus, FocusSide, Form, JsonForm, Query, Report, TextForm, keeps, row_text,
-};
+use np_report::{CsvForm, FocusSide, Form, JsonForm, Query, Report, TextForm, keeps, row_text};
 use np_routes::ClusterRows;
 use np_steps::Steps;
-use np_table::{Row, RowKey};
+use np_table::Row;
 use std::alloc::Global;
 use std::sync::ledger::Ledger;
 
@@ -111,35 +109,32 @@ fn write_rows<F: Form, O: Sink, L: Ledger>(
     ensures least { steps.old ≤ steps.new }
     ensures most { steps.new ≤ steps.old + list_steps folded.now }
 {
-    let query = asked.query;
-    let keep = Box::new(alloc, move |key: &RowKey| keeps(&query, key))?;
-    let focus = Focus::new(query, keep);
     let mut rows = ClusterRows::of(alloc, folded, asked.controller)?;
     let mut gathered = BufferedSink::new(alloc)?;
     let mut came = false;
     while let Some(row) = rows.next(steps)? {
-        let line = line_of::<F>(alloc, folded, &focus, report, came, &row)?;
+        let line = line_of::<F>(alloc, folded, &asked.query, report, came, &row)?;
         gathered.put(out, &line)?;
-        came |= focus.admits(&row.key);
+        came |= keeps(&asked.query, &row.key);
     }
     gathered.put(out, F::end(came).as_bytes())?;
     gathered.finish(out)?;
     Ok(())
 }
 
-// The bytes of a row, and none where the focus does not admit it.
+// The bytes of a row, and none where it is not asked for.
 fn line_of<F: Form>(
     alloc: Global,
     folded: &Folded,
-    focus: &Focus,
+    query: &Query,
     report: Report,
     came: bool,
     row: &Row,
 ) -> Result<Vec<u8>, NoMemory>
-    ensures { IfOk result (λ line. line.items ≡ (if keeps focus.now.query row.now.key
+    ensures { IfOk result (λ line. line.items ≡ (if keeps query.now row.now.key
         then F.bytes.row came (row_text (names_of (folding_of folded.now)) report row.now) else [])) }
 {
-    if !focus.admits(&row.key) {
+    if !keeps(query, &row.key) {
         return Ok(Vec::new(alloc));
     }
     let text = row_text(alloc, folded.workloads(), row, report)?;

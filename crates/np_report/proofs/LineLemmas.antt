@@ -1,5 +1,5 @@
 -- The bytes of several rows, and what comes behind them.
-use Rattle.std.proofs.Common.{◌≡◌, ℕ, List, [], ◌∷◌, ◌++◌, Bool, true, false, not, ◌||◌, append_assoc, refl, ap, subst, sym, ◌∙◌}
+use Rattle.std.proofs.Common.{◌≡◌, ℕ, List, [], ◌∷◌, ◌++◌, Bool, true, false, ◌||◌, append_assoc, refl, ap, subst, sym, ◌∙◌}
 use Rattle.np_report.specs.Forms.{Form, lines_of, text_to_come}
 use Rattle.np_report.specs.declared.row.RowText.{RowText}
 

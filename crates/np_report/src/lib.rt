@@ -2,7 +2,6 @@
 #![tactic(auto)]
 
 mod csv_form;
-mod focus;
 mod form;
 mod form_report;
 mod json_form;
@@ -16,7 +15,6 @@ mod tally;
 mod text_form;
 
 pub use csv_form::CsvForm;
-pub use focus::Focus;
 pub use form::Form;
 pub use form_report::{CsvReport, FormReport, JsonReport, TextReport};
 pub use json_form::JsonForm;
