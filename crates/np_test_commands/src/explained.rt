@@ -68,35 +68,6 @@ fn example_explain(rt: HostRuntime) {
     expect_answers(&rt, rt.alloc(), ITEMS, WANTED);
 }
 
-// Admin rules, rules of NetworkPolicies, and the isolation by two of them.
-#[test]
-fn each_tier_decides(rt: HostRuntime) {
-    static ITEMS: &[&str] = &[
-        r#"{"apiVersion":"v1","kind":"Pod","metadata":{"name":"a"},"spec":{}}"#,
-        r#"{"apiVersion":"v1","kind":"Pod","metadata":{"name":"b","labels":{"app":"b"}},"spec":{}}"#,
-        r#"{"apiVersion":"policy.networking.k8s.io/v1alpha1","kind":"AdminNetworkPolicy","metadata":{"name":"first"},"spec":{"priority":1,"subject":{"namespaces":{}},"ingress":[{"action":"Allow","from":[{"namespaces":{}}],"ports":[{"portNumber":{"protocol":"UDP","port":53}}]},{"action":"Deny","from":[{"namespaces":{}}],"ports":[{"portNumber":{"protocol":"TCP","port":22}}]}]}}"#,
-        r#"{"apiVersion":"networking.k8s.io/v1","kind":"NetworkPolicy","metadata":{"name":"shut"},"spec":{"podSelector":{"matchLabels":{"app":"b"}},"policyTypes":["Ingress"]}}"#,
-        r#"{"apiVersion":"networking.k8s.io/v1","kind":"NetworkPolicy","metadata":{"name":"open"},"spec":{"podSelector":{"matchLabels":{"app":"b"}},"ingress":[{"ports":[{"port":443}]},{"ports":[{"port":80},{"port":443}]}]}}"#,
-    ];
-    static WANTED: &[(Question, &str)] = &[
-        (
-            Question::Explained(0, 1, Direction::Ingress),
-            concat!(
-                "TCP 1-21,23-79,81-442,444-65535; UDP 1-52,54-65535; SCTP 1-65535 : Deny since isolated by NetworkPolicy default/open, default/shut\n",
-                "TCP 22 : Deny by AdminNetworkPolicy first ingress[1]\n",
-                "TCP 80 : Allow by NetworkPolicy default/open ingress[1]\n",
-                "TCP 443 : Allow by NetworkPolicy default/open ingress[0]\n",
-                "UDP 53 : Allow by AdminNetworkPolicy first ingress[0]\n",
-            ),
-        ),
-        (
-            Question::Explained(1, 0, Direction::Egress),
-            "All Connections : Allow by default\n",
-        ),
-    ];
-    expect_answers(&rt, rt.alloc(), ITEMS, WANTED);
-}
-
 // A decider that holds a list of names of which another one is held.
 #[test]
 fn names_are_shared(rt: HostRuntime) -> Result<(), Fail> {

@@ -56,16 +56,3 @@ fn example_flatten(rt: HostRuntime) {
     )];
     expect_answers(&rt, rt.alloc(), ITEMS, WANTED);
 }
-
-// The second of two workloads that no selector tells apart has the port, the first has none.
-#[test]
-fn alike_workloads_that_differ(rt: HostRuntime) {
-    static ITEMS: &[&str] = &[
-        r#"{"apiVersion":"v1","kind":"Pod","metadata":{"name":"a","labels":{"app":"a"}},"spec":{}}"#,
-        r#"{"apiVersion":"v1","kind":"Pod","metadata":{"name":"b","labels":{"app":"b"}},"spec":{}}"#,
-        r#"{"apiVersion":"v1","kind":"Pod","metadata":{"name":"c","labels":{"app":"b"}},"spec":{"containers":[{"ports":[{"name":"http","containerPort":80}]}]}}"#,
-        r#"{"apiVersion":"networking.k8s.io/v1","kind":"NetworkPolicy","metadata":{"name":"p"},"spec":{"podSelector":{"matchLabels":{"app":"b"}},"ingress":[{"from":[{"podSelector":{"matchLabels":{"app":"a"}}}],"ports":[{"port":"http"}]}]}}"#,
-    ];
-    static WANTED: &[(Question, &str)] = &[(Question::Flat, "Alike 1, 2")];
-    expect_answers(&rt, rt.alloc(), ITEMS, WANTED);
-}

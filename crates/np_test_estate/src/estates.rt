@@ -1,108 +1,108 @@
-//! Lists that are read, and what is seen of them. An estate lives nowhere else, so that few functions let one go.
+//! Estates that are read of lists.
 
-use np_base::NoMemory;
 use np_model::{Estate, Pod};
 use np_reading::read_estate;
 use np_test_samples::input_of;
 use std::alloc::Global;
-use std::process::Abort;
+use std::test::Fail;
 
-/// What is seen of an estate.
-#[derive(Clone, Copy)]
-pub enum Seen {
-    /// A line for each pod: its namespace and name, its top owner, and whether it is listed or made from a template.
-    Pods,
-    /// The place of the listed pod of a namespace and a name.
-    Place(&'static str, &'static str),
-    /// A line for each pod: the labels `kubernetes.io/metadata.name` and `team` of its namespace.
-    NamespaceLabels,
-    /// The names of the NetworkPolicies, and then those of the admin policies.
-    Policies,
-}
-
-/// Stops the test unless a list is read to an estate of which this is seen.
-pub fn expect_seen(rt: &impl Abort, alloc: Global, list: &str, wanted: &[(Seen, &str)]) {
-    for (seen, wanted) in wanted {
-        let given = seen_in(alloc, list, seen).expect(rt, "an answer");
-        assert_eq!(rt; given.as_str(), *wanted);
-    }
-}
-
-// What is seen of the estate of a list, or why the list is refused.
-fn seen_in(alloc: Global, list: &str, seen: &Seen) -> Result<String, NoMemory> {
+// The estate of a list.
+fn estate_of(alloc: Global, list: &str) -> Result<Estate, Fail> {
     let inputs = input_of(alloc, list)?;
-    match read_estate(alloc, &inputs) {
-        Ok(estate) => seen_of(alloc, &estate, seen),
-        Err(refusal) => Ok(format!(in alloc; "{refusal}")?),
+    Ok(read_estate(alloc, &inputs)?)
+}
+
+// A ReplicaSet of a Deployment, its pod, and a Deployment without pods, as kubectl prints them.
+static OWNED: &str = r#"{"apiVersion":"v1","kind":"List","items":[
+    {"apiVersion":"apps/v1","kind":"ReplicaSet","metadata":{"name":"web-0","uid":"2","ownerReferences":[
+        {"apiVersion":"apps/v1","blockOwnerDeletion":true,"controller":true,"kind":"Deployment","name":"web","uid":"1"}]},
+        "spec":{"replicas":1,"template":{"metadata":{"labels":{"app":"web","pod-template-hash":"0"}},"spec":{}}}},
+    {"apiVersion":"v1","kind":"Pod","metadata":{"name":"web-0-a","generateName":"web-0-","labels":{"app":"web"},
+        "ownerReferences":[{"apiVersion":"v1","kind":"Namespace","name":"other","uid":"9"},
+            {"apiVersion":"apps/v1","controller":true,"kind":"ReplicaSet","name":"web-0","uid":"2"}]},
+        "spec":{"containers":[{"name":"c","ports":[{"containerPort":80}]}],"nodeName":"n"},
+        "status":{"conditions":[{"status":"True","type":"Ready"}],"phase":"Running","podIP":"10.0.0.1"}},
+    {"apiVersion":"apps/v1","kind":"Deployment","metadata":{"name":"db","uid":"3","generation":2},
+        "spec":{"replicas":3,"selector":{"matchLabels":{"app":"db"}},
+        "template":{"metadata":{"labels":{"app":"db"}},"spec":{"containers":[{"image":"db","name":"c"}]}}},
+        "status":{"readyReplicas":3}}]}"#;
+
+// Whether a pod is of that name, listed or made from a template, and of that Deployment.
+fn is_pod(pod: &Pod, name: &str, listed: bool, deployment: &str) -> bool {
+    pod.namespace.as_str() == "default"
+        && pod.name.as_str() == name
+        && pod.listed == listed
+        && pod.owner.kind.as_str() == "Deployment"
+        && pod.owner.name.as_str() == deployment
+}
+
+fn has_one_of_each(estate: &Estate) -> bool {
+    match estate.pods() {
+        [web, db] => is_pod(web, "web-0-a", true, "web") && is_pod(db, "db", false, "db"),
+        _ => false,
     }
 }
 
-// What is seen of an estate.
-fn seen_of(alloc: Global, estate: &Estate, seen: &Seen) -> Result<String, NoMemory> {
-    match *seen {
-        Seen::Pods => pods(alloc, estate),
-        Seen::Place(namespace, name) => place(alloc, estate, namespace, name),
-        Seen::NamespaceLabels => namespace_labels(alloc, estate),
-        Seen::Policies => policies(alloc, estate),
-    }
-}
-
-fn pods(alloc: Global, estate: &Estate) -> Result<String, NoMemory> {
-    let mut text = String::new(alloc);
-    for pod in estate.pods() {
-        write_pod(&mut text, pod)?;
-    }
-    Ok(text)
-}
-
-fn write_pod(text: &mut String, pod: &Pod) -> Result<(), NoMemory> {
-    let namespace = &pod.namespace;
-    let name = &pod.name;
-    let kind = &pod.owner.kind;
-    let owner = &pod.owner.name;
-    let origin = if pod.listed { "listed" } else { "made" };
-    writeln!(text, "{namespace}/{name} of {owner}[{kind}], {origin}")?;
+#[test]
+fn example_read_estate(rt: HostRuntime) -> Result<(), Fail> {
+    let estate = estate_of(rt.alloc(), OWNED)?;
+    assert!(rt; has_one_of_each(&estate));
     Ok(())
 }
 
-// No list that is read has more than 20,000 pods.
-fn place(alloc: Global, estate: &Estate, namespace: &str, name: &str) -> Result<String, NoMemory> {
-    if estate.pods().len() > 20_000 {
-        return Ok(String::from_str(alloc, "too many pods")?);
-    }
-    match estate.pod(namespace, name) {
-        Some(place) => Ok(format!(in alloc; "{place}")?),
-        None => Ok(String::from_str(alloc, "none")?),
+// A pod of a namespace with an object of its own, whose labels say another name, and a pod of one without.
+static NAMESPACES: &str = r#"{"apiVersion":"v1","kind":"List","items":[
+    {"apiVersion":"v1","kind":"Pod","metadata":{"name":"a","namespace":"shop"},"spec":{}},
+    {"apiVersion":"v1","kind":"Namespace","metadata":{"name":"shop","labels":{"team":"x","kubernetes.io/metadata.name":"y"}}},
+    {"apiVersion":"v1","kind":"Pod","metadata":{"name":"b"},"spec":{}}]}"#;
+
+// Whether a pod's namespace has that name and that team by its labels.
+fn has_labels(pod: &Pod, name: &str, team: Option<&str>) -> bool {
+    let labels = pod.namespace_labels.labels();
+    labels.get("kubernetes.io/metadata.name") == Some(name) && labels.get("team") == team
+}
+
+fn has_their_labels(estate: &Estate) -> bool {
+    match estate.pods() {
+        [shop, default] => has_labels(shop, "shop", Some("x"))
+            && has_labels(default, "default", None),
+        _ => false,
     }
 }
 
-fn namespace_labels(alloc: Global, estate: &Estate) -> Result<String, NoMemory> {
-    let mut text = String::new(alloc);
-    for pod in estate.pods() {
-        let name = pod
-            .namespace_labels
-            .labels()
-            .get("kubernetes.io/metadata.name");
-        let team = pod.namespace_labels.labels().get("team");
-        writeln!(
-            text,
-            "{} {}",
-            name.unwrap_or("none"),
-            team.unwrap_or("none")
-        )?;
-    }
-    Ok(text)
+#[test]
+fn labels_of_namespaces(rt: HostRuntime) -> Result<(), Fail> {
+    let estate = estate_of(rt.alloc(), NAMESPACES)?;
+    assert!(rt; has_their_labels(&estate));
+    Ok(())
 }
 
-fn policies(alloc: Global, estate: &Estate) -> Result<String, NoMemory> {
-    let mut text = String::new(alloc);
-    for policy in estate.net_policies() {
-        let name = &policy.name;
-        write!(text, "{name} ")?;
+static POLICIES: &str = r#"{"apiVersion":"v1","kind":"List","items":[
+    {"apiVersion":"networking.k8s.io/v1","kind":"NetworkPolicy","metadata":{"namespace":"x","name":"b"},"spec":{}},
+    {"apiVersion":"networking.k8s.io/v1","kind":"NetworkPolicy","metadata":{"namespace":"x","name":"a"},"spec":{}},
+    {"apiVersion":"networking.k8s.io/v1","kind":"NetworkPolicy","metadata":{"namespace":"default","name":"z"},"spec":{}},
+    {"apiVersion":"policy.networking.k8s.io/v1alpha1","kind":"AdminNetworkPolicy","metadata":{"name":"late"},
+        "spec":{"priority":20,"subject":{"namespaces":{}}}},
+    {"apiVersion":"policy.networking.k8s.io/v1alpha1","kind":"AdminNetworkPolicy","metadata":{"name":"early"},
+        "spec":{"priority":3,"subject":{"namespaces":{}}}}]}"#;
+
+fn has_policies_in_order(estate: &Estate) -> bool {
+    match (estate.net_policies(), estate.admin_policies()) {
+        ([z, a, b], [early, late]) => {
+            z.name.as_str() == "z"
+                && a.name.as_str() == "a"
+                && b.name.as_str() == "b"
+                && early.name.as_str() == "early"
+                && late.name.as_str() == "late"
+        }
+        _ => false,
     }
-    for policy in estate.admin_policies() {
-        let name = &policy.name;
-        write!(text, "{name} ")?;
-    }
-    Ok(text)
+}
+
+// NetworkPolicies stand by namespace and name, and admin policies by priority.
+#[test]
+fn policies_in_order(rt: HostRuntime) -> Result<(), Fail> {
+    let estate = estate_of(rt.alloc(), POLICIES)?;
+    assert!(rt; has_policies_in_order(&estate));
+    Ok(())
 }

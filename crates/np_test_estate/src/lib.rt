@@ -5,9 +5,3 @@
 mod estates;
 #[cfg(test)]
 mod items;
-#[cfg(test)]
-mod lists;
-#[cfg(test)]
-mod owners;
-#[cfg(test)]
-mod surroundings;

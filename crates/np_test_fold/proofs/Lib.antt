@@ -1,2 +1,1 @@
 mod RulesLemmas
-mod ShapeLemmas

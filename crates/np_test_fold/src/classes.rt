@@ -2,7 +2,9 @@
 
 use np_base::Text;
 use np_classes::{Classes, groups};
-use np_names::all_by_name;
+use np_names::{Named, all_by_name};
+use std::alloc::Global;
+use std::process::Abort;
 
 #[test]
 fn example_classes(rt: HostRuntime) {
@@ -25,16 +27,32 @@ fn example_groups(rt: HostRuntime) {
 // The byte of `#` stands between those of `!` and `$`.
 #[test]
 fn example_names(rt: HostRuntime) {
-    let mut wishes = Vec::new(rt.alloc());
-    for wish in ["b$", "b", "b!", "b"] {
-        let wish = Text::of(rt.alloc(), wish).expect(&rt, "a wish");
-        wishes.push(wish).expect(&rt, "a place");
-    }
-    assert!(rt; wishes.len() == 4);
+    let wishes = [
+        wish(&rt, rt.alloc(), "b$"),
+        wish(&rt, rt.alloc(), "b"),
+        wish(&rt, rt.alloc(), "b!"),
+        wish(&rt, rt.alloc(), "b"),
+    ];
     let made = all_by_name(rt.alloc(), &wishes).expect(&rt, "names");
-    static WANTED: &[(&str, u32)] = &[("b!", 2), ("b#1", 1), ("b#2", 3), ("b$", 0)];
-    assert!(rt; made.items().len() == 4);
-    for (one, (name, place)) in made.items().iter().zip(WANTED) {
-        assert!(rt; one.name.as_str() == *name && one.place == *place, "{name}");
-    }
+    assert!(rt; are_in_order(made.items()));
+}
+
+// A wish for this name.
+fn wish(rt: &impl Abort, alloc: Global, name: &str) -> Text {
+    Text::of(alloc, name).expect(rt, "a wish")
+}
+
+// The second of those that wish for `b` has the greater number.
+fn are_in_order(made: &[Named]) -> bool {
+    let [first, second, third, last] = made else {
+        return false;
+    };
+    is_named(first, "b!", 2)
+        && is_named(second, "b#1", 1)
+        && is_named(third, "b#2", 3)
+        && is_named(last, "b$", 0)
+}
+
+fn is_named(one: &Named, name: &str, place: u32) -> bool {
+    one.name.as_str() == name && one.place == place
 }

@@ -3,14 +3,18 @@
 #![tactic(auto)]
 
 #[cfg(test)]
-mod json;
+mod fields;
 #[cfg(test)]
 mod objects;
 #[cfg(test)]
-mod parcels;
+mod paths;
 #[cfg(test)]
 mod policies;
 #[cfg(test)]
-mod script;
+mod rules;
 #[cfg(test)]
 mod selectors;
+#[cfg(test)]
+mod shapes;
+#[cfg(test)]
+mod words;

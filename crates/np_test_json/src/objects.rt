@@ -1,221 +1,95 @@
-//! What items are read as that are no policies: each object as a line, or the fault that is found first.
+//! What items are read as that are no policies.
 
-use crate::script::wrong_cases;
-use crate::selectors::put_selector;
-use np_addr::print_address;
-use np_base::{NoMemory, Seq};
-use np_json::ReadFault;
-use np_labels::Labels;
-use np_model::{Backend, IngressItem, NamedPort, PortName, ServiceItem};
-use np_objects::{ControllerItem, Object, OwnerRef, PodItem};
+use crate::selectors::is_asked;
+use np_addr::{Address, read_address};
+use np_base::Text;
+use np_conns::Proto;
+use np_json::{FaultKind, ReadFault};
+use np_labels::{Op, Pair, Selector};
+use np_model::{Backend, IngressItem, NamedPort, PortName, ServiceItem, ServicePort};
+use np_objects::{
+    ControllerItem, ControllerKind, NamespaceItem, Object, OwnerRef, PodItem, Template, read_object,
+};
+use serde_json::Value;
 use std::alloc::Global;
-use std::fmt::Write;
 use std::test::Fail;
 
-/// Writes an object, as `Namespace shop team=a`, `other` where it is of a kind that is not read, or its fault.
-pub fn put_object(
-    alloc: Global,
-    text: &mut String,
-    read: &Result<Object, ReadFault>,
-) -> Result<(), NoMemory> {
-    match read {
-        Ok(Object::Pod(pod)) => put_pod(alloc, text, pod),
-        Ok(Object::Namespace(namespace)) => {
-            let name = &namespace.name;
-            write!(text, "Namespace {name}")?;
-            put_labels(text, &namespace.labels)
-        }
-        Ok(Object::Controller(controller)) => put_controller(text, controller),
-        Ok(Object::Service(service)) => put_service(text, service),
-        Ok(Object::Ingress(ingress)) => put_ingress(text, ingress),
-        Ok(Object::Other) => Ok(text.push_str("other")?),
-        Err(fault) => Ok(write!(text, "{fault}")?),
-    }
+/// Objects, as a cluster prints them.
+#[derive(Clone, Copy)]
+enum Example {
+    Pod,
+    FailedPod,
+    Namespace,
+    Deployment,
+    Service,
+    Ingress,
+    List,
+    BadPod,
 }
 
-// `Pod shop/web app=web of ReplicaSet web http=80/TCP 10.0.0.7`, and whether it is on its node's network, and finished.
-fn put_pod(alloc: Global, text: &mut String, pod: &PodItem) -> Result<(), NoMemory> {
-    let namespace = &pod.namespace;
-    let name = &pod.name;
-    write!(text, "Pod {namespace}/{name}")?;
-    put_labels(text, &pod.labels)?;
-    put_owner(text, &pod.owner)?;
-    put_ports(text, &pod.ports)?;
-    for address in pod.addresses.items() {
-        let printed = print_address(alloc, *address)?;
-        write!(text, " {printed}")?;
-    }
-    let host_network = pod.host_network;
-    let finished = pod.finished;
-    Ok(write!(text, " {host_network} {finished}")?)
-}
-
-// `Deployment shop/web`, whether no pods are wanted, its owner, and the labels and the ports of its template, and whether
-// that is on its node's network.
-fn put_controller(text: &mut String, controller: &ControllerItem) -> Result<(), NoMemory> {
-    let kind = controller.kind.name();
-    let namespace = &controller.namespace;
-    let name = &controller.name;
-    let none_wanted = controller.none_wanted;
-    write!(text, "{kind} {namespace}/{name} {none_wanted}")?;
-    put_owner(text, &controller.owner)?;
-    if let Some(template) = &controller.template {
-        put_labels(text, &template.labels)?;
-        put_ports(text, &template.ports)?;
-        let host_network = template.host_network;
-        write!(text, " {host_network}")?;
-    }
-    Ok(())
-}
-
-fn put_labels(text: &mut String, labels: &Labels) -> Result<(), NoMemory> {
-    for pair in labels.pairs() {
-        let key = &pair.key;
-        let value = &pair.value;
-        write!(text, " {key}={value}")?;
-    }
-    Ok(())
-}
-
-fn put_owner(text: &mut String, owner: &Option<OwnerRef>) -> Result<(), NoMemory> {
-    if let Some(owner) = owner {
-        let kind = &owner.kind;
-        let name = &owner.name;
-        write!(text, " of {kind} {name}")?;
-    }
-    Ok(())
-}
-
-fn put_ports(text: &mut String, ports: &Seq<NamedPort>) -> Result<(), NoMemory> {
-    for port in ports.items() {
-        let name = &port.name;
-        let number = port.number.get();
-        let proto = port.proto;
-        write!(text, " {name}={number}/{proto}")?;
-    }
-    Ok(())
-}
-
-// `Service shop/web`, whether it is headless, and external, its selector, and its ports, as `80/TCP->web http`.
-fn put_service(text: &mut String, service: &ServiceItem) -> Result<(), NoMemory> {
-    let namespace = &service.namespace;
-    let name = &service.name;
-    let headless = service.headless;
-    let external = service.external;
-    write!(text, "Service {namespace}/{name} {headless} {external} ")?;
-    put_selector(text, service.selector.as_ref())?;
-    for port in service.ports.items() {
-        let number = port.port.get();
-        let proto = port.proto;
-        write!(text, " {number}/{proto}->")?;
-        put_port(text, &port.target)?;
-        if let Some(name) = &port.name {
-            write!(text, " {name}")?;
+impl Example {
+    fn text(self) -> &'static str {
+        match self {
+            Example::Pod => POD,
+            Example::FailedPod => FAILED_POD,
+            Example::Namespace => NAMESPACE,
+            Example::Deployment => DEPLOYMENT,
+            Example::Service => SERVICE,
+            Example::Ingress => INGRESS,
+            Example::List => r#"{"apiVersion": "v1", "kind": "PodList"}"#,
+            Example::BadPod => BAD_POD,
         }
     }
-    Ok(())
-}
 
-// `Ingress shop/in web:80 resource`
-fn put_ingress(text: &mut String, ingress: &IngressItem) -> Result<(), NoMemory> {
-    let namespace = &ingress.namespace;
-    let name = &ingress.name;
-    write!(text, "Ingress {namespace}/{name}")?;
-    for backend in ingress.backends.items() {
-        match backend {
-            Backend::Resource => text.push_str(" resource")?,
-            Backend::Service { name, port } => {
-                write!(text, " {name}:")?;
-                put_port(text, port)?;
+    // Whether what was read is what the text says.
+    fn is_read_as(self, read: &Result<Object, ReadFault>) -> bool {
+        match (self, read) {
+            (Example::Pod, Ok(Object::Pod(pod))) => is_web_pod(pod),
+            (Example::FailedPod, Ok(Object::Pod(pod))) => pod.host_network && pod.finished,
+            (Example::Namespace, Ok(Object::Namespace(namespace))) => is_shop(namespace),
+            (Example::Deployment, Ok(Object::Controller(controller))) => is_web(controller),
+            (Example::Service, Ok(Object::Service(service))) => is_web_service(service),
+            (Example::Ingress, Ok(Object::Ingress(ingress))) => is_ingress(ingress),
+            (Example::List, Ok(Object::Other)) => true,
+            (Example::BadPod, Err(ReadFault::Bad(fault))) => {
+                fault.item == 1 && fault.kind == FaultKind::BadName
             }
+            _ => false,
         }
     }
+}
+
+// Whether an example, as item 1 of a list, is read as what its text says. An object lives nowhere else, since each function that lets one
+// go is dear to prove.
+fn is_read(alloc: Global, example: Example) -> Result<bool, Fail> {
+    let value = Value::from_str(alloc, example.text())?;
+    let read = read_object(alloc, 1, &value);
+    Ok(example.is_read_as(&read))
+}
+
+#[test]
+fn example_read_object(rt: HostRuntime) -> Result<(), Fail> {
+    assert!(rt; is_read(rt.alloc(), Example::Pod)?, "a pod");
+    assert!(rt;
+        is_read(rt.alloc(), Example::FailedPod)?,
+        "a pod that failed"
+    );
+    assert!(rt; is_read(rt.alloc(), Example::Namespace)?, "a namespace");
+    assert!(rt; is_read(rt.alloc(), Example::Deployment)?, "a Deployment");
+    assert!(rt; is_read(rt.alloc(), Example::Service)?, "a Service");
+    assert!(rt; is_read(rt.alloc(), Example::Ingress)?, "an Ingress");
+    assert!(rt;
+        is_read(rt.alloc(), Example::List)?,
+        "a kind that is not read"
+    );
+    assert!(rt;
+        is_read(rt.alloc(), Example::BadPod)?,
+        "the first of two faults"
+    );
     Ok(())
 }
 
-fn put_port(text: &mut String, port: &PortName) -> Result<(), NoMemory> {
-    match port {
-        PortName::Number(number) => {
-            let number = number.get();
-            Ok(write!(text, "{number}")?)
-        }
-        PortName::Named(name) => Ok(write!(text, "{name}")?),
-    }
-}
-
-static SCRIPT: &str = r#"objects have a type
-object %
-[] -> item 1: (whole): BadField
-null -> item 1: (whole): BadField
-{} -> item 1: apiVersion: BadField
-{"kind": 1, "apiVersion": 1} -> item 1: apiVersion: BadField
-{"kind": null, "apiVersion": "v1"} -> item 1: kind: BadField
-{"apiVersion": "v1", "kind": "Pod"} -> item 1: metadata: BadField
-{"apiVersion": "v1", "kind": "PodList"} -> other
-{"apiVersion": "v1", "kind": "Deployment"} -> other
-{"apiVersion": "apps/v1", "kind": "Pod"} -> other
-{"apiVersion": "extensions/v1beta1", "kind": "Ingress"} -> other
-{"apiVersion": "networking.k8s.io/v1", "kind": "NetworkPolicy", "spec": []} -> other
-
-metadata is read name first
-object {"apiVersion": "v1", "kind": "Pod", "spec": {}, "metadata": %}
-null -> item 1: metadata: BadField
-[] -> item 1: metadata: BadField
-{"labels": 1, "namespace": 1, "name": 1} -> item 1: metadata.name: BadField
-{"name": null} -> item 1: metadata.name: BadField
-{"name": "a/b"} -> item 1: metadata.name: BadName
-{"labels": 1, "namespace": 1, "name": "a"} -> item 1: metadata.namespace: BadField
-{"name": "a", "namespace": "b c"} -> item 1: metadata.namespace: BadName
-{"ownerReferences": 1, "name": "a", "labels": ["b"]} -> item 1: metadata.labels: BadField
-{"name": "a", "labels": {"b": null}} -> item 1: metadata.labels: BadField
-{"name": "a", "labels": null, "ownerReferences": {}} -> item 1: metadata.ownerReferences: BadField
-{"name": "a", "ownerReferences": [null]} -> item 1: metadata.ownerReferences[0]: BadField
-{"name": "a", "ownerReferences": [{"name": "b/c", "kind": "b/c"}]} -> item 1: metadata.ownerReferences[0].kind: BadName
-{"name": "a", "ownerReferences": [{"kind": "Job", "name": "b"}, {"kind": "Job"}]} -> item 1: metadata.ownerReferences[1].name: BadField
-{"name": "a", "ownerReferences": [{"kind": "Job", "name": "b", "controller": "true"}]} -> item 1: metadata.ownerReferences[0].controller: BadField
-
-metadata has fewer members elsewhere
-object {"apiVersion": %}
-"v1", "kind": "Service", "spec": {}, "metadata": {"name": "a", "labels": 1, "ownerReferences": 1} -> Service default/a false false -
-"networking.k8s.io/v1", "kind": "Ingress", "metadata": {"name": "a", "labels": 1, "ownerReferences": 1} -> Ingress default/a
-"v1", "kind": "Namespace", "metadata": {"name": "a", "namespace": 1, "ownerReferences": 1} -> Namespace a
-"v1", "kind": "Namespace", "metadata": {"name": "a", "labels": {"b": 1}} -> item 1: metadata.labels: BadField
-"batch/v1", "kind": "Job", "metadata": {"name": "a", "labels": 1} -> Job default/a false
-"batch/v1", "kind": "Job", "metadata": {"name": "a", "ownerReferences": 1} -> item 1: metadata.ownerReferences: BadField
-
-specs of pods have container ports
-object {"apiVersion": "v1", "kind": "Pod", "metadata": {"name": "a"}, "spec": %}
-null -> item 1: spec: BadField
-[] -> item 1: spec: BadField
-{"hostNetwork": 1, "containers": {}} -> item 1: spec.containers: BadField
-{"containers": [{}, null]} -> item 1: spec.containers[1]: BadField
-{"containers": [{"ports": 80}]} -> item 1: spec.containers[0].ports: BadField
-{"containers": [{}, {"ports": [{"name": "a"}]}]} -> item 1: spec.containers[1].ports[0].containerPort: BadField
-{"containers": [{"ports": [{"containerPort": 0}, {"name": 1}]}]} -> item 1: spec.containers[0].ports[0].containerPort: BadPort
-{"containers": [{"ports": [{"containerPort": 65536}]}]} -> item 1: spec.containers[0].ports[0].containerPort: BadPort
-{"containers": [{"ports": [{"containerPort": "80"}]}]} -> item 1: spec.containers[0].ports[0].containerPort: BadField
-{"containers": [{"ports": [{"protocol": "tcp", "name": "a b"}]}]} -> item 1: spec.containers[0].ports[0].name: BadField
-{"containers": [{"ports": [{"protocol": "tcp", "name": ""}]}]} -> item 1: spec.containers[0].ports[0].protocol: BadProtocol
-{"containers": [{"ports": [{"protocol": 6}]}]} -> item 1: spec.containers[0].ports[0].protocol: BadField
-{"hostNetwork": 1} -> item 1: spec.hostNetwork: BadField
-{"containers": null, "hostNetwork": null, "status": []} -> Pod default/a false false
-
-statuses of pods have addresses
-object {"apiVersion": "v1", "kind": "Pod", "metadata": {"name": "a"}, "status": %}
-[], "spec": [] -> item 1: spec: BadField
-[], "spec": {} -> item 1: status: BadField
-{"podIP": 1, "phase": 1}, "spec": {} -> item 1: status.phase: BadField
-{"podIPs": 1, "podIP": 1}, "spec": {} -> item 1: status.podIP: BadField
-{"podIP": "10.0.0.256"}, "spec": {} -> item 1: status.podIP: BadAddress
-{"podIPs": {}}, "spec": {} -> item 1: status.podIPs: BadField
-{"podIPs": ["10.0.0.1"]}, "spec": {} -> item 1: status.podIPs[0]: BadField
-{"podIPs": [{"ip": "10.0.0.1"}, {"ip": "x"}]}, "spec": {} -> item 1: status.podIPs[1].ip: BadAddress
-{"podIPs": [{"ip": 1}]}, "spec": {} -> item 1: status.podIPs[0].ip: BadField
-{"podIP": "", "podIPs": [{}, {"ip": ""}]}, "spec": {} -> Pod default/a false false
-
-pods and namespaces, as a cluster prints them
-object {"apiVersion": "v1", "kind": %}
-"Pod",
+static POD: &str = r#"{"apiVersion": "v1", "kind": "Pod",
     "metadata": {"annotations": {"note": "a b"}, "creationTimestamp": "2024-01-01T00:00:00Z",
         "generateName": "web-7d4-", "labels": {"tier": "front", "app": "web"},
         "managedFields": [{"manager": "kubelet", "fieldsV1": {"f:status": {}}}],
@@ -236,116 +110,216 @@ object {"apiVersion": "v1", "kind": %}
         "nodeName": "n", "restartPolicy": "Always"},
     "status": {"conditions": [{"lastProbeTime": null, "status": "True", "type": "Ready"}],
         "hostIP": "x", "phase": "Running", "podIP": "10.0.0.7",
-        "podIPs": [{"ip": "10.0.0.7"}, {"ip": "FD00::7"}, {"ip": ""}, {"ip": "fd00::7"}]}
- -> Pod shop/web-7d4-x app=web tier=front of ReplicaSet web-7d4 http=8080/TCP dns=53/UDP last=65535/TCP 10.0.0.7 fd00::7 false false
-"Pod",
-    "metadata": {"creationTimestamp": null, "name": "proxy", "namespace": ""},
-    "spec": {"containers": [], "hostNetwork": true}, "status": {"phase": "Failed"}
- -> Pod default/proxy true true
-"Pod", "metadata": {"name": "job-a"}, "spec": {}, "status": {"phase": "Succeeded"} -> Pod default/job-a false true
-"Namespace",
+        "podIPs": [{"ip": "10.0.0.7"}, {"ip": "FD00::7"}, {"ip": ""}, {"ip": "fd00::7"}]}}"#;
+
+fn is_web_pod(pod: &PodItem) -> bool {
+    pod.namespace.as_str() == "shop"
+        && pod.name.as_str() == "web-7d4-x"
+        && are_labels_of_web(pod.labels.pairs())
+        && is_owner(&pod.owner, "ReplicaSet", "web-7d4")
+        && are_ports_of_web(pod.ports.items())
+        && are_addresses_of_web(pod.addresses.items())
+        && !pod.host_network
+        && !pod.finished
+}
+
+fn are_labels_of_web(labels: &[Pair]) -> bool {
+    match labels {
+        [app, tier] => is_label(app, "app", "web") && is_label(tier, "tier", "front"),
+        _ => false,
+    }
+}
+
+fn is_label(pair: &Pair, key: &str, value: &str) -> bool {
+    pair.key.as_str() == key && pair.value.as_str() == value
+}
+
+fn is_owner(owner: &Option<OwnerRef>, kind: &str, name: &str) -> bool {
+    match owner {
+        Some(owner) => owner.kind.as_str() == kind && owner.name.as_str() == name,
+        None => false,
+    }
+}
+
+fn are_ports_of_web(ports: &[NamedPort]) -> bool {
+    match ports {
+        [http, dns, last] => {
+            is_port(http, "http", Proto::Tcp, 8080)
+                && is_port(dns, "dns", Proto::Udp, 53)
+                && is_port(last, "last", Proto::Tcp, 65535)
+        }
+        _ => false,
+    }
+}
+
+fn is_port(port: &NamedPort, name: &str, proto: Proto, number: u16) -> bool {
+    port.name.as_str() == name && port.proto == proto && port.number.get() == number
+}
+
+fn are_addresses_of_web(addresses: &[Address]) -> bool {
+    match addresses {
+        [four, six] => {
+            read_address("10.0.0.7") == Ok(*four) && read_address("fd00::7") == Ok(*six)
+        }
+        _ => false,
+    }
+}
+
+static FAILED_POD: &str = r#"{"apiVersion": "v1", "kind": "Pod", "metadata": {"name": "proxy"},
+    "spec": {"hostNetwork": true}, "status": {"phase": "Failed"}}"#;
+
+// The name is read before the namespace, and that before the labels.
+static BAD_POD: &str =
+    r#"{"apiVersion": "v1", "kind": "Pod", "metadata": {"labels": 1, "namespace": 1, "name": "a/b"}}"#;
+
+static NAMESPACE: &str = r#"{"apiVersion": "v1", "kind": "Namespace",
     "metadata": {"labels": {"kubernetes.io/metadata.name": "shop"}, "name": "shop"},
-    "spec": {"finalizers": ["kubernetes"]}, "status": {"phase": "Active"}
- -> Namespace shop kubernetes.io/metadata.name=shop
+    "spec": {"finalizers": ["kubernetes"]}, "status": {"phase": "Active"}}"#;
 
-each controller has its template
-object {"metadata": {"name": "a"}, "apiVersion": %}
-"apps/v1", "kind": "Deployment" -> Deployment default/a false
-"apps/v1", "kind": "Deployment", "spec": [] -> item 1: spec: BadField
-"apps/v1", "kind": "Deployment", "spec": {"template": 1, "replicas": 1.0} -> item 1: spec.replicas: BadField
-"apps/v1", "kind": "ReplicaSet", "spec": {"template": 1} -> item 1: spec.template: BadField
-"v1", "kind": "ReplicationController", "spec": {"template": {}} -> item 1: spec.template.spec: BadField
-"apps/v1", "kind": "StatefulSet", "spec": {"template": {"metadata": []}} -> item 1: spec.template.metadata: BadField
-"apps/v1", "kind": "DaemonSet", "spec": {"replicas": "a", "template": {"metadata": {"labels": 1}}} -> item 1: spec.template.metadata.labels: BadField
-"batch/v1", "kind": "Job", "spec": {"template": {"spec": {"hostNetwork": 1}}} -> item 1: spec.template.spec.hostNetwork: BadField
-"batch/v1", "kind": "CronJob", "spec": {"template": 1, "jobTemplate": 1} -> item 1: spec.jobTemplate: BadField
-"batch/v1", "kind": "CronJob", "spec": {"jobTemplate": {"spec": 1}} -> item 1: spec.jobTemplate.spec: BadField
-"batch/v1", "kind": "CronJob", "spec": {"jobTemplate": {"spec": {"template": {}}}} -> item 1: spec.jobTemplate.spec.template.spec: BadField
+fn is_shop(namespace: &NamespaceItem) -> bool {
+    namespace.name.as_str() == "shop" && is_name_of_shop(namespace.labels.pairs())
+}
 
-controllers, as a cluster prints them
-object {"apiVersion": %}
-"apps/v1", "kind": "Deployment",
-    "metadata": {"generation": 2, "labels": {"app": "web"}, "name": "web", "namespace": "shop"},
+fn is_name_of_shop(labels: &[Pair]) -> bool {
+    match labels {
+        [only] => is_label(only, "kubernetes.io/metadata.name", "shop"),
+        _ => false,
+    }
+}
+
+static DEPLOYMENT: &str = r#"{"apiVersion": "apps/v1", "kind": "Deployment",
+    "metadata": {"generation": 2, "labels": {"app": "own"}, "name": "web", "namespace": "shop",
+        "ownerReferences": [{"controller": true, "kind": "CronJob", "name": "each"}]},
     "spec": {"replicas": 0, "selector": {"matchLabels": {"app": "web"}}, "strategy": {},
-        "template": {"metadata": {"creationTimestamp": null, "labels": {"app": "web"}},
+        "template": {"metadata": {"creationTimestamp": null, "labels": {"tier": "front", "app": "web"}},
             "spec": {"containers": [{"ports": [{"containerPort": 80, "name": "http"}]}],
                 "hostNetwork": true}}},
-    "status": {"replicas": 1}
- -> Deployment shop/web true app=web http=80/TCP true
-"apps/v1", "kind": "ReplicaSet",
-    "metadata": {"name": "web-7d4", "ownerReferences": [
-        {"apiVersion": "apps/v1", "controller": true, "kind": "Deployment", "name": "web"}]},
-    "spec": {"replicas": 2}
- -> ReplicaSet default/web-7d4 false of Deployment web
-"apps/v1", "kind": "StatefulSet", "metadata": {"name": "db"}, "spec": {"replicas": -1} -> StatefulSet default/db false
-"v1", "kind": "ReplicationController", "metadata": {"name": "rc"} -> ReplicationController default/rc false
-"apps/v1", "kind": "DaemonSet", "metadata": {"name": "log"},
-    "spec": {"replicas": 0, "template": {"spec": {}}}
- -> DaemonSet default/log false false
-"batch/v1", "kind": "Job", "metadata": {"name": "one"},
-    "spec": {"template": {"metadata": {"labels": {"job": "one"}}, "spec": {}}}
- -> Job default/one false job=one false
-"batch/v1", "kind": "CronJob", "metadata": {"name": "each"},
-    "spec": {"schedule": "* * * * *", "template": {"spec": {}}, "jobTemplate": {"spec":
-        {"template": {"metadata": {"labels": {"job": "each"}}, "spec": {}}}}}
- -> CronJob default/each false job=each false
+    "status": {"replicas": 1}}"#;
 
-services have a selector and ports
-object {"apiVersion": "v1", "kind": "Service", "metadata": {"name": "a"}, "spec": %}
-null -> item 1: spec: BadField
-{"clusterIP": 1, "type": 1} -> item 1: spec.type: BadField
-{"selector": [], "clusterIP": 1} -> item 1: spec.clusterIP: BadField
-{"ports": {}, "selector": {"": "a"}} -> item 1: spec.selector: BadField
-{"ports": {}} -> item 1: spec.ports: BadField
-{"ports": [80]} -> item 1: spec.ports[0]: BadField
-{"ports": [{"port": 80}, {"targetPort": "a b", "name": "a"}]} -> item 1: spec.ports[1].port: BadField
-{"ports": [{"port": 80, "targetPort": 65536}]} -> item 1: spec.ports[0].targetPort: BadPort
-{"ports": [{"port": 80, "targetPort": -1}]} -> item 1: spec.ports[0].targetPort: BadPort
-{"ports": [{"port": 80, "targetPort": "a b"}]} -> item 1: spec.ports[0].targetPort: BadField
-{"ports": [{"port": 80, "targetPort": 80.5}]} -> item 1: spec.ports[0].targetPort: BadField
-{"ports": [{"name": "é", "protocol": "ICMP"}]} -> item 1: spec.ports[0].name: BadField
+fn is_web(controller: &ControllerItem) -> bool {
+    controller.kind == ControllerKind::Deployment
+        && controller.namespace.as_str() == "shop"
+        && controller.name.as_str() == "web"
+        && controller.none_wanted
+        && is_owner(&controller.owner, "CronJob", "each")
+        && is_template_of_web(&controller.template)
+}
 
-services, as a cluster prints them
-object {"apiVersion": "v1", "kind": "Service", "metadata": %}
-{"name": "web", "namespace": "shop"},
+fn is_template_of_web(template: &Option<Template>) -> bool {
+    match template {
+        Some(template) => {
+            template.host_network
+                && are_labels_of_web(template.labels.pairs())
+                && is_http_port(template.ports.items())
+        }
+        None => false,
+    }
+}
+
+fn is_http_port(ports: &[NamedPort]) -> bool {
+    match ports {
+        [only] => is_port(only, "http", Proto::Tcp, 80),
+        _ => false,
+    }
+}
+
+static SERVICE: &str =
+    r#"{"apiVersion": "v1", "kind": "Service", "metadata": {"name": "web", "namespace": "shop"},
     "spec": {"clusterIP": "10.96.0.1", "clusterIPs": ["10.96.0.1"],
         "ports": [
             {"name": "http", "nodePort": 30080, "port": 80, "protocol": "TCP", "targetPort": "web"},
-            {"name": "", "port": 53, "protocol": "UDP", "targetPort": 0},
-            {"port": 81, "targetPort": ""}, {"port": 82, "targetPort": 8082}, {"port": 83}],
+            {"name": "", "port": 53, "protocol": "UDP", "targetPort": 0}],
         "selector": {"tier": "front", "app": "web"}, "sessionAffinity": "None", "type": "ClusterIP"},
-    "status": {"loadBalancer": {}}
- -> Service shop/web false false {[app In web][tier In front]} 80/TCP->web http 53/UDP->53 81/TCP->81 82/TCP->8082 83/TCP->83
-{"name": "db"}, "spec": {"clusterIP": "None", "selector": {}, "type": "ClusterIP"} -> Service default/db true false -
-{"name": "away"}, "spec": {"externalName": "example.com", "type": "ExternalName"} -> Service default/away false true -
+    "status": {"loadBalancer": {}}}"#;
 
-Ingresses have backends
-object {"apiVersion": "networking.k8s.io/v1", "kind": "Ingress", "metadata": {"name": "a"}, "spec": %}
-{"rules": 1, "defaultBackend": {}} -> item 1: spec.defaultBackend: BadField
-{"defaultBackend": {"service": {}, "resource": {}}} -> item 1: spec.defaultBackend: BadField
-{"defaultBackend": {"service": {"port": 1}}} -> item 1: spec.defaultBackend.service.name: BadField
-{"defaultBackend": {"service": {"name": "a", "port": {"number": 0, "name": ""}}}} -> item 1: spec.defaultBackend.service.port: BadField
-{"defaultBackend": {"service": {"name": "a", "port": {"number": 1, "name": 1}}}} -> item 1: spec.defaultBackend.service.port: BadField
-{"defaultBackend": {"service": {"name": "a", "port": {"number": 65536, "name": ""}}}} -> item 1: spec.defaultBackend.service.port.number: BadPort
-{"defaultBackend": {"service": {"name": "a", "port": {"number": 0, "name": 1}}}} -> item 1: spec.defaultBackend.service.port.name: BadField
-{"rules": [{}, 1]} -> item 1: spec.rules[1]: BadField
-{"rules": [{"http": 1}]} -> item 1: spec.rules[0].http: BadField
-{"rules": [{"http": {"paths": [{"backend": {"resource": 1}}, {}]}}]} -> item 1: spec.rules[0].http.paths[1].backend: BadField
-null -> Ingress default/a
+fn is_web_service(service: &ServiceItem) -> bool {
+    service.namespace.as_str() == "shop"
+        && service.name.as_str() == "web"
+        && !service.headless
+        && !service.external
+        && is_selector_of_web(&service.selector)
+        && are_service_ports(service.ports.items())
+}
 
-an Ingress, as a cluster prints it
-object {"apiVersion": "networking.k8s.io/v1", "kind": "Ingress", "metadata": {"name": "in", "namespace": "shop"}, "spec": %}
-{"ingressClassName": "nginx", "rules": [
+fn is_selector_of_web(selector: &Option<Selector>) -> bool {
+    match selector {
+        Some(selector) => match selector.requirements.items() {
+            [app, tier] => {
+                is_asked(app, "app", Op::OneOf, "web") && is_asked(tier, "tier", Op::OneOf, "front")
+            }
+            _ => false,
+        },
+        None => false,
+    }
+}
+
+fn are_service_ports(ports: &[ServicePort]) -> bool {
+    match ports {
+        [http, dns] => {
+            http.proto == Proto::Tcp
+                && http.port.get() == 80
+                && is_named(&http.target, "web")
+                && dns.proto == Proto::Udp
+                && dns.port.get() == 53
+                && is_number(&dns.target, 53)
+                && are_names(&http.name, &dns.name)
+        }
+        _ => false,
+    }
+}
+
+fn are_names(http: &Option<Text>, dns: &Option<Text>) -> bool {
+    match (http, dns) {
+        (Some(http), None) => http.as_str() == "http",
+        _ => false,
+    }
+}
+
+fn is_number(port: &PortName, wanted: u16) -> bool {
+    match port {
+        PortName::Number(number) => number.get() == wanted,
+        PortName::Named(_) => false,
+    }
+}
+
+fn is_named(port: &PortName, wanted: &str) -> bool {
+    match port {
+        PortName::Number(_) => false,
+        PortName::Named(name) => name.as_str() == wanted,
+    }
+}
+
+static INGRESS: &str =
+    r#"{"apiVersion": "networking.k8s.io/v1", "kind": "Ingress", "metadata": {"name": "in", "namespace": "shop"},
+    "spec": {"ingressClassName": "nginx", "rules": [
         {"host": "a.example", "http": {"paths": [
-            {"backend": {"service": {"name": "web", "port": {"number": 80}}}, "path": "/", "pathType": "Prefix"},
             {"backend": {"resource": {"apiGroup": "a", "kind": "B", "name": "c"}}}]}},
         {"host": "b.example"},
         {"http": {"paths": [{"backend": {"service": {"name": "b/c", "port": {"name": "h t", "number": 0}}}}]}}],
-    "defaultBackend": {"service": {"name": "rest", "port": {"name": "", "number": 8080}}}}
- -> Ingress shop/in rest:8080 web:80 resource b/c:h t"#;
+    "defaultBackend": {"service": {"name": "rest", "port": {"name": "", "number": 8080}}}}}"#;
 
-#[test]
-fn example_read_object(rt: HostRuntime) -> Result<(), Fail> {
-    assert_eq!(rt; wrong_cases(rt.alloc(), SCRIPT)?.as_str(), "");
-    Ok(())
+fn is_ingress(ingress: &IngressItem) -> bool {
+    ingress.namespace.as_str() == "shop"
+        && ingress.name.as_str() == "in"
+        && are_backends(ingress.backends.items())
+}
+
+// The names in backends may be any texts.
+fn are_backends(backends: &[Backend]) -> bool {
+    match backends {
+        [
+            Backend::Service {
+                name: rest,
+                port: number,
+            },
+            Backend::Resource,
+            Backend::Service { name, port },
+        ] => {
+            rest.as_str() == "rest"
+                && is_number(number, 8080)
+                && name.as_str() == "b/c"
+                && is_named(port, "h t")
+        }
+        _ => false,
+    }
 }

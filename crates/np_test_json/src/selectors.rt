@@ -1,30 +1,27 @@
-//! Selectors as texts.
+//! What a selector that was read asks for.
 
-use np_base::NoMemory;
-use np_labels::{Op, Selector};
-use std::fmt::Write;
+use np_labels::{Op, Requirement, Selector};
 
-/// Writes a selector, as `{[app In a b][tier Exists]}`, or `-` where there is none.
-pub fn put_selector(text: &mut String, selector: Option<&Selector>) -> Result<(), NoMemory> {
-    let Some(selector) = selector else {
-        text.push_str("-")?;
-        return Ok(());
+/// Whether a requirement asks that of a key, with at most one value.
+pub fn is_asked(requirement: &Requirement, key: &str, op: Op, value: &str) -> bool {
+    let values = requirement.values.items();
+    let is_value = match values {
+        [] => value.is_empty(),
+        [only] => only.as_str() == value,
+        _ => false,
     };
-    text.push_str("{")?;
-    for requirement in selector.requirements.items() {
-        let key = &requirement.key;
-        let op = match requirement.op {
-            Op::OneOf => "In",
-            Op::NoneOf => "NotIn",
-            Op::Present => "Exists",
-            Op::Absent => "DoesNotExist",
-        };
-        write!(text, "[{key} {op}")?;
-        for value in requirement.values.items() {
-            write!(text, " {value}")?;
-        }
-        text.push_str("]")?;
+    requirement.key.as_str() == key && requirement.op == op && is_value
+}
+
+/// Whether a selector asks for that label alone.
+pub fn asks_for(selector: &Selector, key: &str, value: &str) -> bool {
+    match selector.requirements.items() {
+        [only] => is_asked(only, key, Op::OneOf, value),
+        _ => false,
     }
-    text.push_str("}")?;
-    Ok(())
+}
+
+/// Whether a selector asks for nothing.
+pub fn asks_for_nothing(selector: &Selector) -> bool {
+    selector.requirements.items().is_empty()
 }

@@ -1,57 +1,47 @@
 //! What a side lets pass at all addresses.
-ghost use Rattle.std.specs.Prelude.{◌≡◌, length};
 
-use crate::asked::{Question, answer};
-use np_base::{Cells, NoMemory};
-use np_conns::{ConnSet, print_conns};
-use np_model::{Direction, Estate};
-use np_pieces::Piece;
-use np_rules::PodRules;
+use crate::layers::are_conns;
+use np_base::{Cells, NoMemory, Point};
+use np_rules::{AddrConns, PodRules};
 use np_steps::Steps;
-use np_tiers::verdict_set;
+use np_tiers::{Layer, verdict_set};
 use std::alloc::Global;
 use std::sync::ledger::Ledger;
-use std::test::Fail;
 
-/// What arrives from each range of addresses, first of IPv4 and then of IPv6.
-pub fn addresses_text<L: Ledger>(
+/// Whether what arrives from all addresses is right.
+pub fn is_right_at_addresses<L: Ledger>(
     alloc: Global,
-    estate: &Estate,
+    rules: &PodRules<'_>,
     steps: &mut Steps<L>,
-) -> Result<String, NoMemory>
-    requires { length estate.now.pods ≡ 2 }
-{
-    let rules = PodRules::of(alloc, estate, 1, Direction::Ingress)?;
-    let set = rules.address_set(alloc, steps)?;
-    let layer = rules.address_layer(alloc, steps)?;
-    let mut text = String::new(alloc);
-    if !set.same(&verdict_set(alloc, &layer)?) {
-        text.push_str("by the layer something other than ")?;
-    }
-    put_pieces(alloc, &mut text, set.first.pieces())?;
-    put_pieces(alloc, &mut text, set.second.pieces())?;
-    Ok(text)
+) -> Result<bool, NoMemory> {
+    let conns = rules.address_set(alloc, steps)?;
+    arrives_from_block(alloc, &conns)
 }
 
-// Writes the connections of each piece.
-fn put_pieces<N>(
+/// The same by the layer.
+pub fn is_right_by_layer_of_addresses<L: Ledger>(
     alloc: Global,
-    text: &mut String,
-    pieces: &[Piece<N, ConnSet>],
-) -> Result<(), NoMemory> {
-    for piece in pieces {
-        let conns = print_conns(alloc, &piece.value)?;
-        text.push_str(conns.as_str())?;
-        text.push('.')?;
-    }
-    Ok(())
+    rules: &PodRules<'_>,
+    steps: &mut Steps<L>,
+) -> Result<bool, NoMemory> {
+    let layer = rules.address_layer(alloc, steps)?;
+    allows_block(alloc, &layer)
 }
 
-#[test]
-fn example_address_set(rt: HostRuntime) -> Result<(), Fail> {
-    assert_eq!(rt;
-        answer(rt.alloc(), Question::FromAddresses)?.as_str(),
-        "No Connections.TCP 81.No Connections.No Connections."
-    );
-    Ok(())
+fn allows_block(alloc: Global, layer: &Layer<AddrConns>) -> Result<bool, NoMemory> {
+    let conns = verdict_set(alloc, layer)?;
+    arrives_from_block(alloc, &conns)
+}
+
+// Whether what the rule of the block has arrives from 10.0.0.0/8, and nothing from the other addresses of IPv4 and from those of IPv6.
+fn arrives_from_block(alloc: Global, conns: &AddrConns) -> Result<bool, NoMemory> {
+    let [below, block, above] = conns.first.pieces() else {
+        return Ok(false);
+    };
+    let [six] = conns.second.pieces() else {
+        return Ok(false);
+    };
+    let is_silent = below.value.is_empty() && above.value.is_empty() && six.value.is_empty();
+    let is_block = block.lo.number() == 0x0a00_0000 && block.hi.number() == 0x0aff_ffff;
+    Ok(is_silent && is_block && are_conns(alloc, &block.value, "TCP 81")?)
 }

@@ -1,78 +1,48 @@
-//! What the layers of a side let pass, with a pod, an address and a pod that nobody has written yet.
+//! What the layers of a side let pass, with a pod and with an address.
 ghost use Rattle.std.specs.Prelude.{◌≡◌, length};
 
-use crate::asked::{Question, answer};
-use crate::strangers::stranger_like_the_first;
 use np_addr::{Family, read_address};
 use np_base::NoMemory;
 use np_conns::{ConnSet, print_conns};
-use np_model::{Direction, Estate};
 use np_rules::PodRules;
 use np_steps::Steps;
 use np_tiers::{Layer, verdict_set};
 use std::alloc::Global;
 use std::sync::ledger::Ledger;
-use std::test::Fail;
 
-/// What arrives from the first pod.
-pub fn pod_layer_text<L: Ledger>(
+/// Whether the rule of the first pod and that of all pods let it in, and the one of the block does not.
+pub fn is_right_from_pod<L: Ledger>(
     alloc: Global,
-    estate: &Estate,
+    rules: &PodRules<'_>,
     steps: &mut Steps<L>,
-) -> Result<String, NoMemory>
-    requires { length estate.now.pods ≡ 2 }
+) -> Result<bool, NoMemory>
+    requires { length rules.now.lists.pods ≡ 2 }
 {
-    let rules = PodRules::of(alloc, estate, 1, Direction::Ingress)?;
     let layer = rules.pod_layer(alloc, 0, Family::Four, steps)?;
-    layer_text(alloc, &layer)
+    allows_just(alloc, &layer, "TCP 80; UDP 53")
 }
 
-/// What arrives from the address 10.0.0.1.
-pub fn point_layer_text<L: Ledger>(
+/// Whether the rule of the block alone lets the address 10.0.0.1 in.
+pub fn is_right_from_address<L: Ledger>(
     alloc: Global,
-    estate: &Estate,
+    rules: &PodRules<'_>,
     steps: &mut Steps<L>,
-) -> Result<String, NoMemory>
-    requires { length estate.now.pods ≡ 2 }
-{
+) -> Result<bool, NoMemory> {
     let Ok(address) = read_address("10.0.0.1") else {
-        return Ok(String::from_str(alloc, "no address")?);
+        return Ok(false);
     };
-    let rules = PodRules::of(alloc, estate, 1, Direction::Ingress)?;
     let layer = rules.point_layer(alloc, address, steps)?;
-    layer_text(alloc, &layer)
+    allows_just(alloc, &layer, "TCP 81")
 }
 
-/// What arrives from a pod that nobody has written yet.
-pub fn stranger_layer_text<L: Ledger>(
-    alloc: Global,
-    estate: &Estate,
-    steps: &mut Steps<L>,
-) -> Result<String, NoMemory>
-    requires { length estate.now.pods ≡ 2 }
-{
-    let stranger = stranger_like_the_first(alloc)?;
-    let rules = PodRules::of(alloc, estate, 1, Direction::Ingress)?;
-    let layer = rules.stranger_layer(alloc, &stranger, steps)?;
-    layer_text(alloc, &layer)
+/// Whether a layer allows the connections of this text, and no others.
+pub fn allows_just(alloc: Global, layer: &Layer<ConnSet>, wanted: &str) -> Result<bool, NoMemory> {
+    let conns = verdict_set(alloc, layer)?;
+    are_conns(alloc, &conns, wanted)
 }
 
-/// The connections that a layer allows.
-pub fn layer_text(alloc: Global, layer: &Layer<ConnSet>) -> Result<String, NoMemory> {
-    let conns = print_conns(alloc, &verdict_set(alloc, layer)?)?;
-    Ok(String::from_str(alloc, conns.as_str())?)
-}
-
-#[test]
-fn example_layers(rt: HostRuntime) -> Result<(), Fail> {
-    assert_eq!(rt;
-        answer(rt.alloc(), Question::FromPod)?.as_str(),
-        "TCP 80; UDP 53"
-    );
-    assert_eq!(rt; answer(rt.alloc(), Question::FromPoint)?.as_str(), "TCP 81");
-    assert_eq!(rt;
-        answer(rt.alloc(), Question::FromStranger)?.as_str(),
-        "TCP 80; UDP 53"
-    );
-    Ok(())
+/// Whether connections have this text.
+pub fn are_conns(alloc: Global, conns: &ConnSet, wanted: &str) -> Result<bool, NoMemory> {
+    let text = print_conns(alloc, conns)?;
+    Ok(text.as_str() == wanted)
 }

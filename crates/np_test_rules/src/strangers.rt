@@ -1,48 +1,78 @@
-//! The rules that are kept for pods that nobody has written yet.
+//! What arrives from a pod that nobody has written yet, by the rules of a side and by those that are kept for such pods.
 ghost use Rattle.std.specs.Prelude.{◌≡◌, length, IfOk};
 ghost use Rattle.np_rules.specs.StrangerRules.{ArePermitted};
 
-use crate::asked::{Question, answer};
-use crate::layers::layer_text;
-use np_base::{NoMemory, Seq, Text};
+use crate::answers::expect_right;
+use crate::layers::allows_just;
+use np_base::NoMemory;
 use np_conns::ConnSet;
-use np_labels::{Labels, Pair};
 use np_model::{Direction, Estate};
-use np_rules::{Stranger, StrangerRules, joined_set};
+use np_rules::{PodRules, Stranger, StrangerRules, joined_set};
 use np_steps::Steps;
 use std::alloc::Global;
+use std::process::Abort;
 use std::sync::ledger::Ledger;
-use std::test::Fail;
 
-/// A pod with the namespace and the labels of the first pod.
-pub fn stranger_like_the_first(alloc: Global) -> Result<Stranger, NoMemory> {
-    let namespace = label(alloc, "kubernetes.io/metadata.name", "default")?;
-    let labels = label(alloc, "app", "a")?;
+// As much arrives from it as from the first pod.
+static WANTED: &str = "TCP 80; UDP 53";
+
+/// Stops the test unless what arrives from a pod that nobody has written yet is right.
+pub fn expect_strangers<L: Ledger>(
+    rt: &impl Abort,
+    alloc: Global,
+    rules: &PodRules<'_>,
+    steps: &mut Steps<L>,
+)
+    requires { length rules.now.lists.pods ≡ 2 }
+{
+    let stranger = stranger_like_the_first(rules.estate()).expect(rt, "a stranger");
+    let by_rules = is_right_by_rules(alloc, rules, &stranger, steps);
+    expect_right(rt, by_rules, "from a stranger");
+    let by_kept = is_right_by_kept(alloc, rules.estate(), &stranger, steps);
+    expect_right(rt, by_kept, "from a stranger, by what is kept");
+}
+
+// A pod with the labels of the first pod, in its namespace.
+fn stranger_like_the_first(estate: &Estate) -> Result<Stranger, NoMemory>
+    requires { length estate.now.pods ≡ 2 }
+{
+    let first = &estate.pods()[0];
+    let namespace = first.namespace_labels.labels().copy()?;
+    let labels = first.labels.copy()?;
     Ok(Stranger { namespace, labels })
 }
 
-// This one label.
-fn label(alloc: Global, key: &str, value: &str) -> Result<Labels, NoMemory> {
-    let key = Text::of(alloc, key)?;
-    let value = Text::of(alloc, value)?;
-    let mut pairs = Seq::new(alloc);
-    pairs.push(Pair { key, value })?;
-    Labels::of(alloc, pairs)
+fn is_right_by_rules<L: Ledger>(
+    alloc: Global,
+    rules: &PodRules<'_>,
+    stranger: &Stranger,
+    steps: &mut Steps<L>,
+) -> Result<bool, NoMemory> {
+    let layer = rules.stranger_layer(alloc, stranger, steps)?;
+    allows_just(alloc, &layer, WANTED)
 }
 
-/// What arrives from it.
-pub fn kept_layer_text<L: Ledger>(
+fn is_right_by_kept<L: Ledger>(
     alloc: Global,
     estate: &Estate,
+    stranger: &Stranger,
     steps: &mut Steps<L>,
-) -> Result<String, NoMemory>
+) -> Result<bool, NoMemory>
     requires { length estate.now.pods ≡ 2 }
 {
-    let stranger = stranger_like_the_first(alloc)?;
     let rules = StrangerRules::of(alloc, estate, 1, Direction::Ingress)?;
-    let net = permitted(alloc, &rules, &stranger)?;
-    let layer = rules.layer(alloc, &stranger, net, steps)?;
-    layer_text(alloc, &layer)
+    kept_allow_just(alloc, &rules, stranger, steps)
+}
+
+fn kept_allow_just<L: Ledger>(
+    alloc: Global,
+    rules: &StrangerRules<'_>,
+    stranger: &Stranger,
+    steps: &mut Steps<L>,
+) -> Result<bool, NoMemory> {
+    let net = permitted(alloc, rules, stranger)?;
+    let layer = rules.layer(alloc, stranger, net, steps)?;
+    allows_just(alloc, &layer, WANTED)
 }
 
 // What the NetworkPolicies permit the stranger.
@@ -60,13 +90,4 @@ fn permitted(
         }
     }
     joined_set(alloc, &sets)
-}
-
-#[test]
-fn example_stranger_rules(rt: HostRuntime) -> Result<(), Fail> {
-    assert_eq!(rt;
-        answer(rt.alloc(), Question::FromStrangerByKept)?.as_str(),
-        "TCP 80; UDP 53"
-    );
-    Ok(())
 }

@@ -4,9 +4,7 @@
 #[cfg(test)]
 mod addresses;
 #[cfg(test)]
-mod blocks;
-#[cfg(test)]
-mod conns;
+mod connections;
 #[cfg(test)]
 mod gathered;
 #[cfg(test)]
@@ -14,10 +12,12 @@ mod io;
 #[cfg(test)]
 mod labels;
 #[cfg(test)]
-mod layers;
-#[cfg(test)]
 mod pieces;
 #[cfg(test)]
-mod script;
+mod requirements;
 #[cfg(test)]
 mod sets;
+#[cfg(test)]
+mod tiers;
+#[cfg(test)]
+mod words;

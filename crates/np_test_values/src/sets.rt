@@ -1,110 +1,103 @@
-//! Sets that texts write, and what is made of them. It is proved of all kinds of sets from their laws alone.
+//! Sets that texts write, and what the operations make of them.
+//!
+//! It is proved of all kinds of sets at once: a value of one kind that lives across the exits of a function makes its proof dear.
 
-use crate::conns::put_set;
-use crate::layers::{put_allowed, put_decided};
-use np_addr::{AddrSet, cidr_set, prefixes, print_cidr, read_cidr};
+use crate::pieces::AddrConns;
+use np_addr::AddrSet;
 use np_base::{Cells, NoMemory, join_all};
-use np_conns::{ConnSet, ConnsFault, read_conns};
+use np_conns::ConnSet;
 use std::alloc::Global;
-use std::fmt::Write;
+use std::test::Fail;
 
 /// A kind of sets that texts write.
 pub trait Written: Cells {
-    /// The set that the text writes, or the empty set where it writes none.
-    fn read(alloc: Global, text: &str) -> Result<Self, NoMemory>;
-
-    /// Writes a set that is not empty.
-    fn put(&self, alloc: Global, told: &mut String) -> Result<(), NoMemory>;
+    /// The set that the text writes.
+    fn read(alloc: Global, text: &str) -> Result<Self, Fail>;
 }
 
-/// Writes what a word says to make of the sets, or of the layer, of a text.
-pub fn put_made<S: Written>(alloc: Global, told: &mut String, text: &str) -> Result<(), NoMemory> {
-    let (word, rest) = text.split_once(" ").unwrap_or((text, ""));
-    match word {
-        "allowed" => put_allowed::<S>(alloc, told, rest),
-        "decided" => put_decided::<S>(alloc, told, rest),
-        "joined" => put_joined::<S>(alloc, told, rest),
-        _ => put_operation::<S>(alloc, told, word, rest),
-    }
-}
-
-// Writes what is made of two sets.
-fn put_operation<S: Written>(
+// The first operation that gives anything else of two sets without a common spot and of the set that was worked out to be both of
+// them together, or no text.
+fn wrong_of<S: Written>(
     alloc: Global,
-    told: &mut String,
-    word: &str,
-    sets: &str,
-) -> Result<(), NoMemory> {
-    let (first, second) = sets.split_once(" | ").unwrap_or((sets, ""));
+    first: &str,
+    second: &str,
+    whole: &str,
+) -> Result<&'static str, Fail> {
+    let whole = S::read(alloc, whole)?;
     let first = S::read(alloc, first)?;
     let second = S::read(alloc, second)?;
-    let made = match word {
-        "either" => first.join(&second)?,
-        "both" => first.meet(&second)?,
-        "without" => first.minus(&second)?,
-        "copy" => first.copy()?,
-        "all" => S::everything(alloc)?,
-        _ => S::nothing(alloc)?,
-    };
-    if word == "same" {
-        let same = first.same(&second);
-        write!(told, "{same}")?;
-        return Ok(());
-    }
-    put(alloc, told, &made)
+    let wrong = wrong_operation(alloc, &first, &second, &whole)?;
+    let both = joined(alloc, first, second)?;
+    Ok(if both.same(&whole) { wrong } else { "join_all" })
 }
 
-// Writes the join of any number of sets.
-fn put_joined<S: Written>(alloc: Global, told: &mut String, text: &str) -> Result<(), NoMemory> {
-    let mut sets: Vec<S> = Vec::new(alloc);
-    for text in text.split(" | ") {
-        sets.push(S::read(alloc, text)?)?;
-    }
-    put(alloc, told, &join_all(alloc, &sets)?)
+// The join of a list of two sets.
+fn joined<S: Cells>(alloc: Global, first: S, second: S) -> Result<S, NoMemory> {
+    let mut sets = Vec::new(alloc);
+    sets.push(first)?;
+    sets.push(second)?;
+    join_all(alloc, &sets)
 }
 
-/// Writes a set.
-pub fn put<S: Written>(alloc: Global, told: &mut String, set: &S) -> Result<(), NoMemory> {
-    if set.is_empty() {
-        return Ok(told.push_str("nothing")?);
+fn wrong_operation<S: Cells>(
+    alloc: Global,
+    first: &S,
+    second: &S,
+    whole: &S,
+) -> Result<&'static str, NoMemory> {
+    if !first.join(second)?.same(whole) {
+        return Ok("join");
     }
-    set.put(alloc, told)
+    if !whole.meet(first)?.same(first) {
+        return Ok("meet");
+    }
+    if !whole.minus(first)?.same(second) {
+        return Ok("minus");
+    }
+    if first.is_empty() || second.same(whole) {
+        return Ok("same");
+    }
+    wrong_bound(alloc, whole)
 }
 
-impl Written for ConnSet {
-    fn read(alloc: Global, text: &str) -> Result<ConnSet, NoMemory> {
-        match read_conns(alloc, text) {
-            Ok(set) => Ok(set),
-            Err(ConnsFault::BadConns) => ConnSet::nothing(alloc),
-            Err(ConnsFault::NoMemory) => Err(NoMemory),
-        }
+// The first of the empty set, the set of all and a copy that is anything else, or no text.
+fn wrong_bound<S: Cells>(alloc: Global, set: &S) -> Result<&'static str, NoMemory> {
+    if !S::nothing(alloc)?.is_empty() {
+        return Ok("nothing");
     }
-
-    fn put(&self, alloc: Global, told: &mut String) -> Result<(), NoMemory> {
-        put_set(alloc, told, self)
+    if !set.minus(&S::everything(alloc)?)?.is_empty() {
+        return Ok("everything");
     }
+    Ok(if set.copy()?.same(set) { "" } else { "copy" })
 }
 
-// Addresses are written as the blocks that they are, apart by commas.
-impl Written for AddrSet {
-    fn read(alloc: Global, text: &str) -> Result<AddrSet, NoMemory> {
-        let mut sets = Vec::new(alloc);
-        for block in text.split(",") {
-            if let Ok(cidr) = read_cidr(block) {
-                sets.push(cidr_set(alloc, &cidr)?)?;
-            }
-        }
-        join_all(alloc, &sets)
-    }
+/// Whether that is the set.
+pub fn is_written<S: Written>(alloc: Global, set: &S, text: &str) -> Result<bool, Fail> {
+    Ok(S::read(alloc, text)?.same(set))
+}
 
-    fn put(&self, alloc: Global, told: &mut String) -> Result<(), NoMemory> {
-        for block in prefixes(alloc, self)?.items() {
-            if !told.is_empty() {
-                told.push(',')?;
-            }
-            let printed = print_cidr(alloc, *block)?;
-            told.push_str(printed.as_str())?;
-        }
-        Ok(())
-    }
+#[test]
+fn operations_on_addresses(rt: HostRuntime) -> Result<(), Fail> {
+    let wrong = wrong_of::<AddrSet>(rt.alloc(), "10.0.0.0/9", "10.128.0.0/9", "10.0.0.0/8")?;
+    assert_eq!(rt; wrong, "");
+    Ok(())
+}
+
+#[test]
+fn operations_on_connections(rt: HostRuntime) -> Result<(), Fail> {
+    let first = "TCP 80-89; SCTP 1,3-65535";
+    let whole = "TCP 80-90,92; UDP 53; SCTP 1,3-65535";
+    let wrong = wrong_of::<ConnSet>(rt.alloc(), first, "TCP 90,92; UDP 53", whole)?;
+    assert_eq!(rt; wrong, "");
+    Ok(())
+}
+
+// Equal neighbours are one piece.
+#[test]
+fn operations_on_pieces(rt: HostRuntime) -> Result<(), Fail> {
+    let first = "TCP 80-90 / No Connections";
+    let second = "No Connections / TCP 80-90";
+    let wrong = wrong_of::<AddrConns>(rt.alloc(), first, second, "TCP 80-90")?;
+    assert_eq!(rt; wrong, "");
+    Ok(())
 }

@@ -1,5 +1,0 @@
-use Rattle.np_test_fold.proofs.RulesLemmas.{none_looked_at}
-use Rattle.np_test_fold.proofs.tables.rows_text.Goals as goal
-
-pub returns-clause-without_policies : goal.returns-clause-without_policies
-returns-clause-without_policies g c = λ none. none_looked_at _ _ _ none c.lines.ensures.least c.lines.ensures.most

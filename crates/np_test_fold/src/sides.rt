@@ -1,0 +1,84 @@
+//! The rules of the pods that stand for the workloads of the list, and what passes by them.
+ghost use Rattle.std.specs.Prelude.{◌≡◌};
+ghost use Rattle.np_kinds.specs.Between.{number_of_workloads};
+
+use crate::answers::expect_right;
+use crate::rows::{PAIR, are_conns, are_ranges_right};
+use np_addr::Family;
+use np_base::NoMemory;
+use np_fold::Folded;
+use np_kinds::{KindReach, Sides, first_side};
+use np_model::Direction;
+use np_steps::Steps;
+use np_table::{address_rows_by_kind, set_by_kinds};
+use std::alloc::Global;
+use std::process::Abort;
+use std::sync::ledger::Ledger;
+
+/// Whether the first workload has the rules of the pod `c`, which is the third of the list.
+pub fn is_first_side_right(alloc: Global, folded: &Folded) -> Result<bool, NoMemory>
+    requires { number_of_workloads folded.now ≡ 2 }
+{
+    let side = first_side(alloc, folded, Direction::Egress, 0)?;
+    Ok(side.pod() == 2)
+}
+
+/// Whether it is not known that the first workload sends nothing to the second.
+pub fn is_reach_right(alloc: Global, folded: &Folded) -> Result<bool, NoMemory>
+    requires { number_of_workloads folded.now ≡ 2 }
+{
+    let reach = KindReach::of(alloc, folded)?;
+    Ok(!reach.is_silent(folded, 0, 1))
+}
+
+/// Stops the test unless what is found by the rules of kinds is right.
+pub fn expect_kinds<L: Ledger>(
+    rt: &impl Abort,
+    alloc: Global,
+    folded: &Folded,
+    steps: &mut Steps<L>,
+)
+    requires { number_of_workloads folded.now ≡ 2 }
+{
+    let mut sides = Sides::new(alloc, folded);
+    expect_right(rt, are_sides_right(&mut sides), "the rules of kinds");
+    let set = is_set_right(alloc, &mut sides, steps);
+    expect_right(rt, set, "the set of a pair, by kinds");
+    let ranges = are_ranges_right_by_kind(alloc, &mut sides, steps);
+    expect_right(rt, ranges, "the rows of addresses, by kinds");
+}
+
+// The pod `c` stands for the one that sends, and `db-0`, the first of the list, for the one that receives.
+fn are_sides_right(sides: &mut Sides<'_>) -> Result<bool, NoMemory>
+    requires { number_of_workloads sides.old.lists ≡ 2 }
+    ensures { sides.new.lists ≡ sides.old.lists }
+{
+    sides.ask(Direction::Egress, 0)?;
+    sides.ask_pair(0, 1)?;
+    let sender = sides.at(Direction::Egress, 0).pod();
+    let receiver = sides.at(Direction::Ingress, 1).pod();
+    Ok(sender == 2 && receiver == 0)
+}
+
+fn is_set_right<L: Ledger>(
+    alloc: Global,
+    sides: &mut Sides<'_>,
+    steps: &mut Steps<L>,
+) -> Result<bool, NoMemory>
+    requires { number_of_workloads sides.old.lists ≡ 2 }
+    ensures { sides.new.lists ≡ sides.old.lists }
+{
+    let conns = set_by_kinds(alloc, sides, 0, 1, Family::Four, steps)?;
+    are_conns(alloc, &conns, PAIR)
+}
+
+fn are_ranges_right_by_kind<L: Ledger>(
+    alloc: Global,
+    sides: &mut Sides<'_>,
+    steps: &mut Steps<L>,
+) -> Result<bool, NoMemory>
+    requires { number_of_workloads sides.old.lists ≡ 2 }
+{
+    let rows = address_rows_by_kind(alloc, sides, 0, Direction::Egress, steps)?;
+    are_ranges_right(alloc, rows.items())
+}

@@ -1,0 +1,34 @@
+//! The list that is asked.
+ghost use Rattle.std.specs.Prelude.{IfOk};
+ghost use Rattle.np_model.specs.Lawful.{IsLawful};
+
+use np_model::Estate;
+use np_reading::{Refusal, read_estate};
+use np_test_samples::input_of;
+use std::alloc::Global;
+
+// `b` takes TCP 80 from `a` and TCP 81 from a block by its NetworkPolicy, UDP 53 from every pod by an admin rule, and nothing by the
+// baseline, since it is isolated.
+static LIST: &str = concat!(
+    r#"{"apiVersion":"v1","items":["#,
+    r#"{"apiVersion":"v1","kind":"Pod","metadata":{"name":"a","labels":{"app":"a"}},"spec":{}},"#,
+    r#"{"apiVersion":"v1","kind":"Pod","metadata":{"name":"b","labels":{"app":"b"}},"spec":{}},"#,
+    r#"{"apiVersion":"networking.k8s.io/v1","kind":"NetworkPolicy","metadata":{"name":"p"},"spec":{"#,
+    r#""podSelector":{"matchLabels":{"app":"b"}},"ingress":["#,
+    r#"{"from":[{"podSelector":{"matchLabels":{"app":"a"}}}],"ports":[{"port":80}]},"#,
+    r#"{"from":[{"ipBlock":{"cidr":"10.0.0.0/8"}}],"ports":[{"port":81}]}]}},"#,
+    r#"{"apiVersion":"policy.networking.k8s.io/v1alpha1","kind":"AdminNetworkPolicy","metadata":{"name":"q"},"spec":{"#,
+    r#""priority":1,"subject":{"namespaces":{}},"ingress":[{"action":"Allow","from":[{"namespaces":{}}],"#,
+    r#""ports":[{"portNumber":{"protocol":"UDP","port":53}}]}]}},"#,
+    r#"{"apiVersion":"policy.networking.k8s.io/v1alpha1","kind":"BaselineAdminNetworkPolicy","metadata":{"name":"default"},"#,
+    r#""spec":{"subject":{"namespaces":{}},"ingress":[{"action":"Allow","from":[{"namespaces":{}}]}]}}"#,
+    r#"],"kind":"List"}"#,
+);
+
+/// The estate of the list.
+pub fn estate_of_list(alloc: Global) -> Result<Estate, Refusal>
+    ensures { IfOk result IsLawful }
+{
+    let inputs = input_of(alloc, LIST)?;
+    read_estate(alloc, &inputs)
+}
