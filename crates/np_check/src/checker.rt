@@ -32,13 +32,24 @@ const PAIRS_PER_WORKLOAD: u64 = 50;
 /// A cluster of which statements are checked, one after the other. The rules of a kind of workloads are found when they are
 /// first asked for, once as it sends and once as it receives, and kept for the statements to come. Which kinds may send
 /// anything to which is found once many pairs were asked for. Contracts see the lists of the cluster.
-#[derive(Drop)]
 pub struct Checker<'a> {
     alloc: Global,
     sides: Sides<'a>,
     // How many pairs of workloads were asked for.
     pairs: u64,
     reach: Option<KindReach>,
+}
+
+// Written out, so that letting one go is one call.
+impl<'a> Drop for Checker<'a> {
+    fn drop(self) {
+        let Checker {
+            alloc: _alloc,
+            sides: _sides,
+            pairs: _pairs,
+            reach: _reach,
+        } = self;
+    }
 }
 
 impl<'a> Model for Checker<'a> {

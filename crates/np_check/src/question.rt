@@ -6,7 +6,7 @@ use np_base::Seq;
 use np_conns::ConnSet;
 
 /// The ends on one side of a statement: workloads, by their numbers, and addresses.
-#[derive(Debug, Drop)]
+#[derive(Drop)]
 pub struct Ends {
     pub works: Seq<u32>,
     pub block: AddrSet,
@@ -14,7 +14,7 @@ pub struct Ends {
 
 /// What a statement asks: that all packets from its source to its destination at some protocols and ports are allowed, or
 /// that all are denied.
-#[derive(Debug, Drop)]
+#[derive(Drop)]
 pub struct Question {
     pub wanted: Wanted,
     pub source: Ends,

@@ -7,14 +7,14 @@ use std::error::Error;
 use std::fmt;
 
 /// What a statement asks for: that all of its packets are allowed, or that all are denied.
-#[derive(Clone, Copy, Debug, PartialEq, Eq)]
+#[derive(Clone, Copy, PartialEq, Eq)]
 pub enum Wanted {
     Allow,
     Deny,
 }
 
 /// How a line names the ends on one side of a statement.
-#[derive(Debug, Drop)]
+#[derive(Drop)]
 pub enum EndForm {
     /// All pods: `any pod`.
     Pods,
@@ -30,7 +30,7 @@ pub enum EndForm {
 
 /// A statement as its line says it. It speaks of every packet from its source to its destination at one of its
 /// protocols and ports. One of its sides names no addresses.
-#[derive(Debug, Drop)]
+#[derive(Drop)]
 pub struct StatementText {
     pub wanted: Wanted,
     pub source: EndForm,

@@ -6,7 +6,7 @@ use np_command::{Failure, Status};
 use np_frame::PreparedNotes;
 
 /// How a report that was written whole ends.
-#[derive(Debug, Drop)]
+#[derive(Drop)]
 pub enum Ending {
     /// This is said of the report. Where it is of `check`, all statements hold.
     Done(PreparedNotes),

@@ -3,7 +3,7 @@ ghost use Rattle.std.specs.Prelude.{◌≡◌};
 ghost use Rattle.np_command.specs.Statuses.{code_of};
 
 /// The status of the program. Its exit code, by [`Status::code`], is the number beside each.
-#[derive(Clone, Copy, Debug, PartialEq, Eq)]
+#[derive(Clone, Copy, PartialEq, Eq)]
 pub enum Status {
     /// 0: the report was written whole.
     Done,

@@ -5,7 +5,7 @@ use np_io::SinkFailed;
 use std::alloc::AllocFailed;
 
 /// Why a report is not written whole.
-#[derive(Clone, Copy, Debug, PartialEq, Eq)]
+#[derive(Clone, Copy, PartialEq, Eq)]
 pub enum WriteFault {
     /// A write to the sink failed.
     SinkFailed,

@@ -28,21 +28,21 @@ use std::alloc::Global;
 use std::sync::ledger::Ledger;
 
 /// An end that is asked about: an address, or the workload of a number.
-#[derive(Clone, Copy, Debug)]
+#[derive(Clone, Copy)]
 pub enum AskedEnd {
     At(Address),
     Work(u32),
 }
 
 /// The two ends that stand for those that are asked about: pods of the workloads, or the addresses.
-#[derive(Clone, Copy, Debug)]
+#[derive(Clone, Copy)]
 pub struct Ends {
     pub source: End,
     pub destination: End,
 }
 
 /// An explanation, with the family that it is of where that of the other one is different.
-#[derive(Debug, Drop)]
+#[derive(Drop)]
 pub struct Shown {
     pub mark: Option<Family>,
     pub made: Explanation,

@@ -25,7 +25,7 @@ use std::alloc::Global;
 use std::sync::ledger::Ledger;
 
 /// A workload, by its number, as it is sent to or as it sends.
-#[derive(Clone, Copy, Debug)]
+#[derive(Clone, Copy)]
 pub struct ShownSide {
     pub workload: u32,
     pub direction: Direction,

@@ -26,14 +26,14 @@ use std::sync::ledger::Ledger;
 
 /// What a table is asked for: who sends what comes through Ingresses, a workload or, where there is `None`, a controller
 /// that is not known; and which rows.
-#[derive(Clone, Copy, Debug)]
+#[derive(Clone, Copy)]
 pub struct Listing {
     pub controller: Option<u32>,
     pub query: Query,
 }
 
 /// How rows are told: the form of the report, and how it tells ranges of addresses.
-#[derive(Clone, Copy, Debug)]
+#[derive(Clone, Copy)]
 pub struct Presentation {
     pub format: Format,
     pub report: Report,

@@ -17,11 +17,22 @@ use std::marker::Model;
 /// A set of spots: for each protocol a set of ports. Contracts see it as the ascending ranges of each protocol's
 /// ports, between which at least one port is missing, so sets of the same spots are equal values. A set with at most
 /// two ranges of each protocol takes no memory.
-#[derive(Debug, Drop)]
+#[derive(Debug)]
 pub struct ConnSet {
     tcp: IntervalSet<PortNum>,
     udp: IntervalSet<PortNum>,
     sctp: IntervalSet<PortNum>,
+}
+
+// Written out, so that letting a set go is one call.
+impl Drop for ConnSet {
+    fn drop(self) {
+        let ConnSet {
+            tcp: _tcp,
+            udp: _udp,
+            sctp: _sctp,
+        } = self;
+    }
 }
 
 impl Model for ConnSet {

@@ -96,17 +96,16 @@ module _ (lists : EstateLists) (source destination : End) (family : Family) wher
 
   -- ---- the explanation
 
-  pub explanation-made : (egress ingress : List Part) (sent received conns : Conns)
+  pub explanation-made : (egress ingress : List Part) (conns : Conns)
       → egress ≡ parts_of (decider_between lists Egress source destination family) → ingress ≡ parts_of (decider_between lists Ingress source destination family)
       → AreRightParts (decider_between lists Egress source destination family) egress → AreRightParts (decider_between lists Ingress source destination family) ingress
-      → ((spot : PortSpot) → has_spot sent spot ≡ some_allows egress spot) → ((spot : PortSpot) → has_spot received spot ≡ some_allows ingress spot)
-      → IsConns conns → ((spot : PortSpot) → is_spot spot ≡ true → has_spot conns spot ≡ (has_spot sent spot && has_spot received spot))
+      → IsConns conns → ((spot : PortSpot) → is_spot spot ≡ true → has_spot conns spot ≡ (some_allows egress spot && some_allows ingress spot))
       → record { egress = egress; ingress = ingress; conns = conns } ≡ explanation_of lists source destination family
   unfolding explanation_of
-  explanation-made egress ingress sent received conns egress_is ingress_is sends receives sent_is received_is well meets =
+  explanation-made egress ingress conns egress_is ingress_is sends receives well both =
       let passes = passes_between lists source destination family in
       let set : conns ≡ conns_of passes = conns_of-set conns passes well (λ spot inside.
-      meets spot inside ∙ ap₂ (λ (a b : Bool). a && b) (sent_is spot) (received_is spot) ∙ passes-parts egress ingress spot sends receives inside) in
+      both spot inside ∙ passes-parts egress ingress spot sends receives inside) in
       ap (λ (parts : List Part). record { egress = parts; ingress = ingress; conns = conns }) egress_is
       ∙ ap (λ (parts : List Part). record { egress = parts_of (decider_between lists Egress source destination family); ingress = parts; conns = conns }) ingress_is
       ∙ ap (λ (one : Conns). record {

@@ -6,8 +6,10 @@ ghost use Rattle.np_explain.specs.Marks.{IsMarkOf, named_part};
 ghost use Rattle.np_explain.specs.Parts.{AreRightParts};
 ghost use Rattle.np_explain.specs.RightParts.{parts_of};
 ghost use Rattle.np_explain.specs.Sides.{IsFamilyAt, IsFamilyOf, are_one_pod, decider_between, decider_near, placed_at, with_end};
+ghost use Rattle.np_rules.specs.Deciders.{decider};
+ghost use Rattle.np_rules.specs.model.Ends.{pod};
 ghost use Rattle.np_rules.specs.model.Places.{end_rule_count};
-ghost use Rattle.np_rules.specs.PodSides.{IsSideLayer, side_of, side_rule_count};
+ghost use Rattle.np_rules.specs.PodSides.{IsSideLayer, near_pod, side_of, side_rule_count};
 ghost use Rattle.np_rules.specs.model.Verdict.{IsEndOf, end_of};
 
 use crate::flow::Flow;
@@ -91,9 +93,29 @@ fn pod_parts<L: Ledger>(
     ensures most { steps.new ≤ steps.old + side_rule_count (side_of estate.now pod direction) }
 {
     let rules = PodRules::of(alloc, estate, pod, direction)?;
-    let layer = layer_with(alloc, &rules, flow.far(direction), flow.family, steps)?;
+    parts_with(alloc, &rules, flow.far(direction), flow.family, steps)
+}
+
+// The parts of the rules that speak of a pod, with a far end.
+fn parts_with<L: Ledger>(
+    alloc: Global,
+    rules: &PodRules<'_>,
+    far: End,
+    family: Family,
+    steps: &mut Steps<L>,
+) -> Result<Seq<Part>, NoMemory>
+    requires lawful { IsLawful rules.now.lists }
+    requires far { IsEndOf rules.now.lists far }
+    requires family { IsFamilyAt far family }
+    ensures parts { IfOk result (AreRightParts (λ spot.
+        decider rules.now.lists rules.now.direction (pod (near_pod rules.now)) (with_end far family rules.now spot))) }
+    ensures cost { OnOk result (steps.new ≡ steps.old + side_rule_count rules.now) }
+    ensures least { steps.old ≤ steps.new }
+    ensures most { steps.new ≤ steps.old + side_rule_count rules.now }
+{
+    let layer = layer_with(alloc, rules, far, family, steps)?;
+    let side = Side::of(alloc, rules, &layer)?;
     let entries = carve(alloc, &layer)?;
-    let side = Side::of(alloc, &rules, &layer)?;
     let mut parts = named_parts(alloc, &side, entries)?;
     parts.sort_unstable_by_key(|part| first_number(&part.conns));
     Ok(Seq::from_vec(parts))

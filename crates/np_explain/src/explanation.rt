@@ -1,5 +1,5 @@
 //! What decides between two ends, at both sides of them, and what passes.
-ghost use Rattle.std.specs.Prelude.{◌≡◌, ◌≤◌, false, true, IfOk};
+ghost use Rattle.std.specs.Prelude.{◌≡◌, ◌≤◌, ◌&&◌, false, true, IfOk};
 ghost use Rattle.np_conns.specs.Conns.{IsConns, has_spot, is_spot};
 ghost use Rattle.np_conns.specs.declared.port_spot.PortSpot.{PortSpot};
 ghost use Rattle.np_model.specs.Lawful.{IsLawful};
@@ -21,11 +21,21 @@ use std::sync::ledger::Ledger;
 
 /// What decides every packet of a family between two ends, at its source and at its destination, and the protocols and ports
 /// at which packets are allowed.
-#[derive(Debug, Drop)]
 pub struct Explanation {
     pub egress: Seq<Part>,
     pub ingress: Seq<Part>,
     pub conns: ConnSet,
+}
+
+// Written out, so that letting one go is one call.
+impl Drop for Explanation {
+    fn drop(self) {
+        let Explanation {
+            egress: _egress,
+            ingress: _ingress,
+            conns: _conns,
+        } = self;
+    }
 }
 
 /// The explanation of a flow. A packet is allowed where what decides at its source allows it, and what decides at its
@@ -49,14 +59,23 @@ pub fn explain_sides<L: Ledger>(
 {
     let egress = explain(alloc, estate, flow, Direction::Egress, steps)?;
     let ingress = explain(alloc, estate, flow, Direction::Ingress, steps)?;
-    let sent = allowed(alloc, egress.items())?;
-    let received = allowed(alloc, ingress.items())?;
-    let conns = sent.meet(&received)?;
+    let conns = allowed_by_both(alloc, egress.items(), ingress.items())?;
     Ok(Explanation {
         egress,
         ingress,
         conns,
     })
+}
+
+// The protocols and ports that parts of both sides allow.
+fn allowed_by_both(alloc: Global, egress: &[Part], ingress: &[Part]) -> Result<ConnSet, NoMemory>
+    ensures members { IfOk result (λ made. (spot : PortSpot) → is_spot spot ≡ true →
+        has_spot made spot ≡ (spec.some_allows egress.now spot && spec.some_allows ingress.now spot)) }
+    ensures well { IfOk result IsConns }
+{
+    let sent = allowed(alloc, egress)?;
+    let received = allowed(alloc, ingress)?;
+    sent.meet(&received)
 }
 
 // The protocols and ports of the parts that allow.

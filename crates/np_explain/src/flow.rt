@@ -8,7 +8,7 @@ use np_rules::End;
 
 /// The packets of a family from one end to another. Where an end is an address the family is its own, and that of the source
 /// where both are.
-#[derive(Clone, Copy, Debug)]
+#[derive(Clone, Copy)]
 pub struct Flow {
     pub source: End,
     pub destination: End,

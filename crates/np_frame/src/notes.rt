@@ -11,7 +11,7 @@ use std::marker::Model;
 
 /// What is said of a whole report: how many objects were left out of it, and which backends of Ingresses lead nowhere, or
 /// not where they seem to, in the order of the Ingresses.
-#[derive(Debug, Drop)]
+#[derive(Drop)]
 pub struct ReportNotes {
     pub left_out: Notes,
     pub routes: Seq<RouteNote>,
@@ -38,7 +38,7 @@ impl ReportNotes {
 
 /// The notes on a report, with their lines made, so that no memory is wanted for them once the report is written. Contracts
 /// see of it the notes.
-#[derive(Debug, Drop)]
+#[derive(Drop)]
 pub struct PreparedNotes {
     notes: ReportNotes,
     text: String,
@@ -84,7 +84,7 @@ fn route_line(alloc: Global, note: &RouteNote) -> Result<String, NoMemory>
 }
 
 // The lines of what was left out.
-#[derive(Clone, Copy, Debug)]
+#[derive(Clone, Copy)]
 struct LeftOut {
     notes: Notes,
 }
@@ -117,7 +117,7 @@ impl fmt::Display for LeftOut {
 }
 
 // The line that says of how many objects something holds, which is no text where it holds of none.
-#[derive(Clone, Copy, Debug)]
+#[derive(Clone, Copy)]
 struct Note {
     what: &'static str,
     count: u64,

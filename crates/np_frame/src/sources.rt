@@ -13,7 +13,7 @@ use std::alloc::{AllocFailed, Global};
 pub const SIZE_LIMIT: u64 = 33_554_432;
 
 /// Why inputs are not read.
-#[derive(Debug, Drop)]
+#[derive(Drop)]
 pub enum SourceFault {
     /// A call for the input of this name failed.
     CannotRead(Text),

@@ -18,13 +18,24 @@ use std::marker::Model;
 /// The rules of the pods that stand for kinds of workloads, as they send and as they receive. No rule tells pods of one kind
 /// apart, so that the first pod of a kind's first workload stands for all. The rules of a kind are found when they are first
 /// asked for, and kept. Contracts see the lists of the estate, and of which workloads' kinds the rules are known.
-#[derive(Drop)]
 pub struct Sides<'a> {
     alloc: Global,
     folded: &'a Folded,
     // By the numbers of kinds, as these send and as they receive.
     senders: HashMap<u32, PodRules<'a>>,
     receivers: HashMap<u32, PodRules<'a>>,
+}
+
+// Written out, so that letting one go is one call.
+impl<'a> Drop for Sides<'a> {
+    fn drop(self) {
+        let Sides {
+            alloc: _alloc,
+            folded: _folded,
+            senders: _senders,
+            receivers: _receivers,
+        } = self;
+    }
 }
 
 impl<'a> Model for Sides<'a> {

@@ -3,7 +3,7 @@
 use np_model::Direction;
 
 /// The kinds of policies.
-#[derive(Clone, Copy, Debug, PartialEq, Eq)]
+#[derive(Clone, Copy, PartialEq, Eq)]
 pub enum Tier {
     /// AdminNetworkPolicies.
     Admin,
@@ -16,7 +16,7 @@ pub enum Tier {
 /// A rule, by the kind of its policy, the policy's place in the estate's list of that kind, its direction, and its place
 /// among the policy's rules of the direction. Places count from 0. The baseline, of which there is one at most, has the
 /// place 0.
-#[derive(Clone, Copy, Debug, PartialEq, Eq)]
+#[derive(Clone, Copy, PartialEq, Eq)]
 pub struct RuleRef {
     pub tier: Tier,
     pub policy: u32,

@@ -7,7 +7,7 @@ use np_labels::Selector;
 
 /// What an admin rule says of the packets that it matches (network-policy-api reference,
 /// AdminNetworkPolicyRuleAction).
-#[derive(Clone, Copy, Debug, PartialEq, Eq)]
+#[derive(Clone, Copy, PartialEq, Eq)]
 pub enum Action {
     Allow,
     Deny,
@@ -17,7 +17,7 @@ pub enum Action {
 
 /// The pods that an admin policy is about: those that meet both selectors (network-policy-api reference,
 /// AdminNetworkPolicySubject). A subject of `namespaces` has a pod selector that everything meets.
-#[derive(Debug, Drop)]
+#[derive(Drop)]
 pub struct Subject {
     pub namespaces: Selector,
     pub pods: Selector,
@@ -25,7 +25,7 @@ pub struct Subject {
 
 /// An entry of `from` or `to` of an admin rule (network-policy-api reference, AdminNetworkPolicyIngressPeer and
 /// AdminNetworkPolicyEgressPeer).
-#[derive(Debug, Drop)]
+#[derive(Drop)]
 pub enum AdminPeer {
     /// The pods that meet both selectors.
     Pods {
@@ -39,7 +39,7 @@ pub enum AdminPeer {
 }
 
 /// An entry of `ports` of an admin rule (network-policy-api reference, AdminNetworkPolicyPort).
-#[derive(Debug, Drop)]
+#[derive(Drop)]
 pub enum AdminPort {
     /// The ports of a protocol from `lo` to `hi`, both included.
     Span {
@@ -55,7 +55,7 @@ pub enum AdminPort {
 
 /// An entry of `ingress` or `egress` of an admin policy. It has at least one peer where it was read from JSON. Without
 /// port entries it matches every protocol and port.
-#[derive(Debug, Drop)]
+#[derive(Drop)]
 pub struct AdminRule {
     pub action: Action,
     pub peers: Seq<AdminPeer>,
@@ -64,7 +64,7 @@ pub struct AdminRule {
 
 /// An AdminNetworkPolicy (network-policy-api reference, AdminNetworkPolicySpec). Of the policies that select a pod the
 /// one with the smallest priority is looked at first, and its rules in the order written.
-#[derive(Debug, Drop)]
+#[derive(Drop)]
 pub struct AdminPolicy {
     pub name: Text,
     /// From 0 to 1000 where it was read from JSON.
@@ -76,7 +76,7 @@ pub struct AdminPolicy {
 
 /// The BaselineAdminNetworkPolicy, which is named `default` (network-policy-api reference,
 /// BaselineAdminNetworkPolicySpec). Its actions are `Allow` and `Deny` where it was read from JSON.
-#[derive(Debug, Drop)]
+#[derive(Drop)]
 pub struct BasePolicy {
     pub subject: Subject,
     pub ingress: Seq<AdminRule>,

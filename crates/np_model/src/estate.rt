@@ -19,10 +19,19 @@ use std::marker::Model;
 /// The whole of what a list says, to be looked at. Contracts see it as its lists. Its admin policies ascend strictly
 /// in priority, so that the first of them that matches is the one that decides, and its NetworkPolicies in namespace and
 /// name, so that those of a namespace stand together.
-#[derive(Debug, Drop)]
 pub struct Estate {
     lists: EstateLists,
     families: &'static [Family],
+}
+
+// Written out, so that letting one go is one call.
+impl Drop for Estate {
+    fn drop(self) {
+        let Estate {
+            lists: _lists,
+            families: _families,
+        } = self;
+    }
 }
 
 impl Model for Estate {

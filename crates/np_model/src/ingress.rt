@@ -4,7 +4,7 @@ use crate::service::PortName;
 use np_base::{Seq, Text};
 
 /// What an ingress sends requests to (Kubernetes API reference, IngressBackend).
-#[derive(Debug, Drop)]
+#[derive(Drop)]
 pub enum Backend {
     /// A port of the service of that name in the ingress's namespace.
     Service { name: Text, port: PortName },
@@ -14,7 +14,7 @@ pub enum Backend {
 
 /// An ingress as it is listed (Kubernetes API reference, Ingress). Its backends are `defaultBackend`, where there is
 /// one, and those of its rules and their paths as written.
-#[derive(Debug, Drop)]
+#[derive(Drop)]
 pub struct IngressItem {
     pub namespace: Text,
     pub name: Text,

@@ -9,7 +9,6 @@ use crate::service::ServiceItem;
 use np_base::Seq;
 
 /// What a list says, kind by kind.
-#[derive(Debug, Drop)]
 pub struct EstateLists {
     /// In the order of the items; a template's pod stands at its controller's place.
     pub pods: Seq<Pod>,
@@ -23,4 +22,19 @@ pub struct EstateLists {
     /// In the order of the items.
     pub ingresses: Seq<PlacedIngress>,
     pub notes: Notes,
+}
+
+// Written out, so that letting one go is one call.
+impl Drop for EstateLists {
+    fn drop(self) {
+        let EstateLists {
+            pods: _pods,
+            net_policies: _net_policies,
+            admin_policies: _admin_policies,
+            baseline: _baseline,
+            services: _services,
+            ingresses: _ingresses,
+            notes: _notes,
+        } = self;
+    }
 }

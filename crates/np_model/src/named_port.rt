@@ -5,7 +5,7 @@ use np_conns::Proto;
 use std::alloc::Global;
 
 /// A container port that has a name (Kubernetes API reference, ContainerPort).
-#[derive(Debug, Drop)]
+#[derive(Drop)]
 pub struct NamedPort {
     pub name: Text,
     pub proto: Proto,

@@ -6,7 +6,7 @@ use np_conns::Proto;
 use np_labels::Selector;
 
 /// An entry of `from` or `to` (Kubernetes API reference, NetworkPolicyPeer).
-#[derive(Debug, Drop)]
+#[derive(Drop)]
 pub enum NetPeer {
     /// Pods, by the labels of their namespaces and by their own. Without `namespaces` they are those of the
     /// policy's namespace; without `pods` they are all pods of the namespaces.
@@ -22,7 +22,7 @@ pub enum NetPeer {
 }
 
 /// An entry of `ports` (Kubernetes API reference, NetworkPolicyPort).
-#[derive(Debug, Drop)]
+#[derive(Drop)]
 pub enum NetPort {
     /// The ports of a protocol from `lo` to `hi`, both included.
     Span {
@@ -39,7 +39,7 @@ pub enum NetPort {
 
 /// An entry of `ingress` or `egress`. Without peers it matches every end, without port entries every protocol
 /// and port (Kubernetes API reference, NetworkPolicyIngressRule and NetworkPolicyEgressRule).
-#[derive(Debug, Drop)]
+#[derive(Drop)]
 pub struct NetRule {
     pub peers: Seq<NetPeer>,
     pub ports: Seq<NetPort>,
@@ -47,7 +47,7 @@ pub struct NetRule {
 
 /// A NetworkPolicy. A direction is `Some` exactly where it is among the policy's types, with the rules as
 /// written; rules of another direction have no effect (Kubernetes API reference, NetworkPolicySpec).
-#[derive(Debug, Drop)]
+#[derive(Drop)]
 pub struct NetPolicy {
     pub namespace: Text,
     pub name: Text,

@@ -1,7 +1,7 @@
 //! What was left out.
 
 /// How many objects were left out of the estate, and why.
-#[derive(Clone, Copy, Debug, PartialEq, Eq)]
+#[derive(Clone, Copy, PartialEq, Eq)]
 pub struct Notes {
     /// Pods and templates on the network of their node.
     pub host: u64,

@@ -3,7 +3,7 @@
 use crate::ingress::IngressItem;
 
 /// An ingress, and the number of its item, from 1 over all inputs.
-#[derive(Debug, Drop)]
+#[derive(Drop)]
 pub struct PlacedIngress {
     pub item: u64,
     pub ingress: IngressItem,

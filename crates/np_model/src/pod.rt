@@ -7,7 +7,7 @@ use np_base::{Seq, Text};
 use np_labels::{Labels, SharedLabels};
 
 /// A pod (Kubernetes API reference, Pod), with the labels of its namespace.
-#[derive(Debug, Drop)]
+#[derive(Drop)]
 pub struct Pod {
     pub namespace: Text,
     /// They say the namespace's name under `kubernetes.io/metadata.name` where they were read from JSON. The pods of a

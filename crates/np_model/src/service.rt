@@ -5,14 +5,14 @@ use np_conns::Proto;
 use np_labels::Selector;
 
 /// A port by its number or by its name.
-#[derive(Debug, Drop)]
+#[derive(Drop)]
 pub enum PortName {
     Number(PortNum),
     Named(Text),
 }
 
 /// A port of a service (Kubernetes API reference, ServicePort).
-#[derive(Debug, Drop)]
+#[derive(Drop)]
 pub struct ServicePort {
     pub name: Option<Text>,
     pub proto: Proto,
@@ -22,7 +22,7 @@ pub struct ServicePort {
 }
 
 /// A service as it is listed (Kubernetes API reference, Service).
-#[derive(Debug, Drop)]
+#[derive(Drop)]
 pub struct ServiceItem {
     pub namespace: Text,
     pub name: Text,

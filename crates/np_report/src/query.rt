@@ -6,7 +6,7 @@ use np_args::FocusSide;
 use np_table::{RowEnd, RowKey};
 
 /// Which rows of a table are asked for.
-#[derive(Clone, Copy, Debug, PartialEq, Eq)]
+#[derive(Clone, Copy, PartialEq, Eq)]
 pub enum Query {
     /// All of them.
     All,

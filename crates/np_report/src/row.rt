@@ -12,7 +12,7 @@ use np_table::{Row, RowEnd};
 use std::alloc::Global;
 
 /// The three texts of a row of a report.
-#[derive(Debug, Drop)]
+#[derive(Drop)]
 pub struct RowText {
     pub source: Text,
     pub destination: Text,

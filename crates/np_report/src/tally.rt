@@ -7,7 +7,7 @@ use std::marker::Model;
 
 /// How many rows there are of pairs of workloads, of addresses, and of the controller of Ingresses. Counting takes no
 /// memory.
-#[derive(Debug, Drop)]
+#[derive(Drop)]
 pub struct Tally {
     pairs: u128,
     addresses: u128,

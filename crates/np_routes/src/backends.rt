@@ -19,10 +19,19 @@ use std::marker::Model;
 
 /// The services whose ports the backends of ingresses name, with the targets of these ports, to be found by namespace.
 /// Contracts see the lists of the estate.
-#[derive(Drop)]
 pub(crate) struct Backends<'a> {
     estate: &'a Estate,
     by_namespace: BTreeMap<&'a str, Vec<ServiceTargets<'a>>>,
+}
+
+// Written out, so that letting one go is one call.
+impl<'a> Drop for Backends<'a> {
+    fn drop(self) {
+        let Backends {
+            estate: _estate,
+            by_namespace: _by_namespace,
+        } = self;
+    }
 }
 
 impl<'a> Model for Backends<'a> {

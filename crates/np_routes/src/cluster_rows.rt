@@ -20,7 +20,6 @@ use std::sync::ledger::Ledger;
 /// The rows of a cluster that are still to come: those of all pairs of workloads and of all addresses, as `Rows` gives
 /// them, and behind them for each workload that is reached through ingresses the row from the controller to it. Never all
 /// of them are held. Contracts see the rows, and as `due` an upper bound of the rules that are still to be looked at.
-#[derive(Drop)]
 pub struct ClusterRows<'a> {
     alloc: Global,
     // Those of pairs and addresses, until they have ended.
@@ -29,6 +28,19 @@ pub struct ClusterRows<'a> {
     // The next workload that is asked, and how many there are.
     workload: u32,
     count: u32,
+}
+
+// Written out, so that letting one go is one call.
+impl<'a> Drop for ClusterRows<'a> {
+    fn drop(self) {
+        let ClusterRows {
+            alloc: _alloc,
+            rows: _rows,
+            routes: _routes,
+            workload: _workload,
+            count: _count,
+        } = self;
+    }
 }
 
 impl<'a> Model for ClusterRows<'a> {

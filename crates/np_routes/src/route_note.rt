@@ -3,7 +3,7 @@
 use std::fmt;
 
 /// Why a backend of an ingress leads nowhere, or not where it seems to. The first of these that holds is told.
-#[derive(Debug, Clone, Copy, PartialEq, Eq)]
+#[derive(Clone, Copy, PartialEq, Eq)]
 pub enum RouteFlaw {
     /// No service of its name is listed in the ingress's namespace.
     NoService,
@@ -36,7 +36,7 @@ impl fmt::Display for RouteFlaw {
 }
 
 /// A backend of an ingress, and its flaw. It is written as the line that tells of it, as `item 4: backend 1: NoService`.
-#[derive(Debug, Clone, Copy, PartialEq, Eq)]
+#[derive(Clone, Copy, PartialEq, Eq)]
 pub struct RouteNote {
     /// The number of the ingress's item, from 1 over all inputs.
     pub item: u64,

@@ -28,12 +28,23 @@ use std::sync::ledger::Ledger;
 /// The routes of an estate's ingresses, and the controller that sends what comes through them: a workload, or one that is
 /// not known. It finds once which services the backends name, and which rules speak of the controller. Contracts see the
 /// lists of the estate and the controller's number.
-#[derive(Drop)]
 pub struct Routes<'a> {
     folded: &'a Folded,
     controller: Option<u32>,
     backends: Backends<'a>,
     sender: Sender<'a>,
+}
+
+// Written out, so that letting one go is one call.
+impl<'a> Drop for Routes<'a> {
+    fn drop(self) {
+        let Routes {
+            folded: _folded,
+            controller: _controller,
+            backends: _backends,
+            sender: _sender,
+        } = self;
+    }
 }
 
 impl<'a> Model for Routes<'a> {

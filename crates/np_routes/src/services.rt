@@ -11,10 +11,19 @@ use std::collections::BTreeMap;
 use std::marker::Model;
 
 /// The places of the listed services, to be found by namespace and name. Contracts see the list.
-#[derive(Drop)]
 pub(crate) struct Services<'a> {
     listed: &'a [ServiceItem],
     places: BTreeMap<(&'a str, &'a str), usize>,
+}
+
+// Written out, so that letting one go is one call.
+impl<'a> Drop for Services<'a> {
+    fn drop(self) {
+        let Services {
+            listed: _listed,
+            places: _places,
+        } = self;
+    }
 }
 
 impl<'a> Model for Services<'a> {

@@ -38,28 +38,22 @@ pub set_has-join : (set more made : AddressRanges) → ((spot : Which ℕ ℕ) �
 set_has-join set more made joined (Four n) = joined (First n)
 set_has-join set more made joined (Six n) = joined (Second n)
 
--- what one or the other set has, where the other has nothing
-either : (between inside : Bool) (conns none : Conns) (spot : PortSpot) → between ≡ true → has_spot none spot ≡ false →
-    (between && has_spot (if inside then conns else none) spot) ≡ (inside && has_spot conns spot)
-either between true conns none spot within empty = ap (λ b. b && has_spot conns spot) within
-either between false conns none spot within empty = ap (λ b. b && has_spot none spot) within ∙ empty
+-- a place has what one set has, where the other has nothing and the one is a copy
+pub copied_inside : (between inside : Bool) (conns copy none : Conns) (spot : PortSpot) → copy ≡ conns → has_spot none spot ≡ false →
+    (between && has_spot (if inside then copy else none) spot) ≡ (between && (inside && has_spot conns spot))
+copied_inside between true conns copy none spot same empty = ap (λ set. between && has_spot set spot) same
+copied_inside between false conns copy none spot same empty = ap (λ b. between && b) empty
 
--- connections at some addresses and none at others
-pub has_place-over : (addresses : AddressRanges) (conns inside inside' none none' : Conns) (first second : List (Piece ℕ Conns)) → inside ≡ conns → inside' ≡ conns →
-    ((spot : PortSpot) → has_spot none spot ≡ false) → ((spot : PortSpot) → has_spot none' spot ≡ false) →
+pub has_place-over : (addresses : AddressRanges) (conns : Conns) (first second : List (Piece ℕ Conns)) →
     ((place : At ℕ PortSpot) → pieces.has_spot (λ a. a) has_spot first place ≡
-    (is_between 0 (2 ^ 32 - 1) place.point && has_spot (if holds (λ a. a) addresses.first place.point then inside else none) place.spot)) →
+    (is_between 0 (2 ^ 32 - 1) place.point && (holds (λ a. a) addresses.first place.point && has_spot conns place.spot))) →
     ((place : At ℕ PortSpot) → pieces.has_spot (λ a. a) has_spot second place ≡
-    (is_between 0 (2 ^ 128 - 1) place.point && has_spot (if holds (λ a. a) addresses.second place.point then inside' else none') place.spot)) →
+    (is_between 0 (2 ^ 128 - 1) place.point && (holds (λ a. a) addresses.second place.point && has_spot conns place.spot))) →
     (place : AddressSpot) → is_place place ≡ true → has_place (record { first = first; second = second }) place ≡ (set_has addresses (address_of place) && has_spot conns (spot_of place))
-has_place-over addresses conns inside inside' none none' first second same same' empty empty' in_first in_second (First place) within =
-    in_first place
-    ∙ either (is_between 0 (2 ^ 32 - 1) place.point) (holds (λ a. a) addresses.first place.point) inside none place.spot (and_parts _ _ within).0 (empty place.spot)
-    ∙ ap (λ set. holds (λ a. a) addresses.first place.point && has_spot set place.spot) same
-has_place-over addresses conns inside inside' none none' first second same same' empty empty' in_first in_second (Second place) within =
-    in_second place
-    ∙ either (is_between 0 (2 ^ 128 - 1) place.point) (holds (λ a. a) addresses.second place.point) inside' none' place.spot (and_parts _ _ within).0 (empty' place.spot)
-    ∙ ap (λ set. holds (λ a. a) addresses.second place.point && has_spot set place.spot) same'
+has_place-over addresses conns first second in_first in_second (First place) within =
+    in_first place ∙ ap (λ b. b && (holds (λ a. a) addresses.first place.point && has_spot conns place.spot)) (and_parts _ _ within).0
+has_place-over addresses conns first second in_first in_second (Second place) within =
+    in_second place ∙ ap (λ b. b && (holds (λ a. a) addresses.second place.point && has_spot conns place.spot)) (and_parts _ _ within).0
 
 pub set_has-minus : (set part made : AddressRanges) → ((spot : Which ℕ ℕ) → ranges_have made spot ≡ (ranges_have set spot && not (ranges_have part spot))) → (a : Address) →
     set_has made a ≡ (set_has set a && not (set_has part a))

@@ -145,8 +145,7 @@ fn joined_by_halves<A: Addresses>(alloc: Global, items: &[A]) -> Result<AddrSet,
             let (front, back) = items.split_at(items.len() / 2);
             let first = joined_by_halves(alloc, front)?;
             let second = joined_by_halves(alloc, back)?;
-            let joined = join(&first, &second)?;
-            Ok(joined)
+            join(&first, &second)
         }
     }
 }
@@ -154,29 +153,25 @@ fn joined_by_halves<A: Addresses>(alloc: Global, items: &[A]) -> Result<AddrSet,
 fn no_address(alloc: Global) -> Result<AddrSet, NoMemory>
     ensures { IfOk result (λ set. (a : Address) → set_has set a ≡ false) }
 {
-    let set = AddrSet::nothing(alloc)?;
-    Ok(set)
+    AddrSet::nothing(alloc)
 }
 
 fn all_addresses(alloc: Global) -> Result<AddrSet, NoMemory>
     ensures { IfOk result (λ set. (a : Address) → IsAddress a → set_has set a ≡ true) }
 {
-    let set = AddrSet::everything(alloc)?;
-    Ok(set)
+    AddrSet::everything(alloc)
 }
 
 fn join(one: &AddrSet, other: &AddrSet) -> Result<AddrSet, NoMemory>
     ensures { IfOk result (λ set. (a : Address) → set_has set a ≡ (set_has one.now a || set_has other.now a)) }
 {
-    let set = one.join(other)?;
-    Ok(set)
+    one.join(other)
 }
 
 fn minus(whole: &AddrSet, part: &AddrSet) -> Result<AddrSet, NoMemory>
     ensures { IfOk result (λ set. (a : Address) → set_has set a ≡ (set_has whole.now a && not (set_has part.now a))) }
 {
-    let set = whole.minus(part)?;
-    Ok(set)
+    whole.minus(part)
 }
 
 // The addresses of a block that are in none of the exceptions.
@@ -185,6 +180,5 @@ fn block_set(alloc: Global, cidr: &Cidr, excepts: &[Cidr]) -> Result<AddrSet, No
 {
     let whole = cidr_set(alloc, cidr)?;
     let holes = joined_set(alloc, excepts)?;
-    let set = minus(&whole, &holes)?;
-    Ok(set)
+    minus(&whole, &holes)
 }

@@ -5,14 +5,13 @@ use np_base::Text;
 
 /// A rule, by the name of its policy and its place among the policy's rules of the direction, from 0. A NetworkPolicy is
 /// named `namespace/name`.
-#[derive(Debug, Drop)]
+#[derive(Drop)]
 pub struct RuleName {
     pub policy: Text,
     pub place: u64,
 }
 
 /// What decides a packet at one of its ends. Where `pass` is there, an admin rule with `Pass` was met first.
-#[derive(Debug, Drop)]
 pub enum Decider {
     /// The end is an address, which has no side of its own.
     NoSide,
@@ -41,4 +40,31 @@ pub enum Decider {
     Free {
         pass: Option<RuleName>,
     },
+}
+
+// Written out, so that letting one go is one call.
+impl Drop for Decider {
+    fn drop(self) {
+        match self {
+            Decider::NoSide => {}
+            Decider::Admin {
+                rule: _rule,
+                allow: _allow,
+            } => {}
+            Decider::Net {
+                pass: _pass,
+                rule: _rule,
+            } => {}
+            Decider::Isolated {
+                pass: _pass,
+                policies: _policies,
+            } => {}
+            Decider::Base {
+                pass: _pass,
+                rule: _rule,
+                allow: _allow,
+            } => {}
+            Decider::Free { pass: _pass } => {}
+        }
+    }
 }

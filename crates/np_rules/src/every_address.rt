@@ -1,10 +1,14 @@
 //! All addresses of both families as far ends.
 ghost use Rattle.std.specs.Prelude.{◌≡◌, true, ◌&&◌, IfOk};
 ghost use Rattle.np_addr.specs.Blocks.{set_has};
+ghost use Rattle.np_base.specs.Ranges.{holds};
 ghost use Rattle.np_conns.specs.Conns.{has_spot};
 ghost use Rattle.np_addr.specs.declared.address.Address.{Address};
 ghost use Rattle.np_conns.specs.declared.port_spot.PortSpot.{PortSpot};
+ghost use Rattle.np_pieces.specs.Pieces as pieces;
+ghost use Rattle.np_pieces.specs.declared.piece.At.{At};
 ghost use Rattle.np_rules.specs.EveryAddress as spec;
+ghost use Rattle.np_sets.specs.Space.{is_between};
 
 use crate::address_sets::{joined_set, net_addresses};
 use crate::far_ends::FarEnds;
@@ -15,6 +19,7 @@ use np_base::{Beside, Cells, NoMemory, Point, V4, V6};
 use np_conns::ConnSet;
 use np_model::{AdminRule, Direction, NetRule};
 use np_pieces::Pieces;
+use np_sets::IntervalSet;
 use std::alloc::Global;
 
 /// Connections by address: at each address of either family a set of protocols and ports.
@@ -35,12 +40,10 @@ impl FarEnds<AddrConns> for EveryAddress<'_> {
     fn admin_set(&self, alloc: Global, rule: &AdminRule) -> Result<AddrConns, NoMemory> {
         let addresses = joined_set(alloc, rule.peers.items())?;
         if addresses.is_empty() {
-            let nowhere = AddrConns::nothing(alloc)?;
-            return Ok(nowhere);
+            return AddrConns::nothing(alloc);
         }
         let conns = self.entries_set(alloc, rule.ports.items())?;
-        let set = at_addresses(alloc, &addresses, &conns)?;
-        Ok(set)
+        at_addresses(alloc, &addresses, &conns)
     }
 
     fn net_set(
@@ -51,12 +54,10 @@ impl FarEnds<AddrConns> for EveryAddress<'_> {
     ) -> Result<AddrConns, NoMemory> {
         let addresses = net_addresses(alloc, rule.peers.items())?;
         if addresses.is_empty() {
-            let nowhere = AddrConns::nothing(alloc)?;
-            return Ok(nowhere);
+            return AddrConns::nothing(alloc);
         }
         let conns = self.entries_set(alloc, rule.ports.items())?;
-        let set = at_addresses(alloc, &addresses, &conns)?;
-        Ok(set)
+        at_addresses(alloc, &addresses, &conns)
     }
 }
 
@@ -94,17 +95,22 @@ fn at_addresses(alloc: Global, addresses: &AddrSet, conns: &ConnSet) -> Result<A
         spec.has_place made place
         ≡ (set_has addresses.now (spec.address_of place) && has_spot conns.now (spec.spot_of place))) }
 {
-    let first = Pieces::over(
-        alloc,
-        &addresses.first,
-        conns.copy()?,
-        ConnSet::nothing(alloc)?,
-    )?;
-    let second = Pieces::over(
-        alloc,
-        &addresses.second,
-        conns.copy()?,
-        ConnSet::nothing(alloc)?,
-    )?;
+    let first = pieces_at(alloc, &addresses.first, conns)?;
+    let second = pieces_at(alloc, &addresses.second, conns)?;
     Ok(Beside { first, second })
+}
+
+// The same at those of one family.
+fn pieces_at<P: Point>(
+    alloc: Global,
+    addresses: &IntervalSet<P>,
+    conns: &ConnSet,
+) -> Result<Pieces<P, ConnSet>, NoMemory>
+    ensures { IfOk result (λ made. (place : At P PortSpot) → pieces.has_spot P.number_of has_spot made place
+        ≡ (is_between P.LOW P.HIGH (P.number_of place.point)
+        && (holds P.number_of addresses.now (P.number_of place.point) && has_spot conns.now place.spot))) }
+{
+    let inside = conns.copy()?;
+    let outside = ConnSet::nothing(alloc)?;
+    Pieces::over(alloc, addresses, inside, outside)
 }

@@ -5,7 +5,7 @@ use np_base::PortNum;
 use np_conns::Proto;
 
 /// An end of a packet.
-#[derive(Clone, Copy, Debug, PartialEq, Eq)]
+#[derive(Clone, Copy, PartialEq, Eq)]
 pub enum End {
     /// The pod at this place of the estate's pods, from 0.
     Pod(u32),
@@ -14,7 +14,7 @@ pub enum End {
 }
 
 /// One packet. Where an end is an address, the family is that of the address, and that of the source where both are.
-#[derive(Clone, Copy, Debug, PartialEq, Eq)]
+#[derive(Clone, Copy, PartialEq, Eq)]
 pub struct Packet {
     pub source: End,
     pub destination: End,

@@ -36,7 +36,6 @@ use std::sync::ledger::Ledger;
 
 /// The rules that speak of a pod in a direction, found once, to be looked at with any far end. They are kept policy by
 /// policy. Contracts see the estate's lists, the pod's place among its pods, and the direction.
-#[derive(Drop)]
 pub struct PodRules<'a> {
     estate: &'a Estate,
     pod: u32,
@@ -44,6 +43,20 @@ pub struct PodRules<'a> {
     admin: Vec<PolicyRules<'a, AdminRule>>,
     net: Vec<PolicyRules<'a, NetRule>>,
     base: &'a [AdminRule],
+}
+
+// Written out, so that letting one go is one call.
+impl<'a> Drop for PodRules<'a> {
+    fn drop(self) {
+        let PodRules {
+            estate: _estate,
+            pod: _pod,
+            direction: _direction,
+            admin: _admin,
+            net: _net,
+            base: _base,
+        } = self;
+    }
 }
 
 impl<'a> Model for PodRules<'a> {

@@ -8,7 +8,7 @@ use std::rc::Rc;
 
 /// Names of policies that are held once however many deciders have them, as those of the NetworkPolicies that isolate a pod.
 /// Contracts see the list of the names.
-#[derive(Debug, Drop)]
+#[derive(Drop)]
 pub struct PolicyNames {
     names: Rc<Seq<Text>>,
 }

@@ -89,8 +89,7 @@ fn joined_set<E: PortEntry>(
         has_spot made spot ≡ list_any (λ entry. E.matches entry (end_view destination.now) spot) entries.now) }
 {
     let joined = joined_by_halves(alloc, entries, destination)?;
-    let exact = joined.copy()?;
-    Ok(exact)
+    joined.copy()
 }
 
 // The same. The sets of both halves of the entries are joined, so that n entries take time n log n; one entry alone, as most
@@ -110,8 +109,7 @@ fn joined_by_halves<E: PortEntry>(
             let (front, back) = entries.split_at(entries.len() / 2);
             let first = joined_by_halves(alloc, front, destination)?;
             let second = joined_by_halves(alloc, back, destination)?;
-            let joined = first.join(&second)?;
-            Ok(joined)
+            first.join(&second)
         }
     }
 }
@@ -151,24 +149,23 @@ fn named_at(alloc: Global, name: &str, end: &EndView<'_>) -> Result<ConnSet, NoM
     ensures { IfOk result (λ made. (spot : PortSpot) → has_spot made spot ≡ spec.has_named name.now spot (end_view end.now)) }
 {
     let tcp = named_of_protocol(alloc, Proto::Tcp, name, end)?;
-    let more = with_named(alloc, tcp, Proto::Udp, name, end)?;
-    with_named(alloc, more, Proto::Sctp, name, end)
+    let more = with_named(alloc, &tcp, Proto::Udp, name, end)?;
+    with_named(alloc, &more, Proto::Sctp, name, end)
 }
 
 // A set with the ports of that name at the end, of one protocol, beside its own.
 fn with_named(
     alloc: Global,
-    set: ConnSet,
+    set: &ConnSet,
     proto: Proto,
     name: &str,
     end: &EndView<'_>,
 ) -> Result<ConnSet, NoMemory>
     ensures { IfOk result (λ made. (spot : PortSpot) → has_spot made spot
-        ≡ (has_spot set spot || (same_proto spot.proto proto && spec.has_named name.now spot (end_view end.now)))) }
+        ≡ (has_spot set.now spot || (same_proto spot.proto proto && spec.has_named name.now spot (end_view end.now)))) }
 {
     let named = named_of_protocol(alloc, proto, name, end)?;
-    let joined = set.join(&named)?;
-    Ok(joined)
+    set.join(&named)
 }
 
 // The numbers of the ports of that name and protocol.

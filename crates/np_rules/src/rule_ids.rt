@@ -9,7 +9,7 @@ use std::alloc::Global;
 
 /// A rule, by the place of its policy in the estate's list and its own place among the policy's rules of the direction,
 /// both from 0. The baseline, of which there is one at most, has the place 0.
-#[derive(Clone, Copy, Debug, PartialEq, Eq)]
+#[derive(Clone, Copy, PartialEq, Eq)]
 pub struct RuleId {
     pub policy: u32,
     pub place: u64,
@@ -17,7 +17,7 @@ pub struct RuleId {
 
 /// The rules that speak of a pod in a direction, place by place those of its layers, and the NetworkPolicies that
 /// isolate it, by their places in the estate's list.
-#[derive(Debug, Drop)]
+#[derive(Drop)]
 pub struct LayerRules {
     pub admin: Seq<RuleId>,
     pub net: Seq<RuleId>,

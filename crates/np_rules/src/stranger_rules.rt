@@ -44,7 +44,6 @@ impl<'a> RuleConns<'a> {
 /// The rules that speak of a pod in a direction, found once, to be looked at with many pods that nobody has written yet.
 /// Such a pod has no named ports, so that the protocols and ports of a rule of a NetworkPolicy are the same with each:
 /// they are made once too. Contracts see the estate's lists, the pod's place among its pods, and the direction.
-#[derive(Drop)]
 pub struct StrangerRules<'a> {
     estate: &'a Estate,
     pod: u32,
@@ -53,6 +52,21 @@ pub struct StrangerRules<'a> {
     isolated: bool,
     net: Vec<RuleConns<'a>>,
     base: &'a [AdminRule],
+}
+
+// Written out, so that letting one go is one call.
+impl<'a> Drop for StrangerRules<'a> {
+    fn drop(self) {
+        let StrangerRules {
+            estate: _estate,
+            pod: _pod,
+            direction: _direction,
+            admin: _admin,
+            isolated: _isolated,
+            net: _net,
+            base: _base,
+        } = self;
+    }
 }
 
 impl<'a> Model for StrangerRules<'a> {
@@ -180,8 +194,7 @@ pub fn joined_set(alloc: Global, sets: &[&ConnSet]) -> Result<ConnSet, NoMemory>
             let (front, back) = sets.split_at(sets.len() / 2);
             let first = joined_set(alloc, front)?;
             let second = joined_set(alloc, back)?;
-            let joined = first.join(&second)?;
-            Ok(joined)
+            first.join(&second)
         }
     }
 }

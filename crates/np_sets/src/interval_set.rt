@@ -19,9 +19,16 @@ use std::marker::Model;
 /// A set of points, kept as the fewest ranges that have them. Contracts see it as the list of those ranges.
 /// They ascend, none is empty, and between two neighbours at least one point is missing, so sets of the same
 /// points are equal values. A set of at most two ranges takes no memory.
-#[derive(Debug, Drop)]
+#[derive(Debug)]
 pub struct IntervalSet<P: Point> {
     ranges: Ranges<P>,
+}
+
+// Written out: where a set is let go this is called, and not each function that lets one go has to tell whether its ranges lie in it.
+impl<P: Point> Drop for IntervalSet<P> {
+    fn drop(self) {
+        let IntervalSet { ranges: _ranges } = self;
+    }
 }
 
 impl<P: Point> Model for IntervalSet<P> {

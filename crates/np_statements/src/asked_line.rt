@@ -3,7 +3,7 @@
 use np_check::Question;
 
 /// What the statement of a line asks, with its ends found in a cluster.
-#[derive(Debug, Drop)]
+#[derive(Drop)]
 pub struct AskedLine {
     pub line: u64,
     pub question: Question,

@@ -3,7 +3,7 @@
 use np_check::StatementText;
 
 /// A statement at its line of a file, by the line's number from 1.
-#[derive(Debug, Drop)]
+#[derive(Drop)]
 pub struct StatementLine {
     pub line: u64,
     pub statement: StatementText,

@@ -25,10 +25,19 @@ use std::sync::ledger::Ledger;
 /// The flat policies of an estate, one for each group of workloads: those of one namespace whose pods have the same values of
 /// all keys of labels that some selector names. Groups are numbered from 0 by the first workload of each. A policy is made when
 /// it is asked for. Contracts see the lists of the estate.
-#[derive(Drop)]
 pub struct Flat<'a> {
     passing: Passing<'a>,
     groups: Classes,
+}
+
+// Written out, so that letting one go is one call.
+impl<'a> Drop for Flat<'a> {
+    fn drop(self) {
+        let Flat {
+            passing: _passing,
+            groups: _groups,
+        } = self;
+    }
 }
 
 impl<'a> Model for Flat<'a> {

@@ -19,11 +19,21 @@ use std::sync::ledger::Ledger;
 /// For each kind of workloads of an estate the rules of the pod that stands for it, as it sends and as it receives, and which
 /// kinds these let through at all. What they give between two workloads is made when it is asked for, and not kept. Contracts
 /// see the lists of the estate.
-#[derive(Drop)]
 pub(crate) struct Passing<'a> {
     alloc: Global,
     sides: Sides<'a>,
     reach: KindReach,
+}
+
+// Written out, so that letting one go is one call.
+impl<'a> Drop for Passing<'a> {
+    fn drop(self) {
+        let Passing {
+            alloc: _alloc,
+            sides: _sides,
+            reach: _reach,
+        } = self;
+    }
 }
 
 impl<'a> Model for Passing<'a> {

@@ -28,7 +28,6 @@ use std::sync::ledger::Ledger;
 /// all of them are held. Which policies select a pod is asked once for each kind of workloads, when its rules are first
 /// asked for. The rules are asked once for each source and each kind of destinations, and what they give is kept until the
 /// next source. Contracts see the rows, and as `due` an upper bound of the rules that are still to be looked at.
-#[derive(Drop)]
 pub struct Rows<'a> {
     alloc: Global,
     sides: Sides<'a>,
@@ -41,6 +40,21 @@ pub struct Rows<'a> {
     kept: RowCache,
     // Rows that were made and not given, the last one first.
     ready: Vec<Row>,
+}
+
+// Written out, so that letting one go is one call.
+impl<'a> Drop for Rows<'a> {
+    fn drop(self) {
+        let Rows {
+            alloc: _alloc,
+            sides: _sides,
+            reach: _reach,
+            place: _place,
+            end: _end,
+            kept: _kept,
+            ready: _ready,
+        } = self;
+    }
 }
 
 impl<'a> Model for Rows<'a> {

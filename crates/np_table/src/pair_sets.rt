@@ -80,10 +80,19 @@ pub fn set_by_kinds<L: Ledger>(
 }
 
 /// The rules of a pod that sends, and those of one that receives.
-#[derive(Drop)]
 pub(crate) struct PairEnds<'a> {
     pub sender: PodRules<'a>,
     pub receiver: PodRules<'a>,
+}
+
+// Written out, so that letting one go is one call.
+impl<'a> Drop for PairEnds<'a> {
+    fn drop(self) {
+        let PairEnds {
+            sender: _sender,
+            receiver: _receiver,
+        } = self;
+    }
 }
 
 /// The rules of the pods that stand for two workloads. `None` exactly where a workload of one pod meets itself.

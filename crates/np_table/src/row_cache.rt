@@ -10,7 +10,7 @@ use std::alloc::Global;
 use std::marker::Model;
 
 /// What a row of two workloads has besides its ends.
-#[derive(Debug, Drop)]
+#[derive(Drop)]
 pub struct CachedConns {
     pub family: Option<Family>,
     pub conns: ConnSet,

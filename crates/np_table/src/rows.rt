@@ -5,14 +5,14 @@ use np_base::{Range, V4, V6};
 use np_conns::ConnSet;
 
 /// A range of addresses of one family, ends included.
-#[derive(Debug, Clone, Copy, PartialEq, Eq)]
+#[derive(Clone, Copy, PartialEq, Eq)]
 pub enum AddressSpan {
     Four(Range<V4>),
     Six(Range<V6>),
 }
 
 /// An end of a row: a workload by its number, a range of addresses, or the controller of Ingresses.
-#[derive(Debug, Clone, Copy, PartialEq, Eq)]
+#[derive(Clone, Copy, PartialEq, Eq)]
 pub enum RowEnd {
     Work(u32),
     Span(AddressSpan),
@@ -20,7 +20,7 @@ pub enum RowEnd {
 }
 
 /// The two ends of a row.
-#[derive(Debug, Clone, Copy, PartialEq, Eq)]
+#[derive(Clone, Copy, PartialEq, Eq)]
 pub struct RowKey {
     pub source: RowEnd,
     pub destination: RowEnd,
@@ -28,7 +28,7 @@ pub struct RowKey {
 
 /// A row: what its source may send to its destination. `family` is there exactly where the row is of one family of two,
 /// since the other differs.
-#[derive(Debug, Drop)]
+#[derive(Drop)]
 pub struct Row {
     pub key: RowKey,
     pub family: Option<Family>,
@@ -36,7 +36,7 @@ pub struct Row {
 }
 
 /// A range of addresses, and what passes between each of them and a workload.
-#[derive(Debug, Drop)]
+#[derive(Drop)]
 pub struct AddressRow {
     pub span: AddressSpan,
     pub conns: ConnSet,

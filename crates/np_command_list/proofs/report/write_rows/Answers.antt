@@ -43,17 +43,6 @@ loop-gathered-preserved g c =
       most = omega (arith, c.loop-gathered.invariant.most, c.in_ok-row.ensures.counted);
     }
 
-pub loop-gathered-preserved-in_ok-put : goal.loop-gathered-preserved-in_ok-put
-loop-gathered-preserved-in_ok-put g c =
-    let came : c.loop-gathered.rows.rows ≡ c.in-Some.row ∷ c.next.new.self.rows = rw c.in-Some.is at c.in_ok-row.ensures.given in
-    let left = HasLeft-row _ _ _ _ _ _ _ _ _ _ _ _ c.loop-gathered.invariant.left _ _ came in
-    let put = rw (c.deref.ensures.value, c.in_ok-line.ensures) at c.in_ok-put.ensures.put in
-    record {
-      left = rw c.keeps-came.ensures (HasLeft-next _ _ _ _ _ _ _ _ _ _ _ left put c.in_ok-put.ensures.ok_faults);
-      least = omega (arith, c.loop-gathered.invariant.least, c.in_ok-row.ensures.least);
-      most = omega (arith, c.loop-gathered.invariant.most, c.in_ok-row.ensures.counted);
-    }
-
 pub returns-in_err-put-2-clause-written : goal.returns-in_err-put-2-clause-written
 returns-in_err-put-2-clause-written g c =
     let p = err_from_is_err_and c.from_residual-in_err-put-2.result c.from_residual-in_err-put-2.ensures.1 in

@@ -4,16 +4,6 @@ use Rattle.np_command_sample.proofs.report.tally_of.Goals as goal
 use Rattle.np_command_sample.specs.Report.{counted}
 use Rattle.np_command.proofs.StepLemmas.{none_given}
 
-pub loop-rows-preserved-in-Some : goal.loop-rows-preserved-in-Some
-loop-rows-preserved-in-Some g c =
-    let came : c.loop-rows.rows.rows ≡ c.in-Some.row ∷ c.next.new.self.rows = rw c.in-Some.is at c.in_ok-row.ensures.given in
-    record {
-      counts = counted-more c.loop-rows.tally c.count.new.self c.in-Some.row c.next.new.self.rows c.loop-rows.rows.rows came c.count.ensures ∙ c.loop-rows.invariant.counts;
-      few = few-more c.loop-rows.tally c.count.new.self c.in-Some.row c.next.new.self.rows c.loop-rows.rows.rows _ came c.count.ensures c.loop-rows.invariant.few;
-      least = omega (arith, c.loop-rows.invariant.least, c.in_ok-row.ensures.least);
-      most = omega (arith, c.loop-rows.invariant.most, c.in_ok-row.ensures.counted);
-    }
-
 pub loop-rows-preserved : goal.loop-rows-preserved
 loop-rows-preserved g c =
     let came : c.loop-rows.rows.rows ≡ c.in-Some.row ∷ c.next.new.self.rows = rw c.in-Some.is at c.in_ok-row.ensures.given in

@@ -3,48 +3,37 @@ use Rattle.std.proofs.lemmas.List.Sorted.{IsNonDecreasingBy-from_sort_by_key}
 use Rattle.std.specs.List.Sorted.{IsNonDecreasingBy, IsPermutation}
 use Rattle.np_explain.proofs.PartLemmas.{entry_marks, right_parts}
 use Rattle.np_explain.proofs.WalkLemmas.{says_of}
-use Rattle.np_explain.proofs.explaining.pod_parts.Goals as goal
+use Rattle.np_explain.proofs.explaining.parts_with.Goals as goal
 use Rattle.np_explain.specs.Marks.{IsMarkOf, named_part}
 use Rattle.np_explain.specs.Order.{first_number}
 use Rattle.np_explain.specs.Parts.{AreRightParts}
-use Rattle.np_explain.specs.Sides.{decider_near, with_end}
+use Rattle.np_explain.specs.Sides.{with_end}
 use Rattle.np_explain.specs.declared.part.Part.{Part}
-use Rattle.np_model.specs.Lawful.{IsLawful}
 use Rattle.np_rules.specs.Deciders.{decider}
 use Rattle.np_rules.specs.PodSides.{PodSide, near_pod}
 use Rattle.np_rules.specs.model.Ends.{pod}
-use Rattle.np_rules.specs.declared.packet.End.{End}
-use Rattle.np_rules.specs.declared.packet.End.TheVariants.{Pod}
 
-pub of-requires-2-clause-says : goal.of-requires-2-clause-says
-of-requires-2-clause-says g c = says_of c.in_ok-rules.rules _ c.in_ok-layer.layer c.in_ok-layer.ensures.layer
+pub of-requires-clause-says : goal.of-requires-clause-says
+of-requires-clause-says g c = says_of c.args.rules.now _ c.in_ok-layer.layer c.in_ok-layer.ensures.layer
 
 pub named_parts-requires : goal.named_parts-requires
 named_parts-requires g c =
-    let side = c.in_ok-rules.rules in
-    let flow = c.args.flow.now in
-    let far = c.far.result in
-    let lawful = subst (λ (s : PodSide). IsLawful s.lists) (sym c.in_ok-rules.ensures) c.requires.lawful in
+    let side = c.args.rules.now in
     let carved = c.in_ok-entries.ensures in
     subst (λ (s : PodSide). All (λ entry. IsMarkOf s entry.mark) c.in_ok-entries.entries) (sym c.in_ok-side.ensures)
-    (entry_marks side (with_end far flow.family side) c.in_ok-layer.layer c.in_ok-entries.entries lawful c.in_ok-layer.ensures.layer
+    (entry_marks side (with_end c.args.far c.args.family side) c.in_ok-layer.layer c.in_ok-entries.entries c.requires.lawful c.in_ok-layer.ensures.layer
     (record { marks = carved.marks; exact = carved.exact; distinct = carved.distinct; some_spot = carved.some_spot; well = carved.well }))
 
 pub returns-clause-parts : goal.returns-clause-parts
 returns-clause-parts g c =
-    let side = c.in_ok-rules.rules in
-    let flow = c.args.flow.now in
-    let far = c.far.result in
-    let lawful = subst (λ (s : PodSide). IsLawful s.lists) (sym c.in_ok-rules.ensures) c.requires.lawful in
+    let side = c.args.rules.now in
     let carved = c.in_ok-entries.ensures in
     let moved : IsPermutation (map (named_part side) c.in_ok-entries.entries) c.sort_unstable_by_key.new.self.items = subst
     (λ (s : PodSide). IsPermutation (map (named_part s) c.in_ok-entries.entries) c.sort_unstable_by_key.new.self.items) c.in_ok-side.ensures
     (subst (λ (before : List Part). IsPermutation before c.sort_unstable_by_key.new.self.items) c.in_ok-parts.ensures c.sort_unstable_by_key.ensures.permutation) in
     let ordered : IsNonDecreasingBy (λ part. first_number part.conns) c.sort_unstable_by_key.new.self.items = IsNonDecreasingBy-from_sort_by_key
     (λ part. first_number part.conns) _ c.sort_unstable_by_key.ensures.sorted (λ a r q k. search rules) in
-    subst (λ (f : End). AreRightParts (decider_near c.args.estate.now c.args.direction (Pod c.args.pod) f flow.family) c.from_vec.result) c.far.ensures
-    (subst (λ (s : PodSide). AreRightParts (λ spot. decider s.lists s.direction (pod (near_pod s)) (with_end far flow.family s spot)) c.from_vec.result) c.in_ok-rules.ensures
-    (subst (AreRightParts (λ spot. decider side.lists side.direction (pod (near_pod side)) (with_end far flow.family side spot))) (sym c.from_vec.ensures)
-    (right_parts side (with_end far flow.family side) c.in_ok-layer.layer c.in_ok-entries.entries lawful c.in_ok-layer.ensures.layer
+    subst (AreRightParts (λ spot. decider side.lists side.direction (pod (near_pod side)) (with_end c.args.far c.args.family side spot))) (sym c.from_vec.ensures)
+    (right_parts side (with_end c.args.far c.args.family side) c.in_ok-layer.layer c.in_ok-entries.entries c.requires.lawful c.in_ok-layer.ensures.layer
     (record { marks = carved.marks; exact = carved.exact; distinct = carved.distinct; some_spot = carved.some_spot; well = carved.well })
-    c.sort_unstable_by_key.new.self.items moved ordered)))
+    c.sort_unstable_by_key.new.self.items moved ordered)

@@ -1,0 +1,9 @@
+use Rattle.std.proofs.Common.{Bool, ap, ◌∙◌}
+use Rattle.std.proofs.lemmas.Result.{IfOk-weaker}
+use Rattle.np_conns.specs.Conns.{Conns, has_spot}
+use Rattle.np_rules.proofs.port_sets.joined_set.Goals as goal
+
+pub returns : goal.returns
+returns g c = IfOk-weaker c.copy.result _ _
+    (λ made equal spot inside. ap (λ (set : Conns). has_spot set spot) equal ∙ c.in_ok-joined.ensures spot inside)
+    c.copy.ensures.equal
