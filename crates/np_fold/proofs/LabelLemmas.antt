@@ -76,6 +76,10 @@ pair_of label = pair_with label.key label.value
 abbrev pub label_of_pair : Pair → Label
 label_of_pair pair = label_with pair.key pair.value
 
+-- a label of the key and value of a pair
+pub label-made : (label : Label) (pair : Pair) → label.key ≡ pair.key → label.value ≡ pair.value → label ≡ label_of_pair pair
+label-made label pair same equal = ap (λ (key : List ℕ). label_with key label.value) same ∙ ap (label_with pair.key) equal
+
 abbrev pairs_at : List (List ℕ) → List Pair → List Pair
 pairs_at keys pairs = filter_map (λ key. option_map (pair_with key) (value_of pairs key)) keys
 

@@ -67,59 +67,67 @@ workload-last before after key name members is new put =
 -- ---- workloads in the order of their names
 
 -- names of an ascending list stand below those after them
-below-later : (name : List ℕ) (pairs : List (Named × List ℕ)) (i : ℕ) (one : Named × List ℕ) → AllByRecursion (λ other. slice_cmp nat_cmp name other ≡ Less) (map (λ pair. pair.0.name) pairs) →
-    i < length pairs → slice_cmp nat_cmp name (get_or pairs i one).0.name ≡ Less
+below-later : (name : List ℕ) (named : List Named) (i : ℕ) (one : Named) → AllByRecursion (λ other. slice_cmp nat_cmp name other ≡ Less) (map (λ other. other.name) named) →
+    i < length named → slice_cmp nat_cmp name (get_or named i one).name ≡ Less
 below-later name [] i one below within = absurd (omega arith)
-below-later name (pair ∷ pairs) zero one below within = below.0
-below-later name (pair ∷ pairs) (suc i) one below within = below-later name pairs i one below.1 (omega arith)
+below-later name (first ∷ named) zero one below within = below.0
+below-later name (first ∷ named) (suc i) one below within = below-later name named i one below.1 (omega arith)
 
 -- so each is new
-name-new : (pairs : List (Named × List ℕ)) (i : ℕ) (one : Named × List ℕ) → IsStrictlySortedBy (slice_cmp nat_cmp) (map (λ pair. pair.0.name) pairs) → i < length pairs → one ≡ get_or pairs i one →
-    AllByRecursion (λ other. other.name ≢ one.0.name) (map workload_of_pair (take i pairs))
+name-new : (named : List Named) (so_far : List (List ℕ)) (one : Named) → IsStrictlySortedBy (slice_cmp nat_cmp) (map (λ other. other.name) named) → length so_far < length named
+    → one ≡ get_or named (length so_far) one → AllByRecursion (λ other. other.name ≢ one.name) (map workload_of_pair (zip named so_far))
 unfolding IsStrictlySortedBy
-name-new [] i one ascending within is = absurd (omega arith)
-name-new (pair ∷ pairs) zero one ascending within is = tt
-name-new (pair ∷ pairs) (suc i) one ascending within is = (apart, name-new pairs i one ascending.1 (omega arith) is)
+name-new [] so_far one ascending within is = absurd (omega arith)
+name-new (first ∷ named) [] one ascending within is = tt
+name-new (first ∷ named) (members ∷ so_far) one ascending within is = (apart, name-new named so_far one ascending.1 (omega arith) is)
   where
-    apart : pair.0.name ≢ one.0.name
+    apart : first.name ≢ one.name
     apart same =
-        let less : slice_cmp nat_cmp pair.0.name (get_or pairs i one).0.name ≡ Less = below-later pair.0.name pairs i one ascending.0 (omega arith) in
-        let tie : slice_cmp nat_cmp pair.0.name pair.0.name ≡ Equal = tied_itself nat_list_cmp_total pair.0.name in
-        let other : (get_or pairs i one).0.name ≡ pair.0.name = ap (λ (p : Named × List ℕ). p.0.name) (sym is) ∙ sym same in
-        let both : slice_cmp nat_cmp pair.0.name (get_or pairs i one).0.name ≡ Equal = ap (slice_cmp nat_cmp pair.0.name) other ∙ tie in
+        let less : slice_cmp nat_cmp first.name (get_or named (length so_far) one).name ≡ Less = below-later first.name named (length so_far) one ascending.0 (omega arith) in
+        let tie : slice_cmp nat_cmp first.name first.name ≡ Equal = tied_itself nat_list_cmp_total first.name in
+        let other : (get_or named (length so_far) one).name ≡ first.name = ap (λ (o : Named). o.name) (sym is) ∙ sym same in
+        let both : slice_cmp nat_cmp first.name (get_or named (length so_far) one).name ≡ Equal = ap (slice_cmp nat_cmp first.name) other ∙ tie in
         cc
 
-names-zip : (named : List Named) (members : List (List ℕ)) → length members ≡ length named → map (λ (pair : Named × List ℕ). pair.0.name) (zip named members) ≡ map (λ (one : Named). one.name) named
-names-zip [] members count = refl
-names-zip (one ∷ named) [] count = absurd (omega (arith, count))
-names-zip (one ∷ named) (first ∷ members) count = ap (λ (names : List (List ℕ)). one.name ∷ names) (names-zip named members (omega (arith, count)))
+-- as many workloads as members so far
+workloads-so_far : (named : List Named) (so_far : List (List ℕ)) → length so_far < length named → length (map workload_of_pair (zip named so_far)) ≡ length so_far
+workloads-so_far [] so_far within = absurd (omega arith)
+workloads-so_far (first ∷ named) [] within = refl
+workloads-so_far (first ∷ named) (members ∷ so_far) within = ap suc (workloads-so_far named so_far (omega arith))
 
--- a list of pairs of its parts
-pub pairs-same : (pairs : List (Named × List ℕ)) → map (λ (pair : Named × List ℕ). (pair.0, pair.1)) pairs ≡ pairs
-pairs-same [] = refl
-pairs-same (pair ∷ pairs) = ap (λ (others : List (Named × List ℕ)). pair ∷ others) (pairs-same pairs)
+pub entries-so_far : (named : List Named) (so_far : List (List ℕ)) (entries : List (String Global × List ℕ)) → map workload_of_entry entries ≡ map workload_of_pair (zip named so_far)
+    → length so_far < length named → length entries ≡ length so_far
+entries-so_far named so_far entries made within = sym (length-map entries workload_of_entry) ∙ ap length made ∙ workloads-so_far named so_far within
 
 -- as many lists of members as things
 pub members-count : (numbers : List ℕ) (named items : List Named) (members : List (List ℕ)) → members ≡ map (numbered numbers) (places (length items)) → items ≡ named → length members ≡ length named
 members-count numbers named items members are is = ap length are ∙ length-map-range_with_len (numbered numbers) 0 (length items) ∙ ap length is
 
+-- members as they are
+pub members-same : (members : List (List ℕ)) → map (λ (one : List ℕ). one) members ≡ members
+members-same [] = refl
+members-same (first ∷ members) = ap (λ (others : List (List ℕ)). first ∷ others) (members-same members)
+
+-- no members make no workloads
+pub no-workloads : (named : List Named) → map workload_of_pair (zip {X = List ℕ} named []) ≡ []
+no-workloads [] = refl
+no-workloads (first ∷ named) = refl
+
 -- one more workload
-pub workloads-more : (so_far : List (Named × List ℕ)) (one : Named) (members : List ℕ) (workloads : List Workload) → workloads ≡ map workload_of_pair so_far →
-    workloads ++ workload_of one.name members ∷ [] ≡ map workload_of_pair (so_far ++ (one, members) ∷ [])
-workloads-more so_far one members workloads are = rw are (sym (map-append workload_of_pair so_far ((one, members) ∷ [])))
+pub workloads-more : (named : List Named) (so_far : List (List ℕ)) (members : List ℕ) (one : Named) → length so_far < length named → one ≡ get_or named (length so_far) one →
+    map workload_of_pair (zip named so_far) ++ workload_of one.name members ∷ [] ≡ map workload_of_pair (zip named (so_far ++ members ∷ []))
+workloads-more [] so_far members one within is = absurd (omega arith)
+workloads-more (first ∷ named) [] members one within is =
+    ap (λ (other : Named). workload_of other.name members ∷ []) is ∙ ap (λ (others : List Workload). workload_of first.name members ∷ others) (sym (no-workloads named))
+workloads-more (first ∷ named) (earlier ∷ so_far) members one within is =
+    ap (λ (others : List Workload). workload_of first.name earlier ∷ others) (workloads-more named so_far members one (omega arith) is)
 
 -- the next name is none of those so far
-pub next-new : (named : List Named) (members : List (List ℕ)) (so_far : List (Named × List ℕ)) (workloads : List Workload) (one : Named × List ℕ) →
-    IsStrictlySortedBy (slice_cmp nat_cmp) (map (λ other. other.name) named) → length members ≡ length named
-    → workloads ≡ map workload_of_pair so_far → map (λ (pair : Named × List ℕ). (pair.0, pair.1)) so_far ≡ take (length so_far) (zip named members) → length so_far < length (zip named members) → one
-    ≡ get_or (zip named members) (length so_far) one
-    → All (λ other. other.name ≢ one.0.name) workloads
-next-new named members so_far workloads one ascending count made taken within is =
-    let pairs : IsStrictlySortedBy (slice_cmp nat_cmp) (map (λ (pair : Named × List ℕ). pair.0.name) (zip named members)) = rw (names-zip named members count) ascending in
-    let before : workloads ≡ map workload_of_pair (take (length so_far) (zip named members)) = made ∙ ap (map workload_of_pair) (sym (pairs-same so_far) ∙ taken) in
-    subst (All (λ other. other.name ≢ one.0.name)) (sym before)
-    (All-from_recursion (λ (other : Workload). other.name ≢ one.0.name) (map workload_of_pair (take (length so_far) (zip named members)))
-    (name-new (zip named members) (length so_far) one pairs within is))
+pub next-new : (named : List Named) (so_far : List (List ℕ)) (workloads : List Workload) (one : Named) → IsStrictlySortedBy (slice_cmp nat_cmp) (map (λ other. other.name) named)
+    → workloads ≡ map workload_of_pair (zip named so_far) → length so_far < length named → one ≡ get_or named (length so_far) one → All (λ other. other.name ≢ one.name) workloads
+next-new named so_far workloads one ascending made within is =
+    subst (All (λ other. other.name ≢ one.name)) (sym made)
+    (All-from_recursion (λ (other : Workload). other.name ≢ one.name) (map workload_of_pair (zip named so_far)) (name-new named so_far one ascending within is))
 
 -- ---- all workloads
 

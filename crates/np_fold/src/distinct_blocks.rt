@@ -15,11 +15,19 @@ pub(crate) fn distinct_cidrs(alloc: Global, estate: &Estate) -> Result<Seq<Cidr>
     ensures { IfOk result (λ made. folded.HaveSame made (cidrs_of_estate estate.now)) }
 {
     let listed = listed_cidrs(alloc, estate)?;
-    let mut distinct = Seq::new(alloc);
-    for start in starts_of(alloc, listed.items())? {
-        distinct.push(block_at(start))?;
+    let starts = starts_of(alloc, listed.items())?;
+    blocks_of(alloc, starts)
+}
+
+// The blocks of starts, in order.
+fn blocks_of(alloc: Global, starts: BTreeSet<(Address, u8)>) -> Result<Seq<Cidr>, NoMemory>
+    ensures { IfOk result (λ made. made ≡ map folded.block_at starts.keys) }
+{
+    let mut blocks = Seq::new(alloc);
+    for start in starts {
+        blocks.push(block_at(start))?;
     }
-    Ok(distinct)
+    Ok(blocks)
 }
 
 // The starts of blocks, each once.

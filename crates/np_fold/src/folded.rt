@@ -12,10 +12,19 @@ use std::marker::Model;
 
 /// An estate with its workloads, which travel together. Contracts see it as the lists of the estate: they are lawful,
 /// and the workloads are `folding_of` them.
-#[derive(Debug, Drop)]
 pub struct Folded {
     estate: Estate,
     workloads: Workloads,
+}
+
+// Written out, so that letting one go is one call.
+impl Drop for Folded {
+    fn drop(self) {
+        let Folded {
+            estate: _estate,
+            workloads: _workloads,
+        } = self;
+    }
 }
 
 impl Model for Folded {
@@ -41,8 +50,10 @@ impl Folded {
         ensures many { (count : ℕ) → result ≡ Err (TooManyWorkloads count) →
             (MOST_WORKLOADS < spec.workload_count estate) × (count ≡ spec.workload_count estate) }
     {
-        let workloads = Workloads::of(alloc, &estate)?;
-        Ok(Folded { estate, workloads })
+        match Workloads::of(alloc, &estate) {
+            Ok(workloads) => Ok(Folded { estate, workloads }),
+            Err(fault) => Err(fault),
+        }
     }
 
     /// The estate. It is lawful.

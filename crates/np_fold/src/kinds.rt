@@ -10,7 +10,7 @@ ghost use Rattle.np_fold.specs.Keys.{keys_of_estate};
 ghost use Rattle.np_fold.specs.Workloads as spec;
 ghost use Rattle.np_labels.specs.Selectors.{is_listed};
 
-use crate::traits::Traits;
+use crate::traits::{Traits, traits_with};
 use np_addr::Cidr;
 use np_base::{NoMemory, Seq, Text};
 use np_classes::Classes;
@@ -58,27 +58,17 @@ fn traits_by_name(
     let mut made = Seq::new(alloc);
     for one in named {
         let first = firsts[one.place as usize];
-        made.push(kind_traits(alloc, &pods[first as usize], keys, cidrs)?)?;
+        made.push(traits_with(alloc, &pods[first as usize], nobody(alloc), keys, cidrs)?)?;
     }
     Ok(made)
 }
 
-// What rules see of a pod, without its owner.
-fn kind_traits(alloc: Global, pod: &Pod, keys: &[Text], cidrs: &[Cidr]) -> Result<Traits, NoMemory>
-    requires { IsStrictlySortedBy (slice_cmp nat_cmp) keys.now }
-    ensures { IfOk result (λ made. made ≡ folded.kind_traits keys.now cidrs.now pod.now) }
-{
-    let mut traits = Traits::of(alloc, pod, keys, cidrs)?;
-    traits.owner = nobody(alloc)?;
-    Ok(traits)
-}
-
 // An owner of no name.
-fn nobody(alloc: Global) -> Result<Owner, NoMemory>
-    ensures { IfOk result (λ owner. owner ≡ folded.nobody) }
+fn nobody(alloc: Global) -> Owner
+    ensures { result ≡ folded.nobody }
 {
-    Ok(Owner {
-        kind: Text::of(alloc, "")?,
-        name: Text::of(alloc, "")?,
-    })
+    Owner {
+        kind: Text::from_string(String::new(alloc)),
+        name: Text::from_string(String::new(alloc)),
+    }
 }

@@ -18,20 +18,21 @@ use std::alloc::Global;
 /// ascend strictly, so each is a new one, and the map keeps their order.
 pub(crate) fn members_by_name(
     alloc: Global,
-    named: Seq<Named>,
+    named: &[Named],
     numbers: &[u32],
 ) -> Result<IndexMap<String, Seq<u32>>, NoMemory>
-    requires few { length named < 2 ^ 32 }
+    requires few { length named.now < 2 ^ 32 }
     requires pods { length numbers.now < 2 ^ 32 }
-    requires within { All (λ number. number < length named) numbers.now }
-    requires names { IsStrictlySortedBy (slice_cmp nat_cmp) (map (λ one. one.name) named) }
+    requires within { All (λ number. number < length named.now) numbers.now }
+    requires names { IsStrictlySortedBy (slice_cmp nat_cmp) (map (λ one. one.name) named.now) }
     ensures { IfOk result (λ made. map spec.workload_of_entry made.entries
-        ≡ map folded.workload_of_pair (zip named (map (numbered numbers.now) (places (length named))))) }
+        ≡ map folded.workload_of_pair (zip named.now (map (numbered numbers.now) (places (length named.now))))) }
 {
-    let members = groups(alloc, numbers, named.items().len() as u32)?;
+    let groups = groups(alloc, numbers, named.len() as u32)?;
     let mut by_name = IndexMap::new(alloc);
-    for (one, members) in named.into_vec().into_iter().zip(members.into_vec()) {
-        put_last(alloc, &mut by_name, &one.name, members)?;
+    for members in groups.into_vec() {
+        let place = by_name.len();
+        put_last(alloc, &mut by_name, &named[place].name, members)?;
     }
     Ok(by_name)
 }

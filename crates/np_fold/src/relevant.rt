@@ -1,5 +1,5 @@
 //! The keys of labels that rules look at.
-ghost use Rattle.std.specs.Prelude.{◌≡◌, [], List, ℕ, IfOk, OnOk};
+ghost use Rattle.std.specs.Prelude.{◌≡◌, ◌++◌, [], List, ℕ, IfOk, OnOk};
 ghost use Rattle.std.specs.List.{flat_map};
 ghost use Rattle.std.specs.List.Sorted.{IsStrictlySortedBy};
 ghost use Rattle.std.specs.Option.{option_copied};
@@ -126,18 +126,14 @@ fn add_admin_policies(keys: &mut BTreeSet<Text>, policies: &[AdminPolicy]) -> Re
         ≡ spec.with_keys keys.old.keys (flat_map spec.keys_of_admin_policy policies.now)) }
 {
     for policy in policies {
-        add_admin_policy(keys, policy)?;
+        add_admin(
+            keys,
+            &policy.subject,
+            policy.ingress.items(),
+            policy.egress.items(),
+        )?;
     }
     Ok(())
-}
-
-// Adds the keys of an AdminNetworkPolicy.
-fn add_admin_policy(keys: &mut BTreeSet<Text>, policy: &AdminPolicy) -> Result<(), NoMemory>
-    ensures { OnOk result (keys.new.keys ≡ spec.with_keys keys.old.keys (spec.keys_of_admin_policy policy.now)) }
-{
-    add_subject(keys, &policy.subject)?;
-    add_admin_rules(keys, policy.ingress.items())?;
-    add_admin_rules(keys, policy.egress.items())
 }
 
 // Adds the keys of the BaselineAdminNetworkPolicy, where there is one.
@@ -146,18 +142,29 @@ fn add_baseline(keys: &mut BTreeSet<Text>, policy: Option<&BasePolicy>) -> Resul
         ≡ spec.with_keys keys.old.keys (spec.keys_of_baseline (option_copied policy.entry))) }
 {
     match policy {
-        Some(policy) => add_base_policy(keys, policy),
+        Some(policy) => add_admin(
+            keys,
+            &policy.subject,
+            policy.ingress.items(),
+            policy.egress.items(),
+        ),
         None => Ok(()),
     }
 }
 
-// Adds the keys of a BaselineAdminNetworkPolicy.
-fn add_base_policy(keys: &mut BTreeSet<Text>, policy: &BasePolicy) -> Result<(), NoMemory>
-    ensures { OnOk result (keys.new.keys ≡ spec.with_keys keys.old.keys (spec.keys_of_base_policy policy.now)) }
+// Adds the keys of the subject and of the rules of a policy for the whole cluster.
+fn add_admin(
+    keys: &mut BTreeSet<Text>,
+    subject: &Subject,
+    ingress: &[AdminRule],
+    egress: &[AdminRule],
+) -> Result<(), NoMemory>
+    ensures { OnOk result (keys.new.keys ≡ spec.with_keys keys.old.keys (spec.keys_of_subject subject.now
+        ++ flat_map spec.keys_of_admin_rule ingress.now ++ flat_map spec.keys_of_admin_rule egress.now)) }
 {
-    add_subject(keys, &policy.subject)?;
-    add_admin_rules(keys, policy.ingress.items())?;
-    add_admin_rules(keys, policy.egress.items())
+    add_subject(keys, subject)?;
+    add_admin_rules(keys, ingress)?;
+    add_admin_rules(keys, egress)
 }
 
 // Adds the keys of a subject.

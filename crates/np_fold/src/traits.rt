@@ -15,14 +15,13 @@ use np_model::{NamedPort, Owner, Pod};
 use std::alloc::Global;
 
 /// A label that rules see. Labels are ordered by their keys, and those of one key by their values.
-#[derive(Debug, Drop, PartialEq, Eq, PartialOrd, Ord)]
+#[derive(Drop, PartialEq, Eq, PartialOrd, Ord)]
 pub struct Label {
     pub key: Text,
     pub value: Text,
 }
 
 /// What rules see of a pod, and its top owner. Pods with equal traits are alike.
-#[derive(Debug, Drop)]
 pub struct Traits {
     pub namespace: Text,
     pub owner: Owner,
@@ -33,19 +32,27 @@ pub struct Traits {
     pub blocks: Seq<u64>,
 }
 
+// Written out, so that letting one go is one call.
+impl Drop for Traits {
+    fn drop(self) {
+        let Traits {
+            namespace: _namespace,
+            owner: _owner,
+            labels: _labels,
+            ports: _ports,
+            blocks: _blocks,
+        } = self;
+    }
+}
+
 impl Traits {
     /// The traits of a pod by these keys, which ascend, and these blocks.
     pub fn of(alloc: Global, pod: &Pod, keys: &[Text], cidrs: &[Cidr]) -> Result<Traits, NoMemory>
         requires { IsStrictlySortedBy (slice_cmp nat_cmp) keys.now }
         ensures { IfOk result (λ made. made ≡ spec.traits_of keys.now cidrs.now pod.now) }
     {
-        Ok(Traits {
-            namespace: pod.namespace.copy()?,
-            owner: pod.owner.try_copy(alloc)?,
-            labels: labels_of(alloc, pod.labels.pairs(), keys)?,
-            ports: pod.ports.try_copy(alloc)?,
-            blocks: blocks_of(alloc, &pod.addresses, cidrs)?,
-        })
+        let owner = pod.owner.try_copy(alloc)?;
+        traits_with(alloc, pod, owner, keys, cidrs)
     }
 
     /// The traits of pods by these keys, which ascend, and these blocks, in order.
@@ -66,6 +73,26 @@ impl Traits {
     }
 }
 
+/// The traits of a pod as if this were its owner, by these keys, which ascend, and these blocks.
+pub(crate) fn traits_with(
+    alloc: Global,
+    pod: &Pod,
+    owner: Owner,
+    keys: &[Text],
+    cidrs: &[Cidr],
+) -> Result<Traits, NoMemory>
+    requires { IsStrictlySortedBy (slice_cmp nat_cmp) keys.now }
+    ensures { IfOk result (λ made. made ≡ spec.with_owner owner (spec.traits_of keys.now cidrs.now pod.now)) }
+{
+    Ok(Traits {
+        owner,
+        namespace: pod.namespace.copy()?,
+        labels: labels_of(alloc, pod.labels.pairs(), keys)?,
+        ports: pod.ports.try_copy(alloc)?,
+        blocks: blocks_of(alloc, &pod.addresses, cidrs)?,
+    })
+}
+
 // The labels of these keys, in their order.
 fn labels_of(alloc: Global, pairs: &[Pair], keys: &[Text]) -> Result<Seq<Label>, NoMemory>
     requires pairs { HasAscendingKeys pairs.now }
@@ -75,13 +102,21 @@ fn labels_of(alloc: Global, pairs: &[Pair], keys: &[Text]) -> Result<Seq<Label>,
     let mut labels = Seq::new(alloc);
     for pair in pairs {
         if is_listed(keys, &pair.key) {
-            labels.push(Label {
-                key: pair.key.try_copy(alloc)?,
-                value: pair.value.try_copy(alloc)?,
-            })?;
+            labels.push(label_of(pair)?)?;
         }
     }
     Ok(labels)
+}
+
+// A pair as a label.
+fn label_of(pair: &Pair) -> Result<Label, NoMemory>
+    ensures key { IfOk result (λ made. made.key ≡ pair.now.key) }
+    ensures value { IfOk result (λ made. made.value ≡ pair.now.value) }
+{
+    Ok(Label {
+        key: pair.key.copy()?,
+        value: pair.value.copy()?,
+    })
 }
 
 // Whether a key is one of these. It is looked up by halves.

@@ -1,5 +1,5 @@
 //! The workloads of an estate.
-ghost use Rattle.std.specs.Prelude.{◌≡◌, ◌<◌, ◌≤◌, ◌^◌, [], ℕ, Err, IfOk, OnOk, length, slice_index};
+ghost use Rattle.std.specs.Prelude.{◌≡◌, ◌≢◌, ◌<◌, ◌≤◌, ◌^◌, [], ℕ, Err, IfOk, OnOk, length, slice_index};
 ghost use Rattle.np_fold.specs.Blocks.{cidrs_of_estate};
 ghost use Rattle.np_fold.specs.steps.Folded as folded;
 ghost use Rattle.np_fold.specs.Keys.{keys_of_estate, with_keys};
@@ -16,9 +16,10 @@ use crate::pod_classes::classes_of_pods;
 use crate::relevant::relevant_keys;
 use indexmap::IndexMap;
 use np_addr::Cidr;
-use np_base::{NoMemory, Seq, Text};
+use np_base::{Seq, Text};
 use np_classes::Classes;
 use np_model::Estate;
+use np_names::Named;
 use std::alloc::Global;
 use std::marker::Model;
 
@@ -28,7 +29,6 @@ pub const MOST_WORKLOADS: usize = 2000;
 /// The workloads of an estate: its pods in classes, so that pods of one class are alike to every rule and have one top
 /// owner. Workloads are numbered from 0 in the byte order of their names, and pods by their places in the estate.
 /// Contracts see them as a `Folding`, and that of an estate is `folding_of` it.
-#[derive(Debug, Drop)]
 pub struct Workloads {
     // The places of the pods of each, by name.
     by_name: IndexMap<String, Seq<u32>>,
@@ -37,6 +37,18 @@ pub struct Workloads {
     // The number of each workload's kind, and the first workload of each.
     kinds: Classes,
     relevant: Seq<Text>,
+}
+
+// Written out, so that letting one go is one call.
+impl Drop for Workloads {
+    fn drop(self) {
+        let Workloads {
+            by_name: _by_name,
+            numbers: _numbers,
+            kinds: _kinds,
+            relevant: _relevant,
+        } = self;
+    }
 }
 
 impl Model for Workloads {
@@ -72,14 +84,32 @@ impl Workloads {
     {
         let relevant = relevant_keys(alloc, estate)?;
         let cidrs = distinct_cidrs(alloc, estate)?;
-        let classes = classes_of_pods(alloc, estate, relevant.items(), cidrs.items())?;
+        Workloads::of_keys(alloc, estate, relevant, cidrs.items())
+    }
+
+    // The same, where the keys and blocks that tell pods apart are known.
+    fn of_keys(
+        alloc: Global,
+        estate: &Estate,
+        relevant: Seq<Text>,
+        cidrs: &[Cidr],
+    ) -> Result<Workloads, FoldFault>
+        requires pods { length estate.now.pods < 2 ^ 32 }
+        requires relevant { relevant ≡ with_keys [] (keys_of_estate estate.now) }
+        requires cidrs { folded.HaveSame cidrs.now (cidrs_of_estate estate.now) }
+        ensures folded { IfOk result (λ workloads. workloads ≡ spec.folding_of estate.now) }
+        ensures few { OnOk result (spec.workload_count estate.now ≤ MOST_WORKLOADS) }
+        ensures many { (count : ℕ) → result ≡ Err (TooManyWorkloads count) →
+            (MOST_WORKLOADS < spec.workload_count estate.now) × (count ≡ spec.workload_count estate.now) }
+    {
+        let classes = classes_of_pods(alloc, estate, relevant.items(), cidrs)?;
         let count = classes.firsts.items().len();
         if count > MOST_WORKLOADS {
             return Err(FoldFault::TooManyWorkloads {
                 count: count as u64,
             });
         }
-        Ok(Workloads::of_classes(alloc, estate, relevant, cidrs.items(), &classes)?)
+        Workloads::of_classes(alloc, estate, relevant, cidrs, &classes)
     }
 
     // The same, where the classes of alike pods are known and few.
@@ -89,26 +119,42 @@ impl Workloads {
         relevant: Seq<Text>,
         cidrs: &[Cidr],
         classes: &Classes,
-    ) -> Result<Workloads, NoMemory>
+    ) -> Result<Workloads, FoldFault>
         requires pods { length estate.now.pods < 2 ^ 32 }
         requires few { spec.workload_count estate.now ≤ MOST_WORKLOADS }
         requires relevant { relevant ≡ with_keys [] (keys_of_estate estate.now) }
         requires cidrs { folded.HaveSame cidrs.now (cidrs_of_estate estate.now) }
         requires firsts { classes.now.firsts ≡ spec.first_pods estate.now }
         requires numbers { classes.now.numbers ≡ folded.classes_of_pods estate.now }
-        ensures { IfOk result (λ workloads. workloads ≡ spec.folding_of estate.now) }
+        ensures folded { IfOk result (λ workloads. workloads ≡ spec.folding_of estate.now) }
+        ensures no_count { (count : ℕ) → result ≢ Err (TooManyWorkloads count) }
+    {
+        let named = first_pods_by_name(alloc, estate, classes.firsts.items())?;
+        Workloads::of_named(alloc, estate, relevant, cidrs, classes, named.items())
+    }
+
+    // The same, where the names of the workloads are known.
+    fn of_named(
+        alloc: Global,
+        estate: &Estate,
+        relevant: Seq<Text>,
+        cidrs: &[Cidr],
+        classes: &Classes,
+        named: &[Named],
+    ) -> Result<Workloads, FoldFault>
+        requires pods { length estate.now.pods < 2 ^ 32 }
+        requires few { spec.workload_count estate.now ≤ MOST_WORKLOADS }
+        requires relevant { relevant ≡ with_keys [] (keys_of_estate estate.now) }
+        requires cidrs { folded.HaveSame cidrs.now (cidrs_of_estate estate.now) }
+        requires firsts { classes.now.firsts ≡ spec.first_pods estate.now }
+        requires numbers { classes.now.numbers ≡ folded.classes_of_pods estate.now }
+        requires named { named.now ≡ spec.named_first_pods estate.now }
+        ensures folded { IfOk result (λ workloads. workloads ≡ spec.folding_of estate.now) }
+        ensures no_count { (count : ℕ) → result ≢ Err (TooManyWorkloads count) }
     {
         let firsts = classes.firsts.items();
-        let named = first_pods_by_name(alloc, estate, firsts)?;
-        let kinds = kinds_of_workloads(
-            alloc,
-            estate,
-            relevant.items(),
-            cidrs,
-            firsts,
-            named.items(),
-        )?;
-        let numbers = numbers_by_name(alloc, classes.numbers.items(), named.items())?;
+        let kinds = kinds_of_workloads(alloc, estate, relevant.items(), cidrs, firsts, named)?;
+        let numbers = numbers_by_name(alloc, classes.numbers.items(), named)?;
         let by_name = members_by_name(alloc, named, numbers.items())?;
         Ok(Workloads {
             by_name,

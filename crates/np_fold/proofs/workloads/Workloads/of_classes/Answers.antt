@@ -1,65 +1,6 @@
-use Rattle.std.proofs.Common.{◌≡◌, map, refl, ◌∙◌}
-use Rattle.np_fold.specs.Keys.{keys_of_estate}
-use Rattle.np_fold.specs.steps.Folded.{number_among}
-use Rattle.np_fold.specs.Workloads.{workload_of_entry}
+use Rattle.std.proofs.Common.{refl, ◌∙◌}
 use Rattle.np_fold.proofs.FoldLemmas.{firsts-in}
-use Rattle.np_fold.proofs.PartLemmas.{classes-in, folding-is, keys-agree, keys-ascend, kinds-few, names-ascend, names-few, numbers-few, numbers-in, numbers-made, places-in, workloads-few}
-use Rattle.np_fold.proofs.PartLemmas.{workloads-made}
 use Rattle.np_fold.proofs.workloads.Workloads.of_classes.Goals as goal
 
 pub first_pods_by_name-requires-clause-within : goal.first_pods_by_name-requires-clause-within
-first_pods_by_name-requires-clause-within c = firsts-in c.args.estate.now c.args.estate.now.pods c.items-firsts.result.now refl (c.items-firsts.ensures ∙ c.requires.firsts)
-
-pub kinds_of_workloads-requires-clause-few : goal.kinds_of_workloads-requires-clause-few
-kinds_of_workloads-requires-clause-few c = names-few c.args.estate.now c.requires.few c.items-2.result.now (c.items-2.ensures ∙ c.in_ok-named.ensures)
-
-pub kinds_of_workloads-requires-clause-keys : goal.kinds_of_workloads-requires-clause-keys
-kinds_of_workloads-requires-clause-keys c = keys-agree c.args.relevant c.items.result.now _ c.items.ensures c.requires.relevant
-
-pub kinds_of_workloads-requires-clause-ascending : goal.kinds_of_workloads-requires-clause-ascending
-kinds_of_workloads-requires-clause-ascending c = keys-ascend c.args.relevant c.items.result.now (keys_of_estate c.args.estate.now) c.items.ensures c.requires.relevant
-
-pub numbers_by_name-requires-clause-few : goal.numbers_by_name-requires-clause-few
-numbers_by_name-requires-clause-few c = names-few c.args.estate.now c.requires.few c.items-4.result.now (c.items-4.ensures ∙ c.in_ok-named.ensures)
-
-pub numbers_by_name-requires-clause-places : goal.numbers_by_name-requires-clause-places
-numbers_by_name-requires-clause-places c = places-in c.args.estate.now c.requires.few c.items-4.result.now (c.items-4.ensures ∙ c.in_ok-named.ensures)
-
-pub numbers_by_name-requires-clause-classes : goal.numbers_by_name-requires-clause-classes
-numbers_by_name-requires-clause-classes c = classes-in c.args.estate.now c.requires.few c.items-4.result.now (c.items-4.ensures ∙ c.in_ok-named.ensures) c.items-3.result.now
-    (c.items-3.ensures ∙ c.requires.numbers)
-
-pub members_by_name-requires-clause-few : goal.members_by_name-requires-clause-few
-members_by_name-requires-clause-few c = names-few c.args.estate.now c.requires.few c.in_ok-named.named c.in_ok-named.ensures
-
-pub members_by_name-requires-clause-pods : goal.members_by_name-requires-clause-pods
-members_by_name-requires-clause-pods c =
-    let made : c.items-5.result.now ≡ map (number_among c.in_ok-named.named) c.items-3.result.now = cc (c.items-5.ensures, c.in_ok-numbers.ensures, c.items-4.ensures) in
-    numbers-few c.args.estate.now c.requires.few c.in_ok-named.named c.in_ok-named.ensures c.items-3.result.now c.items-5.result.now (c.items-3.ensures ∙ c.requires.numbers) made c.requires.pods
-
-pub members_by_name-requires-clause-within : goal.members_by_name-requires-clause-within
-members_by_name-requires-clause-within c =
-    let made : c.items-5.result.now ≡ map (number_among c.in_ok-named.named) c.items-3.result.now = cc (c.items-5.ensures, c.in_ok-numbers.ensures, c.items-4.ensures) in
-    numbers-in c.args.estate.now c.requires.few c.in_ok-named.named c.in_ok-named.ensures c.items-3.result.now c.items-5.result.now (c.items-3.ensures ∙ c.requires.numbers) made
-
-pub members_by_name-requires-clause-names : goal.members_by_name-requires-clause-names
-members_by_name-requires-clause-names c = names-ascend c.args.estate.now c.requires.few c.in_ok-named.named c.in_ok-named.ensures
-
-pub invariant_of-result : goal.invariant_of-result
-invariant_of-result c =
-    let made : c.items-5.result.now ≡ map (number_among c.in_ok-named.named) c.items-3.result.now = cc (c.items-5.ensures, c.in_ok-numbers.ensures, c.items-4.ensures) in
-    let workloads = workloads-few c.args.estate.now c.requires.few c.in_ok-named.named c.in_ok-named.ensures c.items-3.result.now c.items-5.result.now (c.items-3.ensures ∙ c.requires.numbers) made
-    c.in_ok-by_name.by_name.entries c.in_ok-by_name.ensures in
-    (workloads, kinds-few c.args.estate.now c.in_ok-kinds.kinds.firsts c.requires.few c.in_ok-kinds.ensures.firsts)
-
-pub returns : goal.returns
-returns c =
-    let made : c.in_ok-numbers.numbers ≡ map (number_among c.in_ok-named.named) c.items-3.result.now = cc (c.in_ok-numbers.ensures, c.items-4.ensures) in
-    let again : c.items-5.result.now ≡ map (number_among c.in_ok-named.named) c.items-3.result.now = c.items-5.ensures ∙ made in
-    folding-is c.args.estate.now (map workload_of_entry c.in_ok-by_name.by_name.entries) c.in_ok-numbers.numbers c.in_ok-kinds.kinds.numbers c.in_ok-kinds.kinds.firsts c.args.relevant
-    (workloads-made c.args.estate.now c.requires.few c.in_ok-named.named c.in_ok-named.ensures c.items-3.result.now c.items-5.result.now (c.items-3.ensures ∙ c.requires.numbers) again
-    c.in_ok-by_name.by_name.entries c.in_ok-by_name.ensures)
-    (numbers-made c.args.estate.now c.requires.few c.in_ok-named.named c.in_ok-named.ensures c.items-3.result.now c.in_ok-numbers.numbers (c.items-3.ensures ∙ c.requires.numbers) made)
-    c.in_ok-kinds.ensures.numbers
-    c.in_ok-kinds.ensures.firsts
-    c.requires.relevant
+first_pods_by_name-requires-clause-within c = firsts-in c.args.estate.now c.args.estate.now.pods c.items.result.now refl (c.items.ensures ∙ c.requires.firsts)
