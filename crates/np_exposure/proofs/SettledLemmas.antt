@@ -1,6 +1,6 @@
 -- What is known of each hypothetical pod with labels among the choices.
 use Rattle.std.proofs.Common.{◌≡◌, ℕ, zero, suc, ◌+◌, ◌<◌, ◌≤◌, List, [], ◌∷◌, ◌++◌, length, get_or, map, take, filter, Bool, true, false, not, ◌&&◌, ◌||◌}
-use Rattle.std.proofs.Common.{Option, Some, None, if◌then◌else◌, ◌⊎◌, refl, sym, ap, ◌∙◌, subst, inl, inr, arith}
+use Rattle.std.proofs.Common.{Option, Some, None, IfSome, if◌then◌else◌, ◌⊎◌, refl, sym, ap, ◌∙◌, subst, inl, inr, arith}
 use Rattle.std.specs.List.{AllByRecursion, list_all, list_any}
 use Rattle.std.specs.Str.{bytes_eq}
 use Rattle.std.specs.Cmp.Lexicographic.{bytes_decides}
@@ -19,14 +19,16 @@ use Rattle.np_exposure.specs.declared.open_rules.OpenRule.{OpenRule}
 use Rattle.np_exposure.specs.declared.open_rules.OpenRules.{OpenRules}
 use Rattle.np_exposure.specs.declared.sided_requirement.SidedRequirement.{SidedRequirement}
 use Rattle.np_exposure.specs.declared.step.Aside.{Aside}
-use Rattle.np_exposure.specs.steps.Settled.{IsRight, IsSettled, StandForAll, permits}
+use Rattle.np_exposure.specs.declared.step.Left.{Left}
+use Rattle.np_exposure.specs.steps.Left.{PermitSame}
+use Rattle.np_exposure.specs.steps.Settled.{IsRight, IsSettled, StandForAll, permits, rule_matches}
 use Rattle.np_exposure.specs.steps.States.{IsChosen, IsWitness, narrowed, suits}
 use Rattle.np_exposure.specs.steps.Walks.{IsStepTo}
 use Rattle.np_labels.specs.Labels.{value_of}
 use Rattle.np_rules.specs.model.Ends.{pod, stranger_end}
 use Rattle.np_rules.specs.Laws.{IsAmong}
 use Rattle.np_rules.specs.PodSides.{PodSide, near_pod}
-use Rattle.np_rules.specs.StrangerRules.{kept_matches, kept_reaches}
+use Rattle.np_rules.specs.StrangerRules.{kept_reaches}
 use Rattle.np_rules.specs.declared.stranger.Stranger.{Stranger}
 
 -- ---- the choices at a key
@@ -86,7 +88,7 @@ module _ {X : Type 0} (state : List Choices) (asks : X → Stranger → Bool) (i
 
 -- ---- one rule more
 
-or_none : (b : Bool) → (b || false) ≡ b
+pub or_none : (b : Bool) → (b || false) ≡ b
 or_none true = refl
 or_none false = refl
 
@@ -103,10 +105,6 @@ or_swapped false true true = refl
 or_swapped false true false = refl
 or_swapped false false true = refl
 or_swapped false false false = refl
-
--- whether an open rule matches a stranger at a spot
-abbrev pub rule_matches : List ℕ → Stranger → PortSpot → OpenRule → Bool
-rule_matches namespace s spot rule = kept_matches namespace (pod (stranger_end s)) spot rule.kept.now
 
 module _ (namespace : List ℕ) (s : Stranger) (spot : PortSpot) (settled : Bool) (items : List OpenRule) (i : ℕ) (x : OpenRule) (within : i < length items) (is : x ≡ get_or items i x) where
   with_next : ((settled || list_any (rule_matches namespace s spot) (take i items)) || rule_matches namespace s spot x)
@@ -144,9 +142,9 @@ module _ (namespace : List ℕ) (s : Stranger) (spot : PortSpot) (settled : Bool
 
 -- all rules
 pub all-rules : (namespace : List ℕ) (s : Stranger) (spot : PortSpot) (rules : OpenRules) (items : List OpenRule) (i : ℕ) (made : Bool) → items ≡ rules.open.items → length items ≤ i
-    → made ≡ (has_spot rules.settled spot || list_any (rule_matches namespace s spot) (take i items)) → made ≡ permits namespace rules s spot
+    → made ≡ (has_spot rules.settled.value spot || list_any (rule_matches namespace s spot) (take i items)) → made ≡ permits namespace rules s spot
 all-rules namespace s spot rules items i made same within is =
-    is ∙ ap (λ (all : List OpenRule). has_spot rules.settled spot || list_any (rule_matches namespace s spot) all) (take_all i items within ∙ same)
+    is ∙ ap (λ (all : List OpenRule). has_spot rules.settled.value spot || list_any (rule_matches namespace s spot) all) (take_all i items within ∙ same)
 
 -- ---- fewer choices
 
@@ -171,23 +169,36 @@ stand-narrowed side rules wanted asked state next is stand s witness =
     let fewer : IsWitness (narrowed wanted asked state) s = subst (λ (choices : List Choices). IsWitness choices s) is witness in
     stand s (record { named = fewer.named; chosen = chosen-wider wanted asked s state fewer.chosen })
 
-pub stand-next : (side : PodSide) (rules : OpenRules) (asked : SidedRequirement) (state next : List Choices) (aside : Option Aside) → IsStepTo asked state next aside
+stand-next : (side : PodSide) (rules : OpenRules) (asked : SidedRequirement) (state next : List Choices) (aside : Option Aside) → IsStepTo asked state next aside
     → StandForAll side state rules → StandForAll side next rules
 stand-next side rules asked state next None step stand = stand-narrowed side rules step.0 asked state next step.3 stand
 stand-next side rules asked state next (Some put) step stand = stand-narrowed side rules (not put.wanted) asked state next step.3 stand
 
-pub stand-aside : (side : PodSide) (rules : OpenRules) (asked : SidedRequirement) (state next : List Choices) (aside : Option Aside) (put : Aside) → aside ≡ Some put
-    → IsStepTo asked state next aside → StandForAll side state rules → StandForAll side put.state.items rules
+stand-aside : (side : PodSide) (rules : OpenRules) (asked : SidedRequirement) (state next : List Choices) (aside : Option Aside) (put : Aside) → aside ≡ Some put
+    → IsStepTo asked state next aside → StandForAll side state rules → StandForAll side put.left.state.items rules
 stand-aside side rules asked state next aside put some step stand =
     let forked = subst (IsStepTo asked state next) some step in
-    stand-narrowed side rules put.wanted asked state put.state.items forked.2 stand
+    stand-narrowed side rules put.wanted asked state put.left.state.items forked.2 stand
 
 -- so do rules that permit the witnesses the same
-pub stand-settled : (side : PodSide) (rules made : OpenRules) (state seen : List Choices) (namespace : List ℕ) → namespace ≡ (near_pod side).namespace → seen ≡ state
-    → ((s : Stranger) → IsWitness seen s → (spot : PortSpot) → permits namespace made s spot ≡ permits namespace rules s spot)
-    → StandForAll side state rules → StandForAll side state made
-stand-settled side rules made state seen namespace named seen_is same stand s witness spot within =
-    ap (λ (name : List ℕ). permits name made s spot) (sym named)
-    ∙ same s (subst (λ (choices : List Choices). IsWitness choices s) (sym seen_is) witness) spot
+stand-same : (side : PodSide) (rules : OpenRules) (left : Left) (namespace : List ℕ) → namespace ≡ (near_pod side).namespace → PermitSame namespace rules left
+    → StandForAll side left.state.items rules → StandForAll side left.state.items left.net
+stand-same side rules left namespace named same stand s witness spot within =
+    ap (λ (name : List ℕ). permits name left.net s spot) (sym named)
+    ∙ same s witness spot
     ∙ ap (λ (name : List ℕ). permits name rules s spot) named
     ∙ stand s witness spot within
+
+-- what is left behind a requirement stands for what stood before
+pub left-stands : (side : PodSide) (asked : SidedRequirement) (left next : Left) (aside : Option Aside) (namespace : List ℕ) → namespace ≡ (near_pod side).namespace
+    → IsStepTo asked left.state.items next.state.items aside → PermitSame namespace left.net next → StandForAll side left.state.items left.net
+    → StandForAll side next.state.items next.net
+left-stands side asked left next aside namespace named step same stand =
+    stand-same side left.net next namespace named same (stand-next side left.net asked left.state.items next.state.items aside step stand)
+
+pub aside-stands : (side : PodSide) (asked : SidedRequirement) (left next : Left) (aside : Option Aside) (put : Aside) (namespace : List ℕ) → aside ≡ Some put
+    → namespace ≡ (near_pod side).namespace → IsStepTo asked left.state.items next.state.items aside → IfSome aside (λ one. PermitSame namespace left.net one.left)
+    → StandForAll side left.state.items left.net → StandForAll side put.left.state.items put.left.net
+aside-stands side asked left next aside put namespace some named step same stand =
+    stand-same side left.net put.left namespace named (subst (λ (one : Option Aside). IfSome one (λ one. PermitSame namespace left.net one.left)) some same)
+    (stand-aside side left.net asked left.state.items next.state.items aside put some step stand)

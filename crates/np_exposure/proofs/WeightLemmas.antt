@@ -62,13 +62,13 @@ abbrev most : ℕ
 most = 2 ^ 64 - 1
 
 -- one key more
-pub patterns-step : (side : Side) (all : List SidedRequirement) (keys values : List (List ℕ)) (i patterns factor new : ℕ) (key : List ℕ) →
-    patterns ≡ min (product (map (patterns_at side all) (take i keys))) (2 ^ 64 - 1) → i < length keys → key ≡ get_or keys i key → values ≡ values_at side key all →
-    factor ≡ min (length values + 2) (2 ^ 64 - 1) → new ≡ min (patterns * factor) (2 ^ 64 - 1) → new ≡ min (product (map (patterns_at side all) (take (i + 1) keys))) (2 ^ 64 - 1)
-patterns-step side all keys values i patterns factor new key so_far within is found one more =
+pub patterns-step : (side : Side) (all : List SidedRequirement) (keys : List (List ℕ)) (i patterns factor new : ℕ) (key seen : List ℕ) →
+    patterns ≡ min (product (map (patterns_at side all) (take i keys))) (2 ^ 64 - 1) → i < length keys → key ≡ get_or keys i key → seen ≡ key →
+    factor ≡ min (patterns_at side all seen) (2 ^ 64 - 1) → new ≡ min (patterns * factor) (2 ^ 64 - 1) → new ≡ min (product (map (patterns_at side all) (take (i + 1) keys))) (2 ^ 64 - 1)
+patterns-step side all keys i patterns factor new key seen so_far within is same one more =
     let before = product (map (patterns_at side all) (take i keys)) in
     let here = patterns_at side all key in
-    let factor_is : factor ≡ min here most = one ∙ ap (λ (vs : List (List ℕ)). min (length vs + 2) most) found in
+    let factor_is : factor ≡ min here most = one ∙ ap (λ (k : List ℕ). min (patterns_at side all k) most) same in
     let taken : take (i + 1) keys ≡ take i keys ++ key ∷ [] = take_more keys i key within ∙ ap (λ (k : List ℕ). take i keys ++ k ∷ []) (sym is) in
     let all_is : product (map (patterns_at side all) (take (i + 1) keys)) ≡ before * here =
     ap (λ (ks : List (List ℕ)). product (map (patterns_at side all) ks)) taken ∙ ap product (map-append (patterns_at side all) (take i keys) (key ∷ [])) ∙ product-push

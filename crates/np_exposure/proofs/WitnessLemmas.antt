@@ -167,14 +167,11 @@ module _ (state : List Choices) (s : Stranger) (is : IsState state)
   }
 
 -- the labels as they are put together
-pub IsWitness-of : (state : List Choices) (s : Stranger) (empty first namespaces pods : List Pair) (key value : List ℕ) → IsState state → key ≡ codes "kubernetes.io/metadata.name" →
-    value ≡ codes "a" → empty ≡ [] → first ≡ empty ++ record { key = key; value = value } ∷ []
-    → namespaces ≡ first ++ flat_map (first_label Namespace) state → pods ≡ empty ++ flat_map (first_label Pod) state
-    → ((other : List ℕ) → value_of s.namespace other ≡ last_value_of namespaces other) → ((other : List ℕ) → value_of s.labels other ≡ last_value_of pods other) → IsWitness state s
-IsWitness-of state s empty first namespaces pods key value is key_is value_is none one front back front_values back_values =
+pub IsWitness-of : (state : List Choices) (s : Stranger) (empty first none : List Pair) → IsState state → empty ≡ []
+    → first ≡ empty ++ record { key = codes "kubernetes.io/metadata.name"; value = codes "a" } ∷ [] → none ≡ []
+    → ((key : List ℕ) → value_of s.namespace key ≡ last_value_of (first ++ flat_map (first_label Namespace) state) key)
+    → ((key : List ℕ) → value_of s.labels key ≡ last_value_of (none ++ flat_map (first_label Pod) state) key) → IsWitness state s
+IsWitness-of state s empty first none is empty_is one none_is front back =
     IsWitness-first state s is
-    (λ other. front_values other ∙ ap (λ (pairs : List Pair). last_value_of pairs other) (front ∙ ap (λ (pairs : List Pair). pairs ++ flat_map (first_label Namespace) state) first_is))
-    (λ other. back_values other ∙ ap (λ (pairs : List Pair). last_value_of pairs other) (back ∙ ap (λ (pairs : List Pair). pairs ++ flat_map (first_label Pod) state) none))
-  where
-    first_is : first ≡ named
-    first_is = one ∙ rw (none, key_is, value_is) refl
+    (λ key. front key ∙ ap (λ (pairs : List Pair). last_value_of (pairs ++ flat_map (first_label Namespace) state) key) (one ∙ ap (λ (pairs : List Pair). pairs ++ named) empty_is))
+    (λ key. back key ∙ ap (λ (pairs : List Pair). last_value_of (pairs ++ flat_map (first_label Pod) state) key) none_is)

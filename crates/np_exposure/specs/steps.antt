@@ -2,3 +2,4 @@ pub mod OnlyNamespace
 pub mod States
 pub mod Walks
 pub mod Settled
+pub mod Left

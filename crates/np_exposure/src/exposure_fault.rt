@@ -4,7 +4,7 @@ ghost use Rattle.std.specs.Prelude.{◌≡◌};
 use np_base::NoMemory;
 
 /// Why an exposure is not told.
-#[derive(Clone, Copy, Debug, PartialEq, Eq)]
+#[derive(Clone, Copy, PartialEq, Eq)]
 pub enum ExposureFault {
     /// The mentioned requirements may tell apart more than 65,536 patterns of labels: `weight` many, and `u64::MAX` where
     /// that is more.

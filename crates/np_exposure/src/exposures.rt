@@ -1,23 +1,26 @@
 //! The exposure of a pod.
-ghost use Rattle.std.specs.Prelude.{◌≡◌, ◌≤◌, ◌<◌, length, IfErr, IfOk, OnOk};
-ghost use Rattle.np_exposure.specs.Choices.{choices_at_first};
+ghost use Rattle.std.specs.Prelude.{◌≡◌, ◌≤◌, ◌<◌, length, map, IfErr, IfOk, IsTrue, OnOk};
+ghost use Rattle.np_exposure.specs.Choices.{choices_at_first, choices_of};
 ghost use Rattle.np_exposure.specs.Mentions.{each_once, mentions};
 ghost use Rattle.np_exposure.specs.Rows.{rows_of};
 ghost use Rattle.np_exposure.specs.Tree.{AreRowsOf};
 ghost use Rattle.np_exposure.specs.Weight.{IsWeightFault, weight};
+ghost use Rattle.np_exposure.specs.steps.States.{IsState, are_at};
 ghost use Rattle.np_exposure.specs.steps.Walks.{AreWalked};
 ghost use Rattle.np_rules.specs.PodSides.{side_of};
+ghost use Rattle.np_rules.specs.StrangerRules.{IsNetOf};
 
-use crate::asked_rule::asked_rules;
-use crate::choices::all_choices;
+use crate::asked_rule::{AskedRule, asked_rules};
+use crate::choices::{KeyChoices, all_choices};
 use crate::exposure_fault::ExposureFault;
 use crate::exposure_row::ExposureRow;
-use crate::label::labels_of;
+use crate::label::{Label, labels_of};
 use crate::mentions::mentions;
 use crate::open_row::finished;
 use crate::open_rules::OpenRules;
 use crate::requirements::each_once;
 use crate::sided_requirement::SidedRequirement;
+use crate::step::Left;
 use crate::walk::rows_of;
 use crate::weights::weight_of;
 use np_base::{NoMemory, Seq};
@@ -54,25 +57,64 @@ pub fn exposure<L: Ledger>(
     if weight > MOST_PATTERNS {
         return Err(ExposureFault::TooManyPatterns { weight });
     }
-    let rules = StrangerRules::of(alloc, estate, pod, direction)?;
-    Ok(rows_of_mentions(alloc, &rules, mentions, steps)?)
+    Ok(rows_of_mentions(alloc, estate, pod, direction, mentions, steps)?)
 }
 
 // The rows of the mentioned requirements.
 fn rows_of_mentions<L: Ledger>(
     alloc: Global,
-    rules: &StrangerRules<'_>,
+    estate: &Estate,
+    pod: u32,
+    direction: Direction,
     mentions: Vec<SidedRequirement>,
     steps: &mut Steps<L>,
 ) -> Result<Seq<ExposureRow>, NoMemory>
-    ensures rows { IfOk result (λ rows. AreWalked rules.now (each_once mentions.items) (choices_at_first mentions.items) rows) }
+    requires { pod < length estate.now.pods }
+    ensures rows { IfOk result (λ rows.
+        AreWalked (side_of estate.now pod direction) (each_once mentions.items) (choices_at_first mentions.items) rows) }
     ensures least { steps.old ≤ steps.new }
 {
     let labels = labels_of(alloc, &mentions)?;
-    let state = all_choices(alloc, &labels)?;
     let asked = each_once(alloc, mentions)?;
-    let net = asked_rules(alloc, &state, rules.net())?;
-    let net = OpenRules::of(alloc, rules, &net)?;
-    let rows = rows_of(alloc, rules, &asked, state, net, steps)?;
+    let rules = StrangerRules::of(alloc, estate, pod, direction)?;
+    rows_of_labels(alloc, &rules, &labels, &asked, steps)
+}
+
+// The rows of requirements, with all choices at the keys that these look at.
+fn rows_of_labels<L: Ledger>(
+    alloc: Global,
+    rules: &StrangerRules<'_>,
+    labels: &[Label],
+    asked: &[SidedRequirement],
+    steps: &mut Steps<L>,
+) -> Result<Seq<ExposureRow>, NoMemory>
+    requires state { IsState (map choices_of labels.now) }
+    requires keys { IsTrue (are_at (map choices_of labels.now) asked.now) }
+    ensures rows { IfOk result (AreWalked rules.now asked.now (map choices_of labels.now)) }
+    ensures least { steps.old ≤ steps.new }
+{
+    let state = all_choices(alloc, labels)?;
+    let kept = asked_rules(alloc, &state, rules.net())?;
+    rows_of_choices(alloc, rules, state, &kept, asked, steps)
+}
+
+// The rows of requirements, before any rule is settled.
+fn rows_of_choices<'r, L: Ledger>(
+    alloc: Global,
+    rules: &StrangerRules<'_>,
+    state: Vec<KeyChoices<'_>>,
+    kept: &'r [AskedRule<'r>],
+    asked: &[SidedRequirement],
+    steps: &mut Steps<L>,
+) -> Result<Seq<ExposureRow>, NoMemory>
+    requires state { IsState state.items }
+    requires keys { IsTrue (are_at state.items asked.now) }
+    requires net { IsNetOf rules.now kept.now }
+    ensures rows { IfOk result (AreWalked rules.now asked.now state.entry.items) }
+    ensures least { steps.old ≤ steps.new }
+{
+    let net = OpenRules::of(alloc, rules, kept)?;
+    let mut left = Left { state, net };
+    let rows = rows_of(alloc, rules, asked, &mut left, steps)?;
     finished(alloc, rows)
 }

@@ -15,6 +15,7 @@ use np_model::{
     AdminPeer, AdminPolicy, AdminRule, BasePolicy, Direction, Estate, NetPeer, NetPolicy, NetRule,
     Pod, Subject,
 };
+use np_rules::{admin_policy_selects, admin_rules_of, net_policy_selects};
 use std::alloc::Global;
 
 /// The requirements that the peers mention of the rules that speak of a pod in a direction, in the order in which these
@@ -49,21 +50,11 @@ fn add_admin_policies(
         ++ flat_map (λ placed. spec.of_admin_rule placed.rule) (places.admin_places policies.now direction (pod_end near.now))) }
 {
     for policy in policies {
-        if subject_selects(&policy.subject, near) {
+        if admin_policy_selects(&policy.subject, near) {
             add_admin_rules(made, admin_rules_of(policy, direction))?;
         }
     }
     Ok(())
-}
-
-// The rules of a direction.
-fn admin_rules_of(policy: &AdminPolicy, direction: Direction) -> &[AdminRule]
-    ensures { result.now ≡ places.admin_rules_of direction policy.now }
-{
-    match direction {
-        Direction::Ingress => policy.ingress.items(),
-        Direction::Egress => policy.egress.items(),
-    }
 }
 
 // Adds what the rules mention of the NetworkPolicies that select the pod.
@@ -77,7 +68,7 @@ fn add_net_policies(
         ++ flat_map spec.of_placed (places.net_places policies.now direction (pod_end near.now))) }
 {
     for policy in policies {
-        if net_selects(policy, near) {
+        if net_policy_selects(policy, near) {
             add_net_rules(
                 made,
                 policy.namespace.as_str(),
@@ -130,7 +121,7 @@ fn add_base_policy(
         ++ (if selection.subject_selects policy.now.subject (pod_end near.now)
         then flat_map spec.of_admin_rule (places.base_rules_of direction policy.now) else [])) }
 {
-    if subject_selects(&policy.subject, near) {
+    if admin_policy_selects(&policy.subject, near) {
         add_admin_rules(made, base_rules_of(policy, direction))?;
     }
     Ok(())
@@ -144,20 +135,6 @@ fn base_rules_of(policy: &BasePolicy, direction: Direction) -> &[AdminRule]
         Direction::Ingress => policy.ingress.items(),
         Direction::Egress => policy.egress.items(),
     }
-}
-
-// Whether a NetworkPolicy selects a pod.
-fn net_selects(policy: &NetPolicy, near: &Pod) -> bool
-    ensures { result ≡ selection.net_selects policy.now (pod_end near.now) }
-{
-    policy.namespace.as_str() == near.namespace.as_str() && policy.subject.meets(&near.labels)
-}
-
-// Whether the subject of an admin policy or of the baseline is about a pod.
-fn subject_selects(subject: &Subject, near: &Pod) -> bool
-    ensures { result ≡ selection.subject_selects subject.now (pod_end near.now) }
-{
-    subject.namespaces.meets(near.namespace_labels.labels()) && subject.pods.meets(&near.labels)
 }
 
 // Adds what admin rules mention.

@@ -1,5 +1,5 @@
 //! Rows as the walk makes them.
-ghost use Rattle.std.specs.Prelude.{◌≡◌, ◌≢◌, [], ◌++◌, map, IfOk, MatchBool, OnOk};
+ghost use Rattle.std.specs.Prelude.{◌≡◌, ◌≢◌, [], ◌∷◌, ◌++◌, map, reverse, IfOk, MatchBool, OnOk};
 ghost use Rattle.np_exposure.specs.Tree.{IsJoined, with_first};
 ghost use Rattle.np_exposure.specs.declared.exposure_row.ExposureRow.{ExposureRow};
 
@@ -54,14 +54,16 @@ impl<'a> Same for OpenRow<'a> {
 }
 
 impl<'a> OpenRow<'a> {
-    /// The row without requirements.
-    pub(crate) fn of(alloc: Global, conns: ConnSet) -> OpenRow<'a>
-        ensures { result ≡ record { requirements = []; conns = conns } }
+    /// The row without requirements, alone.
+    pub(crate) fn alone(alloc: Global, conns: ConnSet) -> Result<Vec<OpenRow<'a>>, NoMemory>
+        ensures { IfOk result (λ made. made.items ≡ record { requirements = []; conns = conns } ∷ []) }
     {
-        OpenRow {
+        let mut rows = Seq::new(alloc);
+        rows.push(OpenRow {
             backwards: Vec::new(alloc),
             conns,
-        }
+        })?;
+        Ok(rows.into_vec())
     }
 
     // Puts a requirement before all others.
@@ -72,23 +74,28 @@ impl<'a> OpenRow<'a> {
         Ok(())
     }
 
-    // The row with requirements of its own.
-    fn finished(self, alloc: Global) -> Result<ExposureRow, NoMemory>
-        ensures { IfOk result (λ made. made ≡ self.entry) }
+    // Puts the row last, with requirements of its own.
+    fn finish(self, rows: &mut Seq<ExposureRow>) -> Result<(), NoMemory>
+        ensures { OnOk result (rows.new ≡ rows.old ++ self.entry ∷ []) }
     {
-        let OpenRow {
-            mut backwards,
-            conns,
-        } = self;
-        let mut requirements = Seq::new(alloc);
-        while let Some(lent) = backwards.pop() {
-            requirements.push(lent.asked.try_copy(alloc)?)?;
-        }
-        Ok(ExposureRow {
+        let requirements = in_order(rows.allocator(), self.backwards)?;
+        rows.push(ExposureRow {
             requirements,
-            conns,
+            conns: self.conns,
         })
     }
+}
+
+// Copies of requirements that stand backwards.
+fn in_order(alloc: Global, lent: Vec<Lent<'_>>) -> Result<Seq<SidedRequirement>, NoMemory>
+    ensures { IfOk result (λ made. made ≡ reverse lent.entry.items) }
+{
+    let mut backwards = lent;
+    let mut requirements = Seq::new(alloc);
+    while let Some(lent) = backwards.pop() {
+        requirements.push(lent.asked.try_copy(alloc)?)?;
+    }
+    Ok(requirements)
 }
 
 /// The rows of a requirement, from those where it is met and those where it is not. Equal lists are not kept apart.
@@ -129,7 +136,7 @@ pub(crate) fn finished(alloc: Global, rows: Vec<OpenRow<'_>>) -> Result<Seq<Expo
 {
     let mut made = Seq::new(alloc);
     for row in rows {
-        made.push(row.finished(alloc)?)?;
+        row.finish(&mut made)?;
     }
     Ok(made)
 }

@@ -1,8 +1,9 @@
 //! The rules of NetworkPolicies, as far as the choices that are left settle them.
-ghost use Rattle.std.specs.Prelude.{◌≡◌, ℕ, List, IfOk};
+ghost use Rattle.std.specs.Prelude.{◌≡◌, ◌||◌, ℕ, List, [], IfOk, OnOk};
+ghost use Rattle.std.specs.List.{list_any};
 ghost use Rattle.np_conns.specs.Conns.{has_spot};
 ghost use Rattle.np_conns.specs.declared.port_spot.PortSpot.{PortSpot};
-ghost use Rattle.np_exposure.specs.steps.Settled.{StandFor, permits};
+ghost use Rattle.np_exposure.specs.steps.Settled.{StandFor, permits, rule_matches};
 ghost use Rattle.np_exposure.specs.steps.States.{IsWitness};
 ghost use Rattle.np_rules.specs.StrangerRules.{IsNetOf};
 ghost use Rattle.np_rules.specs.declared.stranger.Stranger.{Stranger};
@@ -12,7 +13,7 @@ use crate::asked_rule::AskedRule;
 use crate::choices::{KeyChoices, count, is_decided};
 use crate::key_set::KeySet;
 use crate::sided_requirement::SidedRequirement;
-use np_base::{Cells, NoMemory};
+use np_base::NoMemory;
 use np_conns::ConnSet;
 use np_rules::{Stranger, StrangerRules, joined_set};
 use std::alloc::Global;
@@ -32,7 +33,7 @@ pub(crate) struct OpenRule<'r> {
 #[derive(Drop)]
 pub(crate) struct OpenRules<'r> {
     /// What the settled rules match.
-    pub settled: ConnSet,
+    pub settled: Box<ConnSet>,
     /// The other rules.
     pub open: Vec<OpenRule<'r>>,
     /// The keys at which fewer choices may be left than when the open rules were last looked at. What is known of the others
@@ -55,7 +56,7 @@ impl<'r> OpenRules<'r> {
             open.push(OpenRule { kept })?;
         }
         Ok(OpenRules {
-            settled: ConnSet::nothing(alloc)?,
+            settled: joined_box(alloc, &[])?,
             open,
             narrowed: KeySet::everything(),
         })
@@ -64,25 +65,6 @@ impl<'r> OpenRules<'r> {
     /// The same rules, settled as far as the choices that are left tell, unless these are many, or are made. What was asked
     /// last has narrowed them.
     pub(crate) fn settled_by(
-        self,
-        alloc: Global,
-        namespace: &str,
-        state: &[KeyChoices<'_>],
-        asked: &SidedRequirement,
-    ) -> Result<OpenRules<'r>, NoMemory>
-        ensures { IfOk result (λ made. (s : Stranger) → IsWitness state.now s → (spot : PortSpot) →
-            permits namespace.now made s spot ≡ permits namespace.now self.entry s spot) }
-    {
-        let narrowed = self.narrowed_by(state, asked);
-        if can_settle(state) {
-            return self.with_settled(alloc, namespace, state, narrowed);
-        }
-        Ok(OpenRules { narrowed, ..self })
-    }
-
-    /// A copy of the rules, settled as far as the choices that are left tell, unless these are many, or are made. What was
-    /// asked last has narrowed them.
-    pub(crate) fn copy_settled_by(
         &self,
         alloc: Global,
         namespace: &str,
@@ -114,9 +96,8 @@ impl<'r> OpenRules<'r> {
         for rule in &self.open {
             open.push(OpenRule { kept: rule.kept })?;
         }
-        let settled = self.settled.copy()?;
         Ok(OpenRules {
-            settled,
+            settled: joined_box(alloc, &[&*self.settled])?,
             open,
             narrowed,
         })
@@ -135,8 +116,32 @@ impl<'r> OpenRules<'r> {
             permits namespace.now made s spot ≡ permits namespace.now self.now s spot) }
     {
         let mut sets = Vec::new(alloc);
-        sets.push(&self.settled)?;
         let mut open = Vec::new(alloc);
+        self.sort(namespace, state, narrowed, &mut sets, &mut open)?;
+        Ok(OpenRules {
+            settled: joined_box(alloc, &sets)?,
+            open,
+            narrowed: KeySet::nothing(),
+        })
+    }
+
+    // Adds the settled set and those of the rules that match each hypothetical pod with labels among the choices to the
+    // sets, and the rules of which that is not known to the open ones. Fewer choices are left at some keys alone.
+    fn sort<'s>(
+        &'s self,
+        namespace: &str,
+        state: &[KeyChoices<'_>],
+        narrowed: KeySet,
+        sets: &mut Vec<&'s ConnSet>,
+        open: &mut Vec<OpenRule<'r>>,
+    ) -> Result<(), NoMemory>
+        requires sets { sets.old.items ≡ [] }
+        requires open { open.old.items ≡ [] }
+        ensures { OnOk result ((s : Stranger) → IsWitness state.now s → (spot : PortSpot) →
+            (list_any (λ set. has_spot set.now spot) sets.new.items || list_any (rule_matches namespace.now s spot) open.new.items)
+            ≡ permits namespace.now self.now s spot) }
+    {
+        sets.push(&*self.settled)?;
         for rule in &self.open {
             match rule.kept.matches(state, namespace, narrowed) {
                 Some(true) => sets.push(rule.kept.conns())?,
@@ -144,12 +149,7 @@ impl<'r> OpenRules<'r> {
                 None => open.push(OpenRule { kept: rule.kept })?,
             }
         }
-        let settled = joined_set(alloc, &sets)?;
-        Ok(OpenRules {
-            settled,
-            open,
-            narrowed: KeySet::nothing(),
-        })
+        Ok(())
     }
 
     /// What the rules permit a stranger.
@@ -164,7 +164,7 @@ impl<'r> OpenRules<'r> {
     {
         let own = name_of_namespace(stranger);
         let mut sets = Vec::new(alloc);
-        sets.push(&self.settled)?;
+        sets.push(&*self.settled)?;
         for rule in &self.open {
             if rule.kept.reaches(namespace, own, stranger) {
                 sets.push(rule.kept.conns())?;
@@ -172,6 +172,14 @@ impl<'r> OpenRules<'r> {
         }
         joined_set(alloc, &sets)
     }
+}
+
+// The spots that some of the sets has, kept apart from what holds the set.
+fn joined_box(alloc: Global, sets: &[&ConnSet]) -> Result<Box<ConnSet>, NoMemory>
+    ensures { IfOk result (λ made. (spot : PortSpot) → has_spot made.value spot ≡ list_any (λ set. has_spot set.now spot) sets.now) }
+{
+    let joined = joined_set(alloc, sets)?;
+    Ok(Box::new(alloc, joined)?)
 }
 
 // Whether rules are settled by the choices that are left.

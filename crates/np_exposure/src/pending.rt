@@ -4,7 +4,7 @@ ghost use Rattle.np_exposure.specs.steps.Walks.{Fills, IsJoinedBy};
 
 use crate::open_row::{OpenRow, joined};
 use crate::sided_requirement::SidedRequirement;
-use np_base::NoMemory;
+use np_base::{NoMemory, Seq};
 
 /// The rows of one case of a requirement, until those of the other are known.
 #[derive(Drop)]
@@ -31,12 +31,12 @@ impl<'a> Pending<'a> {
 
 /// The rows of the first requirement that waits, from those of the last.
 pub(crate) fn all_joined<'a>(
-    pending: Vec<Pending<'a>>,
+    pending: Seq<Pending<'a>>,
     last: Vec<OpenRow<'a>>,
 ) -> Result<Vec<OpenRow<'a>>, NoMemory>
-    ensures { IfOk result (λ made. Fills pending.entry.items last.entry.items made.items) }
+    ensures { IfOk result (λ made. Fills pending.entry last.entry.items made.items) }
 {
-    let mut pending = pending;
+    let mut pending = pending.into_vec();
     let mut rows = last;
     while let Some(case) = pending.pop() {
         rows = case.joined(rows)?;

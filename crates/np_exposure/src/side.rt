@@ -1,7 +1,7 @@
 //! Which labels a requirement looks at.
 
 /// Which labels a requirement looks at.
-#[derive(Clone, Copy, Debug, PartialEq, Eq)]
+#[derive(Clone, Copy, PartialEq, Eq)]
 pub enum Side {
     /// Those of the pod's namespace.
     Namespace,

@@ -10,11 +10,20 @@ use np_rules::Stranger;
 use std::alloc::Global;
 
 /// A requirement on the labels of a pod or of its namespace.
-#[derive(Debug, Drop)]
 pub struct SidedRequirement {
     /// Whose labels they are.
     pub side: Side,
     pub requirement: Requirement,
+}
+
+// Written out, so that letting one go is one call.
+impl Drop for SidedRequirement {
+    fn drop(self) {
+        let SidedRequirement {
+            side: _side,
+            requirement: _requirement,
+        } = self;
+    }
 }
 
 impl SidedRequirement {

@@ -11,9 +11,9 @@ use crate::open_row::OpenRow;
 use crate::open_rules::OpenRules;
 use crate::pending::{Pending, all_joined};
 use crate::sided_requirement::SidedRequirement;
-use crate::step::{Step, next_step};
+use crate::step::{Left, next_step};
 use crate::witness::stranger_of;
-use np_base::NoMemory;
+use np_base::{NoMemory, Seq};
 use np_conns::ConnSet;
 use np_rules::{Stranger, StrangerRules};
 use np_steps::Steps;
@@ -29,36 +29,30 @@ pub(crate) fn rows_of<'a, L: Ledger>(
     alloc: Global,
     rules: &StrangerRules<'_>,
     asked: &'a [SidedRequirement],
-    state: Vec<KeyChoices<'_>>,
-    net: OpenRules<'_>,
+    left: &mut Left<'_, '_>,
     steps: &mut Steps<L>,
 ) -> Result<Vec<OpenRow<'a>>, NoMemory>
-    requires state { IsState state.items }
-    requires keys { IsTrue (are_at state.items asked.now) }
-    requires net { StandForAll rules.now state.items net }
-    ensures rows { IfOk result (λ rows. AreWalked rules.now asked.now state.entry.items rows.items) }
+    requires state { IsState left.old.state.items }
+    requires keys { IsTrue (are_at left.old.state.items asked.now) }
+    requires net { StandForAll rules.now left.old.state.items left.old.net }
+    ensures rows { IfOk result (λ rows. AreWalked rules.now asked.now left.old.state.items rows.items) }
     ensures least { steps.old ≤ steps.new }
 {
-    let mut left = still_asked(asked, &state);
-    let mut state = state;
-    let mut net = net;
-    let mut pending = Vec::new(alloc);
-    while let Some((first, rest)) = left.split_first() {
-        let Step { next, aside } = next_step(alloc, first, state)?;
-        left = still_asked(rest, &next);
-        if let Some(aside) = aside {
-            let settled = net.copy_settled_by(alloc, rules.namespace(), &aside.state, first)?;
-            let rows = rows_of(alloc, rules, rest, aside.state, settled, steps)?;
+    let mut more = still_asked(asked, &left.state);
+    let mut pending = Seq::new(alloc);
+    while let Some((first, rest)) = more.split_first() {
+        let aside = next_step(alloc, rules.namespace(), first, left)?;
+        more = still_asked(rest, &left.state);
+        if let Some(mut aside) = aside {
+            let rows = rows_of(alloc, rules, rest, &mut aside.left, steps)?;
             pending.push(Pending {
                 asked: first,
                 wanted: aside.wanted,
                 rows,
             })?;
-            net = net.settled_by(alloc, rules.namespace(), &next, first)?;
         }
-        state = next;
     }
-    let last = leaf(alloc, rules, &state, &net, steps)?;
+    let last = leaf(alloc, rules, left, steps)?;
     all_joined(pending, last)
 }
 
@@ -73,20 +67,17 @@ fn still_asked<'a>(left: &'a [SidedRequirement], state: &[KeyChoices<'_>]) -> &'
 fn leaf<'a, L: Ledger>(
     alloc: Global,
     rules: &StrangerRules<'_>,
-    state: &[KeyChoices<'_>],
-    net: &OpenRules<'_>,
+    left: &Left<'_, '_>,
     steps: &mut Steps<L>,
 ) -> Result<Vec<OpenRow<'a>>, NoMemory>
-    requires state { IsState state.now }
-    requires net { StandForAll rules.now state.now net.now }
-    ensures rows { IfOk result (λ rows. IsLeaf rules.now state.now rows.items) }
+    requires state { IsState left.now.state.items }
+    requires net { StandForAll rules.now left.now.state.items left.now.net }
+    ensures rows { IfOk result (λ rows. IsLeaf rules.now left.now.state.items rows.items) }
     ensures least { steps.old ≤ steps.new }
 {
-    let stranger = stranger_of(alloc, state)?;
-    let conns = exposed(alloc, rules, net, &stranger, steps)?;
-    let mut rows = Vec::new(alloc);
-    rows.push(OpenRow::of(alloc, conns))?;
-    Ok(rows)
+    let stranger = stranger_of(alloc, &left.state)?;
+    let conns = exposed(alloc, rules, &left.net, &stranger, steps)?;
+    OpenRow::alone(alloc, conns)
 }
 
 // What the rules allow a stranger.

@@ -8,7 +8,7 @@ use crate::labels::{keys_on, values_at};
 use crate::mentions::mentions;
 use crate::side::Side;
 use crate::sided_requirement::SidedRequirement;
-use np_base::{NoMemory, Text};
+use np_base::NoMemory;
 use np_model::{Direction, Estate};
 use std::alloc::Global;
 
@@ -46,8 +46,7 @@ fn patterns_on(alloc: Global, mentions: &[SidedRequirement], side: Side) -> Resu
     let keys = keys_on(alloc, mentions, side)?;
     let mut patterns = 1u64;
     for key in keys.items() {
-        let values = values_at(alloc, mentions, side, key.as_str())?;
-        patterns = patterns.saturating_mul(patterns_of(values.items()));
+        patterns = patterns.saturating_mul(patterns_at(alloc, mentions, side, key.as_str())?);
         if patterns == u64::MAX {
             return Ok(u64::MAX);
         }
@@ -56,8 +55,14 @@ fn patterns_on(alloc: Global, mentions: &[SidedRequirement], side: Side) -> Resu
 }
 
 // The values of a key, one for all others, and one for its absence.
-fn patterns_of(values: &[Text]) -> u64
-    ensures { result ≡ min (length values.now + 2) (2 ^ 64 - 1) }
+fn patterns_at(
+    alloc: Global,
+    mentions: &[SidedRequirement],
+    side: Side,
+    key: &str,
+) -> Result<u64, NoMemory>
+    ensures { IfOk result (λ made. made ≡ min (spec.patterns_at side mentions.now key.now) (2 ^ 64 - 1)) }
 {
-    (values.len() as u64).saturating_add(2)
+    let values = values_at(alloc, mentions, side, key)?;
+    Ok((values.items().len() as u64).saturating_add(2))
 }

@@ -1,7 +1,8 @@
 //! A hypothetical pod with labels among the choices.
-ghost use Rattle.std.specs.Prelude.{◌≡◌, ◌++◌, IfOk, OnOk, flat_map};
+ghost use Rattle.std.specs.Prelude.{◌≡◌, [], ◌∷◌, ◌++◌, ℕ, List, IfOk, OnOk, flat_map};
 ghost use Rattle.np_exposure.specs.Choices as spec;
 ghost use Rattle.np_exposure.specs.steps.States.{IsState, IsWitness};
+ghost use Rattle.np_labels.specs.Labels.{last_value_of, value_of};
 
 use crate::choices::KeyChoices;
 use crate::side::Side;
@@ -16,41 +17,45 @@ pub(crate) fn stranger_of(alloc: Global, state: &[KeyChoices<'_>]) -> Result<Str
     ensures { IfOk result (IsWitness state.now) }
 {
     let mut named = Seq::new(alloc);
-    named.push(Pair {
-        key: Text::of(alloc, "kubernetes.io/metadata.name")?,
-        value: Text::of(alloc, "a")?,
-    })?;
-    Ok(Stranger {
-        namespace: Labels::of(alloc, with_choices(named, state, Side::Namespace)?)?,
-        labels: Labels::of(alloc, with_choices(Seq::new(alloc), state, Side::Pod)?)?,
-    })
+    add_pair(&mut named, "kubernetes.io/metadata.name", "a")?;
+    let namespace = with_choices(alloc, named, state, Side::Namespace)?;
+    let labels = with_choices(alloc, Seq::new(alloc), state, Side::Pod)?;
+    Ok(Stranger { namespace, labels })
 }
 
 // Labels with the first choices at the keys of a side. A label that comes later replaces one before it.
 fn with_choices(
-    labels: Seq<Pair>,
+    alloc: Global,
+    pairs: Seq<Pair>,
     state: &[KeyChoices<'_>],
     side: Side,
-) -> Result<Seq<Pair>, NoMemory>
-    ensures { IfOk result (λ made. made ≡ labels ++ flat_map (spec.first_label side) state.now) }
+) -> Result<Labels, NoMemory>
+    ensures { IfOk result (λ made. (key : List ℕ) →
+        value_of made key ≡ last_value_of (pairs ++ flat_map (spec.first_label side) state.now) key) }
 {
-    let mut made = labels;
+    let mut made = pairs;
     for choices in state {
         add_first(&mut made, choices, side)?;
     }
-    Ok(made)
+    Labels::of(alloc, made)
 }
 
 // Adds the first choice at a key of a side, if it is a value.
-fn add_first(labels: &mut Seq<Pair>, choices: &KeyChoices<'_>, side: Side) -> Result<(), NoMemory>
-    ensures { OnOk result (labels.new ≡ labels.old ++ spec.first_label side choices.now) }
+fn add_first(pairs: &mut Seq<Pair>, choices: &KeyChoices<'_>, side: Side) -> Result<(), NoMemory>
+    ensures { OnOk result (pairs.new ≡ pairs.old ++ spec.first_label side choices.now) }
 {
-    let Some(value) = choices.first_on(side) else {
-        return Ok(());
-    };
-    let alloc = labels.allocator();
-    labels.push(Pair {
-        key: Text::of(alloc, choices.key())?,
-        value: Text::of(alloc, value)?,
-    })
+    match choices.first_on(side) {
+        Some(value) => add_pair(pairs, choices.key(), value),
+        None => Ok(()),
+    }
+}
+
+// Adds a label.
+fn add_pair(pairs: &mut Seq<Pair>, key: &str, value: &str) -> Result<(), NoMemory>
+    ensures { OnOk result (pairs.new ≡ pairs.old ++ record { key = key.now; value = value.now } ∷ []) }
+{
+    let alloc = pairs.allocator();
+    let key = Text::of(alloc, key)?;
+    let value = Text::of(alloc, value)?;
+    pairs.push(Pair { key, value })
 }

@@ -4,6 +4,7 @@ use Rattle.std.specs.List.{list_any}
 use Rattle.np_conns.specs.Conns.{has_spot, is_spot}
 use Rattle.np_conns.specs.declared.port_spot.PortSpot.{PortSpot}
 use Rattle.np_exposure.specs.Choices.{Choices}
+use Rattle.np_exposure.specs.declared.open_rules.OpenRule.{OpenRule}
 use Rattle.np_exposure.specs.declared.open_rules.OpenRules.{OpenRules}
 use Rattle.np_exposure.specs.steps.States.{IsWitness}
 use Rattle.np_rules.specs.model.Ends.{pod, stranger_end}
@@ -23,9 +24,13 @@ IsSettled state asks answer = (s : Stranger) → IsWitness state s → IsRight (
 
 -- ---- rules, as far as they are settled
 
+-- whether an open rule of this namespace matches a stranger at a spot
+abbrev pub rule_matches : List ℕ → Stranger → PortSpot → OpenRule → Bool
+rule_matches namespace s spot rule = kept_matches namespace (pod (stranger_end s)) spot rule.kept.now
+
 -- whether the settled set has the spot, or some open rule of this namespace matches the stranger there
 abbrev pub permits : List ℕ → OpenRules → Stranger → PortSpot → Bool
-permits namespace rules s spot = has_spot rules.settled spot || list_any (λ rule. kept_matches namespace (pod (stranger_end s)) spot rule.kept.now) rules.open.items
+permits namespace rules s spot = has_spot rules.settled.value spot || list_any (rule_matches namespace s spot) rules.open.items
 
 -- they permit the stranger what NetworkPolicies permit it
 abbrev pub StandFor : PodSide → OpenRules → Stranger → Type 0

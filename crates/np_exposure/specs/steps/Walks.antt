@@ -44,12 +44,12 @@ abbrev pub IsStepTo : SidedRequirement → List Choices → List Choices → Opt
 IsStepTo asked state next None =
     (wanted : Bool) × (can_be wanted asked state ≡ true) × (can_be (not wanted) asked state ≡ false) × (next ≡ narrowed wanted asked state)
 IsStepTo asked state next (Some aside) =
-    (can_be true asked state ≡ true) × (can_be false asked state ≡ true) × (aside.state.items ≡ narrowed aside.wanted asked state) × (next ≡ narrowed (not aside.wanted) asked state)
+    (can_be true asked state ≡ true) × (can_be false asked state ≡ true) × (aside.left.state.items ≡ narrowed aside.wanted asked state) × (next ≡ narrowed (not aside.wanted) asked state)
 
 -- one case is put aside, and the other goes on
 abbrev pub IsFork : List Choices → List Choices → List Choices → Option Aside → Type 0
 IsFork met unmet next None = ⊥
-IsFork met unmet next (Some aside) = (aside.state.items ≡ (if aside.wanted then met else unmet)) × (next ≡ (if aside.wanted then unmet else met))
+IsFork met unmet next (Some aside) = (aside.left.state.items ≡ (if aside.wanted then met else unmet)) × (next ≡ (if aside.wanted then unmet else met))
 
 -- ---- rows that wait for those of the other case
 

@@ -1,7 +1,7 @@
 use Rattle.std.proofs.Common.{◌≡◌, true, arith, refl, rules}
 use Rattle.std.proofs.lemmas.Result.{IfOk-weaker}
 use Rattle.np_exposure.proofs.DecidedLemmas.{aside-at, filled-none, filled-still, step-at, still-at, still-short}
-use Rattle.np_exposure.proofs.SettledLemmas.{stand-aside, stand-next, stand-settled}
+use Rattle.np_exposure.proofs.SettledLemmas.{aside-stands, left-stands}
 use Rattle.np_exposure.proofs.WalkLemmas.{filled-alone, filled-joined, walked-leaf}
 use Rattle.np_exposure.specs.steps.Settled.{StandForAll}
 use Rattle.np_exposure.specs.steps.States.{are_at}
@@ -11,83 +11,79 @@ use Rattle.np_exposure.proofs.walk.+rows_of.Goals as goal
 pub loop-first-init : goal.loop-first-init
 loop-first-init g t c = record {
   state = c.requires.state;
-  keys = still-at c.args.asked.now c.still_asked-left.result.now c.args.state.items c.deref.result.now c.deref.ensures.value c.still_asked-left.ensures c.requires.keys;
-  shorter = still-short c.args.asked.now c.still_asked-left.result.now c.deref.result.now c.still_asked-left.ensures;
+  keys = still-at c.args.asked.now c.still_asked-more.result.now c.args.left.now.state.items c.deref.result.now c.deref.ensures.value c.still_asked-more.ensures c.requires.keys;
+  shorter = still-short c.args.asked.now c.still_asked-more.result.now c.deref.result.now c.still_asked-more.ensures;
   filled =
-      filled-still c.args.rules.now c.args.asked.now c.still_asked-left.result.now c.args.state.items c.deref.result.now c.new-pending.result.items
-      (AreWalked c.args.rules.now c.args.asked.now c.args.state.items)
-      c.requires.state c.requires.keys c.deref.ensures.value c.still_asked-left.ensures
-      (filled-none c.args.rules.now c.args.asked.now c.args.state.items c.new-pending.result.items c.new-pending.ensures.items);
+      filled-still c.args.rules.now c.args.asked.now c.still_asked-more.result.now c.args.left.now.state.items c.deref.result.now c.new-pending.result
+      (AreWalked c.args.rules.now c.args.asked.now c.args.left.now.state.items)
+      c.requires.state c.requires.keys c.deref.ensures.value c.still_asked-more.ensures
+      (filled-none c.args.rules.now c.args.asked.now c.args.left.now.state.items c.new-pending.result c.new-pending.ensures);
   net = c.requires.net;
   least = omega arith;
 }
 
 pub rows_of-requires : goal.rows_of-requires
 rows_of-requires g t c κs within =
-    let keys : are_at c.in-Some-aside.aside.state.items c.in-Some.rest.now ≡ true =
-    aside-at c.in-Some.first.now c.loop-first.left.now c.in-Some.rest.now c.loop-first.state.items c.in_ok-next.field-0.next.items c.in_ok-next.field-0.aside c.in-Some-aside.aside
-    c.in-Some.ensures.cases.0 c.in-Some-aside.is c.in_ok-next.ensures.step c.loop-first.invariant.keys in
-    let net : StandForAll c.args.rules.now c.in-Some-aside.aside.state.items c.in_ok-settled.settled =
-    stand-settled c.args.rules.now c.loop-first.net c.in_ok-settled.settled c.in-Some-aside.aside.state.items c.deref-in-Some-aside.result.now c.namespace.result.now
-    c.namespace.ensures c.deref-in-Some-aside.ensures.value c.in_ok-settled.ensures
-    (stand-aside c.args.rules.now c.loop-first.net c.in-Some.first.now c.loop-first.state.items c.in_ok-next.field-0.next.items c.in_ok-next.field-0.aside
-    c.in-Some-aside.aside c.in-Some-aside.is c.in_ok-next.ensures.step c.loop-first.invariant.net) in
+    let keys : are_at c.in-Some-aside.aside.left.state.items c.in-Some.rest.now ≡ true =
+    aside-at c.in-Some.first.now c.loop-first.more.now c.in-Some.rest.now c.loop-first.left.state.items c.next_step.new.left.state.items c.in_ok-aside.aside c.in-Some-aside.aside
+    c.in-Some.ensures.cases.0 c.in-Some-aside.is c.in_ok-aside.ensures.step c.loop-first.invariant.keys in
+    let net : StandForAll c.args.rules.now c.in-Some-aside.aside.left.state.items c.in-Some-aside.aside.left.net =
+    aside-stands c.args.rules.now c.in-Some.first.now c.loop-first.left c.next_step.new.left c.in_ok-aside.aside c.in-Some-aside.aside c.namespace.result.now
+    c.in-Some-aside.is c.namespace.ensures c.in_ok-aside.ensures.step c.in_ok-aside.ensures.aside_net c.loop-first.invariant.net in
     search rules
 
-pub loop-first-preserved-in_ok-net : goal.loop-first-preserved-in_ok-net
-loop-first-preserved-in_ok-net g t c =
-    let keys : are_at c.in_ok-next.field-0.next.items c.in-Some.rest.now ≡ true =
-    step-at c.in-Some.first.now c.loop-first.left.now c.in-Some.rest.now c.loop-first.state.items c.in_ok-next.field-0.next.items c.in_ok-next.field-0.aside c.in-Some.ensures.cases.0
-    c.in_ok-next.ensures.step c.loop-first.invariant.keys in
+pub loop-first-preserved-in-Some-aside : goal.loop-first-preserved-in-Some-aside
+loop-first-preserved-in-Some-aside g t c =
+    let keys : are_at c.next_step.new.left.state.items c.in-Some.rest.now ≡ true =
+    step-at c.in-Some.first.now c.loop-first.more.now c.in-Some.rest.now c.loop-first.left.state.items c.next_step.new.left.state.items c.in_ok-aside.aside c.in-Some.ensures.cases.0
+    c.in_ok-aside.ensures.step c.loop-first.invariant.keys in
     record {
-      state = c.in_ok-next.ensures.next;
-      keys = still-at c.in-Some.rest.now c.still_asked-left-in-Some.result.now c.in_ok-next.field-0.next.items c.deref-in-Some.result.now c.deref-in-Some.ensures.value
-          c.still_asked-left-in-Some.ensures keys;
+      state = c.in_ok-aside.ensures.next;
+      keys = still-at c.in-Some.rest.now c.still_asked-more-in-Some.result.now c.next_step.new.left.state.items c.deref-in-Some.result.now c.deref-in-Some.ensures.value
+          c.still_asked-more-in-Some.ensures keys;
       shorter = omega (
         arith,
         c.in-Some.ensures.cases.1,
         c.loop-first.invariant.shorter,
-        still-short c.in-Some.rest.now c.still_asked-left-in-Some.result.now c.deref-in-Some.result.now c.still_asked-left-in-Some.ensures,
+        still-short c.in-Some.rest.now c.still_asked-more-in-Some.result.now c.deref-in-Some.result.now c.still_asked-more-in-Some.ensures,
       );
       filled =
-          filled-still c.args.rules.now c.in-Some.rest.now c.still_asked-left-in-Some.result.now c.in_ok-next.field-0.next.items c.deref-in-Some.result.now c.push.new.self.items
-          (AreWalked c.args.rules.now c.args.asked.now c.args.state.items)
-          c.in_ok-next.ensures.next keys c.deref-in-Some.ensures.value c.still_asked-left-in-Some.ensures
-          (filled-joined c.args.rules.now c.in-Some.first.now c.loop-first.left.now c.in-Some.rest.now c.loop-first.state.items c.in_ok-next.field-0.next.items c.loop-first.pending.items _
-          c.in-Some.ensures.cases.0 c.loop-first.invariant.filled c.in_ok-next.field-0.aside c.in-Some-aside.aside _ c.push.new.self.items c.in-Some-aside.is c.in_ok-next.ensures.step
-          c.in_ok-push.ensures.items refl refl c.in_ok-rows.ensures.rows);
+          filled-still c.args.rules.now c.in-Some.rest.now c.still_asked-more-in-Some.result.now c.next_step.new.left.state.items c.deref-in-Some.result.now c.push.new.self
+          (AreWalked c.args.rules.now c.args.asked.now c.args.left.now.state.items)
+          c.in_ok-aside.ensures.next keys c.deref-in-Some.ensures.value c.still_asked-more-in-Some.ensures
+          (filled-joined c.args.rules.now c.in-Some.first.now c.loop-first.more.now c.in-Some.rest.now c.loop-first.left.state.items c.next_step.new.left.state.items c.loop-first.pending _
+          c.in-Some.ensures.cases.0 c.loop-first.invariant.filled c.in_ok-aside.aside c.in-Some-aside.aside _ c.push.new.self c.in-Some-aside.is c.in_ok-aside.ensures.step
+          c.in_ok-push.ensures.ok refl refl c.in_ok-rows.ensures.rows);
       net =
-          stand-settled c.args.rules.now c.loop-first.net c.in_ok-net.net c.in_ok-next.field-0.next.items c.deref-in-Some-aside-2.result.now c.namespace-in-Some-aside.result.now
-          c.namespace-in-Some-aside.ensures c.deref-in-Some-aside-2.ensures.value c.in_ok-net.ensures
-          (stand-next c.args.rules.now c.loop-first.net c.in-Some.first.now c.loop-first.state.items c.in_ok-next.field-0.next.items c.in_ok-next.field-0.aside
-          c.in_ok-next.ensures.step c.loop-first.invariant.net);
+          left-stands c.args.rules.now c.in-Some.first.now c.loop-first.left c.next_step.new.left c.in_ok-aside.aside c.namespace.result.now
+          c.namespace.ensures c.in_ok-aside.ensures.step c.in_ok-aside.ensures.net c.loop-first.invariant.net;
       least = omega (arith, c.loop-first.invariant.least, c.in_ok-rows.ensures.least);
     }
 
 pub loop-first-preserved : goal.loop-first-preserved
 loop-first-preserved g t c =
-    let keys : are_at c.in_ok-next.field-0.next.items c.in-Some.rest.now ≡ true =
-    step-at c.in-Some.first.now c.loop-first.left.now c.in-Some.rest.now c.loop-first.state.items c.in_ok-next.field-0.next.items c.in_ok-next.field-0.aside c.in-Some.ensures.cases.0
-    c.in_ok-next.ensures.step c.loop-first.invariant.keys in
+    let keys : are_at c.next_step.new.left.state.items c.in-Some.rest.now ≡ true =
+    step-at c.in-Some.first.now c.loop-first.more.now c.in-Some.rest.now c.loop-first.left.state.items c.next_step.new.left.state.items c.in_ok-aside.aside c.in-Some.ensures.cases.0
+    c.in_ok-aside.ensures.step c.loop-first.invariant.keys in
     record {
-      state = c.in_ok-next.ensures.next;
-      keys = still-at c.in-Some.rest.now c.still_asked-left-in-Some.result.now c.in_ok-next.field-0.next.items c.deref-in-Some.result.now c.deref-in-Some.ensures.value
-          c.still_asked-left-in-Some.ensures keys;
+      state = c.in_ok-aside.ensures.next;
+      keys = still-at c.in-Some.rest.now c.still_asked-more-in-Some.result.now c.next_step.new.left.state.items c.deref-in-Some.result.now c.deref-in-Some.ensures.value
+          c.still_asked-more-in-Some.ensures keys;
       shorter = omega (
         arith,
         c.in-Some.ensures.cases.1,
         c.loop-first.invariant.shorter,
-        still-short c.in-Some.rest.now c.still_asked-left-in-Some.result.now c.deref-in-Some.result.now c.still_asked-left-in-Some.ensures,
+        still-short c.in-Some.rest.now c.still_asked-more-in-Some.result.now c.deref-in-Some.result.now c.still_asked-more-in-Some.ensures,
       );
       filled =
-          filled-still c.args.rules.now c.in-Some.rest.now c.still_asked-left-in-Some.result.now c.in_ok-next.field-0.next.items c.deref-in-Some.result.now c.loop-first.pending.items
-          (AreWalked c.args.rules.now c.args.asked.now c.args.state.items)
-          c.in_ok-next.ensures.next keys c.deref-in-Some.ensures.value c.still_asked-left-in-Some.ensures
-          (filled-alone c.args.rules.now c.in-Some.first.now c.loop-first.left.now c.in-Some.rest.now c.loop-first.state.items c.in_ok-next.field-0.next.items c.loop-first.pending.items _
-          c.in-Some.ensures.cases.0 c.loop-first.invariant.filled c.in_ok-next.field-0.aside c.in_default-aside.is c.in_ok-next.ensures.step);
+          filled-still c.args.rules.now c.in-Some.rest.now c.still_asked-more-in-Some.result.now c.next_step.new.left.state.items c.deref-in-Some.result.now c.loop-first.pending
+          (AreWalked c.args.rules.now c.args.asked.now c.args.left.now.state.items)
+          c.in_ok-aside.ensures.next keys c.deref-in-Some.ensures.value c.still_asked-more-in-Some.ensures
+          (filled-alone c.args.rules.now c.in-Some.first.now c.loop-first.more.now c.in-Some.rest.now c.loop-first.left.state.items c.next_step.new.left.state.items c.loop-first.pending _
+          c.in-Some.ensures.cases.0 c.loop-first.invariant.filled c.in_ok-aside.aside c.in_default-aside.is c.in_ok-aside.ensures.step);
       net =
-          stand-next c.args.rules.now c.loop-first.net c.in-Some.first.now c.loop-first.state.items c.in_ok-next.field-0.next.items c.in_ok-next.field-0.aside
-          c.in_ok-next.ensures.step c.loop-first.invariant.net;
+          left-stands c.args.rules.now c.in-Some.first.now c.loop-first.left c.next_step.new.left c.in_ok-aside.aside c.namespace.result.now
+          c.namespace.ensures c.in_ok-aside.ensures.step c.in_ok-aside.ensures.net c.loop-first.invariant.net;
       least = c.loop-first.invariant.least;
     }
 
@@ -95,6 +91,5 @@ pub returns-clause-rows : goal.returns-clause-rows
 returns-clause-rows g t c =
     IfOk-weaker c.all_joined.result _ _
     (λ rows fills. c.loop-first.invariant.filled c.in_ok-last.last.items rows.items
-    (walked-leaf c.args.rules.now c.loop-first.left.now c.loop-first.state.items c.deref-2.result.now c.in_ok-last.last.items c.in_default.ensures.cases c.deref-2.ensures.value
-    c.in_ok-last.ensures.rows) fills)
+    (walked-leaf c.args.rules.now c.loop-first.more.now c.loop-first.left.state.items _ c.in_ok-last.last.items c.in_default.ensures.cases refl c.in_ok-last.ensures.rows) fills)
     c.all_joined.ensures

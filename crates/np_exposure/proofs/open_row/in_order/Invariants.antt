@@ -1,5 +1,5 @@
 use Rattle.std.proofs.Common.{◌≡◌, ◌++◌, reverse, vec_len}
-use Rattle.np_exposure.proofs.open_row.OpenRow.finished.Given as goal
+use Rattle.np_exposure.proofs.open_row.in_order.Given as goal
 
 abbrev pub invariant-loop-lent : goal.invariant-loop-lent
 invariant-loop-lent l = l.requirements ++ reverse l.backwards.items ≡ reverse l.initial.backwards.items
