@@ -10,7 +10,7 @@ CLOSING = {"(": ")", "{": "}", "[": "]"}
 
 # What antt has without an import.
 BUILT_IN = {"→", "×", ":", "=", "|", "↦", "then", "else", "as", "in", "Type", "Unit", "tt", "⊥", "absurd", "_", "elim", "record",
-            "use", "open"}
+            "use", "open", "do"}
 
 
 class Group(list):
@@ -131,6 +131,8 @@ def walk(items, bound, note):
             walk_group(item, bound, note)
         elif item == "λ":
             place = bind_lambda(items, place, bound, note)
+        elif item == "←":
+            note(">>=")
         elif item == "let":
             lets.append(items[place])
             place += 1
@@ -161,8 +163,9 @@ def walk_pattern(items, bound, note, is_constructor):
 
 
 def without_do(text):
-    """A clause without its `do` block: what that stands for has `>>=` behind a step `x ← e`, and `>>` behind one without a name."""
-    head, mark, block = text.partition(" = do\n")
+    """A clause without the `do` block at its end: what that stands for has `>>=` behind a step `x ← e`, and `>>` behind one without
+    a name. A `(← e)` in a step is such a step before it."""
+    head, mark, block = text.partition(" do\n")
     if not mark:
         return text
     steps = []
@@ -178,7 +181,7 @@ def without_do(text):
             term = f"{step} in {term}"
         else:
             term = f"({value}) >>= λ {name}. {term}" if arrow else f"({step}) >> {term}"
-    return f"{head} = {term}"
+    return f"{head} {term}"
 
 
 def walk_clause(text, name, note, is_constructor):

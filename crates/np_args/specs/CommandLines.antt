@@ -1,5 +1,6 @@
 -- What the words of a command line ask for.
-use Rattle.std.specs.Prelude.{◌∷◌, [], List, None, Option, String, codes, if◌then◌else◌, map, string_bytes}
+use Rattle.std.specs.Prelude.{◌∷◌, [], List, None, Option, String, codes, map, option_and_then, string_bytes}
+use Rattle.std.specs.Map.{lookup}
 use Rattle.std.specs.Str.{bytes_eq}
 use Rattle.std.specs.declared.alloc.Global.{Global}
 use Rattle.np_args.specs.CheckWords.{check_job}
@@ -12,19 +13,16 @@ use Rattle.np_args.specs.SampleWords.{sample_job}
 use Rattle.np_args.specs.Values.{Text}
 use Rattle.np_args.specs.declared.job.Job.{Job}
 
+-- what the words of each command ask for, by its name
+abbrev pub jobs : List (Text × (List Text → Option Job))
+jobs =
+    (codes "list", list_job) ∷ (codes "explain", explain_job) ∷ (codes "exposure", exposure_job) ∷ (codes "evaluate", evaluate_job)
+    ∷ (codes "unused", unused_job) ∷ (codes "check", check_job) ∷ (codes "flatten", flatten_job) ∷ (codes "sample", sample_job) ∷ []
+
 -- The first word is the command. Words that begin with no command ask for nothing.
 abbrev pub job_of : List Text → Option Job
 job_of [] = None
-job_of (command ∷ rest) =
-    if bytes_eq command (codes "list") then list_job (command ∷ rest)
-    else if bytes_eq command (codes "explain") then explain_job (command ∷ rest)
-    else if bytes_eq command (codes "exposure") then exposure_job (command ∷ rest)
-    else if bytes_eq command (codes "evaluate") then evaluate_job (command ∷ rest)
-    else if bytes_eq command (codes "unused") then unused_job (command ∷ rest)
-    else if bytes_eq command (codes "check") then check_job (command ∷ rest)
-    else if bytes_eq command (codes "flatten") then flatten_job (command ∷ rest)
-    else if bytes_eq command (codes "sample") then sample_job (command ∷ rest)
-    else None
+job_of (command ∷ rest) = option_and_then (λ job. job (command ∷ rest)) (lookup (bytes_eq command) jobs)
 
 -- what a command line asks for
 abbrev pub asked_by : List (String Global) → Option Job

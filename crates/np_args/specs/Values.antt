@@ -1,7 +1,8 @@
 -- The values of options: what each reader makes of a word.
-use Rattle.std.specs.Prelude.{ℕ, ◌==◌, ◌&&◌, nat_le, not, List, Option, Some, None, option_map, codes, slice_index, if◌then◌else◌}
+use Rattle.std.specs.Prelude.{ℕ, ◌==◌, ◌&&◌, nat_le, not, List, [], ◌∷◌, Option, Some, None, option_map, codes, slice_index, if◌then◌else◌}
 use Rattle.std.specs.Char.{is_digit}
 use Rattle.std.specs.List.{list_all, list_any}
+use Rattle.std.specs.Map.{lookup}
 use Rattle.std.specs.Str.{bytes_eq}
 use Rattle.std.specs.Str.Parse.{digits_value}
 use Rattle.np_addr.specs.AddressGrammar.{address_of}
@@ -19,26 +20,15 @@ Text = List ℕ
 
 -- `--format`
 abbrev pub format_of : Text → Option Format
-format_of word =
-    if bytes_eq word (codes "text") then Some Plain
-    else if bytes_eq word (codes "csv") then Some Csv
-    else if bytes_eq word (codes "json") then Some Json
-    else None
+format_of word = lookup (bytes_eq word) ((codes "text", Plain) ∷ (codes "csv", Csv) ∷ (codes "json", Json) ∷ [])
 
 -- `--report`
 abbrev pub report_of : Text → Option Report
-report_of word =
-    if bytes_eq word (codes "1") then Some One
-    else if bytes_eq word (codes "2") then Some Two
-    else None
+report_of word = lookup (bytes_eq word) ((codes "1", One) ∷ (codes "2", Two) ∷ [])
 
 -- `--side`
 abbrev pub side_of : Text → Option FocusSide
-side_of word =
-    if bytes_eq word (codes "either") then Some Either
-    else if bytes_eq word (codes "from") then Some Source
-    else if bytes_eq word (codes "to") then Some Destination
-    else None
+side_of word = lookup (bytes_eq word) ((codes "either", Either) ∷ (codes "from", Source) ∷ (codes "to", Destination) ∷ [])
 
 -- `--from` and `--to` of a packet: a word with a `/` (47) in it is a name, and any other must be an address.
 abbrev pub end_of : Text → Option EndWord

@@ -6,7 +6,7 @@ use np_base::Text;
 use std::alloc::Global;
 
 /// The end of a connection, as a word names it: a word with a `/` in it is a name, and any other is an address.
-#[derive(Debug, Drop)]
+#[derive(Drop)]
 pub enum EndWord {
     /// An address outside the cluster.
     At(Address),

@@ -1,7 +1,7 @@
 //! Which end of a row a focus looks at.
 
 /// Which end of a row must be the workload that is asked for.
-#[derive(Clone, Copy, Debug, PartialEq, Eq)]
+#[derive(Clone, Copy, PartialEq, Eq)]
 pub enum FocusSide {
     /// One of the two, or both.
     Either,

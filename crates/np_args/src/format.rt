@@ -1,7 +1,7 @@
 //! How the rows of a table are written.
 
 /// How the rows of a table are written.
-#[derive(Clone, Copy, Debug, PartialEq, Eq)]
+#[derive(Clone, Copy, PartialEq, Eq)]
 pub enum Format {
     /// A line of text for each row: `source => destination : connections`.
     Plain,

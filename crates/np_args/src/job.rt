@@ -9,7 +9,6 @@ use np_conns::Proto;
 
 /// What the words of a command line ask for. The files of a job are the names of its inputs, in order. There is at least
 /// one, and the name `-`, which stands at most once, is standard input.
-#[derive(Debug, Drop)]
 pub enum Job {
     /// The table of the connections that the policies permit. With a controller, what comes through Ingresses is sent by
     /// the workload of that name. With a focus, the rows in which the workload of that name stands on the side.
@@ -59,4 +58,44 @@ pub enum Job {
     Sample {
         n: u32,
     },
+}
+
+// Written out, so that letting one go is one call.
+impl Drop for Job {
+    fn drop(self) {
+        match self {
+            Job::List {
+                format: _format,
+                report: _report,
+                controller: _controller,
+                focus: _focus,
+                side: _side,
+                files: _files,
+            } => {}
+            Job::Explain {
+                from: _from,
+                to: _to,
+                files: _files,
+            } => {}
+            Job::Exposure {
+                workload: _workload,
+                format: _format,
+                files: _files,
+            } => {}
+            Job::Evaluate {
+                from: _from,
+                to: _to,
+                proto: _proto,
+                port: _port,
+                files: _files,
+            } => {}
+            Job::Unused { files: _files } => {}
+            Job::Check {
+                statement: _statement,
+                files: _files,
+            } => {}
+            Job::Flatten { files: _files } => {}
+            Job::Sample { n: _n } => {}
+        }
+    }
 }

@@ -1,7 +1,7 @@
 //! How ranges of addresses are written.
 
 /// How a range of addresses is written.
-#[derive(Clone, Copy, Debug, PartialEq, Eq)]
+#[derive(Clone, Copy, PartialEq, Eq)]
 pub enum Report {
     /// By its first and its last address: `10.0.0.0-10.0.255.255`, and one address as itself.
     One,

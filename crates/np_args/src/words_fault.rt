@@ -5,7 +5,7 @@ use np_base::NoMemory;
 use std::alloc::AllocError;
 
 /// Why words ask for nothing.
-#[derive(Clone, Copy, Debug, PartialEq, Eq)]
+#[derive(Clone, Copy, PartialEq, Eq)]
 pub enum WordsFault {
     /// They are no command line of the program.
     Usage,

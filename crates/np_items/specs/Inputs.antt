@@ -27,9 +27,8 @@ is_list_kind kind = ends_with nat_eq kind (codes "List")
 
 -- a member that an input's value must have
 abbrev pub or_no_list : {A : Type 0} → ℕ → Field A → Reading A
-or_no_list input Missing = Err (NotAList input)
-or_no_list input Wrong = Err (NotAList input)
 or_no_list input (Given x) = Ok x
+or_no_list input other = Err (NotAList input)
 
 -- the items of a JSON list, one after another
 abbrev pub values : Items → List Data
@@ -52,23 +51,16 @@ items_by input version kind value =
 -- what the value of an input lists
 unfoldable pub items_in : ℕ → Data → Reading (List Data)
 items_in input value = do
-  version ← or_no_list input (text_of (codes "apiVersion") value)
-  kind ← or_no_list input (text_of (codes "kind") value)
-  items_by input version kind value
+  items_by input (← or_no_list input (text_of (codes "apiVersion") value)) (← or_no_list input (text_of (codes "kind") value)) value
 
 -- what an input lists
 unfoldable pub input_values : ℕ → List ℕ → Reading (List Data)
-input_values input text = do
-  value ← or_not_json input (json_of text)
-  items_in input value
+input_values input text = or_not_json input (json_of text) >>= items_in input
 
 -- what inputs list, numbered from `input` on
 abbrev pub values_from : ℕ → List (List ℕ) → Reading (List Data)
 values_from input [] = Ok []
-values_from input (text ∷ texts) = do
-  first ← input_values input text
-  others ← values_from (input + 1) texts
-  Ok (first ++ others)
+values_from input (text ∷ texts) = do Ok ((← input_values input text) ++ (← values_from (input + 1) texts))
 
 -- what all inputs list, in order
 abbrev pub all_values : List (List ℕ) → Reading (List Data)

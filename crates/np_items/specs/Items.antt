@@ -20,31 +20,21 @@ numbered number (Err flaw) = Err (Bad (record { item = number; path = flaw.path;
 -- The rule that an item is no list: one of any kind that ends in `List`, whatever its version and project, is refused,
 -- since it would otherwise be skipped with all that it lists, policies among them.
 unfoldable pub must_be_no_list : ℕ → Data → Reading ⊤
-must_be_no_list number value = do
-  type ← numbered number (type_meta value)
-  if is_list_kind type.kind then Err (NestedList number) else Ok tt
+must_be_no_list number value = numbered number (type_meta value) >>= λ type. if is_list_kind type.kind then Err (NestedList number) else Ok tt
 
 -- the policy that an item is, or else the object
 abbrev pub policy_or_object : ℕ → Data → Option Policy → Reading Item
 policy_or_object number value (Some policy) = Ok (item.Policy policy)
-policy_or_object number value None = do
-  object ← numbered number (object_of value)
-  Ok (item.Object object)
+policy_or_object number value None = do Ok (item.Object (← numbered number (object_of value)))
 
 -- the item of that number
 unfoldable pub item_of : ℕ → Data → Reading Item
-item_of number value = do
-  must_be_no_list number value
-  policy ← numbered number (policy_of value)
-  policy_or_object number value policy
+item_of number value = must_be_no_list number value >> do policy_or_object number value (← numbered number (policy_of value))
 
 -- each value as an item, numbered from `number` on
 abbrev pub each_item : ℕ → List Data → Reading (List Item)
 each_item number [] = Ok []
-each_item number (value ∷ values) = do
-  item ← item_of number value
-  items ← each_item (number + 1) values
-  Ok (item ∷ items)
+each_item number (value ∷ values) = do Ok ((← item_of number value) ∷ (← each_item (number + 1) values))
 
 -- how many items are read at most
 abbrev pub most_items : ℕ

@@ -10,11 +10,8 @@ use Rattle.np_json.specs.declared.meta.TypeMeta.{TypeMeta}
 
 -- an object
 unfoldable pub type_meta : Data → Read TypeMeta
-type_meta value = do
-  must_be_object value
-  api_version ← required (codes "apiVersion") text value
-  kind ← required (codes "kind") text value
-  Ok (record { api_version = api_version; kind = kind })
+type_meta value = must_be_object value >> do
+  Ok (record { api_version = (← required (codes "apiVersion") text value); kind = (← required (codes "kind") text value) })
 
 -- the empty text stands for `default`
 abbrev pub or_default : List ℕ → List ℕ
@@ -22,15 +19,11 @@ or_default s = if length s == 0 then codes "default" else s
 
 -- a text that is empty or a name
 unfoldable pub namespace : Data → Read (List ℕ)
-namespace value = do
-  s ← text value
-  refuse_if (not (is_name (or_default s))) BadName
-  Ok (or_default s)
+namespace value = text value >>= λ s. refuse_if (not (is_name (or_default s))) BadName >> Ok (or_default s)
 
 -- the metadata of an object in a namespace
 unfoldable pub namespaced_name : Data → Read NamespacedName
-namespaced_name value = do
-  must_be_object value
+namespaced_name value = must_be_object value >> do
   called ← required (codes "name") name value
   space ← optional (codes "namespace") namespace value
   Ok (record { namespace = unwrap_or space (codes "default"); name = called })

@@ -1,12 +1,12 @@
 -- Shapes of single values, and of the maps of labels.
-use Rattle.std.specs.Prelude.{ℤ, ℕ, pos, negsuc, List, Bool, not, ◌&&◌, nat_le, if◌then◌else◌, Option, Ok}
+use Rattle.std.specs.Prelude.{ℤ, ℕ, pos, negsuc, List, Bool, ◌&&◌, nat_le, if◌then◌else◌, Option, Ok}
 use Rattle.std.specs.List.{list_all}
 use Rattle.serde_json.specs.Data.{Data}
 use Rattle.serde_json.specs.Find.{as_str, as_bool}
 use Rattle.np_conns.specs.ConnsText.{proto_named}
 use Rattle.np_conns.specs.declared.proto.Proto.{Proto}
 use Rattle.np_json.specs.Members.{as_whole, as_pairs}
-use Rattle.np_json.specs.Shapes.{Read, ◌>>=◌, ◌>>◌, or_refuse, refuse, refuse_if}
+use Rattle.np_json.specs.Shapes.{Read, ◌>>=◌, or_refuse, passing, refuse}
 use Rattle.np_model.specs.Words.{is_word, is_name, is_label}
 use Rattle.np_json.specs.declared.fault.FaultKind.TheVariants.{BadField, BadName, BadPort, BadProtocol}
 
@@ -25,17 +25,11 @@ flag value = of_type (as_bool value)
 
 -- a text that is a name, else BadName
 unfoldable pub name : Data → Read (List ℕ)
-name value = do
-  s ← text value
-  refuse_if (not (is_name s)) BadName
-  Ok s
+name value = passing is_name BadName (text value)
 
 -- a text that is a word, else BadField
 unfoldable pub word : Data → Read (List ℕ)
-word value = do
-  s ← text value
-  refuse_if (not (is_word s)) BadField
-  Ok s
+word value = passing is_word BadField (text value)
 
 -- a port's number, if the number is from 1 to 65535
 abbrev pub port_number : ℤ → Read ℕ
@@ -44,19 +38,12 @@ port_number (negsuc n) = refuse BadPort
 
 -- a whole number from 1 to 65535, else BadPort
 unfoldable pub port : Data → Read ℕ
-port value = do
-  n ← whole value
-  port_number n
+port value = whole value >>= port_number
 
 -- a text that names a protocol, else BadProtocol
 unfoldable pub protocol_name : Data → Read Proto
-protocol_name value = do
-  s ← text value
-  or_refuse BadProtocol (proto_named s)
+protocol_name value = do or_refuse BadProtocol (proto_named (← text value))
 
 -- an object from texts to texts that are labels, else BadField
 unfoldable pub labels : Data → Read (List (List ℕ × List ℕ))
-labels value = do
-  pairs ← of_type (as_pairs value)
-  refuse_if (not (list_all is_label pairs)) BadField
-  Ok pairs
+labels value = passing (list_all is_label) BadField (of_type (as_pairs value))

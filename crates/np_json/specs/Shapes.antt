@@ -2,7 +2,7 @@
 -- of the shape and, in a list, by its items, whatever the order of the members in the text. Members that no line names
 -- are ignored: an API server drops those that it does not know, and the others say nothing of connections. Only an
 -- unknown member of a label selector is refused.
-use Rattle.std.specs.Prelude.{◌≡◌, ℕ, ◌+◌, ◌==◌, List, [], ◌∷◌, count_by, Bool, if◌then◌else◌, is_none, is_some, Option, Some, None, Result, Ok, Err, ⊤}
+use Rattle.std.specs.Prelude.{◌≡◌, ℕ, ◌+◌, ◌==◌, List, [], ◌∷◌, count_by, Bool, if◌then◌else◌, is_none, is_some, Option, Some, None, unwrap_or, not, Result, Ok, Err, ⊤}
 use Rattle.serde_json.specs.Data.{Data, Items, no_items, item}
 use Rattle.serde_json.specs.Find.{as_array, as_object}
 use Rattle.np_base.specs.declared.no_memory.NoMemory as np
@@ -78,6 +78,10 @@ IsFlawAt (Err none) kind fault = fault ≡ NoMemory
 unfoldable pub refuse_if : Bool → FaultKind → Read ⊤
 refuse_if broken kind = if broken then refuse kind else Ok tt
 
+-- what is read, where it passes a test, else a flaw of the whole value
+abbrev pub passing : {A : Type 0} → (A → Bool) → FaultKind → Read A → Read A
+passing passes kind read = read >>= λ output. refuse_if (not (passes output)) kind >> Ok output
+
 -- a rule on a member: the member's flaw where it is broken
 unfoldable pub refuse_member_if : List ℕ → Bool → FaultKind → Read ⊤
 refuse_member_if name broken kind = under (Field name) (refuse_if broken kind)
@@ -101,16 +105,12 @@ read_member missing shape (Some value) = shape value
 
 -- what is read, as a value that is there
 abbrev pub given : {A : Type 0} → Read A → Read (Option A)
-given (Ok output) = Ok (Some output)
-given (Err flaw) = Err flaw
+given read = do Ok (Some (← read))
 
 -- each item by the shape, under its place
 abbrev pub each_item : {A : Type 0} → (Data → Read A) → ℕ → Items → Read (List A)
 each_item shape place no_items = Ok []
-each_item shape place (item value items) = do
-  output ← under (Item place) (shape value)
-  outputs ← each_item shape (place + 1) items
-  Ok (output ∷ outputs)
+each_item shape place (item value items) = do Ok ((← under (Item place) (shape value)) ∷ (← each_item shape (place + 1) items))
 
 -- the items of a list by the shape
 abbrev pub list_by : {A : Type 0} → (Data → Read A) → Option Items → Read (List A)
@@ -124,6 +124,10 @@ required name shape value = under (Field name) (read_member (refuse BadField) sh
 -- a member that may be missing
 unfoldable pub optional : {A : Type 0} → List ℕ → (Data → Read A) → Data → Read (Option A)
 optional name shape value = under (Field name) (read_member (Ok None) (λ found. given (shape found)) (member_of name value))
+
+-- a member that stands for this value where it is missing
+abbrev pub optional_or : {A : Type 0} → A → List ℕ → (Data → Read A) → Data → Read A
+optional_or missing name shape value = do Ok (unwrap_or (← optional name shape value) missing)
 
 -- a member that is a list, and empty where it is missing
 unfoldable pub listed : {A : Type 0} → List ℕ → (Data → Read A) → Data → Read (List A)

@@ -7,7 +7,7 @@ ghost use Rattle.np_json.specs.Members.{text_of, whole_of, flag_of, list_of, obj
 use serde_json::Value;
 
 /// How a member of an object stands that is to have one type.
-#[derive(Debug, PartialEq, Eq, Drop)]
+#[derive(PartialEq, Eq, Drop)]
 pub enum Field<T> {
     /// There is no such member, or it is null.
     Missing,
@@ -18,7 +18,7 @@ pub enum Field<T> {
 }
 
 /// A member that may be a whole number or a text.
-#[derive(Clone, Copy, Debug, PartialEq, Eq)]
+#[derive(Clone, Copy, PartialEq, Eq)]
 pub enum NumberOrText<'a> {
     Number(i64),
     Text(&'a str),

@@ -13,14 +13,14 @@ use serde_json::Value;
 use std::alloc::Global;
 
 /// The type of an object (TypeMeta of the Kubernetes API reference).
-#[derive(Debug, Drop)]
+#[derive(Drop)]
 pub struct TypeMeta {
     pub api_version: Text,
     pub kind: Text,
 }
 
 /// The shape of an object's own type: an object with the texts `apiVersion` and `kind`, else `BadField`.
-#[derive(Clone, Copy, Debug, Drop)]
+#[derive(Clone, Copy, Drop)]
 pub struct TypeMetaShape;
 
 impl Shape for TypeMetaShape {
@@ -40,7 +40,7 @@ impl Shape for TypeMetaShape {
 }
 
 /// The name of an object and the namespace that it is in (ObjectMeta of the Kubernetes API reference).
-#[derive(Debug, Drop)]
+#[derive(Drop)]
 pub struct NamespacedName {
     pub namespace: Text,
     pub name: Text,
@@ -48,7 +48,7 @@ pub struct NamespacedName {
 
 /// The shape of the metadata of an object in a namespace: `name`, which is required and a name, and `namespace`,
 /// which is a name and `default` where it is missing or empty.
-#[derive(Clone, Copy, Debug, Drop)]
+#[derive(Clone, Copy, Drop)]
 pub struct NamespacedNameShape;
 
 impl Shape for NamespacedNameShape {
@@ -69,7 +69,7 @@ impl Shape for NamespacedNameShape {
 }
 
 // A namespace: a text that is a name, or empty for `default`.
-#[derive(Clone, Copy, Debug, Drop)]
+#[derive(Clone, Copy, Drop)]
 struct Namespace;
 
 impl Shape for Namespace {

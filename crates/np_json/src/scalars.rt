@@ -17,7 +17,7 @@ use serde_json::Value;
 use std::alloc::Global;
 
 /// Any text. Another type is `BadField`.
-#[derive(Clone, Copy, Debug, Drop)]
+#[derive(Clone, Copy, Drop)]
 pub struct AnyText;
 
 impl Shape for AnyText {
@@ -34,7 +34,7 @@ impl Shape for AnyText {
 }
 
 /// A text that is a word. Anything else is `BadField`.
-#[derive(Clone, Copy, Debug, Drop)]
+#[derive(Clone, Copy, Drop)]
 pub struct Word;
 
 impl Shape for Word {
@@ -53,7 +53,7 @@ impl Shape for Word {
 }
 
 /// A text that is a name. A text that is none is `BadName`, another type `BadField`.
-#[derive(Clone, Copy, Debug, Drop)]
+#[derive(Clone, Copy, Drop)]
 pub struct Name;
 
 impl Shape for Name {
@@ -72,7 +72,7 @@ impl Shape for Name {
 }
 
 /// A whole number, as [`crate::whole_field`] says. Anything else is `BadField`.
-#[derive(Clone, Copy, Debug, Drop)]
+#[derive(Clone, Copy, Drop)]
 pub struct Whole;
 
 impl Shape for Whole {
@@ -88,7 +88,7 @@ impl Shape for Whole {
 }
 
 /// True or false. Anything else is `BadField`.
-#[derive(Clone, Copy, Debug, Drop)]
+#[derive(Clone, Copy, Drop)]
 pub struct Flag;
 
 impl Shape for Flag {
@@ -104,7 +104,7 @@ impl Shape for Flag {
 }
 
 /// A whole number from 1 to 65535. Another whole number is `BadPort`, anything else `BadField`.
-#[derive(Clone, Copy, Debug, Drop)]
+#[derive(Clone, Copy, Drop)]
 pub struct Port;
 
 impl Shape for Port {
@@ -133,7 +133,7 @@ pub fn port_of(alloc: Global, number: i64) -> Result<PortNum, ShapeFault>
 }
 
 /// The name of a protocol: `TCP`, `UDP` or `SCTP`. Another text is `BadProtocol`, another type `BadField`.
-#[derive(Clone, Copy, Debug, Drop)]
+#[derive(Clone, Copy, Drop)]
 pub struct ProtocolName;
 
 impl Shape for ProtocolName {
@@ -152,7 +152,7 @@ impl Shape for ProtocolName {
 
 /// An object from texts to texts, each key a word that is not empty and each value a word: its entries, in the
 /// order of their keys' bytes. Anything else is `BadField` of the object, wherever in it the fault is.
-#[derive(Clone, Copy, Debug, Drop)]
+#[derive(Clone, Copy, Drop)]
 pub struct LabelMap;
 
 impl Shape for LabelMap {

@@ -3,7 +3,7 @@ use Rattle.std.proofs.Common.{◌≡◌, ◌≢◌, ℕ, zero, suc, ◌+◌, ◌
 use Rattle.std.proofs.Common.{sym, ap, subst, ◌∙◌, arith, add-zero, zero-add}
 use Rattle.std.specs.Prelude.{codes, filter, find, option_to_list}
 use Rattle.std.specs.List.{cons_option, filter_map, position, position_or_len, slice_get}
-use Rattle.std.specs.Option.{option_and_then, option_flatten, option_map, option_map_or}
+use Rattle.std.specs.Option.{option_and_then, option_flatten, option_map, option_map_or, option_or}
 use Rattle.std.specs.Str.{bytes_eq}
 use Rattle.std.specs.Cmp.Lexicographic.{bytes_decides}
 use Rattle.std.proofs.lemmas.Bool.Decides.{nat_tests}
@@ -38,7 +38,7 @@ use Rattle.np_objects.specs.declared.owner_ref.OwnerRef.{OwnerRef}
 use Rattle.np_objects.specs.declared.pod_item.PodItem.{PodItem}
 use Rattle.np_owners.specs.MadePods.{makes_pod}
 use Rattle.np_owners.specs.Names.{is_named, name_of, place_of, same_name}
-use Rattle.np_owners.specs.Owners.{controller_place, last_owner, owner_of, owner_or_itself, owner_place, place_in_namespace, top_owner, ups}
+use Rattle.np_owners.specs.Owners.{by_name, by_reference, controller_place, last_owner, owner_of, owner_place, place_in_namespace, top_owner, ups}
 use Rattle.np_owners.specs.declared.object_name.ObjectName.{ObjectName}
 use Rattle.np_model.specs.declared.owner.Owner.{Owner}
 use Rattle.np_policies.specs.declared.policy.Policy.TheVariants as policy
@@ -52,7 +52,7 @@ names_one items place = is_some (option_and_then last_owner (slice_get items pla
 named-last : (name : ObjectName) (one : Item) → is_named name one ≡ true → is_some (last_owner one) ≡ true
 named-last name one is = by (owner_of one) (name_of one) is
   where
-    by : (owner : Option OwnerRef) (own : Option ObjectName) → option_map_or (same_name name) own false ≡ true → is_some (owner_or_itself owner own) ≡ true
+    by : (owner : Option OwnerRef) (own : Option ObjectName) → option_map_or (same_name name) own false ≡ true → is_some (option_or (option_map by_reference owner) (option_map by_name own)) ≡ true
     by (Some owner) own is = refl
     by None None is = cc
     by None (Some own) is = refl
@@ -128,7 +128,7 @@ module _ (items : List Item) (place : ℕ) where
       subst (λ (top : Option Owner). Fits (taken (Some one)) (cond (makes_pod items place) None None) (given top)) (sym owner.1)
       (by (namespace_labels items one.namespace) owner.0 one.host_network one.finished (makes_pod items place))
     where
-      itself : (owner : Option OwnerRef) → is_some (owner_or_itself owner (Some (record { kind = codes "Pod"; namespace = one.namespace; name = one.name }))) ≡ true
+      itself : (owner : Option OwnerRef) → is_some (option_or (option_map by_reference owner) (option_map by_name (Some (record { kind = codes "Pod"; namespace = one.namespace; name = one.name })))) ≡ true
       itself None = refl
       itself (Some owner) = refl
 
@@ -149,7 +149,7 @@ module _ (items : List Item) (place : ℕ) where
       subst (λ (top : Option Owner). Fits None (cond (makes_pod items place) (templated (item.Object (object.Controller one))) None) (given top)) (sym owner.1)
       (by (namespace_labels items one.namespace) owner.0 (makes_pod items place) one.template)
     where
-      itself : (owner : Option OwnerRef) → is_some (owner_or_itself owner (Some (record { kind = kind_name one.kind; namespace = one.namespace; name = one.name }))) ≡ true
+      itself : (owner : Option OwnerRef) → is_some (option_or (option_map by_reference owner) (option_map by_name (Some (record { kind = kind_name one.kind; namespace = one.namespace; name = one.name })))) ≡ true
       itself None = refl
       itself (Some owner) = refl
 

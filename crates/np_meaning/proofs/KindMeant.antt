@@ -1,7 +1,8 @@
 -- An object that was read is of the version and the kind that it names.
-use Rattle.std.proofs.Common.{◌≡◌, ℕ, List, Bool, true, false, Ok, refl, sym, subst, ◌∙◌}
+use Rattle.std.proofs.Common.{◌≡◌, ℕ, List, [], Bool, true, false, cond, None, Ok, refl, sym, subst, ◌∙◌}
 use Rattle.std.specs.Prelude.{IfOk, codes}
 use Rattle.std.specs.Cmp.Lexicographic.{bytes_decides}
+use Rattle.std.specs.Map.{lookup}
 use Rattle.std.specs.Str.{bytes_eq}
 use Rattle.serde_json.specs.Data.{Data}
 use Rattle.np_json.specs.Meta.{type_meta}
@@ -15,7 +16,7 @@ use Rattle.np_objects.specs.ControllerKinds.{kind_name}
 use Rattle.np_objects.specs.Controllers.{controller}
 use Rattle.np_objects.specs.Ingresses.{ingress}
 use Rattle.np_objects.specs.Namespaces.{namespace}
-use Rattle.np_objects.specs.Objects.{object_kind, object_by, object_of}
+use Rattle.np_objects.specs.Objects.{kinds_of, object_by, object_of}
 use Rattle.np_objects.specs.Pods.{pod}
 use Rattle.np_objects.specs.Services.{service}
 use Rattle.np_objects.specs.declared.controller.ControllerItem.{ControllerItem}
@@ -53,26 +54,39 @@ taken value one make read so is =
     let item = bind-output one (λ item. Ok (make item)) read is in
     subst (λ read. IfOk read (IsOfItsKind value)) item.after (so item.first item.here)
 
-module _ (value : Data) (meta : TypeMeta) (names : Names meta.api_version meta.kind value) (read : Object) (is : object_by (object_kind meta.api_version meta.kind) value ≡ Ok read) where
-  -- the kinds of `v1`
-  as_service : bytes_eq meta.api_version (codes "v1") ≡ true → bytes_eq meta.kind (codes "Pod") ≡ false → bytes_eq meta.kind (codes "Namespace") ≡ false →
-      bytes_eq meta.kind (codes "ReplicationController") ≡ false → (here : Bool) → bytes_eq meta.kind (codes "Service") ≡ here → IsOfItsKind value read
-  unfolding object_by
-  as_service core no_pod no_namespace no_replication_controller true kind =
-      taken value (service value) object.Service read (λ item found. (called meta.api_version meta.kind (codes "v1") (codes "Service") value names core kind, found))
-      (rw (core, no_pod, no_namespace, no_replication_controller, kind) at is)
-  as_service core no_pod no_namespace no_replication_controller false kind =
-      subst (λ read. IfOk read (IsOfItsKind value)) (rw (core, no_pod, no_namespace, no_replication_controller, kind) at is) tt
+-- what is looked up in the list of one of four versions
+listed : {X K : Type 0} (test : X → Bool) (core apps batch networking : Bool) (one two three four : List (X × K)) →
+    lookup test (cond core one (cond apps two (cond batch three (cond networking four []))))
+    ≡ cond core (lookup test one) (cond apps (lookup test two) (cond batch (lookup test three) (cond networking (lookup test four) None)))
+listed test true apps batch networking one two three four = refl
+listed test false true batch networking one two three four = refl
+listed test false false true networking one two three four = refl
+listed test false false false true one two three four = refl
+listed test false false false false one two three four = refl
 
-  as_replication_controller : bytes_eq meta.api_version (codes "v1") ≡ true → bytes_eq meta.kind (codes "Pod") ≡ false → bytes_eq meta.kind (codes "Namespace") ≡ false → (here : Bool) →
-      bytes_eq meta.kind (codes "ReplicationController") ≡ here → IsOfItsKind value read
+module _ (value : Data) (meta : TypeMeta) (names : Names meta.api_version meta.kind value) (read : Object) (is : object_by (cond (bytes_eq meta.api_version (codes "v1")) (lookup (bytes_eq meta.kind) (kinds_of (codes "v1")))
+    (cond (bytes_eq meta.api_version (codes "apps/v1")) (lookup (bytes_eq meta.kind) (kinds_of (codes "apps/v1")))
+    (cond (bytes_eq meta.api_version (codes "batch/v1")) (lookup (bytes_eq meta.kind) (kinds_of (codes "batch/v1")))
+    (cond (bytes_eq meta.api_version (codes "networking.k8s.io/v1")) (lookup (bytes_eq meta.kind) (kinds_of (codes "networking.k8s.io/v1"))) None)))) value ≡ Ok read) where
+  -- the kinds of `v1`
+  as_replication_controller : bytes_eq meta.api_version (codes "v1") ≡ true → bytes_eq meta.kind (codes "Pod") ≡ false → bytes_eq meta.kind (codes "Namespace") ≡ false →
+      bytes_eq meta.kind (codes "Service") ≡ false → (here : Bool) → bytes_eq meta.kind (codes "ReplicationController") ≡ here → IsOfItsKind value read
   unfolding object_by
-  as_replication_controller core no_pod no_namespace true kind =
+  as_replication_controller core no_pod no_namespace no_service true kind =
       taken value (controller ReplicationController value) object.Controller read
       (λ item found. controlled ReplicationController item value (called meta.api_version meta.kind (codes "v1") (codes "ReplicationController") value names core kind) found)
+      (rw (core, no_pod, no_namespace, no_service, kind) at is)
+  as_replication_controller core no_pod no_namespace no_service false kind =
+      subst (λ read. IfOk read (IsOfItsKind value)) (rw (core, no_pod, no_namespace, no_service, kind) at is) tt
+
+  as_service : bytes_eq meta.api_version (codes "v1") ≡ true → bytes_eq meta.kind (codes "Pod") ≡ false → bytes_eq meta.kind (codes "Namespace") ≡ false → (here : Bool) →
+      bytes_eq meta.kind (codes "Service") ≡ here → IsOfItsKind value read
+  unfolding object_by
+  as_service core no_pod no_namespace true kind =
+      taken value (service value) object.Service read (λ item found. (called meta.api_version meta.kind (codes "v1") (codes "Service") value names core kind, found))
       (rw (core, no_pod, no_namespace, kind) at is)
-  as_replication_controller core no_pod no_namespace false kind =
-      as_service core no_pod no_namespace kind (bytes_eq meta.kind (codes "Service")) refl
+  as_service core no_pod no_namespace false kind =
+      as_replication_controller core no_pod no_namespace kind (bytes_eq meta.kind (codes "ReplicationController")) refl
 
   as_namespace : bytes_eq meta.api_version (codes "v1") ≡ true → bytes_eq meta.kind (codes "Pod") ≡ false → (here : Bool) → bytes_eq meta.kind (codes "Namespace") ≡ here → IsOfItsKind value read
   unfolding object_by
@@ -80,7 +94,7 @@ module _ (value : Data) (meta : TypeMeta) (names : Names meta.api_version meta.k
       taken value (namespace value) object.Namespace read (λ item found. (called meta.api_version meta.kind (codes "v1") (codes "Namespace") value names core kind, found))
       (rw (core, no_pod, kind) at is)
   as_namespace core no_pod false kind =
-      as_replication_controller core no_pod kind (bytes_eq meta.kind (codes "ReplicationController")) refl
+      as_service core no_pod kind (bytes_eq meta.kind (codes "Service")) refl
 
   as_pod : bytes_eq meta.api_version (codes "v1") ≡ true → (here : Bool) → bytes_eq meta.kind (codes "Pod") ≡ here → IsOfItsKind value read
   unfolding object_by
@@ -183,4 +197,8 @@ pub object-meant : (value : Data) (read : Object) → object_of value ≡ Ok rea
 unfolding object_of
 object-meant value read is =
     let meta = bind-output (type_meta value) _ read is in
-    of_core value meta.first (type-meant value meta.first meta.here) read meta.after (bytes_eq meta.first.api_version (codes "v1")) refl
+    let version = meta.first.api_version in
+    let apart = listed (bytes_eq meta.first.kind) (bytes_eq version (codes "v1")) (bytes_eq version (codes "apps/v1")) (bytes_eq version (codes "batch/v1")) (bytes_eq version (codes "networking.k8s.io/v1"))
+    (kinds_of (codes "v1")) (kinds_of (codes "apps/v1")) (kinds_of (codes "batch/v1")) (kinds_of (codes "networking.k8s.io/v1")) in
+    let found = subst (λ kind. object_by kind value ≡ Ok read) apart meta.after in
+    of_core value meta.first (type-meant value meta.first meta.here) read found (bytes_eq meta.first.api_version (codes "v1")) refl

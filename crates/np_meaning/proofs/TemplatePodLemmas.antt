@@ -3,7 +3,7 @@ use Rattle.std.proofs.Common.{◌≡◌, ◌↔◌, ℕ, zero, suc, ◌+◌, ◌
 use Rattle.std.proofs.Common.{Option, Some, None, Result, Ok, Err, refl, sym, ap, ◌∙◌, zero-add}
 use Rattle.std.specs.Prelude.{⊤}
 use Rattle.std.specs.List.{Contains, list_any, slice_get}
-use Rattle.std.specs.Option.{option_map}
+use Rattle.std.specs.Option.{option_map, option_map_or}
 use Rattle.std.proofs.Math.Bool.{or-true}
 use Rattle.std.proofs.lemmas.Bool.{and_parts, and_from, eqb-true, leb-true, false≢true}
 use Rattle.std.proofs.lemmas.List.{length-map}
@@ -17,7 +17,7 @@ use Rattle.np_objects.specs.declared.controller.ControllerItem.{ControllerItem}
 use Rattle.np_objects.specs.declared.object.Object.TheVariants as object
 use Rattle.np_objects.specs.declared.pod_item.PodItem.{PodItem}
 use Rattle.np_owners.specs.MadePods.{has_pods, is_pod, makes_pod, wants_pods}
-use Rattle.np_owners.specs.Owners.{full_name_at, owner_place, ups}
+use Rattle.np_owners.specs.Owners.{full_name_of, owner_place, ups}
 use Rattle.np_reading.proofs.LawfulLists.{AllLater}
 use Rattle.np_reading.proofs.LawfulNames.{items_apart, AreNamedApart}
 use Rattle.np_reading.proofs.ReadingLemmas.{estate_of-passed}
@@ -151,7 +151,7 @@ module _ (items : List Item) (apart : AllLater AreNamedApart items) (chains : Is
 no_cycle : (items : List Item) → have_no_cycle items ≡ Ok tt → first_cycle (ups items) ≡ None
 no_cycle items passed = by (first_cycle (ups items)) passed
   where
-    by : (found : Option ℕ) → refuse_found OwnerCycle (option_map (full_name_at items) found) ≡ Ok tt → found ≡ None
+    by : (found : Option ℕ) → refuse_found OwnerCycle (option_map (λ place. option_map_or full_name_of (slice_get items place) []) found) ≡ Ok tt → found ≡ None
     by None is = refl
     by (Some place) is = cc
 

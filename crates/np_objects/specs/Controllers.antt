@@ -3,12 +3,12 @@ use Rattle.std.specs.Prelude.{ℤ, pos, negsuc, ◌==◌, codes, Bool, false, Op
 use Rattle.serde_json.specs.Data.{Data}
 use Rattle.np_json.specs.Meta.{namespaced_name}
 use Rattle.np_json.specs.Scalars.{whole}
-use Rattle.np_json.specs.Shapes.{Read, ◌>>=◌, ◌>>◌, must_be_object, optional, required, listed}
+use Rattle.np_json.specs.Shapes.{Read, ◌>>=◌, ◌>>◌, must_be_object, optional, optional_or, required, listed}
 use Rattle.np_objects.specs.Owners.{owner_reference, owner_of}
 use Rattle.np_objects.specs.Templates.{template}
 use Rattle.np_objects.specs.declared.controller.ControllerItem.{ControllerItem}
 use Rattle.np_objects.specs.declared.controller.ControllerKind.{ControllerKind}
-use Rattle.np_objects.specs.declared.controller.ControllerKind.TheVariants.{Deployment, ReplicaSet, StatefulSet, DaemonSet, ReplicationController, Job, CronJob}
+use Rattle.np_objects.specs.declared.controller.ControllerKind.TheVariants.{DaemonSet, Job, CronJob}
 use Rattle.np_objects.specs.declared.controller_spec.ControllerSpec.{ControllerSpec}
 use Rattle.np_objects.specs.declared.controller_shapes.ControllerMetadata.{ControllerMetadata}
 use Rattle.np_objects.specs.declared.owner_reference.Dependent.TheVariants as dependent
@@ -16,9 +16,7 @@ use Rattle.np_objects.specs.declared.owner_reference.Dependent.TheVariants as de
 -- the metadata of a controller: first the name and the namespace
 unfoldable pub controller_metadata : Data → Read ControllerMetadata
 controller_metadata value = do
-  own ← namespaced_name value
-  references ← listed (codes "ownerReferences") owner_reference value
-  Ok (record { own = own; owner = owner_of dependent.Controller references })
+  Ok (record { own = (← namespaced_name value); owner = owner_of dependent.Controller (← listed (codes "ownerReferences") owner_reference value) })
 
 abbrev pub is_zero : Option ℤ → Bool
 is_zero None = false
@@ -31,43 +29,30 @@ no_spec = record { none_wanted = false; template = None }
 
 -- the spec of a controller that is told how many pods are wanted
 unfoldable pub replicated_spec : Data → Read ControllerSpec
-replicated_spec value = do
-  must_be_object value
-  replicas ← optional (codes "replicas") whole value
-  pods ← optional (codes "template") template value
-  Ok (record { none_wanted = is_zero replicas; template = pods })
+replicated_spec value = must_be_object value >> do
+  Ok (record { none_wanted = is_zero (← optional (codes "replicas") whole value); template = (← optional (codes "template") template value) })
 
 -- The spec of a controller of which the template alone is read: a DaemonSet, or a Job, which wants pods even where it
 -- is complete or suspended.
 unfoldable pub template_spec : Data → Read ControllerSpec
-template_spec value = do
-  must_be_object value
-  pods ← optional (codes "template") template value
-  Ok (record { none_wanted = false; template = pods })
+template_spec value = must_be_object value >> do
+  Ok (record { none_wanted = false; template = (← optional (codes "template") template value) })
 
 -- the template of a job
 unfoldable pub job_template : Data → Read ControllerSpec
-job_template value = do
-  must_be_object value
-  spec ← optional (codes "spec") template_spec value
-  Ok (unwrap_or spec no_spec)
+job_template value = must_be_object value >> optional_or no_spec (codes "spec") template_spec value
 
 -- the spec of a controller of jobs, which wants pods even where it is suspended
 unfoldable pub cron_job_spec : Data → Read ControllerSpec
-cron_job_spec value = do
-  must_be_object value
-  job ← optional (codes "jobTemplate") job_template value
-  Ok (unwrap_or job no_spec)
+cron_job_spec value = must_be_object value >> optional_or no_spec (codes "jobTemplate") job_template value
 
--- the spec of each kind of controller
+-- The spec of each kind of controller. A Deployment, a ReplicaSet, a StatefulSet and a ReplicationController are told how
+-- many pods are wanted.
 abbrev pub controller_spec : ControllerKind → Data → Read ControllerSpec
-controller_spec Deployment value = replicated_spec value
-controller_spec ReplicaSet value = replicated_spec value
-controller_spec StatefulSet value = replicated_spec value
-controller_spec ReplicationController value = replicated_spec value
 controller_spec DaemonSet value = template_spec value
 controller_spec Job value = template_spec value
 controller_spec CronJob value = cron_job_spec value
+controller_spec other value = replicated_spec value
 
 abbrev pub controller_item : ControllerKind → ControllerMetadata → ControllerSpec → ControllerItem
 controller_item kind metadata spec = record {

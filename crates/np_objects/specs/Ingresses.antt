@@ -6,7 +6,7 @@ use Rattle.serde_json.specs.Data.{Data}
 use Rattle.np_json.specs.Members.{text_of, whole_of}
 use Rattle.np_json.specs.Meta.{namespaced_name}
 use Rattle.np_json.specs.Scalars.{text, port}
-use Rattle.np_json.specs.Shapes.{Read, ◌>>=◌, ◌>>◌, has_one_of, must_be_object, optional, refuse_if, required, listed}
+use Rattle.np_json.specs.Shapes.{Read, ◌>>=◌, ◌>>◌, has_one_of, must_be_object, optional, optional_or, refuse_if, required, listed}
 use Rattle.np_json.specs.declared.fault.FaultKind.TheVariants.{BadField}
 use Rattle.np_json.specs.declared.field.Field.{Field}
 use Rattle.np_json.specs.declared.field.Field.TheVariants.{Missing, Wrong, Given}
@@ -37,62 +37,42 @@ is_one false other = other
 
 -- the one that is there of a number and a name
 abbrev pub number_or_name : Bool → Data → Read PortName
-number_or_name true value = do
-  number ← required (codes "number") port value
-  Ok (Number number)
-number_or_name false value = do
-  name ← required (codes "name") text value
-  Ok (Named name)
+number_or_name true value = do Ok (Number (← required (codes "number") port value))
+number_or_name false value = do Ok (Named (← required (codes "name") text value))
 
 -- a port of a service: exactly one of its number and its name
 unfoldable pub backend_port : Data → Read PortName
-backend_port value = do
-  must_be_object value
+backend_port value = must_be_object value >> do
   refuse_if (not (is_one (is_numbered (whole_of (codes "number") value)) (is_named (text_of (codes "name") value)))) BadField
   number_or_name (is_numbered (whole_of (codes "number") value)) value
 
 -- a service, and one of its ports
 unfoldable pub backend_service : Data → Read Backend
-backend_service value = do
-  must_be_object value
-  name ← required (codes "name") text value
-  port ← required (codes "port") backend_port value
-  Ok (Service name port)
+backend_service value = must_be_object value >> do
+  Ok (Service (← required (codes "name") text value) (← required (codes "port") backend_port value))
 
 -- a backend: exactly one of a service and a resource
 unfoldable pub backend : Data → Read Backend
-backend value = do
-  must_be_object value
+backend value = must_be_object value >> do
   refuse_if (not (has_one_of (codes "service" ∷ codes "resource" ∷ []) value)) BadField
-  service ← optional (codes "service") backend_service value
-  Ok (unwrap_or service Resource)
+  optional_or Resource (codes "service") backend_service value
 
 -- a path of a rule
 unfoldable pub path : Data → Read Backend
-path value = do
-  must_be_object value
-  required (codes "backend") backend value
+path value = must_be_object value >> required (codes "backend") backend value
 
 -- the paths of a rule
 unfoldable pub http : Data → Read (List Backend)
-http value = do
-  must_be_object value
-  listed (codes "paths") path value
+http value = must_be_object value >> listed (codes "paths") path value
 
 -- a rule
 unfoldable pub rule : Data → Read (List Backend)
-rule value = do
-  must_be_object value
-  backends ← optional (codes "http") http value
-  Ok (unwrap_or backends [])
+rule value = must_be_object value >> optional_or [] (codes "http") http value
 
 -- the spec of an ingress: the default backend, and then those of the rules
 unfoldable pub ingress_spec : Data → Read (List Backend)
-ingress_spec value = do
-  must_be_object value
-  first ← optional (codes "defaultBackend") backend value
-  rules ← listed (codes "rules") rule value
-  Ok (option_to_list first ++ flat_map (λ backends. backends) rules)
+ingress_spec value = must_be_object value >> do
+  Ok (option_to_list (← optional (codes "defaultBackend") backend value) ++ flat_map (λ backends. backends) (← listed (codes "rules") rule value))
 
 abbrev pub ingress_item : NamespacedName → List Backend → IngressItem
 ingress_item own backends = record { namespace = own.namespace; name = own.name; backends = backends }
@@ -100,6 +80,4 @@ ingress_item own backends = record { namespace = own.namespace; name = own.name;
 -- an ingress
 unfoldable pub ingress : Data → Read IngressItem
 ingress value = do
-  own ← required (codes "metadata") namespaced_name value
-  backends ← optional (codes "spec") ingress_spec value
-  Ok (ingress_item own (unwrap_or backends []))
+  Ok (ingress_item (← required (codes "metadata") namespaced_name value) (unwrap_or (← optional (codes "spec") ingress_spec value) []))

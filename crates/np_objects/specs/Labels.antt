@@ -11,6 +11,4 @@ pair_of entry = record { key = entry.0; value = entry.1 }
 
 -- an object from texts to texts, each a label
 unfoldable pub label_map : Data → Read (List Pair)
-label_map value = do
-  entries ← labels value
-  Ok (labels_of (map pair_of entries))
+label_map value = do Ok (labels_of (map pair_of (← labels value)))

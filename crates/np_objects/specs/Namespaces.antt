@@ -8,11 +8,8 @@ use Rattle.np_objects.specs.declared.namespace.NamespaceItem.{NamespaceItem}
 
 -- the metadata of a namespace, which is in no namespace itself
 unfoldable pub namespace_metadata : Data → Read NamespaceItem
-namespace_metadata value = do
-  must_be_object value
-  called ← required (codes "name") name value
-  labels ← optional (codes "labels") label_map value
-  Ok (record { name = called; labels = unwrap_or labels [] })
+namespace_metadata value = must_be_object value >> do
+  Ok (record { name = (← required (codes "name") name value); labels = unwrap_or (← optional (codes "labels") label_map value) [] })
 
 -- a namespace, of which the metadata alone is read
 unfoldable pub namespace : Data → Read NamespaceItem

@@ -13,8 +13,7 @@ use Rattle.np_objects.specs.declared.owner_reference.OwnerReference.{OwnerRefere
 -- An owner reference, whether it counts or not. Owners are known by kind and name, whatever their API group: neither
 -- `apiVersion` nor `uid` is read.
 unfoldable pub owner_reference : Data → Read OwnerReference
-owner_reference value = do
-  must_be_object value
+owner_reference value = must_be_object value >> do
   kind ← required (codes "kind") name value
   called ← required (codes "name") name value
   controller ← optional (codes "controller") flag value

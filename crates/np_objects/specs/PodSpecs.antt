@@ -10,16 +10,12 @@ use Rattle.np_objects.specs.declared.pod_spec.PodSpec.{PodSpec}
 
 -- a container: its ports that have a name
 unfoldable pub container : Data → Read (List NamedPort)
-container value = do
-  must_be_object value
-  ports ← listed (codes "ports") container_port value
-  Ok (filter_map (λ port. port) ports)
+container value = must_be_object value >> do Ok (filter_map (λ port. port) (← listed (codes "ports") container_port value))
 
 -- The spec of a pod: the ports of its `containers`, one container after another. `initContainers` are not read, so the
 -- named ports of a sidecar (an init container that restarts) are none of the pod's.
 unfoldable pub pod_spec : Data → Read PodSpec
-pod_spec value = do
-  must_be_object value
+pod_spec value = must_be_object value >> do
   containers ← listed (codes "containers") container value
   host_network ← optional (codes "hostNetwork") flag value
   Ok (record { ports = flat_map (λ ports. ports) containers; host_network = unwrap_or host_network false })

@@ -11,9 +11,7 @@ use Rattle.np_model.specs.declared.named_port.NamedPort.{NamedPort}
 
 -- a word; the empty text counts as missing
 unfoldable pub port_name : Data → Read (Option (List ℕ))
-port_name value = do
-  s ← word value
-  Ok (unless_empty s)
+port_name value = do Ok (unless_empty (← word value))
 
 -- a port that has a name
 abbrev pub if_named : Option (List ℕ) → Proto → ℕ → Option NamedPort
@@ -22,8 +20,7 @@ if_named (Some name) proto number = Some (record { name = name; proto = proto; n
 
 -- a container port, where it has a name
 unfoldable pub container_port : Data → Read (Option NamedPort)
-container_port value = do
-  must_be_object value
+container_port value = must_be_object value >> do
   name ← optional (codes "name") port_name value
   proto ← optional (codes "protocol") protocol_name value
   number ← required (codes "containerPort") port value

@@ -21,15 +21,11 @@ use Rattle.np_objects.specs.declared.service_spec.ServiceSpec.{ServiceSpec}
 
 -- a port by its number
 unfoldable pub by_number : ℤ → Read (Option PortName)
-by_number n = do
-  number ← port_number n
-  Ok (Some (Number number))
+by_number n = do Ok (Some (Number (← port_number n)))
 
 -- a port by its name; the empty text counts as missing
 unfoldable pub by_name : Data → Read (Option PortName)
-by_name value = do
-  name ← port_name value
-  Ok (option_map Named name)
+by_name value = do Ok (option_map Named (← port_name value))
 
 -- the number 0 counts as missing, and what is no whole number is to be a name
 abbrev pub target_by : Option ℤ → Data → Read (Option PortName)
@@ -42,8 +38,7 @@ target_port value = target_by (as_whole value) value
 
 -- a port of a service; it leads to the same port of the pods unless another is named
 unfoldable pub service_port : Data → Read ServicePort
-service_port value = do
-  must_be_object value
+service_port value = must_be_object value >> do
   name ← optional (codes "name") port_name value
   proto ← optional (codes "protocol") protocol_name value
   number ← required (codes "port") port value
@@ -62,8 +57,7 @@ is_text (Some found) text = bytes_eq found text
 
 -- the spec of a service
 unfoldable pub service_spec : Data → Read ServiceSpec
-service_spec value = do
-  must_be_object value
+service_spec value = must_be_object value >> do
   kind ← optional (codes "type") text value
   cluster_ip ← optional (codes "clusterIP") text value
   selector ← optional (codes "selector") labels value
@@ -71,18 +65,8 @@ service_spec value = do
   Ok (record { selector = selector_of (unwrap_or selector []); headless = is_text cluster_ip (codes "None"); external = is_text kind (codes "ExternalName"); ports = ports })
 
 abbrev pub service_item : NamespacedName → ServiceSpec → ServiceItem
-service_item own spec = record {
-  namespace = own.namespace;
-  name = own.name;
-  selector = spec.selector;
-  headless = spec.headless;
-  external = spec.external;
-  ports = spec.ports;
-}
+service_item own spec = record { namespace = own.namespace; name = own.name; selector = spec.selector; headless = spec.headless; external = spec.external; ports = spec.ports }
 
 -- a service
 unfoldable pub service : Data → Read ServiceItem
-service value = do
-  own ← required (codes "metadata") namespaced_name value
-  spec ← required (codes "spec") service_spec value
-  Ok (service_item own spec)
+service value = do Ok (service_item (← required (codes "metadata") namespaced_name value) (← required (codes "spec") service_spec value))

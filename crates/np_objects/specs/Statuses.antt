@@ -20,16 +20,11 @@ address_by (Some s) = given (or_refuse BadAddress (address_of s))
 
 -- a text that is empty or an address
 unfoldable pub address : Data → Read (Option Address)
-address value = do
-  s ← text value
-  address_by (unless_empty s)
+address value = do address_by (unless_empty (← text value))
 
 -- an object with an address
 unfoldable pub pod_ip : Data → Read (Option Address)
-pod_ip value = do
-  must_be_object value
-  ip ← optional (codes "ip") address value
-  Ok (option_flatten ip)
+pod_ip value = must_be_object value >> do Ok (option_flatten (← optional (codes "ip") address value))
 
 abbrev pub is_same : Address → Address → Bool
 is_same (Four a) (Four b) = a == b
@@ -64,8 +59,7 @@ is_finished (Some phase) = bytes_eq phase (codes "Succeeded") || bytes_eq phase 
 
 -- the status of a pod
 unfoldable pub pod_status : Data → Read PodStatus
-pod_status value = do
-  must_be_object value
+pod_status value = must_be_object value >> do
   phase ← optional (codes "phase") text value
   first ← optional (codes "podIP") address value
   others ← listed (codes "podIPs") pod_ip value

@@ -10,7 +10,7 @@ use np_labels::Labels;
 use np_model::NamedPort;
 
 /// The kinds of controllers (Kubernetes API reference, Workload Resources).
-#[derive(Clone, Copy, Debug, PartialEq, Eq)]
+#[derive(Clone, Copy, PartialEq, Eq)]
 pub enum ControllerKind {
     Deployment,
     ReplicaSet,
@@ -63,7 +63,7 @@ fn is_one_of(kinds: &[ControllerKind], kind: &str) -> bool
 }
 
 /// The pods that a controller makes (Kubernetes API reference, PodTemplateSpec).
-#[derive(Debug, Drop)]
+#[derive(Drop)]
 pub struct Template {
     pub labels: Labels,
     /// The container ports that have a name, in order.
@@ -72,7 +72,7 @@ pub struct Template {
 }
 
 /// A controller as it is listed.
-#[derive(Debug, Drop)]
+#[derive(Drop)]
 pub struct ControllerItem {
     pub kind: ControllerKind,
     pub namespace: Text,

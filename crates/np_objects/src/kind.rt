@@ -1,5 +1,7 @@
 //! The kinds of objects that are read.
-ghost use Rattle.std.specs.Prelude.{◌≡◌};
+ghost use Rattle.std.specs.Prelude.{◌≡◌, codes};
+ghost use Rattle.std.specs.Map.{lookup};
+ghost use Rattle.std.specs.Str.{bytes_eq};
 ghost use Rattle.np_objects.specs.Objects as objects;
 
 use crate::controller::ControllerKind;
@@ -28,21 +30,21 @@ pub(crate) fn object_kind(version: &str, name: &str) -> Option<ObjectKind>
 }
 
 fn core_kind(name: &str) -> Option<ObjectKind>
-    ensures { result ≡ objects.core_kind name.now }
+    ensures { result ≡ lookup (bytes_eq name.now) (objects.kinds_of (codes "v1")) }
 {
     match name {
         "Pod" => Some(ObjectKind::Pod),
         "Namespace" => Some(ObjectKind::Namespace),
+        "Service" => Some(ObjectKind::Service),
         "ReplicationController" => Some(ObjectKind::Controller(
             ControllerKind::ReplicationController,
         )),
-        "Service" => Some(ObjectKind::Service),
         _ => None,
     }
 }
 
 fn apps_kind(name: &str) -> Option<ObjectKind>
-    ensures { result ≡ objects.apps_kind name.now }
+    ensures { result ≡ lookup (bytes_eq name.now) (objects.kinds_of (codes "apps/v1")) }
 {
     match name {
         "Deployment" => Some(ObjectKind::Controller(ControllerKind::Deployment)),
@@ -54,7 +56,7 @@ fn apps_kind(name: &str) -> Option<ObjectKind>
 }
 
 fn batch_kind(name: &str) -> Option<ObjectKind>
-    ensures { result ≡ objects.batch_kind name.now }
+    ensures { result ≡ lookup (bytes_eq name.now) (objects.kinds_of (codes "batch/v1")) }
 {
     match name {
         "Job" => Some(ObjectKind::Controller(ControllerKind::Job)),
@@ -64,7 +66,7 @@ fn batch_kind(name: &str) -> Option<ObjectKind>
 }
 
 fn networking_kind(name: &str) -> Option<ObjectKind>
-    ensures { result ≡ objects.networking_kind name.now }
+    ensures { result ≡ lookup (bytes_eq name.now) (objects.kinds_of (codes "networking.k8s.io/v1")) }
 {
     match name {
         "Ingress" => Some(ObjectKind::Ingress),

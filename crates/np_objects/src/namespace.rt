@@ -8,7 +8,7 @@ use serde_json::Value;
 use std::alloc::Global;
 
 /// A namespace as it is listed (Kubernetes API reference, Namespace).
-#[derive(Debug, Drop)]
+#[derive(Drop)]
 pub struct NamespaceItem {
     pub name: Text,
     pub labels: Labels,

@@ -6,7 +6,7 @@ use crate::pod_item::PodItem;
 use np_model::{IngressItem, ServiceItem};
 
 /// An object of a list.
-#[derive(Debug, Drop)]
+#[derive(Drop)]
 pub enum Object {
     Pod(PodItem),
     Namespace(NamespaceItem),

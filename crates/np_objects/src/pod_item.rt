@@ -16,7 +16,7 @@ use serde_json::Value;
 use std::alloc::Global;
 
 /// A pod as it is listed (Kubernetes API reference, Pod).
-#[derive(Debug, Drop)]
+#[derive(Drop)]
 pub struct PodItem {
     pub namespace: Text,
     pub name: Text,

@@ -1,7 +1,7 @@
 -- The owners of objects, and the chains that they make.
 use Rattle.std.specs.Prelude.{◌≡◌, ℕ, List, [], ◌++◌, length, map, if◌then◌else◌, Option, Some, None, ⊤, codes}
 use Rattle.std.specs.List.{range_with_len, slice_get}
-use Rattle.std.specs.Option.{option_and_then, option_map, option_map_or}
+use Rattle.std.specs.Option.{option_and_then, option_map, option_map_or, option_or}
 use Rattle.np_chains.specs.Chains.{first_cycle, top}
 use Rattle.np_items.specs.declared.item.Item.{Item}
 use Rattle.np_items.specs.declared.item.Item.TheVariants as item
@@ -49,12 +49,9 @@ full_name name = name.namespace ++ codes "/" ++ name.name ++ codes "[" ++ name.k
 abbrev pub full_name_of : Item → List ℕ
 full_name_of one = option_map_or full_name (name_of one) []
 
-abbrev pub full_name_at : List Item → ℕ → List ℕ
-full_name_at items place = option_map_or full_name_of (slice_get items place) []
-
 -- the name of the first listed controller that stands in its own chain of owners
 abbrev pub first_in_cycle : List Item → Option (List ℕ)
-first_in_cycle items = option_map (full_name_at items) (first_cycle (ups items))
+first_in_cycle items = option_map (λ place. option_map_or full_name_of (slice_get items place) []) (first_cycle (ups items))
 
 -- what is told where items have no chains: the name that was found; want of memory tells nothing
 abbrev pub TellsCycle : Option (List ℕ) → ChainsFault → Type 0
@@ -69,13 +66,9 @@ by_reference owner = record { kind = owner.kind; name = owner.name }
 abbrev pub by_name : ObjectName → Owner
 by_name name = record { kind = name.kind; name = name.name }
 
-abbrev pub owner_or_itself : Option OwnerRef → Option ObjectName → Option Owner
-owner_or_itself (Some owner) name = Some (by_reference owner)
-owner_or_itself None name = option_map by_name name
-
 -- the owner that an item names, listed or not, or it itself where it names none
 abbrev pub last_owner : Item → Option Owner
-last_owner one = owner_or_itself (owner_of one) (name_of one)
+last_owner one = option_or (option_map by_reference (owner_of one)) (option_map by_name (name_of one))
 
 -- the top owner of the item at a place: the last one that its chain reaches
 abbrev pub top_owner : List Item → ℕ → Option Owner

@@ -3,7 +3,7 @@
 use np_base::{NoMemory, Text};
 
 /// Why items have no places.
-#[derive(Debug, Drop)]
+#[derive(Drop)]
 pub enum PlacesFault {
     /// The items of these numbers, from 1, have the same kind, namespace and name. `second` is the least number of an
     /// item that repeats an earlier one, and `first` is the number of that one.
@@ -24,7 +24,7 @@ impl From<NoMemory> for PlacesFault {
 }
 
 /// Why items have no chains of owners.
-#[derive(Debug, Drop)]
+#[derive(Drop)]
 pub enum ChainsFault {
     /// A controller stands in its own chain of owners. The name is its whole one, as `namespace/name[Kind]`.
     OwnerCycle { name: Text },

@@ -11,7 +11,7 @@ use std::alloc::Global;
 /// What tells an object from all others of a cluster (Kubernetes API reference, ObjectMeta, `name`): its kind, its
 /// namespace, which is empty for objects of the whole cluster, and its name. Names are ordered by their bytes, kind by
 /// kind.
-#[derive(Debug, Drop, PartialEq, Eq, PartialOrd, Ord)]
+#[derive(Drop, PartialEq, Eq, PartialOrd, Ord)]
 pub struct ObjectName {
     pub kind: Text,
     pub namespace: Text,

@@ -14,7 +14,7 @@ use std::marker::Model;
 
 /// The places of the items of a list, from 0, by their names. Contracts see the list of the names with their places, of
 /// which `noted_place` gives that of a name.
-#[derive(Debug, Drop)]
+#[derive(Drop)]
 pub struct Places {
     by_name: BTreeMap<ObjectName, u32>,
 }

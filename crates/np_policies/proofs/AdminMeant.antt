@@ -19,7 +19,7 @@ use Rattle.np_policies.proofs.WellLemmas.{not_false, unbroken-output, unbroken_m
 use Rattle.np_policies.specs.AdminMeaning.{action_text, ArePodsBy, ArePodsOf, IsAdminPolicyOf, IsAdminPort, IsAdminSpec, IsBasePolicyOf, IsEgressPeer, IsEgressRule, IsIngressPeer, IsIngressRule}
 use Rattle.np_policies.specs.AdminMeaning.{IsPortBy, IsSpanOf}
 use Rattle.np_policies.specs.AdminPolicies.{action, action_named, admin_peer, admin_peers, admin_policy, admin_rule, admin_rules, admin_spec, all_pods, base_name, base_policy, base_spec}
-use Rattle.np_policies.specs.AdminPolicies.{egress_member, egress_peer, ingress_peer, namespace_selector, networks, object_name, pass_of, pods_member, priority, priority_number, some_pods, subject}
+use Rattle.np_policies.specs.AdminPolicies.{egress_member, egress_peer, ingress_peer, namespace_selector, networks, object_name, pods_member, priority, priority_number, some_pods, subject}
 use Rattle.np_policies.specs.Blocks.{cidr}
 use Rattle.np_policies.specs.Policies.{policy_of}
 use Rattle.np_policies.specs.PolicyMeaning.{blocks_of, number_at, object_at, spec_of, AreEach}
@@ -225,22 +225,31 @@ admin_port-output value read is =
 -- ---- rules
 
 named-text : (which : Tier) (s : List ℕ) (one : Action) → action_named which s ≡ Some one → s ≡ action_text one
-named-text which s one is = by (bytes_eq s (codes "Allow")) refl (bytes_eq s (codes "Deny")) refl (bytes_eq s (codes "Pass")) refl is
+named-text tier.Admin s one is = by (bytes_eq s (codes "Allow")) refl (bytes_eq s (codes "Deny")) refl (bytes_eq s (codes "Pass")) refl is
   where
-    passed : (which : Tier) → pass_of which ≡ Some one → one ≡ Pass
-    passed tier.Admin is = cc
-    passed tier.Baseline is = cc
-
     by : (allow : Bool) → bytes_eq s (codes "Allow") ≡ allow → (deny : Bool) → bytes_eq s (codes "Deny") ≡ deny → (pass : Bool) → bytes_eq s (codes "Pass") ≡ pass →
-        cond allow (Some Allow) (cond deny (Some Deny) (cond pass (pass_of which) None)) ≡ Some one → s ≡ action_text one
+        cond allow (Some Allow) (cond deny (Some Deny) (cond pass (Some Pass) None)) ≡ Some one → s ≡ action_text one
     by true here deny other pass third is =
         let same : one ≡ Allow = cc in
         (bytes_decides s (codes "Allow")).0 here ∙ ap action_text (sym same)
     by false here true other pass third is =
         let same : one ≡ Deny = cc in
         (bytes_decides s (codes "Deny")).0 other ∙ ap action_text (sym same)
-    by false here false other true third is = (bytes_decides s (codes "Pass")).0 third ∙ ap action_text (sym (passed which is))
+    by false here false other true third is =
+        let same : one ≡ Pass = cc in
+        (bytes_decides s (codes "Pass")).0 third ∙ ap action_text (sym same)
     by false here false other false third is = cc
+named-text tier.Baseline s one is = by (bytes_eq s (codes "Allow")) refl (bytes_eq s (codes "Deny")) refl is
+  where
+    by : (allow : Bool) → bytes_eq s (codes "Allow") ≡ allow → (deny : Bool) → bytes_eq s (codes "Deny") ≡ deny →
+        cond allow (Some Allow) (cond deny (Some Deny) None) ≡ Some one → s ≡ action_text one
+    by true here deny other is =
+        let same : one ≡ Allow = cc in
+        (bytes_decides s (codes "Allow")).0 here ∙ ap action_text (sym same)
+    by false here true other is =
+        let same : one ≡ Deny = cc in
+        (bytes_decides s (codes "Deny")).0 other ∙ ap action_text (sym same)
+    by false here false other is = cc
 
 action-output : (which : Tier) (value : Data) (one : Action) → action which value ≡ Ok one → as_str value ≡ Some (action_text one)
 unfolding action

@@ -126,15 +126,14 @@ may_stand tier.Baseline one = is_decision one
 
 named-well : (which : Tier) (s : List ℕ) (one : Action) → action_named which s ≡ Some one → may_stand which one ≡ true
 named-well tier.Admin s one is = refl
-named-well tier.Baseline s one is = by (bytes_eq s (codes "Allow")) (bytes_eq s (codes "Deny")) (bytes_eq s (codes "Pass")) one is
+named-well tier.Baseline s one is = by (bytes_eq s (codes "Allow")) (bytes_eq s (codes "Deny")) one is
   where
-    by : (allow deny pass : Bool) (one : Action) → cond allow (Some Allow) (cond deny (Some Deny) (cond pass None None)) ≡ Some one → is_decision one ≡ true
-    by allow deny pass Allow is = refl
-    by allow deny pass Deny is = refl
-    by true deny pass Pass is = cc
-    by false true pass Pass is = cc
-    by false false true Pass is = cc
-    by false false false Pass is = cc
+    by : (allow deny : Bool) (one : Action) → cond allow (Some Allow) (cond deny (Some Deny) None) ≡ Some one → is_decision one ≡ true
+    by allow deny Allow is = refl
+    by allow deny Deny is = refl
+    by true deny Pass is = cc
+    by false true Pass is = cc
+    by false false Pass is = cc
 
 action-well : (which : Tier) (value : Data) (one : Action) → action which value ≡ Ok one → may_stand which one ≡ true
 unfolding action

@@ -1,6 +1,7 @@
 -- Shapes of AdminNetworkPolicy and BaselineAdminNetworkPolicy of `policy.networking.k8s.io/v1alpha1`
 -- (network-policy-api reference).
-use Rattle.std.specs.Prelude.{ℕ, ℤ, pos, negsuc, List, [], ◌∷◌, length, not, ◌==◌, nat_le, if◌then◌else◌, Option, Some, None, codes, Ok}
+use Rattle.std.specs.Prelude.{ℕ, ℤ, pos, negsuc, List, [], ◌∷◌, length, not, ◌==◌, nat_le, if◌then◌else◌, Option, codes, Ok}
+use Rattle.std.specs.Map.{lookup}
 use Rattle.std.specs.Str.{bytes_eq}
 use Rattle.serde_json.specs.Data.{Data}
 use Rattle.np_json.specs.Scalars.{name, text, whole}
@@ -27,9 +28,7 @@ use Rattle.np_model.specs.declared.direction.Direction.TheVariants.{Ingress, Egr
 
 -- `namespaces` of a subject or peer: all pods of the namespaces that it selects
 unfoldable pub all_pods : Data → Read Subject
-all_pods value = do
-  namespaces ← selector value
-  Ok (record { namespaces = namespaces; pods = everything })
+all_pods value = do Ok (record { namespaces = (← selector value); pods = everything })
 
 -- the namespaces of `pods`
 unfoldable pub namespace_selector : Data → Read Selector
@@ -37,11 +36,8 @@ namespace_selector value = required (codes "namespaceSelector") selector value
 
 -- `pods` of a subject or peer
 unfoldable pub some_pods : Data → Read Subject
-some_pods value = do
-  must_be_object value
-  namespaces ← namespace_selector value
-  pods ← required (codes "podSelector") selector value
-  Ok (record { namespaces = namespaces; pods = pods })
+some_pods value = must_be_object value >> do
+  Ok (record { namespaces = (← namespace_selector value); pods = (← required (codes "podSelector") selector value) })
 
 -- the one member of the two that is there
 abbrev pub pods_member : Data → Read Subject
@@ -51,16 +47,13 @@ pods_member value =
 
 -- `subject`
 unfoldable pub subject : Data → Read Subject
-subject value = do
-  must_be_object value
+subject value = must_be_object value >> do
   refuse_if (not (has_one_of (codes "namespaces" ∷ codes "pods" ∷ []) value)) PeerShape
   pods_member value
 
 -- an entry of `from`
 unfoldable pub ingress_peer : Data → Read AdminPeer
-ingress_peer value = do
-  peer ← subject value
-  Ok (Pods peer.namespaces peer.pods)
+ingress_peer value = subject value >>= λ peer. Ok (Pods peer.namespaces peer.pods)
 
 -- `networks` of a peer: at least one block
 unfoldable pub networks : Data → Read AdminPeer
@@ -77,8 +70,7 @@ egress_member value =
 
 -- an entry of `to`
 unfoldable pub egress_peer : Data → Read AdminPeer
-egress_peer value = do
-  must_be_object value
+egress_peer value = must_be_object value >> do
   refuse_member_if (codes "nodes") (has_member (codes "nodes") value) NodePeer
   refuse_member_if (codes "domainNames") (has_member (codes "domainNames") value) DomainPeer
   refuse_if (not (has_one_of (codes "namespaces" ∷ codes "pods" ∷ codes "networks" ∷ []) value)) PeerShape
@@ -95,28 +87,18 @@ admin_peers direction value = do
   refuse_member_if (peers_member direction) (length peers == 0) EmptyPeers
   Ok peers
 
--- a baseline passes nothing on
-abbrev pub pass_of : Tier → Option Action
-pass_of Admin = Some Pass
-pass_of Baseline = None
-
+-- what an action does; a baseline passes nothing on
 abbrev pub action_named : Tier → List ℕ → Option Action
-action_named tier s =
-    if bytes_eq s (codes "Allow") then Some Allow
-    else if bytes_eq s (codes "Deny") then Some Deny
-    else if bytes_eq s (codes "Pass") then pass_of tier
-    else None
+action_named Admin s = lookup (bytes_eq s) ((codes "Allow", Allow) ∷ (codes "Deny", Deny) ∷ (codes "Pass", Pass) ∷ [])
+action_named Baseline s = lookup (bytes_eq s) ((codes "Allow", Allow) ∷ (codes "Deny", Deny) ∷ [])
 
 -- `action` of a rule: one that the policy may have, else BadAction
 unfoldable pub action : Tier → Data → Read Action
-action tier value = do
-  s ← text value
-  or_refuse BadAction (action_named tier s)
+action tier value = do or_refuse BadAction (action_named tier (← text value))
 
 -- an entry of `ingress` or `egress`
 unfoldable pub admin_rule : Tier → Direction → Data → Read AdminRule
-admin_rule tier direction value = do
-  must_be_object value
+admin_rule tier direction value = must_be_object value >> do
   effect ← required (codes "action") (action tier) value
   peers ← admin_peers direction value
   ports ← listed (codes "ports") admin_port value
@@ -133,15 +115,11 @@ priority_number (negsuc n) = refuse BadPriority
 
 -- `priority` of an AdminNetworkPolicy
 unfoldable pub priority : Data → Read ℕ
-priority value = do
-  n ← whole value
-  priority_number n
+priority value = whole value >>= priority_number
 
 -- `metadata` of an object in no namespace
 unfoldable pub object_name : Data → Read (List ℕ)
-object_name value = do
-  must_be_object value
-  required (codes "name") name value
+object_name value = must_be_object value >> required (codes "name") name value
 
 -- `metadata` of a BaselineAdminNetworkPolicy, which is named `default`
 unfoldable pub base_name : Data → Read (List ℕ)
@@ -152,8 +130,7 @@ base_name value = do
 
 -- `spec` of an AdminNetworkPolicy
 unfoldable pub admin_spec : Data → Read AdminSpec
-admin_spec value = do
-  must_be_object value
+admin_spec value = must_be_object value >> do
   rank ← required (codes "priority") priority value
   selected ← required (codes "subject") subject value
   ingress ← admin_rules Admin Ingress value
@@ -169,8 +146,7 @@ admin_policy value = do
 
 -- `spec` of a BaselineAdminNetworkPolicy
 unfoldable pub base_spec : Data → Read BasePolicy
-base_spec value = do
-  must_be_object value
+base_spec value = must_be_object value >> do
   selected ← required (codes "subject") subject value
   ingress ← admin_rules Baseline Ingress value
   egress ← admin_rules Baseline Egress value
@@ -178,6 +154,4 @@ base_spec value = do
 
 -- a BaselineAdminNetworkPolicy
 unfoldable pub base_policy : Data → Read BasePolicy
-base_policy value = do
-  required (codes "metadata") base_name value
-  required (codes "spec") base_spec value
+base_policy value = required (codes "metadata") base_name value >> required (codes "spec") base_spec value

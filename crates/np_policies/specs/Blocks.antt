@@ -12,9 +12,7 @@ use Rattle.np_policies.specs.declared.ip_block_shape.IpBlock.{IpBlock}
 
 -- a text that writes a block of addresses, else BadCidr
 unfoldable pub cidr : Data → Read Cidr
-cidr value = do
-  s ← text value
-  or_refuse BadCidr (cidr_of s)
+cidr value = do or_refuse BadCidr (cidr_of (← text value))
 
 -- BadExcept at the except of that place, if there is one
 abbrev pub refuse_except : Option ℕ → Read ⊤
@@ -23,8 +21,7 @@ refuse_except (Some place) = under (Field (codes "except")) (under (Item place) 
 
 -- `ipBlock` of a peer: each except is a strict part of `cidr`
 unfoldable pub ip_block : Data → Read IpBlock
-ip_block value = do
-  must_be_object value
+ip_block value = must_be_object value >> do
   block ← required (codes "cidr") cidr value
   excepts ← listed (codes "except") cidr value
   refuse_except (first_bad_except block excepts)

@@ -1,6 +1,7 @@
 -- Shapes of NetworkPolicy of `networking.k8s.io/v1` (Kubernetes API reference, NetworkPolicy).
-use Rattle.std.specs.Prelude.{ℕ, List, [], length, Bool, true, false, not, ◌||◌, ◌==◌, if◌then◌else◌, Option, Some, None, unwrap_or, codes, Ok}
+use Rattle.std.specs.Prelude.{ℕ, List, [], ◌∷◌, length, Bool, true, false, not, ◌||◌, ◌==◌, if◌then◌else◌, Option, Some, None, unwrap_or, codes, Ok}
 use Rattle.std.specs.List.{list_any}
+use Rattle.std.specs.Map.{lookup}
 use Rattle.std.specs.Str.{bytes_eq}
 use Rattle.serde_json.specs.Data.{Data}
 use Rattle.np_json.specs.Meta.{namespaced_name}
@@ -43,8 +44,7 @@ net_peer_by pods namespaces (Some block) = Block block.cidr block.excepts
 
 -- an entry of `from` or `to`
 unfoldable pub net_peer : Data → Read NetPeer
-net_peer value = do
-  must_be_object value
+net_peer value = must_be_object value >> do
   refuse_if (is_misshapen value) PeerShape
   pods ← optional (codes "podSelector") selector value
   namespaces ← optional (codes "namespaceSelector") selector value
@@ -53,32 +53,23 @@ net_peer value = do
 
 -- an entry of `ingress` or `egress`
 unfoldable pub net_rule : Direction → Data → Read NetRule
-net_rule direction value = do
-  must_be_object value
-  peers ← listed (peers_member direction) net_peer value
-  ports ← listed (codes "ports") net_port value
-  Ok (record { peers = peers; ports = ports })
+net_rule direction value = must_be_object value >> do
+  Ok (record { peers = (← listed (peers_member direction) net_peer value); ports = (← listed (codes "ports") net_port value) })
 
 -- the rules of a direction
 unfoldable pub net_rules : Direction → Data → Read (List NetRule)
 net_rules direction value = listed (rules_member direction) (net_rule direction) value
 
 abbrev pub direction_named : List ℕ → Option Direction
-direction_named s =
-    if bytes_eq s (codes "Ingress") then Some Ingress
-    else if bytes_eq s (codes "Egress") then Some Egress
-    else None
+direction_named s = lookup (bytes_eq s) ((codes "Ingress", Ingress) ∷ (codes "Egress", Egress) ∷ [])
 
 -- an entry of `policyTypes`, else BadField
 unfoldable pub policy_type : Data → Read Direction
-policy_type value = do
-  s ← text value
-  of_type (direction_named s)
+policy_type value = do of_type (direction_named (← text value))
 
 -- `spec` of a NetworkPolicy
 unfoldable pub net_spec : Data → Read NetSpec
-net_spec value = do
-  must_be_object value
+net_spec value = must_be_object value >> do
   subject ← optional (codes "podSelector") selector value
   types ← listed (codes "policyTypes") policy_type value
   ingress ← net_rules Ingress value

@@ -35,20 +35,12 @@ policy_kind meta =
 
 -- the policy of that kind; inputs with a foreign one are refused
 unfoldable pub policy_by : PolicyKind → Data → Read (Option Policy)
-policy_by Net value = do
-  net ← net_policy value
-  Ok (Some (policy.Net net))
-policy_by Admin value = do
-  admin ← admin_policy value
-  Ok (Some (policy.Admin admin))
-policy_by Base value = do
-  base ← base_policy value
-  Ok (Some (policy.Base base))
+policy_by Net value = do Ok (Some (policy.Net (← net_policy value)))
+policy_by Admin value = do Ok (Some (policy.Admin (← admin_policy value)))
+policy_by Base value = do Ok (Some (policy.Base (← base_policy value)))
 policy_by Foreign value = under (Field (codes "kind")) (refuse ForeignPolicy)
 policy_by NoPolicy value = Ok None
 
 -- the policy that an object is, if it is one
 unfoldable pub policy_of : Data → Read (Option Policy)
-policy_of value = do
-  meta ← type_meta value
-  policy_by (policy_kind meta) value
+policy_of value = type_meta value >>= λ meta. policy_by (policy_kind meta) value

@@ -6,7 +6,7 @@ use Rattle.np_conns.specs.declared.proto.Proto.{Proto}
 use Rattle.np_conns.specs.declared.proto.Proto.TheVariants.{Tcp}
 use Rattle.np_json.specs.Members.{as_whole}
 use Rattle.np_json.specs.Scalars.{text, port, port_number, protocol_name}
-use Rattle.np_json.specs.Shapes.{Read, ◌>>=◌, ◌>>◌, has_member, has_one_of, must_be_object, optional, refuse_if, refuse_member_if, required}
+use Rattle.np_json.specs.Shapes.{Read, ◌>>=◌, ◌>>◌, has_member, has_one_of, must_be_object, optional, optional_or, passing, refuse_if, refuse_member_if, required}
 use Rattle.np_model.specs.Words.{is_word}
 use Rattle.np_json.specs.declared.fault.FaultKind.TheVariants.{BadField, BadPort}
 use Rattle.np_model.specs.declared.admin_policy.AdminPort.{AdminPort}
@@ -18,9 +18,7 @@ use Rattle.np_model.specs.declared.network_policy.NetPort.TheVariants as net
 
 -- the member `protocol`, which is TCP where it is missing
 unfoldable pub protocol : Data → Read Proto
-protocol value = do
-  found ← optional (codes "protocol") protocol_name value
-  Ok (unwrap_or found Tcp)
+protocol value = optional_or Tcp (codes "protocol") protocol_name value
 
 -- the name of a container port: the empty text is BadPort, another that is no word BadField
 unfoldable pub port_name : Data → Read (List ℕ)
@@ -31,12 +29,8 @@ port_name value = do
   Ok s
 
 abbrev pub port_value_by : Option ℤ → Data → Read PortValue
-port_value_by (Some n) value = do
-  number ← port_number n
-  Ok (Number number)
-port_value_by None value = do
-  name ← port_name value
-  Ok (Name name)
+port_value_by (Some n) value = do Ok (Number (← port_number n))
+port_value_by None value = do Ok (Name (← port_name value))
 
 -- `port` of a NetworkPolicy: a port's number or name
 unfoldable pub port_value : Data → Read PortValue
@@ -55,10 +49,7 @@ may_end (Some first) last = nat_le first last
 
 -- `endPort`, behind a `port` that is a number and not above it
 unfoldable pub end_port : Option ℕ → Data → Read ℕ
-end_port first value = do
-  last ← port value
-  refuse_if (not (may_end first last)) BadPort
-  Ok last
+end_port first value = passing (may_end first) BadPort (port value)
 
 -- one port, the ports up to another, a named port, or all ports
 abbrev pub net_port_by : Proto → Option PortValue → Option ℕ → NetPort
@@ -68,8 +59,7 @@ net_port_by proto (Some (Name name)) last = net.Named proto name
 
 -- an entry of `ports` of a NetworkPolicy
 unfoldable pub net_port : Data → Read NetPort
-net_port value = do
-  must_be_object value
+net_port value = must_be_object value >> do
   proto ← protocol value
   port ← optional (codes "port") port_value value
   last ← optional (codes "endPort") (end_port (number_of port)) value
@@ -77,16 +67,14 @@ net_port value = do
 
 -- `portNumber` of an admin policy
 unfoldable pub one_port : Data → Read AdminPort
-one_port value = do
-  must_be_object value
+one_port value = must_be_object value >> do
   proto ← protocol value
   number ← required (codes "port") port value
   Ok (admin.Span proto number number)
 
 -- `portRange` of an admin policy
 unfoldable pub port_range : Data → Read AdminPort
-port_range value = do
-  must_be_object value
+port_range value = must_be_object value >> do
   proto ← protocol value
   first ← required (codes "start") port value
   last ← required (codes "end") port value
@@ -95,9 +83,7 @@ port_range value = do
 
 -- `namedPort` of an admin policy
 unfoldable pub named_port : Data → Read AdminPort
-named_port value = do
-  name ← port_name value
-  Ok (admin.Named name)
+named_port value = do Ok (admin.Named (← port_name value))
 
 -- the one member of the three that is there
 abbrev pub admin_port_member : Data → Read AdminPort
@@ -108,7 +94,6 @@ admin_port_member value =
 
 -- an entry of `ports` of an admin policy
 unfoldable pub admin_port : Data → Read AdminPort
-admin_port value = do
-  must_be_object value
+admin_port value = must_be_object value >> do
   refuse_if (not (has_one_of (codes "portNumber" ∷ codes "portRange" ∷ codes "namedPort" ∷ []) value)) BadPort
   admin_port_member value

@@ -1,11 +1,12 @@
 -- Shapes of label selectors (Kubernetes API reference, LabelSelector and LabelSelectorRequirement).
-use Rattle.std.specs.Prelude.{ℕ, List, [], ◌++◌, length, map, Bool, false, not, ◌&&◌, ◌||◌, ◌==◌, if◌then◌else◌, is_some, Option, Some, None, unwrap_or, codes, Ok}
+use Rattle.std.specs.Prelude.{ℕ, List, [], ◌∷◌, ◌++◌, length, map, Bool, false, not, ◌&&◌, ◌||◌, ◌==◌, if◌then◌else◌, is_some, Option, Some, None, unwrap_or, codes, Ok}
+use Rattle.std.specs.Map.{lookup}
 use Rattle.std.specs.Str.{bytes_eq}
 use Rattle.serde_json.specs.Data.{Data, Members, no_members, member}
 use Rattle.serde_json.specs.Find.{as_object}
 use Rattle.np_json.specs.Members.{unless_null}
 use Rattle.np_json.specs.Scalars.{text, word, labels}
-use Rattle.np_json.specs.Shapes.{Read, ◌>>=◌, ◌>>◌, listed, must_be_object, optional, refuse, refuse_if, required}
+use Rattle.np_json.specs.Shapes.{Read, ◌>>=◌, ◌>>◌, listed, must_be_object, optional, passing, refuse, refuse_if, required}
 use Rattle.np_model.specs.Words.{is_key}
 use Rattle.np_json.specs.declared.fault.FaultKind.TheVariants.{BadField, BadSelector}
 use Rattle.np_labels.specs.Selectors.{label_requirement, requirement_of}
@@ -17,19 +18,12 @@ use Rattle.np_labels.specs.declared.selector.Selector.{Selector}
 
 -- the key of an expression: a word that is not empty, else BadField
 unfoldable pub key : Data → Read (List ℕ)
-key value = do
-  s ← text value
-  refuse_if (not (is_key s)) BadField
-  Ok s
+key value = passing is_key BadField (text value)
 
 -- what an operator asks
 abbrev pub op_named : List ℕ → Option Op
 op_named s =
-    if bytes_eq s (codes "In") then Some OneOf
-    else if bytes_eq s (codes "NotIn") then Some NoneOf
-    else if bytes_eq s (codes "Exists") then Some Present
-    else if bytes_eq s (codes "DoesNotExist") then Some Absent
-    else None
+    lookup (bytes_eq s) ((codes "In", OneOf) ∷ (codes "NotIn", NoneOf) ∷ (codes "Exists", Present) ∷ (codes "DoesNotExist", Absent) ∷ [])
 
 -- an operator that is known and fits, else BadSelector
 abbrev pub fitting : Option Op → Bool → Read Op
@@ -38,8 +32,7 @@ fitting (Some op) has_values = if fits op has_values then Ok op else refuse BadS
 
 -- an entry of `matchExpressions`
 unfoldable pub expression : Data → Read Requirement
-expression value = do
-  must_be_object value
+expression value = must_be_object value >> do
   label ← required (codes "key") key value
   operator ← required (codes "operator") text value
   values ← listed (codes "values") word value
@@ -60,8 +53,7 @@ has_other (Some members) = have_other members
 
 -- a selector
 unfoldable pub selector : Data → Read Selector
-selector value = do
-  must_be_object value
+selector value = must_be_object value >> do
   refuse_if (has_other (as_object value)) BadSelector
   pairs ← optional (codes "matchLabels") labels value
   expressions ← listed (codes "matchExpressions") expression value

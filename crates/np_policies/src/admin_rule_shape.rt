@@ -3,6 +3,7 @@ ghost use Rattle.std.specs.Prelude.{◌≡◌};
 ghost use Rattle.serde_json.specs.View.{view};
 ghost use Rattle.np_json.specs.Shapes.{Gives};
 ghost use Rattle.np_policies.specs.AdminPolicies as shapes;
+ghost use Rattle.np_policies.specs.declared.admin_rule_shape.Tier.TheVariants as tiers;
 
 use crate::admin_peer_shape::admin_peers;
 use crate::admin_port_shape::AdminPortShape;
@@ -82,20 +83,31 @@ impl Shape for ActionName {
 fn action_named(tier: Tier, text: &str) -> Option<Action>
     ensures { result ≡ shapes.action_named tier text.now }
 {
+    match tier {
+        Tier::Admin => admin_action(text),
+        Tier::Baseline => baseline_action(text),
+    }
+}
+
+// The action of that name of an admin policy.
+fn admin_action(text: &str) -> Option<Action>
+    ensures { result ≡ shapes.action_named tiers.Admin text.now }
+{
     match text {
         "Allow" => Some(Action::Allow),
         "Deny" => Some(Action::Deny),
-        "Pass" => pass_of(tier),
+        "Pass" => Some(Action::Pass),
         _ => None,
     }
 }
 
-// A baseline passes nothing on.
-fn pass_of(tier: Tier) -> Option<Action>
-    ensures { result ≡ shapes.pass_of tier }
+// The action of that name of a baseline, which passes nothing on.
+fn baseline_action(text: &str) -> Option<Action>
+    ensures { result ≡ shapes.action_named tiers.Baseline text.now }
 {
-    match tier {
-        Tier::Admin => Some(Action::Pass),
-        Tier::Baseline => None,
+    match text {
+        "Allow" => Some(Action::Allow),
+        "Deny" => Some(Action::Deny),
+        _ => None,
     }
 }

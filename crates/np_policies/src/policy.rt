@@ -3,7 +3,7 @@
 use np_model::{AdminPolicy, BasePolicy, NetPolicy};
 
 /// A policy of any of the three kinds that are read.
-#[derive(Debug, Drop)]
+#[derive(Drop)]
 pub enum Policy {
     Net(NetPolicy),
     Admin(AdminPolicy),

@@ -3,6 +3,7 @@ use Rattle.std.proofs.Common.{◌≡◌, ℕ, List, Bool, true, ◌&&◌, Option
 use Rattle.std.specs.Prelude.{All}
 use Rattle.std.specs.List.{slice_get}
 use Rattle.std.proofs.lemmas.Bool.{and_from, and_parts}
+use Rattle.std.specs.Option.{option_map, option_or}
 use Rattle.std.proofs.lemmas.Option.{none-some, same_Some, option_and_then_some}
 use Rattle.np_chains.specs.Chains.{top}
 use Rattle.np_reading.proofs.LawfulNamespaces.{well_at}
@@ -18,7 +19,7 @@ use Rattle.np_objects.specs.declared.controller.ControllerKind.TheVariants.{Depl
 use Rattle.np_objects.specs.declared.object.Object.TheVariants as object
 use Rattle.np_objects.specs.declared.owner_ref.OwnerRef.{OwnerRef}
 use Rattle.np_owners.specs.Names.{name_of}
-use Rattle.np_owners.specs.Owners.{by_name, by_reference, last_owner, owner_of, owner_or_itself, top_owner, ups}
+use Rattle.np_owners.specs.Owners.{by_name, by_reference, last_owner, owner_of, top_owner, ups}
 use Rattle.np_owners.specs.declared.object_name.ObjectName.{ObjectName}
 use Rattle.np_model.specs.declared.owner.Owner.{Owner}
 use Rattle.np_policies.specs.declared.policy.Policy.TheVariants as policy
@@ -89,7 +90,7 @@ name_of-well (item.Policy (policy.Base base)) is = refl
 last_owner-well : (one : Item) (owner : Owner) → IsWellItem one → last_owner one ≡ Some owner → is_named_owner owner ≡ true
 last_owner-well one owner all is = by (owner_of one) (name_of one) (owner_of-well one all) (name_of-well one all) is
   where
-    by : (reference : Option OwnerRef) (name : Option ObjectName) → option_all is_well_owner reference ≡ true → option_all has_words name ≡ true → owner_or_itself reference name ≡ Some owner →
+    by : (reference : Option OwnerRef) (name : Option ObjectName) → option_all is_well_owner reference ≡ true → option_all has_words name ≡ true → option_or (option_map by_reference reference) (option_map by_name name) ≡ Some owner →
         is_named_owner owner ≡ true
     by (Some reference) name reference_well name_well found =
         subst (λ (o : Owner). is_named_owner o ≡ true) (same_Some (by_reference reference) owner found) reference_well

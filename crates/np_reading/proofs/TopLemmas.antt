@@ -2,7 +2,7 @@
 use Rattle.std.proofs.Common.{◌≡◌, ℕ, List, length, Option, Some, None, refl, ap, ◌∙◌}
 use Rattle.std.specs.Prelude.{codes, option_map, unwrap_or}
 use Rattle.std.specs.List.{slice_get}
-use Rattle.std.specs.Option.{option_flatten}
+use Rattle.std.specs.Option.{option_flatten, option_or}
 use Rattle.std.proofs.lemmas.Option.{slice_get-map}
 use Rattle.np_chains.proofs.Walks.{chain_none}
 use Rattle.np_chains.specs.Chains.{last_of, top, up}
@@ -13,7 +13,7 @@ use Rattle.np_objects.specs.declared.object.Object.TheVariants as object
 use Rattle.np_objects.specs.declared.owner_ref.OwnerRef.{OwnerRef}
 use Rattle.np_objects.specs.declared.pod_item.PodItem.{PodItem}
 use Rattle.np_owners.specs.Names.{named}
-use Rattle.np_owners.specs.Owners.{by_reference, last_owner, owner_or_itself, owner_place, top_owner, ups}
+use Rattle.np_owners.specs.Owners.{by_reference, by_name, last_owner, owner_place, top_owner, ups}
 
 top_owner-unlisted : (items : List Item) (place : ℕ) (one : Item) → slice_get items place ≡ Some one → owner_place items one ≡ None → top_owner items place ≡ last_owner one
 top_owner-unlisted items place one at alone =
@@ -24,7 +24,7 @@ top_owner-unlisted items place one at alone =
 last_owner-pod : (pod : PodItem) → last_owner (item.Object (object.Pod pod)) ≡ Some (named_or_itself pod)
 last_owner-pod pod = by pod.owner
   where
-    by : (o : Option OwnerRef) → owner_or_itself o (named (codes "Pod") pod.namespace pod.name) ≡ Some (unwrap_or (option_map by_reference o) (record { kind = codes "Pod"; name = pod.name }))
+    by : (o : Option OwnerRef) → option_or (option_map by_reference o) (option_map by_name (named (codes "Pod") pod.namespace pod.name)) ≡ Some (unwrap_or (option_map by_reference o) (record { kind = codes "Pod"; name = pod.name }))
     by None = refl
     by (Some owner) = refl
 

@@ -58,15 +58,11 @@ rule_lists_networks rule = list_any is_networks rule.peers
 abbrev pub rules_list_networks : List AdminRule → List AdminRule → Bool
 rules_list_networks ingress egress = list_any rule_lists_networks ingress || list_any rule_lists_networks egress
 
-abbrev pub admins_list_networks : List AdminPolicy → Bool
-admins_list_networks policies = list_any (λ policy. rules_list_networks policy.ingress policy.egress) policies
-
-abbrev pub base_lists_networks : Option BasePolicy → Bool
-base_lists_networks baseline = option_map_or (λ base. rules_list_networks base.ingress base.egress) baseline false
-
 -- whether some admin policy or the baseline has a peer of networks
 abbrev pub list_networks : List AdminPolicy → Option BasePolicy → Bool
-list_networks policies baseline = admins_list_networks policies || base_lists_networks baseline
+list_networks policies baseline =
+    list_any (λ policy. rules_list_networks policy.ingress policy.egress) policies
+    || option_map_or (λ base. rules_list_networks base.ingress base.egress) baseline false
 
 abbrev pub has_no_address : Pod → Bool
 has_no_address pod = length pod.addresses == 0

@@ -105,14 +105,15 @@ fn list_networks(policies: &[AdminPolicy], baseline: Option<&BasePolicy>) -> boo
 
 // Whether some admin policy has a peer of networks.
 fn admins_list_networks(policies: &[AdminPolicy]) -> bool
-    ensures { result ≡ spec.admins_list_networks policies.now }
+    ensures { result ≡ list_any (λ policy. spec.rules_list_networks policy.ingress policy.egress) policies.now }
 {
     policies.iter().any(|policy| rules_list_networks(policy.ingress.items(), policy.egress.items()))
 }
 
 // Whether the baseline has a peer of networks.
 fn base_lists_networks(baseline: Option<&BasePolicy>) -> bool
-    ensures { result ≡ spec.base_lists_networks (option_copied baseline.entry) }
+    ensures { result ≡ option_map_or (λ base. spec.rules_list_networks base.ingress base.egress)
+        (option_copied baseline.entry) false }
 {
     match baseline {
         Some(base) => rules_list_networks(base.ingress.items(), base.egress.items()),
