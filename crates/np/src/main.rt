@@ -25,24 +25,27 @@ use std::{env, io};
 
 fn main(rt: HostRuntime) -> ExitCode {
     let code = match words(&rt) {
-        Ok(words) => {
-            let mut inputs = RealInputs::new(rt);
-            let mut out = RealSink::new(rt.stdout());
-            let mut err = RealSink::new(rt.stderr());
-            // The types tell the two streams apart: the report goes to the former, what is said of the run to the latter.
-            run_counted::<RealInputs<HostRuntime>, RealSink<Stdout>, RealSink<Stderr>, Brand>(
-                rt.alloc(),
-                &words,
-                &mut inputs,
-                &mut out,
-                &mut err,
-                Blank::new(1),
-            )
-        }
-        Err(error) if error.kind() == io::ErrorKind::OutOfMemory => Status::NoMemory.code(),
-        Err(_) => Status::Usage.code(),
+        Ok(words) => run_on_system(rt, &words),
+        Err(status) => status.code(),
     };
     ExitCode::from(code)
+}
+
+// Runs the top call over the system. The types tell the two streams apart: the report goes to the former, what is said of the run to the
+// latter.
+fn run_on_system(rt: HostRuntime, words: &[String]) -> u8 {
+    let alloc = rt.alloc();
+    let mut out = RealSink::new(rt.stdout());
+    let mut err = RealSink::new(rt.stderr());
+    let mut inputs = RealInputs::new(rt);
+    run_counted::<RealInputs<HostRuntime>, RealSink<Stdout>, RealSink<Stderr>, Brand>(
+        alloc,
+        words,
+        &mut inputs,
+        &mut out,
+        &mut err,
+        Blank::new(1),
+    )
 }
 
 // The code that the top call ends with: that of a status of which all is promised that `np_main` promises of its own. The rules are counted
@@ -70,7 +73,23 @@ fn run_counted<I: Inputs, O: Sink, E: Sink, L: Ledger>(
     np_main(alloc, words, inputs, out, err, &mut steps).code()
 }
 
-// The words after the program's name.
-fn words<R: Env + AllocGlobal>(rt: &R) -> io::Result<Vec<String>> {
+// The words after the program's name. The status tells why there are none.
+fn words<R: Env + AllocGlobal>(rt: &R) -> Result<Vec<String>, Status> {
+    match listed_words(rt) {
+        Ok(words) => Ok(words),
+        Err(error) => Err(status_of(&error)),
+    }
+}
+
+fn listed_words<R: Env + AllocGlobal>(rt: &R) -> io::Result<Vec<String>> {
     Ok(env::args(rt)?.skip(1).collect(rt.alloc())?)
+}
+
+// A word that is no text asks for nothing.
+fn status_of(error: &io::Error) -> Status {
+    if error.kind() == io::ErrorKind::OutOfMemory {
+        Status::NoMemory
+    } else {
+        Status::Usage
+    }
 }

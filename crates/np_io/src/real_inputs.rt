@@ -11,12 +11,23 @@ use std::rt::Files;
 /// A source over the system, whose name `-` is standard input; any other name is that of a file. Where `-` is begun
 /// again, it goes on where it stopped, and a file is read from its front. The source does not tell its bytes, which
 /// name is begun or which were. It counts its failures, and that number is its count for every name.
-#[derive(Drop)]
 pub struct RealInputs<R: Input + Files + Drop> {
     runtime: R,
     begun: Option<Begun<R>>,
     faults: u64,
     handed: u64,
+}
+
+// Written out, so that letting one go is one call.
+impl<R: Input + Files + Drop> Drop for RealInputs<R> {
+    fn drop(self) {
+        let RealInputs {
+            runtime: _runtime,
+            begun: _begun,
+            faults: _faults,
+            handed: _handed,
+        } = self;
+    }
 }
 
 // What is read.

@@ -1,4 +1,4 @@
-use Rattle.np.proofs.main.Given as goal
+use Rattle.np.proofs.run_on_system.Given as goal
 
 -- the ledger of the blank that was just made
 abbrev pub ghosts-run_counted : goal.ghosts-run_counted
