@@ -13,7 +13,6 @@ use np_fold::Folded;
 use np_model::{Direction, Estate};
 use np_reading::read_estate;
 use np_steps::Steps;
-use np_test_samples::{input_of, list_of};
 use std::alloc::Global;
 use std::marker::Brand;
 use std::process::Abort;
@@ -41,18 +40,15 @@ pub enum Question {
     Flat,
 }
 
-/// Stops the test unless a list of these items gives these answers.
-pub fn expect_answers(rt: &impl Abort, alloc: Global, items: &[&str], wanted: &[(Question, &str)]) {
-    let list = list_of(alloc, items).expect(rt, "a list");
-    for (question, wanted) in wanted {
-        let given = answer(alloc, list.as_str(), *question).expect(rt, "an answer");
-        assert_eq!(rt; given.as_str(), *wanted);
-    }
+/// Stops the test unless a list gives this answer.
+pub fn expect_answer(rt: &impl Abort, alloc: Global, list: &str, question: Question, wanted: &str) {
+    let given = answer(alloc, list, question).expect(rt, "an answer");
+    assert!(rt; given.as_str() == wanted, "{given}");
 }
 
 // What the text of a list answers: why it is refused, or what its estate answers.
 fn answer(alloc: Global, text: &str, question: Question) -> Result<String, NoMemory> {
-    let inputs = input_of(alloc, text)?;
+    let inputs = [Vec::from_slice(alloc, text.as_bytes())?];
     match read_estate(alloc, &inputs) {
         Ok(estate) => answer_of_estate(alloc, estate, question),
         Err(refusal) => Ok(format!(in alloc; "{refusal}")?),

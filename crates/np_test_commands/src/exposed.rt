@@ -1,6 +1,6 @@
 //! What pods that nobody has written yet could reach, and be reached by.
 
-use crate::asked::{Question, expect_answers};
+use crate::asked::{Question, expect_answer};
 use np_base::NoMemory;
 use np_conns::print_conns;
 use np_exposure::{ExposureFault, ExposureRow, exposure, print_peer, weight};
@@ -33,11 +33,15 @@ pub fn exposed_text<L: Ledger>(
 fn rows_text(alloc: Global, rows: &[ExposureRow]) -> Result<String, NoMemory> {
     let mut text = String::new(alloc);
     for row in rows {
-        let peer = print_peer(alloc, row)?;
-        let conns = print_conns(alloc, &row.conns)?;
-        text.push_str(format!(in alloc; "{peer} : {conns}\n")?.as_str())?;
+        put_row(alloc, &mut text, row)?;
     }
     Ok(text)
+}
+
+fn put_row(alloc: Global, text: &mut String, row: &ExposureRow) -> Result<(), NoMemory> {
+    let peer = print_peer(alloc, row)?;
+    let conns = print_conns(alloc, &row.conns)?;
+    Ok(writeln!(text, "{peer} : {conns}")?)
 }
 
 /// How many patterns there may be.
@@ -57,25 +61,36 @@ pub fn weight_text(
 // A peer of two selectors, and one of the policy's own namespace.
 #[test]
 fn example_exposure(rt: HostRuntime) {
-    static ITEMS: &[&str] = &[
-        r#"{"apiVersion":"v1","kind":"Pod","metadata":{"name":"web","namespace":"shop"},"spec":{}}"#,
+    static LIST: &str = concat!(
+        r#"{"apiVersion":"v1","kind":"List","items":["#,
+        r#"{"apiVersion":"v1","kind":"Pod","metadata":{"name":"web","namespace":"shop"},"spec":{}},"#,
         r#"{"apiVersion":"networking.k8s.io/v1","kind":"NetworkPolicy","metadata":{"name":"p","namespace":"shop"},"spec":{"podSelector":{},"ingress":[{"from":[{"namespaceSelector":{"matchLabels":{"kubernetes.io/metadata.name":"monitoring"}},"podSelector":{"matchLabels":{"app":"prom"}}}],"ports":[{"port":9090}]},{"from":[{"podSelector":{}}]}]}}"#,
-    ];
-    static WANTED: &[(Question, &str)] = &[
-        (
-            Question::Exposed(0, Direction::Ingress),
-            concat!(
-                "{namespace kubernetes.io/metadata.name In (monitoring) and pod app In (prom)} : TCP 9090\n",
-                "{namespace kubernetes.io/metadata.name In (monitoring)} : No Connections\n",
-                "{namespace kubernetes.io/metadata.name In (shop)} : All Connections\n",
-                "{any pod} : No Connections\n",
-            ),
+        "]}",
+    );
+    expect_answer(
+        &rt,
+        rt.alloc(),
+        LIST,
+        Question::Exposed(0, Direction::Ingress),
+        concat!(
+            "{namespace kubernetes.io/metadata.name In (monitoring) and pod app In (prom)} : TCP 9090\n",
+            "{namespace kubernetes.io/metadata.name In (monitoring)} : No Connections\n",
+            "{namespace kubernetes.io/metadata.name In (shop)} : All Connections\n",
+            "{any pod} : No Connections\n",
         ),
-        (
-            Question::Exposed(0, Direction::Egress),
-            "{any pod} : All Connections\n",
-        ),
-        (Question::Weight(0, Direction::Ingress), "12"),
-    ];
-    expect_answers(&rt, rt.alloc(), ITEMS, WANTED);
+    );
+    expect_answer(
+        &rt,
+        rt.alloc(),
+        LIST,
+        Question::Exposed(0, Direction::Egress),
+        "{any pod} : All Connections\n",
+    );
+    expect_answer(
+        &rt,
+        rt.alloc(),
+        LIST,
+        Question::Weight(0, Direction::Ingress),
+        "12",
+    );
 }

@@ -1,6 +1,6 @@
 //! NetworkPolicies that alone give the verdicts of all policies, as JSON.
 
-use crate::asked::{Question, expect_answers};
+use crate::asked::{Question, expect_answer};
 use np_base::NoMemory;
 use np_fold::Folded;
 use np_manifests::print_policy;
@@ -40,12 +40,17 @@ fn policies_text<L: Ledger>(
 // Two groups of one workload each.
 #[test]
 fn example_flatten(rt: HostRuntime) {
-    static ITEMS: &[&str] = &[
-        r#"{"apiVersion":"v1","kind":"Pod","metadata":{"name":"a","labels":{"app":"a"}},"spec":{}}"#,
-        r#"{"apiVersion":"v1","kind":"Pod","metadata":{"name":"b","labels":{"app":"b"}},"spec":{}}"#,
+    static LIST: &str = concat!(
+        r#"{"apiVersion":"v1","kind":"List","items":["#,
+        r#"{"apiVersion":"v1","kind":"Pod","metadata":{"name":"a","labels":{"app":"a"}},"spec":{}},"#,
+        r#"{"apiVersion":"v1","kind":"Pod","metadata":{"name":"b","labels":{"app":"b"}},"spec":{}},"#,
         r#"{"apiVersion":"networking.k8s.io/v1","kind":"NetworkPolicy","metadata":{"name":"p"},"spec":{"podSelector":{"matchLabels":{"app":"b"}},"ingress":[{"from":[{"podSelector":{"matchLabels":{"app":"a"}}}],"ports":[{"protocol":"TCP","port":80}]}]}}"#,
-    ];
-    static WANTED: &[(Question, &str)] = &[(
+        "]}",
+    );
+    expect_answer(
+        &rt,
+        rt.alloc(),
+        LIST,
         Question::Flat,
         concat!(
             r#"{"apiVersion":"networking.k8s.io/v1","kind":"NetworkPolicy","metadata":{"name":"flat-0","namespace":"default"},"spec":{"egress":[{"to":[{"namespaceSelector":{}}]},{"to":[{"ipBlock":{"cidr":"0.0.0.0/0"}}]},{"to":[{"ipBlock":{"cidr":"::/0"}}]}],"ingress":[{"from":[{"namespaceSelector":{"matchExpressions":[{"key":"kubernetes.io/metadata.name","operator":"In","values":["default"]}]},"podSelector":{"matchExpressions":[{"key":"app","operator":"In","values":["b"]}]}}]},{"from":[{"ipBlock":{"cidr":"0.0.0.0/0"}}]},{"from":[{"ipBlock":{"cidr":"::/0"}}]}],"podSelector":{"matchExpressions":[{"key":"app","operator":"In","values":["a"]}]},"policyTypes":["Ingress","Egress"]}}"#,
@@ -53,6 +58,5 @@ fn example_flatten(rt: HostRuntime) {
             r#"{"apiVersion":"networking.k8s.io/v1","kind":"NetworkPolicy","metadata":{"name":"flat-1","namespace":"default"},"spec":{"egress":[{"to":[{"namespaceSelector":{}}]},{"to":[{"ipBlock":{"cidr":"0.0.0.0/0"}}]},{"to":[{"ipBlock":{"cidr":"::/0"}}]}],"ingress":[{"from":[{"namespaceSelector":{"matchExpressions":[{"key":"kubernetes.io/metadata.name","operator":"In","values":["default"]}]},"podSelector":{"matchExpressions":[{"key":"app","operator":"In","values":["a"]}]}}],"ports":[{"port":80,"protocol":"TCP"}]}],"podSelector":{"matchExpressions":[{"key":"app","operator":"In","values":["b"]}]},"policyTypes":["Ingress","Egress"]}}"#,
             "\n",
         ),
-    )];
-    expect_answers(&rt, rt.alloc(), ITEMS, WANTED);
+    );
 }

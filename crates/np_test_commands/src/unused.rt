@@ -2,7 +2,7 @@
 ghost use Rattle.std.specs.Prelude.{All};
 ghost use Rattle.np_lint.specs.Rules.{IsRuleOf};
 
-use crate::asked::{Question, expect_answers};
+use crate::asked::{Question, expect_answer};
 use np_base::NoMemory;
 use np_fold::Folded;
 use np_lint::{RuleRef, print_rule, unused_rules};
@@ -36,15 +36,19 @@ fn rules_text(alloc: Global, estate: &Estate, rules: &[RuleRef]) -> Result<Strin
 // Of two policies with the same rule the one of the lesser name decides.
 #[test]
 fn example_unused_rules(rt: HostRuntime) {
-    static ITEMS: &[&str] = &[
-        r#"{"apiVersion":"v1","kind":"Pod","metadata":{"name":"a","labels":{"app":"a"}},"spec":{}}"#,
-        r#"{"apiVersion":"v1","kind":"Pod","metadata":{"name":"b","labels":{"app":"b"}},"spec":{}}"#,
-        r#"{"apiVersion":"networking.k8s.io/v1","kind":"NetworkPolicy","metadata":{"name":"q"},"spec":{"podSelector":{"matchLabels":{"app":"b"}},"ingress":[{"from":[{"podSelector":{"matchLabels":{"app":"a"}}}],"ports":[{"protocol":"TCP","port":80}]}]}}"#,
+    static LIST: &str = concat!(
+        r#"{"apiVersion":"v1","kind":"List","items":["#,
+        r#"{"apiVersion":"v1","kind":"Pod","metadata":{"name":"a","labels":{"app":"a"}},"spec":{}},"#,
+        r#"{"apiVersion":"v1","kind":"Pod","metadata":{"name":"b","labels":{"app":"b"}},"spec":{}},"#,
+        r#"{"apiVersion":"networking.k8s.io/v1","kind":"NetworkPolicy","metadata":{"name":"q"},"spec":{"podSelector":{"matchLabels":{"app":"b"}},"ingress":[{"from":[{"podSelector":{"matchLabels":{"app":"a"}}}],"ports":[{"protocol":"TCP","port":80}]}]}},"#,
         r#"{"apiVersion":"networking.k8s.io/v1","kind":"NetworkPolicy","metadata":{"name":"p"},"spec":{"podSelector":{"matchLabels":{"app":"b"}},"ingress":[{"from":[{"podSelector":{"matchLabels":{"app":"a"}}}],"ports":[{"protocol":"TCP","port":80}]}]}}"#,
-    ];
-    static WANTED: &[(Question, &str)] = &[(
+        "]}",
+    );
+    expect_answer(
+        &rt,
+        rt.alloc(),
+        LIST,
         Question::Unused,
         "NetworkPolicy default/q ingress[0]\n",
-    )];
-    expect_answers(&rt, rt.alloc(), ITEMS, WANTED);
+    );
 }

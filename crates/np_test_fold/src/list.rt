@@ -2,7 +2,6 @@
 
 use np_fold::Folded;
 use np_reading::read_estate;
-use np_test_samples::input_of;
 use std::alloc::Global;
 use std::process::Abort;
 
@@ -26,7 +25,7 @@ static LIST: &str = concat!(
 
 /// The estate of the list with its workloads.
 pub fn folded_list(rt: &impl Abort, alloc: Global) -> Folded {
-    let inputs = input_of(alloc, LIST).expect(rt, "an input");
+    let inputs = [Vec::from_slice(alloc, LIST.as_bytes()).expect(rt, "an input")];
     let estate = read_estate(alloc, &inputs).expect(rt, "an estate");
     Folded::of(alloc, estate).expect(rt, "workloads")
 }

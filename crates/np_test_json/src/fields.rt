@@ -6,6 +6,8 @@ use np_json::{
     text_field, whole_field,
 };
 use serde_json::Value;
+use std::alloc::Global;
+use std::process::Abort;
 
 static MEMBERS: &str =
     r#"{"nothing": null, "text": "a", "whole": 7, "part": 1.0, "flag": false, "list": [1, 2],
@@ -66,15 +68,17 @@ fn are_in_order(pairs: &[(Text, Text)]) -> bool {
     }
 }
 
+// Stops the test unless the pairs of a member stand so.
+fn expect_pairs(rt: &impl Abort, alloc: Global, object: &Value) {
+    let pairs = pairs_field(alloc, object, "object").expect(rt, "pairs");
+    assert!(rt; matches!(&pairs, Field::Given(pairs) if are_in_order(pairs.items())));
+}
+
 #[test]
 fn each_reader_takes_its_own_type(rt: HostRuntime) {
     let object = Value::from_str(rt.alloc(), MEMBERS).expect(&rt, "an object");
     assert!(rt; are_given(&object), "given");
     assert!(rt; are_wrong(&object), "wrong");
     assert!(rt; are_missing(&object), "missing");
-    let pairs = pairs_field(rt.alloc(), &object, "object").expect(&rt, "pairs");
-    assert!(rt;
-        matches!(&pairs, Field::Given(pairs) if are_in_order(pairs.items())),
-        "pairs"
-    );
+    expect_pairs(&rt, rt.alloc(), &object);
 }

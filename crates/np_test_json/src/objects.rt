@@ -12,7 +12,7 @@ use np_objects::{
 };
 use serde_json::Value;
 use std::alloc::Global;
-use std::test::Fail;
+use std::process::Abort;
 
 /// Objects, as a cluster prints them.
 #[derive(Clone, Copy)]
@@ -59,34 +59,30 @@ impl Example {
     }
 }
 
-// Whether an example, as item 1 of a list, is read as what its text says. An object lives nowhere else, since each function that lets one
-// go is dear to prove.
-fn is_read(alloc: Global, example: Example) -> Result<bool, Fail> {
-    let value = Value::from_str(alloc, example.text())?;
-    let read = read_object(alloc, 1, &value);
-    Ok(example.is_read_as(&read))
+// What an example is read as, as item 1 of a list.
+fn read_example(rt: &impl Abort, alloc: Global, example: Example) -> Result<Object, ReadFault> {
+    let value = Value::from_str(alloc, example.text()).expect(rt, "an object");
+    read_object(alloc, 1, &value)
+}
+
+// Stops the test unless an example is read as what its text says. An object lives nowhere else, since each function that lets one go is
+// dear to prove.
+fn expect_read(rt: &impl Abort, alloc: Global, example: Example) {
+    let read = read_example(rt, alloc, example);
+    assert!(rt; example.is_read_as(&read), "{}", example.text());
 }
 
 #[test]
-fn example_read_object(rt: HostRuntime) -> Result<(), Fail> {
-    assert!(rt; is_read(rt.alloc(), Example::Pod)?, "a pod");
-    assert!(rt;
-        is_read(rt.alloc(), Example::FailedPod)?,
-        "a pod that failed"
-    );
-    assert!(rt; is_read(rt.alloc(), Example::Namespace)?, "a namespace");
-    assert!(rt; is_read(rt.alloc(), Example::Deployment)?, "a Deployment");
-    assert!(rt; is_read(rt.alloc(), Example::Service)?, "a Service");
-    assert!(rt; is_read(rt.alloc(), Example::Ingress)?, "an Ingress");
-    assert!(rt;
-        is_read(rt.alloc(), Example::List)?,
-        "a kind that is not read"
-    );
-    assert!(rt;
-        is_read(rt.alloc(), Example::BadPod)?,
-        "the first of two faults"
-    );
-    Ok(())
+fn example_read_object(rt: HostRuntime) {
+    let alloc = rt.alloc();
+    expect_read(&rt, alloc, Example::Pod);
+    expect_read(&rt, alloc, Example::FailedPod);
+    expect_read(&rt, alloc, Example::Namespace);
+    expect_read(&rt, alloc, Example::Deployment);
+    expect_read(&rt, alloc, Example::Service);
+    expect_read(&rt, alloc, Example::Ingress);
+    expect_read(&rt, alloc, Example::List);
+    expect_read(&rt, alloc, Example::BadPod);
 }
 
 static POD: &str = r#"{"apiVersion": "v1", "kind": "Pod",

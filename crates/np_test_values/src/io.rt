@@ -1,114 +1,114 @@
 //! Sources and sinks in memory, by example.
 
-use np_base::NoMemory;
 use np_io::{
     InputFailed, Inputs, MemInputs, MemSink, Sink, SinkFailed, WholeFault, read_whole, write_whole,
 };
 use std::alloc::Global;
-use std::test::Fail;
+use std::process::Abort;
 
-// A source of pieces of 16 bytes, the second of whose reads fails.
-fn failing_source(alloc: Global) -> Result<MemInputs, NoMemory> {
+// A source of pieces of 16 bytes, the second of whose reads fails: what that would have handed out comes next.
+fn failing_source(rt: &impl Abort, alloc: Global) -> MemInputs {
     let mut inputs = MemInputs::new(alloc, 16);
-    inputs.add("-", b"The quick brown fox jumps over the lazy dog.")?;
-    inputs.fail_read(2)?;
-    Ok(inputs)
+    inputs
+        .add("-", b"The quick brown fox jumps over the lazy dog.")
+        .expect(rt, "an input");
+    inputs.fail_read(2).expect(rt, "a read that fails");
+    inputs
 }
 
-// What its reads hand out, `None` for the one that fails: what that would have handed out comes next. The end is a read
-// of nothing.
-static READS: &[Option<&[u8]>] = &[
-    Some(b"The quick brown "),
-    None,
-    Some(b"fox jumps over t"),
-    Some(b"he lazy dog."),
-    Some(b""),
-];
-
-// Whether the next read hands out these bytes, or fails where there are none.
-fn hands_out(inputs: &mut MemInputs, wanted: Option<&[u8]>) -> bool {
+// Stops the test unless the next read hands out these bytes.
+fn expect_read(rt: &impl Abort, inputs: &mut MemInputs, wanted: &[u8]) {
     let mut buffer = [0u8; 64];
-    match inputs.read(&mut buffer) {
-        Ok(count) => buffer.get(..count) == wanted,
-        Err(InputFailed) => wanted.is_none(),
-    }
+    let count = inputs.read(&mut buffer).expect(rt, "a read");
+    assert!(rt; buffer.get(..count) == Some(wanted));
 }
 
+// Stops the test unless the next read fails.
+fn expect_no_read(rt: &impl Abort, inputs: &mut MemInputs) {
+    let mut buffer = [0u8; 64];
+    assert!(rt; inputs.read(&mut buffer) == Err(InputFailed));
+}
+
+// Until a name is begun there is nothing to read, and the end is a read of nothing.
 #[test]
-fn a_read_fails(rt: HostRuntime) -> Result<(), Fail> {
-    let mut inputs = failing_source(rt.alloc())?;
-    assert!(rt; hands_out(&mut inputs, Some(b"")), "no name is begun");
+fn a_read_fails(rt: HostRuntime) {
+    let mut inputs = failing_source(&rt, rt.alloc());
+    expect_read(&rt, &mut inputs, b"");
     assert!(rt; inputs.begin("other") == Err(InputFailed));
-    assert!(rt; inputs.begin("-") == Ok(()));
-    for wanted in READS {
-        assert!(rt; hands_out(&mut inputs, *wanted), "{wanted:?}");
-    }
-    Ok(())
+    inputs.begin("-").expect(&rt, "a name");
+    expect_read(&rt, &mut inputs, b"The quick brown ");
+    expect_no_read(&rt, &mut inputs);
+    expect_read(&rt, &mut inputs, b"fox jumps over t");
+    expect_read(&rt, &mut inputs, b"he lazy dog.");
+    expect_read(&rt, &mut inputs, b"");
 }
 
 // A source of 40 bytes under one name and of none under another, whose fourth beginning fails.
-fn source_of_forty(alloc: Global) -> Result<MemInputs, NoMemory> {
+fn source_of_forty(rt: &impl Abort, alloc: Global) -> MemInputs {
     let mut inputs = MemInputs::new(alloc, 16);
-    inputs.add("-", &[7u8; 40])?;
-    inputs.add("none", &[])?;
-    inputs.fail_begin(4)?;
-    Ok(inputs)
+    inputs.add("-", &[7u8; 40]).expect(rt, "an input");
+    inputs.add("none", &[]).expect(rt, "an empty input");
+    inputs.fail_begin(4).expect(rt, "a beginning that fails");
+    inputs
 }
 
-// Names, each with the room for its bytes, and what is read whole.
-type Whole = (&'static str, u64, Result<&'static [u8], WholeFault>);
+// Stops the test unless the input of this name is read whole where there is so much room.
+fn expect_whole(
+    rt: &impl Abort,
+    alloc: Global,
+    inputs: &mut MemInputs,
+    name: &str,
+    room: u64,
+    wanted: &[u8],
+) {
+    let bytes = read_whole(alloc, inputs, name, room).expect(rt, name);
+    assert!(rt; bytes.as_slice() == wanted, "{name}");
+}
 
-// 40 bytes are read whole where there is room for 40, and are too many for 39.
-static WHOLES: &[Whole] = &[
-    ("-", 40, Ok(&[7; 40])),
-    ("-", 39, Err(WholeFault::TooLarge)),
-    ("none", 0, Ok(&[])),
-    ("-", 40, Err(WholeFault::InputFailed)),
-];
-
-// Whether that is read.
-fn is_read(alloc: Global, inputs: &mut MemInputs, whole: &Whole) -> bool {
-    let (name, room, wanted) = whole;
-    match (read_whole(alloc, inputs, name, *room), wanted) {
-        (Ok(bytes), Ok(wanted)) => bytes.as_slice() == *wanted,
-        (Err(fault), Err(wanted)) => fault == *wanted,
-        _ => false,
-    }
+// Stops the test unless the input of 40 bytes is refused so where there is so much room.
+fn expect_refused(
+    rt: &impl Abort,
+    alloc: Global,
+    inputs: &mut MemInputs,
+    room: u64,
+    wanted: WholeFault,
+) {
+    let read = read_whole(alloc, inputs, "-", room);
+    assert!(rt; matches!(&read, Err(fault) if *fault == wanted), "{room}");
 }
 
 #[test]
-fn example_read_whole(rt: HostRuntime) -> Result<(), Fail> {
-    let mut inputs = source_of_forty(rt.alloc())?;
-    for whole in WHOLES {
-        assert!(rt; is_read(rt.alloc(), &mut inputs, whole), "{whole:?}");
-    }
-    Ok(())
+fn example_read_whole(rt: HostRuntime) {
+    let mut inputs = source_of_forty(&rt, rt.alloc());
+    expect_whole(&rt, rt.alloc(), &mut inputs, "-", 40, &[7; 40]);
+    expect_refused(&rt, rt.alloc(), &mut inputs, 39, WholeFault::TooLarge);
+    expect_whole(&rt, rt.alloc(), &mut inputs, "none", 0, &[]);
+    expect_refused(&rt, rt.alloc(), &mut inputs, 40, WholeFault::InputFailed);
 }
 
 // A sink of room for 30 bytes in pieces of 8, whose second write fails.
-fn failing_sink(alloc: Global) -> Result<MemSink, NoMemory> {
-    let mut out = MemSink::new(alloc, 30, 8)?;
-    out.fail_write(2)?;
-    Ok(out)
+fn failing_sink(rt: &impl Abort, alloc: Global) -> MemSink {
+    let mut out = MemSink::new(alloc, 30, 8).expect(rt, "a sink");
+    out.fail_write(2).expect(rt, "a write that fails");
+    out
 }
 
-// Whether a write of the text ends so, and the sink holds these bytes then.
-fn writes(out: &mut MemSink, text: &[u8], ends: Result<(), SinkFailed>, taken: &[u8]) -> bool {
-    write_whole(out, text) == ends && out.taken() == taken
+// Stops the test unless a write of a text of twenty bytes ends so, and the sink holds these bytes then.
+fn expect_write(rt: &impl Abort, out: &mut MemSink, ends: Result<(), SinkFailed>, taken: &[u8]) {
+    assert!(rt; write_whole(out, b"twenty bytes of text") == ends);
+    assert!(rt; out.taken() == taken);
 }
 
 // After the second write the sink holds the first piece alone.
 #[test]
-fn a_write_fails(rt: HostRuntime) -> Result<(), Fail> {
-    let text = b"twenty bytes of text";
-    let mut out = failing_sink(rt.alloc())?;
+fn a_write_fails(rt: HostRuntime) {
+    let mut out = failing_sink(&rt, rt.alloc());
     assert!(rt; out.write(b"") == Ok(0));
-    assert!(rt; writes(&mut out, text, Err(SinkFailed), b"twenty b"));
-    assert!(rt; writes(&mut out, text, Ok(()), b"twenty btwenty bytes of text"));
+    expect_write(&rt, &mut out, Err(SinkFailed), b"twenty b");
+    expect_write(&rt, &mut out, Ok(()), b"twenty btwenty bytes of text");
     assert!(rt;
         out.write(b"abc") == Err(SinkFailed),
         "three bytes do not fit"
     );
     assert!(rt; out.write(b"ab") == Ok(2));
-    Ok(())
 }

@@ -19,5 +19,3 @@ mod requirements;
 mod sets;
 #[cfg(test)]
 mod tiers;
-#[cfg(test)]
-mod words;

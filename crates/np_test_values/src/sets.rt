@@ -1,103 +1,92 @@
 //! Sets that texts write, and what the operations make of them.
 //!
-//! It is proved of all kinds of sets at once: a value of one kind that lives across the exits of a function makes its proof dear.
+//! It is proved of all kinds of sets at once.
 
 use crate::pieces::AddrConns;
 use np_addr::AddrSet;
-use np_base::{Cells, NoMemory, join_all};
+use np_base::{Cells, join_all};
 use np_conns::ConnSet;
 use std::alloc::Global;
-use std::test::Fail;
+use std::process::Abort;
 
 /// A kind of sets that texts write.
 pub trait Written: Cells {
-    /// The set that the text writes.
-    fn read(alloc: Global, text: &str) -> Result<Self, Fail>;
+    /// The set that the text writes. It stops the test where the text writes none.
+    fn read<A: Abort>(rt: &A, alloc: Global, text: &str) -> Self;
 }
 
-// The first operation that gives anything else of two sets without a common spot and of the set that was worked out to be both of
-// them together, or no text.
-fn wrong_of<S: Written>(
+// Stops the test where an operation gives anything else of two sets without a common spot and of the set that was worked out to be both
+// of them together.
+fn expect_operations<S: Written>(
+    rt: &impl Abort,
     alloc: Global,
     first: &str,
     second: &str,
     whole: &str,
-) -> Result<&'static str, Fail> {
-    let whole = S::read(alloc, whole)?;
-    let first = S::read(alloc, first)?;
-    let second = S::read(alloc, second)?;
-    let wrong = wrong_operation(alloc, &first, &second, &whole)?;
-    let both = joined(alloc, first, second)?;
-    Ok(if both.same(&whole) { wrong } else { "join_all" })
+) {
+    let first = S::read(rt, alloc, first);
+    let second = S::read(rt, alloc, second);
+    let whole = S::read(rt, alloc, whole);
+    expect_join(rt, &first, &second, &whole);
+    expect_difference(rt, &first, &second, &whole);
+    expect_bounds(rt, alloc, &whole);
+    expect_join_of_all(rt, alloc, first, second, &whole);
 }
 
-// The join of a list of two sets.
-fn joined<S: Cells>(alloc: Global, first: S, second: S) -> Result<S, NoMemory> {
+fn expect_join<S: Cells>(rt: &impl Abort, first: &S, second: &S, whole: &S) {
+    let joined = first.join(second).expect(rt, "a join");
+    assert!(rt; joined.same(whole), "join");
+    assert!(rt; !first.is_empty() && !second.same(whole), "same");
+}
+
+fn expect_difference<S: Cells>(rt: &impl Abort, first: &S, second: &S, whole: &S) {
+    let met = whole.meet(first).expect(rt, "a meet");
+    assert!(rt; met.same(first), "meet");
+    let left = whole.minus(first).expect(rt, "a difference");
+    assert!(rt; left.same(second), "minus");
+}
+
+// Stops the test where the empty set, the set of all or a copy of a set is anything else.
+fn expect_bounds<S: Cells>(rt: &impl Abort, alloc: Global, set: &S) {
+    let nothing = S::nothing(alloc).expect(rt, "a set of nothing");
+    assert!(rt; nothing.is_empty(), "nothing");
+    let copied = set.copy().expect(rt, "a copy");
+    assert!(rt; copied.same(set), "copy");
+    expect_everything(rt, alloc, set);
+}
+
+fn expect_everything<S: Cells>(rt: &impl Abort, alloc: Global, set: &S) {
+    let everything = S::everything(alloc).expect(rt, "a set of everything");
+    let left = set.minus(&everything).expect(rt, "a difference");
+    assert!(rt; left.is_empty(), "everything");
+}
+
+// Stops the test where the join of a list of two sets is anything else.
+fn expect_join_of_all<S: Cells>(rt: &impl Abort, alloc: Global, first: S, second: S, whole: &S) {
     let mut sets = Vec::new(alloc);
-    sets.push(first)?;
-    sets.push(second)?;
-    join_all(alloc, &sets)
-}
-
-fn wrong_operation<S: Cells>(
-    alloc: Global,
-    first: &S,
-    second: &S,
-    whole: &S,
-) -> Result<&'static str, NoMemory> {
-    if !first.join(second)?.same(whole) {
-        return Ok("join");
-    }
-    if !whole.meet(first)?.same(first) {
-        return Ok("meet");
-    }
-    if !whole.minus(first)?.same(second) {
-        return Ok("minus");
-    }
-    if first.is_empty() || second.same(whole) {
-        return Ok("same");
-    }
-    wrong_bound(alloc, whole)
-}
-
-// The first of the empty set, the set of all and a copy that is anything else, or no text.
-fn wrong_bound<S: Cells>(alloc: Global, set: &S) -> Result<&'static str, NoMemory> {
-    if !S::nothing(alloc)?.is_empty() {
-        return Ok("nothing");
-    }
-    if !set.minus(&S::everything(alloc)?)?.is_empty() {
-        return Ok("everything");
-    }
-    Ok(if set.copy()?.same(set) { "" } else { "copy" })
-}
-
-/// Whether that is the set.
-pub fn is_written<S: Written>(alloc: Global, set: &S, text: &str) -> Result<bool, Fail> {
-    Ok(S::read(alloc, text)?.same(set))
+    sets.push(first).ok().expect(rt, "a list");
+    sets.push(second).ok().expect(rt, "a list");
+    let joined = join_all(alloc, &sets).expect(rt, "a join");
+    assert!(rt; joined.same(whole), "join_all");
 }
 
 #[test]
-fn operations_on_addresses(rt: HostRuntime) -> Result<(), Fail> {
-    let wrong = wrong_of::<AddrSet>(rt.alloc(), "10.0.0.0/9", "10.128.0.0/9", "10.0.0.0/8")?;
-    assert_eq!(rt; wrong, "");
-    Ok(())
+fn operations_on_addresses(rt: HostRuntime) {
+    let (first, second) = ("10.0.0.0/9", "10.128.0.0/9");
+    expect_operations::<AddrSet>(&rt, rt.alloc(), first, second, "10.0.0.0/8");
 }
 
 #[test]
-fn operations_on_connections(rt: HostRuntime) -> Result<(), Fail> {
-    let first = "TCP 80-89; SCTP 1,3-65535";
+fn operations_on_connections(rt: HostRuntime) {
+    let (first, second) = ("TCP 80-89; SCTP 1,3-65535", "TCP 90,92; UDP 53");
     let whole = "TCP 80-90,92; UDP 53; SCTP 1,3-65535";
-    let wrong = wrong_of::<ConnSet>(rt.alloc(), first, "TCP 90,92; UDP 53", whole)?;
-    assert_eq!(rt; wrong, "");
-    Ok(())
+    expect_operations::<ConnSet>(&rt, rt.alloc(), first, second, whole);
 }
 
 // Equal neighbours are one piece.
 #[test]
-fn operations_on_pieces(rt: HostRuntime) -> Result<(), Fail> {
+fn operations_on_pieces(rt: HostRuntime) {
     let first = "TCP 80-90 / No Connections";
     let second = "No Connections / TCP 80-90";
-    let wrong = wrong_of::<AddrConns>(rt.alloc(), first, second, "TCP 80-90")?;
-    assert_eq!(rt; wrong, "");
-    Ok(())
+    expect_operations::<AddrConns>(&rt, rt.alloc(), first, second, "TCP 80-90");
 }

@@ -1,9 +1,16 @@
 //! The items of lists.
 
+use np_base::Seq;
 use np_items::{Item, ItemsFault, read_items};
 use np_objects::Object;
-use np_test_samples::input_of;
-use std::test::Fail;
+use std::alloc::Global;
+use std::process::Abort;
+
+// What the items of a list are read as.
+fn read_list(rt: &impl Abort, alloc: Global, list: &str) -> Result<Seq<Item>, ItemsFault> {
+    let inputs = [Vec::from_slice(alloc, list.as_bytes()).expect(rt, "an input")];
+    read_items(alloc, &inputs)
+}
 
 static LIST: &str = r#"{"apiVersion":"v1","kind":"List","items":[
     {"apiVersion":"networking.k8s.io/v1","kind":"NetworkPolicy","metadata":{"name":"p"},"spec":{}},
@@ -22,17 +29,13 @@ fn are_those_of_the_list(items: &[Item]) -> bool {
 }
 
 #[test]
-fn example_read_items(rt: HostRuntime) -> Result<(), Fail> {
-    let inputs = input_of(rt.alloc(), LIST)?;
-    let items = read_items(rt.alloc(), &inputs)?;
+fn example_read_items(rt: HostRuntime) {
+    let items = read_list(&rt, rt.alloc(), LIST).expect(&rt, "items");
     assert!(rt; are_those_of_the_list(items.items()));
-    Ok(())
 }
 
 #[test]
-fn list_of_one_kind(rt: HostRuntime) -> Result<(), Fail> {
-    let inputs = input_of(rt.alloc(), r#"{"apiVersion":"v1","kind":"PodList"}"#)?;
-    let read = read_items(rt.alloc(), &inputs);
+fn list_of_one_kind(rt: HostRuntime) {
+    let read = read_list(&rt, rt.alloc(), r#"{"apiVersion":"v1","kind":"PodList"}"#);
     assert!(rt; matches!(&read, Err(ItemsFault::NotAList { input: 1 })));
-    Ok(())
 }

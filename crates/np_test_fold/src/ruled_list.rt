@@ -1,11 +1,10 @@
 //! The list that is asked.
-ghost use Rattle.std.specs.Prelude.{IfOk};
 ghost use Rattle.np_model.specs.Lawful.{IsLawful};
 
 use np_model::Estate;
-use np_reading::{Refusal, read_estate};
-use np_test_samples::input_of;
+use np_reading::read_estate;
 use std::alloc::Global;
+use std::process::Abort;
 
 // `b` takes TCP 80 from `a` and TCP 81 from a block by its NetworkPolicy, UDP 53 from every pod by an admin rule, and nothing by the
 // baseline, since it is isolated.
@@ -26,9 +25,9 @@ static LIST: &str = concat!(
 );
 
 /// The estate of the list.
-pub fn estate_of_list(alloc: Global) -> Result<Estate, Refusal>
-    ensures { IfOk result IsLawful }
+pub fn estate_of_list(rt: &impl Abort, alloc: Global) -> Estate
+    ensures { IsLawful result }
 {
-    let inputs = input_of(alloc, LIST)?;
-    read_estate(alloc, &inputs)
+    let inputs = [Vec::from_slice(alloc, LIST.as_bytes()).expect(rt, "an input")];
+    read_estate(alloc, &inputs).expect(rt, "an estate")
 }

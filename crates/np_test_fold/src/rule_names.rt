@@ -1,16 +1,16 @@
 //! The rules behind the places of a layer, by name.
 ghost use Rattle.np_model.specs.Lawful.{IsFew};
 
-use np_base::NoMemory;
 use np_rules::{LayerRules, PodRules, RuleId};
 use std::alloc::Global;
+use std::process::Abort;
 
-/// Whether the rules that speak at the side have their names, tier by tier, and the NetworkPolicy isolates the pod.
-pub fn are_rules_named(alloc: Global, rules: &PodRules<'_>) -> Result<bool, NoMemory>
+/// Stops the test unless the rules that speak at the side have their names, tier by tier, and the NetworkPolicy isolates the pod.
+pub fn expect_names(rt: &impl Abort, alloc: Global, rules: &PodRules<'_>)
     requires { IsFew rules.now.lists }
 {
-    let names = rules.names(alloc)?;
-    Ok(are_names(&names))
+    let names = rules.names(alloc).expect(rt, "names");
+    assert!(rt; are_names(&names), "names of rules");
 }
 
 // The NetworkPolicy has two rules, and each of the others one.

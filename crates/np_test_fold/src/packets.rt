@@ -2,22 +2,24 @@
 ghost use Rattle.std.specs.Prelude.{◌≡◌, length};
 
 use np_addr::Family;
-use np_base::{NoMemory, PortNum};
+use np_base::PortNum;
 use np_conns::{PortSpot, Proto};
 use np_model::Estate;
 use np_rules::{End, Packet, allows, said_text};
 use np_steps::Steps;
 use std::alloc::Global;
+use std::process::Abort;
 use std::sync::ledger::Ledger;
 
-/// Whether this is said of a packet over TCP from the first pod to the second.
-pub fn is_packet_said<L: Ledger>(
+/// Stops the test unless this is said of a packet over TCP from the first pod to the second.
+pub fn expect_packet<L: Ledger>(
+    rt: &impl Abort,
     alloc: Global,
     estate: &Estate,
     port: PortNum,
     wanted: &str,
     steps: &mut Steps<L>,
-) -> Result<bool, NoMemory>
+)
     requires { length estate.now.pods ≡ 2 }
 {
     let proto = Proto::Tcp;
@@ -29,6 +31,6 @@ pub fn is_packet_said<L: Ledger>(
         port,
     };
     let allowed = allows(estate, &packet, steps);
-    let said = said_text(alloc, PortSpot { proto, port }, allowed)?;
-    Ok(said.as_str() == wanted)
+    let said = said_text(alloc, PortSpot { proto, port }, allowed).expect(rt, "a text");
+    assert!(rt; said.as_str() == wanted, "{wanted}");
 }

@@ -3,7 +3,7 @@ use Rattle.std.specs.List.{list_any}
 use Rattle.std.proofs.lemmas.List.{take_all}
 use Rattle.std.proofs.lemmas.Result.{IfOk-weaker}
 use Rattle.np_conns.specs.Conns.{has_spot}
-use Rattle.np_test_rules.proofs.strangers.permitted.Goals as goal
+use Rattle.np_test_fold.proofs.strangers.permitted.Goals as goal
 
 pub returns : goal.returns
 returns c =

@@ -5,7 +5,7 @@ use Rattle.np_conns.specs.declared.port_spot.PortSpot.{PortSpot}
 use Rattle.np_rules.specs.model.Ends.{pod, stranger_end}
 use Rattle.np_rules.specs.PodSides.{near_pod}
 use Rattle.np_rules.specs.StrangerRules.{kept_matches}
-use Rattle.np_test_rules.proofs.strangers.permitted.Given as goal
+use Rattle.np_test_fold.proofs.strangers.permitted.Given as goal
 
 -- the sets so far are those of the matching rules so far
 abbrev pub invariant-loop-rule : goal.invariant-loop-rule

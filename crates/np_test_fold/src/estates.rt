@@ -2,14 +2,13 @@
 
 use np_model::{Estate, Pod};
 use np_reading::read_estate;
-use np_test_samples::input_of;
 use std::alloc::Global;
-use std::test::Fail;
+use std::process::Abort;
 
 // The estate of a list.
-fn estate_of(alloc: Global, list: &str) -> Result<Estate, Fail> {
-    let inputs = input_of(alloc, list)?;
-    Ok(read_estate(alloc, &inputs)?)
+fn estate_of(rt: &impl Abort, alloc: Global, list: &str) -> Estate {
+    let inputs = [Vec::from_slice(alloc, list.as_bytes()).expect(rt, "an input")];
+    read_estate(alloc, &inputs).expect(rt, "an estate")
 }
 
 // A ReplicaSet of a Deployment, its pod, and a Deployment without pods, as kubectl prints them.
@@ -44,10 +43,9 @@ fn has_one_of_each(estate: &Estate) -> bool {
 }
 
 #[test]
-fn example_read_estate(rt: HostRuntime) -> Result<(), Fail> {
-    let estate = estate_of(rt.alloc(), OWNED)?;
+fn example_read_estate(rt: HostRuntime) {
+    let estate = estate_of(&rt, rt.alloc(), OWNED);
     assert!(rt; has_one_of_each(&estate));
-    Ok(())
 }
 
 // A pod of a namespace with an object of its own, whose labels say another name, and a pod of one without.
@@ -71,10 +69,9 @@ fn has_their_labels(estate: &Estate) -> bool {
 }
 
 #[test]
-fn labels_of_namespaces(rt: HostRuntime) -> Result<(), Fail> {
-    let estate = estate_of(rt.alloc(), NAMESPACES)?;
+fn labels_of_namespaces(rt: HostRuntime) {
+    let estate = estate_of(&rt, rt.alloc(), NAMESPACES);
     assert!(rt; has_their_labels(&estate));
-    Ok(())
 }
 
 static POLICIES: &str = r#"{"apiVersion":"v1","kind":"List","items":[
@@ -101,8 +98,7 @@ fn has_policies_in_order(estate: &Estate) -> bool {
 
 // NetworkPolicies stand by namespace and name, and admin policies by priority.
 #[test]
-fn policies_in_order(rt: HostRuntime) -> Result<(), Fail> {
-    let estate = estate_of(rt.alloc(), POLICIES)?;
+fn policies_in_order(rt: HostRuntime) {
+    let estate = estate_of(&rt, rt.alloc(), POLICIES);
     assert!(rt; has_policies_in_order(&estate));
-    Ok(())
 }
