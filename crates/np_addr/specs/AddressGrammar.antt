@@ -18,9 +18,8 @@ address_of text = option_or (option_map address.Four (ipv4_of text)) (option_map
 
 -- how many first bits a block has in common: a decimal without a sign or a leading zero (48 is `0`)
 unfoldable pub length_of : ℕ → List ℕ → Option ℕ
-length_of most text = do
-  n ← numeral_of 10 3 text
-  if (nat_lt 1 (length text) && (slice_index text 0 == 48)) || nat_lt most n then None else Some n
+length_of most text =
+    numeral_of 10 3 text >>= λ n. if (nat_lt 1 (length text) && (slice_index text 0 == 48)) || nat_lt most n then None else Some n
 
 -- n with the low bits cleared, so many of them
 abbrev pub cleared : ℕ → ℕ → ℕ
@@ -35,8 +34,7 @@ block_of (address.Six n) len = cidr.Six (cleared (128 - len) n) len
 abbrev pub block_between : List ℕ → List ℕ → Option Cidr
 block_between before after = do
   address ← address_of before
-  len ← length_of (width_of (family_of address)) after
-  Some (block_of address len)
+  Some (block_of address (← length_of (width_of (family_of address)) after))
 
 -- what stands before and after one `/`
 abbrev pub block_of_pieces : List (List ℕ) → Option Cidr

@@ -36,11 +36,8 @@ groups_text groups = join_by group_text (codes ":") groups
 
 -- The longest run of zero groups, of two as long the first, as `::` where it has two groups or more.
 unfoldable pub shortened_text : List ℕ → List ℕ
-shortened_text groups =
-    let run = longest_zero_run groups in
-    if nat_lt 1 run.1
-    then groups_text (take run.0 groups) ++ codes "::" ++ groups_text (drop (run.0 + run.1) groups)
-    else groups_text groups
+shortened_text groups = let run = longest_zero_run groups in if nat_lt 1 run.1
+    then groups_text (take run.0 groups) ++ codes "::" ++ groups_text (drop (run.0 + run.1) groups) else groups_text groups
 
 -- an IPv6 address
 abbrev pub ipv6_text : ℕ → List ℕ

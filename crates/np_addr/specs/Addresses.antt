@@ -31,5 +31,4 @@ IsCidr (cidr.Six base len) = (len ≤ 128) × (base % 2 ^ (128 - len) ≡ 0)
 abbrev pub cidr_has : Cidr → Address → Bool
 cidr_has (cidr.Four base len) (address.Four n) = nat_le base n && nat_lt n (base + 2 ^ (32 - len))
 cidr_has (cidr.Six base len) (address.Six n) = nat_le base n && nat_lt n (base + 2 ^ (128 - len))
-cidr_has (cidr.Four base len) (address.Six n) = false
-cidr_has (cidr.Six base len) (address.Four n) = false
+cidr_has block other = false

@@ -7,18 +7,12 @@ use Rattle.np_addr.specs.Steps.{◌>>=◌}
 
 -- a part: one to three decimal digits, leading zeros among them, of a number of at most 255
 unfoldable pub part_of : List ℕ → Option ℕ
-part_of text = do
-  n ← numeral_of 10 3 text
-  if nat_le n 255 then Some n else None
+part_of text = numeral_of 10 3 text >>= λ n. if nat_le n 255 then Some n else None
 
 -- four parts, the first the highest
 unfoldable pub parts_of : List ℕ → List ℕ → List ℕ → List ℕ → Option ℕ
 parts_of first second third fourth = do
-  a ← part_of first
-  b ← part_of second
-  c ← part_of third
-  d ← part_of fourth
-  Some (number_from_digits 256 (a ∷ b ∷ c ∷ d ∷ []))
+  Some (number_from_digits 256 ((← part_of first) ∷ (← part_of second) ∷ (← part_of third) ∷ (← part_of fourth) ∷ []))
 
 -- what stands between dots is four parts
 abbrev pub dotted_of : List (List ℕ) → Option ℕ

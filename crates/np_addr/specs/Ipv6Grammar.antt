@@ -17,18 +17,13 @@ halves_of n = (n / 2 ^ 16) ∷ (n % 2 ^ 16) ∷ []
 
 -- the last piece: a group, or, where `dotted`, the last two groups written as an IPv4 address
 unfoldable pub last_of : Bool → List ℕ → Option (List ℕ)
-last_of dotted text =
-    option_or (option_map (λ group. group ∷ []) (group_of text))
-    (if dotted then option_map halves_of (ipv4_of text) else None)
+last_of dotted text = option_or (option_map (λ group. group ∷ []) (group_of text)) (if dotted then option_map halves_of (ipv4_of text) else None)
 
 -- the groups of what stands between colons
 abbrev pub groups_of : Bool → List (List ℕ) → Option (List ℕ)
 groups_of dotted [] = None
 groups_of dotted (piece ∷ []) = last_of dotted piece
-groups_of dotted (piece ∷ next ∷ pieces) = do
-  group ← group_of piece
-  groups ← groups_of dotted (next ∷ pieces)
-  Some (group ∷ groups)
+groups_of dotted (piece ∷ next ∷ pieces) = do Some ((← group_of piece) ∷ (← groups_of dotted (next ∷ pieces)))
 
 -- the groups on one side of `::`, where there may be none
 abbrev pub side_of : Bool → List ℕ → Option (List ℕ)
@@ -37,31 +32,23 @@ side_of dotted (c ∷ text) = groups_of dotted (pieces 58 (c ∷ text))
 
 -- the text before the first `::` and the text after it (58 is `:`)
 abbrev pub around_gap : List ℕ → Option (List ℕ × List ℕ)
-around_gap [] = None
-around_gap (a ∷ []) = None
 around_gap (a ∷ b ∷ text) =
-    if (a == 58) && (b == 58) then Some ([], text)
-    else option_map (λ sides. (a ∷ sides.0, sides.1)) (around_gap (b ∷ text))
+    if (a == 58) && (b == 58) then Some ([], text) else option_map (λ sides. (a ∷ sides.0, sides.1)) (around_gap (b ∷ text))
+around_gap shorter = None
 
 -- all eight groups, the first the highest
 abbrev pub whole_of : List ℕ → Option ℕ
-whole_of groups =
-    if length groups == 8 then Some (number_from_digits 65536 groups) else None
+whole_of groups = if length groups == 8 then Some (number_from_digits 65536 groups) else None
 
 -- fewer, and between them the zero groups for which `::` stands, at least one
 abbrev pub filled_of : List ℕ → List ℕ → Option ℕ
-filled_of head tail =
-    if nat_lt (length head + length tail) 8
-    then Some (number_from_digits 65536 (head ++ replicate (8 - length head - length tail) 0 ++ tail))
-    else None
+filled_of head tail = if nat_lt (length head + length tail) 8
+    then Some (number_from_digits 65536 (head ++ replicate (8 - length head - length tail) 0 ++ tail)) else None
 
 -- without `::`, and with it
 abbrev pub sides_of : List ℕ → Option (List ℕ × List ℕ) → Option ℕ
 sides_of text None = groups_of true (pieces 58 text) >>= whole_of
-sides_of text (Some sides) = do
-  head ← side_of false sides.0
-  tail ← side_of true sides.1
-  filled_of head tail
+sides_of text (Some sides) = do filled_of (← side_of false sides.0) (← side_of true sides.1)
 
 -- the number of an IPv6 address
 unfoldable pub ipv6_of : List ℕ → Option ℕ

@@ -10,9 +10,8 @@ use Rattle.np_addr.specs.declared.address.Family.TheVariants as family
 -- the number of an address of the family
 abbrev pub number_in : Family → Address → Option ℕ
 number_in family.Four (address.Four n) = Some n
-number_in family.Four (address.Six n) = None
-number_in family.Six (address.Four n) = None
 number_in family.Six (address.Six n) = Some n
+number_in other address = None
 
 -- those of the family, in ascending order
 abbrev pub AreNumbersOf : Family → List Address → List ℕ → Type 0

@@ -23,9 +23,7 @@ is_inside range base free = nat_le range.lo base && nat_le (base + 2 ^ free) (ra
 -- those of its two halves, the first half first. One address that is not in the range has none.
 unfoldable pub blocks_in : Family → Range ℕ → ℕ → ℕ → List Cidr
 blocks_in family range base zero = if is_inside range base zero then block_at family base zero ∷ [] else []
-blocks_in family range base (suc half) =
-    if is_inside range base (suc half)
-    then block_at family base (suc half) ∷ []
+blocks_in family range base (suc half) = if is_inside range base (suc half) then block_at family base (suc half) ∷ []
     else blocks_in family range base half ++ blocks_in family range (base + 2 ^ half) half
 
 -- the right list of the addresses of one range

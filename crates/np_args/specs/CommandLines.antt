@@ -15,8 +15,7 @@ use Rattle.np_args.specs.declared.job.Job.{Job}
 
 -- what the words of each command ask for, by its name
 abbrev pub jobs : List (Text × (List Text → Option Job))
-jobs =
-    (codes "list", list_job) ∷ (codes "explain", explain_job) ∷ (codes "exposure", exposure_job) ∷ (codes "evaluate", evaluate_job)
+jobs = (codes "list", list_job) ∷ (codes "explain", explain_job) ∷ (codes "exposure", exposure_job) ∷ (codes "evaluate", evaluate_job)
     ∷ (codes "unused", unused_job) ∷ (codes "check", check_job) ∷ (codes "flatten", flatten_job) ∷ (codes "sample", sample_job) ∷ []
 
 -- The first word is the command. Words that begin with no command ask for nothing.

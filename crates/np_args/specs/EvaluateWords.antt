@@ -11,8 +11,7 @@ use Rattle.np_args.specs.declared.job.Job.TheVariants.{Evaluate as EvaluateJob}
 
 -- `evaluate --from END --to END --protocol P --port N [FILE]...`
 abbrev pub evaluate_command : App
-evaluate_command =
-    command_of (codes "evaluate")
+evaluate_command = command_of (codes "evaluate")
     (required_rule (codes "from") ∷ required_rule (codes "to") ∷ required_rule (codes "protocol") ∷ required_rule (codes "port")
     ∷ file_rule ∷ [])
 

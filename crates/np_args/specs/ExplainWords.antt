@@ -10,8 +10,7 @@ use Rattle.np_args.specs.declared.job.Job.TheVariants.{Explain as ExplainJob}
 
 -- `explain --from END --to END [FILE]...`
 abbrev pub explain_command : App
-explain_command =
-    command_of (codes "explain") (required_rule (codes "from") ∷ required_rule (codes "to") ∷ file_rule ∷ [])
+explain_command = command_of (codes "explain") (required_rule (codes "from") ∷ required_rule (codes "to") ∷ file_rule ∷ [])
 
 -- the ends that were asked about
 abbrev pub explain_of : List Row → Option Job

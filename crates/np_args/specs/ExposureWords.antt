@@ -16,9 +16,7 @@ exposure_command =
 -- the workloads whose exposure was asked for
 abbrev pub exposure_of : List Row → Option Job
 exposure_of rows = do
-  format ← value_in format_of (codes "format") rows
-  files ← files_in rows
-  Some (ExposureJob (first_of (codes "workload") rows) format files)
+  Some (ExposureJob (first_of (codes "workload") rows) (← value_in format_of (codes "format") rows) (← files_in rows))
 
 -- what words ask for of which the first is `exposure`
 unfoldable pub exposure_job : List Text → Option Job

@@ -10,8 +10,7 @@ use Rattle.np_args.specs.declared.job.Job.TheVariants.{List as ListJob}
 
 -- `list [--format text|csv|json] [--report 1|2] [--controller NAME] [--focus NAME] [--side either|from|to] [FILE]...`
 abbrev pub list_command : App
-list_command =
-    command_of (codes "list")
+list_command = command_of (codes "list")
     (default_rule (codes "format") (codes "text") ∷ default_rule (codes "report") (codes "2") ∷ option_rule (codes "controller")
     ∷ option_rule (codes "focus") ∷ default_rule (codes "side") (codes "either") ∷ file_rule ∷ [])
 

@@ -1,20 +1,16 @@
 -- The command line of `sample`.
 use Rattle.std.specs.Prelude.{◌∷◌, [], List, Option, Some, codes, option_map, true}
 use Rattle.clap.specs.Simple.{App, new_rule}
-use Rattle.clap.specs.Walk.{Row, Rule}
+use Rattle.clap.specs.Walk.{Row}
 use Rattle.clap.specs.declared.builder.action.ArgAction.TheVariants.{Set}
 use Rattle.np_args.specs.Arguments.{asked_of, command_of, value_in}
 use Rattle.np_args.specs.Values.{Text, count_of}
 use Rattle.np_args.specs.declared.job.Job.{Job}
 use Rattle.np_args.specs.declared.job.Job.TheVariants.{Sample as SampleJob}
 
--- N: one word, which must be given
-abbrev pub number_rule : Rule
-number_rule = record (new_rule (codes "N")) { action = Some Set; required = true }
-
--- `sample N`
+-- `sample N`: one word, which must be given
 abbrev pub sample_command : App
-sample_command = command_of (codes "sample") (number_rule ∷ [])
+sample_command = command_of (codes "sample") (record (new_rule (codes "N")) { action = Some Set; required = true } ∷ [])
 
 -- the number of pods
 abbrev pub sample_of : List Row → Option Job

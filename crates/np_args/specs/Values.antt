@@ -32,15 +32,12 @@ side_of word = lookup (bytes_eq word) ((codes "either", Either) ∷ (codes "from
 
 -- `--from` and `--to` of a packet: a word with a `/` (47) in it is a name, and any other must be an address.
 abbrev pub end_of : Text → Option EndWord
-end_of word =
-    if list_any (λ c. c == 47) word then Some (Named word) else option_map At (address_of word)
+end_of word = if list_any (λ c. c == 47) word then Some (Named word) else option_map At (address_of word)
 
 -- a number from 1 to `most` in decimal, without a sign or a leading zero (48 is `0`)
 abbrev pub number_to : ℕ → Text → Option ℕ
-number_to most word =
-    let number = digits_value 10 word in
-    if list_all (λ c. is_digit c 10) word && not (slice_index word 0 == 48)
-    && nat_le 1 number && nat_le number most
+number_to most word = let number = digits_value 10 word in
+    if list_all (λ c. is_digit c 10) word && not (slice_index word 0 == 48) && nat_le 1 number && nat_le number most
     then Some number else None
 
 -- `--port`

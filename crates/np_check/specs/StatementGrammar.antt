@@ -38,11 +38,9 @@ wanted_text Deny = codes "deny"
 
 -- whether the ends are addresses
 abbrev pub is_address_form : EndForm → Bool
-is_address_form Pods = false
 is_address_form Addresses = true
-is_address_form (Namespace name) = false
-is_address_form (Work name) = false
 is_address_form (Block cidr) = true
+is_address_form other = false
 
 -- `allow` or `deny`, a space, ends, ` => `, ends, ` : `, and connections
 abbrev pub IsSpelled : List ℕ → Wanted → List ℕ → List ℕ → List ℕ → Type 0

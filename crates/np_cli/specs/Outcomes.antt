@@ -51,8 +51,7 @@ RefusesFor (Exposure workload format files) texts lists fault = RefusesExposure 
 RefusesFor (Evaluate from to proto port files) texts lists fault = RefusesEvaluate from to lists fault
 RefusesFor (Check statement files) texts lists fault = RefusesCheck (statement_bytes texts) lists fault
 RefusesFor (Flatten files) texts lists fault = RefusesFlatten lists fault
-RefusesFor (Unused files) texts lists fault = ⊥
-RefusesFor (Sample n) texts lists fault = ⊥
+RefusesFor job texts lists fault = ⊥
 
 -- the inputs are read to no estate for this fault, or the job refuses their estate for it; of `sample`, which has none, nothing is said
 abbrev pub HaveFault : Job → List (List ℕ) → Fault → Type 0

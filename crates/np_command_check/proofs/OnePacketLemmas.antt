@@ -1,5 +1,5 @@
 -- A statement has one first packet that breaks it.
-use Rattle.std.proofs.Common.{◌≡◌, ℕ, nat_lt, true, false, refl, sym, ap, arith}
+use Rattle.std.proofs.Common.{◌≡◌, ℕ, nat_lt, false, refl, sym, ap, arith}
 use Rattle.std.proofs.lemmas.Bool.{true≢false}
 use Rattle.np_addr.specs.declared.address.Address.{Address}
 use Rattle.np_addr.specs.declared.address.Address.TheVariants as address

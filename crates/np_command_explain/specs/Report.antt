@@ -92,8 +92,7 @@ side_text direction name mark parts =
 
 -- both sides, and the row of what passes: `from => to : connections`
 unfoldable pub shown_text : List ℕ → List ℕ → Shown → List ℕ
-shown_text from to one =
-    side_text Egress from one.mark one.made.egress ++ side_text Ingress to one.mark one.made.ingress
+shown_text from to one = side_text Egress from one.mark one.made.egress ++ side_text Ingress to one.mark one.made.ingress
     ++ from ++ codes " => " ++ to ++ family_suffix one.mark ++ codes " : " ++ conns_text (has_spot one.made.conns) ++ codes "\n"
 
 unfoldable pub explain_text : List ℕ → List ℕ → List Shown → List ℕ

@@ -3,6 +3,7 @@ use Rattle.std.proofs.Common.{◌≡◌, ◌≢◌, ◌⊎◌, ◌==◌, ℕ, �
 use Rattle.std.proofs.Common.{Option, Some, not, map, length, get_or, eq-eqb, ne_eqb, lit≤, arith, refl, sym, ap, subst, ◌∙◌, inl, inr}
 use Rattle.std.specs.List.{list_any}
 use Rattle.std.specs.List.Sorted.{IsStrictlySortedBy}
+use Rattle.std.specs.Option.{option_map_or}
 use Rattle.std.specs.Ordering.{nat_cmp}
 use Rattle.std.proofs.lemmas.Bool.{cases_eq, cases_lt, false_from_ne_true, not-true, true≢false}
 use Rattle.std.proofs.lemmas.Map.Keys.{below_from_sorted}
@@ -21,7 +22,7 @@ use Rattle.np_model.specs.declared.direction.Direction.{Direction}
 use Rattle.np_model.specs.declared.lists.EstateLists.{EstateLists}
 use Rattle.np_model.specs.declared.pod.Pod.{Pod}
 use Rattle.np_rules.specs.model.Ends.{pod_end}
-use Rattle.np_rules.specs.model.Verdict.{pod_at, pod_or_none}
+use Rattle.np_rules.specs.model.Verdict.{no_pod, pod_at}
 use Rattle.np_synth.proofs.AddressVerdicts.{row_tells, rows-any}
 use Rattle.np_synth.proofs.GroupLemmas.{look_decides}
 use Rattle.np_synth.proofs.KindGroups.{kind-looks}
@@ -197,9 +198,9 @@ seen-pod lists p p_in =
     let (one, one_is) = pod_there lists p p_in in
     let (other, other_is) = pod_there lists (source_pod (folding_of lists) (number_of lists p)) first_in in
     let alike = (one_workload lists p (source_pod (folding_of lists) (number_of lists p)) one other one_is other_is).0 (sym first_of) in
-    ap (λ (found : Option Pod). seen (relevant lists) (pod_or_none found)) one_is
+    ap (λ (found : Option Pod). seen (relevant lists) (option_map_or pod_end found no_pod)) one_is
     ∙ (look_decides (relevant lists) (pod_end one) (pod_end other)).0 (kind-looks lists one other alike.kind)
-    ∙ sym (ap (λ (found : Option Pod). seen (relevant lists) (pod_or_none found)) other_is)
+    ∙ sym (ap (λ (found : Option Pod). seen (relevant lists) (option_map_or pod_end found no_pod)) other_is)
 
 -- so two pods look alike where their workloads are of one group
 module _ (lists : EstateLists) (p q : ℕ) (two : AreTwoPods lists p q) where

@@ -53,8 +53,7 @@ query_for (Some workload) side = query.Work workload side
 -- have, or IPv4 where none has one.
 abbrev pub SaysPods : EstateLists → Query → List Row → Type 0
 SaysPods lists query rows = (p q : ℕ) (family : Family) (spot : PortSpot) → p < length lists.pods → q < length lists.pods → p ≢ q
-    → Contains (families_of lists.pods) family → is_spot spot ≡ true
-    → keeps query (pair_key (number_of lists p) (number_of lists q)) ≡ true
+    → Contains (families_of lists.pods) family → is_spot spot ≡ true → keeps query (pair_key (number_of lists p) (number_of lists q)) ≡ true
     → allows_in (rows_between (number_of lists p) (number_of lists q) rows) family spot ≡ between_pods lists p q family spot
 
 -- For every pod, direction and address of either family, where rows of the pod's workload and addresses are asked for, whatever
@@ -70,8 +69,7 @@ SaysAddresses lists query rows = (p : ℕ) (direction : Direction) (family : Fam
 -- none is.
 abbrev pub SaysIngresses : EstateLists → Option ℕ → Query → List Row → Type 0
 SaysIngresses lists sender query rows = (p : ℕ) (family : Family) (spot : PortSpot) → p < length lists.pods → is_spot spot ≡ true
-    → keeps query (ingress_key (number_of lists p)) ≡ true
-    → allows_in (rows_from_controller (number_of lists p) rows) family spot
+    → keeps query (ingress_key (number_of lists p)) ≡ true → allows_in (rows_from_controller (number_of lists p) rows) family spot
     ≡ (not (is_controller sender (number_of lists p)) && ingress_reaches lists (sender_of (folding_of lists) sender) p spot)
 
 -- Each row is asked for, is of pods of the estate, and comes before those behind it; and together they say what the model allows.

@@ -1,5 +1,5 @@
 -- Lists of rules that decide nothing are one list.
-use Rattle.std.proofs.Common.{◌≡◌, ℕ, List, [], Contains, flat_map, ap, subst, ◌∙◌, arith}
+use Rattle.std.proofs.Common.{◌≡◌, ℕ, List, Contains, flat_map, ap, subst, ◌∙◌, arith}
 use Rattle.np_addr.proofs.SameLists.{same_elements_same_lists}
 use Rattle.np_command.specs.Sinks.{SinkTrace}
 use Rattle.np_command_unused.specs.Promise.{DecidesNothing, ListsUnused}

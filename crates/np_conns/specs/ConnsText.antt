@@ -1,6 +1,7 @@
 -- The text of connections, for a test of spots.
-use Rattle.std.specs.Prelude.{ℕ, List, [], ◌∷◌, ◌++◌, Bool, false, ◌&&◌, if◌then◌else◌, ◌==◌, codes, decimal, Option, Some, None}
+use Rattle.std.specs.Prelude.{ℕ, List, [], ◌∷◌, ◌++◌, Bool, false, ◌&&◌, if◌then◌else◌, ◌==◌, codes, decimal, Option}
 use Rattle.std.specs.List.{join_by}
+use Rattle.std.specs.Map.{lookup}
 use Rattle.std.specs.Str.{bytes_eq}
 use Rattle.np_base.specs.declared.range.Range.{Range}
 use Rattle.np_conns.specs.Runs.{runs}
@@ -15,11 +16,7 @@ proto_name Sctp = codes "SCTP"
 
 -- the protocol of a name
 abbrev pub proto_named : List ℕ → Option Proto
-proto_named name =
-    if bytes_eq name (codes "TCP") then Some Tcp
-    else if bytes_eq name (codes "UDP") then Some Udp
-    else if bytes_eq name (codes "SCTP") then Some Sctp
-    else None
+proto_named name = lookup (bytes_eq name) ((codes "TCP", Tcp) ∷ (codes "UDP", Udp) ∷ (codes "SCTP", Sctp) ∷ [])
 
 -- a run of one port is the port, a longer one is `lo-hi`
 abbrev pub run_text : Range ℕ → List ℕ
@@ -46,8 +43,7 @@ is_whole (run ∷ others) = run.lo == 1 && run.hi == 65535
 
 -- the text of the runs of each protocol: that of the whole space, or the parts in the order TCP, UDP, SCTP
 abbrev pub text_of_runs : List (Range ℕ) → List (Range ℕ) → List (Range ℕ) → List ℕ
-text_of_runs tcp udp sctp =
-    if is_whole tcp && is_whole udp && is_whole sctp then codes "All Connections"
+text_of_runs tcp udp sctp = if is_whole tcp && is_whole udp && is_whole sctp then codes "All Connections"
     else joined (part Tcp tcp ++ part Udp udp ++ part Sctp sctp)
 
 -- the runs of those ports of one protocol whose spots pass

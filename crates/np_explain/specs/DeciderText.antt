@@ -1,6 +1,7 @@
 -- What decides, as it is printed.
-use Rattle.std.specs.Prelude.{ℕ, List, [], ◌++◌, codes, decimal, Option, Some, None}
+use Rattle.std.specs.Prelude.{ℕ, List, [], ◌++◌, codes, decimal, Option}
 use Rattle.std.specs.List.{join_by}
+use Rattle.std.specs.Option.{option_map_or}
 use Rattle.np_model.specs.declared.direction.Direction.{Direction}
 use Rattle.np_rules.specs.Texts.{direction_text, verdict_text}
 use Rattle.np_rules.specs.declared.decider.Decider.{Decider}
@@ -13,8 +14,7 @@ rule_text direction rule = rule.policy ++ codes " " ++ direction_text direction 
 
 -- the rule with Pass that was met first, if one was
 abbrev pub pass_text : Direction → Option RuleName → List ℕ
-pass_text direction None = []
-pass_text direction (Some rule) = codes " after Pass by AdminNetworkPolicy " ++ rule_text direction rule
+pass_text direction pass = option_map_or (λ rule. codes " after Pass by AdminNetworkPolicy " ++ rule_text direction rule) pass []
 
 -- names of policies, joined by `, `
 abbrev pub names_text : List (List ℕ) → List ℕ

@@ -142,9 +142,9 @@ module _ (namespace : List ℕ) (s : Stranger) (spot : PortSpot) (settled : Bool
 
 -- all rules
 pub all-rules : (namespace : List ℕ) (s : Stranger) (spot : PortSpot) (rules : OpenRules) (items : List OpenRule) (i : ℕ) (made : Bool) → items ≡ rules.open.items → length items ≤ i
-    → made ≡ (has_spot rules.settled.value spot || list_any (rule_matches namespace s spot) (take i items)) → made ≡ permits namespace rules s spot
+    → made ≡ (has_spot rules.settled spot || list_any (rule_matches namespace s spot) (take i items)) → made ≡ permits namespace rules s spot
 all-rules namespace s spot rules items i made same within is =
-    is ∙ ap (λ (all : List OpenRule). has_spot rules.settled.value spot || list_any (rule_matches namespace s spot) all) (take_all i items within ∙ same)
+    is ∙ ap (λ (all : List OpenRule). has_spot rules.settled spot || list_any (rule_matches namespace s spot) all) (take_all i items within ∙ same)
 
 -- ---- fewer choices
 

@@ -1,5 +1,6 @@
 -- The pods of a workload have one list of rows.
-use Rattle.std.proofs.Common.{◌≡◌, ◌<◌, ℕ, List, [], ◌∷◌, Some, length, slice_get, get_or, sym, ap, subst, ◌∙◌, arith}
+use Rattle.std.proofs.Common.{◌≡◌, ◌<◌, ℕ, List, [], ◌∷◌, Some, length, slice_get, get_or, sym, ap, subst, ◌∙◌, arith, Option}
+use Rattle.std.specs.Option.{option_map_or}
 use Rattle.std.proofs.lemmas.Option.{slice_get-get_or}
 use Rattle.np_conns.specs.declared.port_spot.PortSpot.{PortSpot}
 use Rattle.np_model.specs.Lawful.{IsLawful}
@@ -21,7 +22,7 @@ use Rattle.np_fold.specs.Workloads.{number_of}
 use Rattle.np_model.specs.declared.direction.Direction.{Direction}
 use Rattle.np_rules.specs.model.Ends.{PodEnd, pod_end}
 use Rattle.np_rules.specs.PodSides.{PodSide, side_of}
-use Rattle.np_rules.specs.model.Verdict.{pod_at, pod_or_none}
+use Rattle.np_rules.specs.model.Verdict.{no_pod, pod_at}
 use Rattle.np_rules.specs.declared.stranger.Stranger.{Stranger}
 
 -- ---- sides that mention the same and expose alike
@@ -56,8 +57,8 @@ pod_there (first ∷ pods) place within = (get_or (first ∷ pods) place first, 
 alike-by : (lists : EstateLists) (p q : ℕ) (a b : Pod) → IsLawful lists → slice_get lists.pods p ≡ Some a → slice_get lists.pods q ≡ Some b → IsSameKind lists a b →
     AreAlikePods lists (pod_at lists p) (pod_at lists q)
 alike-by lists p q a b lawful is is' kind =
-    let one_is : pod_at lists p ≡ pod_end a = ap pod_or_none is in
-    let other_is : pod_at lists q ≡ pod_end b = ap pod_or_none is' in
+    let one_is : pod_at lists p ≡ pod_end a = ap (λ (found : Option Pod). option_map_or pod_end found no_pod) is in
+    let other_is : pod_at lists q ≡ pod_end b = ap (λ (found : Option Pod). option_map_or pod_end found no_pod) is' in
     let alike : AreAlikePods lists (pod_end a) (pod_end b) =
     record {
       namespace = kind.namespace;

@@ -1,6 +1,7 @@
 -- The requirements that the peers of the rules mention that speak of a pod in a direction.
 use Rattle.std.specs.Prelude.{ℕ, List, [], ◌∷◌, ◌++◌, map, fold, flat_map, Bool, true, false, ◌&&◌, Option, Some, None, is_some, if◌then◌else◌, codes}
 use Rattle.std.specs.List.{list_any}
+use Rattle.std.specs.Option.{option_map_or}
 use Rattle.std.specs.Str.{bytes_eq}
 use lib.Pointwise.{pointwise}
 use Rattle.np_exposure.specs.declared.side.Side.{Side}
@@ -26,8 +27,7 @@ abbrev pub of_selector : Side → Selector → List SidedRequirement
 of_selector side selector = map (λ requirement. record { side = side; requirement = requirement }) selector.requirements
 
 abbrev pub of_optional : Side → Option Selector → List SidedRequirement
-of_optional side None = []
-of_optional side (Some selector) = of_selector side selector
+of_optional side found = option_map_or (of_selector side) found []
 
 -- the requirement that the namespace is the one of this name
 abbrev pub named : List ℕ → SidedRequirement
@@ -62,8 +62,7 @@ of_admin_rule rule = flat_map of_admin_peer rule.peers
 
 -- what the rules mention that speak of the side's pod: admin policies by priority, NetworkPolicies by name, the baseline
 unfoldable pub mentions : PodSide → List SidedRequirement
-mentions side =
-    flat_map (λ placed. of_admin_rule placed.rule) (admin_places side.lists.admin_policies side.direction (near_pod side))
+mentions side = flat_map (λ placed. of_admin_rule placed.rule) (admin_places side.lists.admin_policies side.direction (near_pod side))
     ++ flat_map of_placed (net_places side.lists.net_policies side.direction (near_pod side))
     ++ flat_map (λ placed. of_admin_rule placed.rule) (base_places side.lists.baseline side.direction (near_pod side))
 
@@ -72,8 +71,7 @@ mentions side =
 abbrev pub same_side : Side → Side → Bool
 same_side Namespace Namespace = true
 same_side Pod Pod = true
-same_side Namespace Pod = false
-same_side Pod Namespace = false
+same_side one other = false
 
 abbrev pub same_op : Op → Op → Bool
 same_op OneOf OneOf = true

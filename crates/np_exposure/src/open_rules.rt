@@ -33,7 +33,7 @@ pub(crate) struct OpenRule<'r> {
 #[derive(Drop)]
 pub(crate) struct OpenRules<'r> {
     /// What the settled rules match.
-    pub settled: Box<ConnSet>,
+    pub settled: ConnSet,
     /// The other rules.
     pub open: Vec<OpenRule<'r>>,
     /// The keys at which fewer choices may be left than when the open rules were last looked at. What is known of the others
@@ -56,7 +56,7 @@ impl<'r> OpenRules<'r> {
             open.push(OpenRule { kept })?;
         }
         Ok(OpenRules {
-            settled: joined_box(alloc, &[])?,
+            settled: joined_set(alloc, &[])?,
             open,
             narrowed: KeySet::everything(),
         })
@@ -97,7 +97,7 @@ impl<'r> OpenRules<'r> {
             open.push(OpenRule { kept: rule.kept })?;
         }
         Ok(OpenRules {
-            settled: joined_box(alloc, &[&*self.settled])?,
+            settled: joined_set(alloc, &[&self.settled])?,
             open,
             narrowed,
         })
@@ -119,7 +119,7 @@ impl<'r> OpenRules<'r> {
         let mut open = Vec::new(alloc);
         self.sort(namespace, state, narrowed, &mut sets, &mut open)?;
         Ok(OpenRules {
-            settled: joined_box(alloc, &sets)?,
+            settled: joined_set(alloc, &sets)?,
             open,
             narrowed: KeySet::nothing(),
         })
@@ -133,20 +133,20 @@ impl<'r> OpenRules<'r> {
         state: &[KeyChoices<'_>],
         narrowed: KeySet,
         sets: &mut Vec<&'s ConnSet>,
-        open: &mut Vec<OpenRule<'r>>,
+        opens: &mut Vec<OpenRule<'r>>,
     ) -> Result<(), NoMemory>
         requires sets { sets.old.items ≡ [] }
-        requires open { open.old.items ≡ [] }
+        requires opens { opens.old.items ≡ [] }
         ensures { OnOk result ((s : Stranger) → IsWitness state.now s → (spot : PortSpot) →
-            (list_any (λ set. has_spot set.now spot) sets.new.items || list_any (rule_matches namespace.now s spot) open.new.items)
+            (list_any (λ set. has_spot set.now spot) sets.new.items || list_any (rule_matches namespace.now s spot) opens.new.items)
             ≡ permits namespace.now self.now s spot) }
     {
-        sets.push(&*self.settled)?;
+        sets.push(&self.settled)?;
         for rule in &self.open {
             match rule.kept.matches(state, namespace, narrowed) {
                 Some(true) => sets.push(rule.kept.conns())?,
                 Some(false) => {}
-                None => open.push(OpenRule { kept: rule.kept })?,
+                None => opens.push(OpenRule { kept: rule.kept })?,
             }
         }
         Ok(())
@@ -164,7 +164,7 @@ impl<'r> OpenRules<'r> {
     {
         let own = name_of_namespace(stranger);
         let mut sets = Vec::new(alloc);
-        sets.push(&*self.settled)?;
+        sets.push(&self.settled)?;
         for rule in &self.open {
             if rule.kept.reaches(namespace, own, stranger) {
                 sets.push(rule.kept.conns())?;
@@ -172,14 +172,6 @@ impl<'r> OpenRules<'r> {
         }
         joined_set(alloc, &sets)
     }
-}
-
-// The spots that some of the sets has, kept apart from what holds the set.
-fn joined_box(alloc: Global, sets: &[&ConnSet]) -> Result<Box<ConnSet>, NoMemory>
-    ensures { IfOk result (λ made. (spot : PortSpot) → has_spot made.value spot ≡ list_any (λ set. has_spot set.now spot) sets.now) }
-{
-    let joined = joined_set(alloc, sets)?;
-    Ok(Box::new(alloc, joined)?)
 }
 
 // Whether rules are settled by the choices that are left.

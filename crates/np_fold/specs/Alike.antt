@@ -55,11 +55,8 @@ are_both_in a b cidr = beq (is_in a.addresses cidr) (is_in b.addresses cidr)
 -- any policy or Service names, the same named ports in the same order, and addresses in the same blocks of `networks`
 -- peers. No rule of a lawful estate can tell such pods apart; two that no rule tells apart may still be of two kinds.
 unfoldable pub are_same_kind : EstateLists → Pod → Pod → Bool
-are_same_kind lists a b =
-    bytes_eq a.namespace b.namespace
-    && list_all (have_same_value a b) (keys_of_estate lists)
-    && pointwise are_same_port a.ports b.ports
-    && list_all (are_both_in a b) (cidrs_of_estate lists)
+are_same_kind lists a b = bytes_eq a.namespace b.namespace && list_all (have_same_value a b) (keys_of_estate lists)
+    && pointwise are_same_port a.ports b.ports && list_all (are_both_in a b) (cidrs_of_estate lists)
 
 -- whether two pods are alike: of one kind, and with top owners of one kind and one name
 unfoldable pub are_alike : EstateLists → Pod → Pod → Bool

@@ -1,6 +1,7 @@
 -- The blocks of `networks` peers.
-use Rattle.std.specs.Prelude.{List, [], ◌++◌, Option, Some, None}
+use Rattle.std.specs.Prelude.{List, [], ◌++◌, Option}
 use Rattle.std.specs.List.{flat_map}
+use Rattle.std.specs.Option.{option_map_or}
 use Rattle.np_addr.specs.declared.cidr.Cidr.{Cidr}
 use Rattle.np_model.specs.declared.lists.EstateLists.{EstateLists}
 use Rattle.np_model.specs.declared.admin_policy.AdminPeer.{AdminPeer}
@@ -24,8 +25,7 @@ cidrs_of_base_policy policy = flat_map cidrs_of_rule policy.ingress ++ flat_map 
 
 -- the blocks of a baseline that may be missing
 abbrev pub cidrs_of_baseline : Option BasePolicy → List Cidr
-cidrs_of_baseline None = []
-cidrs_of_baseline (Some policy) = cidrs_of_base_policy policy
+cidrs_of_baseline found = option_map_or cidrs_of_base_policy found []
 
 -- the blocks of all `networks` peers
 abbrev pub cidrs_of_estate : EstateLists → List Cidr

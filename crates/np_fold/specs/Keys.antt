@@ -1,8 +1,9 @@
 -- The keys of labels that selectors name.
-use Rattle.std.specs.Prelude.{ℕ, List, [], ◌++◌, map, fold, Option, Some, None}
+use Rattle.std.specs.Prelude.{ℕ, List, [], ◌++◌, map, fold, Option}
 use Rattle.std.specs.BTreeSet.{insert_key}
 use Rattle.std.specs.Cmp.Lexicographic.{slice_cmp}
 use Rattle.std.specs.List.{flat_map}
+use Rattle.std.specs.Option.{option_map_or}
 use Rattle.std.specs.Ordering.{nat_cmp}
 use Rattle.np_model.specs.declared.lists.EstateLists.{EstateLists}
 use Rattle.np_labels.specs.declared.selector.Selector.{Selector}
@@ -25,8 +26,7 @@ keys_of_selector selector = map (λ requirement. requirement.key) selector.requi
 
 -- the keys of a selector that may be missing
 abbrev pub keys_of_optional : Option Selector → List (List ℕ)
-keys_of_optional None = []
-keys_of_optional (Some selector) = keys_of_selector selector
+keys_of_optional found = option_map_or keys_of_selector found []
 
 -- ---- NetworkPolicies
 
@@ -39,8 +39,7 @@ keys_of_net_rule rule = flat_map keys_of_net_peer rule.peers
 
 -- the keys of a direction that may be missing
 abbrev pub keys_of_net_direction : Option (List NetRule) → List (List ℕ)
-keys_of_net_direction None = []
-keys_of_net_direction (Some rules) = flat_map keys_of_net_rule rules
+keys_of_net_direction found = option_map_or (flat_map keys_of_net_rule) found []
 
 abbrev pub keys_of_net_policy : NetPolicy → List (List ℕ)
 keys_of_net_policy policy = keys_of_selector policy.subject ++ keys_of_net_direction policy.ingress ++ keys_of_net_direction policy.egress
@@ -65,8 +64,7 @@ keys_of_base_policy policy = keys_of_subject policy.subject ++ flat_map keys_of_
 
 -- the keys of a baseline that may be missing
 abbrev pub keys_of_baseline : Option BasePolicy → List (List ℕ)
-keys_of_baseline None = []
-keys_of_baseline (Some policy) = keys_of_base_policy policy
+keys_of_baseline found = option_map_or keys_of_base_policy found []
 
 -- ---- all of an estate
 
@@ -75,8 +73,7 @@ keys_of_service service = keys_of_optional service.selector
 
 -- the keys that a selector of some policy or service names
 abbrev pub keys_of_estate : EstateLists → List (List ℕ)
-keys_of_estate lists =
-    flat_map keys_of_net_policy lists.net_policies ++ flat_map keys_of_admin_policy lists.admin_policies
+keys_of_estate lists = flat_map keys_of_net_policy lists.net_policies ++ flat_map keys_of_admin_policy lists.admin_policies
     ++ keys_of_baseline lists.baseline ++ flat_map keys_of_service lists.services
 
 -- keys in ascending order, and more of them, each put in at its place

@@ -8,7 +8,7 @@ use Rattle.std.proofs.lemmas.Bool.{lt-ltb, cases_lt, true≢false}
 use Rattle.std.proofs.lemmas.List.{get_or_read, length-take-le, map-append, take-append-drop, take_more}
 use Rattle.std.proofs.lemmas.List.Elements.{Contains-append_left, Contains-append_right, Contains-get_or}
 use Rattle.std.proofs.lemmas.List.Sums.{sum_by-append, sum_by_more_le}
-use Rattle.np_io.specs.Counts.{Rose, RosePast, handed_after}
+use Rattle.np_io.specs.Counts.{Rose, handed_after}
 use Rattle.np_io.specs.Source.{BeganNext, IsTold}
 use Rattle.np_frame.specs.Sources.{AreTold, BeganFront, FailedAt, HandedOut, SourceTrace, Unread, NextUnread, total_size, is_too_large}
 use Rattle.np_frame.specs.declared.sources.TheConstants.{SIZE_LIMIT}
@@ -61,8 +61,8 @@ RoseBy-more n m old new rose = elim rose [
 ]
 
 -- past the room that is left is past the limit
-pub RosePast-joined : (n room limit old mid new : ℕ) → room + n ≡ limit → RoseBy n old mid → RosePast room mid new → RosePast limit old new
-RosePast-joined n room limit old mid new whole rose past = elim past [
+pub past-joined : (n room limit old mid new : ℕ) → room + n ≡ limit → RoseBy n old mid → Rose (mid + room) new → Rose (old + limit) new
+past-joined n room limit old mid new whole rose past = elim past [
   | inl by ↦ elim rose [ inl far ↦ inl (omega arith) | inr end ↦ inr (omega arith) ]
   | inr end ↦ inr end
 ]
@@ -192,7 +192,7 @@ Unread-next source holds_now left_now faults_now handed_now began_now names made
       later = drop (i + 1) names;
       order = parted names i name below here;
       began = BeganNext-more source.began_before began_now source.began_after (take i names) (name ∷ []) before after;
-      past = RosePast-joined (total_size (bytes_of made)) room SIZE_LIMIT source.handed_before handed_now source.handed_after counted rose why.0;
+      past = past-joined (total_size (bytes_of made)) room SIZE_LIMIT source.handed_before handed_now source.handed_after counted rose why.0;
       most = omega arith;
       unfailed = why.2 ∙ same_faults;
       large = λ texts told.

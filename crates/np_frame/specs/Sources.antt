@@ -1,6 +1,6 @@
 -- What the inputs of a job tell, how they are read, and why they are not.
 use Rattle.std.specs.Prelude.{◌≡◌, ◌<◌, ◌≤◌, ◌+◌, ◌-◌, ◌^◌, min, ℕ, List, [], ◌∷◌, ◌++◌, Bool, true, Option, length, sum_by, nat_lt, take}
-use Rattle.np_io.specs.Counts.{Rose, RosePast}
+use Rattle.np_io.specs.Counts.{Rose}
 use Rattle.np_io.specs.Source.{BeganNext, IsTold}
 use Rattle.np_frame.specs.declared.sources.TheConstants.{SIZE_LIMIT}
 use Rattle.np_frame.specs.declared.sources.SourceFault.{SourceFault}
@@ -19,8 +19,7 @@ is_too_large texts = nat_lt SIZE_LIMIT (total_size texts)
 abbrev pub AreTold : (List ℕ → Option (List ℕ)) → Option (List ℕ) → List (List ℕ) → List (List ℕ) → Type 0
 AreTold holds left [] [] = Unit {0}
 AreTold holds left (name ∷ names) (text ∷ texts) = IsTold holds left name text × AreTold holds left names texts
-AreTold holds left [] (text ∷ texts) = ⊥
-AreTold holds left (name ∷ names) [] = ⊥
+AreTold holds left names texts = ⊥
 
 -- ---- what a call did to a source
 
@@ -99,7 +98,7 @@ pub record OverLimit (source : SourceTrace) (names : List (List ℕ)) : Type 0 w
   pub later : List (List ℕ)
   pub order : names ≡ earlier ++ name ∷ later
   pub began : Began source (earlier ++ name ∷ [])
-  pub past : RosePast SIZE_LIMIT source.handed_before source.handed_after
+  pub past : Rose (source.handed_before + SIZE_LIMIT) source.handed_after
   pub most : source.handed_after ≤ source.handed_before + SIZE_LIMIT + 8192
   pub unfailed : source.faults_after ≡ source.faults_before
   pub large : (texts : List (List ℕ)) → AreTold source.holds source.left names texts → is_too_large texts ≡ true
@@ -115,7 +114,7 @@ Unread source names NoMemory = BeganFront source names
 abbrev pub NextUnread : SourceTrace → List ℕ → ℕ → SourceFault → Type 0
 NextUnread source asked room (CannotRead name) = (name ≡ asked) × Rose (source.faults_before asked) (source.faults_after asked)
     × (source.handed_after ≤ source.handed_before + room)
-NextUnread source asked room TooLarge = RosePast room source.handed_before source.handed_after
+NextUnread source asked room TooLarge = Rose (source.handed_before + room) source.handed_after
     × (source.handed_after ≤ source.handed_before + room + 8192)
     × (source.faults_after ≡ source.faults_before)
     × ((bytes : List ℕ) → IsTold source.holds source.left asked bytes → room < length bytes)

@@ -1,5 +1,6 @@
 -- The names that a command line asks for, and which of their bytes are read for objects.
-use Rattle.std.specs.Prelude.{ℕ, List, [], ◌∷◌, Option, Some, None, Result, drop}
+use Rattle.std.specs.Prelude.{ℕ, List, [], ◌∷◌, Option, Result, drop}
+use Rattle.std.specs.Option.{option_map_or}
 use Rattle.np_sample.specs.Sample.{sample_text}
 use Rattle.np_model.specs.declared.lists.EstateLists.{EstateLists}
 use Rattle.np_command.specs.Inputs.{lists_of}
@@ -20,8 +21,7 @@ names_of (Sample n) = []
 
 -- the names that the words ask for
 abbrev pub names_asked : Option Job → List (List ℕ)
-names_asked None = []
-names_asked (Some job) = names_of job
+names_asked asked = option_map_or names_of asked []
 
 -- ---- by the bytes of all of them
 

@@ -5,10 +5,6 @@ use Rattle.std.specs.Prelude.{ℕ, ◌+◌, ◌-◌, ◌^◌, ◌<◌, ◌≤◌
 abbrev pub Rose : ℕ → ℕ → Type 0
 Rose old new = (old < new) ⊎ (2 ^ 64 ≤ new + 1)
 
--- the count rose by more than `room`, or stands at its end
-abbrev pub RosePast : ℕ → ℕ → ℕ → Type 0
-RosePast room old new = (old + room < new) ⊎ (2 ^ 64 ≤ new + 1)
-
 -- the count did not fall, and did not pass its end
 abbrev pub NeverFalls : ℕ → ℕ → Type 0
 NeverFalls old new = (old ≤ new) × (new ≤ max old (2 ^ 64 - 1))

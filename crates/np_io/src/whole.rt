@@ -1,7 +1,7 @@
 //! Whole inputs and whole bytes, over sources and sinks that work piece by piece.
 ghost use Rattle.std.specs.Prelude.{◌≡◌, ◌+◌, ◌<◌, ◌≤◌, ℕ, List, [], ◌∷◌, length, is_some, IfOk, OnOk, OnErr, IsOk, IsErrOf};
 ghost use Rattle.std.specs.Io.KnownBytes.{append_known};
-ghost use Rattle.np_io.specs.Counts.{Rose, RosePast, NeverFalls, handed_after};
+ghost use Rattle.np_io.specs.Counts.{Rose, NeverFalls, handed_after};
 ghost use Rattle.np_io.specs.Source.{BeganNext, IsTold};
 ghost use Rattle.np_io.specs.Taken.{TookFront};
 
@@ -88,7 +88,7 @@ pub fn read_whole<I: Inputs>(
         I.handed inputs.new ≤ I.handed inputs.old + room }
 
     ensures too_large { IsErrOf result WholeFault.TooLarge →
-        RosePast room (I.handed inputs.old) (I.handed inputs.new) }
+        Rose (I.handed inputs.old + room) (I.handed inputs.new) }
     ensures too_large_most { IsErrOf result WholeFault.TooLarge →
         I.handed inputs.new ≤ I.handed inputs.old + room + 8192 }
     ensures too_large_told { IsErrOf result WholeFault.TooLarge → (bytes : List ℕ) →

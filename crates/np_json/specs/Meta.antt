@@ -25,5 +25,4 @@ namespace value = text value >>= λ s. refuse_if (not (is_name (or_default s))) 
 unfoldable pub namespaced_name : Data → Read NamespacedName
 namespaced_name value = must_be_object value >> do
   called ← required (codes "name") name value
-  space ← optional (codes "namespace") namespace value
-  Ok (record { namespace = unwrap_or space (codes "default"); name = called })
+  Ok (record { namespace = unwrap_or (← optional (codes "namespace") namespace value) (codes "default"); name = called })

@@ -1,5 +1,5 @@
 -- The pods of workloads.
-use Rattle.std.proofs.Common.{◌≡◌, ◌≢◌, ◌<◌, ◌==◌, ◌&&◌, ℕ, List, [], ◌∷◌, Bool, true, false, Option, Some, None, Contains, length, slice_index, slice_index_or, slice_get, get_or, if◌then◌else◌}
+use Rattle.std.proofs.Common.{◌≡◌, ◌≢◌, ◌<◌, ◌==◌, ◌&&◌, ℕ, List, [], ◌∷◌, Bool, true, false, Option, Some, None, Contains, length, slice_index_or, slice_get, get_or, if◌then◌else◌}
 use Rattle.std.proofs.Common.{arith, refl, sym, subst, ◌∙◌, ap, eq-eqb, inl, inr}
 use Rattle.std.specs.Option.{option_map_or}
 use Rattle.std.specs.Prelude.{IsSomeAnd}
@@ -13,7 +13,7 @@ use Rattle.np_fold.specs.Workloads.{Folding, Workload, folding_of, has_member, m
 use Rattle.np_fold.proofs.WorkloadLemmas.{first-is, member-by_number, number-in_workloads, pods-within}
 use Rattle.np_model.specs.declared.pod.Pod.{Pod}
 use Rattle.np_rules.specs.model.Ends.{pod_end}
-use Rattle.np_rules.specs.model.Verdict.{pod_or_none}
+use Rattle.np_rules.specs.model.Verdict.{no_pod}
 use Rattle.np_kinds.specs.Between.{destination_pod, is_alone, source_pod}
 
 -- ---- workloads have pods
@@ -128,8 +128,9 @@ not-alone folding a b p q has has' differ =
     two_in_one (members_of folding a) p q has in_a differ (eqb-true (length (members_of folding a)) 1 parts.1))
 
 -- the pod at a place, as rules see it
-pub pod-first : (pods all : List Pod) (place first : ℕ) (a : Pod) → pods ≡ all → place ≡ first → place < length pods → a ≡ get_or pods place a → pod_end a ≡ pod_or_none (slice_get all first)
+pub pod-first : (pods all : List Pod) (place first : ℕ) (a : Pod) → pods ≡ all → place ≡ first → place < length pods → a ≡ get_or pods place a
+    → pod_end a ≡ option_map_or pod_end (slice_get all first) no_pod
 pod-first pods all place first a same same' within is =
-    sym (ap pod_or_none (slice_get-get_or pods place a within ∙ ap (λ (x : Pod). Some x) (sym is)))
-    ∙ ap (λ (xs : List Pod). pod_or_none (slice_get xs place)) same
-    ∙ ap (λ (n : ℕ). pod_or_none (slice_get all n)) same'
+    sym (ap (λ (found : Option Pod). option_map_or pod_end found no_pod) (slice_get-get_or pods place a within ∙ ap (λ (x : Pod). Some x) (sym is)))
+    ∙ ap (λ (xs : List Pod). option_map_or pod_end (slice_get xs place) no_pod) same
+    ∙ ap (λ (n : ℕ). option_map_or pod_end (slice_get all n) no_pod) same'

@@ -1,5 +1,6 @@
 -- What passes between workloads is what passes between their pods.
 use Rattle.std.proofs.Common.{◌≡◌, ◌≢◌, ◌<◌, ℕ, List, [], ◌∷◌, Bool, true, false, Option, Some, None, Contains, length, slice_get, slice_index, get_or, if◌then◌else◌, arith, refl, sym, ap}
+use Rattle.std.specs.Option.{option_map_or}
 use Rattle.std.proofs.Common.{subst, ◌∙◌, inl, inr}
 use Rattle.std.specs.Prelude.{IsSomeAnd}
 use Rattle.std.proofs.lemmas.Option.{slice_get-get_or}
@@ -17,9 +18,9 @@ use Rattle.np_kinds.proofs.KindVerdicts.{SameKindEnd-ends, end_rule_count-same, 
 use Rattle.np_kinds.specs.Ends.{AreOneKind}
 use Rattle.np_model.specs.declared.direction.Direction.{Direction}
 use Rattle.np_model.specs.declared.direction.Direction.TheVariants.{Egress, Ingress}
-use Rattle.np_rules.specs.model.Ends.{End, address, pod}
+use Rattle.np_rules.specs.model.Ends.{End, address, pod, pod_end}
 use Rattle.np_rules.specs.model.Places.{rule_count}
-use Rattle.np_rules.specs.model.Verdict.{pod_at, pod_or_none}
+use Rattle.np_rules.specs.model.Verdict.{no_pod, pod_at}
 use Rattle.np_kinds.proofs.MemberLemmas.{destination-member, member-number, members-some, members-within, not-alone, own-member, source-member}
 use Rattle.np_kinds.specs.Between.{address_allows, address_of, between_pods, destination_pod, is_alone, pair_allows, source_pod, with_address}
 
@@ -32,8 +33,8 @@ one_kind-by lists i j a b lawful is is' kind =
     inl (record {
       first = a;
       second = b;
-      one_is = ap (λ (found : Option Pod). pod (pod_or_none found)) is;
-      other_is = ap (λ (found : Option Pod). pod (pod_or_none found)) is';
+      one_is = ap (λ (found : Option Pod). pod (option_map_or pod_end found no_pod)) is;
+      other_is = ap (λ (found : Option Pod). pod (option_map_or pod_end found no_pod)) is';
       kind = kind;
       namespace = labels_agree lists i j a b lawful is is' kind.namespace;
     })

@@ -41,8 +41,7 @@ between_pods lists source destination family spot =
 -- Whether packets of a family between two workloads, named by their numbers, are allowed; a workload of one pod sends
 -- itself nothing.
 unfoldable pub pair_allows : EstateLists → Folding → ℕ → ℕ → Family → PortSpot → Bool
-pair_allows lists folding source destination family spot =
-    not (is_alone folding source destination)
+pair_allows lists folding source destination family spot = not (is_alone folding source destination)
     && between_pods lists (source_pod folding source) (destination_pod folding source destination) family spot
 
 -- ---- addresses

@@ -33,20 +33,12 @@ admin_rule_in (Base pass rule allow) = pass
 admin_rule_in (Free pass) = pass
 
 abbrev pub net_rule_in : Decider → Option RuleName
-net_rule_in NoSide = None
-net_rule_in (Admin rule allow) = None
 net_rule_in (Net pass rule) = Some rule
-net_rule_in (Isolated pass policies) = None
-net_rule_in (Base pass rule allow) = None
-net_rule_in (Free pass) = None
+net_rule_in other = None
 
 abbrev pub base_rule_in : Decider → Option RuleName
-base_rule_in NoSide = None
-base_rule_in (Admin rule allow) = None
-base_rule_in (Net pass rule) = None
-base_rule_in (Isolated pass policies) = None
 base_rule_in (Base pass rule allow) = Some rule
-base_rule_in (Free pass) = None
+base_rule_in other = None
 
 -- the rule of a tier in a decider
 abbrev pub rule_in : Tier → Decider → Option RuleName

@@ -1,5 +1,6 @@
 -- Flat policies are as the API has them, and no two have one name.
 use Rattle.std.proofs.Common.{◌≡◌, ◌≢◌, ℕ, zero, suc, ◌+◌, ◌^◌, ◌<◌, ◌≤◌, List, [], ◌∷◌, ◌++◌, Bool, true, false, not, ◌&&◌, ◌==◌, flat_map, length, map, Option, Some, None, Ok, codes, decimal}
+use Rattle.std.specs.Option.{option_map_or}
 use Rattle.std.proofs.Common.{option_map, refl, sym, ap, subst, ◌∙◌, arith, le-leb, ne_eqb}
 use Rattle.std.proofs.lemmas.Bool.{and_from, and_parts, cond_both, lt-leb}
 use Rattle.std.proofs.lemmas.Fmt.{decimal_injective, decimal_is_IsNumeral}
@@ -46,7 +47,7 @@ use Rattle.np_model.specs.declared.direction.Direction.TheVariants.{Ingress, Egr
 use Rattle.np_model.specs.declared.network_policy.NetPeer.{NetPeer}
 use Rattle.np_model.specs.declared.network_policy.NetPeer.TheVariants.{Block}
 use Rattle.np_model.specs.declared.network_policy.NetRule.{NetRule}
-use Rattle.np_rules.specs.model.Verdict.{pod_or_none}
+use Rattle.np_rules.specs.model.Verdict.{no_pod}
 use Rattle.np_synth.proofs.AddressVerdicts.{IsWellSpan, rows-well}
 use Rattle.np_synth.proofs.KindGroups.{in_count}
 use Rattle.np_synth.proofs.ReceiverFacts.{group-first-in, groups-le}
@@ -73,6 +74,7 @@ use Rattle.np_manifests.proofs.LawfulReads.{estate-lawful}
 use Rattle.np_manifests.proofs.PrefixLemmas.{prefixes-printable}
 use Rattle.np_manifests.proofs.RunLemmas.{AreRuns, conns_of-runs, rows-runs}
 use Rattle.np_manifests.proofs.ShapeLemmas.{all-mapped}
+use Rattle.np_rules.specs.model.Ends.{pod_end}
 
 -- ---- the first pod of a workload
 
@@ -95,7 +97,7 @@ end-well : (lists : EstateLists) (w : ℕ) → is_well lists ≡ true → w < nu
 end-well lists w well within =
     let place = source_pod (folding_of lists) w in
     let found = pod_there lists place (source-within lists w (in_count lists w within)) in
-    let of : Option Pod → Type 0 = λ o. (is_name (pod_or_none o).namespace ≡ true) × (is_well_labels (pod_or_none o).labels ≡ true) in
+    let of : Option Pod → Type 0 = λ o. (is_name (option_map_or pod_end o no_pod).namespace ≡ true) × (is_well_labels (option_map_or pod_end o no_pod).labels ≡ true) in
     subst of (sym found.1) (pod-parts found.0 (found-passes is_well_pod lists.pods place found.0 (pods-well lists well) found.1))
 
 -- ---- selectors

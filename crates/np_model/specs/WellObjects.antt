@@ -1,6 +1,6 @@
 -- Objects that have no names and labels but such as reading lets through: words of letters, digits and the marks `-_./:`; names
 -- are not empty and have no `/`.
-use Rattle.std.specs.Prelude.{ℕ, List, length, Bool, true, not, IsTrue, ◌&&◌, ◌==◌, Option, Some, None}
+use Rattle.std.specs.Prelude.{ℕ, List, length, Bool, true, not, ◌&&◌, ◌==◌, Option, Some, None}
 use Rattle.std.specs.List.{list_all}
 use Rattle.np_model.specs.Words.{is_label, is_word, is_name}
 use Rattle.np_labels.specs.WellFormed as demand

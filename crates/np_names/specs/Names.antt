@@ -20,8 +20,7 @@ namesakes wishes place = filter (λ other. bytes_eq (wish_at wishes other) (wish
 
 -- nothing behind a name that only one thing has, else `#` and its number, from 1, among its namesakes
 unfoldable pub suffix : List (List ℕ) → ℕ → List ℕ
-suffix wishes place =
-    if length (namesakes wishes place) == 1 then []
+suffix wishes place = if length (namesakes wishes place) == 1 then []
     else codes "#" ++ decimal (1 + position_or_len (λ other. other == place) (namesakes wishes place))
 
 unfoldable pub name_at : List (List ℕ) → ℕ → List ℕ

@@ -1,5 +1,5 @@
 -- Controllers of pods.
-use Rattle.std.specs.Prelude.{ℤ, pos, negsuc, ◌==◌, codes, Bool, false, Option, Some, None, unwrap_or, Ok}
+use Rattle.std.specs.Prelude.{ℤ, pos, ◌==◌, codes, Bool, false, Option, Some, None, unwrap_or, Ok}
 use Rattle.serde_json.specs.Data.{Data}
 use Rattle.np_json.specs.Meta.{namespaced_name}
 use Rattle.np_json.specs.Scalars.{whole}
@@ -19,9 +19,8 @@ controller_metadata value = do
   Ok (record { own = (← namespaced_name value); owner = owner_of dependent.Controller (← listed (codes "ownerReferences") owner_reference value) })
 
 abbrev pub is_zero : Option ℤ → Bool
-is_zero None = false
 is_zero (Some (pos n)) = n == 0
-is_zero (Some (negsuc n)) = false
+is_zero other = false
 
 -- what a controller without a spec has
 abbrev pub no_spec : ControllerSpec
@@ -68,5 +67,4 @@ controller_item kind metadata spec = record {
 unfoldable pub controller : ControllerKind → Data → Read ControllerItem
 controller kind value = do
   metadata ← required (codes "metadata") controller_metadata value
-  spec ← optional (codes "spec") (controller_spec kind) value
-  Ok (controller_item kind metadata (unwrap_or spec no_spec))
+  Ok (controller_item kind metadata (unwrap_or (← optional (codes "spec") (controller_spec kind) value) no_spec))

@@ -16,8 +16,7 @@ unfoldable pub owner_reference : Data → Read OwnerReference
 owner_reference value = must_be_object value >> do
   kind ← required (codes "kind") name value
   called ← required (codes "name") name value
-  controller ← optional (codes "controller") flag value
-  Ok (record { owner = record { kind = kind; name = called }; controls = unwrap_or controller false })
+  Ok (record { owner = record { kind = kind; name = called }; controls = unwrap_or (← optional (codes "controller") flag value) false })
 
 -- whether owners of that kind count: the node of a pod does not, and of controllers only other controllers do
 abbrev pub counts : Dependent → List ℕ → Bool

@@ -17,5 +17,4 @@ container value = must_be_object value >> do Ok (filter_map (λ port. port) (←
 unfoldable pub pod_spec : Data → Read PodSpec
 pod_spec value = must_be_object value >> do
   containers ← listed (codes "containers") container value
-  host_network ← optional (codes "hostNetwork") flag value
-  Ok (record { ports = flat_map (λ ports. ports) containers; host_network = unwrap_or host_network false })
+  Ok (record { ports = flat_map (λ ports. ports) containers; host_network = unwrap_or (← optional (codes "hostNetwork") flag value) false })

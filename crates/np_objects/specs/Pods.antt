@@ -38,5 +38,4 @@ unfoldable pub pod : Data → Read PodItem
 pod value = do
   metadata ← required (codes "metadata") pod_metadata value
   spec ← required (codes "spec") pod_spec value
-  status ← optional (codes "status") pod_status value
-  Ok (pod_item metadata spec (unwrap_or status no_status))
+  Ok (pod_item metadata spec (unwrap_or (← optional (codes "status") pod_status value) no_status))

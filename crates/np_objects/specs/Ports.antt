@@ -23,5 +23,4 @@ unfoldable pub container_port : Data → Read (Option NamedPort)
 container_port value = must_be_object value >> do
   name ← optional (codes "name") port_name value
   proto ← optional (codes "protocol") protocol_name value
-  number ← required (codes "containerPort") port value
-  Ok (if_named (option_flatten name) (unwrap_or proto Tcp) number)
+  Ok (if_named (option_flatten name) (unwrap_or proto Tcp) (← required (codes "containerPort") port value))

@@ -1,6 +1,6 @@
 -- Services.
 use Rattle.std.specs.Prelude.{ℕ, ℤ, List, [], ◌∷◌, map, codes, Bool, false, if◌then◌else◌, Option, Some, None, option_map, unwrap_or, Ok}
-use Rattle.std.specs.Option.{option_flatten}
+use Rattle.std.specs.Option.{option_flatten, option_map_or}
 use Rattle.std.specs.Str.{bytes_eq}
 use Rattle.serde_json.specs.Data.{Data}
 use Rattle.np_conns.specs.declared.proto.Proto.TheVariants.{Tcp}
@@ -52,8 +52,7 @@ selector_of (entry ∷ entries) = Some (record { requirements = label_requiremen
 
 -- whether there is a text, and it is that one
 abbrev pub is_text : Option (List ℕ) → List ℕ → Bool
-is_text None text = false
-is_text (Some found) text = bytes_eq found text
+is_text found text = option_map_or (λ own. bytes_eq own text) found false
 
 -- the spec of a service
 unfoldable pub service_spec : Data → Read ServiceSpec

@@ -1,7 +1,7 @@
 -- Statuses of pods.
 use Rattle.std.specs.Prelude.{◌≡◌, ℕ, List, [], ◌∷◌, ◌++◌, fold, codes, Bool, false, ◌||◌, ◌==◌, if◌then◌else◌, Option, Some, None, Ok}
 use Rattle.std.specs.List.{list_any}
-use Rattle.std.specs.Option.{option_flatten}
+use Rattle.std.specs.Option.{option_flatten, option_map_or}
 use Rattle.std.specs.Str.{bytes_eq}
 use Rattle.serde_json.specs.Data.{Data}
 use Rattle.np_addr.specs.AddressGrammar.{address_of}
@@ -29,8 +29,7 @@ pod_ip value = must_be_object value >> do Ok (option_flatten (← optional (code
 abbrev pub is_same : Address → Address → Bool
 is_same (Four a) (Four b) = a == b
 is_same (Six a) (Six b) = a == b
-is_same (Four a) (Six b) = false
-is_same (Six a) (Four b) = false
+is_same a b = false
 
 abbrev pub has_address : List Address → Address → Bool
 has_address addresses address = list_any (λ other. is_same other address) addresses
@@ -41,8 +40,7 @@ with_address kept address = if has_address kept address then kept else kept ++ a
 
 -- the addresses so far and one more, if there is one
 abbrev pub kept_with : List Address → Option Address → List Address
-kept_with kept None = kept
-kept_with kept (Some address) = with_address kept address
+kept_with kept found = option_map_or (with_address kept) found kept
 
 -- the addresses that are there, each once, where it stands first
 abbrev pub distinct : List (Option Address) → List Address
@@ -54,16 +52,14 @@ pub record HaveSame (kept known : List Address) : Type 0 where
 
 -- whether all containers of the pod have ended
 abbrev pub is_finished : Option (List ℕ) → Bool
-is_finished None = false
-is_finished (Some phase) = bytes_eq phase (codes "Succeeded") || bytes_eq phase (codes "Failed")
+is_finished found = option_map_or (λ phase. bytes_eq phase (codes "Succeeded") || bytes_eq phase (codes "Failed")) found false
 
 -- the status of a pod
 unfoldable pub pod_status : Data → Read PodStatus
 pod_status value = must_be_object value >> do
   phase ← optional (codes "phase") text value
   first ← optional (codes "podIP") address value
-  others ← listed (codes "podIPs") pod_ip value
-  Ok (record { finished = is_finished phase; addresses = distinct (option_flatten first ∷ others) })
+  Ok (record { finished = is_finished phase; addresses = distinct (option_flatten first ∷ (← listed (codes "podIPs") pod_ip value)) })
 
 -- what a pod without a status has
 abbrev pub no_status : PodStatus

@@ -41,8 +41,7 @@ some_pods value = must_be_object value >> do
 
 -- the one member of the two that is there
 abbrev pub pods_member : Data → Read Subject
-pods_member value =
-    if has_member (codes "namespaces") value then required (codes "namespaces") all_pods value
+pods_member value = if has_member (codes "namespaces") value then required (codes "namespaces") all_pods value
     else required (codes "pods") some_pods value
 
 -- `subject`
@@ -64,8 +63,7 @@ networks value = do
 
 -- the one member of the three that is there
 abbrev pub egress_member : Data → Read AdminPeer
-egress_member value =
-    if has_member (codes "networks") value then networks value
+egress_member value = if has_member (codes "networks") value then networks value
     else (pods_member value >>= λ peer. Ok (Pods peer.namespaces peer.pods))
 
 -- an entry of `to`
@@ -100,9 +98,7 @@ action tier value = do or_refuse BadAction (action_named tier (← text value))
 unfoldable pub admin_rule : Tier → Direction → Data → Read AdminRule
 admin_rule tier direction value = must_be_object value >> do
   effect ← required (codes "action") (action tier) value
-  peers ← admin_peers direction value
-  ports ← listed (codes "ports") admin_port value
-  Ok (record { action = effect; peers = peers; ports = ports })
+  Ok (record { action = effect; peers = (← admin_peers direction value); ports = (← listed (codes "ports") admin_port value) })
 
 -- the rules of a direction
 unfoldable pub admin_rules : Tier → Direction → Data → Read (List AdminRule)
@@ -133,9 +129,7 @@ unfoldable pub admin_spec : Data → Read AdminSpec
 admin_spec value = must_be_object value >> do
   rank ← required (codes "priority") priority value
   selected ← required (codes "subject") subject value
-  ingress ← admin_rules Admin Ingress value
-  egress ← admin_rules Admin Egress value
-  Ok (record { priority = rank; subject = selected; ingress = ingress; egress = egress })
+  Ok (record { priority = rank; subject = selected; ingress = (← admin_rules Admin Ingress value); egress = (← admin_rules Admin Egress value) })
 
 -- an AdminNetworkPolicy
 unfoldable pub admin_policy : Data → Read AdminPolicy
@@ -148,9 +142,7 @@ admin_policy value = do
 unfoldable pub base_spec : Data → Read BasePolicy
 base_spec value = must_be_object value >> do
   selected ← required (codes "subject") subject value
-  ingress ← admin_rules Baseline Ingress value
-  egress ← admin_rules Baseline Egress value
-  Ok (record { subject = selected; ingress = ingress; egress = egress })
+  Ok (record { subject = selected; ingress = (← admin_rules Baseline Ingress value); egress = (← admin_rules Baseline Egress value) })
 
 -- a BaselineAdminNetworkPolicy
 unfoldable pub base_policy : Data → Read BasePolicy

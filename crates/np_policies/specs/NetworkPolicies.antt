@@ -34,8 +34,7 @@ rules_member Egress = codes "egress"
 
 -- whether the peer has none of its three members, or `ipBlock` with another
 abbrev pub is_misshapen : Data → Bool
-is_misshapen value =
-    let has_selector = has_member (codes "podSelector") value || has_member (codes "namespaceSelector") value in
+is_misshapen value = let has_selector = has_member (codes "podSelector") value || has_member (codes "namespaceSelector") value in
     if has_member (codes "ipBlock") value then has_selector else not has_selector
 
 abbrev pub net_peer_by : Option Selector → Option Selector → Option IpBlock → NetPeer
@@ -48,8 +47,7 @@ net_peer value = must_be_object value >> do
   refuse_if (is_misshapen value) PeerShape
   pods ← optional (codes "podSelector") selector value
   namespaces ← optional (codes "namespaceSelector") selector value
-  block ← optional (codes "ipBlock") ip_block value
-  Ok (net_peer_by pods namespaces block)
+  Ok (net_peer_by pods namespaces (← optional (codes "ipBlock") ip_block value))
 
 -- an entry of `ingress` or `egress`
 unfoldable pub net_rule : Direction → Data → Read NetRule
@@ -72,9 +70,7 @@ unfoldable pub net_spec : Data → Read NetSpec
 net_spec value = must_be_object value >> do
   subject ← optional (codes "podSelector") selector value
   types ← listed (codes "policyTypes") policy_type value
-  ingress ← net_rules Ingress value
-  egress ← net_rules Egress value
-  Ok (record { subject = unwrap_or subject everything; types = types; ingress = ingress; egress = egress })
+  Ok (record { subject = unwrap_or subject everything; types = types; ingress = (← net_rules Ingress value); egress = (← net_rules Egress value) })
 
 -- the spec of no members
 abbrev pub empty_spec : NetSpec
@@ -82,9 +78,8 @@ empty_spec = record { subject = everything; types = []; ingress = []; egress = [
 
 abbrev pub is_same : Direction → Direction → Bool
 is_same Ingress Ingress = true
-is_same Ingress Egress = false
-is_same Egress Ingress = false
 is_same Egress Egress = true
+is_same one other = false
 
 -- whether a policy that lists no types has the direction: Egress only where it has a rule
 abbrev pub has_by_default : Direction → List NetRule → Bool
@@ -93,8 +88,7 @@ has_by_default Egress egress = not (length egress == 0)
 
 -- whether the direction is among the types of the policy
 abbrev pub has_direction : NetSpec → Direction → Bool
-has_direction spec direction =
-    if length spec.types == 0 then has_by_default direction spec.egress
+has_direction spec direction = if length spec.types == 0 then has_by_default direction spec.egress
     else list_any (λ listed. is_same listed direction) spec.types
 
 -- the rules of a direction, if it is among the types
@@ -114,5 +108,4 @@ net_policy_by meta spec = record {
 unfoldable pub net_policy : Data → Read NetPolicy
 net_policy value = do
   meta ← required (codes "metadata") namespaced_name value
-  spec ← optional (codes "spec") net_spec value
-  Ok (net_policy_by meta (unwrap_or spec empty_spec))
+  Ok (net_policy_by meta (unwrap_or (← optional (codes "spec") net_spec value) empty_spec))

@@ -1,6 +1,7 @@
 -- Shapes of port entries (Kubernetes API reference, NetworkPolicyPort; network-policy-api reference,
 -- AdminNetworkPolicyPort).
 use Rattle.std.specs.Prelude.{ℕ, ℤ, List, [], ◌∷◌, length, Bool, false, not, ◌==◌, nat_le, nat_lt, if◌then◌else◌, Option, Some, None, unwrap_or, codes, Ok}
+use Rattle.std.specs.Option.{option_map_or}
 use Rattle.serde_json.specs.Data.{Data}
 use Rattle.np_conns.specs.declared.proto.Proto.{Proto}
 use Rattle.np_conns.specs.declared.proto.Proto.TheVariants.{Tcp}
@@ -38,14 +39,12 @@ port_value value = port_value_by (as_whole value) value
 
 -- the port's number, if it has one
 abbrev pub number_of : Option PortValue → Option ℕ
-number_of None = None
 number_of (Some (Number number)) = Some number
-number_of (Some (Name name)) = None
+number_of other = None
 
 -- whether a range may end there
 abbrev pub may_end : Option ℕ → ℕ → Bool
-may_end None last = false
-may_end (Some first) last = nat_le first last
+may_end first last = option_map_or (λ number. nat_le number last) first false
 
 -- `endPort`, behind a `port` that is a number and not above it
 unfoldable pub end_port : Option ℕ → Data → Read ℕ
@@ -62,8 +61,7 @@ unfoldable pub net_port : Data → Read NetPort
 net_port value = must_be_object value >> do
   proto ← protocol value
   port ← optional (codes "port") port_value value
-  last ← optional (codes "endPort") (end_port (number_of port)) value
-  Ok (net_port_by proto port last)
+  Ok (net_port_by proto port (← optional (codes "endPort") (end_port (number_of port)) value))
 
 -- `portNumber` of an admin policy
 unfoldable pub one_port : Data → Read AdminPort

@@ -39,8 +39,7 @@ is_for why other = false
 
 -- whether the item at a place is left out for that reason
 abbrev pub is_left_out : List Item → LeftOut → ℕ → Bool
-is_left_out items why place =
-    option_map_or (is_for why) (option_and_then (left_out (makes_pod items place)) (slice_get items place)) false
+is_left_out items why place = option_map_or (is_for why) (option_and_then (left_out (makes_pod items place)) (slice_get items place)) false
 
 -- how many items are left out for a reason
 abbrev pub count_left_out : List Item → LeftOut → ℕ
@@ -60,8 +59,7 @@ rules_list_networks ingress egress = list_any rule_lists_networks ingress || lis
 
 -- whether some admin policy or the baseline has a peer of networks
 abbrev pub list_networks : List AdminPolicy → Option BasePolicy → Bool
-list_networks policies baseline =
-    list_any (λ policy. rules_list_networks policy.ingress policy.egress) policies
+list_networks policies baseline = list_any (λ policy. rules_list_networks policy.ingress policy.egress) policies
     || option_map_or (λ base. rules_list_networks base.ingress base.egress) baseline false
 
 abbrev pub has_no_address : Pod → Bool

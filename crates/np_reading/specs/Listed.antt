@@ -3,6 +3,7 @@ use Rattle.std.specs.Prelude.{ℕ, ◌+◌, List, [], ◌∷◌, ◌++◌, fold,
 use Rattle.std.specs.BTreeMap.{insert_entry}
 use Rattle.std.specs.Cmp.Lexicographic.{slice_cmp}
 use Rattle.std.specs.List.{filter_map}
+use Rattle.std.specs.Option.{option_map_or}
 use Rattle.std.specs.Ordering.{nat_cmp, ordering_then}
 use Rattle.std.specs.declared.cmp.Ordering.{Ordering}
 use Rattle.np_reading.specs.Readings.{Reading, refuse_found}
@@ -76,8 +77,7 @@ abbrev pub services_of : List Item → List ServiceItem
 services_of items = filter_map service items
 
 abbrev pub placed : ℕ → Option IngressItem → List PlacedIngress
-placed number None = []
-placed number (Some one) = record { item = number; ingress = one } ∷ []
+placed number found = option_map_or (λ one. record { item = number; ingress = one } ∷ []) found []
 
 -- ingresses with the numbers of their items, the first of which is `number`
 abbrev pub ingresses_from : ℕ → List Item → List PlacedIngress
@@ -112,9 +112,8 @@ ranks_of items = map (λ entry. entry.0) (by_rank items)
 
 -- the first two neighbours of one priority: the least that two have, and its two least names
 abbrev pub first_equal : List Rank → Option (Rank × Rank)
-first_equal [] = None
-first_equal (a ∷ []) = None
 first_equal (a ∷ b ∷ ranks) = if a.priority == b.priority then Some (a, b) else first_equal (b ∷ ranks)
+first_equal fewer = None
 
 abbrev pub equal_priority : Rank × Rank → Refusal
 equal_priority ranks = EqualPriority ranks.0.priority ranks.0.name ranks.1.name

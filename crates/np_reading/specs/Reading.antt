@@ -28,12 +28,12 @@ notes_of items = record {
 abbrev pub estate_of_items : List Item → EstateLists
 estate_of_items items = record {
   pods = pods_of items;
-  net_policies = net_policies_of items;
-  admin_policies = admin_policies_of items;
-  baseline = baseline_of items;
   services = services_of items;
   ingresses = ingresses_of items;
   notes = notes_of items;
+  net_policies = net_policies_of items;
+  admin_policies = admin_policies_of items;
+  baseline = baseline_of items;
 }
 
 -- the items that are read, or the refusal of them

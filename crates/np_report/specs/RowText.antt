@@ -24,8 +24,7 @@ use Rattle.np_args.specs.declared.report.Report.TheVariants.{One, Two}
 
 -- the first and the last address, or the one that there is
 abbrev pub ends_text : Family → Range ℕ → List ℕ
-ends_text family range =
-    if range.lo == range.hi then address_text (address_of family range.lo)
+ends_text family range = if range.lo == range.hi then address_text (address_of family range.lo)
     else address_text (address_of family range.lo) ++ codes "-" ++ address_text (address_of family range.hi)
 
 -- the fewest blocks that have the addresses of a range and no other, in ascending order

@@ -35,7 +35,7 @@ use Rattle.np_rules.proofs.DeciderLemmas.{decider_says}
 use Rattle.np_rules.specs.Deciders.{decider_allows}
 use Rattle.np_rules.specs.model.Ends.{Contact, End, PodEnd, contact, pod, pod_end, stranger_end}
 use Rattle.np_rules.specs.model.PortEntries.{is_named}
-use Rattle.np_rules.specs.model.Verdict.{pod_at, pod_or_none}
+use Rattle.np_rules.specs.model.Verdict.{no_pod, pod_at}
 use Rattle.np_rules.proofs.EachItem.{All-append, All-each, All-flat, All-parts, list_any-same}
 use Rattle.np_kinds.proofs.KindSelectors.{AgreeOn, All-from_listed, selector-same}
 use Rattle.np_kinds.proofs.KindVerdicts.{SameKindEnd-ends, got-same, packet-same}
@@ -136,8 +136,8 @@ pub record AreAlikeAt (lists : EstateLists) (p q : ℕ) : Type 0 where
 
 alike-by : (lists : EstateLists) (p q : ℕ) (a b : Pod) → IsLawful lists → slice_get lists.pods p ≡ Some a → slice_get lists.pods q ≡ Some b → IsSameKind lists a b → AreAlikeAt lists p q
 alike-by lists p q a b lawful is is' kind =
-    let one_is : pod_at lists p ≡ pod_end a = ap pod_or_none is in
-    let other_is : pod_at lists q ≡ pod_end b = ap pod_or_none is' in
+    let one_is : pod_at lists p ≡ pod_end a = ap (λ (found : Option Pod). option_map_or pod_end found no_pod) is in
+    let other_is : pod_at lists q ≡ pod_end b = ap (λ (found : Option Pod). option_map_or pod_end found no_pod) is' in
     record {
       kind = inl (record { first = a; second = b; one_is = ap pod one_is; other_is = ap pod other_is; kind = kind; namespace = labels_agree lists p q a b lawful is is' kind.namespace });
       served = subst (λ (x : PodEnd). AreServedAlike lists.services x (pod_at lists q)) (sym one_is)

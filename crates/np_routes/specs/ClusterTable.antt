@@ -10,7 +10,7 @@ use Rattle.np_table.specs.Said.{is_workload}
 use Rattle.np_table.specs.Table.{Table, estate_table}
 use Rattle.np_table.specs.declared.rows.Row.{Row}
 use Rattle.np_table.specs.declared.rows.RowEnd.{RowEnd}
-use Rattle.np_table.specs.declared.rows.RowEnd.TheVariants.{Controller, Span, Work}
+use Rattle.np_table.specs.declared.rows.RowEnd.TheVariants.{Controller, Work}
 use Rattle.np_table.specs.declared.rows.RowKey.{RowKey}
 
 -- The table of an estate, and which ports of each workload are reached through ingresses.
@@ -43,8 +43,7 @@ cluster_rows cluster = all_rows cluster.table ++ all_ingress_rows cluster
 
 abbrev pub is_ingress_controller : RowEnd → Bool
 is_ingress_controller Controller = true
-is_ingress_controller (Work number) = false
-is_ingress_controller (Span addresses) = false
+is_ingress_controller end = false
 
 -- whether a row is from the controller of ingresses to a workload
 abbrev pub is_from_controller : ℕ → Row → Bool

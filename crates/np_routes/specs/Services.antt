@@ -24,9 +24,7 @@ service_named services namespace name = find (is_service namespace name) service
 
 -- whether a service serves a pod: it is of the pod's namespace, and the pod's labels meet its selector
 abbrev pub serves : ServiceItem → PodEnd → Bool
-serves service p =
-    not service.external
-    && (bytes_eq service.namespace p.namespace
+serves service p = not service.external && (bytes_eq service.namespace p.namespace
     && option_map_or (λ selector. meets_selector selector p.labels) service.selector false)
 
 -- ---- ports of services

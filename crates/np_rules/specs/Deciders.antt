@@ -10,8 +10,8 @@ use Rattle.np_model.specs.declared.network_policy.NetPolicy.{NetPolicy}
 use Rattle.np_rules.specs.model.AdminTier.{admin_decider, least_by}
 use Rattle.np_rules.specs.model.BaseTier.{base_decider}
 use Rattle.np_rules.specs.model.Ends.{End, Contact, PodEnd, pod, address}
-use Rattle.np_rules.specs.model.NetTier.{isolates, is_isolated, net_candidates}
-use Rattle.np_rules.specs.model.Places.{PlacedAdminRule, PlacedBaseRule, PlacedNetRule}
+use Rattle.np_rules.specs.model.NetTier.{isolates, is_isolated, placed_net_matches}
+use Rattle.np_rules.specs.model.Places.{PlacedAdminRule, PlacedBaseRule, PlacedNetRule, net_places}
 use Rattle.np_rules.specs.model.Sides.{is_allow}
 use Rattle.np_rules.specs.declared.decider.Decider.{Decider}
 use Rattle.np_rules.specs.declared.decider.Decider.TheVariants.{NoSide, Admin, Net, Isolated, Base, Free}
@@ -36,9 +36,9 @@ base_rule_name placed = record { policy = codes "default"; place = placed.place 
 abbrev pub net_precedes : PlacedNetRule → PlacedNetRule → Bool
 net_precedes a b = match_ordering (slice_cmp nat_cmp a.policy.name b.policy.name) true (nat_lt a.place b.place) false
 
--- the first of the matching rules
+-- the first of the matching rules of the policies that select the pod
 abbrev pub net_decider : List NetPolicy → Direction → PodEnd → Contact → Option PlacedNetRule
-net_decider policies direction p contact = least_by net_precedes (net_candidates policies direction p contact)
+net_decider policies direction p contact = least_by net_precedes (filter (placed_net_matches contact) (net_places policies direction p))
 
 -- the names of the policies that isolate the pod, in the order of the estate, which is that of their bytes
 abbrev pub isolating_names : List NetPolicy → Direction → PodEnd → List (List ℕ)
@@ -60,8 +60,7 @@ base_decides pass (Some placed) = Base pass (base_rule_name placed) (is_allow pl
 
 -- what decides below the admin tier, where `pass` is the rule with Pass that was met, if one was
 abbrev pub lower_decider : EstateLists → Direction → PodEnd → Contact → Option RuleName → Decider
-lower_decider lists direction p contact pass =
-    if is_isolated lists.net_policies direction p
+lower_decider lists direction p contact pass = if is_isolated lists.net_policies direction p
     then net_decides pass (isolating_names lists.net_policies direction p) (net_decider lists.net_policies direction p contact)
     else base_decides pass (base_decider lists.baseline direction p contact)
 

@@ -10,15 +10,12 @@ use Rattle.np_fold.specs.Workloads.{folding_of, name_of, number_of}
 -- the form names the pod at a place
 abbrev pub NamesPod : EstateLists → EndForm → ℕ → Type 0
 NamesPod lists Pods place = Unit {0}
-NamesPod lists Addresses place = ⊥
 NamesPod lists (Namespace name) place = IsSomeAnd (slice_get lists.pods place) (λ pod. pod.namespace ≡ name)
 NamesPod lists (Work name) place = name_of (folding_of lists) (number_of lists place) ≡ name
-NamesPod lists (Block cidr) place = ⊥
+NamesPod lists other place = ⊥
 
 -- it names the address
 abbrev pub NamesAddress : EndForm → Address → Type 0
-NamesAddress Pods address = ⊥
 NamesAddress Addresses address = Unit {0}
-NamesAddress (Namespace name) address = ⊥
-NamesAddress (Work name) address = ⊥
 NamesAddress (Block cidr) address = cidr_has cidr address ≡ true
+NamesAddress other address = ⊥

@@ -1,5 +1,6 @@
 -- The flat policies alone allow what the whole estate does.
 use Rattle.std.proofs.Common.{◌≡◌, ◌≢◌, ℕ, ◌<◌, List, [], ◌∷◌, Bool, true, false, ◌&&◌, ◌||◌, Option, Some, None, Contains, length, not, get_or, codes, if◌then◌else◌, refl, sym, ap, subst, ◌∙◌}
+use Rattle.std.specs.Option.{option_map_or}
 use Rattle.std.specs.List.{AllByRecursion, list_any}
 use Rattle.std.specs.Str.{bytes_eq}
 use Rattle.std.proofs.lemmas.Bool.{false_from_ne_true}
@@ -29,7 +30,7 @@ use Rattle.np_rules.specs.model.PortEntries.{net_entry_matches}
 use Rattle.np_rules.specs.model.Rules.{net_rule_matches, none_or_any}
 use Rattle.np_rules.specs.model.Selection.{net_selects}
 use Rattle.np_rules.specs.model.Sides.{side_allows}
-use Rattle.np_rules.specs.model.Verdict.{allows, pod_at, pod_or_none}
+use Rattle.np_rules.specs.model.Verdict.{allows, no_pod, pod_at}
 use Rattle.np_synth.proofs.AddressVerdicts.{IsWellSpan, addresses-no_pod, addresses-permit, any-never, at_address, nothing-has, row_tells, rows-any, rows-well}
 use Rattle.np_synth.proofs.ClassFirsts.{first-alike}
 use Rattle.np_synth.proofs.DifferLemmas.{own_rows}
@@ -73,9 +74,9 @@ seen-pod lists p within =
     let a = pod_there lists p within in
     let b = pod_there lists near near_in in
     let alike = (one_workload lists p near a.0 b.0 a.1 b.1).0 (sym (member-number lists x near near_in has)) in
-    ap (λ (found : Option Pod). seen (relevant lists) (pod_or_none found)) a.1
+    ap (λ (found : Option Pod). seen (relevant lists) (option_map_or pod_end found no_pod)) a.1
     ∙ (look_decides (relevant lists) (pod_end a.0) (pod_end b.0)).0 (kind-looks lists a.0 b.0 alike.kind)
-    ∙ sym (ap (λ (found : Option Pod). seen (relevant lists) (pod_or_none found)) b.1)
+    ∙ sym (ap (λ (found : Option Pod). seen (relevant lists) (option_map_or pod_end found no_pod)) b.1)
 
 -- the group of a pod
 abbrev group_at : EstateLists → ℕ → ℕ
@@ -127,7 +128,7 @@ says_namespace lists p lawful within =
     let says : SaysItsNamespace (get_or lists.pods p a.0) = All-get_or SaysItsNamespace lists.pods p a.0 within lawful.namespaces_named in
     let own : SaysItsNamespace a.0 = subst SaysItsNamespace (get_or_from_slice_get lists.pods p a.0 a.0 a.1) says in
     let of : PodEnd → Type 0 = λ e. value_of e.namespace_labels (codes "kubernetes.io/metadata.name") ≡ Some e.namespace in
-    subst of (sym (ap pod_or_none a.1)) own
+    subst of (sym (ap (λ (found : Option Pod). option_map_or pod_end found no_pod) a.1)) own
 
 -- and so does its peer
 peer-is : (lists : EstateLists) (namespace : List ℕ) (group p : ℕ) → IsLawful lists → p < length lists.pods →

@@ -1,5 +1,6 @@
 -- Workloads of one kind are of one group and agree, so the least pair that differs is one of firsts.
 use Rattle.std.proofs.Common.{◌≡◌, ℕ, ◌<◌, ◌^◌, ◌-◌, ◌++◌, List, [], ◌∷◌, Bool, true, false, not, ◌||◌, Option, Some, All, map, lit≤, refl, sym, ap, subst, ◌∙◌}
+use Rattle.std.specs.Option.{option_map_or}
 use Rattle.std.specs.List.{list_all}
 use Rattle.std.specs.Str.{bytes_eq}
 use Rattle.std.specs.Cmp.Lexicographic.{bytes_decides}
@@ -22,7 +23,7 @@ use Rattle.np_labels.specs.Selectors.{is_listed}
 use Rattle.np_model.specs.declared.direction.Direction.{Direction}
 use Rattle.np_model.specs.declared.direction.Direction.TheVariants.{Egress, Ingress}
 use Rattle.np_rules.specs.model.Ends.{pod, pod_end}
-use Rattle.np_rules.specs.model.Verdict.{pod_at, pod_or_none}
+use Rattle.np_rules.specs.model.Verdict.{no_pod, pod_at}
 use Rattle.np_synth.proofs.AgreeLemmas.{least-first_pair}
 use Rattle.np_synth.proofs.ClassFirsts.{class_first, first-in, first-listed, first-low, first-same, first-twice, first-class, same-first}
 use Rattle.np_synth.proofs.DifferLemmas.{apart-defined, from_agree, own_rows, to_agree}
@@ -95,7 +96,7 @@ kind_first lists = class_first (kinds_alike lists) (workload_count lists) (kinds
 -- the first pod of a workload, as rules see it
 first_end-is : (lists : EstateLists) (w : ℕ) (a : Pod) → w < workload_count lists → first_pod lists w ≡ Some a → first_end lists w ≡ pod_end a
 first_end-is lists w a within is =
-    ap pod_or_none (first_there (members_of (folding_of lists) w) lists.pods (first_pod lists w) (first-is lists w (in_workloads lists w within)) ∙ is)
+    ap (λ (found : Option Pod). option_map_or pod_end found no_pod) (first_there (members_of (folding_of lists) w) lists.pods (first_pod lists w) (first-is lists w (in_workloads lists w within)) ∙ is)
 
 -- workloads of one kind are of one group
 kind-together : (lists : EstateLists) (x y : ℕ) → x < workload_count lists → y < workload_count lists → kind lists x ≡ kind lists y → are_together lists x y ≡ true

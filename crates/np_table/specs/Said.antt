@@ -1,6 +1,7 @@
 -- What rows say.
-use Rattle.std.specs.Prelude.{◌≡◌, ◌≤◌, ◌-◌, ◌^◌, ℕ, List, [], ◌∷◌, Bool, true, false, ◌&&◌, ◌==◌, filter, Option, None, Some}
+use Rattle.std.specs.Prelude.{◌≡◌, ◌≤◌, ◌-◌, ◌^◌, ℕ, List, [], ◌∷◌, Bool, true, false, ◌&&◌, ◌==◌, filter, Option, None}
 use Rattle.std.specs.List.{list_any}
+use Rattle.std.specs.Option.{option_map_or}
 use Rattle.np_addr.specs.declared.address.Family.{Family}
 use Rattle.np_addr.specs.declared.address.Family.TheVariants as family
 use Rattle.np_base.specs.Ranges.{is_within}
@@ -13,12 +14,11 @@ use Rattle.np_table.specs.declared.rows.AddressSpan.{AddressSpan}
 use Rattle.np_table.specs.declared.rows.AddressSpan.TheVariants as span
 use Rattle.np_table.specs.declared.rows.Row.{Row}
 use Rattle.np_table.specs.declared.rows.RowEnd.{RowEnd}
-use Rattle.np_table.specs.declared.rows.RowEnd.TheVariants.{Controller, Span, Work}
+use Rattle.np_table.specs.declared.rows.RowEnd.TheVariants.{Span, Work}
 
 -- whether a mark speaks of a family: a row without a mark speaks of every one
 abbrev pub speaks_of : Option Family → Family → Bool
-speaks_of None family = true
-speaks_of (Some one) family = same_family one family
+speaks_of mark family = option_map_or (λ one. same_family one family) mark true
 
 -- whether a row says that a port passes in a family
 abbrev pub says : Family → PortSpot → Row → Bool
@@ -33,8 +33,7 @@ allows_in rows family spot = list_any (says family spot) rows
 -- whether an end of a row is the workload of the number
 abbrev pub is_workload : ℕ → RowEnd → Bool
 is_workload number (Work other) = other == number
-is_workload number (Span addresses) = false
-is_workload number Controller = false
+is_workload number end = false
 
 -- whether a row is from one workload to another
 abbrev pub is_between : ℕ → ℕ → Row → Bool
@@ -68,8 +67,7 @@ span_has one another number = false
 -- whether an end of a row is a span that has it
 abbrev pub is_address : Family → ℕ → RowEnd → Bool
 is_address family number (Span addresses) = span_has addresses family number
-is_address family number (Work other) = false
-is_address family number Controller = false
+is_address family number end = false
 
 -- whether a row is of the address and the workload: from the address in the direction of ingress, and to it in that of egress
 abbrev pub is_of_address : ℕ → Direction → Family → ℕ → Row → Bool
@@ -82,6 +80,5 @@ rows_of_address workload direction family number rows = filter (is_of_address wo
 
 -- exactly one row of a list is of them, and by it exactly those ports pass that the test lets pass
 abbrev pub OneRowSays : ℕ → Direction → Family → ℕ → List Row → (PortSpot → Bool) → Type 0
-OneRowSays workload direction family number rows passes =
-    (row : Row) × (rows_of_address workload direction family number rows ≡ row ∷ [])
+OneRowSays workload direction family number rows passes = (row : Row) × (rows_of_address workload direction family number rows ≡ row ∷ [])
     × ((spot : PortSpot) → is_spot spot ≡ true → has_spot row.conns spot ≡ passes spot)

@@ -30,7 +30,7 @@ rule_matches namespace s spot rule = kept_matches namespace (pod (stranger_end s
 
 -- whether the settled set has the spot, or some open rule of this namespace matches the stranger there
 abbrev pub permits : List ℕ → OpenRules → Stranger → PortSpot → Bool
-permits namespace rules s spot = has_spot rules.settled.value spot || list_any (rule_matches namespace s spot) rules.open.items
+permits namespace rules s spot = has_spot rules.settled spot || list_any (rule_matches namespace s spot) rules.open.items
 
 -- they permit the stranger what NetworkPolicies permit it
 abbrev pub StandFor : PodSide → OpenRules → Stranger → Type 0

@@ -1,5 +1,5 @@
 -- The tier of NetworkPolicies.
-use Rattle.std.specs.Prelude.{List, filter, Bool, ◌&&◌, is_some}
+use Rattle.std.specs.Prelude.{List, Bool, ◌&&◌, is_some}
 use Rattle.std.specs.List.{list_any}
 use Rattle.np_model.specs.declared.direction.Direction.{Direction}
 use Rattle.np_model.specs.declared.network_policy.NetPolicy.{NetPolicy}
@@ -19,10 +19,6 @@ is_isolated policies direction p = list_any (isolates direction p) policies
 -- whether a rule matches, as one of its policy's namespace
 abbrev pub placed_net_matches : Contact → PlacedNetRule → Bool
 placed_net_matches contact placed = net_rule_matches placed.policy.namespace placed.rule contact
-
--- the matching rules of the policies that select the pod
-abbrev pub net_candidates : List NetPolicy → Direction → PodEnd → Contact → List PlacedNetRule
-net_candidates policies direction p contact = filter (placed_net_matches contact) (net_places policies direction p)
 
 -- whether some rule of a policy that selects the pod matches
 abbrev pub permits : List NetPolicy → Direction → PodEnd → Contact → Bool

@@ -28,9 +28,8 @@ pods_match namespace (Some namespaces) (Some pods) p = meets_selector namespaces
 -- blocks too permits more than this model.
 abbrev pub net_peer_matches : List ℕ → NetPeer → End → Bool
 net_peer_matches namespace (net.Pods namespaces pods) (pod p) = pods_match namespace namespaces pods p
-net_peer_matches namespace (net.Pods namespaces pods) (address a) = false
-net_peer_matches namespace (net.Block cidr excepts) (pod p) = false
 net_peer_matches namespace (net.Block cidr excepts) (address a) = block_has cidr excepts a
+net_peer_matches namespace peer far = false
 
 -- whether an address is in some of the blocks
 abbrev pub in_some : List Cidr → Address → Bool

@@ -64,10 +64,8 @@ base_rules_of Egress policy = policy.egress
 -- the rules of the baseline, where there is one and it selects the pod
 abbrev pub base_places : Option BasePolicy → Direction → PodEnd → List PlacedBaseRule
 base_places None direction p = []
-base_places (Some policy) direction p =
-    if subject_selects policy.subject p
-    then map (λ numbered. record { place = numbered.0; rule = numbered.1 }) (enumerate_from 0 (base_rules_of direction policy))
-    else []
+base_places (Some policy) direction p = if subject_selects policy.subject p
+    then map (λ numbered. record { place = numbered.0; rule = numbered.1 }) (enumerate_from 0 (base_rules_of direction policy)) else []
 
 -- ---- how many
 

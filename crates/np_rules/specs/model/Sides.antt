@@ -1,5 +1,6 @@
 -- What a pod's own side says of a packet.
-use Rattle.std.specs.Prelude.{Bool, true, false, Option, Some, None, if◌then◌else◌}
+use Rattle.std.specs.Prelude.{Bool, true, false, Option, if◌then◌else◌}
+use Rattle.std.specs.Option.{option_map_or}
 use Rattle.np_model.specs.declared.lists.EstateLists.{EstateLists}
 use Rattle.np_model.specs.declared.admin_policy.Action.{Action}
 use Rattle.np_model.specs.declared.admin_policy.Action.TheVariants.{Allow, Deny, Pass}
@@ -18,24 +19,19 @@ action_says Pass below = below
 
 -- what the admin rule that decides says; without one the tiers below say
 abbrev pub admin_says : Option PlacedAdminRule → Bool → Bool
-admin_says None below = below
-admin_says (Some placed) below = action_says placed.rule.action below
+admin_says found below = option_map_or (λ placed. action_says placed.rule.action below) found below
 
 abbrev pub is_allow : Action → Bool
 is_allow Allow = true
-is_allow Deny = false
-is_allow Pass = false
+is_allow other = false
 
 -- what the rule of the baseline that decides says; without one everything is allowed
 abbrev pub base_says : Option PlacedBaseRule → Bool
-base_says None = true
-base_says (Some placed) = is_allow placed.rule.action
+base_says found = option_map_or (λ placed. is_allow placed.rule.action) found true
 
 -- Below the admin tier, NetworkPolicies say at a pod that they isolate, and the baseline at any other.
 abbrev pub lower_allows : EstateLists → Direction → PodEnd → Contact → Bool
-lower_allows lists direction p contact =
-    if is_isolated lists.net_policies direction p
-    then permits lists.net_policies direction p contact
+lower_allows lists direction p contact = if is_isolated lists.net_policies direction p then permits lists.net_policies direction p contact
     else base_says (base_decider lists.baseline direction p contact)
 
 -- whether the pod's side allows what it looks at

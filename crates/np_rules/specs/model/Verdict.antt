@@ -1,6 +1,7 @@
 -- Whether a packet is allowed.
-use Rattle.std.specs.Prelude.{ℕ, ◌+◌, ◌<◌, [], length, Bool, true, ◌&&◌, Option, Some, None}
+use Rattle.std.specs.Prelude.{ℕ, ◌+◌, ◌<◌, [], length, Bool, true, ◌&&◌}
 use Rattle.std.specs.List.{slice_get}
+use Rattle.std.specs.Option.{option_map_or}
 use Rattle.np_model.specs.declared.lists.EstateLists.{EstateLists}
 use Rattle.np_model.specs.declared.pod.Pod.{Pod}
 use Rattle.np_model.specs.declared.direction.Direction.{Direction}
@@ -21,8 +22,7 @@ end_allows lists direction (address a) contact = true
 -- exceptions of Kubernetes are not in this model: traffic between a pod and itself, and between a pod and its node, is
 -- allowed there whatever the policies say.
 unfoldable pub allows : EstateLists → Packet → Bool
-allows lists packet =
-    end_allows lists Egress packet.source (contact_of Egress packet)
+allows lists packet = end_allows lists Egress packet.source (contact_of Egress packet)
     && end_allows lists Ingress packet.destination (contact_of Ingress packet)
 
 -- how many rules speak of the ends of a packet, each in its direction
@@ -35,13 +35,9 @@ packet_rule_count lists packet = end_rule_count lists Egress packet.source + end
 abbrev pub no_pod : PodEnd
 no_pod = record { namespace = []; namespace_labels = []; labels = []; ports = []; addresses = [] }
 
-abbrev pub pod_or_none : Option Pod → PodEnd
-pod_or_none None = no_pod
-pod_or_none (Some p) = pod_end p
-
 -- the pod at a place
 abbrev pub pod_at : EstateLists → ℕ → PodEnd
-pod_at lists place = pod_or_none (slice_get lists.pods place)
+pod_at lists place = option_map_or pod_end (slice_get lists.pods place) no_pod
 
 abbrev pub end_of : EstateLists → PlacedEnd → End
 end_of lists (placed.Pod place) = pod (pod_at lists place)

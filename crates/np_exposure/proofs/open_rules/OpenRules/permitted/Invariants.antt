@@ -10,4 +10,4 @@ use Rattle.np_exposure.proofs.open_rules.OpenRules.permitted.Given as goal
 abbrev pub invariant-loop-rule : goal.invariant-loop-rule
 invariant-loop-rule l = (spot : PortSpot) →
     list_any (λ set. has_spot set.now spot) l.sets.items
-    ≡ (has_spot l.self.settled.value spot || list_any (λ rule. kept_matches l.namespace (pod (stranger_end l.stranger)) spot rule.kept.now) (take l.rule-index l.rule-items))
+    ≡ (has_spot l.self.settled spot || list_any (λ rule. kept_matches l.namespace (pod (stranger_end l.stranger)) spot rule.kept.now) (take l.rule-index l.rule-items))

@@ -6,6 +6,6 @@ use Rattle.np_exposure.proofs.open_rules.OpenRules.with_settled.Goals as goal
 
 pub returns : goal.returns
 returns c = λ s witness spot.
-    ap (λ b. b || list_any (rule_matches c.args.namespace.now s spot) c.sort.new.open.items)
-    (c.in_ok-joined_box.ensures spot ∙ ap (list_any (λ set. has_spot set.now spot)) c.deref.ensures.value)
+    ap (λ b. b || list_any (rule_matches c.args.namespace.now s spot) c.sort.new.opens.items)
+    (c.in_ok-joined_set.ensures spot ∙ ap (list_any (λ set. has_spot set.now spot)) c.deref.ensures.value)
     ∙ c.in_ok-sort.ensures s witness spot
