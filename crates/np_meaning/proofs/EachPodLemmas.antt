@@ -128,7 +128,8 @@ module _ (items : List Item) (place : ℕ) where
       subst (λ (top : Option Owner). Fits (taken (Some one)) (cond (makes_pod items place) None None) (given top)) (sym owner.1)
       (by (namespace_labels items one.namespace) owner.0 one.host_network one.finished (makes_pod items place))
     where
-      itself : (owner : Option OwnerRef) → is_some (option_or (option_map by_reference owner) (option_map by_name (Some (record { kind = codes "Pod"; namespace = one.namespace; name = one.name })))) ≡ true
+      itself : (owner : Option OwnerRef) → is_some (option_or (option_map by_reference owner)
+          (option_map by_name (Some (record { kind = codes "Pod"; namespace = one.namespace; name = one.name })))) ≡ true
       itself None = refl
       itself (Some owner) = refl
 
@@ -149,7 +150,8 @@ module _ (items : List Item) (place : ℕ) where
       subst (λ (top : Option Owner). Fits None (cond (makes_pod items place) (templated (item.Object (object.Controller one))) None) (given top)) (sym owner.1)
       (by (namespace_labels items one.namespace) owner.0 (makes_pod items place) one.template)
     where
-      itself : (owner : Option OwnerRef) → is_some (option_or (option_map by_reference owner) (option_map by_name (Some (record { kind = kind_name one.kind; namespace = one.namespace; name = one.name })))) ≡ true
+      itself : (owner : Option OwnerRef) → is_some (option_or (option_map by_reference owner)
+          (option_map by_name (Some (record { kind = kind_name one.kind; namespace = one.namespace; name = one.name })))) ≡ true
       itself None = refl
       itself (Some owner) = refl
 

@@ -64,7 +64,8 @@ listed test false false true networking one two three four = refl
 listed test false false false true one two three four = refl
 listed test false false false false one two three four = refl
 
-module _ (value : Data) (meta : TypeMeta) (names : Names meta.api_version meta.kind value) (read : Object) (is : object_by (cond (bytes_eq meta.api_version (codes "v1")) (lookup (bytes_eq meta.kind) (kinds_of (codes "v1")))
+module _ (value : Data) (meta : TypeMeta) (names : Names meta.api_version meta.kind value) (read : Object)
+    (is : object_by (cond (bytes_eq meta.api_version (codes "v1")) (lookup (bytes_eq meta.kind) (kinds_of (codes "v1")))
     (cond (bytes_eq meta.api_version (codes "apps/v1")) (lookup (bytes_eq meta.kind) (kinds_of (codes "apps/v1")))
     (cond (bytes_eq meta.api_version (codes "batch/v1")) (lookup (bytes_eq meta.kind) (kinds_of (codes "batch/v1")))
     (cond (bytes_eq meta.api_version (codes "networking.k8s.io/v1")) (lookup (bytes_eq meta.kind) (kinds_of (codes "networking.k8s.io/v1"))) None)))) value ≡ Ok read) where
@@ -198,7 +199,8 @@ unfolding object_of
 object-meant value read is =
     let meta = bind-output (type_meta value) _ read is in
     let version = meta.first.api_version in
-    let apart = listed (bytes_eq meta.first.kind) (bytes_eq version (codes "v1")) (bytes_eq version (codes "apps/v1")) (bytes_eq version (codes "batch/v1")) (bytes_eq version (codes "networking.k8s.io/v1"))
+    let apart = listed (bytes_eq meta.first.kind) (bytes_eq version (codes "v1")) (bytes_eq version (codes "apps/v1"))
+    (bytes_eq version (codes "batch/v1")) (bytes_eq version (codes "networking.k8s.io/v1"))
     (kinds_of (codes "v1")) (kinds_of (codes "apps/v1")) (kinds_of (codes "batch/v1")) (kinds_of (codes "networking.k8s.io/v1")) in
     let found = subst (λ kind. object_by kind value ≡ Ok read) apart meta.after in
     of_core value meta.first (type-meant value meta.first meta.here) read found (bytes_eq meta.first.api_version (codes "v1")) refl

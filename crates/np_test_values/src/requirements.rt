@@ -34,17 +34,12 @@ fn app(rt: &impl Abort, alloc: Global, value: &str) -> Labels {
     Labels::of(alloc, pairs).expect(rt, "labels")
 }
 
+// A key, what is asked of it, and values.
+type Asked = (&'static str, Op, &'static str);
+
 // Stops the test unless labels meet a requirement, and not its opposite, or the other way round.
-fn expect_met(
-    rt: &impl Abort,
-    alloc: Global,
-    labels: &Labels,
-    key: &str,
-    op: Op,
-    values: &str,
-    wanted: bool,
-) {
-    let requirement = requirement(rt, alloc, key, op, values);
+fn expect_met(rt: &impl Abort, alloc: Global, labels: &Labels, asked: &Asked, wanted: bool) {
+    let requirement = requirement(rt, alloc, asked.0, asked.1, asked.2);
     let opposite = requirement.negated().expect(rt, "its opposite");
     assert!(rt; requirement.meets(labels) == wanted && opposite.meets(labels) != wanted);
 }
@@ -55,11 +50,11 @@ fn expect_met(
 fn requirements_by_example(rt: HostRuntime) {
     let alloc = rt.alloc();
     let labels = app(&rt, alloc, "c");
-    expect_met(&rt, alloc, &labels, "app", Op::OneOf, "d b a c b", true);
-    expect_met(&rt, alloc, &labels, "app", Op::OneOf, "b cc d", false);
-    expect_met(&rt, alloc, &labels, "app", Op::OneOf, "", false);
-    expect_met(&rt, alloc, &labels, "app", Op::NoneOf, "", true);
-    expect_met(&rt, alloc, &labels, "tier", Op::NoneOf, "c", true);
+    expect_met(&rt, alloc, &labels, &("app", Op::OneOf, "d b a c b"), true);
+    expect_met(&rt, alloc, &labels, &("app", Op::OneOf, "b cc d"), false);
+    expect_met(&rt, alloc, &labels, &("app", Op::OneOf, ""), false);
+    expect_met(&rt, alloc, &labels, &("app", Op::NoneOf, ""), true);
+    expect_met(&rt, alloc, &labels, &("tier", Op::NoneOf, "c"), true);
 }
 
 // A copy of a requirement has its values in their order, each once.
@@ -117,9 +112,6 @@ fn expect_possible(
     ];
     expect_value(rt, alloc, &requirements, wanted);
 }
-
-// A key, what is asked of it, and values.
-type Asked = (&'static str, Op, &'static str);
 
 // The same of these requirements.
 fn expect_value(rt: &impl Abort, alloc: Global, asked: &[Requirement], wanted: Option<&str>) {
