@@ -8,6 +8,7 @@ import json
 import os
 import re
 import subprocess
+import sys
 import tempfile
 import time
 import urllib.request
@@ -106,7 +107,7 @@ class Browser:
 def program():
     """The program that ./np runs: where dist/np is current it is run by itself, since ./np looks at its sources each time."""
     root = os.environ["ROOT"]
-    current = subprocess.run(["bash", "-c", '. "$root/tools/program.sh"; is_current'], env=dict(os.environ, root=root), check=False)
+    current = subprocess.run([sys.executable, root + "/tools/program.py", "current"], check=False)
     return root + "/dist/np" if current.returncode == 0 else os.environ["NP"]
 
 

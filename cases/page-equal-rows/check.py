@@ -1,10 +1,13 @@
 """The table of a page has np's rows, row by row, and as few groups of equal workloads as there are: on clusters made by chance."""
+import io
 import json
-import os
 import random
 import subprocess
 
 from browser import NP, Checks, make_page, rows_of
+from plugin.page.reading import ListReader
+from plugin.page.rows import Lines
+from plugin.page.table import Table
 
 NOTHING = "No Connections"
 
@@ -47,14 +50,13 @@ def policy(chance, place):
             "spec": {"podSelector": selector(), "policyTypes": types, "ingress": rules("from"), "egress": rules("to")}}
 
 
-def table_of(path):
-    """What table.awk makes of np's reports, without the pages around it."""
-    exposure = subprocess.run([NP, "exposure", "--format", "json", path], check=True, capture_output=True).stdout
-    with open("exposure", "wb") as file:
-        file.write(exposure)
-    report = subprocess.run([NP, "list", "--format", "json", path], check=True, capture_output=True).stdout
-    words = ["awk", "-f", os.environ["ROOT"] + "/page/table.awk", "part=exposure", "exposure", "part=list", "-"]
-    return json.loads(subprocess.run(words, input=report, check=True, stdout=subprocess.PIPE, env=dict(os.environ, LC_ALL="C")).stdout)
+def table_of(path, only=""):
+    """The table of np's reports, without the page around it."""
+    reports = [subprocess.run([NP, command, "--format", "json", path], check=True, stdout=subprocess.PIPE).stdout for command in ("exposure", "list")]
+    table = Table(only)
+    table.read_exposure(reports[0].splitlines(keepends=True))
+    ListReader(table, Lines(io.BytesIO(reports[1]))).read()
+    return json.loads(table.json())
 
 
 def places(changes, count):
@@ -114,13 +116,13 @@ def main():
         checks.same("rows of %d" % seed, rebuilt(table), rows_of("list", "list.json"))
         checks.same("groups of %d" % seed, len(table["groups"]), fewest_groups(table))
         joined += len(table["groups"]) < len(table["names"])
+        inside = [row for row in rows_of("list", "list.json") if any(end.startswith("a/") for end in row[:2])]
+        checks.same("rows of one namespace of %d" % seed, rebuilt(table_of("list.json", "a")), inside)
     checks.true("some clusters have equal workloads", joined > 10)
     make_page("page.html", "--only", "a", "list.json")
     with open("page.html", encoding="utf-8") as file:
         lines = file.read().split('<script type="application/json" id="data">')[1].split("</script>")[0]
-    only = json.loads(lines)["table"]
-    inside = [row for row in rows_of("list", "list.json") if any(end.startswith("a/") for end in row[:2])]
-    checks.same("the rows of one namespace", rebuilt(only), inside)
+    checks.same("the table in a page", json.loads(lines)["table"], table_of("list.json", "a"))
     checks.end()
 
 

@@ -1,0 +1,160 @@
+"""The commands that ask about objects: each checks its words, gets the objects, and answers."""
+from __future__ import annotations
+
+import os
+import re
+from pathlib import Path
+from typing import List
+
+from plugin import snapshot, words as command_line
+from plugin.children import Ended
+from plugin.program import Program
+from plugin.room import Room
+from plugin.said import decoded, say, step, write
+from plugin.words import Words
+
+_UNKNOWN_END = re.compile(r"^error: UnknownEnd (.*)$", re.MULTILINE)
+_FOREIGN_POLICY = re.compile(r"^error: item ([0-9]+): kind: ForeignPolicy$", re.MULTILINE)
+
+
+def command_of(words: Words, program: Program) -> Command:
+    """The command that the words name."""
+    kinds = {"snapshot": Snapshot, "names": Names, "gate": Gate, "page": Page}
+    return kinds.get(words.command, Question)(words, program)
+
+
+class Command:
+    """A command that asks about objects."""
+
+    def __init__(self, words: Words, program: Program) -> None:
+        self.words = words
+        self.program = program
+
+    def run(self) -> int:
+        """Checks the words, gets the objects, and answers; returns the status."""
+        self.check_words()
+        if not self.words.list_file:
+            from plugin import kubectl
+            kubectl.find()
+        with Room() as self.room:
+            self.list = self._fetch()
+            return self.answer()
+
+    def check_words(self) -> None:
+        """Refuses words that the command does not take, before anything is asked for."""
+        command_line.check_own(self.words)
+
+    def answer(self) -> int:
+        """Answers from the list; returns the status."""
+        raise NotImplementedError
+
+    def _fetch(self) -> Path:
+        """The path of the list of objects."""
+        if self.words.list_file:
+            return snapshot.fetch_file(self.words.list_file, self.room)
+        if self.words.has_manifests:
+            from plugin.manifests import Manifests
+            self.manifests = Manifests(self.words, self.room)
+            self.manifests.fetch()
+        else:
+            from plugin import cluster
+            cluster.fetch(self.words, self.room)
+        return self.room.path("list")
+
+
+class Snapshot(Command):
+    """Prints the list."""
+
+    def answer(self) -> int:
+        snapshot.print_list(self.list)
+        return 0
+
+
+class Names(Command):
+    """Prints the names of workloads or of pods. np has to take the list for either. Those of a cluster are kept too."""
+
+    def answer(self) -> int:
+        from plugin import names
+        found = names.workloads(self.program, self.list)
+        if self.words.own:
+            found = names.pods(self.list)
+        text = names.text(found)
+        if self.words.has_cluster:
+            names.keep("pods" if self.words.own else "names", text)
+        write(text, "the names cannot be written")
+        return 0
+
+
+class Gate(Command):
+    """Judges statements."""
+
+    def check_words(self) -> None:
+        from plugin.gate.words import read_words
+        self.gate_words = read_words(self.words.own)
+
+    def answer(self) -> int:
+        from plugin.gate.run import run
+        return run(self.gate_words, self.program, self.list, self.room)
+
+
+class Page(Command):
+    """Writes a page to look at."""
+
+    def check_words(self) -> None:
+        from plugin.page.words import read_words
+        self.page_words = read_words(self.words.own)
+
+    def answer(self) -> int:
+        from plugin.page.whole import Request, write_page
+        step("making the page")
+        given = self.page_words
+        request = Request(files=[str(self.list)], before=given.before, title=given.title or self._title(), only=given.only,
+                          commands=[(self._explain(), "")])
+        return write_page(self.program, self.room, request)
+
+    def _title(self) -> str:
+        from plugin import source
+        before = " ".join(map(os.path.basename, self.page_words.before))
+        return source.title(self.words) + (" (changes since %s)" % before if before else "")
+
+    def _explain(self) -> str:
+        from plugin import source
+        return source.command(self.words, "explain")
+
+
+class Question(Command):
+    """Has np answer. Where it refuses a name or an object, more is said about that."""
+
+    def check_words(self) -> None:
+        self.program.check_words(self.words.command, self.words.own)
+
+    def answer(self) -> int:
+        step("asking np")
+        with self.list.open("rb") as file:
+            ended = self.program.answer([self.words.command, *self.words.own], stdin=file)
+        if ended.status == 1:
+            self._tell_nearest(ended)
+            self._tell_foreign(ended)
+        return ended.status
+
+    def _tell_nearest(self, ended: Ended) -> None:
+        """Where np knew no workload or pod of a name, says the nearest of those that there are."""
+        unknown = _UNKNOWN_END.findall(decoded(ended.said))
+        if not unknown:
+            return
+        from plugin import names, nearest
+        try:
+            near = nearest.nearest(unknown[-1], self._names())
+        except names.NoNames:
+            return
+        say("the nearest names: " + ", ".join(near) if near else "there are no such names in the list")
+
+    def _names(self) -> List[str]:
+        from plugin import names
+        return names.pods(self.list) if self.words.command == "evaluate" else names.workloads(self.program, self.list)
+
+    def _tell_foreign(self, ended: Ended) -> None:
+        """Where np refused an item of a manifest since it is a policy that it does not read, says of which kind it is."""
+        refused = _FOREIGN_POLICY.search(decoded(ended.said))
+        if refused and self.words.has_manifests:
+            self.manifests.tell_foreign(int(refused.group(1)))

@@ -1,0 +1,71 @@
+"""The gate from its file of statements to its status."""
+from __future__ import annotations
+
+import sys
+from pathlib import Path
+from typing import IO, List
+
+from plugin.gate import junit, report
+from plugin.gate.check import Check
+from plugin.gate.ends import questions, refuse_unknown_namespaces
+from plugin.gate.ingress import judge_ingress
+from plugin.gate.judge import judge_all, judge_grammar
+from plugin.gate.nothing import asking_nothing, reason
+from plugin.gate.statements import State, Statement, read_statements
+from plugin.gate.words import GateWords
+from plugin.gate.workloads import Workloads
+from plugin.program import Program
+from plugin.room import Room
+from plugin.said import relay, stop, write
+from plugin.snapshot import MOST
+
+
+def run(words: GateWords, program: Program, path: Path, room: Room) -> int:
+    """Judges every statement on the list in the file `path`, prints the answers, and returns the status.
+
+    It is 0 where all hold, 5 where one is violated, and 1 where one is in error; the gate ends with that of np where that refuses the list.
+    """
+    statements = read_statements(_read_file(words.file))
+    if statements:
+        notes = _judge(words, statements, program, path, room)
+        relay(notes)
+        write(report.answers(statements, words.file, words.github), "the answers cannot be written")
+    if words.junit:
+        junit.write_whole(words.junit, junit.report(statements, words.file))
+    if not statements:
+        stop(1, "there is no statement in %s" % words.file)
+    if report.count(statements, State.ERROR):
+        return 1
+    return 5 if report.count(statements, State.VIOLATED) else 0
+
+
+def _read_file(name: str) -> bytes:
+    try:
+        with open(name, "rb") if name != "-" else _standard_input() as file:
+            return file.read(MOST + 1)  # np says of more that it is too much
+    except OSError:
+        stop(3, "cannot read %s" % name)
+
+
+def _standard_input() -> IO[bytes]:
+    if sys.stdin is None:
+        raise OSError("standard input is closed")
+    return sys.stdin.buffer
+
+
+def _judge(words: GateWords, statements: List[Statement], program: Program, path: Path, room: Room) -> bytes:
+    """Finds out about each statement, and returns np's notes on the objects."""
+    check = Check(program, room)
+    workloads = Workloads(program, path)
+    judge_grammar(check, statements)
+    if not words.allow_empty:
+        refuse_unknown_namespaces(statements, workloads)
+    asked = questions(statements, workloads)
+    notes = judge_all(check, asked, path, workloads)
+    notes_on_ingresses = judge_ingress(program, statements, path, workloads, room)
+    for statement in asking_nothing(check, statements, asked, path, workloads):
+        if words.allow_empty:
+            statement.word = "nothing is asked"
+        else:
+            statement.refuse(reason(statement.parts, workloads))
+    return notes if notes_on_ingresses is None else notes_on_ingresses

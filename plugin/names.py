@@ -1,0 +1,78 @@
+"""The names that options take: those of workloads and of pods."""
+from __future__ import annotations
+
+import os
+from pathlib import Path
+from typing import Any, Iterator, List
+
+from plugin import children, jsontext
+from plugin.program import Program
+from plugin.said import Stop, decoded, encoded
+
+
+class NoNames(Stop):
+    """np refuses the list. `said` is what it said."""
+
+    def __init__(self, status: int, said: bytes) -> None:
+        super().__init__(status, None, said)
+
+
+def workloads(program: Program, path: Path) -> List[str]:
+    """The names of the workloads of the list in the file, in np's order.
+
+    In the report of ranges exactly one row of each workload begins with the first range of addresses that may send to it.
+    """
+    with path.open("rb") as file:
+        rows = children.Stream([program.path, "list", "--report", "1"], stdin=file)
+        names = [_destination(row) for row in rows.lines() if row.startswith((b"0.0.0.0 => ", b"0.0.0.0-"))]
+    ended = rows.end()
+    if ended.status:
+        raise NoNames(ended.status, ended.said)
+    return [decoded(name) for name in names]
+
+
+def _destination(row: bytes) -> bytes:
+    return row.split(b" => ", 1)[1].split(b" : ", 1)[0]
+
+
+def pods(path: Path) -> List[str]:
+    """The pods of the list in the file that `evaluate` takes: those with a network of their own that are not finished."""
+    return ["%s/%s" % (item["metadata"].get("namespace") or "default", item["metadata"].get("name"))
+            for item in _objects(path) if _is_pod(item)]
+
+
+def _objects(path: Path) -> Iterator[Any]:
+    try:
+        return iter(jsontext.objects(path.read_bytes()))
+    except jsontext.NotTaken:
+        return iter([])
+
+
+def _is_pod(item: Any) -> bool:
+    if not isinstance(item, dict) or (item.get("apiVersion"), item.get("kind")) != ("v1", "Pod"):
+        return False
+    spec, status = item.get("spec"), item.get("status")
+    on_host = isinstance(spec, dict) and spec.get("hostNetwork") is True
+    phase = status.get("phase") if isinstance(status, dict) else None
+    return isinstance(item.get("metadata"), dict) and not on_host and phase not in ("Succeeded", "Failed")
+
+
+def keep(kind: str, names: bytes) -> None:
+    """Keeps the names of a cluster for the completion of shells, which asks no cluster. Nobody else may read them. Where they cannot be kept
+    nothing is said: it is no part of the answer."""
+    home = os.environ.get("XDG_CACHE_HOME") or os.path.join(os.environ.get("HOME", ""), ".cache")
+    folder = Path(home) / "kubectl-np"
+    new = folder / (".%s.%d" % (kind, os.getpid()))
+    try:
+        folder.mkdir(mode=0o700, parents=True, exist_ok=True)
+        with open(new, "wb", opener=lambda path, flags: os.open(path, flags, 0o600)) as file:
+            file.write(names)
+        new.replace(folder / kind)
+    except OSError:
+        if new.exists():
+            new.unlink()
+
+
+def text(names: List[str]) -> bytes:
+    """The names, one a line."""
+    return encoded("".join(name + "\n" for name in names))

@@ -1,0 +1,99 @@
+"""What np answers about the objects of a snapshot."""
+from __future__ import annotations
+
+import subprocess
+import sys
+from typing import IO, Callable, List, Tuple, cast
+
+from plugin import children
+from plugin.children import Ended
+from plugin.page.reading import ListReader
+from plugin.page.rows import Lines
+from plugin.page.table import Table
+from plugin.program import Program
+from plugin.room import Room
+from plugin.said import Stop, decoded, relay
+
+# np reads 33,554,432 bytes at the most; one more is enough for it to refuse them.
+_MOST_READ = 33_554_433
+
+
+class Answers:
+    """What np answers about the objects of lists, which are read once: np is asked about the same bytes each time.
+
+    A list is the path of a file, or - for standard input. Where np gives no answer, what it says is repeated, and its status ends
+    the script.
+    """
+
+    def __init__(self, program: Program, room: Room, lists: List[str]) -> None:
+        self._program = program
+        self._room = room
+        self._copies = [str(room.write("page.%d" % place, self._read(path))) for place, path in enumerate(lists)]
+        self.notes = b""  # what np said of the list beside its rows
+        self.refused = b""  # why it showed no exposure
+
+    def table(self, only: str) -> Table:
+        """The table of the snapshot, or of one of its namespaces."""
+        table = Table(only)
+        self._read_exposure(table)
+        ended = self._read_rows(lambda stream: ListReader(table, Lines(stream)).read())
+        self.notes = ended.said
+        relay(ended.said)
+        if ended.status:
+            raise Stop(ended.status)
+        table.check_namespace()
+        return table
+
+    def ask(self, *words: str) -> bytes:
+        """What np writes where it is asked with these words."""
+        return _answered(self._program.run(self._words(*words))).out
+
+    def explained(self, ends: List[Tuple[bytes, bytes]]) -> bytes:
+        """What np explain says of each two ends, behind a line that says of which."""
+        return b"".join(
+            b"ends %s %s\n" % (source, destination) + self.ask("explain", "--from", decoded(source), "--to", decoded(destination))
+            for source, destination in ends)
+
+    def _read(self, path: str) -> bytes:
+        stdin = sys.stdin.buffer if sys.stdin is not None else None
+        try:
+            if path == "-":
+                return stdin.read(_MOST_READ) if stdin is not None else b""
+            with open(path, "rb") as file:
+                return file.read(_MOST_READ)
+        except OSError:
+            _answered(self._program.run(["list", "--", path], stdin=stdin))
+            raise Stop(3) from None
+
+    def _words(self, *words: str) -> List[str]:
+        return [*words, "--", *self._copies]
+
+    def _read_exposure(self, table: Table) -> None:
+        """Reads the exposure. Where np refuses it for its size, the names of the workloads come from its list."""
+        with self._room.create("exposure") as file:
+            ended = self._program.run(self._words("exposure", "--format", "json"), stdout=file)
+        if b"\nerror: TooManyPatterns " in b"\n" + ended.said:
+            self.refused = ended.said
+            _answered(self._read_rows(table.read_names))
+        else:
+            _answered(ended)
+            with self._room.path("exposure").open("rb") as file:
+                table.read_exposure(file)
+
+    def _read_rows(self, read: Callable[[IO[bytes]], None]) -> Ended:
+        """Has the rows of np list read while np prints them."""
+        with self._room.create("said") as said:
+            child = children.start([self._program.path, *self._words("list", "--format", "json")],
+                                   stdout=subprocess.PIPE, stderr=said)
+        try:
+            with cast(IO[bytes], child.stdout) as stream:
+                read(stream)
+        finally:
+            status = children.wait(child)
+        return Ended(status, b"", self._room.path("said").read_bytes())
+
+
+def _answered(ended: Ended) -> Ended:
+    if ended.status:
+        raise Stop(ended.status, said=ended.said)
+    return ended

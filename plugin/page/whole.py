@@ -1,0 +1,79 @@
+"""Makes a page: puts what np answers into the one file."""
+from __future__ import annotations
+
+import os
+from typing import List, NamedTuple, Sequence, Tuple
+
+from plugin import parts
+from plugin.page.answers import Answers
+from plugin.page.texts import listed_lines, quoted
+from plugin.program import Program
+from plugin.room import Room
+from plugin.said import say, stop, write
+
+# The parts of the page, in their order.
+STYLES = ("page.css",)
+SCRIPTS = ("model.js", "rows.js", "changes.js", "state.js", "element.js", "detail.js", "list.js", "matrix.js", "graph.js",
+           "main.js")
+
+# How many bytes a page has at the most: what opens well. NP_PAGE_MOST in the environment may be another number.
+_MOST_BYTES = "5000000"
+_TOO_LARGE = "the page would have %d bytes, and %s is the most that opens well: its rows differ too much to be shown together"
+_SMALLER = "make a page of one namespace at a time, with --only NAMESPACE, or read the rows of one workload: np list --focus WORKLOAD"
+
+
+class Request(NamedTuple):
+    """What a page is to be made of.
+
+    `files` are the lists, and `before` those of an earlier snapshot, if any: each is a path, or - for standard input. `only` is the
+    one namespace whose rows the page has (empty: all). `commands` explain two ends: what stands before them, and what behind them.
+    """
+
+    files: List[str]
+    before: List[str]
+    title: str
+    only: str
+    commands: List[Tuple[str, str]]
+
+
+def write_page(program: Program, room: Room, request: Request) -> int:
+    """Writes the page to standard output, and returns the status: 1 where it is too large. Where np gives no answer its status ends
+    the script."""
+    most = os.environ.get("NP_PAGE_MOST") or _MOST_BYTES
+    if not most.isdecimal():
+        stop(2, "NP_PAGE_MOST is no number of bytes: %s" % most)
+    page = _html(_data(program, room, request))
+    if len(page) <= int(most):
+        write(page)
+        return 0
+    say(_TOO_LARGE % (len(page), most))
+    say(_SMALLER)
+    return 1
+
+
+def join_parts(names: Sequence[str]) -> bytes:
+    """The files of these names in the folder page/, one behind the other."""
+    return b"".join(parts.part("page/" + name) for name in names)
+
+
+def _html(data: bytes) -> bytes:
+    """page.html, in which a line @NAME@ stands for a part."""
+    stands_for = {b"@style@\n": join_parts(STYLES), b"@data@\n": data, b"@script@\n": join_parts(SCRIPTS)}
+    return b"".join(stands_for.get(line, line) for line in parts.part("page/page.html").splitlines(keepends=True))
+
+
+def _data(program: Program, room: Room, request: Request) -> bytes:
+    """All that the page shows, as one JSON object."""
+    before = b"null"
+    if request.before:
+        before = Answers(program, room, request.before).table(request.only).json()
+    after = Answers(program, room, request.files)
+    table = after.table(request.only)
+    commands = [quoted(text) for command in request.commands for text in command]
+    return b"".join([
+        b'{"version":1,"title":[', quoted(request.title), b'],"commands":[', b",".join(commands),
+        b'],"notes":', listed_lines(after.notes),
+        b',"unused":', listed_lines(after.ask("unused")),
+        b',"refused":', listed_lines(after.refused),
+        b',"explained":', listed_lines(after.explained(table.asked.ends())),
+        b',"table":', table.json(), b',"before":', before, b"}\n"])

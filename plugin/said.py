@@ -1,0 +1,112 @@
+"""What the plugin says, and how it ends."""
+from __future__ import annotations
+
+import os
+import re
+import sys
+from typing import NoReturn, Optional
+
+# What would end a line, move the cursor or turn around the letters that follow, wherever a name has it.
+_CONTROL = re.compile("[\x00-\x1f\x7f-\x9f\u2028\u2029\u202a-\u202e\u2066-\u2069]")
+_CONTROL_IN_LINES = re.compile("[\x00-\x09\x0b-\x1f\x7f-\x9f\u2028\u2029\u202a-\u202e\u2066-\u2069]")
+_ESCAPES = {"\n": "\\n", "\r": "\\r", "\t": "\\t"}
+
+# Who speaks, at the head of each line.
+speaker = "kubectl np"
+
+
+class Stop(Exception):
+    """Ends the plugin with a status: what another program said is repeated, and a line says why where there is a text."""
+
+    def __init__(self, status: int, text: Optional[str] = None, said: bytes = b"") -> None:
+        super().__init__(status, text)
+        self.status = status
+        self.text = text
+        self.said = said
+
+    def tell(self) -> None:
+        """Says why the plugin ends."""
+        relay(self.said)
+        if self.text is not None:
+            say(self.text)
+
+
+def stop(status: int, text: str, said: bytes = b"") -> NoReturn:
+    """Ends the plugin with the status, repeating what another program said, and saying the text."""
+    raise Stop(status, text, said)
+
+
+def _escape(found: re.Match[str]) -> str:
+    letter = found.group()
+    return _ESCAPES.get(letter, "\\u{%x}" % ord(letter))
+
+
+def shown(text: str) -> str:
+    """The text on one line: control characters are escaped as in a Rust string."""
+    return _CONTROL.sub(_escape, text)
+
+
+def encoded(text: str) -> bytes:
+    """The bytes of a text. Those that were no UTF-8 where it was read are as they were."""
+    return text.encode("utf-8", "surrogateescape") if _is_encodable(text) else text.encode("utf-8", "backslashreplace")
+
+
+def _is_encodable(text: str) -> bool:
+    try:
+        text.encode("utf-8", "surrogateescape")
+    except UnicodeEncodeError:
+        return False
+    return True
+
+
+def decoded(data: bytes) -> str:
+    """The text of bytes. Those that are no UTF-8 are kept, for `encoded`."""
+    return data.decode("utf-8", "surrogateescape")
+
+
+def _write_error(data: bytes) -> None:
+    if sys.stderr is None:
+        return
+    try:
+        sys.stderr.buffer.write(data)
+        sys.stderr.buffer.flush()
+    except OSError:
+        pass  # there is no other place to say it
+
+
+def say(text: str) -> None:
+    """Says a text on a line of standard error."""
+    _write_error(encoded("%s: %s\n" % (speaker, shown(text))))
+
+
+def relay(data: bytes) -> None:
+    """Repeats on standard error what another program said there, line by line."""
+    _write_error(encoded(_CONTROL_IN_LINES.sub(_escape, decoded(data))))
+
+
+def step(text: str) -> None:
+    """Says what is being done, since a large cluster takes a while: on a terminal alone, so that logs and pipes stay clean."""
+    if sys.stderr is not None and sys.stderr.isatty():
+        say(text)
+
+
+def write(data: bytes, failure: str = "the answer cannot be written") -> None:
+    """Writes to standard output; ends with status 3 where that is not possible."""
+    try:
+        if sys.stdout is None:
+            raise OSError
+        sys.stdout.buffer.write(data)
+        sys.stdout.buffer.flush()
+    except OSError:
+        _drop_output()
+        raise Stop(3, failure) from None
+
+
+def _drop_output() -> None:
+    """What is left in the buffer could not be written, and is not tried again at the end."""
+    try:
+        null = os.open(os.devnull, os.O_WRONLY)
+        os.dup2(null, 1)
+        os.close(null)
+    except OSError:
+        pass

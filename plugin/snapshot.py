@@ -1,0 +1,59 @@
+"""The list of objects that np is given, whole or not at all."""
+from __future__ import annotations
+
+import os
+from pathlib import Path
+from typing import IO, Iterator
+
+from plugin.room import Room
+from plugin.said import say, step, stop, write
+
+# How many bytes np reads.
+MOST = 33554432
+_CHUNK = 1 << 20
+
+
+def fetch_file(name: str, room: Room) -> Path:
+    """The path of the list that --list names. It stays as it is, so that the numbers of items in faults are those of the file; where it is no
+    file, or is too large for np, it is a copy in the room."""
+    path = Path(os.path.abspath(name))
+    if name != "-" and path.is_file() and path.stat().st_size <= MOST and os.access(path, os.R_OK):
+        return path
+    with room.writing(), room.create("list") as file:
+        _copy(name, file)
+    if room.path("list").stat().st_size > MOST:
+        say("the list has more than %d bytes, so only what np reads is kept of it" % MOST)
+        filter_file(str(room.path("list")), room)
+    return room.path("list")
+
+
+def filter_file(name: str, room: Room) -> None:
+    """Writes what np reads of the list in the file (- for standard input) into the file `list` of the room."""
+    from plugin.members import keep_of_text
+    step("keeping what np reads")
+    data = b"".join(_chunks(name))
+    with room.writing(), room.create("list") as file:
+        keep_of_text(data, file, room)
+
+
+def _copy(name: str, to: IO[bytes]) -> None:
+    if name != "-" and Path(name).is_dir():
+        stop(3, "'%s' is a folder" % name)
+    for chunk in _chunks(name):
+        to.write(chunk)
+
+
+def _chunks(name: str) -> Iterator[bytes]:
+    """The bytes of the file, or of standard input, piece by piece."""
+    try:
+        with open(name, "rb") if name != "-" else open(0, "rb", closefd=False) as file:
+            yield from iter(lambda: file.read(_CHUNK), b"")
+    except (OSError, ValueError):
+        stop(3, "standard input cannot be read" if name == "-" else "'%s' cannot be read" % name)
+
+
+def print_list(path: Path) -> None:
+    """Prints the list."""
+    with path.open("rb") as file:
+        for chunk in iter(lambda: file.read(_CHUNK), b""):
+            write(chunk, "the list cannot be written")
