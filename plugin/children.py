@@ -1,6 +1,7 @@
 """The programs that the plugin runs, and the signals that end it.
 
-A signal is looked at within a moment, whatever runs: it takes along the programs that still run and the temporary files.
+A signal is looked at within a moment, whatever runs: it takes along the programs that still run and the temporary
+files.
 """
 from __future__ import annotations
 
@@ -44,9 +45,11 @@ def at_end(action: Callable[[], None]) -> None:
 
 
 def catch_signals() -> None:
-    """Ends the plugin at an interrupt, a hangup, a termination and a closed pipe. What is ignored when it begins stays ignored.
+    """Ends the plugin at an interrupt, a hangup, a termination and a closed pipe. What is ignored when it begins
+    stays ignored.
 
-    A closed pipe is caught and not ignored, since a program that is run has by default what is caught here: it then ends by it, quietly.
+    A closed pipe is caught and not ignored, since a program that is run has by default what is caught here: it then
+    ends by it, quietly.
     """
     for name in ("SIGINT", "SIGHUP", "SIGTERM"):
         number = getattr(signal, name, None)
@@ -78,8 +81,8 @@ def _end_all() -> None:
 
 
 def _bury(child: "subprocess.Popen[bytes]") -> None:
-    """Waits for the end of a program that was told to end, and kills it where that takes long. The call that a signal came into may be waiting
-    for it too, and holds what `Popen.wait` would wait for."""
+    """Waits for the end of a program that was told to end, and kills it where that takes long. The call that a signal
+    came into may be waiting for it too, and holds what `Popen.wait` would wait for."""
     given_up = time.monotonic() + _PATIENCE
     while not _has_ended(child):
         if time.monotonic() > given_up:
@@ -97,9 +100,11 @@ def _has_ended(child: "subprocess.Popen[bytes]") -> bool:
 
 
 def start(words: Sequence[Word], **streams: Any) -> "subprocess.Popen[bytes]":
-    """Starts a program, which a signal takes along until `wait` has seen its end. Its standard input is empty where none is given.
+    """Starts a program, which a signal takes along until `wait` has seen its end. Its standard input is empty where
+    none is given.
 
-    It has the files that the plugin was started with, since a word may name one as /dev/fd/3, and none that the plugin opened.
+    It has the files that the plugin was started with, since a word may name one as /dev/fd/3, and none that the
+    plugin opened.
     """
     global _is_main_starting
     is_main = threading.current_thread() is threading.main_thread()

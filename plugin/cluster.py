@@ -1,6 +1,7 @@
 """The objects of a cluster, page by page: what np reads of a page is kept, and the page goes.
 
-kubectl prints what the API answers, and each answer is looked at: whether it is of the kind that was asked for, and whether it is whole.
+kubectl prints what the API answers, and each answer is looked at: whether it is of the kind that was asked for, and
+whether it is whole.
 """
 from __future__ import annotations
 
@@ -22,7 +23,8 @@ _PAGE = 500
 
 
 def fetch(words: Words, room: Room) -> None:
-    """Writes what np reads of all objects of the cluster into the file `list` of the room; ends with status 3 where not all can be had."""
+    """Writes what np reads of all objects of the cluster into the file `list` of the room; ends with status 3 where
+    not all can be had."""
     kubectl = Kubectl(words.kubectl)
     Cluster(kubectl, room).fetch(discovery.find_kinds(kubectl, words.ignored))
 

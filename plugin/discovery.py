@@ -12,8 +12,8 @@ from plugin.said import relay, say, step, stop
 
 
 def find_kinds(kubectl: Kubectl, ignored: List[str]) -> List[Kind]:
-    """The kinds of the cluster that np reads. Says which it lacks and what else bears on the answers; ends where there are policies that np
-    does not read and that are not ignored."""
+    """The kinds of the cluster that np reads. Says which it lacks and what else bears on the answers; ends where
+    there are policies that np does not read and that are not ignored."""
     step("asking the cluster which kinds it has")
     resources = _resources(kubectl, _versions(kubectl), ignored)
     present = _present(resources)
@@ -110,7 +110,8 @@ def _present(resources: List[Resource]) -> List[Kind]:
 
 
 def _check_foreign(kubectl: Kubectl, foreign: List[Resource], ignored: List[str]) -> None:
-    """Ends where the cluster has policies that np does not read, and does not go without them. Says which it goes without."""
+    """Ends where the cluster has policies that np does not read, and does not go without them. Says which it goes
+    without."""
     if not foreign:
         return
     step("counting the policies that np does not read")

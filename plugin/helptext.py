@@ -1,4 +1,5 @@
-"""What is printed about the plugin itself: the texts of help.txt, in which a line `== COMMAND` stands before each, and first that of all."""
+"""What is printed about the plugin itself: the texts of help.txt, in which a line `== COMMAND` stands before each,
+and first that of all."""
 from __future__ import annotations
 
 from typing import Dict

@@ -1,8 +1,9 @@
-"""JSON as np takes it, read and written so that np says of the text that is written what it says of the one that was read.
+"""JSON as np takes it, read and written so that np says of the text that is written what it says of the one that was
+read.
 
-Python's reader takes more than np does: NaN and Infinity, numbers beyond what a double holds, texts that nest deeper than np reads, halves of
-letters (lone surrogates). These are refused here. Of a member that stands twice the last counts, as for np. Numbers keep their spelling, since
-np tells 80 from 80.0 and 0 from -0.
+Python's reader takes more than np does: NaN and Infinity, numbers beyond what a double holds, texts that nest deeper
+than np reads, halves of letters (lone surrogates). These are refused here. Of a member that stands twice the last
+counts, as for np. Numbers keep their spelling, since np tells 80 from 80.0 and 0 from -0.
 """
 from __future__ import annotations
 
@@ -155,8 +156,8 @@ def read_all(data: bytes) -> List[Any]:
 def members(text: str) -> Iterator[Tuple[Optional[str], Any]]:
     """The members of the object that the text is, in order.
 
-    The items of a list `items` come one by one, behind ("items", []) and without a name, so that a long list need not be in memory at once.
-    Where the text is no object it has the one member ("", value).
+    The items of a list `items` come one by one, behind ("items", []) and without a name, so that a long list need not
+    be in memory at once. Where the text is no object it has the one member ("", value).
     """
     cursor = _Cursor(text)
     if not cursor.takes("{"):

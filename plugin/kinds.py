@@ -58,7 +58,8 @@ NAMESPACED_TYPES = frozenset((kind.api_version, kind.name) for kind in READ if k
 POLICY_TYPES = frozenset((kind.api_version, kind.name) for kind in READ if kind.name.endswith("NetworkPolicy"))
 VERSIONS = frozenset(kind.api_version for kind in READ)
 
-# Kinds of meshes, gateways and network plugins that may stop what np says is permitted, or let through what it says is not.
+# Kinds of meshes, gateways and network plugins that may stop what np says is permitted, or let through what it says
+# is not.
 _BYPASSES = frozenset(
     "AuthorizationPolicy EgressFirewall GRPCRoute HTTPProxy HTTPRoute IngressRoute MeshTrafficPermission PeerAuthentication"
     " Route.route.openshift.io Server.policy.linkerd.io ServerAuthorization ServiceIntentions Sidecar TCPRoute TLSRoute"
@@ -73,7 +74,8 @@ _CALICO_VIEWS = ("knp.default.", "kanp.adminnetworkpolicy.", "kbanp.baselineadmi
 
 
 class Resource(NamedTuple):
-    """A resource of the cluster that can be listed: the version that has it, its name, and its kind ("-" where none is told)."""
+    """A resource of the cluster that can be listed: the version that has it, its name, and its kind ("-" where none
+    is told)."""
 
     api_version: str
     name: str
@@ -114,7 +116,8 @@ def is_ignored(ignored: List[str], kind: Optional[str], group: str) -> bool:
 def foreign(resources: Iterable[Resource]) -> List[Resource]:
     """The policies that np does not read. Each kind of a group stands once, in the version that the group prefers.
 
-    Passed over are the policies that np reads, in whatever version; and the stored objects of Calico where its API has the same ones.
+    Passed over are the policies that np reads, in whatever version; and the stored objects of Calico where its API
+    has the same ones.
     """
     policies: Dict[Tuple[str, str], Resource] = {}
     read = set()

@@ -18,8 +18,8 @@ from plugin.words import Words
 # kubectl knows no cluster that it could ask without a configuration.
 _NO_CLUSTER = {"KUBECONFIG": os.devnull}
 
-# An overlay may name addresses, which kustomize fetches itself or by git. Without --allow-urls neither gets beyond this machine: requests go to
-# a proxy that is not there, and git may use no protocol.
+# An overlay may name addresses, which kustomize fetches itself or by git. Without --allow-urls neither gets beyond
+# this machine: requests go to a proxy that is not there, and git may use no protocol.
 _NO_PROXY = "http://127.0.0.1:1"
 _NO_NETWORK = dict(_NO_CLUSTER, NO_PROXY="", no_proxy="", GIT_ALLOW_PROTOCOL="none", GIT_TERMINAL_PROMPT="0",
                    **dict.fromkeys(("HTTP_PROXY", "HTTPS_PROXY", "http_proxy", "https_proxy"), _NO_PROXY))
@@ -35,7 +35,8 @@ class Manifests:
         self._items: List[Any] = []
 
     def fetch(self) -> None:
-        """Writes what np reads of the objects of the manifests into the file `list` of the room, and says what bears on the answers."""
+        """Writes what np reads of the objects of the manifests into the file `list` of the room, and says what bears
+        on the answers."""
         step("reading the manifests")
         found = list(_opened(self._read()))
         if not found:
@@ -48,7 +49,8 @@ class Manifests:
         self._write()
 
     def tell_foreign(self, number: int) -> None:
-        """Says of which kind the item of the list is that np refused as a policy that it does not read; the first has the number 1."""
+        """Says of which kind the item of the list is that np refused as a policy that it does not read; the first has
+        the number 1."""
         say('item %d is of the kind "%s"; --ignore KIND goes on without such policies' % (number, whole_kind(self._items[number - 1])))
 
     def _read(self) -> List[Any]:
@@ -125,13 +127,14 @@ def _build(overlay: str, allows_urls: bool) -> bytes:
 
 
 def _quoted(path: str) -> str:
-    """The path as kubectl takes it: its option has a list with commas, in which a text in quotes is taken as it stands."""
+    """The path as kubectl takes it: its option has a list with commas, in which a text in quotes is taken as it
+    stands."""
     return '"%s"' % path.replace('"', '""')
 
 
 def _check_documents(words: Words, data: bytes) -> None:
-    """Refuses two documents without a line --- between them, as `cat *.yaml` makes them: kubectl would take them for one, in which what the
-    last of them says counts, and the others would be missing without a word."""
+    """Refuses two documents without a line --- between them, as `cat *.yaml` makes them: kubectl would take them for
+    one, in which what the last of them says counts, and the others would be missing without a word."""
     for path in words.paths:
         for name, text in [("standard input", data)] if path == "-" else _files(Path(path), words.is_recursive):
             if _is_run_together(text):
@@ -197,8 +200,8 @@ def _tell_ignored(items: List[Any]) -> None:
 
 
 def _tell_namespaces_without_labels(items: List[Any]) -> None:
-    """Names the namespaces without a Namespace object, where that may matter: a policy asks for a label of namespaces that is not their
-    name."""
+    """Names the namespaces without a Namespace object, where that may matter: a policy asks for a label of namespaces
+    that is not their name."""
     if not any(map(_asks_for_labels, (item.get("spec") for item in items if _type_of(item) in kinds.POLICY_TYPES))):
         return
     known = {item["metadata"].get("name") for item in items

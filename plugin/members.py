@@ -1,9 +1,11 @@
-"""Keeps of the objects of a list what np reads: what np says of what is left is what it says of the whole list, be it a report, a note or a
-refusal, but for counts: there are fewer bytes (TooLarge) and fewer items (TooManyItems, and the numbers of those behind one that goes).
+"""Keeps of the objects of a list what np reads: what np says of what is left is what it says of the whole list, be it
+a report, a note or a refusal, but for counts: there are fewer bytes (TooLarge) and fewer items (TooManyItems, and the
+numbers of those behind one that goes).
 
 docs/use/TABLES.md says which members these are.
 
-- Items keep their order and their types, also where np does not read their kind, since it counts those, and refuses some.
+- Items keep their order and their types, also where np does not read their kind, since it counts those, and refuses
+  some.
 - A value that has not the type that its shape says stays as it is, and so does null: what it is is np's to say.
 - The specs of policies stay whole. They are small, and a selector is refused for a member that it does not have.
 - ReplicaSets of former rollouts go (`rollouts`).
@@ -17,8 +19,8 @@ from plugin import jsontext
 from plugin.rollouts import Rollouts
 from plugin.room import Room
 
-# What is kept of a value: True keeps all of it; an object keeps of an object the members that it names, each by the shape that it has there;
-# a list keeps all items of a list, each by the one shape in it.
+# What is kept of a value: True keeps all of it; an object keeps of an object the members that it names, each by the
+# shape that it has there; a list keeps all items of a list, each by the one shape in it.
 Shape = Any
 
 
@@ -106,7 +108,8 @@ class Spool:
         self._file.close()
 
     def lines(self) -> Iterator[bytes]:
-        """What is kept of the items, without the former rollouts that nothing refers to; to be asked when all items were seen."""
+        """What is kept of the items, without the former rollouts that nothing refers to; to be asked when all items
+        were seen."""
         with open(self._path, "rb") as file:
             for number, line in enumerate(file):
                 place = self._leftovers.get(number)
@@ -126,8 +129,8 @@ def write_list(file: IO[bytes], spools: List[Spool]) -> None:
 
 
 def keep_of_text(data: bytes, file: IO[bytes], room: Room) -> None:
-    """Writes to the file what is kept of a text: of a list that of its items, of anything else that of the one object that it is. Where np
-    would refuse the text as no JSON all of it is written, and np says so."""
+    """Writes to the file what is kept of a text: of a list that of its items, of anything else that of the one object
+    that it is. Where np would refuse the text as no JSON all of it is written, and np says so."""
     try:
         _keep_of_text(jsontext.text_of(data), file, room)
     except jsontext.NotTaken:

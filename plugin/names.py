@@ -20,7 +20,8 @@ class NoNames(Stop):
 def workloads(program: Program, path: Path) -> List[str]:
     """The names of the workloads of the list in the file, in np's order.
 
-    In the report of ranges exactly one row of each workload begins with the first range of addresses that may send to it.
+    In the report of ranges exactly one row of each workload begins with the first range of addresses that may send to
+    it.
     """
     with path.open("rb") as file:
         rows = children.Stream([program.path, "list", "--report", "1"], stdin=file)
@@ -36,7 +37,8 @@ def _destination(row: bytes) -> bytes:
 
 
 def pods(path: Path) -> List[str]:
-    """The pods of the list in the file that `evaluate` takes: those with a network of their own that are not finished."""
+    """The pods of the list in the file that `evaluate` takes: those with a network of their own that are not
+    finished."""
     return ["%s/%s" % (item["metadata"].get("namespace") or "default", item["metadata"].get("name"))
             for item in _objects(path) if _is_pod(item)]
 
@@ -58,8 +60,8 @@ def _is_pod(item: Any) -> bool:
 
 
 def keep(kind: str, names: bytes) -> None:
-    """Keeps the names of a cluster for the completion of shells, which asks no cluster. Nobody else may read them. Where they cannot be kept
-    nothing is said: it is no part of the answer."""
+    """Keeps the names of a cluster for the completion of shells, which asks no cluster. Nobody else may read them.
+    Where they cannot be kept nothing is said: it is no part of the answer."""
     home = os.environ.get("XDG_CACHE_HOME") or os.path.join(os.environ.get("HOME", ""), ".cache")
     folder = Path(home) / "kubectl-np"
     new = folder / (".%s.%d" % (kind, os.getpid()))

@@ -12,9 +12,11 @@ _NAMESPACE = re.compile(r"^[^/]*/")
 
 
 def nearest(wanted: str, names: Iterable[str]) -> List[str]:
-    """Up to three of the names, the nearest first: those that take the fewest letters to add, drop, change or swap with the next one.
+    """Up to three of the names, the nearest first: those that take the fewest letters to add, drop, change or swap
+    with the next one.
 
-    Where `wanted` has no kind in brackets, or no namespace, those of the names do not count. Of equally near names the earlier come first.
+    Where `wanted` has no kind in brackets, or no namespace, those of the names do not count. Of equally near names
+    the earlier come first.
     """
     goal = _compared(wanted)
     found: List[Tuple[int, int, str]] = []

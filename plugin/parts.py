@@ -5,7 +5,8 @@ import os
 from pathlib import Path
 from typing import cast
 
-# The file kubectl-np, or the top of the repository, as Python names it: it knows the files in an archive by this very text.
+# The file kubectl-np, or the top of the repository, as Python names it: it knows the files in an archive by this very
+# text.
 _HOME = os.path.dirname(os.path.dirname(__file__))
 
 

@@ -10,7 +10,8 @@ from plugin import children, parts
 from plugin.said import decoded, encoded, relay, stop, write
 
 
-# The status of a program whose reader ended early: it is no fault, and nothing is said. np says so itself, with a status of its own.
+# The status of a program whose reader ended early: it is no fault, and nothing is said. np says so itself, with a
+# status of its own.
 _CLOSED_PIPE = 141
 
 
@@ -33,7 +34,8 @@ class Program:
             stop(3, problem % self.name + ": it may not be executed")
 
     def run(self, words: List[str], stdin: Optional[IO[bytes]] = None, stdout: Optional[IO[bytes]] = None) -> children.Ended:
-        """Runs np with the words, and returns what it wrote and said; its standard input is empty where none is given."""
+        """Runs np with the words, and returns what it wrote and said; its standard input is empty where none is
+        given."""
         try:
             return children.run([self.path, *words], stdin=stdin, stdout=stdout)
         except OSError as error:
@@ -51,8 +53,8 @@ class Program:
         return ended
 
     def behind_script(self) -> Path:
-        """The program that is run. In the repository np is a script, which runs dist/np where that was built from the sources that
-        stand there, and else what it built itself."""
+        """The program that is run. In the repository np is a script, which runs dist/np where that was built from the
+        sources that stand there, and else what it built itself."""
         judge = self.path.parent / "tools" / "program.py"
         if not (judge.is_file() and _is_script(self.path)):
             return self.path
@@ -72,8 +74,9 @@ class Program:
         write(encoded("\n".join(lines) + "\n"))
 
     def check_words(self, command: str, words: List[str]) -> None:
-        """Has np look at the words of its command before any object is asked for: of an input without a byte it then says, with
-        status 1, that it is no JSON. The statement file is not read here, since a pipe can be read once."""
+        """Has np look at the words of its command before any object is asked for: of an input without a byte it then
+        says, with status 1, that it is no JSON. The statement file is not read here, since a pipe can be read
+        once."""
         ended = self.run([command, *_without_statement_file(words)])
         if ended.status != 1:
             relay(ended.said)
@@ -86,8 +89,8 @@ def _is_script(path: Path) -> bool:
 
 
 def _kit_of(program: Path) -> List[str]:
-    """The first line of the manifest, which names the kit. In the repository the manifest lies beside the program, and where np is
-    installed in ../share/np."""
+    """The first line of the manifest, which names the kit. In the repository the manifest lies beside the program,
+    and where np is installed in ../share/np."""
     for manifest in (program.parent / "manifest", program.parent / ".." / "share" / "np" / "manifest"):
         if manifest.is_file():
             return [decoded(manifest.read_bytes().split(b"\n")[0])]

@@ -1,7 +1,7 @@
 """ReplicaSets of former rollouts, which each rollout leaves behind.
 
-A ReplicaSet of no replicas to which no item refers as an owner stands for no pod, and no chain of owners leads through it: it may go. One that
-np would refuse stays, and so does one that stands twice.
+A ReplicaSet of no replicas to which no item refers as an owner stands for no pod, and no chain of owners leads
+through it: it may go. One that np would refuse stays, and so does one that stands twice.
 """
 from __future__ import annotations
 
@@ -39,7 +39,8 @@ class Rollouts:
 
 
 def _place(metadata: Any, name: Any) -> str:
-    """What an object of this name, in the namespace of the metadata, is known by. A missing namespace and an empty one are `default`."""
+    """What an object of this name, in the namespace of the metadata, is known by. A missing namespace and an empty
+    one are `default`."""
     namespace = metadata.get("namespace")
     home = "default" if namespace in (None, "") else namespace
     if isinstance(name, str) and isinstance(home, str):

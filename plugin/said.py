@@ -16,7 +16,8 @@ speaker = "kubectl np"
 
 
 class Stop(Exception):
-    """Ends the plugin with a status: what another program said is repeated, and a line says why where there is a text."""
+    """Ends the plugin with a status: what another program said is repeated, and a line says why where there is a
+    text."""
 
     def __init__(self, status: int, text: Optional[str] = None, said: bytes = b"") -> None:
         super().__init__(status, text)
@@ -85,7 +86,8 @@ def relay(data: bytes) -> None:
 
 
 def step(text: str) -> None:
-    """Says what is being done, since a large cluster takes a while: on a terminal alone, so that logs and pipes stay clean."""
+    """Says what is being done, since a large cluster takes a while: on a terminal alone, so that logs and pipes stay
+    clean."""
     if sys.stderr is not None and sys.stderr.isatty():
         say(text)
 

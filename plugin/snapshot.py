@@ -14,8 +14,8 @@ _CHUNK = 1 << 20
 
 
 def fetch_file(name: str, room: Room) -> Path:
-    """The path of the list that --list names. It stays as it is, so that the numbers of items in faults are those of the file; where it is no
-    file, or is too large for np, it is a copy in the room."""
+    """The path of the list that --list names. It stays as it is, so that the numbers of items in faults are those of
+    the file; where it is no file, or is too large for np, it is a copy in the room."""
     path = Path(os.path.abspath(name))
     if name != "-" and path.is_file() and path.stat().st_size <= MOST and os.access(path, os.R_OK):
         return path

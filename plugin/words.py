@@ -1,7 +1,7 @@
 """The words of the command line: which command, of which objects, with which options.
 
-Options of kubectl, of the plugin and of the command come before or behind the command. Those of np's commands are not read here but handed
-on: np says what is wrong with them.
+Options of kubectl, of the plugin and of the command come before or behind the command. Those of np's commands are not
+read here but handed on: np says what is wrong with them.
 """
 from __future__ import annotations
 
@@ -79,7 +79,8 @@ def _is_option(word: str) -> bool:
 
 
 def _take_option(words: Words, left: List[str]) -> int:
-    """Reads an option of the plugin or of kubectl from the front of the words: how many words it is, and 0 where it is neither."""
+    """Reads an option of the plugin or of kubectl from the front of the words: how many words it is, and 0 where it
+    is neither."""
     word = left[0]
     if word in ("-h", "--help"):
         words.wants_help = True
@@ -133,7 +134,8 @@ def _take_option_of_kubectl(words: Words, left: List[str]) -> int:
 
 
 def _take_word_of_command(words: Words, left: List[str]) -> int:
-    """Takes what is an option of the command, or a word of it. Each of np's options has a value, which may stand behind it."""
+    """Takes what is an option of the command, or a word of it. Each of np's options has a value, which may stand
+    behind it."""
     word = left[0]
     if not _is_option(word):
         _take_bare_word(words, word)
@@ -194,7 +196,8 @@ def _check_standard_input(words: Words) -> None:
 
 
 def check_own(words: Words) -> None:
-    """Refuses words that a command of the plugin does not take. Those of the gate and of the page are read where they are needed."""
+    """Refuses words that a command of the plugin does not take. Those of the gate and of the page are read where they
+    are needed."""
     own = words.own
     if words.command in ("snapshot", "filter", "version") and own:
         stop(2, "%s takes no further words: '%s'" % (words.command, own[0]))

@@ -22,7 +22,8 @@ FAULT = b"error: out of memory\n"
 CASES = """
     first-example first-example-in-cidrs pass-leads-to-the-baseline pods-of-one-owner-told-apart ingress-to-a-named-port csv-with-commas
     json-from-one-workload explain-a-pass-and-the-baseline explain-two-pods-of-one-workload exposure-by-all-operators
-    exposure-to-the-own-namespace csv-to-one-workload exposure-as-json evaluate-families-told-apart unused-in-each-tier check-holds check-violated check-line-of-another-system
+    exposure-to-the-own-namespace csv-to-one-workload exposure-as-json evaluate-families-told-apart unused-in-each-tier
+    check-holds check-violated check-line-of-another-system
     flatten-a-pass-and-the-baseline flatten-split sample-35 node-peer unknown-option
 """.split()
 

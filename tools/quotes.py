@@ -19,7 +19,8 @@ its standard error behind it, and has to be exactly what is quoted. What a quota
 - a line `...` stands for one line or more;
 - a line that ends in `...` stands for a line that begins with what is before the dots, and is longer.
 
-It writes nothing where all quotations are true; else it says which are not, and ends with status 1. A document without a quotation is a fault.
+It writes nothing where all quotations are true; else it says which are not, and ends with status 1. A document
+without a quotation is a fault.
 """
 import difflib
 import os
