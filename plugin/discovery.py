@@ -20,7 +20,7 @@ def find_kinds(kubectl: Kubectl, ignored: List[str]) -> List[Kind]:
     bypasses = kinds.bypasses(resources)
     if bypasses:
         say("np does not read these kinds of the cluster, which may stop connections or let them through: " + ", ".join(bypasses))
-    _check_foreign(kubectl, kinds.foreign(resources), ignored)
+    _check_foreign(kubectl, kinds.foreign(resources), kinds.carriers(resources), ignored)
     return present
 
 
@@ -109,32 +109,34 @@ def _present(resources: List[Resource]) -> List[Kind]:
     return [kind for kind in kinds.READ if (kind.api_version, kind.resource) in has]
 
 
-def _check_foreign(kubectl: Kubectl, foreign: List[Resource], ignored: List[str]) -> None:
-    """Ends where the cluster has policies that np does not read, and does not go without them. Says which it goes
-    without."""
+def _check_foreign(kubectl: Kubectl, policies: List[Resource], carriers: List[Resource], ignored: List[str]) -> None:
+    """Ends where the cluster has policies, or objects with pods, that np does not read, and does not go without them. Says
+    which it goes without."""
+    foreign = [(each, "policies that np does not read") for each in policies]
+    foreign += [(each, "objects that np does not read and would need") for each in carriers]
     if not foreign:
         return
-    step("counting the policies that np does not read")
-    answers = ask_all(kubectl.names, [resource.argument for resource in foreign])
-    judged = [_is_no_reason(resource, ended, ignored) for resource, ended in zip(foreign, answers)]
+    step("counting the objects that np does not read")
+    answers = ask_all(kubectl.names, [resource.argument for resource, _ in foreign])
+    judged = [_is_no_reason(*each, ended, ignored) for each, ended in zip(foreign, answers)]
     if not all(judged):
         stop(3, "without them an answer may be wrong, so there is none; --ignore KIND goes on as if they were not there")
 
 
-def _is_no_reason(resource: Resource, ended: Ended, ignored: List[str]) -> bool:
-    """Whether the policies of the kind, which kubectl named, are no reason to end."""
+def _is_no_reason(resource: Resource, what: str, ended: Ended, ignored: List[str]) -> bool:
+    """Whether the objects of the kind, which kubectl named, are no reason to end; `what` says what they are."""
     is_ignored = kinds.is_ignored(ignored, resource.kind, resource.group)
     kind = resource.whole_kind
     if ended.status and is_ignored:
         say("ignored: %s (not counted, since the cluster does not list them)" % kind)
     elif ended.status:
         relay(ended.said)
-        say("the cluster does not list the objects of %s, policies that np does not read" % kind)
+        say("the cluster does not list the objects of %s, %s" % (kind, what))
         return False
     else:
         count = kinds.count_objects(resource.group, ended.out)
         if count and not is_ignored:
-            say("the cluster has policies that np does not read: %s (%d)" % (kind, count))
+            say("the cluster has %s: %s (%d)" % (what, kind, count))
             return False
         if count:
             say("ignored: %s (%d)" % (kind, count))

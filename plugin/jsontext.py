@@ -9,7 +9,7 @@ from __future__ import annotations
 
 import json
 import re
-from typing import Any, Iterator, List, NoReturn, Optional, Tuple
+from typing import Any, Dict, Iterator, List, NoReturn, Optional, Tuple
 
 # How deep np reads.
 _DEEPEST = 127
@@ -19,6 +19,14 @@ _HALF_LETTER = re.compile(r"\\u[dD][89a-fA-F]")
 
 class NotTaken(ValueError):
     """The text is none that np takes."""
+
+
+class Twins(ValueError):
+    """A member stands twice in an object."""
+
+    def __init__(self, name: str) -> None:
+        super().__init__(name)
+        self.name = name
 
 
 class Literal:
@@ -44,15 +52,26 @@ def _refuse_constant(name: str) -> NoReturn:
     raise NotTaken("%s is no number" % name)
 
 
+def _without_twins(members: List[Tuple[str, Any]]) -> Dict[str, Any]:
+    found = dict(members)
+    if len(found) < len(members):
+        names = [name for name, _ in members]
+        raise Twins(next(name for name in names if names.count(name) > 1))
+    return found
+
+
 _DECODER = json.JSONDecoder(parse_int=_whole_number, parse_float=_other_number, parse_constant=_refuse_constant)
+_STRICT = json.JSONDecoder(parse_int=_whole_number, parse_float=_other_number, parse_constant=_refuse_constant,
+                           object_pairs_hook=_without_twins)
 
 
 class _Cursor:
     """A place in a text, which stands behind blanks."""
 
-    def __init__(self, text: str) -> None:
+    def __init__(self, text: str, decoder: json.JSONDecoder = _DECODER) -> None:
         self.text = text
         self.place = 0
+        self._decoder = decoder
         self._pass_blanks()
 
     def _pass_blanks(self) -> None:
@@ -73,8 +92,8 @@ class _Cursor:
     def value(self, depth: int) -> Any:
         """The value that stands here, which lies so deep; goes on behind it."""
         try:
-            value, self.place = _DECODER.raw_decode(self.text, self.place)
-        except NotTaken:
+            value, self.place = self._decoder.raw_decode(self.text, self.place)
+        except (NotTaken, Twins):
             raise
         except (ValueError, RecursionError) as error:
             raise NotTaken(str(error)) from None
@@ -150,6 +169,18 @@ def read_all(data: bytes) -> List[Any]:
     values = []
     while not cursor.is_at_end():
         values.append(cursor.value(0))
+    return values
+
+
+def read_once(data: bytes) -> List[Tuple[int, Any]]:
+    """The values of JSON texts that stand one behind the other, each with the line at which it begins, from 1. A member that
+    stands twice is refused."""
+    cursor = _Cursor(text_of(data), _STRICT)
+    values = []
+    line, seen = 1, 0
+    while not cursor.is_at_end():
+        line, seen = line + cursor.text.count("\n", seen, cursor.place), cursor.place
+        values.append((line, cursor.value(0)))
     return values
 
 

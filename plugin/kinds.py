@@ -1,7 +1,7 @@
 """The kinds that np reads, and those beside them that bear on its answers."""
 from __future__ import annotations
 
-from typing import Dict, Iterable, List, NamedTuple, Optional, Tuple
+from typing import Any, Dict, Iterable, List, NamedTuple, Optional, Tuple
 
 
 class Kind(NamedTuple):
@@ -73,6 +73,15 @@ _CALICO, _CALICO_STORED = "projectcalico.org", "crd.projectcalico.org"
 _CALICO_VIEWS = ("knp.default.", "kanp.adminnetworkpolicy.", "kbanp.baselineadminnetworkpolicy.")
 
 
+# Kinds that make pods by themselves, and that np does not read.
+_CARRIERS = frozenset("Rollout.argoproj.io DeploymentConfig.apps.openshift.io CloneSet.apps.kruise.io StatefulSet.apps.kruise.io"
+                      " DaemonSet.apps.kruise.io".split())
+_TYPES = frozenset((kind.api_version, kind.name) for kind in READ)
+_NAMES = frozenset(kind.name for kind in READ)
+# The groups that had the kinds that np reads in older versions.
+_GROUPS = frozenset([kind.group for kind in READ if not kind.name.endswith("NetworkPolicy")] + ["extensions"])
+
+
 class Resource(NamedTuple):
     """A resource of the cluster that can be listed: the version that has it, its name, and its kind ("-" where none
     is told)."""
@@ -130,6 +139,29 @@ def foreign(resources: Iterable[Resource]) -> List[Resource]:
         read.add(("extensions", "NetworkPolicy"))
     return [resource for (group, kind), resource in policies.items()
             if (group, kind) not in read and not (group == _CALICO_STORED and (_CALICO, kind) in policies)]
+
+
+def carriers(resources: List[Resource]) -> List[Resource]:
+    """The kinds that have pods and that np does not read: of controllers that it does not know, and of older versions where the
+    cluster does not have the one that it reads."""
+    present = {kind for version, _, kind in resources if (version, kind) in _TYPES}
+    return [resource for resource in resources
+            if resource.whole_kind in _CARRIERS or (resource.kind not in present and _is_older(resource.api_version, resource.kind))]
+
+
+def _is_older(api_version: str, kind: str) -> bool:
+    """Whether objects of this type are of a kind that np reads, in a version that it does not."""
+    return (kind in _NAMES and not kind.endswith("NetworkPolicy") and group_of(api_version) in _GROUPS
+            and (api_version, kind) not in _TYPES)
+
+
+def is_carrier(api_version: str, kind: str, spec: Any) -> bool:
+    """Whether an object of this type and spec has pods that np does not read."""
+    if (api_version, kind) in _TYPES:
+        return False
+    template = spec.get("template") if isinstance(spec, dict) else None
+    pod = template.get("spec") if isinstance(template, dict) else None
+    return _is_older(api_version, kind) or (isinstance(pod, dict) and isinstance(pod.get("containers"), list))
 
 
 def count_objects(group: str, names: bytes) -> int:

@@ -1,29 +1,28 @@
-"""Manifests, without a cluster: -f and -k. kubectl reads them, as it does for `kubectl apply`."""
+"""Manifests, without a cluster: -f and -k. kubectl reads them, as it does for `kubectl apply`, and nothing is lost."""
 from __future__ import annotations
 
-import os
 import re
-import sys
 from collections import Counter
 from pathlib import Path
-from typing import Any, Iterator, List, Optional, Sequence
+from typing import Any, Dict, Iterator, List
 
-from plugin import jsontext, kinds, kubectl
+from plugin import documents, kinds, kubectl, unknown
+from plugin.documents import Document
 from plugin.members import Spool, write_list
+from plugin.objects import is_foreign, is_namespaced, named, namespace_of, type_of, whole_kind
+from plugin.reader import NO_CLUSTER, Manifest, Reader
 from plugin.rollouts import Rollouts
 from plugin.room import Room
 from plugin.said import say, step, stop
 from plugin.words import Words
 
-# kubectl knows no cluster that it could ask without a configuration.
-_NO_CLUSTER = {"KUBECONFIG": os.devnull}
-
-# An overlay may name addresses, which kustomize fetches itself or by git. Without --allow-urls neither gets beyond
-# this machine: requests go to a proxy that is not there, and git may use no protocol.
+# An overlay may name addresses, which kustomize fetches itself or by git. Without --allow-urls neither gets beyond this
+# machine: requests go to a proxy that is not there, and git may use no protocol.
 _NO_PROXY = "http://127.0.0.1:1"
-_NO_NETWORK = dict(_NO_CLUSTER, NO_PROXY="", no_proxy="", GIT_ALLOW_PROTOCOL="none", GIT_TERMINAL_PROMPT="0",
+_NO_NETWORK = dict(NO_CLUSTER, NO_PROXY="", no_proxy="", GIT_ALLOW_PROTOCOL="none", GIT_TERMINAL_PROMPT="0",
                    **dict.fromkeys(("HTTP_PROXY", "HTTPS_PROXY", "http_proxy", "https_proxy"), _NO_PROXY))
 _NAME_LABEL = "kubernetes.io/metadata.name"
+_UNKNOWN_MEMBERS = "unknown-members"
 
 
 class Manifests:
@@ -32,54 +31,81 @@ class Manifests:
     def __init__(self, words: Words, room: Room) -> None:
         self._words = words
         self._room = room
-        self._items: List[Any] = []
+        self._manifests: List[Manifest] = []
 
     def fetch(self) -> None:
-        """Writes what np reads of the objects of the manifests into the file `list` of the room, and says what bears
-        on the answers."""
+        """Writes what np reads of the objects of the manifests into the file `list` of the room, and says what bears on
+        the answers."""
         step("reading the manifests")
-        found = list(_opened(self._read()))
-        if not found:
-            stop(3, "there is no object in the manifests")
-        ignored = [item for item in found if is_foreign(item) and _is_ignored(item, self._words.ignored)]
-        self._items = [item for item in found if not any(item is other for other in ignored)]
-        _tell_ignored(ignored)
-        self._place_in_namespace()
-        _tell_namespaces_without_labels(self._items)
-        self._write()
+        self._manifests = self._read()
+        self._pass_over_ignored()
+        self._check_members()
+        self._tell_bypasses()
+        items = [manifest.item for manifest in self._manifests]
+        self._place_in_namespace(items)
+        _tell_namespaces_without_labels(items)
+        self._write(items)
 
     def tell_foreign(self, number: int) -> None:
-        """Says of which kind the item of the list is that np refused as a policy that it does not read; the first has
-        the number 1."""
-        say('item %d is of the kind "%s"; --ignore KIND goes on without such policies' % (number, whole_kind(self._items[number - 1])))
+        """Says of which kind the item of the list is that np refused as a policy that it does not read; the first has the
+        number 1."""
+        kind = whole_kind(self._manifests[number - 1].item)
+        say('item %d is of the kind "%s"; --ignore KIND goes on without such policies' % (number, kind))
 
-    def _read(self) -> List[Any]:
+    def _read(self) -> List[Manifest]:
+        read = Reader(self._room).read(self._documents())
+        for name in dict.fromkeys(document.name for document in read.others):
+            say("passed over, since it is no object: %s" % name)
+        manifests = [Manifest(item, document) for whole, document in read.manifests for item in _opened(whole)]
+        if not manifests:
+            stop(3, "there is no object in the manifests")
+        return manifests
+
+    def _documents(self) -> List[Document]:
         if self._words.overlay:
-            return self._objects(_build(self._words.overlay, self._words.allows_urls), ["-"])
-        data = _standard_input() if "-" in self._words.paths else b""
-        _check_documents(self._words, data)
-        return self._objects(data, self._words.paths)
+            built = _build(self._words.overlay, self._words.allows_urls)
+            return list(documents.cut("the overlay %s" % self._words.overlay, built))
+        return documents.read(self._words.paths, self._words.is_recursive)
 
-    def _objects(self, data: bytes, paths: Sequence[str]) -> List[Any]:
-        """Has kubectl print the objects at the paths, one behind the other; `data` is its standard input.
+    def _pass_over_ignored(self) -> None:
+        """Goes on without the objects of kinds that are ignored, and says so; ends where there are others that np
+        would need, since they have pods. Policies that np does not read are np's to refuse."""
+        foreign = [each for each in self._manifests if is_foreign(each.item) or _is_carrier(each.item)]
+        ignored = {id(each) for each in foreign if _is_ignored(each.item, self._words.ignored)}
+        for kind, count in sorted(Counter(whole_kind(each.item) for each in foreign if id(each) in ignored).items()):
+            say("ignored: %s (%d)" % (kind, count))
+        carriers: Dict[str, List[Manifest]] = {}
+        for each in foreign:
+            if id(each) not in ignored and _is_carrier(each.item):
+                carriers.setdefault(whole_kind(each.item), []).append(each)
+        for kind, found in carriers.items():
+            say("the manifests have objects that np does not read and would need: %s (%d), as %s" % (
+                kind, len(found), found[0].document.place))
+        if carriers:
+            stop(3, "without them an answer may be wrong, so there is none; --ignore KIND goes on as if they were not there")
+        self._manifests = [each for each in self._manifests if id(each) not in ignored]
 
-        It prints what it changes, so an annotation is set, which goes with all else that np does not read.
-        """
-        words = ["annotate", "--local", "--overwrite"]
-        words += ["-R"] if self._words.is_recursive else []
-        words += ["--filename=" + _quoted(path) for path in paths]
-        with self._room.write("input", data).open("rb") as file:
-            ended = kubectl.run(words + ["--output", "json", "np-read=.."], file, _NO_CLUSTER)
-        if ended.status:
-            stop(3, "the manifests cannot be read, so there is no answer", ended.said)
-        try:
-            return jsontext.read_all(ended.out)
-        except jsontext.NotTaken as error:
-            stop(3, "the manifests cannot be read, so there is no answer: %s" % error, ended.said)
+    def _check_members(self) -> None:
+        """Ends where an object has members that the API does not have and that would change the answer."""
+        found = [(manifest, path) for manifest in self._manifests for path in unknown.members_of(manifest.item)]
+        is_ignored = _UNKNOWN_MEMBERS in self._words.ignored
+        for manifest, path in found:
+            say("%s%s: %s has a member that the API does not have: %s" % (
+                "ignored: " if is_ignored else "", manifest.document.place, named(manifest.item), path))
+        if found and not is_ignored:
+            stop(3, "the API server would drop it, and let through what it is to stop; --ignore unknown-members goes on without it")
 
-    def _place_in_namespace(self) -> None:
+    def _tell_bypasses(self) -> None:
+        """Names the kinds that may stop connections, or let them through, without np knowing."""
+        types = (type_of(manifest.item) for manifest in self._manifests)
+        found = kinds.bypasses([kinds.Resource(each[0], "", each[1]) for each in types if each])
+        if found:
+            say("np does not read these kinds of the manifests, which may stop connections or let them through: "
+                + ", ".join(found))
+
+    def _place_in_namespace(self, items: List[Any]) -> None:
         """Gives the objects without a namespace that of --namespace, or says how many there are."""
-        homeless = [item for item in self._items if _is_namespaced(item) and not namespace_of(item)]
+        homeless = [item for item in items if is_namespaced(item) and not namespace_of(item)]
         if self._words.namespace:
             for item in homeless:
                 item.setdefault("metadata", {})["namespace"] = self._words.namespace
@@ -87,38 +113,31 @@ class Manifests:
             count = "1 object has" if len(homeless) == 1 else "%d objects have" % len(homeless)
             say(count + " no namespace and went to default; --namespace names another")
 
-    def _write(self) -> None:
+    def _write(self, items: List[Any]) -> None:
         step("keeping what np reads")
         with self._room.writing():
             spool = Spool(self._room, "items", Rollouts())
-            for item in self._items:
+            for item in items:
                 spool.add(item)
             spool.close()
             with self._room.create("list") as file:
                 write_list(file, [spool])
 
 
-def _opened(found: List[Any]) -> Iterator[Any]:
-    """The objects, with those of lists in their place. kubectl opens lists itself; a list in a list is opened here."""
-    for item in found:
-        if isinstance(item, dict) and item.get("kind") == "List" and isinstance(item.get("items"), list):
-            yield from _opened(item["items"])
-        else:
-            yield item
-
-
-def _standard_input() -> bytes:
-    try:
-        return sys.stdin.buffer.read() if sys.stdin else stop(3, "standard input cannot be read")
-    except OSError:
-        stop(3, "standard input cannot be read")
+def _opened(item: Any) -> Iterator[Any]:
+    """The object, or those of a list in its place. kubectl opens lists itself; a list in a list is opened here."""
+    if isinstance(item, dict) and item.get("kind") == "List" and isinstance(item.get("items"), list):
+        for inner in item["items"]:
+            yield from _opened(inner)
+    else:
+        yield item
 
 
 def _build(overlay: str, allows_urls: bool) -> bytes:
     """The objects of an overlay, as kubectl builds it."""
     if not Path(overlay).is_dir():
         stop(3, "'%s' is no folder" % overlay)
-    ended = kubectl.run(["kustomize", "--", overlay], environment=_NO_CLUSTER if allows_urls else _NO_NETWORK)
+    ended = kubectl.run(["kustomize", "--", overlay], environment=NO_CLUSTER if allows_urls else _NO_NETWORK)
     if ended.status:
         is_remote = re.search(rb"://|\bgit\b", ended.said) and not allows_urls
         hint = "; nothing is fetched for it without --allow-urls" if is_remote else ""
@@ -126,87 +145,22 @@ def _build(overlay: str, allows_urls: bool) -> bytes:
     return ended.out
 
 
-def _quoted(path: str) -> str:
-    """The path as kubectl takes it: its option has a list with commas, in which a text in quotes is taken as it
-    stands."""
-    return '"%s"' % path.replace('"', '""')
-
-
-def _check_documents(words: Words, data: bytes) -> None:
-    """Refuses two documents without a line --- between them, as `cat *.yaml` makes them: kubectl would take them for
-    one, in which what the last of them says counts, and the others would be missing without a word."""
-    for path in words.paths:
-        for name, text in [("standard input", data)] if path == "-" else _files(Path(path), words.is_recursive):
-            if _is_run_together(text):
-                stop(3, "a document has its kind twice in %s: there is no line --- between two documents" % name)
-
-
-def _files(path: Path, is_recursive: bool) -> Iterator["tuple[str, bytes]"]:
-    name = str(path) if path.is_absolute() else "./%s" % path
-    if path.is_dir():
-        files = sorted(path.glob("**/*.y*ml" if is_recursive else "*.y*ml"))
-        for file in files:
-            if file.suffix in (".yaml", ".yml") and not file.is_dir():
-                yield "%s/%s" % (name, file.relative_to(path)), _bytes_of(file)
-    elif path.is_file():
-        yield name, _bytes_of(path)
-
-
-def _bytes_of(file: Path) -> bytes:
-    try:
-        return file.read_bytes()
-    except OSError:
-        return b""  # kubectl says so
-
-
-def _is_run_together(text: bytes) -> bool:
-    documents = re.split(rb"^---.*$", text, flags=re.MULTILINE)
-    return any(len(re.findall(rb"^kind:", document, re.MULTILINE)) > 1 for document in documents)
-
-
-def _type_of(item: Any) -> Any:
-    version, kind = item.get("apiVersion"), item.get("kind")
-    return (version, kind) if isinstance(version, str) and isinstance(kind, str) else None
-
-
-def _is_namespaced(item: Any) -> bool:
-    return _type_of(item) in kinds.NAMESPACED_TYPES
-
-
-def namespace_of(item: Any) -> Optional[str]:
-    """The namespace that the object names."""
-    metadata = item.get("metadata")
-    namespace = metadata.get("namespace") if isinstance(metadata, dict) else None
-    return namespace if isinstance(namespace, str) else None
-
-
-def is_foreign(item: Any) -> bool:
-    """Whether the object is a policy of a kind that np does not read."""
-    return str(item.get("kind")).endswith("NetworkPolicy") and _type_of(item) not in kinds.POLICY_TYPES
-
-
-def whole_kind(item: Any) -> str:
-    """The kind of an object with its group."""
-    return "%s.%s" % (item.get("kind"), kinds.group_of(str(item.get("apiVersion"))))
+def _is_carrier(item: Any) -> bool:
+    return kinds.is_carrier(str(item.get("apiVersion")), str(item.get("kind")), item.get("spec"))
 
 
 def _is_ignored(item: Any, ignored: List[str]) -> bool:
     return kinds.is_ignored(ignored, str(item.get("kind")), kinds.group_of(str(item.get("apiVersion"))))
 
 
-def _tell_ignored(items: List[Any]) -> None:
-    for kind, count in sorted(Counter(map(whole_kind, items)).items()):
-        say("ignored: %s (%d)" % (kind, count))
-
-
 def _tell_namespaces_without_labels(items: List[Any]) -> None:
     """Names the namespaces without a Namespace object, where that may matter: a policy asks for a label of namespaces
     that is not their name."""
-    if not any(map(_asks_for_labels, (item.get("spec") for item in items if _type_of(item) in kinds.POLICY_TYPES))):
+    if not any(map(_asks_for_labels, (item.get("spec") for item in items if type_of(item) in kinds.POLICY_TYPES))):
         return
     known = {item["metadata"].get("name") for item in items
-             if _type_of(item) == ("v1", "Namespace") and isinstance(item.get("metadata"), dict)}
-    used = {namespace_of(item) or "default" for item in items if _is_namespaced(item)}
+             if type_of(item) == ("v1", "Namespace") and isinstance(item.get("metadata"), dict)}
+    used = {namespace_of(item) or "default" for item in items if is_namespaced(item)}
     if used - known:
         say("these namespaces have no Namespace object, so np knows no label of theirs but the name: " + ", ".join(sorted(used - known)))
 

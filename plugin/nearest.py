@@ -28,6 +28,11 @@ def nearest(wanted: str, names: Iterable[str]) -> List[str]:
     return [name for _, _, name in found]
 
 
+def is_near(one: str, other: str) -> bool:
+    """Whether the names are the same but for the case of letters, or for one letter."""
+    return _distance(one.lower(), other.lower(), 2) < 2
+
+
 def _compared(name: str) -> str:
     return name[:_MOST_LETTERS].lower()
 

@@ -16,9 +16,9 @@ class Room:
 
     def __init__(self) -> None:
         place = os.environ.get("TMPDIR") or "/tmp"
-        self.folder = Path(os.path.abspath(place), "kubectl-np." + os.urandom(8).hex())
+        self._place = Path(os.path.abspath(place), "kubectl-np." + os.urandom(8).hex())
         try:
-            self.folder.mkdir(mode=0o700)
+            self._place.mkdir(mode=0o700)
         except OSError:
             stop(3, "there is no room for temporary files in %s" % place)
         children.at_end(self.remove)
@@ -30,17 +30,18 @@ class Room:
         self.remove()
 
     def remove(self) -> None:
-        """Removes the folder and the files in it."""
-        try:
-            for path in self.folder.iterdir():
-                path.unlink()
-            self.folder.rmdir()
-        except OSError:
-            pass  # it is gone, or its device is
+        """Removes the folder and what is in it."""
+        _remove(self._place)
 
     def path(self, name: str) -> Path:
         """The path of a file in the folder."""
-        return self.folder / name
+        return self._place / name
+
+    def folder(self, name: str) -> Path:
+        """Makes a folder in the folder."""
+        with self.writing():
+            self.path(name).mkdir(mode=0o700)
+        return self.path(name)
 
     def create(self, name: str) -> IO[bytes]:
         """Makes a file, or makes it empty, to be written."""
@@ -58,7 +59,19 @@ class Room:
         try:
             yield
         except OSError:
-            stop(3, "cannot write temporary files in %s" % self.folder)
+            stop(3, "cannot write temporary files in %s" % self._place)
+
+
+def _remove(folder: Path) -> None:
+    try:
+        for path in folder.iterdir():
+            if path.is_dir():
+                _remove(path)
+            else:
+                path.unlink()
+        folder.rmdir()
+    except OSError:
+        pass  # it is gone, or its device is
 
 
 def _open_for_oneself(path: str, flags: int) -> int:

@@ -1,0 +1,2 @@
+rollout.argoproj.io/a
+rollout.argoproj.io/b
