@@ -6,6 +6,7 @@ files.
 from __future__ import annotations
 
 import os
+import re
 import select
 import signal
 import subprocess
@@ -14,7 +15,7 @@ import threading
 import time
 from pathlib import Path
 from types import FrameType
-from typing import IO, Any, Callable, Dict, Iterator, List, NamedTuple, Optional, Sequence, Set, Union
+from typing import IO, Any, Callable, Dict, List, NamedTuple, Optional, Sequence, Set, Union, cast
 
 from plugin.said import Stop
 
@@ -22,6 +23,8 @@ Word = Union[str, Path]
 
 # How long a program may take to end by itself, in seconds, before it is killed.
 _PATIENCE = 0.5
+
+_BLOCK = 1 << 20
 
 _running: Set["subprocess.Popen[bytes]"] = set()
 _starting = threading.Lock()
@@ -153,19 +156,31 @@ def run_to_output(words: Sequence[Word], stdin: Optional[IO[bytes]] = None) -> E
 
 
 class Stream:
-    """A program whose output is read while it runs, line by line, as what is too long to be kept."""
+    """A program whose output is read while it runs, since it is too long to be kept."""
 
     def __init__(self, words: Sequence[Word], stdin: Optional[IO[bytes]] = None) -> None:
         import tempfile
         self._errors = tempfile.TemporaryFile()
-        self._child = start(words, stdin=subprocess.DEVNULL if stdin is None else stdin, stdout=subprocess.PIPE, stderr=self._errors)
+        self._child = start(words, stdin=subprocess.DEVNULL if stdin is None else stdin, stdout=subprocess.PIPE,
+                            stderr=self._errors)
+        self._output = cast(IO[bytes], self._child.stdout)
 
-    def lines(self) -> Iterator[bytes]:
-        """The lines of its output, with their ends."""
-        return iter(self._child.stdout or ())
+    def found(self, pattern: "re.Pattern[bytes]") -> List[bytes]:
+        """What the pattern finds in its lines, each with the line feed before it and without the one behind it.
+
+        There may be millions of lines: they are searched in large blocks, which takes a fraction of what each by itself takes.
+        """
+        found: List[bytes] = []
+        rest = b"\n"
+        for block in iter(lambda: self._output.read(_BLOCK), b""):
+            whole, end, rest = (rest + block).rpartition(b"\n")
+            found += pattern.findall(whole)
+            rest = end + rest
+        return found
 
     def end(self) -> Ended:
-        """How it ended, when all lines were read."""
+        """How it ended, when its output was read."""
+        self._output.close()
         status = wait(self._child)
         self._errors.seek(0)
         with self._errors:

@@ -29,6 +29,10 @@ def fetch(words: Words, room: Room) -> None:
     Cluster(kubectl, room).fetch(discovery.find_kinds(kubectl, words.ignored))
 
 
+class _Expired(Exception):
+    """The server no longer has the list that was being read: it changed too often meanwhile."""
+
+
 class Cluster:
     """Fetches objects into files of the room."""
 
@@ -47,19 +51,27 @@ class Cluster:
                 write_list(file, spools)
 
     def _fetch_kind(self, kind: Kind) -> Spool:
+        try:
+            return self._fetch_pages(kind, "?limit=%d" % _PAGE)
+        except _Expired:
+            return self._fetch_pages(kind, "")  # all at once, as kubectl does then
+
+    def _fetch_pages(self, kind: Kind, query: str) -> Spool:
         spool = Spool(self._room, kind.resource, self._rollouts)
         token: Optional[str] = ""
         while token is not None:
-            items, token = self._fetch_page(kind, token)
+            items, token = self._fetch_page(kind, query, token)
             for item in items:
                 spool.add(_typed(item, kind))
         spool.close()
         return spool
 
-    def _fetch_page(self, kind: Kind, token: str) -> Tuple[List[Any], Optional[str]]:
+    def _fetch_page(self, kind: Kind, query: str, token: str) -> Tuple[List[Any], Optional[str]]:
         """The items of a page, and the token of the next one where there is one."""
-        path = "%s?limit=%d%s" % (kind.path, _PAGE, "&continue=" + quote(token, safe="") if token else "")
+        path = "%s%s%s" % (kind.path, query, "&continue=" + quote(token, safe="") if token else "")
         ended = self._kubectl.raw(path)
+        if ended.status and token and b"(Expired)" in ended.said:
+            raise _Expired
         if ended.status:
             stop(3, "the cluster does not give all objects, so there is no answer (kubectl get: status %d)" % ended.status, ended.said)
         page = _page_of(ended.out, kind, path)

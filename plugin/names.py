@@ -2,12 +2,17 @@
 from __future__ import annotations
 
 import os
+import re
 from pathlib import Path
 from typing import Any, Iterator, List
 
 from plugin import children, jsontext
 from plugin.program import Program
-from plugin.said import Stop, decoded, encoded
+from plugin.said import Stop, decoded, encoded, stop
+
+
+# The rows whose source is the least range of addresses, and the name of the workload in each.
+_FIRST_ROWS = re.compile(rb"\n0\.0\.0\.0(?:-[0-9.]+)? => (.*?) : ")
 
 
 class NoNames(Stop):
@@ -24,16 +29,15 @@ def workloads(program: Program, path: Path) -> List[str]:
     it.
     """
     with path.open("rb") as file:
-        rows = children.Stream([program.path, "list", "--report", "1"], stdin=file)
-        names = [_destination(row) for row in rows.lines() if row.startswith((b"0.0.0.0 => ", b"0.0.0.0-"))]
+        try:
+            rows = children.Stream([program.path, "list", "--report", "1"], stdin=file)
+        except OSError as error:
+            stop(3, "%s cannot be run: %s" % (program.name, error.strerror))
+        names = rows.found(_FIRST_ROWS)
     ended = rows.end()
     if ended.status:
         raise NoNames(ended.status, ended.said)
     return [decoded(name) for name in names]
-
-
-def _destination(row: bytes) -> bytes:
-    return row.split(b" => ", 1)[1].split(b" : ", 1)[0]
 
 
 def pods(path: Path) -> List[str]:

@@ -15,7 +15,7 @@ class Room:
     """A folder that is there within a `with` block."""
 
     def __init__(self) -> None:
-        place = os.environ.get("TMPDIR") or "/tmp"
+        place = os.environ.get("TMPDIR") or ("/tmp" if os.name == "posix" else os.environ.get("TEMP") or os.curdir)
         self._place = Path(os.path.abspath(place), "kubectl-np." + os.urandom(8).hex())
         try:
             self._place.mkdir(mode=0o700)
