@@ -9,6 +9,7 @@ from pathlib import Path
 from typing import Any, Iterator, List, Optional, Sequence
 
 from plugin import jsontext, kinds, kubectl
+from plugin.controllers import pods_of
 from plugin.members import Spool, write_list
 from plugin.rollouts import Rollouts
 from plugin.room import Room
@@ -45,6 +46,7 @@ class Manifests:
         _tell_ignored(ignored)
         self._place_in_namespace()
         _tell_namespaces_without_labels(self._items)
+        self._items += pods_of(self._items, self._words.namespace or "default").pods
         self._write()
 
     def tell_foreign(self, number: int) -> None:
