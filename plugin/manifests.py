@@ -7,6 +7,7 @@ from pathlib import Path
 from typing import Any, Dict, Iterator, List
 
 from plugin import documents, kinds, kubectl, unknown
+from plugin.controllers import pods_of
 from plugin.documents import Document
 from plugin.members import Spool, write_list
 from plugin.objects import is_foreign, is_namespaced, named, namespace_of, type_of, whole_kind
@@ -44,7 +45,7 @@ class Manifests:
         items = [manifest.item for manifest in self._manifests]
         self._place_in_namespace(items)
         _tell_namespaces_without_labels(items)
-        self._write(items)
+        self._write(items + pods_of(items, self._words.namespace or "default").pods)
 
     def tell_foreign(self, number: int) -> None:
         """Says of which kind the item of the list is that np refused as a policy that it does not read; the first has the
@@ -105,7 +106,7 @@ class Manifests:
 
     def _place_in_namespace(self, items: List[Any]) -> None:
         """Gives the objects without a namespace that of --namespace, or says how many there are."""
-        homeless = [item for item in items if is_namespaced(item) and not namespace_of(item)]
+        homeless = [item for item in items if is_namespaced(item) and not namespace_of(item, "")]
         if self._words.namespace:
             for item in homeless:
                 item.setdefault("metadata", {})["namespace"] = self._words.namespace
@@ -160,7 +161,7 @@ def _tell_namespaces_without_labels(items: List[Any]) -> None:
         return
     known = {item["metadata"].get("name") for item in items
              if type_of(item) == ("v1", "Namespace") and isinstance(item.get("metadata"), dict)}
-    used = {namespace_of(item) or "default" for item in items if is_namespaced(item)}
+    used = {namespace_of(item) for item in items if is_namespaced(item)}
     if used - known:
         say("these namespaces have no Namespace object, so np knows no label of theirs but the name: " + ", ".join(sorted(used - known)))
 
