@@ -9,10 +9,11 @@ from pathlib import Path
 from typing import Any, Iterator, List, Optional, Sequence
 
 from plugin import jsontext, kinds, kubectl
+from plugin.caveats.beside import Beside
 from plugin.members import Spool, write_list
 from plugin.rollouts import Rollouts
 from plugin.room import Room
-from plugin.said import say, step, stop
+from plugin.said import note, say, step, stop
 from plugin.words import Words
 
 # kubectl knows no cluster that it could ask without a configuration.
@@ -23,19 +24,19 @@ _NO_CLUSTER = {"KUBECONFIG": os.devnull}
 _NO_PROXY = "http://127.0.0.1:1"
 _NO_NETWORK = dict(_NO_CLUSTER, NO_PROXY="", no_proxy="", GIT_ALLOW_PROTOCOL="none", GIT_TERMINAL_PROMPT="0",
                    **dict.fromkeys(("HTTP_PROXY", "HTTPS_PROXY", "http_proxy", "https_proxy"), _NO_PROXY))
-_NAME_LABEL = "kubernetes.io/metadata.name"
 
 
 class Manifests:
     """Reads manifests into files of the room."""
 
-    def __init__(self, words: Words, room: Room) -> None:
+    def __init__(self, words: Words, room: Room, beside: Beside) -> None:
         self._words = words
+        self._beside = beside
         self._room = room
         self._items: List[Any] = []
 
     def fetch(self) -> None:
-        """Writes what np reads of the objects of the manifests into the file `list` of the room, and says what bears on the answers."""
+        """Writes what np reads of the objects of the manifests into the file `list` of the room, and says what was ignored."""
         step("reading the manifests")
         found = list(_opened(self._read()))
         if not found:
@@ -44,7 +45,6 @@ class Manifests:
         self._items = [item for item in found if not any(item is other for other in ignored)]
         _tell_ignored(ignored)
         self._place_in_namespace()
-        _tell_namespaces_without_labels(self._items)
         self._write()
 
     def tell_foreign(self, number: int) -> None:
@@ -83,12 +83,12 @@ class Manifests:
                 item.setdefault("metadata", {})["namespace"] = self._words.namespace
         elif homeless:
             count = "1 object has" if len(homeless) == 1 else "%d objects have" % len(homeless)
-            say(count + " no namespace and went to default; --namespace names another")
+            note(count + " no namespace and went to default; --namespace names another")
 
     def _write(self) -> None:
         step("keeping what np reads")
         with self._room.writing():
-            spool = Spool(self._room, "items", Rollouts())
+            spool = Spool(self._room, "items", Rollouts(), self._beside)
             for item in self._items:
                 spool.add(item)
             spool.close()
@@ -194,32 +194,3 @@ def _is_ignored(item: Any, ignored: List[str]) -> bool:
 def _tell_ignored(items: List[Any]) -> None:
     for kind, count in sorted(Counter(map(whole_kind, items)).items()):
         say("ignored: %s (%d)" % (kind, count))
-
-
-def _tell_namespaces_without_labels(items: List[Any]) -> None:
-    """Names the namespaces without a Namespace object, where that may matter: a policy asks for a label of namespaces that is not their
-    name."""
-    if not any(map(_asks_for_labels, (item.get("spec") for item in items if _type_of(item) in kinds.POLICY_TYPES))):
-        return
-    known = {item["metadata"].get("name") for item in items
-             if _type_of(item) == ("v1", "Namespace") and isinstance(item.get("metadata"), dict)}
-    used = {namespace_of(item) or "default" for item in items if _is_namespaced(item)}
-    if used - known:
-        say("these namespaces have no Namespace object, so np knows no label of theirs but the name: " + ", ".join(sorted(used - known)))
-
-
-def _asks_for_labels(value: Any) -> bool:
-    """Whether a selector of namespaces in the value asks for a label that is not their name."""
-    if isinstance(value, list):
-        return any(map(_asks_for_labels, value))
-    if not isinstance(value, dict):
-        return False
-    selectors = [value.get("namespaceSelector"), value.get("namespaces")]
-    return any(key != _NAME_LABEL for selector in selectors for key in _keys_of(selector)) or any(map(_asks_for_labels, value.values()))
-
-
-def _keys_of(selector: Any) -> Iterator[Any]:
-    if isinstance(selector, dict):
-        labels, expressions = selector.get("matchLabels"), selector.get("matchExpressions")
-        yield from labels if isinstance(labels, dict) else ()
-        yield from (each.get("key") for each in expressions if isinstance(each, dict)) if isinstance(expressions, list) else ()

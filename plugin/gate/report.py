@@ -2,8 +2,9 @@
 from __future__ import annotations
 
 import re
-from typing import List
+from typing import List, Tuple
 
+from plugin.caveats.table import KINDS
 from plugin.gate.statements import State, Statement
 from plugin.said import encoded
 
@@ -29,19 +30,27 @@ def answers(statements: List[Statement], file: str, with_annotations: bool) -> b
     for statement in statements:
         said = _said(statement)
         lines.append("line %d: %s" % (statement.number, said))
-        if with_annotations and statement.state != State.OK:
+        if with_annotations:
             place = "file=%s,line=%d" % (file.translate(_ESCAPES_OF_PROPERTIES), statement.number)
-            lines.append("::error %s::%s" % (place, said.translate(_ESCAPES_OF_GITHUB)))
+            lines += ["::%s %s::%s" % (level, place, text.translate(_ESCAPES_OF_GITHUB)) for level, text in _annotations(statement, said)]
     lines.append(_summary(statements))
     return encoded("".join(line + "\n" for line in lines))
 
 
+def _annotations(statement: Statement, said: str) -> List[Tuple[str, str]]:
+    """The annotations of a statement, each with its level."""
+    found = [("error", said)] if statement.state != State.OK else []
+    level = "notice" if statement.state == State.OK else "warning"
+    return found + [(level, "caveat %s: %s" % (key, KINDS[key].help)) for key in statement.caveats]
+
+
 def _said(statement: Statement) -> str:
     text, word = printable(statement.text), printable(statement.word)
+    mark = " [caveat: %s]" % ", ".join(statement.caveats) if statement.caveats else ""
     if statement.state == State.OK:
-        return "ok: %s (%s)" % (text, word) if word else "ok: " + text
+        return ("ok: %s (%s)" % (text, word) if word else "ok: " + text) + mark
     head = "VIOLATED" if statement.state == State.VIOLATED else "error"
-    return "%s: %s" % (head, ": ".join(part for part in (text, word) if part))
+    return "%s: %s%s" % (head, ": ".join(part for part in (text, word) if part), mark)
 
 
 def _summary(statements: List[Statement]) -> str:

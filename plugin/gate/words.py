@@ -11,12 +11,14 @@ _NO_FILE = "gate needs a file of statements, or - for standard input"
 
 @dataclass
 class GateWords:
-    """What the gate is asked to do. `file` is `-` for standard input, and `junit` is empty where no report is wanted."""
+    """What the gate is asked to do. `file` is `-` for standard input, and `junit` is empty where no report is wanted. The addresses of listed
+    pods are an option of the plugin."""
 
     file: str
     allow_empty: bool
     junit: str
     github: bool
+    takes_addresses_of_pods: bool = False
 
 
 def read_words(words: List[str]) -> GateWords:

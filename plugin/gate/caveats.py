@@ -1,0 +1,32 @@
+"""Caveats of statements: which are refused for the address of a pod, and which others some caveat touches."""
+from __future__ import annotations
+
+from typing import List
+
+from plugin.caveats.asked import named, of_pod
+from plugin.caveats.caveat import Caveat
+from plugin.caveats.statements import StatementCaveats
+from plugin.caveats.table import KINDS
+from plugin.gate.statements import State, Statement
+from plugin.gate.workloads import Workloads
+
+
+def refuse_addresses(statements: List[Statement], workloads: Workloads, caveats: StatementCaveats) -> None:
+    """Refuses statements about an address that is that of a listed pod: np takes each for an end outside the cluster."""
+    for statement in statements:
+        found = caveats.pod_at(statement.parts) if statement.may_hold else None
+        if found is not None:
+            text, address = found
+            statement.refuse(of_pod(text, address, named(address, workloads.names)))
+
+
+def mark(statements: List[Statement], caveats: StatementCaveats) -> List[Caveat]:
+    """Notes at each statement that is not in error which caveats touch it, and returns all of them, each once."""
+    found: List[Caveat] = []
+    for statement in statements:
+        if statement.state != State.ERROR:
+            touching = caveats.of(statement.number, statement.parts)
+            keys = {caveat.key for caveat in touching}
+            statement.caveats = [key for key in KINDS if key in keys]
+            found += touching
+    return list(dict.fromkeys(found))
