@@ -132,12 +132,16 @@ class Page(Command):
         self.page_words = read_words(self.words.own)
 
     def answer(self) -> int:
+        from plugin.caveats import told
         from plugin.page.whole import Request, write_page
         step("making the page")
         given = self.page_words
+        caveats = [caveat for caveat in self.caveats.all if not caveat.is_noted]
         request = Request(files=[str(self.list)], before=given.before, title=given.title or self._title(), only=given.only,
-                          commands=[(self._explain(), "")])
-        return write_page(self.program, self.room, request)
+                          commands=[(self._explain(), "")], caveats=told.summary(caveats))
+        status = write_page(self.program, self.room, request)
+        told.tell(caveats)
+        return status
 
     def _title(self) -> str:
         from plugin import source

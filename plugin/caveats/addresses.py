@@ -1,7 +1,7 @@
 """Addresses of listed pods: which pod has one, which blocks hold some, and the caveats of ipBlocks.
 
-np takes an address for an end outside the cluster. Addresses are compared as numbers in ascending order, so that neither blocks nor pods are gone
-through one by one.
+np takes an address for an end outside the cluster. Addresses are compared as numbers in ascending order, so that pods are not gone through
+for each block.
 """
 from __future__ import annotations
 
@@ -77,11 +77,11 @@ class Addresses:
         if not self._listed:
             ranges = private_ranges(block)
             return Caveat("ipblock-holds-private", policy.text, "%s holds addresses of %s" % (text, ", ".join(ranges)),
-                          (of_direction(rule.is_ingress, policy.ends, ANY_POD),)) if ranges else None
+                          (of_direction(rule.is_ingress, policy.ends, ANY_POD),), rule.spans) if ranges else None
         held = self.held_by(block)
         pods = "the address of pod %s" % held.first if held.pods == 1 else "addresses of %d pods, as %s" % (held.pods, held.first)
         return Caveat("ipblock-holds-pods", policy.text, "%s holds %s" % (text, pods),
-                      (of_direction(rule.is_ingress, policy.ends, held.workloads),)) if held.pods else None
+                      (of_direction(rule.is_ingress, policy.ends, held.workloads),), rule.spans) if held.pods else None
 
     def _places_in(self, block: Optional[Network]) -> Sequence[int]:
         if block is None:
@@ -100,7 +100,8 @@ def _once_for_all_addresses(found: Iterator[Tuple[bool, Caveat]]) -> Iterator[Ca
         elif whole is None:
             whole = caveat
         else:
-            whole = whole._replace(touched=tuple(dict.fromkeys(whole.touched + caveat.touched)))
+            spans = whole.ports + caveat.ports if whole.ports and caveat.ports else ()
+            whole = whole._replace(touched=tuple(dict.fromkeys(whole.touched + caveat.touched)), ports=spans)
     if whole is not None:
         yield whole
 

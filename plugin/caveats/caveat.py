@@ -1,11 +1,14 @@
 """A caveat, and the connections that it touches."""
 from __future__ import annotations
 
-from typing import FrozenSet, Iterable, NamedTuple, Optional, Tuple
+from typing import FrozenSet, Iterable, NamedTuple, Tuple
 
-# Who is at an end of connections: the names of workloads, and of namespaces with a stroke behind them, which stand for workloads that have no pod
-# now. Beside these an end has the names of all sorts that it belongs to.
+# Who is at an end of connections: the names of workloads, and of namespaces with a stroke behind them, which stand for workloads without pods.
+# An end of a question has beside these the names of the sorts that it belongs to.
 Ends = FrozenSet[str]
+
+# The ports of a protocol from the first to the last.
+Span = Tuple[str, int, int]
 
 ANYONE: Ends = frozenset(["{anyone}"])
 ANY_POD: Ends = frozenset(["{any pod}"])
@@ -31,24 +34,19 @@ class Pair(NamedTuple):
 class Caveat(NamedTuple):
     """A caveat: its kind by the key, the object that it is about, what there is about it, and the connections that it touches.
 
-    It touches the ports alone where there are some. `is_noted` says that np's list has a note that says the same.
+    It touches these ports alone, or without any all of them. `is_noted` says that np's list has a note that says the same.
     """
 
     key: str
     object: str
     detail: str
     touched: Tuple[Pair, ...]
-    ports: Optional[FrozenSet[Tuple[str, int]]] = None
+    ports: Tuple[Span, ...] = ()
     is_noted: bool = False
 
     def line(self) -> str:
         """The caveat on one line."""
         return "%s: %s: %s" % (self.object, self.key, self.detail)
-
-
-def receiving(ends: Iterable[str]) -> Tuple[Pair, ...]:
-    """All connections to the ends."""
-    return (Pair(ANYONE, frozenset(ends)),)
 
 
 def at_either_end(ends: Iterable[str]) -> Tuple[Pair, ...]:

@@ -64,7 +64,8 @@ class Ingresses:
         served = self._listed.met_by(Selection(namespace, None, selector))
         port = _port_of(spec, backend.port)
         if not served:
-            yield _caveat("backend-without-pods", backend, "selects pods with %s, and none is listed" % str(selector), self._listed.ends_of(namespace))
+            detail = "selects pods with %s, and none is listed" % str(selector)
+            yield _caveat("backend-without-pods", backend, detail, self._listed.ends_of(namespace))
         elif port is not None:
             yield from self._of_port(backend, spec, port, served)
 
@@ -119,7 +120,7 @@ def _of_name(backend: _Backend, wanted: Entry, served: List[Pods]) -> Iterator[C
         workloads = sorted({pods.workload for pods, _ in sidecars})
         caveat = _caveat("sidecar-port", backend, "leads to port %s, that of a sidecar of %s" % (wanted.name, some(workloads)),
                          frozenset(workloads))
-        yield caveat._replace(ports=frozenset((port.protocol, port.number) for _, port in sidecars))
+        yield caveat._replace(ports=tuple(sorted({(port.protocol, port.number, port.number) for _, port in sidecars})))
     elif len(lacking) == len(served):
         yield _caveat("backend-port-name", backend, "leads to port %s, which no pod behind it has" % wanted.name,
                       frozenset(pods.workload for pods in served))

@@ -1,7 +1,7 @@
 """The objects of a list, as the caveats need them: pods, namespaces, policies, Services and Ingresses.
 
-The pods are those that np has (docs/use/INPUT.md): pods on the network of their node and finished ones are none of them, and a controller without
-pods stands for one of its template.
+The pods are those that np has (docs/use/INPUT.md): without finished ones and those on the network of their node, and with one for each
+controller that has none.
 """
 from __future__ import annotations
 
@@ -76,9 +76,10 @@ class Listed:
 
     def met_by(self, selection: Selection) -> List[Pods]:
         """The pods that the selection is about."""
-        if selection not in self._met:
-            self._met[selection] = [pods for pods in self._candidates(selection) if selection.pods.is_met(pods.labels)]
-        return self._met[selection]
+        met = self._met.get(selection)
+        if met is None:
+            met = self._met[selection] = [pods for pods in self._candidates(selection) if selection.pods.is_met(pods.labels)]
+        return met
 
     def is_met(self, selection: Selection) -> bool:
         """Whether the selection is about some pod, be it one that np leaves out or one of a workload that is scaled to 0."""
@@ -103,20 +104,23 @@ class Listed:
         return {**self.known_namespaces.get(namespace, {}), NAME_LABEL: namespace}
 
     def _candidates(self, selection: Selection) -> Iterator[Pods]:
-        namespaces = self._met_namespaces(selection)
+        """The pods of its namespaces, or those of them that have one of the labels that it asks for: most selectors ask for one."""
         label = selection.pods.one_value()
         by_namespace = self.by_namespace if label is None else self._by_label.get(label, {})
-        for namespace in namespaces & by_namespace.keys() if len(namespaces) > 1 else namespaces:
-            yield from by_namespace.get(namespace, [])
+        if selection.namespaces is None:
+            yield from by_namespace.get(selection.home, [])
+        else:
+            namespaces = self._met_namespaces(selection.namespaces)
+            for namespace, pods in by_namespace.items():
+                if namespace in namespaces:
+                    yield from pods
 
-    def _met_namespaces(self, selection: Selection) -> FrozenSet[str]:
-        selector = selection.namespaces
-        if selector is None:
-            return frozenset((selection.home,))
-        if selector not in self._namespaces_met:
-            self._namespaces_met[selector] = frozenset(
-                name for name in self.by_namespace if selector.is_met(self.namespace_labels(name)))
-        return self._namespaces_met[selector]
+    def _met_namespaces(self, selector: Selector) -> FrozenSet[str]:
+        met = self._namespaces_met.get(selector)
+        if met is None:
+            met = frozenset(name for name in self.by_namespace if selector.is_met(self.namespace_labels(name)))
+            self._namespaces_met[selector] = met
+        return met
 
     def _read_pods(self, owners: Owners) -> None:
         for item in self.of_type("v1", "Pod"):

@@ -5,7 +5,7 @@ from typing import Any, Dict, FrozenSet, Iterator, List, NamedTuple, Optional, T
 
 from plugin.caveats import values
 from plugin.caveats.beside import Port
-from plugin.caveats.caveat import Ends
+from plugin.caveats.caveat import Ends, Span
 from plugin.caveats.objects import Listed, Pods, Selection
 from plugin.caveats.owners import Item
 from plugin.caveats.selectors import EVERYTHING, Selector, selector
@@ -52,6 +52,13 @@ class Rule(NamedTuple):
     allows: bool
     peers: List[Peer]
     entries: List[Entry]
+
+    @property
+    def spans(self) -> Tuple[Span, ...]:
+        """The ports that it is about; none where these are all, or go by a name."""
+        if any(entry.name for entry in self.entries):
+            return ()
+        return tuple((entry.protocol, entry.first, entry.last) for entry in self.entries)
 
 
 class Policy(NamedTuple):

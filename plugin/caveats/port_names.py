@@ -46,11 +46,12 @@ class PortNames:
                          (entry.place, _text_of(entry)), (of_direction(rule.is_ingress, policy.ends, ANYONE),))
 
     def _at(self, selection: Selection) -> _Found:
-        if selection not in self._found:
+        found = self._found.get(selection)
+        if found is None:
             pods = self._listed.met_by(selection)
             ports = frozenset(port for each in pods for port in each.ports)
-            self._found[selection] = _Found(ports, tuple(each for each in pods if each.sidecars))
-        return self._found[selection]
+            found = self._found[selection] = _Found(ports, tuple(each for each in pods if each.sidecars))
+        return found
 
 
 def _receivers(policy: Policy, rule: Rule) -> List[Selection]:
@@ -64,7 +65,7 @@ def _of_sidecars(policy: Policy, rule: Rule, entry: Entry, sidecars: List[Tuple[
     if not sidecars:
         return
     workloads = sorted({pods.workload for pods, _ in sidecars})
-    ports = frozenset((port.protocol, port.number) for _, port in sidecars)
+    ports = tuple(sorted({(port.protocol, port.number, port.number) for _, port in sidecars}))
     senders = ANYONE if rule.is_ingress else policy.ends
     yield Caveat("sidecar-port", policy.text, "%s: port %s is that of a sidecar of %s" % (entry.place, _text_of(entry), some(workloads)),
                  (of_direction(True, frozenset(workloads), senders),), ports)

@@ -6,7 +6,7 @@ from typing import Dict, Iterable, List, Optional
 from plugin import names, source
 from plugin.caveats.caveat import ANY_POD, ANYONE, CONTROLLER, Caveat, Ends, Pair
 from plugin.caveats.objects import Address
-from plugin.caveats.statements import ends_of_workload, names_of_workload, owner_of
+from plugin.caveats.statements import ends_of_workload, has_port, names_of_workload, owner_of, ports_of
 from plugin.caveats.whole import Caveats
 from plugin.page.words import shell_word
 from plugin.program import Program
@@ -60,13 +60,10 @@ def _between(words: Words, caveats: Caveats) -> List[Caveat]:
     """The caveats that touch the two ends of explain and evaluate."""
     source_end, destination = [_end(words, caveats, option(words.own, name)) for name in _ENDS]
     asked = Pair(source_end, destination)
-    port = (option(words.own, "--protocol"), option(words.own, "--port"))
-    return [caveat for caveat in caveats.all if any(pair.touches(asked) for pair in caveat.touched) and not is_of_ingresses(caveat)
-            and (words.command == "explain" or _has_port(caveat, *port))]
-
-
-def _has_port(caveat: Caveat, protocol: str, port: str) -> bool:
-    return caveat.ports is None or (protocol, port) in {(each, str(number)) for each, number in caveat.ports}
+    packet = "%s %s" % (option(words.own, "--protocol"), option(words.own, "--port"))
+    ports = ports_of("All Connections" if words.command == "explain" else packet)
+    return [caveat for caveat in caveats.all if any(pair.touches(asked) for pair in caveat.touched)
+            and not is_of_ingresses(caveat) and has_port(caveat, ports)]
 
 
 def _end(words: Words, caveats: Caveats, word: str) -> Ends:

@@ -44,4 +44,9 @@ def _of_peers(listed: Listed, policy: Policy, rule: Rule, ends: Ends) -> Iterato
     for peer in rule.peers:
         if peer.selection is not None and not listed.is_met(peer.selection):
             yield Caveat("peer-meets-nothing", policy.text, "%s is %s, and none is listed" % (peer.place, described(peer.selection)),
-                         (of_direction(rule.is_ingress, ends, ANY_POD),))
+                         (of_direction(rule.is_ingress, ends, _meant(listed, peer.selection)),), rule.spans)
+
+
+def _meant(listed: Listed, selection: Selection) -> Ends:
+    """The pods that the selection may have been meant for: those of its namespace, or any."""
+    return listed.ends_of(selection.home) if selection.namespaces is None else ANY_POD

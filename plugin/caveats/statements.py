@@ -6,7 +6,7 @@ from functools import cached_property
 from typing import Iterable, List, Optional, Tuple
 
 from plugin.caveats.addresses import network
-from plugin.caveats.caveat import ANY_POD, ANYONE, CONTROLLER, Caveat, Ends, Pair
+from plugin.caveats.caveat import ANY_POD, ANYONE, CONTROLLER, Caveat, Ends
 from plugin.caveats.objects import Address
 from plugin.caveats.policies import Block
 from plugin.caveats.told import OF_STATEMENTS
@@ -17,6 +17,8 @@ from plugin.gate.ports import Ports, read_connections
 # What np puts behind the name of a workload where an owner has several.
 _NUMBER = re.compile(r"#[0-9]+\Z")
 
+Asked = List[Tuple[str, Ports]]
+
 
 class StatementCaveats:
     """The caveats of a list, asked for by statement."""
@@ -24,14 +26,23 @@ class StatementCaveats:
     def __init__(self, caveats: Caveats) -> None:
         self._caveats = caveats
 
+    @cached_property
+    def _pairs(self) -> List[Tuple[Ends, Ends, int]]:
+        """The pairs of all caveats, each with the number of the caveat. They are gone through for each statement."""
+        return [(*pair, number) for number, caveat in enumerate(self._caveats.all) for pair in caveat.touched]
+
     def of(self, number: int, parts: Parts) -> List[Caveat]:
         """The caveats that touch the statement in the line of this number."""
-        asked = Pair(self._ends(parts.source), self._ends(parts.destination))
-        is_of_ingresses = parts.source.kind == EndKind.INGRESS_CONTROLLER
-        found = [caveat for caveat in self._caveats.all if any(pair.touches(asked) for pair in caveat.touched)
-                 and (is_of_ingresses or CONTROLLER != caveat.touched[0].senders) and _has_port(caveat, parts.connections)]
+        sources, destinations = self._ends(parts.source), self._ends(parts.destination)
+        touching = {place for senders, receivers, place in self._pairs
+                    if not (senders.isdisjoint(sources) or receivers.isdisjoint(destinations))}
+        found = [self._caveats.all[place] for place in sorted(touching)]
+        ports = ports_of(parts.connections)
+        found = [caveat for caveat in found if has_port(caveat, ports)]
         blocks = [end.text for end in (parts.source, parts.destination) if self._holds_pods(end)]
-        return found + [Caveat(OF_STATEMENTS, "line %d" % number, ", ".join(blocks), (asked,))] * bool(blocks)
+        if blocks:
+            found.append(Caveat(OF_STATEMENTS, "line %d" % number, ", ".join(blocks), ()))
+        return found
 
     def pod_at(self, parts: Parts) -> "Optional[Tuple[str, Address]]":
         """The address among the ends that is that of a listed pod, and the pod, where there is one."""
@@ -78,13 +89,15 @@ def names_of_workload(owner: str, names: Iterable[str]) -> List[str]:
     return [name for name in names if owner_of(name) == owner]
 
 
-def _has_port(caveat: Caveat, connections: str) -> bool:
-    """Whether the caveat touches one of the ports; the text may be none that np prints, where a statement is faulty."""
-    if caveat.ports is None:
-        return True
+def ports_of(connections: str) -> Asked:
+    """The protocols and their ports, as np prints them; none where the text is no such text, as in a faulty statement."""
     try:
-        asked = read_connections(connections)
+        return read_connections(connections)
     except ValueError:
-        return False
-    return any((ports & Ports([(number, number)])).least() for protocol, ports in asked
-               for wanted, number in caveat.ports if wanted == protocol)
+        return []
+
+
+def has_port(caveat: Caveat, asked: Asked) -> bool:
+    """Whether the caveat touches one of the ports."""
+    return not caveat.ports or any((ports & Ports([(first, last)])).least() for protocol, ports in asked
+                                   for wanted, first, last in caveat.ports if wanted in ("", protocol))

@@ -5,16 +5,12 @@ from typing import Dict, NamedTuple
 
 
 class Kind(NamedTuple):
-    """A kind: its key, which is its anchor in CAVEATS.md, the line about one and about several, and a sentence of help.
-
-    Kinds that are of Ingresses bear on nothing but what comes in through these.
-    """
+    """A kind: its key, which is its anchor in CAVEATS.md, the line about one and about several, and a sentence of help."""
 
     key: str
     one: str
     many: str
     help: str
-    is_of_ingresses: bool = False
 
     def line(self, count: int) -> str:
         """The line about so many."""
@@ -53,19 +49,19 @@ _KINDS = (
     Kind("backend-headless",
          "1 backend of an Ingress is a headless Service",
          "%d backends of Ingresses are headless Services",
-         "Give the Ingress a Service with an address of the cluster.", True),
+         "Give the Ingress a Service with an address of the cluster."),
     Kind("backend-without-pods",
          "1 backend of an Ingress is a Service that selects no listed pod",
          "%d backends of Ingresses are Services that select no listed pod",
-         "Compare the selector of the Service with the labels of the pods.", True),
+         "Compare the selector of the Service with the labels of the pods."),
     Kind("backend-port-name",
          "1 backend of an Ingress leads to a port name that no pod behind it has",
          "%d backends of Ingresses lead to port names that no pod behind them has",
-         "Compare the targetPort of the Service with the names of the containers' ports.", True),
+         "Compare the targetPort of the Service with the names of the containers' ports."),
     Kind("controller-not-named",
          "1 workload behind an Ingress lets in named peers alone, and who the Ingress controller is was not said",
          "%d workloads behind Ingresses let in named peers alone, and who the Ingress controller is was not said",
-         "Name the controller: list --controller, or a statement about its workload in the place of ingress-controller.", True),
+         "Name the controller: list --controller, or a statement about its workload in the place of ingress-controller."),
     Kind("policy-selects-nothing",
          "1 policy selects no listed pod",
          "%d policies select no listed pod",

@@ -1,6 +1,7 @@
 """All caveats of a list."""
 from __future__ import annotations
 
+import gc
 from functools import cached_property
 from pathlib import Path
 from typing import Iterator, List
@@ -20,6 +21,7 @@ class Caveats:
     """
 
     def __init__(self, path: Path, beside: Beside) -> None:
+        gc.disable()  # nothing that is made here is in a cycle, and to look for cycles would take a third of the time
         self.path = path
         self._beside = beside
 

@@ -33,7 +33,7 @@ class State(Enum):
 class Statement:
     """A statement: the number of its line, from 1, its text and parts, and what was found about it.
 
-    The word is the packet that breaks it, the reason for which it is in error, or a remark. The caveats are the keys of those that touch it.
+    The word is the packet that breaks it, the reason for which it is in error, or a remark. The caveats that touch it go by their keys.
     """
 
     number: int

@@ -11,8 +11,7 @@ _NO_FILE = "gate needs a file of statements, or - for standard input"
 
 @dataclass
 class GateWords:
-    """What the gate is asked to do. `file` is `-` for standard input, and `junit` is empty where no report is wanted. The addresses of listed
-    pods are an option of the plugin."""
+    """What the gate is asked to do. `file` is `-` for standard input, and `junit` is empty where no report is wanted."""
 
     file: str
     allow_empty: bool
