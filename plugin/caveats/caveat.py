@@ -3,7 +3,7 @@ from __future__ import annotations
 
 from typing import FrozenSet, Iterable, NamedTuple, Tuple
 
-# Who is at an end of connections: the names of workloads, and of namespaces with a stroke behind them, which stand for workloads without pods.
+# Who is at an end of connections: names of workloads, and names of namespaces with a stroke behind them for their workloads without pods.
 # An end of a question has beside these the names of the sorts that it belongs to.
 Ends = FrozenSet[str]
 

@@ -6,7 +6,7 @@ from typing import Dict, Iterable, List, Optional
 from plugin import names, source
 from plugin.caveats.caveat import ANY_POD, ANYONE, CONTROLLER, Caveat, Ends, Pair
 from plugin.caveats.objects import Address
-from plugin.caveats.statements import ends_of_workload, has_port, names_of_workload, owner_of, ports_of
+from plugin.caveats.statements import at_ports, ends_of_workload, names_of_workload, owner_of, ports_of
 from plugin.caveats.whole import Caveats
 from plugin.page.words import shell_word
 from plugin.program import Program
@@ -62,8 +62,8 @@ def _between(words: Words, caveats: Caveats) -> List[Caveat]:
     asked = Pair(source_end, destination)
     packet = "%s %s" % (option(words.own, "--protocol"), option(words.own, "--port"))
     ports = ports_of("All Connections" if words.command == "explain" else packet)
-    return [caveat for caveat in caveats.all if any(pair.touches(asked) for pair in caveat.touched)
-            and not is_of_ingresses(caveat) and has_port(caveat, ports)]
+    touching = [caveat for caveat in caveats.all if any(pair.touches(asked) for pair in caveat.touched)]
+    return at_ports([caveat for caveat in touching if not is_of_ingresses(caveat)], ports)
 
 
 def _end(words: Words, caveats: Caveats, word: str) -> Ends:

@@ -6,7 +6,7 @@ from functools import cached_property
 from typing import Iterable, List, Optional, Tuple
 
 from plugin.caveats.addresses import network
-from plugin.caveats.caveat import ANY_POD, ANYONE, CONTROLLER, Caveat, Ends
+from plugin.caveats.caveat import ANY_POD, ANYONE, CONTROLLER, Caveat, Ends, Span
 from plugin.caveats.objects import Address
 from plugin.caveats.policies import Block
 from plugin.caveats.told import OF_STATEMENTS
@@ -37,8 +37,7 @@ class StatementCaveats:
         touching = {place for senders, receivers, place in self._pairs
                     if not (senders.isdisjoint(sources) or receivers.isdisjoint(destinations))}
         found = [self._caveats.all[place] for place in sorted(touching)]
-        ports = ports_of(parts.connections)
-        found = [caveat for caveat in found if has_port(caveat, ports)]
+        found = at_ports(found, ports_of(parts.connections))
         blocks = [end.text for end in (parts.source, parts.destination) if self._holds_pods(end)]
         if blocks:
             found.append(Caveat(OF_STATEMENTS, "line %d" % number, ", ".join(blocks), ()))
@@ -97,7 +96,12 @@ def ports_of(connections: str) -> Asked:
         return []
 
 
-def has_port(caveat: Caveat, asked: Asked) -> bool:
-    """Whether the caveat touches one of the ports."""
-    return not caveat.ports or any((ports & Ports([(first, last)])).least() for protocol, ports in asked
-                                   for wanted, first, last in caveat.ports if wanted in ("", protocol))
+def at_ports(caveats: List[Caveat], asked: Asked) -> List[Caveat]:
+    """The caveats that touch one of the ports. Most have few spans of ports, and the same ones."""
+    touched = {spans: not spans or _have_common(spans, asked) for spans in {caveat.ports for caveat in caveats}}
+    return [caveat for caveat in caveats if touched[caveat.ports]]
+
+
+def _have_common(spans: Iterable[Span], asked: Asked) -> bool:
+    return any((ports & Ports([(first, last)])).least() for protocol, ports in asked
+               for wanted, first, last in spans if wanted in ("", protocol))

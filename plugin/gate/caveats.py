@@ -21,12 +21,13 @@ def refuse_addresses(statements: List[Statement], workloads: Workloads, caveats:
 
 
 def mark(statements: List[Statement], caveats: StatementCaveats) -> List[Caveat]:
-    """Notes at each statement that is not in error which caveats touch it, and returns all of them, each once."""
+    """Notes at each statement that is not in error which caveats touch it, and returns all of them, each once, but for those that np's notes
+    on Ingresses say."""
     found: List[Caveat] = []
     for statement in statements:
         if statement.state != State.ERROR:
             touching = caveats.of(statement.number, statement.parts)
             keys = {caveat.key for caveat in touching}
             statement.caveats = [key for key in KINDS if key in keys]
-            found += touching
+            found += [caveat for caveat in touching if not caveat.is_noted]
     return list(dict.fromkeys(found))

@@ -29,7 +29,7 @@ def answers(statements: List[Statement], file: str, with_annotations: bool) -> b
     lines = []
     for statement in statements:
         said = _said(statement)
-        lines.append("line %d: %s" % (statement.number, said))
+        lines.append("line %d: %s%s" % (statement.number, said, _mark(statement)))
         if with_annotations:
             place = "file=%s,line=%d" % (file.translate(_ESCAPES_OF_PROPERTIES), statement.number)
             lines += ["::%s %s::%s" % (level, place, text.translate(_ESCAPES_OF_GITHUB)) for level, text in _annotations(statement, said)]
@@ -46,11 +46,14 @@ def _annotations(statement: Statement, said: str) -> List[Tuple[str, str]]:
 
 def _said(statement: Statement) -> str:
     text, word = printable(statement.text), printable(statement.word)
-    mark = " [caveat: %s]" % ", ".join(statement.caveats) if statement.caveats else ""
     if statement.state == State.OK:
-        return ("ok: %s (%s)" % (text, word) if word else "ok: " + text) + mark
+        return "ok: %s (%s)" % (text, word) if word else "ok: " + text
     head = "VIOLATED" if statement.state == State.VIOLATED else "error"
-    return "%s: %s%s" % (head, ": ".join(part for part in (text, word) if part), mark)
+    return "%s: %s" % (head, ": ".join(part for part in (text, word) if part))
+
+
+def _mark(statement: Statement) -> str:
+    return " [caveat: %s]" % ", ".join(statement.caveats) if statement.caveats else ""
 
 
 def _summary(statements: List[Statement]) -> str:
