@@ -77,11 +77,11 @@ class Addresses:
         if not self._listed:
             ranges = private_ranges(block)
             return Caveat("ipblock-holds-private", policy.text, "%s holds addresses of %s" % (text, ", ".join(ranges)),
-                          (of_direction(rule.is_ingress, policy.ends, ANY_POD),), rule.spans) if ranges else None
+                          (of_direction(rule.is_ingress, policy.ends, ANY_POD),), rule.spans, opens=True) if ranges else None
         held = self.held_by(block)
         pods = "the address of pod %s" % held.first if held.pods == 1 else "addresses of %d pods, as %s" % (held.pods, held.first)
         return Caveat("ipblock-holds-pods", policy.text, "%s holds %s" % (text, pods),
-                      (of_direction(rule.is_ingress, policy.ends, held.workloads),), rule.spans) if held.pods else None
+                      (of_direction(rule.is_ingress, policy.ends, held.workloads),), rule.spans, opens=True) if held.pods else None
 
     def _places_in(self, block: Optional[Network]) -> Sequence[int]:
         if block is None:

@@ -34,7 +34,8 @@ class Pair(NamedTuple):
 class Caveat(NamedTuple):
     """A caveat: its kind by the key, the object that it is about, what there is about it, and the connections that it touches.
 
-    It touches these ports alone, or without any all of them. `is_noted` says that np's list has a note that says the same.
+    It touches these ports alone, or without any all of them. `is_noted` says that np's list has a note that says the same, and `opens` that
+    nothing can come of it but that more passes than np says.
     """
 
     key: str
@@ -43,6 +44,7 @@ class Caveat(NamedTuple):
     touched: Tuple[Pair, ...]
     ports: Tuple[Span, ...] = ()
     is_noted: bool = False
+    opens: bool = False
 
     def line(self) -> str:
         """The caveat on one line."""

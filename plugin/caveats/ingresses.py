@@ -72,9 +72,10 @@ class Ingresses:
     def _of_port(self, backend: _Backend, spec: Item, port: Item, served: List[Pods]) -> Iterator[Caveat]:
         workloads = frozenset(pods.workload for pods in served)
         target = port.get("targetPort") or port.get("port")
-        if spec.get("clusterIP") == "None":
+        if spec.get("clusterIP") == "None" and target != port.get("port"):
+            detail = "is headless, so its port %s is that of the pods, and not %s" % (port.get("port"), target)
+            yield _caveat("backend-headless", backend, detail, workloads, is_noted=True)
             target = port.get("port")
-            yield _caveat("backend-headless", backend, "is headless, so its port %s is that of the pods" % target, workloads, is_noted=True)
         if isinstance(target, str):
             yield from _of_name(backend, Entry("", "TCP", target), served)
         for pods in served:
@@ -109,7 +110,8 @@ class Ingresses:
 
 
 def _caveat(key: str, backend: _Backend, detail: str, receivers: Ends, is_noted: bool = False) -> Caveat:
-    return Caveat(key, backend.ingress, "%s %s" % (backend.text, detail), (Pair(CONTROLLER, receivers),), is_noted=is_noted)
+    return Caveat(key, backend.ingress, "%s %s" % (backend.text, detail), (Pair(CONTROLLER, receivers),), is_noted=is_noted,
+                  opens=key != "backend-headless")
 
 
 def _of_name(backend: _Backend, wanted: Entry, served: List[Pods]) -> Iterator[Caveat]:

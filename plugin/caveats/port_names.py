@@ -43,7 +43,7 @@ class PortNames:
         yield from _of_sidecars(policy, rule, entry, sidecars)
         if not sidecars and not any(entry.has(port) for selection in receivers for port in self._at(selection).ports):
             yield Caveat("port-meets-nothing", policy.text, "%s: no listed pod that the rule is about has a port %s" %
-                         (entry.place, _text_of(entry)), (of_direction(rule.is_ingress, policy.ends, ANYONE),))
+                         (entry.place, _text_of(entry)), (of_direction(rule.is_ingress, policy.ends, ANYONE),), opens=rule.allows)
 
     def _at(self, selection: Selection) -> _Found:
         found = self._found.get(selection)
@@ -68,7 +68,7 @@ def _of_sidecars(policy: Policy, rule: Rule, entry: Entry, sidecars: List[Tuple[
     ports = tuple(sorted({(port.protocol, port.number, port.number) for _, port in sidecars}))
     senders = ANYONE if rule.is_ingress else policy.ends
     yield Caveat("sidecar-port", policy.text, "%s: port %s is that of a sidecar of %s" % (entry.place, _text_of(entry), some(workloads)),
-                 (of_direction(True, frozenset(workloads), senders),), ports)
+                 (of_direction(True, frozenset(workloads), senders),), ports, opens=rule.allows)
 
 
 def _text_of(entry: Entry) -> str:

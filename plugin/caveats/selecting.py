@@ -44,7 +44,7 @@ def _of_peers(listed: Listed, policy: Policy, rule: Rule, ends: Ends) -> Iterato
     for peer in rule.peers:
         if peer.selection is not None and not listed.is_met(peer.selection):
             yield Caveat("peer-meets-nothing", policy.text, "%s is %s, and none is listed" % (peer.place, described(peer.selection)),
-                         (of_direction(rule.is_ingress, ends, _meant(listed, peer.selection)),), rule.spans)
+                         (of_direction(rule.is_ingress, ends, _meant(listed, peer.selection)),), rule.spans, opens=rule.allows)
 
 
 def _meant(listed: Listed, selection: Selection) -> Ends:

@@ -26,8 +26,14 @@ def mark(statements: List[Statement], caveats: StatementCaveats) -> List[Caveat]
     found: List[Caveat] = []
     for statement in statements:
         if statement.state != State.ERROR:
-            touching = caveats.of(statement.number, statement.parts)
+            touching = _bearing(statement, caveats.of(statement.number, statement.parts))
             keys = {caveat.key for caveat in touching}
             statement.caveats = [key for key in KINDS if key in keys]
             found += [caveat for caveat in touching if not caveat.is_noted]
     return list(dict.fromkeys(found))
+
+
+def _bearing(statement: Statement, touching: List[Caveat]) -> List[Caveat]:
+    """The caveats that bear on what was found: that something passes is not changed by what can only let more through."""
+    passes = (statement.parts.verdict == "allow") == (statement.state == State.OK)
+    return [caveat for caveat in touching if not (passes and caveat.opens)]
