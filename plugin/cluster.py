@@ -10,6 +10,7 @@ from typing import Any, Dict, List, NoReturn, Optional, Tuple
 from urllib.parse import quote
 
 from plugin import discovery, jsontext
+from plugin.caveats.beside import Beside
 from plugin.kinds import Kind
 from plugin.kubectl import Kubectl, ask_all
 from plugin.members import Spool, write_list
@@ -22,11 +23,11 @@ from plugin.words import Words
 _PAGE = 500
 
 
-def fetch(words: Words, room: Room) -> None:
+def fetch(words: Words, room: Room, beside: Beside) -> None:
     """Writes what np reads of all objects of the cluster into the file `list` of the room; ends with status 3 where
     not all can be had."""
     kubectl = Kubectl(words.kubectl)
-    Cluster(kubectl, room).fetch(discovery.find_kinds(kubectl, words.ignored))
+    Cluster(kubectl, room, beside).fetch(discovery.find_kinds(kubectl, words.ignored))
 
 
 class _Expired(Exception):
@@ -36,9 +37,10 @@ class _Expired(Exception):
 class Cluster:
     """Fetches objects into files of the room."""
 
-    def __init__(self, kubectl: Kubectl, room: Room) -> None:
+    def __init__(self, kubectl: Kubectl, room: Room, beside: Beside) -> None:
         self._kubectl = kubectl
         self._room = room
+        self._beside = beside
         self._rollouts = Rollouts()
 
     def fetch(self, present: List[Kind]) -> None:
@@ -57,7 +59,7 @@ class Cluster:
             return self._fetch_pages(kind, "")  # all at once, as kubectl does then
 
     def _fetch_pages(self, kind: Kind, query: str) -> Spool:
-        spool = Spool(self._room, kind.resource, self._rollouts)
+        spool = Spool(self._room, kind.resource, self._rollouts, self._beside)
         token: Optional[str] = ""
         while token is not None:
             items, token = self._fetch_page(kind, query, token)

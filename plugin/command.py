@@ -3,15 +3,20 @@ from __future__ import annotations
 
 import os
 import re
+from functools import cached_property
 from pathlib import Path
-from typing import List
+from typing import TYPE_CHECKING, List
 
-from plugin import snapshot, words as command_line
+from plugin import said, snapshot, words as command_line
+from plugin.caveats.beside import Beside
 from plugin.children import Ended
 from plugin.program import Program
 from plugin.room import Room
-from plugin.said import decoded, say, step, write
+from plugin.said import decoded, encoded, relay, say, step, write
 from plugin.words import Words
+
+if TYPE_CHECKING:
+    from plugin.caveats.whole import Caveats
 
 _UNKNOWN_END = re.compile(r"^error: UnknownEnd (.*)$", re.MULTILINE)
 _FOREIGN_POLICY = re.compile(r"^error: item ([0-9]+): kind: ForeignPolicy$", re.MULTILINE)
@@ -19,7 +24,7 @@ _FOREIGN_POLICY = re.compile(r"^error: item ([0-9]+): kind: ForeignPolicy$", re.
 
 def command_of(words: Words, program: Program) -> Command:
     """The command that the words name."""
-    kinds = {"snapshot": Snapshot, "names": Names, "gate": Gate, "page": Page}
+    kinds = {"caveats": ListOfCaveats, "snapshot": Snapshot, "names": Names, "gate": Gate, "page": Page, "check": Check}
     return kinds.get(words.command, Question)(words, program)
 
 
@@ -29,9 +34,11 @@ class Command:
     def __init__(self, words: Words, program: Program) -> None:
         self.words = words
         self.program = program
+        self.beside = Beside()
 
     def run(self) -> int:
         """Checks the words, gets the objects, and answers; returns the status."""
+        said.is_quiet = self.words.is_quiet
         self.check_words()
         if not self.words.list_file:
             from plugin import kubectl
@@ -48,17 +55,23 @@ class Command:
         """Answers from the list; returns the status."""
         raise NotImplementedError
 
+    @cached_property
+    def caveats(self) -> Caveats:
+        """The caveats of the list."""
+        from plugin.caveats.whole import Caveats
+        return Caveats(self.list, self.beside)
+
     def _fetch(self) -> Path:
         """The path of the list of objects."""
         if self.words.list_file:
-            return snapshot.fetch_file(self.words.list_file, self.room)
+            return snapshot.fetch_file(self.words.list_file, self.room, self.beside)
         if self.words.has_manifests:
             from plugin.manifests import Manifests
-            self.manifests = Manifests(self.words, self.room)
+            self.manifests = Manifests(self.words, self.room, self.beside)
             self.manifests.fetch()
         else:
             from plugin import cluster
-            cluster.fetch(self.words, self.room)
+            cluster.fetch(self.words, self.room, self.beside)
         return self.room.path("list")
 
 
@@ -67,6 +80,18 @@ class Snapshot(Command):
 
     def answer(self) -> int:
         snapshot.print_list(self.list)
+        return 0
+
+
+class ListOfCaveats(Command):
+    """Prints what there is about the list that bears on answers. np has to take it."""
+
+    def answer(self) -> int:
+        from plugin.caveats import told
+        from plugin.gate import check
+        relay(check.Check(self.program, self.room).ask([], self.list).said)
+        text = "".join(line + "\n" for line in told.lines(self.caveats.all))
+        write(encoded(text), "the caveats cannot be written")
         return 0
 
 
@@ -91,10 +116,12 @@ class Gate(Command):
     def check_words(self) -> None:
         from plugin.gate.words import read_words
         self.gate_words = read_words(self.words.own)
+        self.gate_words.takes_addresses_of_pods = self.words.takes_addresses_of_pods
 
     def answer(self) -> int:
+        from plugin.caveats.statements import StatementCaveats
         from plugin.gate.run import run
-        return run(self.gate_words, self.program, self.list, self.room)
+        return run(self.gate_words, self.program, self.list, self.room, StatementCaveats(self.caveats))
 
 
 class Page(Command):
@@ -105,12 +132,16 @@ class Page(Command):
         self.page_words = read_words(self.words.own)
 
     def answer(self) -> int:
+        from plugin.caveats import told
         from plugin.page.whole import Request, write_page
         step("making the page")
         given = self.page_words
+        caveats = [caveat for caveat in self.caveats.all if not caveat.is_noted]
         request = Request(files=[str(self.list)], before=given.before, title=given.title or self._title(), only=given.only,
-                          commands=[(self._explain(), "")])
-        return write_page(self.program, self.room, request)
+                          commands=[(self._explain(), "")], caveats=told.summary(caveats))
+        status = write_page(self.program, self.room, request)
+        told.tell(caveats)
+        return status
 
     def _title(self) -> str:
         from plugin import source
@@ -123,19 +154,33 @@ class Page(Command):
 
 
 class Question(Command):
-    """Has np answer. Where it refuses a name or an object, more is said about that."""
+    """Has np answer, and says which caveats bear on the answer. Where np refuses a name or an object, more is said about that."""
 
     def check_words(self) -> None:
         self.program.check_words(self.words.command, self.words.own)
 
     def answer(self) -> int:
+        self.refuse_addresses()
         step("asking np")
         with self.list.open("rb") as file:
             ended = self.program.answer([self.words.command, *self.words.own], stdin=file)
         if ended.status == 1:
             self._tell_nearest(ended)
             self._tell_foreign(ended)
+        elif ended.status in (0, 5):
+            self.tell_caveats()
         return ended.status
+
+    def refuse_addresses(self) -> None:
+        """Refuses addresses of listed pods where a pod is meant."""
+        if self.words.command in ("explain", "evaluate") and not self.words.takes_addresses_of_pods:
+            from plugin.caveats import questions
+            questions.refuse_addresses(self.words, self.caveats, self.program)
+
+    def tell_caveats(self) -> None:
+        """Says which caveats bear on the answer."""
+        from plugin.caveats import questions, told
+        told.tell(questions.bearing(self.words, self.caveats))
 
     def _tell_nearest(self, ended: Ended) -> None:
         """Where np knew no workload or pod of a name, says the nearest of those that there are."""
@@ -158,3 +203,18 @@ class Question(Command):
         refused = _FOREIGN_POLICY.search(decoded(ended.said))
         if refused and self.words.has_manifests:
             self.manifests.tell_foreign(int(refused.group(1)))
+
+
+class Check(Question):
+    """Has np judge statements, which are read here too: they say which caveats bear on the answer."""
+
+    def refuse_addresses(self) -> None:
+        from plugin.caveats.asked import AskedStatements
+        self.statements = AskedStatements(self.words.own, self.room, self.caveats)
+        self.words.own = self.statements.words
+        if not self.words.takes_addresses_of_pods:
+            self.statements.refuse_addresses(self.program)
+
+    def tell_caveats(self) -> None:
+        from plugin.caveats import told
+        told.tell(self.statements.bearing())

@@ -8,7 +8,7 @@ from plugin import kinds
 from plugin.children import Ended
 from plugin.kinds import Kind, Resource
 from plugin.kubectl import Kubectl, ask_all
-from plugin.said import relay, say, step, stop
+from plugin.said import note, relay, say, step, stop
 
 
 def find_kinds(kubectl: Kubectl, ignored: List[str]) -> List[Kind]:
@@ -105,7 +105,7 @@ def _present(resources: List[Resource]) -> List[Kind]:
             stop(3, "the cluster does not name %s among its kinds" % kind.resource)
     for kind in kinds.READ:
         if (kind.api_version, kind.resource) not in has:
-            say("left out, since the cluster has no such kind: " + kind.whole_resource)
+            note("left out, since the cluster has no such kind: " + kind.whole_resource)
     return [kind for kind in kinds.READ if (kind.api_version, kind.resource) in has]
 
 

@@ -7,14 +7,16 @@ from pathlib import Path
 from typing import Any, Dict, Iterator, List
 
 from plugin import documents, kinds, kubectl, unknown
-from plugin.controllers import pods_of
+from plugin.caveats.beside import Beside, UnknownLabel
+from plugin.caveats.owners import workload
+from plugin.controllers import pods_of, unknown_labels
 from plugin.documents import Document
 from plugin.members import Spool, write_list
 from plugin.objects import is_foreign, is_namespaced, named, namespace_of, type_of, whole_kind
 from plugin.reader import NO_CLUSTER, Manifest, Reader
 from plugin.rollouts import Rollouts
 from plugin.room import Room
-from plugin.said import say, step, stop
+from plugin.said import note, say, step, stop
 from plugin.words import Words
 
 # An overlay may name addresses, which kustomize fetches itself or by git. Without --allow-urls neither gets beyond this
@@ -22,15 +24,15 @@ from plugin.words import Words
 _NO_PROXY = "http://127.0.0.1:1"
 _NO_NETWORK = dict(NO_CLUSTER, NO_PROXY="", no_proxy="", GIT_ALLOW_PROTOCOL="none", GIT_TERMINAL_PROMPT="0",
                    **dict.fromkeys(("HTTP_PROXY", "HTTPS_PROXY", "http_proxy", "https_proxy"), _NO_PROXY))
-_NAME_LABEL = "kubernetes.io/metadata.name"
 _UNKNOWN_MEMBERS = "unknown-members"
 
 
 class Manifests:
     """Reads manifests into files of the room."""
 
-    def __init__(self, words: Words, room: Room) -> None:
+    def __init__(self, words: Words, room: Room, beside: Beside) -> None:
         self._words = words
+        self._beside = beside
         self._room = room
         self._manifests: List[Manifest] = []
 
@@ -44,8 +46,11 @@ class Manifests:
         self._tell_bypasses()
         items = [manifest.item for manifest in self._manifests]
         self._place_in_namespace(items)
-        _tell_namespaces_without_labels(items)
-        self._write(items + pods_of(items, self._words.namespace or "default").pods)
+        made = pods_of(items, self._words.namespace or "default")
+        for label in unknown_labels(items, made):
+            concerned = [workload(namespace_of(each), each["kind"], each["metadata"]["name"]) for each in label.controllers]
+            self._beside.unknown_labels.append(UnknownLabel(named(label.item), label.key, concerned))
+        self._write(items + made.pods)
 
     def tell_foreign(self, number: int) -> None:
         """Says of which kind the item of the list is that np refused as a policy that it does not read; the first has the
@@ -112,12 +117,12 @@ class Manifests:
                 item.setdefault("metadata", {})["namespace"] = self._words.namespace
         elif homeless:
             count = "1 object has" if len(homeless) == 1 else "%d objects have" % len(homeless)
-            say(count + " no namespace and went to default; --namespace names another")
+            note(count + " no namespace and went to default; --namespace names another")
 
     def _write(self, items: List[Any]) -> None:
         step("keeping what np reads")
         with self._room.writing():
-            spool = Spool(self._room, "items", Rollouts())
+            spool = Spool(self._room, "items", Rollouts(), self._beside)
             for item in items:
                 spool.add(item)
             spool.close()
@@ -154,30 +159,3 @@ def _is_ignored(item: Any, ignored: List[str]) -> bool:
     return kinds.is_ignored(ignored, str(item.get("kind")), kinds.group_of(str(item.get("apiVersion"))))
 
 
-def _tell_namespaces_without_labels(items: List[Any]) -> None:
-    """Names the namespaces without a Namespace object, where that may matter: a policy asks for a label of namespaces
-    that is not their name."""
-    if not any(map(_asks_for_labels, (item.get("spec") for item in items if type_of(item) in kinds.POLICY_TYPES))):
-        return
-    known = {item["metadata"].get("name") for item in items
-             if type_of(item) == ("v1", "Namespace") and isinstance(item.get("metadata"), dict)}
-    used = {namespace_of(item) for item in items if is_namespaced(item)}
-    if used - known:
-        say("these namespaces have no Namespace object, so np knows no label of theirs but the name: " + ", ".join(sorted(used - known)))
-
-
-def _asks_for_labels(value: Any) -> bool:
-    """Whether a selector of namespaces in the value asks for a label that is not their name."""
-    if isinstance(value, list):
-        return any(map(_asks_for_labels, value))
-    if not isinstance(value, dict):
-        return False
-    selectors = [value.get("namespaceSelector"), value.get("namespaces")]
-    return any(key != _NAME_LABEL for selector in selectors for key in _keys_of(selector)) or any(map(_asks_for_labels, value.values()))
-
-
-def _keys_of(selector: Any) -> Iterator[Any]:
-    if isinstance(selector, dict):
-        labels, expressions = selector.get("matchLabels"), selector.get("matchExpressions")
-        yield from labels if isinstance(labels, dict) else ()
-        yield from (each.get("key") for each in expressions if isinstance(each, dict)) if isinstance(expressions, list) else ()

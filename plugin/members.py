@@ -13,9 +13,10 @@ docs/use/TABLES.md says which members these are.
 """
 from __future__ import annotations
 
-from typing import IO, Any, Dict, Iterator, List, Tuple
+from typing import IO, Any, Dict, Iterator, List, Optional, Tuple
 
 from plugin import jsontext
+from plugin.caveats.beside import Beside
 from plugin.rollouts import Rollouts
 from plugin.room import Room
 
@@ -88,9 +89,10 @@ def kept(item: Any) -> Any:
 class Spool:
     """Takes items one by one, and holds what is kept of them in a file, a line each."""
 
-    def __init__(self, room: Room, name: str, rollouts: Rollouts) -> None:
+    def __init__(self, room: Room, name: str, rollouts: Rollouts, beside: Optional[Beside] = None) -> None:
         self._path = room.path(name)
         self._rollouts = rollouts
+        self._beside = beside
         self._file = room.create(name)
         self._leftovers: Dict[int, str] = {}  # where ReplicaSets of former rollouts stand
         self._count = 0
@@ -98,6 +100,8 @@ class Spool:
     def add(self, item: Any) -> None:
         """Takes the next item."""
         place = self._rollouts.see(item)
+        if self._beside is not None:
+            self._beside.see(item)
         if place is not None:
             self._leftovers[self._count] = place
         self._file.write(jsontext.write(kept(item)) + b"\n")
@@ -128,20 +132,20 @@ def write_list(file: IO[bytes], spools: List[Spool]) -> None:
     file.write(b'],"kind":"List"}\n')
 
 
-def keep_of_text(data: bytes, file: IO[bytes], room: Room) -> None:
+def keep_of_text(data: bytes, file: IO[bytes], room: Room, beside: Optional[Beside] = None) -> None:
     """Writes to the file what is kept of a text: of a list that of its items, of anything else that of the one object
     that it is. Where np would refuse the text as no JSON all of it is written, and np says so."""
     try:
-        _keep_of_text(jsontext.text_of(data), file, room)
+        _keep_of_text(jsontext.text_of(data), file, room, beside)
     except jsontext.NotTaken:
         file.seek(0)
         file.truncate()
         file.write(data)
 
 
-def _keep_of_text(text: str, file: IO[bytes], room: Room) -> None:
+def _keep_of_text(text: str, file: IO[bytes], room: Room, beside: Optional[Beside]) -> None:
     whole: Dict[str, Any] = {}
-    spool = Spool(room, "items", Rollouts())
+    spool = Spool(room, "items", Rollouts(), beside)
     for name, value in jsontext.members(text):
         if name is None:
             spool.add(value)
@@ -151,7 +155,7 @@ def _keep_of_text(text: str, file: IO[bytes], room: Room) -> None:
         else:
             whole[name] = value
             if name == "items":
-                spool = Spool(room, "items", Rollouts())  # of a member that stands twice the last counts
+                spool = Spool(room, "items", Rollouts(), beside)  # of a member that stands twice the last counts
     spool.close()
     if (whole.get("apiVersion"), whole.get("kind")) != ("v1", "List"):
         file.write(jsontext.write(kept(jsontext.read(text.encode("utf-8")))) + b"\n")

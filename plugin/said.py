@@ -14,6 +14,9 @@ _ESCAPES = {"\n": "\\n", "\r": "\\r", "\t": "\\t"}
 # Who speaks, at the head of each line.
 speaker = "kubectl np"
 
+# Whether notes are left out.
+is_quiet = False
+
 
 class Stop(Exception):
     """Ends the plugin with a status: what another program said is repeated, and a line says why where there is a
@@ -78,6 +81,12 @@ def _write_error(data: bytes) -> None:
 def say(text: str) -> None:
     """Says a text on a line of standard error."""
     _write_error(encoded("%s: %s\n" % (speaker, shown(text))))
+
+
+def note(text: str) -> None:
+    """Says what is good to know and changes no answer, where that is wanted."""
+    if not is_quiet:
+        say(text)
 
 
 def relay(data: bytes) -> None:

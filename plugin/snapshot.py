@@ -3,8 +3,9 @@ from __future__ import annotations
 
 import os
 from pathlib import Path
-from typing import IO, Iterator
+from typing import IO, Iterator, Optional
 
+from plugin.caveats.beside import Beside
 from plugin.room import Room
 from plugin.said import say, step, stop, write
 
@@ -13,7 +14,7 @@ MOST = 33554432
 _CHUNK = 1 << 20
 
 
-def fetch_file(name: str, room: Room) -> Path:
+def fetch_file(name: str, room: Room, beside: Beside) -> Path:
     """The path of the list that --list names. It stays as it is, so that the numbers of items in faults are those of
     the file; where it is no file, or is too large for np, it is a copy in the room."""
     path = Path(os.path.abspath(name))
@@ -23,17 +24,17 @@ def fetch_file(name: str, room: Room) -> Path:
         _copy(name, file)
     if room.path("list").stat().st_size > MOST:
         say("the list has more than %d bytes, so only what np reads is kept of it" % MOST)
-        filter_file(str(room.path("list")), room)
+        filter_file(str(room.path("list")), room, beside)
     return room.path("list")
 
 
-def filter_file(name: str, room: Room) -> None:
+def filter_file(name: str, room: Room, beside: Optional[Beside] = None) -> None:
     """Writes what np reads of the list in the file (- for standard input) into the file `list` of the room."""
     from plugin.members import keep_of_text
     step("keeping what np reads")
     data = b"".join(_chunks(name))
     with room.writing(), room.create("list") as file:
-        keep_of_text(data, file, room)
+        keep_of_text(data, file, room, beside)
 
 
 def _copy(name: str, to: IO[bytes]) -> None:

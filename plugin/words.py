@@ -12,7 +12,8 @@ from plugin.said import stop
 
 # np's commands that ask about objects, and the plugin's own.
 QUESTIONS = ("list", "explain", "exposure", "evaluate", "unused", "check", "flatten")
-COMMANDS = QUESTIONS + ("sample", "snapshot", "names", "gate", "page", "filter", "version", "help")
+COMMANDS = QUESTIONS + ("sample", "caveats", "snapshot", "names", "gate", "page", "filter", "version", "help")
+_WITH_ENDS = ("explain", "evaluate", "check", "gate")
 
 # Options of kubectl that say which cluster, and as whom: those that stand alone, and those that have a value.
 _ALONE = re.compile(r"--(disable-compression|insecure-skip-tls-verify|match-server-version)(=.*)?", re.DOTALL)
@@ -40,6 +41,8 @@ class Words:
         self.ignored: List[str] = []  # of --ignore
         self.is_recursive = False
         self.allows_urls = False  # whether -k may fetch
+        self.takes_addresses_of_pods = False
+        self.is_quiet = False
         self.wants_help = False
         self.wants_all_namespaces = False
 
@@ -88,6 +91,10 @@ def _take_option(words: Words, left: List[str]) -> int:
         words.is_recursive = True
     elif word == "--allow-urls":
         words.allows_urls = True
+    elif word == "--as-address":
+        words.takes_addresses_of_pods = True
+    elif word == "--quiet":
+        words.is_quiet = True
     elif word in ("-A", "--all-namespaces") or word.startswith("--all-namespaces="):
         words.wants_all_namespaces = True
     elif word in _LONG or word in _PLUGIN_VALUED:
@@ -170,6 +177,8 @@ def check_sources(words: Words) -> None:
         stop(2, "-R goes with -f")
     if words.allows_urls and not words.overlay:
         stop(2, "--allow-urls goes with -k")
+    if words.takes_addresses_of_pods and words.command not in _WITH_ENDS:
+        stop(2, "--as-address goes with explain, evaluate, check and gate")
     _check_namespace(words)
     if not words.has_cluster and words.kubectl:
         stop(2, "'%s' is about a cluster, but with -f, -k or --list no cluster is asked" % words.kubectl[0])
@@ -199,7 +208,7 @@ def check_own(words: Words) -> None:
     """Refuses words that a command of the plugin does not take. Those of the gate and of the page are read where they
     are needed."""
     own = words.own
-    if words.command in ("snapshot", "filter", "version") and own:
+    if words.command in ("caveats", "snapshot", "filter", "version") and own:
         stop(2, "%s takes no further words: '%s'" % (words.command, own[0]))
     if words.command == "names" and own not in ([], ["pods"]):
         stop(2, "names takes no word but pods: '%s'" % " ".join(own))

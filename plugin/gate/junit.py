@@ -43,11 +43,12 @@ def _test(file: str, name: str, line: int, outcome: str) -> str:
 
 def _outcome(statement: Statement) -> str:
     word = _escaped(printable(statement.word))
+    caveats = "<system-err>caveat: %s</system-err>" % ", ".join(statement.caveats) if statement.caveats else ""
     if statement.state == State.VIOLATED:
-        return '<failure message="%s" type="violated">%s</failure>' % (word, word)
+        return '<failure message="%s" type="violated">%s</failure>' % (word, word) + caveats
     if statement.state == State.ERROR:
         return '<error message="%s" type="error">%s</error>' % (word, word)
-    return "<system-out>%s</system-out>" % word if word else ""
+    return ("<system-out>%s</system-out>" % word if word else "") + caveats
 
 
 def write_whole(name: str, data: bytes) -> None:

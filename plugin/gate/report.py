@@ -2,8 +2,9 @@
 from __future__ import annotations
 
 import re
-from typing import List
+from typing import List, Tuple
 
+from plugin.caveats.table import KINDS
 from plugin.gate.statements import State, Statement
 from plugin.said import encoded
 
@@ -28,12 +29,19 @@ def answers(statements: List[Statement], file: str, with_annotations: bool) -> b
     lines = []
     for statement in statements:
         said = _said(statement)
-        lines.append("line %d: %s" % (statement.number, said))
-        if with_annotations and statement.state != State.OK:
+        lines.append("line %d: %s%s" % (statement.number, said, _mark(statement)))
+        if with_annotations:
             place = "file=%s,line=%d" % (file.translate(_ESCAPES_OF_PROPERTIES), statement.number)
-            lines.append("::error %s::%s" % (place, said.translate(_ESCAPES_OF_GITHUB)))
+            lines += ["::%s %s::%s" % (level, place, text.translate(_ESCAPES_OF_GITHUB)) for level, text in _annotations(statement, said)]
     lines.append(_summary(statements))
     return encoded("".join(line + "\n" for line in lines))
+
+
+def _annotations(statement: Statement, said: str) -> List[Tuple[str, str]]:
+    """The annotations of a statement, each with its level."""
+    found = [("error", said)] if statement.state != State.OK else []
+    level = "notice" if statement.state == State.OK else "warning"
+    return found + [(level, "caveat %s: %s" % (key, KINDS[key].help)) for key in statement.caveats]
 
 
 def _said(statement: Statement) -> str:
@@ -42,6 +50,10 @@ def _said(statement: Statement) -> str:
         return "ok: %s (%s)" % (text, word) if word else "ok: " + text
     head = "VIOLATED" if statement.state == State.VIOLATED else "error"
     return "%s: %s" % (head, ": ".join(part for part in (text, word) if part))
+
+
+def _mark(statement: Statement) -> str:
+    return " [caveat: %s]" % ", ".join(statement.caveats) if statement.caveats else ""
 
 
 def _summary(statements: List[Statement]) -> str:

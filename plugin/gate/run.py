@@ -5,7 +5,10 @@ import sys
 from pathlib import Path
 from typing import IO, List
 
+from plugin.caveats import told
+from plugin.caveats.statements import StatementCaveats
 from plugin.gate import junit, report
+from plugin.gate.caveats import mark, refuse_addresses
 from plugin.gate.check import Check
 from plugin.gate.ends import questions, refuse_unknown_namespaces
 from plugin.gate.ingress import judge_ingress
@@ -20,15 +23,16 @@ from plugin.said import relay, stop, write
 from plugin.snapshot import MOST
 
 
-def run(words: GateWords, program: Program, path: Path, room: Room) -> int:
+def run(words: GateWords, program: Program, path: Path, room: Room, caveats: StatementCaveats) -> int:
     """Judges every statement on the list in the file `path`, prints the answers, and returns the status.
 
     It is 0 where all hold, 5 where one is violated, and 1 where one is in error; the gate ends with that of np where that refuses the list.
     """
     statements = read_statements(_read_file(words.file))
     if statements:
-        notes = _judge(words, statements, program, path, room)
+        notes = _judge(words, statements, program, path, room, caveats)
         relay(notes)
+        told.tell(mark(statements, caveats))
         write(report.answers(statements, words.file, words.github), "the answers cannot be written")
     if words.junit:
         junit.write_whole(words.junit, junit.report(statements, words.file))
@@ -53,11 +57,14 @@ def _standard_input() -> IO[bytes]:
     return sys.stdin.buffer
 
 
-def _judge(words: GateWords, statements: List[Statement], program: Program, path: Path, room: Room) -> bytes:
+def _judge(words: GateWords, statements: List[Statement], program: Program, path: Path, room: Room,
+           caveats: StatementCaveats) -> bytes:
     """Finds out about each statement, and returns np's notes on the objects."""
     check = Check(program, room)
     workloads = Workloads(program, path)
     judge_grammar(check, statements)
+    if not words.takes_addresses_of_pods:
+        refuse_addresses(statements, workloads, caveats)
     if not words.allow_empty:
         refuse_unknown_namespaces(statements, workloads)
     asked = questions(statements, workloads)

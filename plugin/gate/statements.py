@@ -2,7 +2,7 @@
 from __future__ import annotations
 
 import re
-from dataclasses import dataclass
+from dataclasses import dataclass, field
 from enum import Enum
 from typing import List
 
@@ -33,7 +33,7 @@ class State(Enum):
 class Statement:
     """A statement: the number of its line, from 1, its text and parts, and what was found about it.
 
-    The word is the packet that breaks it, the reason for which it is in error, or a remark.
+    The word is the packet that breaks it, the reason for which it is in error, or a remark. The caveats that touch it go by their keys.
     """
 
     number: int
@@ -42,6 +42,7 @@ class Statement:
     parts: Parts
     state: State = State.OK
     word: str = ""
+    caveats: List[str] = field(default_factory=list)
 
     @property
     def may_hold(self) -> bool:

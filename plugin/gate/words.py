@@ -17,6 +17,7 @@ class GateWords:
     allow_empty: bool
     junit: str
     github: bool
+    takes_addresses_of_pods: bool = False
 
 
 def read_words(words: List[str]) -> GateWords:

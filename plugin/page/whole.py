@@ -9,7 +9,7 @@ from plugin.page.answers import Answers
 from plugin.page.texts import listed_lines, quoted
 from plugin.program import Program
 from plugin.room import Room
-from plugin.said import say, stop, write
+from plugin.said import encoded, say, stop, write
 
 # The parts of the page, in their order.
 STYLES = ("page.css",)
@@ -27,6 +27,7 @@ class Request(NamedTuple):
 
     `files` are the lists, and `before` those of an earlier snapshot, if any: each is a path, or - for standard input. `only` is the
     one namespace whose rows the page has (empty: all). `commands` explain two ends: what stands before them, and what behind them.
+    `caveats` are lines that stand behind np's notes.
     """
 
     files: List[str]
@@ -34,6 +35,7 @@ class Request(NamedTuple):
     title: str
     only: str
     commands: List[Tuple[str, str]]
+    caveats: Sequence[str] = ()
 
 
 def write_page(program: Program, room: Room, request: Request) -> int:
@@ -72,7 +74,7 @@ def _data(program: Program, room: Room, request: Request) -> bytes:
     commands = [quoted(text) for command in request.commands for text in command]
     return b"".join([
         b'{"version":1,"title":[', quoted(request.title), b'],"commands":[', b",".join(commands),
-        b'],"notes":', listed_lines(after.notes),
+        b'],"notes":', listed_lines(after.notes + b"".join(encoded(line + "\n") for line in request.caveats)),
         b',"unused":', listed_lines(after.ask("unused")),
         b',"refused":', listed_lines(after.refused),
         b',"explained":', listed_lines(after.explained(table.asked.ends())),

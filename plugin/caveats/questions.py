@@ -1,0 +1,111 @@
+"""Which caveats bear on the answer to a question, and the addresses of pods among its words."""
+from __future__ import annotations
+
+from typing import Dict, Iterable, List, Optional
+
+from plugin import names, source
+from plugin.caveats.caveat import ANY_POD, ANYONE, CONTROLLER, Caveat, Ends, Pair
+from plugin.caveats.objects import Address
+from plugin.caveats.statements import at_ports, ends_of_workload, names_of_workload, owner_of, ports_of
+from plugin.caveats.whole import Caveats
+from plugin.page.words import shell_word
+from plugin.program import Program
+from plugin.said import stop
+from plugin.words import Words
+
+_ENDS = ("--from", "--to")
+
+
+def option(own: List[str], name: str) -> str:
+    """The value of an option of np's command; empty where it is not given."""
+    for place, word in enumerate(own):
+        if word == name:
+            return own[place + 1] if place + 1 < len(own) else ""
+        if word.startswith(name + "="):
+            return word[len(name) + 1:]
+    return ""
+
+
+def bearing(words: Words, caveats: Caveats) -> List[Caveat]:
+    """The caveats that bear on the answer. Those that a note of np says too are left out where it does."""
+    if words.command in ("explain", "evaluate"):
+        return _between(words, caveats)
+    is_list = words.command == "list"
+    focus = option(words.own, "--focus" if is_list else "--workload")
+    found = [caveat for caveat in caveats.all if is_list or not is_of_ingresses(caveat)]
+    if is_list:
+        is_named = bool(option(words.own, "--controller"))
+        found = [caveat for caveat in found if not caveat.is_noted and not (is_named and caveat.key == "controller-not-named")]
+    return of_focus(found, focus, option(words.own, "--side")) if focus else found
+
+
+def is_of_ingresses(caveat: Caveat) -> bool:
+    """Whether the caveat bears on nothing but what comes in through Ingresses."""
+    return all(pair.senders == CONTROLLER for pair in caveat.touched)
+
+
+def of_focus(caveats: Iterable[Caveat], focus: str, side: str) -> List[Caveat]:
+    """The caveats that touch one workload at this side."""
+    owner = owner_of(focus)
+    return [caveat for caveat in caveats if any(_is_about(pair, owner, side) for pair in caveat.touched)]
+
+
+def _is_about(pair: Pair, owner: str, side: str) -> bool:
+    """Whether the pair names the workload at the side, or is about all pods."""
+    return (side != "to" and owner in pair.senders) or (side != "from" and owner in pair.receivers) or (
+        pair.senders | pair.receivers <= ANYONE | ANY_POD)
+
+
+def _between(words: Words, caveats: Caveats) -> List[Caveat]:
+    """The caveats that touch the two ends of explain and evaluate."""
+    source_end, destination = [_end(words, caveats, option(words.own, name)) for name in _ENDS]
+    asked = Pair(source_end, destination)
+    packet = "%s %s" % (option(words.own, "--protocol"), option(words.own, "--port"))
+    ports = ports_of("All Connections" if words.command == "explain" else packet)
+    touching = [caveat for caveat in caveats.all if any(pair.touches(asked) for pair in caveat.touched)]
+    return at_ports([caveat for caveat in touching if not is_of_ingresses(caveat)], ports)
+
+
+def _end(words: Words, caveats: Caveats, word: str) -> Ends:
+    if "/" not in word:
+        return ANYONE
+    return ends_of_workload(caveats.listed.workload_of.get(word, "") if words.command == "evaluate" else word)
+
+
+def refuse_addresses(words: Words, caveats: Caveats, program: Program) -> None:
+    """Refuses an address that is that of a listed pod: np takes each for an end outside the cluster, where nothing is decided."""
+    found = {name: _pod_at(option(words.own, name), caveats) for name in _ENDS}
+    for name in _ENDS:
+        address = found[name]
+        if address is not None:
+            asked = {each: _name_of(words, pod, program, caveats) for each, pod in found.items() if pod is not None}
+            stop(2, "%s is the address of pod %s, and np takes an address for an end outside the cluster; ask about the pod: %s; "
+                    "--as-address goes on" % (option(words.own, name), address.pod, _line(words, asked)))
+
+
+def _pod_at(word: str, caveats: Caveats) -> Optional[Address]:
+    return caveats.addresses.pod_at(word) if word and "/" not in word else None
+
+
+def _name_of(words: Words, address: Address, program: Program, caveats: Caveats) -> str:
+    """What the command takes for the pod."""
+    if words.command == "evaluate":
+        return address.pod
+    try:
+        return names_of_workload(address.pods.workload, names.workloads(program, caveats.path))[0]
+    except (names.NoNames, IndexError):
+        return address.pods.workload
+
+
+def _line(words: Words, ends: Dict[str, str]) -> str:
+    """The line to type, with these ends in the place of the addresses."""
+    parts: List[str] = []
+    for word in words.own:
+        name = word.partition("=")[0]
+        if name in ends and "=" in word:
+            parts.append("%s=%s" % (name, shell_word(ends[name])))
+        elif parts and parts[-1] in ends:
+            parts.append(shell_word(ends[parts[-1]]))
+        else:
+            parts.append(shell_word(word))
+    return " ".join([source.command(words, words.command), *parts])
