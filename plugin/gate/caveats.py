@@ -21,8 +21,8 @@ def refuse_addresses(statements: List[Statement], workloads: Workloads, caveats:
 
 
 def mark(statements: List[Statement], caveats: StatementCaveats) -> List[Caveat]:
-    """Notes at each statement that is not in error which caveats touch it, and returns all of them, each once, but for those that np's notes
-    on Ingresses say."""
+    """Notes at each statement that is not in error which caveats bear on it, and returns them, each once, but for those that np's notes on
+    Ingresses say."""
     found: List[Caveat] = []
     for statement in statements:
         if statement.state != State.ERROR:
