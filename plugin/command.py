@@ -154,7 +154,8 @@ class Page(Command):
 
 
 class Question(Command):
-    """Has np answer, and says which caveats bear on the answer. Where np refuses a name or an object, more is said about that."""
+    """Has np answer, and says which caveats bear on the answer. Where np refuses a name or an object, more is said
+    about that."""
 
     def check_words(self) -> None:
         self.program.check_words(self.words.command, self.words.own)
@@ -199,7 +200,8 @@ class Question(Command):
         return names.pods(self.list) if self.words.command == "evaluate" else names.workloads(self.program, self.list)
 
     def _tell_foreign(self, ended: Ended) -> None:
-        """Where np refused an item of a manifest since it is a policy that it does not read, says of which kind it is."""
+        """Where np refused an item of a manifest since it is a policy that it does not read, says of which kind it
+        is."""
         refused = _FOREIGN_POLICY.search(decoded(ended.said))
         if refused and self.words.has_manifests:
             self.manifests.tell_foreign(int(refused.group(1)))

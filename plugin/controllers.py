@@ -1,7 +1,8 @@
 """The pods that controllers would make, where manifests have the controllers alone.
 
-np takes a controller without pods for one pod of its template. On a cluster there may be several, which may reach each other, and
-they have labels that the template does not have. So they are made here, as far as the API's reference says what they are.
+np takes a controller without pods for one pod of its template. On a cluster there may be several, which may reach
+each other, and they have labels that the template does not have. So they are made here, as far as the API's reference
+says what they are.
 """
 from __future__ import annotations
 
@@ -30,7 +31,8 @@ _UNKNOWN: Dict[str, Tuple[str, ...]] = {
 
 
 class Group(NamedTuple):
-    """A controller, the pods that were made of it (at least one), and the keys of the labels that they have on a cluster and not here."""
+    """A controller, the pods that were made of it (at least one), and the keys of the labels that they have on a
+    cluster and not here."""
 
     controller: Any
     pods: List[Any]
@@ -50,8 +52,8 @@ class Made(NamedTuple):
 
 
 class UnknownLabel(NamedTuple):
-    """A policy or Service, the key of a label for which it asks and whose value cannot be known, and the controllers of the pods
-    concerned."""
+    """A policy or Service, the key of a label for which it asks and whose value cannot be known, and the controllers
+    of the pods concerned."""
 
     item: Any
     key: str
@@ -61,7 +63,8 @@ class UnknownLabel(NamedTuple):
 def pods_of(items: List[Any], namespace: str = "default") -> Made:
     """The pods of those controllers among the objects of which no pod is there, and whose own controller is not there.
 
-    `namespace` is that of the autoscalers that name none. A controller that np would refuse may have no pod: np says what is wrong.
+    `namespace` is that of the autoscalers that name none. A controller that np would refuse may have no pod: np says
+    what is wrong.
     """
     controllers = _controllers(items)
     supplied = _supplied(items, controllers)
@@ -81,7 +84,8 @@ def pods_of(items: List[Any], namespace: str = "default") -> Made:
 
 
 def unknown_labels(items: List[Any], made: Made) -> List[UnknownLabel]:
-    """The policies and Services that ask for a label that the pods concerned have on a cluster and not here, each once for each key.
+    """The policies and Services that ask for a label that the pods concerned have on a cluster and not here, each
+    once for each key.
 
     A pod that does not meet what else the selector asks is not concerned.
     """
@@ -100,7 +104,8 @@ def unknown_labels(items: List[Any], made: Made) -> List[UnknownLabel]:
 
 
 def _concerned(selector: Selector, unknown: Tuple[str, ...], groups: List[Group]) -> Dict[int, Any]:
-    """The controllers of which the selector selects a pod, if the labels that are not here are such as it asks; each by its identity."""
+    """The controllers of which the selector selects a pod, if the labels that are not here are such as it asks; each
+    by its identity."""
     known = [each for each in selector.requirements if each.key not in unknown]
     return {id(group.controller): group.controller for group in groups
             if selector.namespace in (None, namespace_of(group.controller))

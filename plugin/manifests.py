@@ -53,8 +53,8 @@ class Manifests:
         self._write(items + made.pods)
 
     def tell_foreign(self, number: int) -> None:
-        """Says of which kind the item of the list is that np refused as a policy that it does not read; the first has the
-        number 1."""
+        """Says of which kind the item of the list is that np refused as a policy that it does not read; the first has
+        the number 1."""
         kind = whole_kind(self._manifests[number - 1].item)
         say('item %d is of the kind "%s"; --ignore KIND goes on without such policies' % (number, kind))
 

@@ -1,4 +1,5 @@
-"""What is read of any object of a list. An object may be anything that JSON has: what is not as the API says is np's to refuse."""
+"""What is read of any object of a list. An object may be anything that JSON has: what is not as the API says is np's
+to refuse."""
 from __future__ import annotations
 
 from typing import Any, NamedTuple, Optional, Tuple

@@ -1,5 +1,5 @@
-"""How many pods a controller has, as far as it matters to np: two stand for any greater number, but where selectors tell pods apart by
-their index, each index for which they ask stands for itself."""
+"""How many pods a controller has, as far as it matters to np: two stand for any greater number, but where selectors
+tell pods apart by their index, each index for which they ask stands for itself."""
 from __future__ import annotations
 
 import re

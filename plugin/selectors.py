@@ -8,8 +8,8 @@ from plugin.objects import member, namespace_of, type_of
 
 
 class Requirement(NamedTuple):
-    """What a selector asks of one label: an operator of the API (`In`, `NotIn`, `Exists`, `DoesNotExist`), and values for the first
-    two."""
+    """What a selector asks of one label: an operator of the API (`In`, `NotIn`, `Exists`, `DoesNotExist`), and values
+    for the first two."""
 
     key: str
     operator: str
@@ -23,7 +23,8 @@ class Requirement(NamedTuple):
 
 
 class Selector(NamedTuple):
-    """A selector: the policy or Service that has it, the namespace of the pods (None where it may be any), and what is asked of them."""
+    """A selector: the policy or Service that has it, the namespace of the pods (None where it may be any), and what
+    is asked of them."""
 
     item: Any
     namespace: Optional[str]

@@ -1,7 +1,7 @@
 """Addresses of listed pods: which pod has one, which blocks hold some, and the caveats of ipBlocks.
 
-np takes an address for an end outside the cluster. Addresses are compared as numbers in ascending order, so that pods are not gone through
-for each block.
+np takes an address for an end outside the cluster. Addresses are compared as numbers in ascending order, so that pods
+are not gone through for each block.
 """
 from __future__ import annotations
 

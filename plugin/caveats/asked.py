@@ -19,8 +19,8 @@ _OPTION = "--statement"
 
 
 class AskedStatements:
-    """The statements of a file. What is no regular file is read once, and np is given a copy: `words` names that. Where the file cannot be
-    read there are none, and np says so."""
+    """The statements of a file. What is no regular file is read once, and np is given a copy: `words` names that.
+    Where the file cannot be read there are none, and np says so."""
 
     def __init__(self, words: List[str], room: Room, caveats: Caveats) -> None:
         self.words = list(words)
@@ -67,7 +67,8 @@ class AskedStatements:
 
 
 def named(address: Address, listed: List[str]) -> str:
-    """np's name for the workload of the pod at the address; several where its owner has some, of which one is the pod's."""
+    """np's name for the workload of the pod at the address; several where its owner has some, of which one is the
+    pod's."""
     return " or ".join("workload " + name for name in names_of_workload(address.pods.workload, listed))
 
 

@@ -18,8 +18,8 @@ class Port(NamedTuple):
 
 
 class UnknownLabel(NamedTuple):
-    """A selector that asks for a label which the cluster sets, with a value that nobody knows before: the object that has the selector, the
-    key, and the controllers whose pods get the label, by the names of their workloads."""
+    """A selector that asks for a label which the cluster sets, with a value that nobody knows before: the object that
+    has the selector, the key, and the controllers whose pods get the label, by the names of their workloads."""
 
     object: str
     key: str

@@ -3,8 +3,8 @@ from __future__ import annotations
 
 from typing import FrozenSet, Iterable, NamedTuple, Tuple
 
-# Who is at an end of connections: names of workloads, and names of namespaces with a stroke behind them for their workloads without pods.
-# An end of a question has beside these the names of the sorts that it belongs to.
+# Who is at an end of connections: names of workloads, and names of namespaces with a stroke behind them for their
+# workloads without pods. An end of a question has beside these the names of the sorts that it belongs to.
 Ends = FrozenSet[str]
 
 # The ports of a protocol from the first to the last.
@@ -32,10 +32,11 @@ class Pair(NamedTuple):
 
 
 class Caveat(NamedTuple):
-    """A caveat: its kind by the key, the object that it is about, what there is about it, and the connections that it touches.
+    """A caveat: its kind by the key, the object that it is about, what there is about it, and the connections that it
+    touches.
 
-    It touches these ports alone, or without any all of them. `is_noted` says that np's list has a note that says the same, and `opens` that
-    nothing can come of it but that more passes than np says.
+    It touches these ports alone, or without any all of them. `is_noted` says that np's list has a note that says the
+    same, and `opens` that nothing can come of it but that more passes than np says.
     """
 
     key: str

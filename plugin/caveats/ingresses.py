@@ -1,4 +1,5 @@
-"""Caveats of Ingresses: backends that lead to no pod, or not where they seem to, and workloads that let only named peers in."""
+"""Caveats of Ingresses: backends that lead to no pod, or not where they seem to, and workloads that let only named
+peers in."""
 from __future__ import annotations
 
 from typing import Any, Dict, Iterator, List, NamedTuple, Optional, Set, Tuple
@@ -90,7 +91,8 @@ class Ingresses:
                 yield _caveat("controller-not-named", backend, detail, frozenset([pods.workload]))
 
     def _naming(self, pods: Pods, number: int) -> List[str]:
-        """The policies that let somebody in at the port, where pods of which nothing is known are let in by none of them."""
+        """The policies that let somebody in at the port, where pods of which nothing is known are let in by none of
+        them."""
         selecting = self._policies_of(pods)
         if not any(policy.is_of_namespace and "Ingress" in policy.directions for policy in selecting):
             return []
@@ -153,7 +155,8 @@ def _is_about(rule: Rule, pods: Pods, number: int) -> bool:
 
 
 def _lets_strangers_in(rule: Rule) -> bool:
-    """Whether the rule is for a pod without labels, in a namespace without a name: who a controller is that nobody named."""
+    """Whether the rule is for a pod without labels, in a namespace without a name: who a controller is that nobody
+    named."""
     selections = [peer.selection for peer in rule.peers if peer.selection is not None and peer.selection.namespaces is not None]
     return not rule.peers or any(selection.namespaces is not None and selection.namespaces.is_met({NAME_LABEL: ""})
                                  and selection.pods.is_met({}) for selection in selections)

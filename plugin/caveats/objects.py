@@ -1,7 +1,7 @@
 """The objects of a list, as the caveats need them: pods, namespaces, policies, Services and Ingresses.
 
-The pods are those that np has (docs/use/INPUT.md): without finished ones and those on the network of their node, and with one for each
-controller that has none.
+The pods are those that np has (docs/use/INPUT.md): without finished ones and those on the network of their node, and
+with one for each controller that has none.
 """
 from __future__ import annotations
 
@@ -19,7 +19,8 @@ NAME_LABEL = "kubernetes.io/metadata.name"
 
 
 class Pods(NamedTuple):
-    """Pods that nothing here tells apart. `sidecars` are named ports of containers that restart among the initContainers."""
+    """Pods that nothing here tells apart. `sidecars` are named ports of containers that restart among the
+    initContainers."""
 
     namespace: str
     workload: str
@@ -82,7 +83,8 @@ class Listed:
         return met
 
     def is_met(self, selection: Selection) -> bool:
-        """Whether the selection is about some pod, be it one that np leaves out or one of a workload that is scaled to 0."""
+        """Whether the selection is about some pod, be it one that np leaves out or one of a workload that is scaled
+        to 0."""
         return bool(self.met_by(selection)) or any(self._meets(pods, selection) for pods in self._left_out.values())
 
     def _meets(self, pods: Pods, selection: Selection) -> bool:
@@ -104,7 +106,8 @@ class Listed:
         return {**self.known_namespaces.get(namespace, {}), NAME_LABEL: namespace}
 
     def _candidates(self, selection: Selection) -> Iterator[Pods]:
-        """The pods of its namespaces, or those of them that have one of the labels that it asks for: most selectors ask for one."""
+        """The pods of its namespaces, or those of them that have one of the labels that it asks for: most selectors
+        ask for one."""
         label = selection.pods.one_value()
         by_namespace = self.by_namespace if label is None else self._by_label.get(label, {})
         if selection.namespaces is None:

@@ -1,4 +1,5 @@
-"""Who owns whom: the top owner of each pod, by which np names its workload, and the controllers that stand for a pod of their template.
+"""Who owns whom: the top owner of each pod, by which np names its workload, and the controllers that stand for a pod
+of their template.
 
 docs/use/INPUT.md says which owner counts.
 """

@@ -23,7 +23,8 @@ class Block(NamedTuple):
 
 
 class Peer(NamedTuple):
-    """A peer of a rule, with its place: it has a block, or a selection, or (as `networks` of admin policies) neither."""
+    """A peer of a rule, with its place: it has a block, or a selection, or (as `networks` of admin policies)
+    neither."""
 
     place: str
     block: Optional[Block]
@@ -31,7 +32,8 @@ class Peer(NamedTuple):
 
 
 class Entry(NamedTuple):
-    """An entry of the ports of a rule: a port name, or ports from the first to the last. Without a protocol it is for all."""
+    """An entry of the ports of a rule: a port name, or ports from the first to the last. Without a protocol it is for
+    all."""
 
     place: str
     protocol: str

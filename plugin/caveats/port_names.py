@@ -1,4 +1,5 @@
-"""Caveats of port names in policies: those that stand at no pod that the rule is about, and those that stand at a sidecar alone."""
+"""Caveats of port names in policies: those that stand at no pod that the rule is about, and those that stand at a
+sidecar alone."""
 from __future__ import annotations
 
 from typing import Dict, FrozenSet, Iterator, List, NamedTuple, Tuple

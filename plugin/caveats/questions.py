@@ -73,7 +73,8 @@ def _end(words: Words, caveats: Caveats, word: str) -> Ends:
 
 
 def refuse_addresses(words: Words, caveats: Caveats, program: Program) -> None:
-    """Refuses an address that is that of a listed pod: np takes each for an end outside the cluster, where nothing is decided."""
+    """Refuses an address that is that of a listed pod: np takes each for an end outside the cluster, where nothing is
+    decided."""
     found = {name: _pod_at(option(words.own, name), caveats) for name in _ENDS}
     for name in _ENDS:
         address = found[name]

@@ -1,4 +1,5 @@
-"""Selectors of labels, as the API has them: `matchLabels`, and `matchExpressions` with In, NotIn, Exists and DoesNotExist."""
+"""Selectors of labels, as the API has them: `matchLabels`, and `matchExpressions` with In, NotIn, Exists and
+DoesNotExist."""
 from __future__ import annotations
 
 from typing import Any, FrozenSet, Iterator, Mapping, NamedTuple, Tuple

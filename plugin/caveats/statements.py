@@ -89,7 +89,8 @@ def names_of_workload(owner: str, names: Iterable[str]) -> List[str]:
 
 
 def ports_of(connections: str) -> Asked:
-    """The protocols and their ports, as np prints them; none where the text is no such text, as in a faulty statement."""
+    """The protocols and their ports, as np prints them; none where the text is no such text, as in a faulty
+    statement."""
     try:
         return read_connections(connections)
     except ValueError:

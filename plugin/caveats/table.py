@@ -5,7 +5,8 @@ from typing import Dict, NamedTuple
 
 
 class Kind(NamedTuple):
-    """A kind: its key, which is its anchor in CAVEATS.md, the line about one and about several, and a sentence of help."""
+    """A kind: its key, which is its anchor in CAVEATS.md, the line about one and about several, and a sentence of
+    help."""
 
     key: str
     one: str

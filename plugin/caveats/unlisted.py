@@ -1,4 +1,5 @@
-"""Caveats of what the list does not say: labels that only the cluster knows, workloads without pods, and labels of namespaces."""
+"""Caveats of what the list does not say: labels that only the cluster knows, workloads without pods, and labels of
+namespaces."""
 from __future__ import annotations
 
 from typing import Dict, Iterator, List
@@ -22,7 +23,8 @@ def find(listed: Listed, policies: List[Policy], unknown_labels: List[UnknownLab
 
 
 def _scaled_to_zero(listed: Listed) -> Iterator[Caveat]:
-    """The workloads that have no replicas. A controller that another one made is none: so are ReplicaSets of former rollouts."""
+    """The workloads that have no replicas. A controller that another one made is none: so are ReplicaSets of former
+    rollouts."""
     for item in listed.empty_controllers:
         replicas = values.members(item.get("spec")).get("replicas")
         if type(replicas) is int and replicas == 0 and not has_owner(item):
@@ -32,7 +34,8 @@ def _scaled_to_zero(listed: Listed) -> Iterator[Caveat]:
 
 
 def _without_objects(listed: Listed, policies: List[Policy]) -> Iterator[Caveat]:
-    """The namespaces with pods and no object, where some selector of namespaces asks for a label that is not their name."""
+    """The namespaces with pods and no object, where some selector of namespaces asks for a label that is not their
+    name."""
     asking = _asking(policies)
     for namespace in sorted(listed.by_namespace if asking else []):
         if namespace not in listed.known_namespaces:
@@ -42,7 +45,8 @@ def _without_objects(listed: Listed, policies: List[Policy]) -> Iterator[Caveat]
 
 
 def _asking(policies: List[Policy]) -> Dict[str, str]:
-    """The keys that selectors of namespaces ask for, but for the name, each with the first policy that has such a selector."""
+    """The keys that selectors of namespaces ask for, but for the name, each with the first policy that has such a
+    selector."""
     found: Dict[str, str] = {}
     for policy in policies:
         selections: List[Selection] = [policy.subject]

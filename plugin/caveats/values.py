@@ -1,4 +1,5 @@
-"""Parts of JSON values. np refuses a list in which they are not what they should be; here they count as missing then."""
+"""Parts of JSON values. np refuses a list in which they are not what they should be; here they count as missing
+then."""
 from __future__ import annotations
 
 from typing import Any, Dict, List

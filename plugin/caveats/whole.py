@@ -2,6 +2,7 @@
 from __future__ import annotations
 
 import gc
+from contextlib import contextmanager
 from functools import cached_property
 from pathlib import Path
 from typing import Iterator, List
@@ -14,6 +15,19 @@ from plugin.caveats.policies import policies
 from plugin.caveats.port_names import PortNames
 
 
+@contextmanager
+def _without_collector() -> Iterator[None]:
+    """Keeps Python from looking for cycles within the block: nothing that is made here is in one, and it would take a
+    third of the time."""
+    was_enabled = gc.isenabled()
+    gc.disable()
+    try:
+        yield
+    finally:
+        if was_enabled:
+            gc.enable()
+
+
 class Caveats:
     """The caveats of the list in a file, which is read when they are needed first.
 
@@ -21,14 +35,14 @@ class Caveats:
     """
 
     def __init__(self, path: Path, beside: Beside) -> None:
-        gc.disable()  # nothing that is made here is in a cycle, and to look for cycles would take a third of the time
         self.path = path
         self._beside = beside
 
     @cached_property
     def listed(self) -> objects.Listed:
         """The objects of the list."""
-        return objects.read(self.path, self._beside)
+        with _without_collector():
+            return objects.read(self.path, self._beside)
 
     @cached_property
     def addresses(self) -> Addresses:
@@ -38,7 +52,8 @@ class Caveats:
     @cached_property
     def all(self) -> List[Caveat]:
         """The caveats, by the objects that they are about."""
-        return sorted(dict.fromkeys(self._found()), key=lambda caveat: (caveat.object, caveat.key, caveat.detail))
+        with _without_collector():
+            return sorted(dict.fromkeys(self._found()), key=lambda caveat: (caveat.object, caveat.key, caveat.detail))
 
     def _found(self) -> Iterator[Caveat]:
         found = policies(self.listed)

@@ -12,7 +12,8 @@ from plugin.gate.workloads import Workloads
 
 
 def refuse_addresses(statements: List[Statement], workloads: Workloads, caveats: StatementCaveats) -> None:
-    """Refuses statements about an address that is that of a listed pod: np takes each for an end outside the cluster."""
+    """Refuses statements about an address that is that of a listed pod: np takes each for an end outside the
+    cluster."""
     for statement in statements:
         found = caveats.pod_at(statement.parts) if statement.may_hold else None
         if found is not None:
@@ -21,7 +22,7 @@ def refuse_addresses(statements: List[Statement], workloads: Workloads, caveats:
 
 
 def mark(statements: List[Statement], caveats: StatementCaveats) -> List[Caveat]:
-    """Notes at each statement that is not in error which caveats touch it, and returns all of them, each once, but for
+    """Notes at each statement that is not in error which caveats bear on it, and returns them, each once, but for
     those that np's notes on Ingresses say."""
     found: List[Caveat] = []
     for statement in statements:
@@ -34,6 +35,7 @@ def mark(statements: List[Statement], caveats: StatementCaveats) -> List[Caveat]
 
 
 def _bearing(statement: Statement, touching: List[Caveat]) -> List[Caveat]:
-    """The caveats that bear on what was found: that something passes is not changed by what can only let more through."""
+    """The caveats that bear on what was found: that something passes is not changed by what can only let more
+    through."""
     passes = (statement.parts.verdict == "allow") == (statement.state == State.OK)
     return [caveat for caveat in touching if not (passes and caveat.opens)]

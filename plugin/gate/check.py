@@ -33,7 +33,8 @@ class Finding(Enum):
 
 
 class Answer(NamedTuple):
-    """An answer of np: what it found, at which of the questions (from 0), the packet that breaks that one, and what it said."""
+    """An answer of np: what it found, at which of the questions (from 0), the packet that breaks that one, and what
+    it said."""
 
     finding: Finding
     place: int
@@ -57,7 +58,8 @@ class Check:
         self._room = room
 
     def ask(self, questions: List[Question], path: Path) -> Answer:
-        """Has np judge the questions on the objects in the file. Where they hold it has to say so of as many as there are."""
+        """Has np judge the questions on the objects in the file. Where they hold it has to say so of as many as there
+        are."""
         lines = "".join(question.parts.line() + "\n" for question in questions)
         asked = self._room.write("asked", encoded(lines))
         ended = self.program.run(["check", "--statement", str(asked), str(path)])

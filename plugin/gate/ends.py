@@ -1,5 +1,5 @@
-"""Ends that np's grammar does not have: outside-namespace, which is asked as one statement of np for each namespace that has pods, and one
-for any address."""
+"""Ends that np's grammar does not have: outside-namespace, which is asked as one statement of np for each namespace
+that has pods, and one for any address."""
 from __future__ import annotations
 
 from typing import Iterator, List

@@ -1,7 +1,8 @@
 """The grammar of the gate: how a statement is cut into its parts, and which ends there are.
 
-It is np's grammar with more kinds of ends. Whether the parts are right is np's to say: it is shown a `stand_in`, which has an end of np
-for each of the gate's own. A further kind of end is entered in `EndKind`, in one of the two tables below it, and in `stand_in`.
+It is np's grammar with more kinds of ends. Whether the parts are right is np's to say: it is shown a `stand_in`,
+which has an end of np for each of the gate's own. A further kind of end is entered in `EndKind`, in one of the two
+tables below it, and in `stand_in`.
 """
 from __future__ import annotations
 

@@ -23,8 +23,8 @@ _NO_PORTS = Ports()
 
 
 def judge_ingress(program: Program, statements: List[Statement], path: Path, workloads: Workloads, room: Room) -> Optional[bytes]:
-    """Judges the statements of Ingresses that may hold. Where there are some it returns np's notes on the list: those of `check`, and those
-    on backends of Ingresses that lead nowhere."""
+    """Judges the statements of Ingresses that may hold. Where there are some it returns np's notes on the list: those
+    of `check`, and those on backends of Ingresses that lead nowhere."""
     asked = of_form(statements, Form.INGRESS_CONTROLLER)
     if not asked:
         return None
@@ -56,8 +56,8 @@ def _fetch_rows(program: Program, path: Path, room: Room) -> Tuple[List[bytes], 
 
 
 def _rows_of_ingresses(listing: IO[bytes]) -> List[bytes]:
-    """The rows of Ingresses in a list. It may have millions of rows, so it is not kept, and is searched in large blocks: to look at one row
-    after the other takes several times as long."""
+    """The rows of Ingresses in a list. It may have millions of rows, so it is not kept, and is searched in large
+    blocks: to look at one row after the other takes several times as long."""
     rows: List[bytes] = []
     rest = b"\n"
     while True:
@@ -76,8 +76,8 @@ def _read_row(row: bytes) -> Tuple[str, Ports]:
 
 
 def _first_breaking(parts: Parts, open_ports: Dict[str, Ports], workloads: Workloads) -> Optional[str]:
-    """The first packet that breaks the statement: the first workload in np's order, and its least port. A workload without a row gets
-    nothing through Ingresses, and only TCP comes through them."""
+    """The first packet that breaks the statement: the first workload in np's order, and its least port. A workload
+    without a row gets nothing through Ingresses, and only TCP comes through them."""
     connections = read_connections(parts.connections)
     denies = parts.verdict == "deny"
     for name in workloads.of(parts.destination) or ():

@@ -11,7 +11,8 @@ from plugin.gate.workloads import Workloads
 
 
 def judge_grammar(check: Check, statements: List[Statement]) -> None:
-    """Finds the lines that are no statement. That takes no objects, and np reads all lines before it looks for the names in them."""
+    """Finds the lines that are no statement. That takes no objects, and np reads all lines before it looks for the
+    names in them."""
     rest = [Question(statement, stand_in(statement.parts)) for statement in statements if statement.may_hold]
     while True:
         answer = check.ask_nothing_of(rest)

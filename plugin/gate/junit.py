@@ -22,8 +22,8 @@ def _escaped(text: str) -> str:
 
 
 def report(statements: List[Statement], file: str) -> bytes:
-    """The report on the statements of the file. Where there is no statement its one test is in error: a report without tests would look
-    like success."""
+    """The report on the statements of the file. Where there is no statement its one test is in error: a report
+    without tests would look like success."""
     tests = [_test(file, "line %d: %s" % (each.number, printable(each.text)), each.number, _outcome(each)) for each in statements]
     errors = count(statements, State.ERROR)
     if not statements:
@@ -52,8 +52,8 @@ def _outcome(statement: Statement) -> str:
 
 
 def write_whole(name: str, data: bytes) -> None:
-    """Writes a file whole or not at all: beside its place first. What is no file, as a pipe, is written into. Ends with status 3 where that
-    is not possible."""
+    """Writes a file whole or not at all: beside its place first. What is no file, as a pipe, is written into. Ends
+    with status 3 where that is not possible."""
     try:
         place = Path(name)
         if place.exists() and not place.is_file():

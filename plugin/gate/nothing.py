@@ -22,8 +22,8 @@ def asking_nothing(check: Check, statements: List[Statement], questions: List[Qu
 
 
 def _surely_asks(question: Question, workloads: Workloads) -> bool:
-    """Whether the question is about a packet by the names of the workloads alone: two different workloads are among its ends, or a workload
-    and an address. Most need no run of np for that."""
+    """Whether the question is about a packet by the names of the workloads alone: two different workloads are among
+    its ends, or a workload and an address. Most need no run of np for that."""
     parts = question.statement.parts
     if parts.connections == NO_CONNECTIONS:
         return False
@@ -36,7 +36,8 @@ def _surely_asks(question: Question, workloads: Workloads) -> bool:
 
 
 def _shown_to_ask(check: Check, opposites: List[Question], path: Path) -> Set[Statement]:
-    """The statements whose opposites do not hold. One that does not shows that all statements of its two ends ask about packets."""
+    """The statements whose opposites do not hold. One that does not shows that all statements of its two ends ask
+    about packets."""
     shown: Set[Statement] = set()
     rest = opposites
     while rest:

@@ -1,4 +1,5 @@
-"""The answers, as the gate prints them: a line for each statement, annotations for GitHub, and how many there are of each."""
+"""The answers, as the gate prints them: a line for each statement, annotations for GitHub, and how many there are of
+each."""
 from __future__ import annotations
 
 import re
@@ -14,8 +15,8 @@ _ESCAPES_OF_PROPERTIES = str.maketrans({"%": "%25", "\r": "%0D", "\n": "%0A", ":
 
 
 def printable(text: str) -> str:
-    """The text without control characters: whatever a statement has in it, it must not look like another line of the gate, or move the
-    cursor."""
+    """The text without control characters: whatever a statement has in it, it must not look like another line of the
+    gate, or move the cursor."""
     return _CONTROL.sub("?", text)
 
 

@@ -26,7 +26,8 @@ from plugin.snapshot import MOST
 def run(words: GateWords, program: Program, path: Path, room: Room, caveats: StatementCaveats) -> int:
     """Judges every statement on the list in the file `path`, prints the answers, and returns the status.
 
-    It is 0 where all hold, 5 where one is violated, and 1 where one is in error; the gate ends with that of np where that refuses the list.
+    It is 0 where all hold, 5 where one is violated, and 1 where one is in error; the gate ends with that of np where
+    that refuses the list.
     """
     statements = read_statements(_read_file(words.file))
     if statements:

@@ -22,7 +22,8 @@ class Form(Enum):
 
 
 class State(Enum):
-    """What was found about a statement, as the gate prints it. np says of each run how many statements held, so that none is left out."""
+    """What was found about a statement, as the gate prints it. np says of each run how many statements held, so that
+    none is left out."""
 
     OK = "ok"
     VIOLATED = "violated"
@@ -33,7 +34,8 @@ class State(Enum):
 class Statement:
     """A statement: the number of its line, from 1, its text and parts, and what was found about it.
 
-    The word is the packet that breaks it, the reason for which it is in error, or a remark. The caveats that touch it go by their keys.
+    The word is the packet that breaks it, the reason for which it is in error, or a remark. The caveats that touch it
+    go by their keys.
     """
 
     number: int
@@ -59,7 +61,8 @@ class Statement:
 
 
 def read_statements(data: bytes) -> List[Statement]:
-    """The statements of a file: its lines but for those that are empty or begin with #. Statements are bytes: what is no UTF-8 is kept."""
+    """The statements of a file: its lines but for those that are empty or begin with #. Statements are bytes: what is
+    no UTF-8 is kept."""
     return [_read_line(number, line) for number, line in enumerate(data.split(b"\n"), 1) if line and not _COMMENT.match(line)]
 
 

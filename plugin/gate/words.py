@@ -11,7 +11,8 @@ _NO_FILE = "gate needs a file of statements, or - for standard input"
 
 @dataclass
 class GateWords:
-    """What the gate is asked to do. `file` is `-` for standard input, and `junit` is empty where no report is wanted."""
+    """What the gate is asked to do. `file` is `-` for standard input, and `junit` is empty where no report is
+    wanted."""
 
     file: str
     allow_empty: bool

@@ -14,7 +14,8 @@ from plugin.said import encoded
 
 
 class Workloads:
-    """The workloads of a list. np is asked for them once, when they are needed first; where it refuses the list the gate ends."""
+    """The workloads of a list. np is asked for them once, when they are needed first; where it refuses the list the
+    gate ends."""
 
     def __init__(self, program: Program, path: Path) -> None:
         self._program = program

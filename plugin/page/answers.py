@@ -21,8 +21,8 @@ _MOST_READ = 33_554_433
 class Answers:
     """What np answers about the objects of lists, which are read once: np is asked about the same bytes each time.
 
-    A list is the path of a file, or - for standard input. Where np gives no answer, what it says is repeated, and its status ends
-    the script.
+    A list is the path of a file, or - for standard input. Where np gives no answer, what it says is repeated, and its
+    status ends the script.
     """
 
     def __init__(self, program: Program, room: Room, lists: List[str]) -> None:

@@ -9,7 +9,8 @@ RECEIVED, SENT = 0, 1
 
 
 class Ends:
-    """Ranges of addresses, or pods that do not exist yet, and each workload's rows with them: what it is sent, and what it sends."""
+    """Ranges of addresses, or pods that do not exist yet, and each workload's rows with them: what it is sent, and
+    what it sends."""
 
     def __init__(self) -> None:
         self.texts = Numbered()
@@ -20,7 +21,8 @@ class Ends:
         self._rows.setdefault(workload, ([], []))[side].append(b"%d,%d" % (self.texts.of(end), connections))
 
     def lists(self, count: int) -> Tuple[List[bytes], List[int]]:
-        """The distinct lists of rows, and of each of so many workloads the number of its list, or -1 where it has no row."""
+        """The distinct lists of rows, and of each of so many workloads the number of its list, or -1 where it has no
+        row."""
         numbers: Dict[bytes, int] = {}
         of = [-1] * count
         for workload, sides in sorted(self._rows.items()):
@@ -34,7 +36,8 @@ class Ends:
 
 
 class Asked:
-    """The rows that np explain is asked about: all that let something pass where they are few, or else those from addresses, if few."""
+    """The rows that np explain is asked about: all that let something pass where they are few, or else those from
+    addresses, if few."""
 
     MOST = 100
 

@@ -1,8 +1,8 @@
 """What each workload sends to each, and which workloads are equal.
 
-The values of a workload, one for each that it may send to, are numbers of connections (0: nothing passes). They are kept as the
-places where they change, since many that stand side by side are mostly sent the same. The place of the workload itself is left
-open, since a workload of one pod has no row with itself.
+The values of a workload, one for each that it may send to, are numbers of connections (0: nothing passes). They are
+kept as the places where they change, since many that stand side by side are mostly sent the same. The place of the
+workload itself is left open, since a workload of one pod has no row with itself.
 """
 from __future__ import annotations
 
@@ -53,7 +53,8 @@ class Sent:
         return zip(self._changes[::2], self._changes[1::2])
 
     def text(self, value: int, count: int) -> bytes:
-        """The changes among so many workloads, with that value at the open place: `0:1 5:0` is 1 from place 0 on, 0 from place 5 on."""
+        """The changes among so many workloads, with that value at the open place: `0:1 5:0` is 1 from place 0 on, 0
+        from place 5 on."""
         values = {self.place: value, self.place + 1: self.before, **dict(self.changes())}
         written, last = [], 0
         for to, new in sorted(values.items()):
@@ -66,9 +67,9 @@ class Sent:
 class Matrix:
     """What all workloads send. The rows of one are read at a time.
 
-    Which of them are equal is seen by two sums for each workload: of what it sends, and of what it is sent. In both each value counts
-    as often as the weight of the workload at the other end says. The weights are random numbers of 128 bits, so that different
-    values have the same sum by a chance of one in 2 to the power of 128.
+    Which of them are equal is seen by two sums for each workload: of what it sends, and of what it is sent. In both
+    each value counts as often as the weight of the workload at the other end says. The weights are random numbers of
+    128 bits, so that different values have the same sum by a chance of one in 2 to the power of 128.
     """
 
     def __init__(self, count: int) -> None:
@@ -102,12 +103,13 @@ class Matrix:
         self.sent.append(sent)
 
     def groups(self, others: Sequence[Tuple[int, ...]]) -> Tuple[List[int], List[int]]:
-        """Of each workload the first one that is equal to it, and, where that is itself, the value between the workloads of its group.
+        """Of each workload the first one that is equal to it, and, where that is itself, the value between the
+        workloads of its group.
 
-        Two workloads are equal where they have the same rows with every third one, with themselves and with addresses, and the same
-        row from one to the other as back. `others` has of each workload what must be the same besides the rows between workloads.
-        That is an equivalence, and between two groups, or within one, all rows say the same. So a group has one value at its open
-        places: each is tried.
+        Two workloads are equal where they have the same rows with every third one, with themselves and with
+        addresses, and the same row from one to the other as back. `others` has of each workload what must be the same
+        besides the rows between workloads. That is an equivalence, and between two groups, or within one, all rows
+        say the same. So a group has one value at its open places: each is tried.
         """
         self.sent_of(self._count)
         sums_received = [*accumulate(self._steps)]

@@ -1,4 +1,5 @@
-"""Reads the rows of np list into the table of a page: once, as np prints them. They are not kept, since there may be millions."""
+"""Reads the rows of np list into the table of a page: once, as np prints them. They are not kept, since there may be
+millions."""
 from __future__ import annotations
 
 from typing import Dict, List, NoReturn, Tuple
@@ -16,7 +17,8 @@ _MOST_KNOWN = 100_000
 
 
 class ListReader:
-    """Reads the rows of np list. First are those between workloads, by source and then by destination, in the order of the names."""
+    """Reads the rows of np list. First are those between workloads, by source and then by destination, in the order
+    of the names."""
 
     def __init__(self, table: Table, lines: Lines) -> None:
         self._table = table
@@ -24,13 +26,14 @@ class ListReader:
         self._names = table.workloads.texts
         self._places = table.workloads.numbers
         table.matrix = Matrix(len(self._names))
-        # The last row between workloads: the place of its source, how its line ends with it, what passes, and the destination's place.
+        # The last row between workloads: the place of its source, how its line ends with it, what passes, and the
+        # destination's place.
         self._source = -1
         self._trail = b"\0"
         self._connections = -1
         self._destination = -1
-        # What such rows say, by their lines as far as the source: the place of the destination, and what passes. Other sources have
-        # rows that begin in the same way; most are known by it, which takes half the time.
+        # What such rows say, by their lines as far as the source: the place of the destination, and what passes.
+        # Other sources have rows that begin in the same way; most are known by it, which takes half the time.
         self._known: Dict[bytes, Tuple[int, int]] = {}
         # The rows of one pair that speak of one family each: the texts of its members in JSON.
         self._held: Dict[Tuple[int, int], List[bytes]] = {}
@@ -95,7 +98,8 @@ class ListReader:
     def _pass_alike(self, line: bytes, destination: int) -> int:
         """Passes the rows that say of the next workloads what this line says, and returns the last one's destination.
 
-        Most rows of a large table are such. Twice as many are tried each time, until they are too many, and then half as many.
+        Most rows of a large table are such. Twice as many are tried each time, until they are too many, and then half
+        as many.
         """
         trail = self._trail
         lead = line[:-len(self._names[destination] + trail)]
@@ -111,7 +115,8 @@ class ListReader:
         return destination
 
     def _end_of_alike(self, destination: int) -> int:
-        """The place before which rows may be alike: that of the source itself, or where the namespace begins or ends that is kept."""
+        """The place before which rows may be alike: that of the source itself, or where the namespace begins or ends
+        that is kept."""
         is_inside = self._table.is_inside
         end = self._source if destination < self._source else len(is_inside)
         if is_inside[self._source]:

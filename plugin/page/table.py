@@ -13,8 +13,8 @@ from plugin.said import encoded, stop
 class Table:
     """The rows of a snapshot, by the numbers of the workloads and of what passes (0: nothing).
 
-    `only` is the one namespace whose rows are kept: those with an end in it (empty: all). The workloads are named first, by
-    `read_exposure` or `read_names`; `reading` then adds the rows of np list.
+    `only` is the one namespace whose rows are kept: those with an end in it (empty: all). The workloads are named
+    first, by `read_exposure` or `read_names`; `reading` then adds the rows of np list.
     """
 
     def __init__(self, only: str) -> None:
@@ -51,7 +51,8 @@ class Table:
     def read_names(self, lines: Iterable[bytes]) -> None:
         """Names the workloads from the rows of np list, for where np refuses the exposure.
 
-        Every workload is the destination of exactly one row whose source is the range that begins with the least address.
+        Every workload is the destination of exactly one row whose source is the range that begins with the least
+        address.
         """
         for _, destination, source in rows(line for line in lines if b'"source":"0.0.0.0/' in line):
             if b"[" not in source:
@@ -83,8 +84,8 @@ class Table:
             b"\n}\n"])
 
     def _groups_json(self, count: int) -> bytes:
-        """Of each workload its group; of each group the value within it, the row with itself, what comes through Ingresses, and
-        what it sends."""
+        """Of each workload its group; of each group the value within it, the row with itself, what comes through
+        Ingresses, and what it sends."""
         _, lists = self.ranges.lists(count)
         through = [self.through.get(place, 0) for place in range(count)]
         leaders, inner = self.matrix.groups(list(zip(through, lists)))

@@ -25,9 +25,9 @@ _SMALLER = "make a page of one namespace at a time, with --only NAMESPACE, or re
 class Request(NamedTuple):
     """What a page is to be made of.
 
-    `files` are the lists, and `before` those of an earlier snapshot, if any: each is a path, or - for standard input. `only` is the
-    one namespace whose rows the page has (empty: all). `commands` explain two ends: what stands before them, and what behind them.
-    `caveats` are lines that stand behind np's notes.
+    `files` are the lists, and `before` those of an earlier snapshot, if any: each is a path, or - for standard input.
+    `only` is the one namespace whose rows the page has (empty: all). `commands` explain two ends: what stands before
+    them, and what behind them. `caveats` are lines that stand behind np's notes.
     """
 
     files: List[str]
@@ -39,8 +39,8 @@ class Request(NamedTuple):
 
 
 def write_page(program: Program, room: Room, request: Request) -> int:
-    """Writes the page to standard output, and returns the status: 1 where it is too large. Where np gives no answer its status ends
-    the script."""
+    """Writes the page to standard output, and returns the status: 1 where it is too large. Where np gives no answer
+    its status ends the script."""
     most = os.environ.get("NP_PAGE_MOST") or _MOST_BYTES
     if not most.isdecimal():
         stop(2, "NP_PAGE_MOST is no number of bytes: %s" % most)

@@ -11,7 +11,8 @@ _PLAIN = re.compile(r"[A-Za-z0-9_./:=@%+,-]+")
 
 
 class PageWords:
-    """The lists of an earlier snapshot, the one namespace that the page has (empty: all), and its title (empty: not given)."""
+    """The lists of an earlier snapshot, the one namespace that the page has (empty: all), and its title (empty: not
+    given)."""
 
     def __init__(self) -> None:
         self.before: List[str] = []
