@@ -5,7 +5,7 @@ import os
 import re
 from functools import cached_property
 from pathlib import Path
-from typing import TYPE_CHECKING, List
+from typing import TYPE_CHECKING, List, Optional
 
 from plugin import said, snapshot, words as command_line
 from plugin.caveats.beside import Beside
@@ -45,6 +45,7 @@ class Command:
             kubectl.find()
         with Room() as self.room:
             self.list = self._fetch()
+            said.name_item = self._name_item
             return self.answer()
 
     def check_words(self) -> None:
@@ -54,6 +55,17 @@ class Command:
     def answer(self) -> int:
         """Answers from the list; returns the status."""
         raise NotImplementedError
+
+    def _name_item(self, number: int) -> Optional[str]:
+        """The object that np counts so, as a person names it, and where it stands."""
+        if self.words.has_manifests:
+            return self.manifests.name(number)
+        from plugin import jsontext, objects
+        try:
+            items = jsontext.objects(self.list.read_bytes())
+        except (OSError, jsontext.NotTaken):
+            return None
+        return objects.named(items[number - 1]) if number <= len(items) else None
 
     @cached_property
     def caveats(self) -> Caveats:

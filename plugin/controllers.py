@@ -11,7 +11,7 @@ from typing import Any, Dict, Iterable, Iterator, List, NamedTuple, Optional, Se
 
 from plugin.objects import Place, member, namespace_of, place_of, type_of
 from plugin.replicas import JOB_INDEX, JOBS, POD_INDEX, POD_NAME, Replicas
-from plugin.selectors import Selector, selectors_of
+from plugin.pod_selectors import PodSelector, selectors_of
 
 _TYPES = {("apps/v1", "Deployment"), ("apps/v1", "ReplicaSet"), ("apps/v1", "StatefulSet"), ("apps/v1", "DaemonSet"),
           ("v1", "ReplicationController"), ("batch/v1", "Job"), ("batch/v1", "CronJob")}
@@ -94,7 +94,7 @@ def unknown_labels(items: List[Any], made: Made) -> List[UnknownLabel]:
         groups.setdefault(group.unknown, []).append(group)
     found: Dict[Tuple[int, str], Tuple[Any, Dict[int, Any]]] = {}
     for selector in selectors_of(items):
-        asked = {each.key for each in selector.requirements}
+        asked = {each.key for each in selector.asks.requirements}
         for unknown, alike in groups.items():
             keys = [key for key in unknown if key in asked]
             concerned = _concerned(selector, unknown, alike) if keys else {}
@@ -103,10 +103,10 @@ def unknown_labels(items: List[Any], made: Made) -> List[UnknownLabel]:
     return [UnknownLabel(item, key, list(controllers.values())) for (_, key), (item, controllers) in found.items()]
 
 
-def _concerned(selector: Selector, unknown: Tuple[str, ...], groups: List[Group]) -> Dict[int, Any]:
+def _concerned(selector: PodSelector, unknown: Tuple[str, ...], groups: List[Group]) -> Dict[int, Any]:
     """The controllers of which the selector selects a pod, if the labels that are not here are such as it asks; each
     by its identity."""
-    known = [each for each in selector.requirements if each.key not in unknown]
+    known = [each for each in selector.asks.requirements if each.key not in unknown]
     return {id(group.controller): group.controller for group in groups
             if selector.namespace in (None, namespace_of(group.controller))
             and any(all(each.is_met(pod["metadata"]["labels"]) for each in known) for pod in group.pods)}

@@ -4,7 +4,7 @@ from __future__ import annotations
 import re
 from collections import Counter
 from pathlib import Path
-from typing import Any, Dict, Iterator, List
+from typing import Any, Dict, Iterator, List, Optional
 
 from plugin import documents, kinds, kubectl, unknown
 from plugin.caveats.beside import Beside, UnknownLabel
@@ -51,6 +51,14 @@ class Manifests:
             concerned = [workload(namespace_of(each), each["kind"], each["metadata"]["name"]) for each in label.controllers]
             self._beside.unknown_labels.append(UnknownLabel(named(label.item), label.key, concerned))
         self._write(items + made.pods)
+
+    def name(self, number: int) -> Optional[str]:
+        """The object of the list that np counts so, from 1, and where it stands. Behind those of the manifests are the pods
+        that were made."""
+        if number > len(self._manifests):
+            return None
+        manifest = self._manifests[number - 1]
+        return "%s in %s" % (named(manifest.item), manifest.document.place)
 
     def tell_foreign(self, number: int) -> None:
         """Says of which kind the item of the list is that np refused as a policy that it does not read; the first has

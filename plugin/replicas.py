@@ -7,7 +7,7 @@ from itertools import islice
 from typing import Any, Dict, Iterator, List, NamedTuple, Optional, Set, Tuple
 
 from plugin.objects import Place, member, namespace_of, type_of, whole_number
-from plugin.selectors import selectors_of
+from plugin.pod_selectors import selectors_of
 
 POD_NAME, POD_INDEX = "statefulset.kubernetes.io/pod-name", "apps.kubernetes.io/pod-index"
 JOB_INDEX = "batch.kubernetes.io/job-completion-index"
@@ -80,7 +80,7 @@ def _indexes_asked(items: List[Any]) -> Dict[Tuple[str, str], Set[int]]:
     """The indexes that selectors name, by the key of the label, and for names of pods by that of the controller."""
     found: Dict[Tuple[str, str], Set[int]] = {}
     for selector in selectors_of(items):
-        for key, _, values in selector.requirements:
+        for key, _, values in selector.asks.requirements:
             for value in values if key in (POD_NAME, POD_INDEX, JOB_INDEX) else ():
                 name, _, index = value.rpartition("-") if key == POD_NAME else ("", "", value)
                 if _INDEX.fullmatch(index):

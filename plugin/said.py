@@ -4,7 +4,7 @@ from __future__ import annotations
 import os
 import re
 import sys
-from typing import NoReturn, Optional
+from typing import Callable, NoReturn, Optional
 
 # What would end a line, move the cursor or turn around the letters that follow, wherever a name has it.
 _CONTROL = re.compile("[\x00-\x1f\x7f-\x9f\u2028\u2029\u202a-\u202e\u2066-\u2069]")
@@ -13,6 +13,10 @@ _ESCAPES = {"\n": "\\n", "\r": "\\r", "\t": "\\t"}
 
 # Who speaks, at the head of each line.
 speaker = "kubectl np"
+
+# What an item of the list is, by its number from 1, where that is known.
+name_item: Optional[Callable[[int], Optional[str]]] = None
+_ITEMS = re.compile(rb"^error: items? ([0-9]{1,9})(?: and ([0-9]{1,9}))?: ", re.MULTILINE)
 
 # Whether notes are left out.
 is_quiet = False
@@ -90,8 +94,14 @@ def note(text: str) -> None:
 
 
 def relay(data: bytes) -> None:
-    """Repeats on standard error what another program said there, line by line."""
+    """Repeats on standard error what another program said there, line by line. Where np names an item of the list by its
+    number, it is said which object that is."""
     _write_error(encoded(_CONTROL_IN_LINES.sub(_escape, decoded(data))))
+    for fault in _ITEMS.finditer(data):
+        for number in map(int, filter(None, fault.groups())):
+            name = name_item(number) if name_item is not None else None
+            if name is not None:
+                say("item %d is %s" % (number, name))
 
 
 def step(text: str) -> None:

@@ -1,68 +1,77 @@
-"""The selectors of pods in policies and Services: what they ask of labels, and of the pods of which namespace."""
+"""Selectors of labels, as the API has them: `matchLabels`, and `matchExpressions` with In, NotIn, Exists and
+DoesNotExist."""
 from __future__ import annotations
 
-from typing import Any, Dict, FrozenSet, Iterable, Iterator, List, NamedTuple, Optional, Tuple
+from typing import Any, FrozenSet, Iterator, Mapping, NamedTuple, Tuple
 
-from plugin import kinds
-from plugin.objects import member, namespace_of, type_of
+from plugin import values
 
 
 class Requirement(NamedTuple):
-    """What a selector asks of one label: an operator of the API (`In`, `NotIn`, `Exists`, `DoesNotExist`), and values
-    for the first two."""
+    """What a selector asks of one key. Exists and DoesNotExist have no values."""
 
     key: str
     operator: str
     values: FrozenSet[str] = frozenset()
 
-    def is_met(self, labels: Dict[str, Any]) -> bool:
-        """Whether a pod with these labels meets it; none does where the API has no such operator."""
+    def is_met(self, labels: Mapping[str, str]) -> bool:
+        """Whether the labels meet it. A key that is missing meets NotIn, as the API says."""
+        value = labels.get(self.key)
+        if self.operator == "In":
+            return value in self.values
+        if self.operator == "NotIn":
+            return value not in self.values
         if self.operator in ("Exists", "DoesNotExist"):
-            return (self.key in labels) == (self.operator == "Exists")
-        return self.operator in ("In", "NotIn") and (labels.get(self.key) in self.values) == (self.operator == "In")
+            return (value is not None) == (self.operator == "Exists")
+        return False  # the API has no other operator
+
+    def __str__(self) -> str:
+        listed = ",".join(sorted(self.values))
+        if self.operator in ("In", "NotIn"):
+            is_one = self.operator == "In" and len(self.values) == 1
+            return "%s=%s" % (self.key, listed) if is_one else "%s %s (%s)" % (self.key, self.operator.lower(), listed)
+        return self.key if self.operator == "Exists" else "!" + self.key
 
 
 class Selector(NamedTuple):
-    """A selector: the policy or Service that has it, the namespace of the pods (None where it may be any), and what
-    is asked of them."""
+    """What labels have to meet: all requirements. Without any, all labels do."""
 
-    item: Any
-    namespace: Optional[str]
-    requirements: List[Requirement]
+    requirements: Tuple[Requirement, ...] = ()
 
+    def is_met(self, labels: Mapping[str, str]) -> bool:
+        """Whether the labels meet the selector."""
+        for requirement in self.requirements:
+            if not requirement.is_met(labels):
+                return False
+        return True
 
-def selectors_of(items: Iterable[Any]) -> Iterator[Selector]:
-    """The selectors of pods in the Services and in the policies that np reads, in the order of the objects."""
-    for item in items:
-        if type_of(item) == ("v1", "Service"):
-            yield Selector(item, namespace_of(item), _of_labels(member(item, "spec", "selector")))
-        elif type_of(item) in kinds.POLICY_TYPES:
-            for selector, is_at_home in _pod_selectors(member(item, "spec")):
-                yield Selector(item, namespace_of(item) if is_at_home else None, _of_selector(selector))
+    def one_value(self) -> "Tuple[str, str] | None":
+        """A label that all labels which meet the selector have, where it asks for one."""
+        for key, operator, allowed in self.requirements:
+            if operator == "In" and len(allowed) == 1:
+                return key, next(iter(allowed))
+        return None
 
-
-def _pod_selectors(value: Any) -> Iterator[Tuple[Any, bool]]:
-    """The selectors of pods within the value, and whether each is about the namespace of its policy alone."""
-    if isinstance(value, dict) and "podSelector" in value:
-        yield value["podSelector"], value.get("namespaceSelector") is None
-    if isinstance(value, (dict, list)):
-        for inner in value.values() if isinstance(value, dict) else value:
-            yield from _pod_selectors(inner)
+    def __str__(self) -> str:
+        """The selector as kubectl writes it."""
+        return ",".join(map(str, self.requirements)) or "everything"
 
 
-def _of_selector(selector: Any) -> List[Requirement]:
-    expressions = member(selector, "matchExpressions")
-    found = [_of_expression(each) for each in expressions] if isinstance(expressions, list) else []
-    return _of_labels(member(selector, "matchLabels")) + found
+EVERYTHING = Selector()
 
 
-def _of_labels(labels: Any) -> List[Requirement]:
-    return [Requirement(key, "In", _texts([value])) for key, value in labels.items()] if isinstance(labels, dict) else []
+def selector(value: Any) -> Selector:
+    """The selector that the JSON value is."""
+    return Selector(tuple(_requirements(values.members(value))))
 
 
-def _of_expression(expression: Any) -> Requirement:
-    return Requirement(str(member(expression, "key")), str(member(expression, "operator")), _texts(member(expression, "values")))
+def selector_of_labels(value: Any) -> Selector:
+    """The selector of a Service, which is a map of labels."""
+    return Selector(tuple(Requirement(key, "In", frozenset((part,))) for key, part in values.labels(value).items()))
 
 
-def _texts(values: Any) -> FrozenSet[str]:
-    return frozenset(value for value in values if isinstance(value, str)) if isinstance(values, list) else frozenset()
+def _requirements(value: Mapping[str, Any]) -> Iterator[Requirement]:
+    yield from selector_of_labels(value.get("matchLabels")).requirements
+    for expression in values.objects(value.get("matchExpressions")):
+        yield Requirement(values.text(expression.get("key")), values.text(expression.get("operator")),
+                          frozenset(values.texts(expression.get("values"))))

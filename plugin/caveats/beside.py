@@ -3,7 +3,7 @@ from __future__ import annotations
 
 from typing import Any, Dict, FrozenSet, Iterable, List, NamedTuple, Tuple
 
-from plugin.caveats import values
+from plugin import values
 
 # The type of an object, its namespace and its name.
 Place = Tuple[str, str, str]

@@ -4,14 +4,14 @@ from __future__ import annotations
 
 from typing import Any, Dict, Iterator, List, NamedTuple, Optional, Set, Tuple
 
-from plugin.caveats import values
+from plugin import values
 from plugin.caveats.beside import Port
 from plugin.caveats.caveat import CONTROLLER, Caveat, Ends, Pair
 from plugin.caveats.objects import NAME_LABEL, Listed, Pods, Selection
 from plugin.caveats.owners import Item
 from plugin.caveats.policies import Entry, Policy, Rule
 from plugin.caveats.port_names import some
-from plugin.caveats.selectors import selector_of_labels
+from plugin.selectors import selector_of_labels
 
 
 class _Backend(NamedTuple):

@@ -9,11 +9,11 @@ import json
 from pathlib import Path
 from typing import Any, Dict, FrozenSet, Iterator, List, NamedTuple, Optional, Tuple
 
-from plugin.caveats import values
+from plugin import values
 from plugin.caveats.beside import Beside, Port, pod_spec, ports_of
 from plugin.caveats.caveat import Ends, place_of
 from plugin.caveats.owners import Item, Owners, type_of, workload
-from plugin.caveats.selectors import Selector
+from plugin.selectors import Selector
 
 NAME_LABEL = "kubernetes.io/metadata.name"
 

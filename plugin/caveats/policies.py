@@ -3,12 +3,12 @@ from __future__ import annotations
 
 from typing import Any, Dict, FrozenSet, Iterator, List, NamedTuple, Optional, Tuple
 
-from plugin.caveats import values
+from plugin import values
 from plugin.caveats.beside import Port
 from plugin.caveats.caveat import Ends, Span
 from plugin.caveats.objects import Listed, Pods, Selection
 from plugin.caveats.owners import Item
-from plugin.caveats.selectors import EVERYTHING, Selector, selector
+from plugin.selectors import EVERYTHING, Selector, selector
 
 _NETWORK = ("networking.k8s.io/v1", "NetworkPolicy")
 _ADMIN = "policy.networking.k8s.io/v1alpha1"

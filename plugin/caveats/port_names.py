@@ -8,7 +8,7 @@ from plugin.caveats.beside import Port
 from plugin.caveats.caveat import ANYONE, Caveat, of_direction
 from plugin.caveats.objects import Listed, Pods, Selection
 from plugin.caveats.policies import Entry, Policy, Rule
-from plugin.caveats.selectors import EVERYTHING
+from plugin.selectors import EVERYTHING
 
 _ALL_PODS = Selection("", EVERYTHING, EVERYTHING)
 

@@ -4,7 +4,7 @@ from __future__ import annotations
 
 from typing import Dict, Iterator, List
 
-from plugin.caveats import values
+from plugin import values
 from plugin.caveats.beside import UnknownLabel
 from plugin.caveats.caveat import Caveat, at_either_end, place_of
 from plugin.caveats.objects import NAME_LABEL, Listed, Selection
