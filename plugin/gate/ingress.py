@@ -2,9 +2,8 @@
 from __future__ import annotations
 
 import re
-import subprocess
 from pathlib import Path
-from typing import IO, Dict, List, Optional, Tuple
+from typing import Dict, List, Optional, Tuple
 
 from plugin import children
 from plugin.gate.check import give_up
@@ -13,22 +12,20 @@ from plugin.gate.ports import Ports, read_connections
 from plugin.gate.statements import Form, Statement, of_form
 from plugin.gate.workloads import Workloads
 from plugin.program import Program
-from plugin.room import Room
 from plugin.said import decoded, stop
 
 # Behind the end of the row before, each up to its own end.
 _ROWS = re.compile(rb"\n\{ingress-controller\} => ([^\n]*)")
-_BLOCK = 1 << 20
 _NO_PORTS = Ports()
 
 
-def judge_ingress(program: Program, statements: List[Statement], path: Path, workloads: Workloads, room: Room) -> Optional[bytes]:
+def judge_ingress(program: Program, statements: List[Statement], path: Path, workloads: Workloads) -> Optional[bytes]:
     """Judges the statements of Ingresses that may hold. Where there are some it returns np's notes on the list: those
     of `check`, and those on backends of Ingresses that lead nowhere."""
     asked = of_form(statements, Form.INGRESS_CONTROLLER)
     if not asked:
         return None
-    rows, notes = _fetch_rows(program, path, room)
+    rows, notes = _fetch_rows(program, path)
     try:
         open_ports = dict(_read_row(row) for row in rows)
         for statement in asked:
@@ -40,33 +37,17 @@ def judge_ingress(program: Program, statements: List[Statement], path: Path, wor
     return notes
 
 
-def _fetch_rows(program: Program, path: Path, room: Room) -> Tuple[List[bytes], bytes]:
+def _fetch_rows(program: Program, path: Path) -> Tuple[List[bytes], bytes]:
     """The rows of Ingresses, and np's notes."""
     try:
-        with room.create("notes") as said:
-            listing = children.start([program.path, "list", path], stdout=subprocess.PIPE, stderr=said)
-            rows = _rows_of_ingresses(listing.stdout) if listing.stdout else []
-            status = children.wait(listing)
-        notes = room.path("notes").read_bytes()
+        listing = children.Stream([program.path, "list", path])
     except OSError as error:
         stop(3, "%s cannot be run: %s" % (program.name, error.strerror))
-    if status:
-        give_up(program, status, notes)
-    return rows, notes
-
-
-def _rows_of_ingresses(listing: IO[bytes]) -> List[bytes]:
-    """The rows of Ingresses in a list. It may have millions of rows, so it is not kept, and is searched in large
-    blocks: to look at one row after the other takes several times as long."""
-    rows: List[bytes] = []
-    rest = b"\n"
-    while True:
-        block = listing.read(_BLOCK)
-        if not block:
-            return rows
-        whole, end, rest = (rest + block).rpartition(b"\n")
-        rows += _ROWS.findall(whole)
-        rest = end + rest
+    rows = listing.found(_ROWS)
+    ended = listing.end()
+    if ended.status:
+        give_up(program, ended.status, ended.said)
+    return rows, ended.said
 
 
 def _read_row(row: bytes) -> Tuple[str, Ports]:

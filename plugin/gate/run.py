@@ -70,7 +70,7 @@ def _judge(words: GateWords, statements: List[Statement], program: Program, path
         refuse_unknown_namespaces(statements, workloads)
     asked = questions(statements, workloads)
     notes = judge_all(check, asked, path, workloads)
-    notes_on_ingresses = judge_ingress(program, statements, path, workloads, room)
+    notes_on_ingresses = judge_ingress(program, statements, path, workloads)
     for statement in asking_nothing(check, statements, asked, path, workloads):
         if words.allow_empty:
             statement.word = "nothing is asked"
