@@ -19,7 +19,7 @@ _FOREIGN_POLICY = re.compile(r"^error: item ([0-9]+): kind: ForeignPolicy$", re.
 
 def command_of(words: Words, program: Program) -> Command:
     """The command that the words name."""
-    kinds = {"snapshot": Snapshot, "names": Names, "gate": Gate, "page": Page}
+    kinds = {"snapshot": Snapshot, "names": Names, "gate": Gate, "changes": Changes, "page": Page}
     return kinds.get(words.command, Question)(words, program)
 
 
@@ -95,6 +95,15 @@ class Gate(Command):
     def answer(self) -> int:
         from plugin.gate.run import run
         return run(self.gate_words, self.program, self.list, self.room)
+
+
+class Changes(Command):
+    """Says what opens and what closes between two states, each with objects of its own."""
+
+    def run(self) -> int:
+        from plugin.changes.run import run
+        from plugin.changes.words import read_words
+        return run(read_words(self.words), self.program)
 
 
 class Page(Command):
