@@ -24,7 +24,8 @@ _FOREIGN_POLICY = re.compile(r"^error: item ([0-9]+): kind: ForeignPolicy$", re.
 
 def command_of(words: Words, program: Program) -> Command:
     """The command that the words name."""
-    kinds = {"caveats": ListOfCaveats, "snapshot": Snapshot, "names": Names, "gate": Gate, "page": Page, "check": Check}
+    kinds = {"caveats": ListOfCaveats, "snapshot": Snapshot, "names": Names, "gate": Gate, "changes": Changes, "page": Page,
+             "check": Check}
     return kinds.get(words.command, Question)(words, program)
 
 
@@ -134,6 +135,15 @@ class Gate(Command):
         from plugin.caveats.statements import StatementCaveats
         from plugin.gate.run import run
         return run(self.gate_words, self.program, self.list, self.room, StatementCaveats(self.caveats))
+
+
+class Changes(Command):
+    """Says what opens and what closes between two states, each with objects of its own."""
+
+    def run(self) -> int:
+        from plugin.changes.run import run
+        from plugin.changes.words import read_words
+        return run(read_words(self.words), self.program)
 
 
 class Page(Command):

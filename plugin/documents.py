@@ -18,7 +18,8 @@ from plugin.said import say, stop
 
 # kubectl reads these of a folder.
 _SUFFIXES = (".json", ".yaml", ".yml")
-_KUSTOMIZATIONS = ("kustomization.yaml", "kustomization.yml", "Kustomization")
+# A folder with one of these is an overlay.
+KUSTOMIZATIONS = ("kustomization.yaml", "kustomization.yml", "Kustomization")
 _STANDARD_INPUT = "standard input"
 
 # A line at which kubectl ends a document.
@@ -73,7 +74,7 @@ def _files_of_folder(folder: str, is_recursive: bool) -> Iterator[str]:
     for path, folders, files in os.walk(folder, onerror=_refuse_folder):
         folders.sort()
         for name in sorted(files):
-            if name in _KUSTOMIZATIONS:
+            if name in KUSTOMIZATIONS:
                 say("%s is an overlay, which -k builds; its %s is passed over" % (path, name))
             elif name.endswith(_SUFFIXES):
                 yield os.path.join(path, name)

@@ -12,7 +12,7 @@ from plugin.said import stop
 
 # np's commands that ask about objects, and the plugin's own.
 QUESTIONS = ("list", "explain", "exposure", "evaluate", "unused", "check", "flatten")
-COMMANDS = QUESTIONS + ("sample", "caveats", "snapshot", "names", "gate", "page", "filter", "version", "help")
+COMMANDS = QUESTIONS + ("sample", "caveats", "snapshot", "names", "gate", "changes", "page", "filter", "version", "help")
 _WITH_ENDS = ("explain", "evaluate", "check", "gate")
 
 # Options of kubectl that say which cluster, and as whom: those that stand alone, and those that have a value.
@@ -169,6 +169,8 @@ def _take_bare_word(words: Words, word: str) -> None:
 
 def check_sources(words: Words) -> None:
     """Refuses words that do not go together."""
+    if words.command == "changes":
+        return  # it has the words of each state that it compares looked at by themselves
     if words.command in ("sample", "version") and not words.has_cluster:
         stop(2, "%s reads no objects" % words.command)
     if sum(map(bool, (words.paths, words.overlay, words.list_file))) > 1:

@@ -12,7 +12,7 @@ from plugin.caveats.policies import Block
 from plugin.caveats.told import OF_STATEMENTS
 from plugin.caveats.whole import Caveats
 from plugin.gate.grammar import End, EndKind, Parts
-from plugin.gate.ports import Ports, read_connections
+from plugin.ports import Ports, read_connections
 
 # What np puts behind the name of a workload where an owner has several.
 _NUMBER = re.compile(r"#[0-9]+\Z")

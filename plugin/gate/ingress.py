@@ -8,7 +8,7 @@ from typing import Dict, List, Optional, Tuple
 from plugin import children
 from plugin.gate.check import give_up
 from plugin.gate.grammar import Parts
-from plugin.gate.ports import Ports, read_connections
+from plugin.ports import Ports, read_connections
 from plugin.gate.statements import Form, Statement, of_form
 from plugin.gate.workloads import Workloads
 from plugin.program import Program

@@ -1,7 +1,7 @@
 """Connections, in the text that np prints, and sets of ports."""
 from __future__ import annotations
 
-from typing import Iterable, List, Optional, Tuple
+from typing import Dict, Iterable, List, Optional, Tuple
 
 _PROTOCOLS = ("TCP", "UDP", "SCTP")
 _LAST_PORT = 65535
@@ -21,6 +21,14 @@ class Ports:
     def least(self) -> Optional[int]:
         """The least port, or None where there is none."""
         return self._ranges[0][0] if self._ranges else None
+
+    def is_whole(self) -> bool:
+        """Whether it has every port."""
+        return self._ranges == ALL_PORTS._ranges
+
+    def text(self) -> str:
+        """The ports as `read` takes them; empty where there is none."""
+        return ",".join(str(first) if first == last else "%d-%d" % (first, last) for first, last in self._ranges)
 
     def __and__(self, other: Ports) -> Ports:
         common: List[Tuple[int, int]] = []
@@ -67,3 +75,17 @@ def read_connections(text: str) -> List[Tuple[str, Ports]]:
         return []
     parts = (part.partition(" ") for part in text.split("; "))
     return [(protocol, Ports.read(ports)) for protocol, _, ports in parts]
+
+
+def write_connections(ports: Dict[str, Ports]) -> str:
+    """The text of the protocols and their ports, as np prints it; empty where there are none."""
+    if all(protocol in ports and ports[protocol].is_whole() for protocol in _PROTOCOLS):
+        return "All Connections"
+    texts = ((protocol, ports[protocol].text()) for protocol in _PROTOCOLS if protocol in ports)
+    return "; ".join("%s %s" % each for each in texts if each[1])
+
+
+def more(new: str, old: str) -> str:
+    """What the connections `new` have and `old` have not, both as np prints them; empty where there is nothing."""
+    known = dict(read_connections(old))
+    return write_connections({protocol: ports - known.get(protocol, Ports()) for protocol, ports in read_connections(new)})
