@@ -19,7 +19,7 @@ def main() -> int:
     if words.wants_help:
         write(helptext.of(words.command))
     elif not words.command:
-        helptext.print_usage_error(program)
+        helptext.print_usage_error()
         return 2
     elif words.command == "help":
         command_line.check_own(words)

@@ -5,7 +5,6 @@ from __future__ import annotations
 from typing import Dict
 
 from plugin import parts, said
-from plugin.program import Program
 
 
 def _texts() -> Dict[str, bytes]:
@@ -21,8 +20,6 @@ def of(command: str) -> bytes:
     return text
 
 
-def print_usage_error(program: Program) -> None:
-    """Without a command: the usage on standard error, and that of np below it."""
+def print_usage_error() -> None:
+    """Without a command: the usage on standard error."""
     said.relay(of(""))
-    if program.path.is_file():
-        said.relay(b"\n" + program.run([]).said)

@@ -7,7 +7,7 @@ from pathlib import Path
 from typing import IO, List, Optional
 
 from plugin import children, parts
-from plugin.said import decoded, encoded, relay, stop, write
+from plugin.said import Stop, decoded, encoded, relay, stop, write
 
 
 # The status of a program whose reader ended early: it is no fault, and nothing is said. np says so itself, with a
@@ -78,9 +78,13 @@ class Program:
         says, with status 1, that it is no JSON. The statement file is not read here, since a pipe can be read
         once."""
         ended = self.run([command, *_without_statement_file(words)])
+        if ended.status == 2:
+            from plugin.wrong_words import wrong_word
+            problem = wrong_word(command, words)
+            if problem is not None:
+                stop(2, "%s (kubectl np help %s)" % (problem, command))
         if ended.status != 1:
-            relay(ended.said)
-            raise SystemExit(ended.status)
+            raise Stop(ended.status, None, ended.said)
 
 
 def _is_script(path: Path) -> bool:
