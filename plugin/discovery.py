@@ -4,7 +4,7 @@ from __future__ import annotations
 import json
 from typing import Any, Dict, List, NoReturn, Optional
 
-from plugin import kinds
+from plugin import kinds, nearest
 from plugin.children import Ended
 from plugin.kinds import Kind, Resource
 from plugin.kubectl import Kubectl, ask_all
@@ -15,8 +15,10 @@ def find_kinds(kubectl: Kubectl, ignored: List[str]) -> List[Kind]:
     """The kinds of the cluster that np reads. Says which it lacks and what else bears on the answers; ends where
     there are policies that np does not read and that are not ignored."""
     step("asking the cluster which kinds it has")
-    resources = _resources(kubectl, _versions(kubectl), ignored)
+    versions = _versions(kubectl)
+    resources = _resources(kubectl, versions, ignored)
     present = _present(resources)
+    _tell_ignored_in_vain(versions, resources, ignored)
     bypasses = kinds.bypasses(resources)
     if bypasses:
         say("np does not read these kinds of the cluster, which may stop connections or let them through: " + ", ".join(bypasses))
@@ -107,6 +109,17 @@ def _present(resources: List[Resource]) -> List[Kind]:
         if (kind.api_version, kind.resource) not in has:
             note("left out, since the cluster has no such kind: " + kind.whole_resource)
     return [kind for kind in kinds.READ if (kind.api_version, kind.resource) in has]
+
+
+def _tell_ignored_in_vain(versions: List[str], resources: List[Resource], ignored: List[str]) -> None:
+    """Names what --ignore names and the cluster does not have, since it may be misspelt."""
+    groups = [kinds.group_of(version) for version in versions]
+    names = dict.fromkeys([each.kind for each in resources] + [each.whole_kind for each in resources] + groups)
+    known = {name.lower() for name in names}
+    for name in ignored:
+        if name.lower() not in known:
+            near = nearest.nearest(name, names)[:1] if len(name) > 2 else []
+            note("--ignore %s names no kind and no group of the cluster%s" % (name, "; the nearest is %s" % near[0] if near else ""))
 
 
 def _check_foreign(kubectl: Kubectl, policies: List[Resource], carriers: List[Resource], ignored: List[str]) -> None:
