@@ -15,7 +15,7 @@ import threading
 import time
 from pathlib import Path
 from types import FrameType
-from typing import IO, Any, Callable, Dict, List, NamedTuple, Optional, Sequence, Set, Union, cast
+from typing import IO, Any, Callable, Dict, Iterator, List, NamedTuple, Optional, Sequence, Set, Union, cast
 
 from plugin.said import Stop
 
@@ -177,6 +177,14 @@ class Stream:
             found += pattern.findall(whole)
             rest = end + rest
         return found
+
+    def lines(self) -> Iterator[bytes]:
+        """Its whole lines, as they come: many at once, with line feeds between them and none behind the last."""
+        rest = b""
+        for block in iter(lambda: self._output.read(_BLOCK), b""):
+            whole, end, rest = (rest + block).rpartition(b"\n")
+            if end:
+                yield whole
 
     def end(self) -> Ended:
         """How it ended, when its output was read."""

@@ -25,7 +25,7 @@ _FOREIGN_POLICY = re.compile(r"^error: item ([0-9]+): kind: ForeignPolicy$", re.
 def command_of(words: Words, program: Program) -> Command:
     """The command that the words name."""
     kinds = {"caveats": ListOfCaveats, "snapshot": Snapshot, "names": Names, "gate": Gate, "changes": Changes, "page": Page,
-             "check": Check}
+             "check": Check, "list": Rows}
     return kinds.get(words.command, Question)(words, program)
 
 
@@ -185,14 +185,18 @@ class Question(Command):
     def answer(self) -> int:
         self.refuse_addresses()
         step("asking np")
-        with self.list.open("rb") as file:
-            ended = self.program.answer([self.words.command, *self.words.own], stdin=file)
+        ended = self.ask()
         if ended.status == 1:
             self._tell_nearest(ended)
             self._tell_foreign(ended)
         elif ended.status in (0, 5):
             self.tell_caveats()
         return ended.status
+
+    def ask(self) -> Ended:
+        """Has np answer."""
+        with self.list.open("rb") as file:
+            return self.program.answer([self.words.command, *self.words.own], stdin=file)
 
     def refuse_addresses(self) -> None:
         """Refuses addresses of listed pods where a pod is meant."""
@@ -227,6 +231,21 @@ class Question(Command):
         refused = _FOREIGN_POLICY.search(decoded(ended.said))
         if refused and self.words.has_manifests:
             self.manifests.tell_foreign(int(refused.group(1)))
+
+
+class Rows(Question):
+    """Has np print its rows, of which filters may keep some."""
+
+    def check_words(self) -> None:
+        from plugin.rowfilter.words import read
+        self.filters = read(self.words.own)
+        self.program.check_words("list", self.filters.words_of_np if self.filters.is_any else self.words.own)
+
+    def ask(self) -> Ended:
+        if not self.filters.is_any:
+            return super().ask()
+        from plugin.rowfilter.run import run
+        return run(self.filters, self.program, self.list)
 
 
 class Check(Question):

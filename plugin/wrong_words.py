@@ -14,7 +14,7 @@ _CHOICES: Dict[str, Tuple[str, ...]] = {
     "--protocol": ("TCP", "UDP", "SCTP"),
 }
 _OPTIONS: Dict[str, Tuple[str, ...]] = {
-    "list": ("--focus", "--side", "--format", "--report", "--controller"),
+    "list": ("--focus", "--namespace-focus", "--side", "--port", "--format", "--report", "--controller"),
     "explain": ("--from", "--to"),
     "exposure": ("--workload", "--format"),
     "evaluate": ("--from", "--to", "--protocol", "--port"),
