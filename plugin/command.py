@@ -12,7 +12,7 @@ from plugin.caveats.beside import Beside
 from plugin.children import Ended
 from plugin.program import Program
 from plugin.room import Room
-from plugin.said import decoded, encoded, relay, say, step, write
+from plugin.said import Stop, decoded, encoded, relay, say, step, write
 from plugin.words import Words
 
 if TYPE_CHECKING:
@@ -39,7 +39,6 @@ class Command:
 
     def run(self) -> int:
         """Checks the words, gets the objects, and answers; returns the status."""
-        said.is_quiet = self.words.is_quiet
         self.check_words()
         if not self.words.list_file:
             from plugin import kubectl
@@ -47,7 +46,11 @@ class Command:
         with Room() as self.room:
             self.list = self._fetch()
             said.name_item = self._name_item
-            return self.answer()
+            try:
+                return self.answer()
+            except Stop as end:
+                end.tell()  # as long as the list is there, whose items it may name
+                return end.status
 
     def check_words(self) -> None:
         """Refuses words that the command does not take, before anything is asked for."""
@@ -59,14 +62,7 @@ class Command:
 
     def _name_item(self, number: int) -> Optional[str]:
         """The object that np counts so, as a person names it, and where it stands."""
-        if self.words.has_manifests:
-            return self.manifests.name(number)
-        from plugin import jsontext, objects
-        try:
-            items = jsontext.objects(self.list.read_bytes())
-        except (OSError, jsontext.NotTaken):
-            return None
-        return objects.named(items[number - 1]) if number <= len(items) else None
+        return self.manifests.name(number) if self.words.has_manifests else snapshot.name_item(self.list, number)
 
     @cached_property
     def caveats(self) -> Caveats:

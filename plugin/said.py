@@ -21,6 +21,10 @@ _ITEMS = re.compile(rb"^error: items? ([0-9]{1,9})(?: and ([0-9]{1,9}))?: ", re.
 # Whether notes are left out.
 is_quiet = False
 
+# The last fault of np that was repeated, by its name; empty where there is none. It stands first, or behind the item or input and the path.
+fault = ""
+_FAULT = re.compile(rb"^error: (?:(?:items?|input) .*: )?([A-Z][A-Za-z]+)(?: .*)?$", re.MULTILINE)
+
 
 class Stop(Exception):
     """Ends the plugin with a status: what another program said is repeated, and a line says why where there is a
@@ -93,12 +97,15 @@ def note(text: str) -> None:
         say(text)
 
 
-def relay(data: bytes) -> None:
-    """Repeats on standard error what another program said there, line by line. Where np names an item of the list by its
-    number, it is said which object that is."""
-    _write_error(encoded(_CONTROL_IN_LINES.sub(_escape, decoded(data))))
-    for fault in _ITEMS.finditer(data):
-        for number in map(int, filter(None, fault.groups())):
+def relay(data: bytes, label: str = "") -> None:
+    """Repeats on standard error what another program said there, line by line, each behind the label. Where np names an
+    item of the list by its number, it is said which object that is."""
+    global fault
+    lines = _CONTROL_IN_LINES.sub(_escape, decoded(data)).splitlines(keepends=True)
+    _write_error(encoded("".join(label + line for line in lines)))
+    fault = "".join(name.decode() for name in _FAULT.findall(data)[:1]) or fault
+    for found in _ITEMS.finditer(data):
+        for number in map(int, filter(None, found.groups())):
             name = name_item(number) if name_item is not None else None
             if name is not None:
                 say("item %d is %s" % (number, name))
@@ -107,8 +114,13 @@ def relay(data: bytes) -> None:
 def step(text: str) -> None:
     """Says what is being done, since a large cluster takes a while: on a terminal alone, so that logs and pipes stay
     clean."""
-    if sys.stderr is not None and sys.stderr.isatty():
+    if is_on_terminal():
         say(text)
+
+
+def is_on_terminal() -> bool:
+    """Whether standard error is a terminal."""
+    return sys.stderr is not None and sys.stderr.isatty()
 
 
 def write(data: bytes, failure: str = "the answer cannot be written") -> None:

@@ -20,7 +20,8 @@ TOP = Path(os.path.abspath(__file__)).parent.parent
 
 _USAGE = "usage: tools/plugin_archive.py [--check]"
 _FIRST_LINE = b"#!/usr/bin/env -S python3 -IS -X utf8\n"
-_PATTERNS = ["plugin/**/*.py", "plugin/**/*.txt", "plugin/**/*.jq", "page/page.html", "page/page.css", "page/*.js", "VERSION"]
+_PATTERNS = ["plugin/**/*.py", "plugin/**/*.txt", "plugin/**/*.jq", "page/page.html", "page/page.css", "page/*.js", "VERSION",
+             "docs/use/FAULTS.md", "docs/use/CAVEATS.md"]
 _MAIN = b"""import sys
 if sys.version_info < (3, 9):
     sys.stderr.write("kubectl np: this needs Python 3.9 or later\\n")

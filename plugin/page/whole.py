@@ -4,7 +4,7 @@ from __future__ import annotations
 import os
 from typing import List, NamedTuple, Sequence, Tuple
 
-from plugin import parts
+from plugin import parts, said
 from plugin.page.answers import Answers
 from plugin.page.texts import listed_lines, quoted
 from plugin.program import Program
@@ -66,9 +66,7 @@ def _html(data: bytes) -> bytes:
 
 def _data(program: Program, room: Room, request: Request) -> bytes:
     """All that the page shows, as one JSON object."""
-    before = b"null"
-    if request.before:
-        before = Answers(program, room, request.before).table(request.only).json()
+    before = _before(program, room, request) if request.before else b"null"
     after = Answers(program, room, request.files)
     table = after.table(request.only)
     commands = [quoted(text) for command in request.commands for text in command]
@@ -79,3 +77,12 @@ def _data(program: Program, room: Room, request: Request) -> bytes:
         b',"refused":', listed_lines(after.refused),
         b',"explained":', listed_lines(after.explained(table.asked.ends())),
         b',"table":', table.json(), b',"before":', before, b"}\n"])
+
+
+def _before(program: Program, room: Room, request: Request) -> bytes:
+    """The table of the earlier snapshot. What np says of an item of it is not of the list that is shown, whose items alone
+    have names: where np refuses it they stay without."""
+    name, said.name_item = said.name_item, None
+    table = Answers(program, room, request.before).table(request.only).json()
+    said.name_item = name
+    return table

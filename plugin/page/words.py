@@ -36,7 +36,8 @@ def read_words(words: List[str]) -> PageWords:
     while rest:
         option, equals, value = rest.pop(0).partition("=")
         if option not in OPTIONS:
-            stop(2, "page takes no '%s%s%s' (kubectl np help page)" % (option, equals, value))
+            from plugin.words import nearest_of
+            stop(2, "page takes no '%s%s%s'%s (kubectl np help page)" % (option, equals, value, nearest_of(option, OPTIONS)))
         if not equals:
             if not rest:
                 stop(2, "%s lacks its value" % option)
