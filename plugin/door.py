@@ -12,11 +12,12 @@ from plugin.words import Words
 
 
 def main() -> int:
-    """Answers the command line; returns the status. Where np refused something the last line says what explains it; the
-    gate has lines of its own."""
+    """Answers the command line; returns the status. Where np refused something the last line says what explains it. The
+    gate has lines of its own, which stay as they are."""
     children.catch_signals()
     words = command_line.read(sys.argv[1:])
     said.is_quiet = words.is_quiet
+    said.names_items_of_notes = words.command != "gate"
     try:
         status = _run(words)
     except Stop as end:

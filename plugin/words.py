@@ -204,7 +204,8 @@ def check_sources(words: Words) -> None:
 
 def _check_namespace(words: Words) -> None:
     if words.wants_all_namespaces or (words.namespace and not words.has_manifests):
-        stop(2, "all namespaces are read, since policies reach across them; leave out -n and -A, and choose rows with list --namespace-focus")
+        stop(2, "all namespaces are read, since policies reach across them; leave out -n and -A, and choose rows with "
+                "list --namespace-focus")
     if words.namespace and not _NAMESPACE.fullmatch(words.namespace):
         stop(2, "'%s' is no name of a namespace" % words.namespace)
 
