@@ -160,6 +160,7 @@ class Stream:
 
     def __init__(self, words: Sequence[Word], stdin: Optional[IO[bytes]] = None) -> None:
         import tempfile
+        self.is_cut = False
         self._errors = tempfile.TemporaryFile()
         self._child = start(words, stdin=subprocess.DEVNULL if stdin is None else stdin, stdout=subprocess.PIPE,
                             stderr=self._errors)
@@ -179,12 +180,14 @@ class Stream:
         return found
 
     def lines(self) -> Iterator[bytes]:
-        """Its whole lines, as they come: many at once, with line feeds between them and none behind the last."""
+        """Its whole lines, as they come: many at once, with line feeds between them and none behind the last. Then `is_cut`
+        says whether a line was begun and not ended."""
         rest = b""
         for block in iter(lambda: self._output.read(_BLOCK), b""):
             whole, end, rest = (rest + block).rpartition(b"\n")
             if end:
                 yield whole
+        self.is_cut = bool(rest)
 
     def end(self) -> Ended:
         """How it ended, when its output was read."""

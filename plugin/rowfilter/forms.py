@@ -8,6 +8,9 @@ from typing import Callable, Dict, Iterable, Iterator, List, Tuple
 # From where, where to, and what passes.
 Row = Tuple[str, str, str]
 
+# What reading a line raises that is no row.
+NO_ROW = (ValueError, TypeError, LookupError, csv.Error)
+
 _MEMBERS = ["connections", "destination", "source"]
 
 
@@ -21,8 +24,10 @@ class Form:
     def rows(self, lines: Iterable[str]) -> Iterator[Row]:
         """What the lines say."""
         for line in lines:
-            source, _, rest = line.partition(" => ")
-            destination, _, connections = rest.partition(" : ")
+            source, arrow, rest = line.partition(" => ")
+            destination, colon, connections = rest.partition(" : ")
+            if not (arrow and colon):
+                raise ValueError(line)
             yield source, destination, connections
 
     def join(self, lines: List[str], _is_first: bool) -> str:

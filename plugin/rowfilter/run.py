@@ -10,12 +10,13 @@ from plugin.children import Ended
 from plugin.ports import Ports, read_connections
 from plugin.program import Program
 from plugin.rowfilter import focus
-from plugin.rowfilter.forms import FORMS, Form, Row
+from plugin.rowfilter.forms import FORMS, NO_ROW, Form, Row
 from plugin.rowfilter.words import Filters, Port
 from plugin.said import decoded, encoded, note, relay, stop, write
 
 _MARKS = (" (IPv4)", " (IPv6)")
 _FAILURE = "the rows cannot be written"
+_NO_ROWS = "%s does not print rows as np does"
 
 Keeps = Callable[[Row], bool]
 
@@ -43,9 +44,14 @@ def _pass_on(filters: Filters, program: Program, path: Path, keeps: Keeps) -> En
         except OSError as error:
             stop(3, "%s cannot be run: %s" % (program.name, error.strerror))
     output = Output(FORMS[filters.value("--format", "text")](), keeps)
-    for block in rows.lines():
-        output.take(decoded(block).split("\n"))
+    try:
+        for block in rows.lines():
+            output.take(decoded(block).split("\n"))
+    except NO_ROW:
+        stop(3, _NO_ROWS % program.name)
     ended = rows.end()
+    if ended.status == 0 and rows.is_cut:
+        stop(3, _NO_ROWS % program.name)
     if ended.status == 0:
         output.end()
     return ended
