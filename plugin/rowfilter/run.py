@@ -24,8 +24,7 @@ Keeps = Callable[[Row], bool]
 def run(filters: Filters, program: Program, path: Path) -> Ended:
     """Prints the rows of the list that are asked for, and says that there may be others; returns how np ended."""
     try:
-        in_focus = None if filters.has_one_focus or not (filters.focus or filters.namespaces) else focus.workloads(
-            filters, program, path)
+        in_focus = focus.workloads(filters, program, path) if filters.has_focus_of_plugin else None
     except focus.Unknown as unknown:
         with path.open("rb") as file:  # np says so itself
             return program.answer(["list", *filters.own, "--focus=" + unknown.name], stdin=file)
@@ -110,7 +109,7 @@ def port_test(ports: List[Port]) -> Callable[[str], bool]:
         return lambda _connections: True
     wanted = [(protocol, Ports([(number, number)])) for protocol, number in ports]
 
-    @lru_cache(maxsize=1 << 16)  # many rows have the same text
+    @lru_cache(maxsize=1 << 10)  # many rows have the same text, and one may be long
     def holds(connections: str) -> bool:
         held = dict(read_connections(connections))
         return any((held.get(protocol, Ports()) & port).least() is not None for protocol, port in wanted)

@@ -2,7 +2,6 @@
 from __future__ import annotations
 
 import re
-from dataclasses import dataclass, field
 from typing import List, NoReturn, Tuple
 
 from plugin.page.words import shell_word
@@ -20,31 +19,31 @@ _MEANT = re.compile(r"(?:([A-Za-z]+)[/: ])?0*([0-9]{1,9})(?:[/: ]([A-Za-z]+))?")
 Port = Tuple[str, int]
 
 
-@dataclass
 class Filters:
     """Which rows are asked for. `own` are the words of np, without a focus, and `given` the options of the filters as
     they were typed."""
 
-    own: List[str] = field(default_factory=list)
-    given: List[Tuple[str, str]] = field(default_factory=list)
-    focus: List[str] = field(default_factory=list)
-    namespaces: List[str] = field(default_factory=list)
-    ports: List[Port] = field(default_factory=list)
+    def __init__(self) -> None:
+        self.own: List[str] = []
+        self.given: List[Tuple[str, str]] = []
+        self.focus: List[str] = []
+        self.namespaces: List[str] = []
+        self.ports: List[Port] = []
 
     @property
     def is_any(self) -> bool:
         """Whether there is a filter that np does not have."""
-        return bool(self.namespaces or self.ports or len(self.focus) > 1)
+        return bool(self.ports) or self.has_focus_of_plugin
 
     @property
-    def has_one_focus(self) -> bool:
-        """Whether np itself keeps to the focus."""
-        return len(self.focus) == 1 and not self.namespaces
+    def has_focus_of_plugin(self) -> bool:
+        """Whether there is a focus to which np itself cannot keep."""
+        return bool(self.namespaces or len(self.focus) > 1)
 
     @property
     def words_of_np(self) -> List[str]:
         """The words that np is asked with."""
-        return self.own + (["--focus=" + self.focus[0]] if self.has_one_focus else [])
+        return self.own + ["--focus=" + name for name in self.focus if not self.has_focus_of_plugin]
 
     def value(self, option: str, default: str) -> str:
         """The value of one of np's options."""
@@ -67,20 +66,20 @@ class Filters:
 
 def read(own: List[str]) -> Filters:
     """Sorts the words of `list`; ends with status 2 where one of a filter is wrong."""
-    read_ones = Filters()
+    filters = Filters()
     left = list(own)
     while left:
         word = left.pop(0)
         option, equals, value = word.partition("=")
         if option not in _VALUED:
-            read_ones.own.append(word)
+            filters.own.append(word)
             continue
         if not equals:
             if not left or (left[0].startswith("-") and left[0] != "-"):
                 _refuse("%s lacks its value" % option)
             value = left.pop(0)
-        _take(read_ones, option, value)
-    return read_ones
+        _take(filters, option, value)
+    return filters
 
 
 def _take(filters: Filters, option: str, value: str) -> None:
