@@ -1,5 +1,5 @@
 #!/usr/bin/env python3
-"""kubectl-np, the one file that users of the plugin copy: made of plugin/, the parts of the page and VERSION, as they stand.
+"""kubectl-np, the one file that users of the plugin copy: made of plugin/, the parts of the page, VERSION and two pages of docs/use.
 
 tools/plugin_archive.py             writes kubectl-np
 tools/plugin_archive.py --check     says with status 1 that kubectl-np is not what its parts give, or may not be executed
