@@ -9,7 +9,6 @@ from plugin.caveats.objects import Address
 from plugin.caveats.statements import at_ports, ends_of_workload, names_of_workload, owner_of, ports_of
 from plugin.caveats.whole import Caveats
 from plugin.page.words import shell_word
-from plugin.ports import Ports
 from plugin.program import Program
 from plugin.said import stop
 from plugin.words import Words
@@ -45,9 +44,14 @@ def _of_list(words: Words, caveats: Caveats) -> List[Caveat]:
     is_named = bool(option(words.own, "--controller"))
     found = [caveat for caveat in caveats.all if not caveat.is_noted and not (is_named and caveat.key == "controller-not-named")]
     if filters.ports:
+        from plugin.caveats.statements import at_ports
+        from plugin.ports import Ports
         found = at_ports(found, [(protocol, Ports([(number, number)])) for protocol, number in filters.ports])
+    if not (filters.focus or filters.namespaces):
+        return found
+    from plugin.caveats.statements import owner_of
     ends = frozenset(map(owner_of, filters.focus)).union(*map(caveats.listed.ends_of, filters.namespaces))
-    return of_focus(found, ends, filters.side) if ends else found
+    return of_focus(found, ends, filters.side)
 
 
 def is_of_ingresses(caveat: Caveat) -> bool:

@@ -4,7 +4,6 @@ from __future__ import annotations
 import re
 from typing import List, NoReturn, Tuple
 
-from plugin.page.words import shell_word
 from plugin.said import stop
 
 _VALUED = ("--focus", "--namespace-focus", "--port")
@@ -60,6 +59,7 @@ class Filters:
 
     def text(self) -> str:
         """The filters as a shell reads them back."""
+        from plugin.page.words import shell_word
         side = [("--side", self.side)] if self.value("--side", "") and (self.focus or self.namespaces) else []
         return " ".join("%s %s" % (option, shell_word(value)) for option, value in self.given + side)
 
