@@ -13,7 +13,7 @@ from __future__ import annotations
 import os
 import sys
 from pathlib import Path
-from typing import List, NoReturn
+from typing import List, NoReturn, Tuple
 
 sys.dont_write_bytecode = True
 
@@ -38,11 +38,21 @@ def is_of_sources(top: Path, program: Path, wanted: str) -> bool:
     return program.is_file() and os.access(program, os.X_OK) and manifest(top, program) == wanted
 
 
+def _kept_manifest(top: Path) -> Tuple[str, str]:
+    """The first line of dist/manifest, and the rest of it. Fails with OSError where it cannot be read."""
+    first, _, rest = (top / "dist" / "manifest").read_bytes().decode("utf-8", "surrogateescape").partition("\n")
+    return first, rest
+
+
+def kit(top: Path) -> str:
+    """The kit with which dist/np was built. Fails with OSError where the manifest cannot be read."""
+    return _kept_manifest(top)[0].partition(" ")[2]
+
+
 def is_current(top: Path) -> bool:
-    """Whether dist/np was built from the sources that stand here and is as it was built."""
+    """Whether dist/np was built from the sources that stand here and is as it was built, with whichever kit."""
     try:
-        kept = (top / "dist" / "manifest").read_bytes().decode("utf-8", "surrogateescape")
-        return is_of_sources(top, top / "dist" / "np", kept.partition("\n")[2])
+        return is_of_sources(top, top / "dist" / "np", _kept_manifest(top)[1])
     except OSError:
         return False
 
