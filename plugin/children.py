@@ -148,9 +148,11 @@ def run(words: Sequence[Word], stdin: Optional[IO[bytes]] = None, stdout: Option
     return Ended(wait(child), out or b"", said)
 
 
-def run_to_output(words: Sequence[Word], stdin: Optional[IO[bytes]] = None) -> Ended:
-    """Runs a program whose output is that of the plugin."""
+def run_to_output(words: Sequence[Word], stdin: Optional[IO[bytes]] = None, meanwhile: Optional[Callable[[], None]] = None) -> Ended:
+    """Runs a program whose output is that of the plugin, which may do something meanwhile."""
     child = start(words, stdin=subprocess.DEVNULL if stdin is None else stdin, stderr=subprocess.PIPE)
+    if meanwhile is not None:
+        meanwhile()
     _, said = child.communicate()
     return Ended(wait(child), b"", said)
 
