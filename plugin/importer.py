@@ -1,7 +1,7 @@
 """How the modules of an archive are loaded.
 
-Python's importer of archives compiles a module whenever it is asked in which file that stands, and then once more to
-run it. That was a third of the time of a short run.
+Python's importer of archives compiles a module to say in which file it stands, which each import asks, and then once
+more to run it. That was a third of the time of a short run.
 """
 from __future__ import annotations
 
