@@ -3,6 +3,7 @@ from __future__ import annotations
 
 import os
 import re
+from contextlib import suppress
 from functools import cached_property
 from pathlib import Path
 from typing import TYPE_CHECKING, List, Optional
@@ -192,13 +193,18 @@ class Question(Command):
     def ask(self) -> Ended:
         """Has np answer."""
         with self.list.open("rb") as file:
-            return self.program.answer([self.words.command, *self.words.own], stdin=file)
+            return self.program.answer([self.words.command, *self.words.own], stdin=file, meanwhile=self._find_caveats)
 
     def refuse_addresses(self) -> None:
         """Refuses addresses of listed pods where a pod is meant."""
         if self.words.command in ("explain", "evaluate") and not self.words.takes_addresses_of_pods:
             from plugin.caveats import questions
             questions.refuse_addresses(self.words, self.caveats, self.program)
+
+    def _find_caveats(self) -> None:
+        """Finds the caveats of the list, which np may still refuse: whatever is wrong with it is not said here."""
+        with suppress(Exception):
+            self.caveats.all  # kept there
 
     def tell_caveats(self) -> None:
         """Says which caveats bear on the answer."""
