@@ -1,53 +1,120 @@
-"""Statements about what comes in through Ingresses: they are compared with the rows of `np list`."""
+"""What comes in through Ingresses: it is compared with the rows of `np list`.
+
+Where no controller is named np takes it for a pod without labels. A workload to which an Ingress leads, and which lets
+only named peers in, may then be open to the real one: that is unsure.
+"""
 from __future__ import annotations
 
 import re
+from functools import cached_property
 from pathlib import Path
-from typing import Dict, List, Optional, Tuple
+from typing import Dict, List, NamedTuple, Optional, Tuple
 
 from plugin import children
+from plugin.gate import opened
 from plugin.gate.check import give_up
-from plugin.gate.grammar import Parts
+from plugin.gate.grammar import ONLY, EndKind, Parts
+from plugin.gate.pods import ListedPods
+from plugin.gate.statements import Form, Statement
+from plugin.gate.workloads import NoWorkload, Workloads
+from plugin.gate.written_out import Writer
 from plugin.ports import Ports, read_connections
-from plugin.gate.statements import Form, Statement, of_form
-from plugin.gate.workloads import Workloads
 from plugin.program import Program
+from plugin.room import Room
 from plugin.said import decoded, stop
 
 # Behind the end of the row before, each up to its own end.
 _ROWS = re.compile(rb"\n\{ingress-controller\} => ([^\n]*)")
 _NO_PORTS = Ports()
 
+_OpenPorts = Dict[str, Ports]  # of TCP, by workload
 
-def judge_ingress(program: Program, statements: List[Statement], path: Path, workloads: Workloads) -> Optional[bytes]:
-    """Judges the statements of Ingresses that may hold. Where there are some it returns np's notes on the list: those
-    of `check`, and those on backends of Ingresses that lead nowhere."""
-    asked = of_form(statements, Form.INGRESS_CONTROLLER)
-    if not asked:
-        return None
-    rows, notes = _fetch_rows(program, path)
-    try:
-        open_ports = dict(_read_row(row) for row in rows)
-        for statement in asked:
-            packet = _first_breaking(statement.parts, open_ports, workloads)
+
+class Source(NamedTuple):
+    """The list, and what is asked about it."""
+
+    program: Program
+    path: Path
+    room: Room
+    workloads: Workloads
+    pods: ListedPods
+
+
+class Ingresses:
+    """What comes in through the Ingresses of a list. `controller` is the name of the workload that sends it, and empty
+    where that is not known."""
+
+    def __init__(self, source: Source, writer: Writer, controller: str) -> None:
+        self._source = source
+        self._writer = writer
+        self._controller = controller
+        self.notes: Optional[bytes] = None  # np's notes on the list, where it was asked
+
+    def judge(self, statements: List[Statement]) -> None:
+        """Judges the statements that may hold and are about Ingresses."""
+        for statement in statements:
+            if statement.may_hold and self._is_asked(statement):
+                try:
+                    self._judge(statement)
+                except ValueError:  # neither np's rows nor statements that np takes have such connections
+                    give_up(self._source.program, 0, self.notes or b"")
+
+    def _is_asked(self, statement: Statement) -> bool:
+        """Whether the statement is about Ingresses. A controller that is named is a pod like others where `only` is
+        asked about."""
+        parts = statement.parts
+        if statement.form == Form.INGRESS_CONTROLLER:
+            return True
+        return parts.verdict == ONLY and not self._controller and parts.destination.kind != EndKind.ADDRESSES and all(
+            end.kind != EndKind.INGRESS_CONTROLLER for end in parts.source.ends)
+
+    def _judge(self, statement: Statement) -> None:
+        parts, names = statement.parts, self._writer.workloads_at(statement.parts.destination)
+        for ports in self._open:
+            packet = _first_breaking(parts, ports, self._leading, names)
             if packet:
                 statement.violate("{ingress-controller} => " + packet)
-    except ValueError:  # neither np's rows nor statements that np takes have such connections
-        give_up(program, 0, notes)
-    return notes
+                return
+        packet = _first_doubtful(parts, self._open[0], self._leading, names)
+        if packet:
+            statement.doubt("an Ingress leads to %s, and only named peers are let in; say which workload the controller is "
+                            "(--controller), or that this may stay open (--allow-unsure)" % packet)
 
+    @cached_property
+    def _open(self) -> List[_OpenPorts]:
+        """The ports that are open, for each workload that the controller may be."""
+        try:
+            names = self._source.workloads.named(self._controller) if self._controller else []
+        except NoWorkload as error:
+            stop(1, "--controller: %s" % error)
+        words = [["--controller", name] for name in names] or [[]]
+        return [self._fetch(each, self._source.path) for each in words]
 
-def _fetch_rows(program: Program, path: Path) -> Tuple[List[bytes], bytes]:
-    """The rows of Ingresses, and np's notes."""
-    try:
-        listing = children.Stream([program.path, "list", path])
-    except OSError as error:
-        stop(3, "%s cannot be run: %s" % (program.name, error.strerror))
-    rows = listing.found(_ROWS)
-    ended = listing.end()
-    if ended.status:
-        give_up(program, ended.status, ended.said)
-    return rows, ended.said
+    @cached_property
+    def _leading(self) -> Optional[_OpenPorts]:
+        """The ports to which Ingresses lead, whoever is let in; None where the controller is known."""
+        if self._controller:
+            return None
+        items = self._source.pods.items
+        if not opened.has_ingresses(items):
+            return {}
+        notes = self.notes
+        ports = self._fetch([], self._source.room.write("opened", opened.text(items)))
+        self.notes = notes
+        return ports
+
+    def _fetch(self, words: List[str], path: Path) -> _OpenPorts:
+        program = self._source.program
+        try:
+            listing = children.Stream([program.path, "list", *words, path])
+        except OSError as error:
+            stop(3, "%s cannot be run: %s" % (program.name, error.strerror))
+        rows = listing.found(_ROWS)
+        ended = listing.end()
+        if ended.status:
+            give_up(program, ended.status, ended.said)
+        self.notes = ended.said
+        return dict(map(_read_row, rows))
 
 
 def _read_row(row: bytes) -> Tuple[str, Ports]:
@@ -56,15 +123,27 @@ def _read_row(row: bytes) -> Tuple[str, Ports]:
     return name, Ports.read(ports)
 
 
-def _first_breaking(parts: Parts, open_ports: Dict[str, Ports], workloads: Workloads) -> Optional[str]:
-    """The first packet that breaks the statement: the first workload in np's order, and its least port. A workload
-    without a row gets nothing through Ingresses, and only TCP comes through them."""
-    connections = read_connections(parts.connections)
-    denies = parts.verdict == "deny"
-    for name in workloads.of(parts.destination) or ():
-        for protocol, ports in connections:
-            opened = open_ports.get(name, _NO_PORTS) if protocol == "TCP" else _NO_PORTS
-            port = (ports & opened if denies else ports - opened).least()
+def _first_breaking(parts: Parts, open_ports: _OpenPorts, leading: Optional[_OpenPorts], names: List[str]) -> Optional[str]:
+    """The first packet that breaks the statement for sure: the first workload in np's order, and its least port. A
+    workload without a row gets nothing through Ingresses, and only TCP comes through them."""
+    denies = parts.verdict != "allow"
+    for name in names:
+        for protocol, ports in read_connections(parts.connections):
+            there = open_ports.get(name, _NO_PORTS) if protocol == "TCP" else _NO_PORTS
+            breaking = ports & there if denies else ports - there
+            if not denies and leading is not None and protocol == "TCP":
+                breaking = breaking - leading.get(name, _NO_PORTS)
+            port = breaking.least()
             if port is not None:
                 return "%s : %s %d : %s" % (name, protocol, port, "Allow" if denies else "Deny")
+    return None
+
+
+def _first_doubtful(parts: Parts, open_ports: _OpenPorts, leading: Optional[_OpenPorts], names: List[str]) -> Optional[str]:
+    """The first workload and port to which an Ingress leads, where it is not known who is let in."""
+    asked = dict(read_connections(parts.connections)).get("TCP", _NO_PORTS)
+    for name in names if leading else ():
+        port = ((asked & (leading or {}).get(name, _NO_PORTS)) - open_ports.get(name, _NO_PORTS)).least()
+        if port is not None:
+            return "%s at TCP %d" % (name, port)
     return None

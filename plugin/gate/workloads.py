@@ -1,16 +1,23 @@
 """Who is in the list: its workloads, by the names that np has for them, and the namespaces that have pods."""
 from __future__ import annotations
 
+import re
 from functools import cached_property, lru_cache
 from pathlib import Path
-from typing import Dict, FrozenSet, Iterable, List, Optional
+from typing import Dict, Iterable, List, Optional
 
 from plugin import names
+from plugin.caveats.statements import owner_of
 from plugin.gate.check import give_up
 from plugin.gate.grammar import End, EndKind
 from plugin.nearest import nearest
 from plugin.program import Program
-from plugin.said import encoded
+
+_KIND = re.compile(r"\[[^\]]*\]\Z")
+
+
+class NoWorkload(Exception):
+    """No workload has the name, or several owners may be meant. The text says which there are."""
 
 
 class Workloads:
@@ -30,16 +37,45 @@ class Workloads:
             give_up(self._program, error.status, error.said)
 
     @cached_property
+    def places(self) -> Dict[str, int]:
+        """Where each workload stands in np's order."""
+        return {name: place for place, name in enumerate(self.names)}
+
+    @cached_property
     def namespaces(self) -> Dict[str, List[str]]:
-        """The namespaces that have pods, in the order of their bytes, and the names of the workloads of each."""
+        """The namespaces that have pods, and the names of the workloads of each, in np's order."""
         members: Dict[str, List[str]] = {}
         for name in self.names:
             members.setdefault(name.partition("/")[0], []).append(name)
-        return {space: members[space] for space in sorted(members, key=encoded)}
+        return members
 
     @cached_property
-    def _known(self) -> FrozenSet[str]:
-        return frozenset(self.names)
+    def owners(self) -> Dict[str, List[str]]:
+        """The owners of the pods, and the workloads of each in the order of their numbers."""
+        found: Dict[str, List[str]] = {}
+        for name in self.names:
+            found.setdefault(owner_of(name), []).append(name)
+        return {owner: sorted(parts, key=lambda name: (len(name), name)) for owner, parts in found.items()}
+
+    @cached_property
+    def _owners_without_kind(self) -> Dict[str, List[str]]:
+        found: Dict[str, List[str]] = {}
+        for owner in self.owners:
+            found.setdefault(_KIND.sub("", owner), []).append(owner)
+        return found
+
+    @lru_cache(maxsize=None)
+    def named(self, name: str) -> List[str]:
+        """The workloads that the name stands for, in np's order: the one that has it, or all of the owner that has
+        it, with or without its kind."""
+        if name in self.places:
+            return [name]
+        meant = [name] if name in self.owners else self._owners_without_kind.get(name, [])
+        if not meant:
+            raise NoWorkload("no workload is named %s%s" % (name, self._near(name)))
+        if len(meant) > 1:
+            raise NoWorkload("%s may be %s; write the kind" % (name, " or ".join("workload " + owner for owner in meant)))
+        return sorted(self.owners[meant[0]], key=self.places.__getitem__)
 
     def of(self, end: End) -> Optional[List[str]]:
         """The workloads that an end names, or None where it names addresses. The ends are np's own."""
@@ -49,13 +85,8 @@ class Workloads:
             return self.namespaces.get(end.name, [])
         return [end.name] if end.kind == EndKind.WORKLOAD else None
 
-    def is_unknown(self, end: End) -> bool:
-        """Whether the end is a workload that is not in the list."""
-        return end.kind == EndKind.WORKLOAD and end.name not in self._known
-
     @lru_cache(maxsize=None)  # the same slip is often in many statements
-    def near_workloads(self, name: str) -> str:
-        """The names of the workloads nearest to one that is not there, in brackets; empty where there are none."""
+    def _near(self, name: str) -> str:
         return _in_brackets(nearest(name, self.names))
 
     @lru_cache(maxsize=None)
