@@ -8,12 +8,12 @@ from __future__ import annotations
 import re
 from functools import cached_property
 from pathlib import Path
-from typing import Dict, List, NamedTuple, Optional, Tuple
+from typing import Dict, List, NamedTuple, Optional, Set, Tuple
 
 from plugin import children
 from plugin.gate import opened
 from plugin.gate.check import give_up
-from plugin.gate.grammar import ONLY, EndKind, Parts
+from plugin.gate.grammar import NO_CONNECTIONS, ONLY, EndKind, Parts
 from plugin.gate.pods import ListedPods
 from plugin.gate.statements import Form, Statement
 from plugin.gate.workloads import NoWorkload, Workloads
@@ -58,6 +58,11 @@ class Ingresses:
                     self._judge(statement)
                 except ValueError:  # neither np's rows nor statements that np takes have such connections
                     give_up(self._source.program, 0, self.notes or b"")
+
+    def asking(self, statements: List[Statement]) -> Set[Statement]:
+        """The statements that may hold and ask what comes to some workload through Ingresses."""
+        return {statement for statement in statements if statement.may_hold and self._is_asked(statement)
+                and statement.parts.connections != NO_CONNECTIONS and self._writer.workloads_at(statement.parts.destination)}
 
     def _is_asked(self, statement: Statement) -> bool:
         """Whether the statement is about Ingresses. A controller that is named is a pod like others where `only` is

@@ -10,10 +10,10 @@ from plugin.gate.statements import Form, Statement
 from plugin.gate.workloads import Workloads
 
 
-def asking_nothing(check: Check, statements: List[Statement], questions: List[Question], path: Path,
-                   workloads: Workloads) -> List[Statement]:
+def asking_nothing(check: Check, statements: List[Statement], questions: List[Question], path: Path, workloads: Workloads,
+                   asking_of_ingresses: Set[Statement]) -> List[Statement]:
     """The statements that hold because they ask about no packet."""
-    asking = {question.statement for question in questions if _surely_asks(question, workloads)}
+    asking = asking_of_ingresses | {question.statement for question in questions if _surely_asks(question, workloads)}
     doubtful = {statement for statement in statements if statement.may_hold and statement not in asking}
     opposites = [question._replace(parts=opposite(question.parts)) for question in questions
                  if question.statement in doubtful and question.parts.connections != NO_CONNECTIONS]
@@ -27,7 +27,7 @@ def _surely_asks(question: Question, workloads: Workloads) -> bool:
     if question.statement.parts.connections == NO_CONNECTIONS:
         return False
     if question.statement.form == Form.INGRESS_CONTROLLER:
-        return bool(workloads.of(question.parts.destination))
+        return False
     senders, receivers = workloads.of(question.parts.source), workloads.of(question.parts.destination)
     if senders is None or receivers is None:
         return bool(senders or receivers)

@@ -74,7 +74,8 @@ def _judge(words: GateWords, statements: List[Statement], source: Source, caveat
     judge.judge(statements)
     ingresses = Ingresses(source, writer, words.controller)
     ingresses.judge(statements)
-    for statement in asking_nothing(check, statements, judge.questions, source.path, workloads):
+    asking = ingresses.asking(statements)
+    for statement in asking_nothing(check, statements, judge.questions, source.path, workloads, asking):
         if words.allow_empty:
             statement.word = "nothing is asked"
         else:
