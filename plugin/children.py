@@ -165,7 +165,7 @@ class Stream:
                             stderr=self._errors)
         self._output = cast(IO[bytes], self._child.stdout)
 
-    def found(self, pattern: "re.Pattern[bytes]") -> List[bytes]:
+    def found(self, pattern: "re.Pattern[bytes]") -> List[Any]:
         """What the pattern finds in its lines, each with the line feed before it and without the one behind it.
 
         There may be millions of lines: they are searched in large blocks, which takes a fraction of what each by itself takes.

@@ -3,7 +3,7 @@ from __future__ import annotations
 
 import re
 from functools import cached_property
-from typing import Iterable, List, Optional, Tuple
+from typing import FrozenSet, Iterable, List, Optional, Tuple
 
 from plugin.caveats.addresses import network
 from plugin.caveats.caveat import ANY_POD, ANYONE, CONTROLLER, Caveat, Ends, Span
@@ -30,6 +30,11 @@ class StatementCaveats:
     def _pairs(self) -> List[Tuple[Ends, Ends, int]]:
         """The pairs of all caveats, each with the number of the caveat. They are gone through for each statement."""
         return [(*pair, number) for number, caveat in enumerate(self._caveats.all) for pair in caveat.touched]
+
+    @property
+    def families(self) -> FrozenSet[str]:
+        """The families of the list: those of the addresses of its pods, or IPv4 alone."""
+        return frozenset("IPv6" if ":" in address.text else "IPv4" for address in self._caveats.listed.addresses) or frozenset(["IPv4"])
 
     def of(self, number: int, parts: Parts) -> List[Caveat]:
         """The caveats that touch the statement in the line of this number."""

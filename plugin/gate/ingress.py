@@ -5,26 +5,22 @@ only named peers in, may then be open to the real one: that is unsure.
 """
 from __future__ import annotations
 
-import re
 from functools import cached_property
 from pathlib import Path
 from typing import Dict, List, NamedTuple, Optional, Set, Tuple
 
-from plugin import children
 from plugin.gate import opened
 from plugin.gate.check import give_up
 from plugin.gate.grammar import NO_CONNECTIONS, ONLY, EndKind, Parts
 from plugin.gate.pods import ListedPods
 from plugin.gate.statements import Form, Statement
-from plugin.gate.workloads import NoWorkload, Workloads
+from plugin.gate.workloads import NoWorkload, Workloads, listed
 from plugin.gate.written_out import Writer
 from plugin.ports import Ports, read_connections
 from plugin.program import Program
 from plugin.room import Room
-from plugin.said import decoded, stop
+from plugin.said import stop
 
-# Behind the end of the row before, each up to its own end.
-_ROWS = re.compile(rb"\n\{ingress-controller\} => ([^\n]*)")
 _NO_PORTS = Ports()
 
 _OpenPorts = Dict[str, Ports]  # of TCP, by workload
@@ -92,8 +88,10 @@ class Ingresses:
             names = self._source.workloads.named(self._controller) if self._controller else []
         except NoWorkload as error:
             stop(1, "--controller: %s" % error)
-        words = [["--controller", name] for name in names] or [[]]
-        return [self._fetch(each, self._source.path) for each in words]
+        source = self._source
+        found = [listed(source.program, source.path, ["--controller", name]) for name in names] or [source.workloads.through_ingresses()]
+        self.notes = found[0].notes
+        return [dict(map(_read_row, each.rows)) for each in found]
 
     @cached_property
     def _leading(self) -> Optional[_OpenPorts]:
@@ -103,28 +101,13 @@ class Ingresses:
         items = self._source.pods.items
         if not opened.has_ingresses(items):
             return {}
-        notes = self.notes
-        ports = self._fetch([], self._source.room.write("opened", opened.text(items)))
-        self.notes = notes
-        return ports
-
-    def _fetch(self, words: List[str], path: Path) -> _OpenPorts:
-        program = self._source.program
-        try:
-            listing = children.Stream([program.path, "list", *words, path])
-        except OSError as error:
-            stop(3, "%s cannot be run: %s" % (program.name, error.strerror))
-        rows = listing.found(_ROWS)
-        ended = listing.end()
-        if ended.status:
-            give_up(program, ended.status, ended.said)
-        self.notes = ended.said
-        return dict(map(_read_row, rows))
+        copy = self._source.room.write("opened", opened.text(items))
+        return dict(map(_read_row, listed(self._source.program, copy, []).rows))
 
 
-def _read_row(row: bytes) -> Tuple[str, Ports]:
+def _read_row(row: str) -> Tuple[str, Ports]:
     """The name of the workload, and the ports of TCP that are open to it."""
-    name, _, ports = decoded(row).partition(" : TCP ")
+    name, _, ports = row.partition(" : TCP ")
     return name, Ports.read(ports)
 
 

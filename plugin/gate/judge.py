@@ -20,7 +20,8 @@ from plugin.gate.statements import State, Statement
 from plugin.gate.workloads import Workloads
 from plugin.gate.written_out import Writer
 
-# How many violated questions are found one after the other, before rows are looked at.
+# How many violated questions are found one after the other before rows are looked at, and again before runs stand side
+# by side.
 _FEW = 2
 
 
@@ -67,7 +68,9 @@ class Judge:
             rest = self._without_violated(rest, answer)
             violated += 1
             if violated == _FEW:
-                self._judge_many(self._without_those_of_rows(rest))
+                rest = self._without_those_of_rows(rest)
+            elif violated == 2 * _FEW:
+                self._judge_many(rest)
                 return
 
     def _with_known_workloads(self, statements: List[Statement], answer: Answer) -> List[Question]:

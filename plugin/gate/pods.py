@@ -7,11 +7,12 @@ gives not as many as np has, nothing is said of the owner.
 from __future__ import annotations
 
 import ipaddress
+import json
 from functools import cached_property
 from pathlib import Path
 from typing import Any, Dict, FrozenSet, Iterator, List, NamedTuple, Set, Tuple
 
-from plugin import jsontext, kinds, values
+from plugin import kinds, values
 from plugin.caveats.beside import pod_spec
 from plugin.caveats.owners import Item, Owners, workload
 from plugin.gate.workloads import NoWorkload, Workloads
@@ -41,13 +42,8 @@ class ListedPods:
     @cached_property
     def items(self) -> List[Item]:
         """The objects of the list."""
-        return values.objects(jsontext.objects(self._path.read_bytes()))
-
-    @cached_property
-    def families(self) -> Tuple[str, ...]:
-        """The families of the list: those of the addresses of its pods, or IPv4 alone."""
-        found = {"IPv6" if ":" in address else "IPv4" for pod in self._pods for address in pod.addresses}
-        return tuple(sorted(found)) or ("IPv4",)
+        whole = json.loads(self._path.read_bytes())
+        return values.objects(whole.get("items") if whole.get("kind") == "List" else [whole])
 
     def meeting(self, namespace: str, asked: Selector) -> Dict[str, FrozenSet[int]]:
         """The workloads that have pods of the namespace whose labels meet the selector, in np's order, and the places

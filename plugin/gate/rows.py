@@ -13,10 +13,10 @@ from pathlib import Path
 from typing import IO, Dict, Iterator, List, NamedTuple, Optional, Tuple, cast
 
 from plugin import children
+from plugin.caveats.statements import StatementCaveats
 from plugin.gate import blocks
 from plugin.gate.check import Question
 from plugin.gate.grammar import ANY_ADDRESS, End, Parts
-from plugin.gate.pods import ListedPods
 from plugin.gate.workloads import Workloads
 from plugin.page.rows import row_of
 from plugin.ports import Ports, read_connections
@@ -27,6 +27,7 @@ from plugin.said import decoded, stop
 _MOST = 300_000
 _PROTOCOLS = ("TCP", "UDP", "SCTP")
 _NOTHING = Ports()
+_MARKS = (" (IPv4)", " (IPv6)")
 # Here Pythons write addresses in different ways.
 _MAPPED = ipaddress.ip_network("::ffff:0:0/96")
 
@@ -51,12 +52,13 @@ class Range(NamedTuple):
 class Rows:
     """The rows of a list, which are read when they are needed first."""
 
-    def __init__(self, program: Program, path: Path, workloads: Workloads, pods: ListedPods) -> None:
+    def __init__(self, program: Program, path: Path, workloads: Workloads, caveats: StatementCaveats) -> None:
         self._program = program
         self._path = path
         self._workloads = workloads
-        self._pods = pods
-        self._pairs: Dict[str, Dict[str, Open]] = {}  # by source, and by destination with its family
+        self._caveats = caveats
+        self._pairs: Dict[Tuple[str, str], Dict[str, Open]] = {}  # by both ends, and by the mark of the family
+        self._senders: Dict[str, List[str]] = {}  # by destination
         self._ranges: Dict[Tuple[str, bool], List[Range]] = {}  # by workload, and whether it receives
 
     def breaking(self, questions: List[Question]) -> List[Tuple[Question, str]]:
@@ -98,8 +100,10 @@ class Rows:
 
     def _take(self, text: str, destination: str, source: str) -> None:
         places = self._workloads.places
-        if source in places and (destination in places or destination[:-7] in places):
-            self._pairs.setdefault(source, {})[destination] = _open(text)
+        name, mark = (destination[:-7], destination[-7:]) if destination.endswith(_MARKS) else (destination, "")
+        if source in places and name in places:
+            self._pairs.setdefault((source, name), {})[mark] = _open(text)
+            self._senders.setdefault(name, []).append(source)
         elif source in places:
             self._ranges.setdefault((source, False), []).append(_range(destination, text))
         elif source != "{ingress-controller}":
@@ -113,6 +117,8 @@ class Rows:
             found = [(self._first_address(name, True, parts.source, asked, denies), name) for name in receivers or ()]
             least = min(((each, name) for each, name in found if each), key=lambda pair: pair[0][:2], default=None)
             return None if least is None else "%s => %s : %s" % (least[0][2], least[1], least[0][3])
+        if denies and receivers is not None:
+            senders = self._sending(senders, receivers)
         for sender in senders:
             packet = self._to_address(sender, parts.destination, asked, denies) if receivers is None else (
                 self._to_pods(sender, receivers, asked, denies))
@@ -124,21 +130,32 @@ class Rows:
         found = self._first_address(sender, False, addresses, asked, denies)
         return None if found is None else "%s => %s : %s" % (sender, found[2], found[3])
 
+    def _sending(self, senders: List[str], receivers: List[str]) -> List[str]:
+        """Those of the senders that send something to some of the receivers, in np's order."""
+        if len(senders) == 1 or len(receivers) > len(senders):
+            return senders
+        there = {sender for receiver in receivers for sender in self._senders.get(receiver, [])}
+        return sorted(there.intersection(senders), key=self._workloads.places.__getitem__)
+
     def _to_pods(self, sender: str, receivers: List[str], asked: Open, denies: bool) -> Optional[str]:
         """The first packet of one workload to others. Between two without a row nothing passes."""
-        sent = self._pairs.get(sender, {})
-        if denies and not sent:
-            return None
-        marks = [" (%s)" % family for family in self._pods.families] if len(self._pods.families) > 1 else [""]
         for receiver in receivers:
-            for mark in marks:
-                opened = sent.get(receiver) or sent.get(receiver + mark)
-                if opened is None and sender == receiver and not denies:
-                    raise Unclear
+            rows = self._pairs.get((sender, receiver))
+            if rows is None and sender == receiver and not denies:
+                raise Unclear
+            if rows is None and denies:
+                continue
+            for mark in self._marks:
+                opened = rows.get("") or rows.get(mark) if rows else None
                 packet = _breaking(asked, opened or (_NOTHING,) * 3, denies)
                 if packet:
-                    return "%s => %s%s : %s" % (sender, receiver, mark, packet)
+                    return "%s => %s%s : %s" % (sender, receiver, mark if len(self._marks) > 1 else "", packet)
         return None
+
+    @cached_property
+    def _marks(self) -> List[str]:
+        """The marks of the families of the list."""
+        return [mark for mark in _MARKS if mark[2:-1] in self._caveats.families]
 
     def _first_address(self, name: str, receives: bool, addresses: End, asked: Open, denies: bool) -> Optional[Found]:
         """The first of the addresses at which a packet to the workload, or from it, breaks the statement."""

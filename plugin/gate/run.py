@@ -7,9 +7,10 @@ from typing import IO, List
 
 from plugin.caveats import told
 from plugin.caveats.statements import StatementCaveats
-from plugin.gate import junit, report
+from plugin.gate import junit, report, sarif
 from plugin.gate.caveats import mark, refuse_addresses
 from plugin.gate.check import Check
+from plugin.gate.files import write_whole
 from plugin.gate.ingress import Ingresses, Source
 from plugin.gate.judge import Judge, judge_grammar
 from plugin.gate.nothing import asking_nothing, reason
@@ -38,8 +39,9 @@ def run(words: GateWords, program: Program, path: Path, room: Room, caveats: Sta
         relay(notes)
         told.tell(mark(statements, caveats, bool(words.controller)))
         write(report.answers(statements, words.file, words.github), "the answers cannot be written")
-    if words.junit:
-        junit.write_whole(words.junit, junit.report(statements, words.file))
+    for name, form in ((words.junit, junit.report), (words.sarif, sarif.report)):
+        if name:
+            write_whole(name, form(statements, words.file))
     if not statements:
         stop(1, "there is no statement in %s" % words.file)
     if report.count(statements, State.ERROR) + report.count(statements, State.UNSURE):
@@ -70,7 +72,7 @@ def _judge(words: GateWords, statements: List[Statement], source: Source, caveat
     if not words.takes_addresses_of_pods:
         refuse_addresses(statements, workloads, caveats)
     writer.refuse_unknown(statements, words.allow_empty)
-    judge = Judge(check, source.path, workloads, writer, Rows(source.program, source.path, workloads, source.pods))
+    judge = Judge(check, source.path, workloads, writer, Rows(source.program, source.path, workloads, caveats))
     judge.judge(statements)
     ingresses = Ingresses(source, writer, words.controller)
     ingresses.judge(statements)

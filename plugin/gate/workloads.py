@@ -4,20 +4,47 @@ from __future__ import annotations
 import re
 from functools import cached_property, lru_cache
 from pathlib import Path
-from typing import Dict, Iterable, List, Optional
+from typing import Dict, Iterable, List, NamedTuple, Optional
 
-from plugin import names
+from plugin import children
 from plugin.caveats.statements import owner_of
 from plugin.gate.check import give_up
 from plugin.gate.grammar import End, EndKind
 from plugin.nearest import nearest
 from plugin.program import Program
+from plugin.said import decoded, stop
 
 _KIND = re.compile(r"\[[^\]]*\]\Z")
 
 
+# Of np's rows in the report of ranges: of each workload exactly one begins with the least range of addresses that may
+# send to it. And the rows of Ingresses, each up to its end.
+_ROWS = re.compile(rb"\n(?:0\.0\.0\.0(?:-[0-9.]+)? => (.*?) : |\{ingress-controller\} => ([^\n]*))")
+
+
 class NoWorkload(Exception):
     """No workload has the name, or several owners may be meant. The text says which there are."""
+
+
+class Listed(NamedTuple):
+    """The names of the workloads of a list, the rows of Ingresses without their source, and np's notes."""
+
+    names: List[str]
+    rows: List[str]
+    notes: bytes
+
+
+def listed(program: Program, path: Path, words: List[str]) -> Listed:
+    """What np lists of the list in the file; where it refuses that, the gate ends."""
+    try:
+        stream = children.Stream([program.path, "list", "--report", "1", *words, path])
+    except OSError as error:
+        stop(3, "%s cannot be run: %s" % (program.name, error.strerror))
+    found = [(decoded(name), decoded(row)) for name, row in stream.found(_ROWS)]
+    ended = stream.end()
+    if ended.status:
+        give_up(program, ended.status, ended.said)
+    return Listed([name for name, _ in found if name], [row for _, row in found if row], ended.said)
 
 
 class Workloads:
@@ -28,13 +55,18 @@ class Workloads:
         self._program = program
         self._path = path
 
-    @cached_property
+    @property
     def names(self) -> List[str]:
         """The names of all workloads, in np's order."""
-        try:
-            return names.workloads(self._program, self._path)
-        except names.NoNames as error:
-            give_up(self._program, error.status, error.said)
+        return self._listed.names
+
+    def through_ingresses(self) -> Listed:
+        """What np lists where no controller is named."""
+        return self._listed
+
+    @cached_property
+    def _listed(self) -> Listed:
+        return listed(self._program, self._path, [])
 
     @cached_property
     def places(self) -> Dict[str, int]:

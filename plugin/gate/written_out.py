@@ -2,7 +2,7 @@
 and what `only` leaves to others."""
 from __future__ import annotations
 
-from typing import Dict, FrozenSet, Iterator, List, NamedTuple, Optional, Set, Tuple
+from typing import Dict, FrozenSet, Iterator, List, NamedTuple, Optional
 
 from plugin.gate.blocks import outside_of
 from plugin.gate.check import Question
