@@ -262,7 +262,7 @@ class Statement:
         self.left, self.right = [ends_of(text, table) for text in self.texts], ends_of(right, table)
         self.asked = answers.connections(self.connections)
         self.is_asking = False
-        if not self.right.pods and any(not left.pods for text, left in zip(self.texts, self.left)
+        if not self.right.pods and not right.startswith("outside") and any(not left.pods for text, left in zip(self.texts, self.left)
                                        if self.verdict != "only" or not text.startswith("outside")):
             raise Fault("no end is pods")
 
@@ -303,7 +303,8 @@ class Statement:
         for protocol, asked, passing in zip(answers.PROTOCOLS, self.asked, passes):
             broken = asked & ~passing if self.verdict == "allow" else asked & passing
             if broken:
-                mark = " (IPv%d)" % family if isinstance(source, Pod) and isinstance(destination, Pod) and len(self.table.families) > 1 else ""
+                are_pods = isinstance(source, Pod) and isinstance(destination, Pod)
+                mark = " (IPv%d)" % family if are_pods and len(self.table.families) > 1 else ""
                 return "%s => %s%s : %s %d : %s" % (text_of(source), text_of(destination), mark, protocol, least(broken),
                                                     "Deny" if self.verdict == "allow" else "Allow")
         return None
@@ -416,8 +417,8 @@ def expected(line: str, table: Table, np: answers.Program, items: List[Item]) ->
         return "error", ""
     if is_plain(line, table) and state != "error":
         status, said = np.run(["check"], items, statements=[line])
-        demand((status, said) == ((0, ["holds: 1"]) if state == "ok" else (5, ["line 1: " + packet])), "np check says %s, and rows %s of %s" % (
-            said, (state, packet), line))
+        wanted = (0, ["holds: 1"]) if state == "ok" else (5, ["line 1: " + packet])
+        demand((status, said) == wanted, "np check says %s, and rows %s of %s" % (said, (state, packet), line))
     return state, packet
 
 
@@ -434,7 +435,8 @@ def check_file(gate: Gate, seed: int, wrong: Optional[Callable[[List[str]], List
     for number, (line, answer) in enumerate(zip(lines, wrong(said) if wrong else said), 1):
         state, word = parsed(answer, number, line)
         wanted = expected(line, table, gate.np, items)
-        demand((state, word if state == "VIOLATED" else "") == wanted, "%s\n  the gate: %s %s\n  rows: %s %s" % (line, state, word, *wanted))
+        found = state, word if state == "VIOLATED" else ""
+        demand(found == wanted, "%s\n  the gate: %s %s\n  rows: %s %s" % (line, state, word, *wanted))
         counts[state] += 1
         yield "%s %s" % (line.split(" ")[0], state)
     demand(status == (1 if counts["error"] + counts["unsure"] else 5 if counts["VIOLATED"] else 0), "status %d" % status)

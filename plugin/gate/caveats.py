@@ -21,14 +21,18 @@ def refuse_addresses(statements: List[Statement], workloads: Workloads, caveats:
             statement.refuse(of_pod(text, address, named(address, workloads.names)))
 
 
-def mark(statements: List[Statement], caveats: StatementCaveats, is_controller_named: bool) -> List[Caveat]:
+# What depends on who the controller of Ingresses is the gate says itself, as unsure.
+_SAID = "controller-not-named"
+
+
+def mark(statements: List[Statement], caveats: StatementCaveats) -> List[Caveat]:
     """Notes at each statement that is not in error which caveats bear on it, and returns them, each once, but for
     those that np's notes on Ingresses say."""
     found: List[Caveat] = []
     for statement in statements:
         if statement.state != State.ERROR:
             touching = _bearing(statement, caveats.of(statement.number, statement.parts))
-            touching = [caveat for caveat in touching if not (is_controller_named and caveat.key == "controller-not-named")]
+            touching = [caveat for caveat in touching if caveat.key != _SAID]
             keys = {caveat.key for caveat in touching}
             statement.caveats = [key for key in KINDS if key in keys]
             found += [caveat for caveat in touching if not caveat.is_noted]

@@ -37,7 +37,7 @@ def run(words: GateWords, program: Program, path: Path, room: Room, caveats: Sta
         workloads = Workloads(program, path)
         notes = _judge(words, statements, Source(program, path, room, workloads, ListedPods(path, workloads)), caveats)
         relay(notes)
-        told.tell(mark(statements, caveats, bool(words.controller)))
+        told.tell(mark(statements, caveats))
         write(report.answers(statements, words.file, words.github), "the answers cannot be written")
     for name, form in ((words.junit, junit.report), (words.sarif, sarif.report)):
         if name:
