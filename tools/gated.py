@@ -130,7 +130,7 @@ def pods_of(items: List[Item]) -> List[Pod]:
 class Table:
     """What np lists, by single packets."""
 
-    def __init__(self, rows: List[Dict[str, str]], items: List[Item]) -> None:
+    def __init__(self, rows: List[Dict[str, str]], exposed: List[Dict[str, str]], items: List[Item]) -> None:
         self.pods = pods_of(items)
         self.names = sorted({pod.workload for pod in self.pods}, key=str.encode)
         self.pairs: Dict[Tuple[str, str, int], Ports] = {}
@@ -142,7 +142,7 @@ class Table:
         for row in rows:
             self._add(row["source"], row["destination"], answers.connections(row["connections"]), named)
         demand(named == set(self.names), "np has other workloads: %s" % sorted(named ^ set(self.names)))
-        self.leads = leads_of(items, self.pods)
+        self.leads = {name: ports & self._let_in(name, exposed) for name, ports in leads_of(items, self.pods).items()}
 
     def _add(self, source: str, destination: str, ports: Ports, named: Set[str]) -> None:
         name, _, mark = destination.partition(" (")
@@ -156,6 +156,13 @@ class Table:
             for text in (source if "[" in name else destination).split(","):
                 key = ("to", name) if "[" in name else ("from", source)
                 self.ranges.setdefault(key, []).append((ipaddress.ip_network(text), ports))
+
+    def _let_in(self, name: str, exposed: List[Dict[str, str]]) -> int:
+        """The ports of TCP at which somebody may be let in: a listed pod, an address, or a pod that is not listed."""
+        found = [ports for (_, destination, _), ports in self.pairs.items() if destination == name]
+        found += [ports for _, ports in self.ranges["to", name]]
+        found += [answers.connections(row["connections"]) for row in exposed if row["destination"] == name]
+        return answers.union(found)[0] | self.open.get(name, 0)
 
     def cuts(self) -> Set[Address]:
         return {block[0] for blocks in self.ranges.values() for block, _ in blocks}
@@ -426,8 +433,8 @@ def check_file(gate: Gate, seed: int, wrong: Optional[Callable[[List[str]], List
     """Demands that each line of a file is answered as it should be; yields the states."""
     rng = random.Random(seed)
     items = random_list(rng)
-    rows = json.loads("\n".join(gate.np.rows(["list", "--format", "json"], items)))
-    table = Table(rows, items)
+    rows, exposed = (json.loads("\n".join(gate.np.rows([command, "--format", "json"], items))) for command in ("list", "exposure"))
+    table = Table(rows, exposed, items)
     lines = [random_line(table, rng) for _ in range(rng.randrange(1, 25))]
     status, said = gate.ask(items, lines)
     demand(len(said) == len(lines) + 1, "%d answers to %d lines" % (len(said) - 1, len(lines)))

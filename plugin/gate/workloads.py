@@ -119,7 +119,8 @@ class Workloads:
 
     @lru_cache(maxsize=None)  # the same slip is often in many statements
     def _near(self, name: str) -> str:
-        return _in_brackets(nearest(name, self.names))
+        """The nearest names, in brackets: those of owners, unless one of several workloads is meant."""
+        return _in_brackets(nearest(name, self.names if "#" in name else self.owners))
 
     @lru_cache(maxsize=None)
     def no_pod_in(self, namespace: str) -> str:
