@@ -378,6 +378,8 @@ def random_line(table: Table, rng: random.Random) -> str:
         right = rng.choice(["namespace ", "workload ", "workload "]) + rng.choice(table.pods).workload
         right = right.partition("/")[0] if right.startswith("namespace") else right
     left = ", ".join(random_end(table, rng) for _ in range(rng.randrange(1, 4) if verdict == "only" else 1))
+    if table.leads and rng.random() < 0.15:  # what is left is the Ingress
+        verdict, left = rng.choice([("only", "any pod, any address"), ("deny", "ingress-controller"), ("allow", "ingress-controller")])
     return "%s %s => %s : %s" % (verdict, left, right, rng.choice(CONNECTIONS[:-1] * 6 + CONNECTIONS[-1:]))
 
 
