@@ -68,7 +68,7 @@ def random_list(rng: random.Random) -> List[Item]:
     items += [lists.pod(rng.choice(lists.SPACES), "q%d" % number, rng) for number in range(rng.randrange(0, 4))]
     items = with_owners(items, rng)
     for space in lists.SPACES if rng.random() < 0.6 else []:
-        spec = {"podSelector": {}, "policyTypes": rng.choice([["Ingress"], ["Ingress", "Egress"]])}
+        spec: Item = {"podSelector": {}, "policyTypes": rng.choice([["Ingress"], ["Ingress", "Egress"]])}
         if rng.random() < 0.4:
             spec["ingress"] = [{"from": [{"podSelector": {"matchLabels": {"color": "blue"}}}]}]
         items.append({"apiVersion": "networking.k8s.io/v1", "kind": "NetworkPolicy", "metadata": {"name": "shut", "namespace": space},
@@ -138,7 +138,7 @@ class Table:
         self.open: Dict[str, int] = {}
         ips = [each["ip"] for item in lists.kinds(items, "Pod") for each in item["status"]["podIPs"]]
         self.families = sorted({ipaddress.ip_address(ip).version for ip in ips}) or [4]
-        named = set()
+        named: Set[str] = set()
         for row in rows:
             self._add(row["source"], row["destination"], answers.connections(row["connections"]), named)
         demand(named == set(self.names), "np has other workloads: %s" % sorted(named ^ set(self.names)))
@@ -431,24 +431,45 @@ def expected(line: str, table: Table, np: answers.Program, items: List[Item]) ->
     return state, packet
 
 
-def check_file(gate: Gate, seed: int, wrong: Optional[Callable[[List[str]], List[str]]]) -> Iterator[str]:
-    """Demands that each line of a file is answered as it should be; yields the states."""
+class File(NamedTuple):
+    """A file of statements, what the gate said of it, and what there is to say of each line."""
+
+    lines: List[str]
+    status: int
+    said: List[str]
+    wanted: List[Tuple[str, str]]
+
+
+def asked(gate: Gate, seed: int) -> File:
     rng = random.Random(seed)
     items = random_list(rng)
     rows, exposed = (json.loads("\n".join(gate.np.rows([command, "--format", "json"], items))) for command in ("list", "exposure"))
     table = Table(rows, exposed, items)
     lines = [random_line(table, rng) for _ in range(rng.randrange(1, 25))]
     status, said = gate.ask(items, lines)
-    demand(len(said) == len(lines) + 1, "%d answers to %d lines" % (len(said) - 1, len(lines)))
+    return File(lines, status, said, [expected(line, table, gate.np, items) for line in lines])
+
+
+def compare(file: File, said: List[str]) -> Iterator[str]:
+    """Demands that each line is answered as it should be; yields the states."""
+    demand(len(said) == len(file.lines) + 1, "%d answers to %d lines" % (len(said) - 1, len(file.lines)))
     counts: Dict[str, int] = Counter()
-    for number, (line, answer) in enumerate(zip(lines, wrong(said) if wrong else said), 1):
+    for number, (line, answer, wanted) in enumerate(zip(file.lines, said, file.wanted), 1):
         state, word = parsed(answer, number, line)
-        wanted = expected(line, table, gate.np, items)
         found = state, word if state == "VIOLATED" else ""
         demand(found == wanted, "%s\n  the gate: %s %s\n  rows: %s %s" % (line, state, word, *wanted))
         counts[state] += 1
         yield "%s %s" % (line.split(" ")[0], state)
-    demand(status == (1 if counts["error"] + counts["unsure"] else 5 if counts["VIOLATED"] else 0), "status %d" % status)
+    status = 1 if counts["error"] + counts["unsure"] else 5 if counts["VIOLATED"] else 0
+    demand(file.status == status, "status %d" % file.status)
+
+
+def is_noticed(file: File, wrong: Callable[[List[str]], List[str]]) -> bool:
+    try:
+        list(compare(file, wrong(file.said)))
+    except Broken:
+        return True
+    return False
 
 
 # ---- answers that are wrong
@@ -471,15 +492,12 @@ WRONGS = {
 
 def notice(gate: Gate, first: int, files: int) -> int:
     """Demands that each way of being wrong is noticed in some file."""
-    missed = []
-    for name, wrong in WRONGS.items():
-        for seed in range(first, first + files):
-            try:
-                list(check_file(gate, seed, wrong))
-            except Broken:
-                break
-        else:
-            missed.append(name)
+    missed = dict(WRONGS)
+    for seed in range(first, first + files):
+        if not missed:
+            break
+        file = asked(gate, seed)
+        missed = {name: wrong for name, wrong in missed.items() if not is_noticed(file, wrong)}
     for name in missed:
         print("not noticed: " + name)
     print("%d of %d wrong gates noticed" % (len(WRONGS) - len(missed), len(WRONGS)))
@@ -499,7 +517,8 @@ def main() -> int:
         return notice(gate, given.seed, given.files)
     for seed in range(given.seed, given.seed + given.files):
         try:
-            for state in check_file(gate, seed, None):
+            file = asked(gate, seed)
+            for state in compare(file, file.said):
                 counts[state] += 1
         except Broken as fault:
             print("seed %d: %s" % (seed, fault))
