@@ -130,8 +130,9 @@ def pods_of(items: List[Item]) -> List[Pod]:
 class Table:
     """What np lists, by single packets."""
 
-    def __init__(self, rows: List[Dict[str, str]], exposed: List[Dict[str, str]], items: List[Item]) -> None:
+    def __init__(self, rows: List[Dict[str, str]], exposed: List[Dict[str, str]], items: List[Item], controller: str) -> None:
         self.pods = pods_of(items)
+        self.controller = controller
         self.names = sorted({pod.workload for pod in self.pods}, key=str.encode)
         self.pairs: Dict[Tuple[str, str, int], Ports] = {}
         self.ranges: Dict[Tuple[str, str], List[Tuple[Any, Ports]]] = {}
@@ -142,7 +143,8 @@ class Table:
         for row in rows:
             self._add(row["source"], row["destination"], answers.connections(row["connections"]), named)
         demand(named == set(self.names), "np has other workloads: %s" % sorted(named ^ set(self.names)))
-        self.leads = {name: ports & self._let_in(name, exposed) for name, ports in leads_of(items, self.pods).items()}
+        leads = {} if controller else leads_of(items, self.pods)
+        self.leads = {name: ports & self._let_in(name, exposed) for name, ports in leads.items()}
 
     def _add(self, source: str, destination: str, ports: Ports, named: Set[str]) -> None:
         name, _, mark = destination.partition(" (")
@@ -176,7 +178,7 @@ class Table:
 
 
 def leads_of(items: List[Item], pods: List[Pod]) -> Dict[str, int]:
-    """The ports of TCP to which the Ingress leads, by workload."""
+    """The ports of TCP to which the Ingress leads, by workload. What a controller that is named reaches is in the rows."""
     found: Dict[str, int] = {}
     for service in lists.kinds(items, "Service"):
         target = service["spec"]["ports"][0]["targetPort"]
@@ -228,7 +230,7 @@ def ends_of(text: str, table: Table) -> Ends:
     elif text == "any address":
         return Ends([], ALL_BLOCKS)
     elif text == "ingress-controller":
-        return Ends([], [], True)
+        return Ends([pod for pod in table.pods if pod.workload == table.controller], [], True)
     elif word == "namespace":
         found = [pod for pod in table.pods if pod.namespace == name]
     elif word == "outside-namespace":
@@ -264,20 +266,22 @@ class Statement:
         left, right = ends.split(" => ")
         self.table = table
         self.texts = re.split(", (?=any|names|work|pods|out|ingr|[0-9f])", left) if self.verdict == "only" else [left]
-        if right == "ingress-controller" or (left == "ingress-controller" and right.startswith("outside")):
+        if right == "ingress-controller" or (self.texts == ["ingress-controller"] and self.verdict != "only" and right.startswith("outside")):
             raise Fault("that sends alone, to pods alone")
         self.left, self.right = [ends_of(text, table) for text in self.texts], ends_of(right, table)
         self.asked = answers.connections(self.connections)
         self.is_asking = False
-        if not self.right.pods and not right.startswith("outside") and any(not left.pods for text, left in zip(self.texts, self.left)
-                                       if self.verdict != "only" or not text.startswith("outside")):
+        are_pods = [bool(end.pods) and not end.has_controller or self.verdict == "only" and text.startswith("outside")
+                    for text, end in zip(self.texts, self.left)]
+        if not self.right.pods and not right.startswith("outside") and not all(are_pods):
             raise Fault("no end is pods")
 
     def sources(self) -> Ends:
         if self.verdict != "only":
             return self.left[0]
         pods = [pod for pod in self.table.pods if all(pod not in end.pods for end in self.left)]
-        return Ends(pods, [] if not self.right.pods else ALL_BLOCKS, not any(end.has_controller for end in self.left))
+        is_asked = not self.table.controller and not any(end.has_controller for end in self.left)
+        return Ends(pods, [] if not self.right.pods else ALL_BLOCKS, is_asked)
 
     def is_left_out(self, address: Address) -> bool:
         """Whether `only` lets the address send."""
@@ -378,7 +382,7 @@ def random_line(table: Table, rng: random.Random) -> str:
         right = rng.choice(["namespace ", "workload ", "workload "]) + rng.choice(table.pods).workload
         right = right.partition("/")[0] if right.startswith("namespace") else right
     left = ", ".join(random_end(table, rng) for _ in range(rng.randrange(1, 4) if verdict == "only" else 1))
-    if table.leads and rng.random() < 0.15:  # what is left is the Ingress
+    if (table.leads or table.open) and rng.random() < 0.15:  # what is left is the Ingress
         verdict, left = rng.choice([("only", "any pod, any address"), ("deny", "ingress-controller"), ("allow", "ingress-controller")])
     return "%s %s => %s : %s" % (verdict, left, right, rng.choice(CONNECTIONS[:-1] * 6 + CONNECTIONS[-1:]))
 
@@ -401,12 +405,13 @@ class Gate:
         self._environment = dict(os.environ, KUBECTL_NP_PROGRAM=program)
         self._folder = tempfile.TemporaryDirectory()
 
-    def ask(self, items: List[Item], lines: List[str]) -> Tuple[int, List[str]]:
+    def ask(self, items: List[Item], lines: List[str], controller: str) -> Tuple[int, List[str]]:
         place = Path(self._folder.name)
         (place / "list").write_text(json.dumps({"apiVersion": "v1", "kind": "List", "items": items}), encoding="utf-8")
         (place / "statements").write_text("".join(line + "\n" for line in lines), encoding="utf-8")
-        done = subprocess.run([str(TOP / "kubectl-np"), "--list", str(place / "list"), "gate", "--as-address", str(place / "statements")],
-                              env=self._environment, capture_output=True, text=True, check=False)
+        words = ["--list", str(place / "list"), "gate", "--as-address", *(["--controller", controller] if controller else [])]
+        done = subprocess.run([str(TOP / "kubectl-np"), *words, str(place / "statements")], env=self._environment,
+                              capture_output=True, text=True, check=False)
         demand("Traceback" not in done.stderr, done.stderr)
         return done.returncode, done.stdout.splitlines()
 
@@ -443,10 +448,13 @@ class File(NamedTuple):
 def asked(gate: Gate, seed: int) -> File:
     rng = random.Random(seed)
     items = random_list(rng)
-    rows, exposed = (json.loads("\n".join(gate.np.rows([command, "--format", "json"], items))) for command in ("list", "exposure"))
-    table = Table(rows, exposed, items)
+    controller = rng.choice(pods_of(items)).workload if rng.random() < 0.25 else ""
+    named = ["--controller", controller] if controller else []
+    rows, exposed = (json.loads("\n".join(gate.np.rows([command, "--format", "json", *words], items)))
+                     for command, words in (("list", named), ("exposure", [])))
+    table = Table(rows, exposed, items, controller)
     lines = [random_line(table, rng) for _ in range(rng.randrange(1, 25))]
-    status, said = gate.ask(items, lines)
+    status, said = gate.ask(items, lines, controller)
     return File(lines, status, said, [expected(line, table, gate.np, items) for line in lines])
 
 

@@ -37,14 +37,22 @@ class Source(NamedTuple):
     pods: ListedPods
 
 
+def controllers(name: str, workloads: Workloads) -> List[str]:
+    """The workloads that the name stands for which --controller has; none where it is empty."""
+    try:
+        return workloads.named(name) if name else []
+    except NoWorkload as error:
+        stop(1, "--controller: %s" % error)
+
+
 class Ingresses:
-    """What comes in through the Ingresses of a list. `controller` is the name of the workload that sends it, and empty
+    """What comes in through the Ingresses of a list. `controllers` are the workloads that may send it; there are none
     where that is not known."""
 
-    def __init__(self, source: Source, writer: Writer, controller: str) -> None:
+    def __init__(self, source: Source, writer: Writer, controllers: List[str]) -> None:
         self._source = source
         self._writer = writer
-        self._controller = controller
+        self._controllers = controllers
         self._doubts: Dict[str, Ports] = {}
         self.notes: Optional[bytes] = None  # np's notes on the list, where it was asked
 
@@ -68,7 +76,7 @@ class Ingresses:
         parts = statement.parts
         if statement.form == Form.INGRESS_CONTROLLER:
             return True
-        return parts.verdict == ONLY and not self._controller and parts.destination.kind != EndKind.ADDRESSES and all(
+        return parts.verdict == ONLY and not self._controllers and parts.destination.kind != EndKind.ADDRESSES and all(
             end.kind != EndKind.INGRESS_CONTROLLER for end in parts.source.ends)
 
     def _judge(self, statement: Statement) -> None:
@@ -110,7 +118,7 @@ class Ingresses:
     def _doubtful(self, name: str) -> Ports:
         """The ports of a workload to which an Ingress leads, and where a pod without labels is not let in, and
         somebody else may be."""
-        if self._controller or name not in self._leading:
+        if self._controllers or name not in self._leading:
             return _NO_PORTS
         if name not in self._doubts:
             shut = self._leading[name] - self._open[0].get(name, _NO_PORTS)
@@ -133,12 +141,9 @@ class Ingresses:
     @cached_property
     def _open(self) -> List[_OpenPorts]:
         """The ports that are open, for each workload that the controller may be."""
-        try:
-            names = self._source.workloads.named(self._controller) if self._controller else []
-        except NoWorkload as error:
-            stop(1, "--controller: %s" % error)
         source = self._source
-        found = [listed(source.program, source.path, ["--controller", name]) for name in names] or [source.workloads.through_ingresses()]
+        found = [listed(source.program, source.path, ["--controller", name]) for name in self._controllers]
+        found = found or [source.workloads.through_ingresses()]
         self.notes = found[0].notes
         return [dict(map(_read_row, each.rows)) for each in found]
 

@@ -11,7 +11,7 @@ from plugin.gate import junit, report, sarif
 from plugin.gate.caveats import mark, refuse_addresses
 from plugin.gate.check import Check
 from plugin.gate.files import write_whole
-from plugin.gate.ingress import Ingresses, Source
+from plugin.gate.ingress import Ingresses, Source, controllers
 from plugin.gate.judge import Judge, judge_grammar
 from plugin.gate.nothing import asking_nothing, reason
 from plugin.gate.pods import ListedPods
@@ -67,14 +67,15 @@ def _judge(words: GateWords, statements: List[Statement], source: Source, caveat
     """Finds out about each statement, and returns np's notes on the objects."""
     check = Check(source.program, source.room)
     workloads = source.workloads
-    writer = Writer(workloads, source.pods)
+    names = controllers(words.controller, workloads)
+    writer = Writer(workloads, source.pods, names)
     judge_grammar(check, statements)
     if not words.takes_addresses_of_pods:
         refuse_addresses(statements, workloads, caveats)
     writer.refuse_unknown(statements, words.allow_empty)
     judge = Judge(check, source.path, workloads, writer, Rows(source.program, source.path, workloads, caveats))
     judge.judge(statements)
-    ingresses = Ingresses(source, writer, words.controller)
+    ingresses = Ingresses(source, writer, names)
     ingresses.judge(statements)
     asking = ingresses.asking(statements)
     for statement in asking_nothing(check, statements, judge.questions, source.path, workloads, asking):

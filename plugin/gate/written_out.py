@@ -22,11 +22,13 @@ class Unit(NamedTuple):
 
 
 class Writer:
-    """Writes statements out for the workloads of a list."""
+    """Writes statements out for the workloads of a list. `controllers` are those that send what comes through Ingresses,
+    where that is said."""
 
-    def __init__(self, workloads: Workloads, pods: ListedPods) -> None:
+    def __init__(self, workloads: Workloads, pods: ListedPods, controllers: List[str]) -> None:
         self._workloads = workloads
         self._pods = pods
+        self._controllers = controllers
 
     def refuse_unknown(self, statements: List[Statement], allow_empty: bool) -> None:
         """Refuses extended statements with an end that is not there: everything is outside a misspelt namespace, and
@@ -132,6 +134,8 @@ class Writer:
         all are."""
         found: Dict[str, Optional[FrozenSet[int]]] = {}
         for end in others.ends:
+            if end.kind == EndKind.INGRESS_CONTROLLER:
+                found.update(dict.fromkeys(self._controllers))
             for unit in self.units(end) if end.kind in (*ARE_PODS, EndKind.OUTSIDE_NAMESPACE) else ():
                 for name in self._workloads.of(unit.end) or ():
                     before = found.get(name, frozenset())
