@@ -14,7 +14,8 @@ _LEADING_ZEROS = re.compile(r"(?<![0-9])0+(?=[0-9])")
 
 
 def read(text: str) -> Network:
-    """The block that is written so, as np reads it: bits beyond the length are dropped."""
+    """The block that is written so, or the one of a single address, as np reads it: bits beyond the length are
+    dropped."""
     address, slash, length = text.partition("/")
     return ipaddress.ip_network((_LEADING_ZEROS.sub("", address) if "." in address else address) + slash + length, strict=False)
 

@@ -110,7 +110,10 @@ class Judge:
         """Where an end stands: workloads are before the addresses of IPv4, and these before those of IPv6."""
         if end in self._workloads.places:
             return 0, self._workloads.places[end]
-        address = ipaddress.ip_address(end)
+        try:
+            address = ipaddress.ip_address(end)
+        except ValueError:  # a name with the signs of a packet in it
+            return 9, 0
         return address.version, int(address)
 
     def _without_those_of_rows(self, questions: List[Question]) -> List[Question]:

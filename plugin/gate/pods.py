@@ -6,7 +6,6 @@ gives not as many as np has, nothing is said of the owner.
 """
 from __future__ import annotations
 
-import ipaddress
 import json
 from functools import cached_property
 from pathlib import Path
@@ -15,6 +14,7 @@ from typing import Any, Dict, FrozenSet, Iterator, List, NamedTuple, Set, Tuple
 from plugin import kinds, values
 from plugin.caveats.beside import pod_spec
 from plugin.caveats.owners import Item, Owners, workload
+from plugin.gate import blocks
 from plugin.gate.workloads import NoWorkload, Workloads
 from plugin.objects import type_of
 from plugin.selectors import Selector, selector, selector_of_labels
@@ -109,7 +109,7 @@ class ListedPods:
 
     def _kind(self, pod: Pod) -> Tuple[Any, ...]:
         """What tells pods of one owner apart."""
-        addresses = [ipaddress.ip_address(address) for address in pod.addresses]
+        addresses = [blocks.read(address)[0] for address in pod.addresses]
         labels = tuple(pod.labels.get(key) for key in self._keys)
         return labels, pod.ports, tuple(any(address in block for address in addresses) for block in self._blocks)
 
@@ -122,7 +122,7 @@ class ListedPods:
     def _blocks(self) -> List[Any]:
         """The blocks of the `networks` peers of admin policies."""
         texts = {text for item in self.items if type_of(item) in kinds.POLICY_TYPES for text in _networks(item.get("spec"))}
-        return [ipaddress.ip_network(text, strict=False) for text in sorted(texts)]
+        return [blocks.read(text) for text in sorted(texts)]
 
 
 def _is_finished(pod: Item) -> bool:
