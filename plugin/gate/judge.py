@@ -9,8 +9,9 @@ from __future__ import annotations
 import ipaddress
 import os
 from concurrent.futures import ThreadPoolExecutor
+from itertools import groupby
 from pathlib import Path
-from typing import Dict, List, Tuple
+from typing import Dict, List, Optional, Tuple
 
 from plugin import children
 from plugin.gate.check import Answer, Check, Finding, Question
@@ -23,6 +24,21 @@ from plugin.gate.written_out import Writer
 # How many violated questions are found one after the other before rows are looked at, and again before runs stand side
 # by side.
 _FEW = 2
+
+
+# How many questions are asked in one run: np reads 32 MiB, with the list.
+_MOST_AT_ONCE = 20_000
+
+
+def _slices(questions: List[Question]) -> List[List[Question]]:
+    """The questions in their order, so many together, and those of one statement together."""
+    found: List[List[Question]] = [[]]
+    for _, group in groupby(questions, key=lambda question: question.statement):
+        asked = list(group)
+        if found[-1] and len(found[-1]) + len(asked) > _MOST_AT_ONCE:
+            found.append([])
+        found[-1] += asked
+    return found
 
 
 def judge_grammar(check: Check, statements: List[Statement]) -> None:
@@ -56,16 +72,23 @@ class Judge:
     def judge(self, statements: List[Statement]) -> None:
         """Finds out which statements are violated, and by which packet first."""
         self.questions = self._writer.questions(statements, are_known=False)
-        rest, violated = self.questions, 0
+        answer = self._check.ask(self.questions[:_MOST_AT_ONCE], self._path)
+        is_whole = answer.finding != Finding.UNKNOWN_END and len(self.questions) <= _MOST_AT_ONCE
+        if not is_whole:
+            self._learn_workloads(statements)
+        for questions in _slices(self.questions):
+            self._judge_slice(questions, answer if is_whole else None)
+
+    def _judge_slice(self, rest: List[Question], answer: Optional[Answer]) -> None:
+        """Judges questions of which np gave this answer, where it was asked."""
+        violated = 0
         while True:
-            answer = self._check.ask(rest, self._path)
+            answer = answer or self._check.ask(rest, self._path)
             if answer.finding == Finding.HOLDS:
                 self.notes = answer.said
                 return
-            if answer.finding == Finding.UNKNOWN_END:
-                rest = self.questions = self._with_known_workloads(statements, answer)
-                continue
             rest = self._without_violated(rest, answer)
+            answer = None
             violated += 1
             if violated == _FEW:
                 rest = self._without_those_of_rows(rest)
@@ -73,15 +96,11 @@ class Judge:
                 self._judge_many(rest)
                 return
 
-    def _with_known_workloads(self, statements: List[Statement], answer: Answer) -> List[Question]:
-        """The questions with the workloads that np has for the names of owners, without the statements that name a
+    def _learn_workloads(self, statements: List[Statement]) -> None:
+        """Puts the workloads that np has in the place of the names of owners, and refuses the statements that name a
         workload that is not there. np names only the first of these, but the list of all names tells the others."""
-        asked = self.questions
         self._writer.refuse_unknown_workloads(statements)
-        questions = self._writer.questions(statements, are_known=True)
-        if questions == asked:
-            self._check.give_up(answer)
-        return questions
+        self.questions = self._writer.questions(statements, are_known=True)
 
     def _without_violated(self, questions: List[Question], answer: Answer) -> List[Question]:
         """Notes which statement is violated, and returns the questions behind it that may tell of others, or of a

@@ -37,14 +37,11 @@ class Writer:
             if statement.form != Form.PLAIN and statement.may_hold:
                 self._refuse(statement, allow_empty)
 
-    def refuse_unknown_workloads(self, statements: List[Statement]) -> bool:
-        """Refuses the statements that may hold and name a workload that is not there; returns whether there are
-        some."""
-        before = sum(statement.may_hold for statement in statements)
+    def refuse_unknown_workloads(self, statements: List[Statement]) -> None:
+        """Refuses the statements that may hold and name a workload that is not there."""
         for statement in statements:
             if statement.may_hold:
                 self._refuse(statement, True)
-        return sum(statement.may_hold for statement in statements) < before
 
     def _refuse(self, statement: Statement, allow_empty: bool) -> None:
         for end in reversed(statement.parts.ends()):  # what is said of the first counts
@@ -122,12 +119,10 @@ class Writer:
 
     def _rest_of(self, name: str, places: Optional[FrozenSet[int]]) -> Iterator[Unit]:
         """The pods of a workload that are not at these places; none of them where the whole workload is named."""
-        if places is not None:
-            rest = self._pods.all_of(name) - places if places else frozenset()
-            if not places:
-                yield Unit(workload(name))
-            elif rest:
-                yield Unit(workload(name), rest)
+        if places == frozenset():
+            yield Unit(workload(name))
+        elif places is not None and places != self._pods.all_of(name):
+            yield Unit(workload(name), self._pods.all_of(name) - places)
 
     def _named(self, others: End) -> Dict[str, Optional[FrozenSet[int]]]:
         """The workloads that are in some of the ends, each with the places of its pods that are, or with None where
