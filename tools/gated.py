@@ -266,7 +266,8 @@ class Statement:
         left, right = ends.split(" => ")
         self.table = table
         self.texts = re.split(", (?=any|names|work|pods|out|ingr|[0-9f])", left) if self.verdict == "only" else [left]
-        if right == "ingress-controller" or (self.texts == ["ingress-controller"] and self.verdict != "only" and right.startswith("outside")):
+        is_sent_outside = right.startswith("outside") and self.verdict != "only" and left == "ingress-controller"
+        if right == "ingress-controller" or is_sent_outside:
             raise Fault("that sends alone, to pods alone")
         self.left, self.right = [ends_of(text, table) for text in self.texts], ends_of(right, table)
         self.asked = answers.connections(self.connections)
