@@ -7,7 +7,6 @@ of the two tables below it, and in `_end_of_np`.
 from __future__ import annotations
 
 import re
-from dataclasses import dataclass
 from enum import Enum
 from typing import List, NamedTuple, Optional, Tuple
 
@@ -41,8 +40,7 @@ _BLOCK = re.compile(r"[0-9a-fA-F]*[.:][0-9a-fA-F.:]*/[0-9]+")
 ARE_PODS = (EndKind.ANY_POD, EndKind.NAMESPACE, EndKind.WORKLOAD, EndKind.PODS)
 
 
-@dataclass(frozen=True)
-class End:
+class End(NamedTuple):
     """Who sends or receives. The name is empty where the kind has none; PODS have a selector beside that of their
     namespace, or a fault where there is none to be read, and OTHERS the ends that they are not in."""
 

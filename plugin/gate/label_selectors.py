@@ -2,23 +2,26 @@
 from __future__ import annotations
 
 import re
-from typing import Iterator, List
+from functools import lru_cache
+from typing import Iterator, List, Tuple
 
 from plugin.selectors import Requirement, Selector
 
 _NAME = r"[A-Za-z0-9](?:[-A-Za-z0-9_.]{0,61}[A-Za-z0-9])?"
 _KEY = r"(?P<key>(?:[a-z0-9](?:[-a-z0-9.]{0,251}[a-z0-9])?/)?%s)" % _NAME
-_VALUE = re.compile("(?:%s)?" % _NAME)
+_VALUE = "(?:%s)?" % _NAME
 
-# The forms of a requirement, each with the operator that it stands for.
-_FORMS = [
-    (re.compile(r"!\s*%s" % _KEY), "DoesNotExist"),
-    (re.compile(_KEY), "Exists"),
-    (re.compile(r"%s\s*!=\s*(?P<values>\S*)" % _KEY), "NotIn"),
-    (re.compile(r"%s\s*==?\s*(?P<values>[^\s=]*)" % _KEY), "In"),
-    (re.compile(r"%s\s+(?:in|In)\s*\((?P<values>[^()]+)\)" % _KEY), "In"),
-    (re.compile(r"%s\s+(?:notin|NotIn)\s*\((?P<values>[^()]+)\)" % _KEY), "NotIn"),
-]
+@lru_cache(maxsize=None)
+def _forms() -> "List[Tuple[re.Pattern[str], str]]":
+    """The forms of a requirement, each with the operator that it stands for."""
+    return [
+        (re.compile(r"!\s*%s" % _KEY), "DoesNotExist"),
+        (re.compile(_KEY), "Exists"),
+        (re.compile(r"%s\s*!=\s*(?P<values>\S*)" % _KEY), "NotIn"),
+        (re.compile(r"%s\s*==?\s*(?P<values>[^\s=]*)" % _KEY), "In"),
+        (re.compile(r"%s\s+(?:in|In)\s*\((?P<values>[^()]+)\)" % _KEY), "In"),
+        (re.compile(r"%s\s+(?:notin|NotIn)\s*\((?P<values>[^()]+)\)" % _KEY), "NotIn"),
+    ]
 
 
 class BadSelector(ValueError):
@@ -42,7 +45,7 @@ def pieces(text: str, separator: str) -> List[str]:
 
 
 def _requirement(piece: str) -> Requirement:
-    for form, operator in _FORMS:
+    for form, operator in _forms():
         found = form.fullmatch(piece)
         if found is not None:
             listed = found.groupdict().get("values")
@@ -52,6 +55,6 @@ def _requirement(piece: str) -> Requirement:
 
 def _values(piece: str, listed: "str | None") -> Iterator[str]:
     for value in listed.split(",") if listed is not None else ():
-        if not _VALUE.fullmatch(value.strip(" ")):
+        if not re.fullmatch(_VALUE, value.strip(" ")):
             raise BadSelector(piece)
         yield value.strip(" ")
