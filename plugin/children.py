@@ -173,7 +173,7 @@ class Stream:
         with cast(IO[bytes], self._child.stderr) as errors:
             self._said.append(errors.read())
 
-    def found(self, pattern: "re.Pattern[bytes]") -> List[bytes]:
+    def found(self, pattern: "re.Pattern[bytes]") -> List[Any]:
         """What the pattern finds in its lines, each with the line feed before it and without the one behind it.
 
         There may be millions of lines: they are searched in large blocks, which takes a fraction of what each by itself takes.

@@ -155,9 +155,10 @@ class Page(Command):
         from plugin.page.whole import Request, write_page
         step("making the page")
         given = self.page_words
-        caveats = [caveat for caveat in self.caveats.all if not caveat.is_noted]
+        caveats = [caveat for caveat in self.caveats.all
+                   if not caveat.is_noted and not (given.controller and caveat.key == "controller-not-named")]
         request = Request(files=[str(self.list)], before=given.before, title=given.title or self._title(), only=given.only,
-                          commands=[(self._explain(), "")], caveats=told.summary(caveats))
+                          commands=[(self._explain(), "")], caveats=told.summary(caveats), controller=given.controller)
         status = write_page(self.program, self.room, request)
         told.tell(caveats)
         return status
