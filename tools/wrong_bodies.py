@@ -6,8 +6,8 @@ tools/wrong_bodies.py --stale       says which edits have a line that was not ma
 tools/wrong_bodies.py --check       says nothing where the page has each edit, with a goal, and each edit can be put into its source; else
                                     what is wrong, and ends with 1. It needs no kit, and is a case
 
-The edits are crates/CRATE/must-fail/*.edit, which the gate tries too, and wrong-bodies/CRATE/*.edit, which it does not. A line of the
-page is made anew only where the sources of its crate or the edit changed since. Flags of a run that tries edits:
+The edits are crates/CRATE/must-fail/*.edit, which the gate tries too, and crates/CRATE/wrong-bodies/*.edit, which it does not. A line of
+the page is made anew only where the sources of its crate or the edit changed since. Flags of a run that tries edits:
 
 --anew              tries those too of which nothing changed
 --libraries DIR     takes the libraries of the crates below, NAME.rlib, from this folder: whoever gives it vouches that they are of the

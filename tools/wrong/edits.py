@@ -54,7 +54,7 @@ def all_edits():
     """Each edit of the repository, in the order of crates.txt and then of names."""
     order = list(crate_order())
     found = [Edit(path.parent.parent.name, path, True) for path in TOP.glob("crates/*/must-fail/*.edit")]
-    found += [Edit(path.parent.name, path, False) for path in TOP.glob("wrong-bodies/*/*.edit")]
+    found += [Edit(path.parent.parent.name, path, False) for path in TOP.glob("crates/*/wrong-bodies/*.edit")]
     strange = sorted({it.crate for it in found} - set(order))
     if strange:
         raise SystemExit(f"wrong_bodies: edits of what is no crate of crates.txt: {' '.join(strange)}")

@@ -15,10 +15,11 @@ The edit was put into a copy of the crate. The prover was given the functions th
 all the same), after it had proved the same functions without the edit, over the same libraries. So it is for the edit that the goals named
 here have no proof.
 
-{gate} of the {all} edits stand in crates/CRATE/must-fail, where `./prove` tries them each time; the others stand in wrong-bodies/CRATE, and
-are tried on demand, by `./prove --wrong-bodies` alone. "of" is a digest of the sources of the crate (src/, specs/, proofs/) and of the edit
-with which the line was made: `./prove --wrong-bodies` tries again where it is another one, `./prove --wrong-bodies --anew` tries all, which
-also sees what a change of a crate below would do. A case (cases/) or a test (crates/np_test_*) refuses a program whose answer differs.
+{gate} of the {all} edits stand in crates/CRATE/must-fail, where `./prove` tries them each time; the others stand in
+crates/CRATE/wrong-bodies, and are tried on demand, by `./prove --wrong-bodies` alone. "of" is a digest of the sources of the crate (src/,
+specs/, proofs/) and of the edit with which the line was made: `./prove --wrong-bodies` tries again where it is another one, `./prove
+--wrong-bodies --anew` tries all, which also sees what a change of a crate below would do. A case (cases/) or a test (crates/np_test_*)
+refuses a program whose answer differs.
 docs/proof/THEOREM.md names wrong programs that no edit shows.
 
 """
