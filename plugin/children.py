@@ -15,7 +15,7 @@ import threading
 import time
 from pathlib import Path
 from types import FrameType
-from typing import IO, Any, Callable, Dict, List, NamedTuple, Optional, Sequence, Set, Union, cast
+from typing import IO, Any, Callable, Dict, Iterator, List, NamedTuple, Optional, Sequence, Set, Union, cast
 
 from plugin.said import Stop
 
@@ -161,6 +161,7 @@ class Stream:
     """A program whose output is read while it runs, since it is too long to be kept."""
 
     def __init__(self, words: Sequence[Word], stdin: Optional[IO[bytes]] = None) -> None:
+        self.is_cut = False
         self._child = start(words, stdin=subprocess.DEVNULL if stdin is None else stdin, stdout=subprocess.PIPE,
                             stderr=subprocess.PIPE)
         self._output = cast(IO[bytes], self._child.stdout)
@@ -172,7 +173,7 @@ class Stream:
         with cast(IO[bytes], self._child.stderr) as errors:
             self._said.append(errors.read())
 
-    def found(self, pattern: "re.Pattern[bytes]") -> List[bytes]:
+    def found(self, pattern: "re.Pattern[bytes]") -> List[Any]:
         """What the pattern finds in its lines, each with the line feed before it and without the one behind it.
 
         There may be millions of lines: they are searched in large blocks, which takes a fraction of what each by itself takes.
@@ -184,6 +185,16 @@ class Stream:
             found += pattern.findall(whole)
             rest = end + rest
         return found
+
+    def lines(self) -> Iterator[bytes]:
+        """Its whole lines, as they come: many at once, with line feeds between them and none behind the last. Then `is_cut`
+        says whether a line was begun and not ended."""
+        rest = b""
+        for block in iter(lambda: self._output.read(_BLOCK), b""):
+            whole, end, rest = (rest + block).rpartition(b"\n")
+            if end:
+                yield whole
+        self.is_cut = bool(rest)
 
     def end(self) -> Ended:
         """How it ended, when its output was read."""

@@ -9,7 +9,7 @@ import json
 from typing import Any, Dict, List, NoReturn, Optional, Tuple
 from urllib.parse import quote
 
-from plugin import discovery, jsontext
+from plugin import context, discovery, jsontext
 from plugin.caveats.beside import Beside
 from plugin.kinds import Kind
 from plugin.kubectl import Kubectl, ask_all
@@ -26,6 +26,7 @@ _PAGE = 500
 def fetch(words: Words, room: Room, beside: Beside) -> None:
     """Writes what np reads of all objects of the cluster into the file `list` of the room; ends with status 3 where
     not all can be had."""
+    context.tell(words.kubectl)
     kubectl = Kubectl(words.kubectl)
     Cluster(kubectl, room, beside).fetch(discovery.find_kinds(kubectl, words.ignored))
 

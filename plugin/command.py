@@ -13,7 +13,7 @@ from plugin.caveats.beside import Beside
 from plugin.children import Ended
 from plugin.program import Program
 from plugin.room import Room
-from plugin.said import decoded, encoded, relay, say, step, write
+from plugin.said import Stop, decoded, encoded, relay, say, step, write
 from plugin.words import Words
 
 if TYPE_CHECKING:
@@ -26,7 +26,7 @@ _FOREIGN_POLICY = re.compile(r"^error: item ([0-9]+): kind: ForeignPolicy$", re.
 def command_of(words: Words, program: Program) -> Command:
     """The command that the words name."""
     kinds = {"caveats": ListOfCaveats, "snapshot": Snapshot, "names": Names, "gate": Gate, "changes": Changes, "page": Page,
-             "check": Check}
+             "check": Check, "list": Rows}
     return kinds.get(words.command, Question)(words, program)
 
 
@@ -40,7 +40,6 @@ class Command:
 
     def run(self) -> int:
         """Checks the words, gets the objects, and answers; returns the status."""
-        said.is_quiet = self.words.is_quiet
         self.check_words()
         if not self.words.list_file:
             from plugin import kubectl
@@ -48,7 +47,11 @@ class Command:
         with Room() as self.room:
             self.list = self._fetch()
             said.name_item = self._name_item
-            return self.answer()
+            try:
+                return self.answer()
+            except Stop as end:
+                end.tell()  # as long as the list is there, whose items it may name
+                return end.status
 
     def check_words(self) -> None:
         """Refuses words that the command does not take, before anything is asked for."""
@@ -60,14 +63,7 @@ class Command:
 
     def _name_item(self, number: int) -> Optional[str]:
         """The object that np counts so, as a person names it, and where it stands."""
-        if self.words.has_manifests:
-            return self.manifests.name(number)
-        from plugin import jsontext, objects
-        try:
-            items = jsontext.objects(self.list.read_bytes())
-        except (OSError, jsontext.NotTaken):
-            return None
-        return objects.named(items[number - 1]) if number <= len(items) else None
+        return self.manifests.name(number) if self.words.has_manifests else snapshot.name_item(self.list, number)
 
     @cached_property
     def caveats(self) -> Caveats:
@@ -159,9 +155,10 @@ class Page(Command):
         from plugin.page.whole import Request, write_page
         step("making the page")
         given = self.page_words
-        caveats = [caveat for caveat in self.caveats.all if not caveat.is_noted]
+        caveats = [caveat for caveat in self.caveats.all
+                   if not caveat.is_noted and not (given.controller and caveat.key == "controller-not-named")]
         request = Request(files=[str(self.list)], before=given.before, title=given.title or self._title(), only=given.only,
-                          commands=[(self._explain(), "")], caveats=told.summary(caveats))
+                          commands=[(self._explain(), "")], caveats=told.summary(caveats), controller=given.controller)
         status = write_page(self.program, self.room, request)
         told.tell(caveats)
         return status
@@ -186,14 +183,18 @@ class Question(Command):
     def answer(self) -> int:
         self.refuse_addresses()
         step("asking np")
-        with self.list.open("rb") as file:
-            ended = self.program.answer([self.words.command, *self.words.own], stdin=file, meanwhile=self._find_caveats)
+        ended = self.ask()
         if ended.status == 1:
             self._tell_nearest(ended)
             self._tell_foreign(ended)
         elif ended.status in (0, 5):
             self.tell_caveats()
         return ended.status
+
+    def ask(self) -> Ended:
+        """Has np answer."""
+        with self.list.open("rb") as file:
+            return self.program.answer([self.words.command, *self.words.own], stdin=file, meanwhile=self._find_caveats)
 
     def refuse_addresses(self) -> None:
         """Refuses addresses of listed pods where a pod is meant."""
@@ -233,6 +234,21 @@ class Question(Command):
         refused = _FOREIGN_POLICY.search(decoded(ended.said))
         if refused and self.words.has_manifests:
             self.manifests.tell_foreign(int(refused.group(1)))
+
+
+class Rows(Question):
+    """Has np print its rows, of which filters may keep some."""
+
+    def check_words(self) -> None:
+        from plugin.rowfilter.words import read
+        self.filters = read(self.words.own)
+        self.program.check_words("list", self.filters.words_of_np if self.filters.is_any else self.words.own)
+
+    def ask(self) -> Ended:
+        if not self.filters.is_any:
+            return super().ask()
+        from plugin.rowfilter.run import run
+        return run(self.filters, self.program, self.list)
 
 
 class Check(Question):

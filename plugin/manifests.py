@@ -35,6 +35,7 @@ class Manifests:
         self._beside = beside
         self._room = room
         self._manifests: List[Manifest] = []
+        self._places: List[int] = []  # where the items of the list that is written stand among them
 
     def fetch(self) -> None:
         """Writes what np reads of the objects of the manifests into the file `list` of the room, and says what bears on
@@ -53,18 +54,23 @@ class Manifests:
         self._write(items + made.pods)
 
     def name(self, number: int) -> Optional[str]:
-        """The object of the list that np counts so, from 1, and where it stands. Behind those of the manifests are the pods
-        that were made."""
-        if number > len(self._manifests):
-            return None
-        manifest = self._manifests[number - 1]
-        return "%s in %s" % (named(manifest.item), manifest.document.place)
+        """The object of the list that np counts so, from 1, and where it stands."""
+        manifest = self._of_item(number)
+        return None if manifest is None else "%s in %s" % (named(manifest.item), manifest.document.place)
+
+    def _of_item(self, number: int) -> Optional[Manifest]:
+        """The manifest of an item of the list. Former rollouts are not in it, and behind the manifests are the pods that
+        were made."""
+        place = self._places[number - 1] if number <= len(self._places) else len(self._manifests)
+        return self._manifests[place] if place < len(self._manifests) else None
 
     def tell_foreign(self, number: int) -> None:
         """Says of which kind the item of the list is that np refused as a policy that it does not read; the first has
         the number 1."""
-        kind = whole_kind(self._manifests[number - 1].item)
-        say('item %d is of the kind "%s"; --ignore KIND goes on without such policies' % (number, kind))
+        manifest = self._of_item(number)
+        if manifest is not None:
+            kind = whole_kind(manifest.item)
+            say('item %d is of the kind "%s"; --ignore KIND goes on without such policies' % (number, kind))
 
     def _read(self) -> List[Manifest]:
         read = Reader(self._room).read(self._documents())
@@ -134,6 +140,7 @@ class Manifests:
             for item in items:
                 spool.add(item)
             spool.close()
+            self._places = spool.places()
             with self._room.create("list") as file:
                 write_list(file, [spool])
 

@@ -116,9 +116,16 @@ class Spool:
         were seen."""
         with open(self._path, "rb") as file:
             for number, line in enumerate(file):
-                place = self._leftovers.get(number)
-                if place is None or self._rollouts.is_needed(place):
+                if self._is_kept(number):
                     yield line[:-1]
+
+    def places(self) -> List[int]:
+        """Where the items that are kept stood among all, from 0; to be asked when all items were seen."""
+        return [number for number in range(self._count) if self._is_kept(number)]
+
+    def _is_kept(self, number: int) -> bool:
+        place = self._leftovers.get(number)
+        return place is None or self._rollouts.is_needed(place)
 
 
 def write_list(file: IO[bytes], spools: List[Spool]) -> None:

@@ -63,5 +63,9 @@ def whole_kind(item: Any) -> str:
 
 def named(item: Any) -> str:
     """The object as a person names it: `NetworkPolicy shop/web`."""
-    namespace = namespace_of(item, "")
-    return "%s %s%s" % (member(item, "kind"), namespace + "/" if namespace else "", member(item, "metadata", "name"))
+    kind, name, namespace = member(item, "kind"), member(item, "metadata", "name"), namespace_of(item, "")
+    if not isinstance(kind, str):
+        return "an object without a kind"
+    if not isinstance(name, str):
+        return "a %s without a name" % kind
+    return "%s %s%s" % (kind, namespace + "/" if namespace else "", name)

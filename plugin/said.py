@@ -4,7 +4,7 @@ from __future__ import annotations
 import os
 import re
 import sys
-from typing import Callable, NoReturn, Optional
+from typing import Callable, List, NoReturn, Optional
 
 # What would end a line, move the cursor or turn around the letters that follow, wherever a name has it.
 _CONTROL = re.compile("[\x00-\x1f\x7f-\x9f\u2028\u2029\u202a-\u202e\u2066-\u2069]")
@@ -14,12 +14,17 @@ _ESCAPES = {"\n": "\\n", "\r": "\\r", "\t": "\\t"}
 # Who speaks, at the head of each line.
 speaker = "kubectl np"
 
-# What an item of the list is, by its number from 1, where that is known.
+# What an item of the list is, by its number from 1, where that is known; and whether those of notes are named as those of faults are.
 name_item: Optional[Callable[[int], Optional[str]]] = None
-_ITEMS = re.compile(rb"^error: items? ([0-9]{1,9})(?: and ([0-9]{1,9}))?: ", re.MULTILINE)
+names_items_of_notes = False
+_ITEMS = re.compile(rb"^(error|note): items? ([0-9]{1,9})(?: and ([0-9]{1,9}))?: ", re.MULTILINE)
 
 # Whether notes are left out.
 is_quiet = False
+
+# The last fault of np that was repeated, by its name; empty where there is none. It stands first, or behind the item or input and the path.
+fault = ""
+_FAULT = re.compile(rb"^error: (?:(?:items?|input) .*: )?([A-Z][A-Za-z]+)(?: .*)?$", re.MULTILINE)
 
 
 class Stop(Exception):
@@ -93,22 +98,36 @@ def note(text: str) -> None:
         say(text)
 
 
-def relay(data: bytes) -> None:
-    """Repeats on standard error what another program said there, line by line. Where np names an item of the list by its
-    number, it is said which object that is."""
-    _write_error(encoded(_CONTROL_IN_LINES.sub(_escape, decoded(data))))
-    for fault in _ITEMS.finditer(data):
-        for number in map(int, filter(None, fault.groups())):
-            name = name_item(number) if name_item is not None else None
-            if name is not None:
-                say("item %d is %s" % (number, name))
+def relay(data: bytes, label: str = "") -> None:
+    """Repeats on standard error what another program said there, line by line, each behind the label. Where np names an
+    item of the list by its number, it is said which object that is."""
+    global fault
+    lines = _CONTROL_IN_LINES.sub(_escape, decoded(data)).splitlines(keepends=True)
+    _write_error(encoded("".join(label + line for line in lines)))
+    fault = "".join(name.decode() for name in _FAULT.findall(data)[:1]) or fault
+    for number in _items_of(data):
+        name = name_item(number) if name_item is not None else None
+        if name is not None:
+            say("item %d is %s" % (number, name))
+
+
+def _items_of(data: bytes) -> List[int]:
+    """The numbers of the items that np named, each once."""
+    is_note_told = names_items_of_notes and not is_quiet
+    found = [each for each in _ITEMS.findall(data) if each[0] == b"error" or is_note_told]
+    return list(dict.fromkeys(int(number) for each in found for number in each[1:] if number))
 
 
 def step(text: str) -> None:
     """Says what is being done, since a large cluster takes a while: on a terminal alone, so that logs and pipes stay
     clean."""
-    if sys.stderr is not None and sys.stderr.isatty():
+    if is_on_terminal():
         say(text)
+
+
+def is_on_terminal() -> bool:
+    """Whether standard error is a terminal."""
+    return sys.stderr is not None and sys.stderr.isatty()
 
 
 def write(data: bytes, failure: str = "the answer cannot be written") -> None:

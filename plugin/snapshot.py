@@ -37,6 +37,16 @@ def filter_file(name: str, room: Room, beside: Optional[Beside] = None) -> None:
         keep_of_text(data, file, room, beside)
 
 
+def name_item(path: Path, number: int) -> Optional[str]:
+    """The object of the list in the file that np counts so, from 1, as a person names it."""
+    from plugin import jsontext, objects
+    try:
+        items = jsontext.objects(path.read_bytes())
+    except (OSError, jsontext.NotTaken):
+        return None
+    return objects.named(items[number - 1]) if number <= len(items) else None
+
+
 def _copy(name: str, to: IO[bytes]) -> None:
     if name != "-" and Path(name).is_dir():
         stop(3, "'%s' is a folder" % name)

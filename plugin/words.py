@@ -6,7 +6,7 @@ read here but handed on: np says what is wrong with them.
 from __future__ import annotations
 
 import re
-from typing import List
+from typing import List, Sequence
 
 from plugin.said import stop
 
@@ -25,6 +25,9 @@ _BEFORE_VALUE = re.compile(_VALUED)
 _NAMESPACE = re.compile(r"[a-z0-9]([a-z0-9-]*[a-z0-9])?")
 _LONG = {"-f": "--filename", "-k": "--kustomize", "-n": "--namespace"}
 _PLUGIN_VALUED = ("--filename", "--kustomize", "--namespace", "--list", "--ignore")
+# What may be meant by an option that is not known.
+GENERAL = (*_PLUGIN_VALUED, "--recursive", "--allow-urls", "--as-address", "--quiet", "--help", "--context", "--kubeconfig", "--cluster",
+           "--user", "--server", "--token", "--as", "--as-group", "--request-timeout")
 
 
 class Words:
@@ -74,6 +77,13 @@ def read(given: List[str]) -> Words:
         taken = _take_option(words, left) if _is_option(left[0]) else 0
         del left[:taken or _take_word_of_command(words, left)]
     return words
+
+
+def nearest_of(word: str, names: Sequence[str]) -> str:
+    """What is said of the name that is nearest to a wrong word, if one is near."""
+    import difflib
+    near = difflib.get_close_matches(word.lower(), names, 1, 0.7)
+    return "; the nearest is %s" % near[0] if near else ""
 
 
 def _is_option(word: str) -> bool:
@@ -148,7 +158,7 @@ def _take_word_of_command(words: Words, left: List[str]) -> int:
         _take_bare_word(words, word)
         return 1
     if not words.command:
-        stop(2, "unknown option '%s' (kubectl np help lists them)" % word)
+        stop(2, "unknown option '%s'%s (kubectl np help lists them)" % (word, nearest_of(word.partition("=")[0], GENERAL)))
     has_value = words.is_question and "=" not in word and len(left) > 1 and not _is_option(left[1])
     taken = 2 if has_value else 1
     words.own += left[:taken]
@@ -159,7 +169,7 @@ def _take_bare_word(words: Words, word: str) -> None:
     """Takes a word that is no option: the command first, and behind it what that has."""
     if not words.command:
         if word not in COMMANDS:
-            stop(2, "there is no command '%s' (kubectl np help lists them)" % word)
+            stop(2, "there is no command '%s'%s (kubectl np help lists them)" % (word, nearest_of(word, COMMANDS)))
         words.command = word
     elif words.is_question:
         stop(2, "unexpected word '%s': name a list with --list, and manifests with -f" % word)
@@ -194,7 +204,8 @@ def check_sources(words: Words) -> None:
 
 def _check_namespace(words: Words) -> None:
     if words.wants_all_namespaces or (words.namespace and not words.has_manifests):
-        stop(2, "all namespaces are read, since policies reach across them; leave out -n and -A, and choose rows with --focus")
+        stop(2, "all namespaces are read, since policies reach across them; leave out -n and -A, and choose rows with "
+                "list --namespace-focus")
     if words.namespace and not _NAMESPACE.fullmatch(words.namespace):
         stop(2, "'%s' is no name of a namespace" % words.namespace)
 
@@ -214,5 +225,3 @@ def check_own(words: Words) -> None:
         stop(2, "%s takes no further words: '%s'" % (words.command, own[0]))
     if words.command == "names" and own not in ([], ["pods"]):
         stop(2, "names takes no word but pods: '%s'" % " ".join(own))
-    if words.command == "help" and len(own) > 1:
-        stop(2, "help takes one command")

@@ -6,6 +6,8 @@ import difflib
 import re
 from typing import Dict, List, Optional, Sequence, Tuple
 
+from plugin.words import GENERAL
+
 # What the value of an option may be; nothing where it may be any word.
 _CHOICES: Dict[str, Tuple[str, ...]] = {
     "--format": ("text", "csv", "json"),
@@ -14,7 +16,7 @@ _CHOICES: Dict[str, Tuple[str, ...]] = {
     "--protocol": ("TCP", "UDP", "SCTP"),
 }
 _OPTIONS: Dict[str, Tuple[str, ...]] = {
-    "list": ("--focus", "--side", "--format", "--report", "--controller"),
+    "list": ("--focus", "--namespace-focus", "--side", "--port", "--format", "--report", "--controller"),
     "explain": ("--from", "--to"),
     "exposure": ("--workload", "--format"),
     "evaluate": ("--from", "--to", "--protocol", "--port"),
@@ -62,9 +64,10 @@ def wrong_word(command: str, words: Sequence[str]) -> Optional[str]:
 
 
 def _unknown(command: str, option: str, options: Sequence[str]) -> str:
-    meant = [name for name in _OTHER_NAMES.get(option, ()) if name in options]
-    near = meant or difflib.get_close_matches(option, options, 1, 0.75)
-    return "%s has no option '%s'%s" % (command, option, "; it is %s" % near[0] if near else "")
+    others = {other: [name for name in names if name in options] for other, names in _OTHER_NAMES.items()}
+    known = {**dict.fromkeys(GENERAL), **{other: names[0] for other, names in others.items() if names}, **dict.fromkeys(options)}
+    near = [option] if option in known else difflib.get_close_matches(option, [name for name in known if name[1] == "-"], 1, 0.75)
+    return "%s has no option '%s'%s" % (command, option, "; it is %s" % (known[near[0]] or near[0]) if near else "")
 
 
 def _wrong_value(option: str, value: str) -> Optional[str]:

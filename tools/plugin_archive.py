@@ -1,5 +1,5 @@
 #!/usr/bin/env python3
-"""kubectl-np, the one file that users of the plugin copy: made of plugin/, the parts of the page and VERSION, as they stand.
+"""kubectl-np, the one file that users of the plugin copy: made of plugin/, the parts of the page, VERSION and two pages of docs/use.
 
 tools/plugin_archive.py             writes kubectl-np
 tools/plugin_archive.py --check     says with status 1 that kubectl-np is not what its parts give, or may not be executed
@@ -20,7 +20,8 @@ TOP = Path(os.path.abspath(__file__)).parent.parent
 
 _USAGE = "usage: tools/plugin_archive.py [--check]"
 _FIRST_LINE = b"#!/usr/bin/env -S python3 -IS -X utf8\n"
-_PATTERNS = ["plugin/**/*.py", "plugin/**/*.txt", "plugin/**/*.jq", "page/page.html", "page/page.css", "page/*.js", "VERSION"]
+_PATTERNS = ["plugin/**/*.py", "plugin/**/*.txt", "plugin/**/*.jq", "page/page.html", "page/page.css", "page/*.js", "VERSION",
+             "docs/use/FAULTS.md", "docs/use/CAVEATS.md"]
 _MAIN = b"""import sys
 if sys.version_info < (3, 9):
     sys.stderr.write("kubectl np: this needs Python 3.9 or later\\n")

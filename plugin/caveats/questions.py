@@ -29,13 +29,31 @@ def bearing(words: Words, caveats: Caveats) -> List[Caveat]:
     """The caveats that bear on the answer. Those that a note of np says too are left out where it does."""
     if words.command in ("explain", "evaluate"):
         return _between(words, caveats)
-    is_list = words.command == "list"
-    focus = option(words.own, "--focus" if is_list else "--workload")
-    found = [caveat for caveat in caveats.all if is_list or not is_of_ingresses(caveat)]
-    if is_list:
-        is_named = bool(option(words.own, "--controller"))
-        found = [caveat for caveat in found if not caveat.is_noted and not (is_named and caveat.key == "controller-not-named")]
-    return of_focus(found, focus, option(words.own, "--side")) if focus else found
+    if words.command == "list":
+        return _of_list(words, caveats)
+    focus = option(words.own, "--workload")
+    found = [caveat for caveat in caveats.all if not is_of_ingresses(caveat)]
+    if not focus:
+        return found
+    from plugin.caveats.statements import owner_of
+    return of_focus(found, frozenset([owner_of(focus)]), "")
+
+
+def _of_list(words: Words, caveats: Caveats) -> List[Caveat]:
+    """The caveats that touch what the rows of `list` are about, by its filters."""
+    from plugin.rowfilter.words import read
+    filters = read(words.own)
+    is_named = bool(option(words.own, "--controller"))
+    found = [caveat for caveat in caveats.all if not caveat.is_noted and not (is_named and caveat.key == "controller-not-named")]
+    if filters.ports:
+        from plugin.caveats.statements import at_ports
+        from plugin.ports import Ports
+        found = at_ports(found, [(protocol, Ports([(number, number)])) for protocol, number in filters.ports])
+    if not (filters.focus or filters.namespaces):
+        return found
+    from plugin.caveats.statements import owner_of
+    ends = frozenset(map(owner_of, filters.focus)).union(*map(caveats.listed.ends_of, filters.namespaces))
+    return of_focus(found, ends, filters.side)
 
 
 def is_of_ingresses(caveat: Caveat) -> bool:
@@ -43,17 +61,15 @@ def is_of_ingresses(caveat: Caveat) -> bool:
     return all(pair.senders == CONTROLLER for pair in caveat.touched)
 
 
-def of_focus(caveats: Iterable[Caveat], focus: str, side: str) -> List[Caveat]:
-    """The caveats that touch one workload at this side."""
-    from plugin.caveats.statements import owner_of
-    owner = owner_of(focus)
-    return [caveat for caveat in caveats if any(_is_about(pair, owner, side) for pair in caveat.touched)]
+def of_focus(caveats: Iterable[Caveat], focus: Ends, side: str) -> List[Caveat]:
+    """The caveats that touch one of the workloads at this side."""
+    return [caveat for caveat in caveats if any(_is_about(pair, focus, side) for pair in caveat.touched)]
 
 
-def _is_about(pair: Pair, owner: str, side: str) -> bool:
-    """Whether the pair names the workload at the side, or is about all pods."""
-    return (side != "to" and owner in pair.senders) or (side != "from" and owner in pair.receivers) or (
-        pair.senders | pair.receivers <= ANYONE | ANY_POD)
+def _is_about(pair: Pair, focus: Ends, side: str) -> bool:
+    """Whether the pair names one of the workloads at the side, or is about all pods."""
+    is_named = side != "to" and not focus.isdisjoint(pair.senders) or side != "from" and not focus.isdisjoint(pair.receivers)
+    return is_named or pair.senders | pair.receivers <= ANYONE | ANY_POD
 
 
 def _between(words: Words, caveats: Caveats) -> List[Caveat]:

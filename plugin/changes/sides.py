@@ -12,7 +12,7 @@ from plugin.documents import KUSTOMIZATIONS
 from plugin.manifests import Manifests
 from plugin.nearest import is_near
 from plugin.room import Room
-from plugin.said import decoded, encoded, relay, say, stop
+from plugin.said import decoded, relay, say, stop
 from plugin.words import Words
 
 CLUSTER = "cluster"
@@ -141,10 +141,13 @@ class Objects:
         return room.path("list")
 
     def relay(self, text: bytes) -> None:
-        """Repeats what np said of the objects, each line behind the label."""
-        relay(b"".join(b"%s: %s" % (encoded(self.side.label), line) for line in text.splitlines(keepends=True)))
+        """Repeats what np said of the objects, each line behind the label, and says of which objects."""
+        said.speaker, said.name_item = "%s: %s" % (_SPEAKER, self.side.label), self._name_item
+        relay(text, self.side.label + ": ")
         refused = _FOREIGN_POLICY.search(decoded(text))
         if refused and self._manifests is not None:
-            said.speaker = "%s: %s" % (_SPEAKER, self.side.label)
             self._manifests.tell_foreign(int(refused.group(1)))
-            said.speaker = _SPEAKER
+        said.speaker, said.name_item = _SPEAKER, None
+
+    def _name_item(self, number: int) -> Optional[str]:
+        return snapshot.name_item(self.path, number) if self._manifests is None else self._manifests.name(number)

@@ -4,7 +4,7 @@ from __future__ import annotations
 import os
 from typing import List, NamedTuple, Sequence, Tuple
 
-from plugin import parts
+from plugin import parts, said
 from plugin.page.answers import Answers
 from plugin.page.texts import listed_lines, quoted
 from plugin.program import Program
@@ -27,7 +27,8 @@ class Request(NamedTuple):
 
     `files` are the lists, and `before` those of an earlier snapshot, if any: each is a path, or - for standard input.
     `only` is the one namespace whose rows the page has (empty: all). `commands` explain two ends: what stands before
-    them, and what behind them. `caveats` are lines that stand behind np's notes.
+    them, and what behind them. `caveats` are lines that stand behind np's notes. `controller` is the workload that sends
+    what comes through Ingresses (empty: it is not known).
     """
 
     files: List[str]
@@ -36,6 +37,7 @@ class Request(NamedTuple):
     only: str
     commands: List[Tuple[str, str]]
     caveats: Sequence[str] = ()
+    controller: str = ""
 
 
 def write_page(program: Program, room: Room, request: Request) -> int:
@@ -66,10 +68,8 @@ def _html(data: bytes) -> bytes:
 
 def _data(program: Program, room: Room, request: Request) -> bytes:
     """All that the page shows, as one JSON object."""
-    before = b"null"
-    if request.before:
-        before = Answers(program, room, request.before).table(request.only).json()
-    after = Answers(program, room, request.files)
+    before = _before(program, room, request) if request.before else b"null"
+    after = Answers(program, room, request.files, request.controller)
     table = after.table(request.only)
     commands = [quoted(text) for command in request.commands for text in command]
     return b"".join([
@@ -79,3 +79,12 @@ def _data(program: Program, room: Room, request: Request) -> bytes:
         b',"refused":', listed_lines(after.refused),
         b',"explained":', listed_lines(after.explained(table.asked.ends())),
         b',"table":', table.json(), b',"before":', before, b"}\n"])
+
+
+def _before(program: Program, room: Room, request: Request) -> bytes:
+    """The table of the earlier snapshot. What np says of an item of it is not of the list that is shown, whose items alone
+    have names: where np refuses it they stay without."""
+    name, said.name_item = said.name_item, None
+    table = Answers(program, room, request.before, request.controller).table(request.only).json()
+    said.name_item = name
+    return table

@@ -6,18 +6,19 @@ from typing import List
 
 from plugin.said import stop
 
-OPTIONS = ("--before", "--only", "--title")
+OPTIONS = ("--before", "--only", "--title", "--controller")
 _PLAIN = re.compile(r"[A-Za-z0-9_./:=@%+,-]+")
 
 
 class PageWords:
-    """The lists of an earlier snapshot, the one namespace that the page has (empty: all), and its title (empty: not
-    given)."""
+    """The lists of an earlier snapshot, the one namespace that the page has (empty: all), its title, and the workload
+    that sends what comes through Ingresses (both empty: not given)."""
 
     def __init__(self) -> None:
         self.before: List[str] = []
         self.only = ""
         self.title = ""
+        self.controller = ""
 
     def take(self, option: str, value: str) -> None:
         """Takes the value of one of OPTIONS."""
@@ -25,6 +26,8 @@ class PageWords:
             self.before.append(value)
         elif option == "--only":
             self.only = value
+        elif option == "--controller":
+            self.controller = value
         else:
             self.title = value
 
@@ -36,7 +39,8 @@ def read_words(words: List[str]) -> PageWords:
     while rest:
         option, equals, value = rest.pop(0).partition("=")
         if option not in OPTIONS:
-            stop(2, "page takes no '%s%s%s' (kubectl np help page)" % (option, equals, value))
+            from plugin.words import nearest_of
+            stop(2, "page takes no '%s%s%s'%s (kubectl np help page)" % (option, equals, value, nearest_of(option, OPTIONS)))
         if not equals:
             if not rest:
                 stop(2, "%s lacks its value" % option)
