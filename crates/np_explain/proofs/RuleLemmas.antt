@@ -23,8 +23,8 @@ use Rattle.np_rules.specs.model.NetTier.{placed_net_matches}
 use Rattle.np_rules.specs.model.Places.{PlacedAdminRule, PlacedNetRule, admin_places, admin_places_of, admin_rules_of, base_places, base_rules_of, net_places, net_places_of, net_rules_of}
 use Rattle.np_rules.specs.model.Selection.{net_selects, subject_selects}
 use Rattle.np_rules.specs.declared.decider.RuleName.{RuleName}
-use Rattle.np_rules.proofs.AdminTierLemmas.{IsInOrder, least_is_first, admin_places_by}
-use Rattle.np_rules.proofs.NetTierLemmas.{net_places_by}
+use Rattle.np_rules.proofs.AdminTierLemmas.{IsInOrder, least_is_first, places_by as admin_places_by}
+use Rattle.np_rules.proofs.NetTierLemmas.{places_by as net_places_by}
 use Rattle.np_explain.proofs.PlaceLemmas.{all_made, numbered_pairs, pairs_flat}
 
 -- what relates two items of which the same holds

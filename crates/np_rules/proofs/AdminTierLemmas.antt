@@ -84,8 +84,8 @@ of_policy P policy n (rule ∷ rules) holds = (holds, of_policy P policy (n + 1)
 -- ---- the rules of all policies
 
 -- the rules of a policy, where it selects the pod
-abbrev pub admin_places_by : Direction → PodEnd → AdminPolicy → List PlacedAdminRule
-admin_places_by direction p policy = if subject_selects policy.subject p then admin_places_of direction policy else []
+abbrev pub places_by : Direction → PodEnd → AdminPolicy → List PlacedAdminRule
+places_by direction p policy = if subject_selects policy.subject p then admin_places_of direction policy else []
 
 -- what holds of all items holds of them where there are any
 if_any : {X : Type 0} (P : List X → Type 0) (b : Bool) (xs : List X) → P xs → P [] → P (if b then xs else [])
@@ -99,7 +99,7 @@ above direction p n [] ascending = tt
 above direction p n (policy ∷ policies) ascending =
     let parts = and_parts _ _ ascending in
     let below : n < policy.priority = ltb-true _ _ parts.0 in
-    All-append (λ y. n < y.policy.priority) (admin_places_by direction p policy) (admin_places policies direction p)
+    All-append (λ y. n < y.policy.priority) (places_by direction p policy) (admin_places policies direction p)
     (if_any (AllByRecursion (λ y. n < y.policy.priority)) (subject_selects policy.subject p) (admin_places_of direction policy)
     (of_policy (λ k. n < k) policy 0 (admin_rules_of direction policy) below) tt)
     (All-weaker (λ y. policy.priority < y.policy.priority) (λ y. n < y.policy.priority) (λ y more. omega arith) (admin_places policies direction p)
@@ -120,7 +120,7 @@ all_in_order : (direction : Direction) (p : PodEnd) (policies : List AdminPolicy
 all_in_order direction p [] ascending = tt
 all_in_order direction p (policy ∷ policies) ascending =
     let rest = admin_places policies direction p in
-    InOrder-append admin_precedes (admin_places_by direction p policy) rest
+    InOrder-append admin_precedes (places_by direction p policy) rest
     (if_any (IsInOrder admin_precedes) (subject_selects policy.subject p) (admin_places_of direction policy) (places_in_order policy 0 (admin_rules_of direction policy)) tt)
     (all_in_order direction p policies (ascends_rest policy.priority (map (λ q. q.priority) policies) ascending))
     (if_any (AllByRecursion (λ x. AllByRecursion (λ y. admin_precedes y x ≡ false) rest)) (subject_selects policy.subject p) (admin_places_of direction policy)
@@ -146,20 +146,20 @@ pub action-next : (policies : List AdminPolicy) (direction : Direction) (p : Pod
 action-next policies direction p contact i policy decided here made within is so_far is_here joined =
     let test : PlacedAdminRule → Bool = λ placed. admin_rule_matches placed.rule contact in
     let says : PlacedAdminRule → Action = λ placed. placed.rule.action in
-    let found : option_map says (find test (admin_places_by direction p policy)) ≡ here = if_both
+    let found : option_map says (find test (places_by direction p policy)) ≡ here = if_both
     (λ xs ys. option_map says (find test xs) ≡ option_map (λ rule. rule.action) (find (λ rule. admin_rule_matches rule contact) ys)) (subject_selects policy.subject p)
     (admin_places_of direction policy) (admin_rules_of direction policy)
     (find-numbered (λ numbered. record { policy = policy; place = numbered.0; rule = numbered.1 }) (λ rule. admin_rule_matches rule contact) test (λ rule. rule.action) says (λ numbered. refl)
     (λ numbered. refl) 0 (admin_rules_of direction policy)) refl ∙ sym is_here in
-    sym (ap (option_map says) (find-next test (admin_places_by direction p) policies i policy within is)
-    ∙ option_map-or says (find test (admin_places (take i policies) direction p)) (find test (admin_places_by direction p policy))
-    ∙ ap (λ a. option_or a (option_map says (find test (admin_places_by direction p policy)))) (sym so_far)
+    sym (ap (option_map says) (find-next test (places_by direction p) policies i policy within is)
+    ∙ option_map-or says (find test (admin_places (take i policies) direction p)) (find test (places_by direction p policy))
+    ∙ ap (λ a. option_or a (option_map says (find test (places_by direction p policy)))) (sym so_far)
     ∙ ap (option_or decided) found
     ∙ sym joined)
 
 -- how many rules a policy has, where it selects the pod
 pub length_by : (direction : Direction) (p : PodEnd) (policy : AdminPolicy) →
-    length (admin_places_by direction p policy) ≡ length (if subject_selects policy.subject p then admin_rules_of direction policy else [])
+    length (places_by direction p policy) ≡ length (if subject_selects policy.subject p then admin_rules_of direction policy else [])
 length_by direction p policy = if_both (λ xs ys. length xs ≡ length ys) (subject_selects policy.subject p) (admin_places_of direction policy) (admin_rules_of direction policy)
     (length-numbered (λ numbered. record { policy = policy; place = numbered.0; rule = numbered.1 }) 0 (admin_rules_of direction policy)) refl
 
@@ -168,7 +168,7 @@ pub cost-next : (policies : List AdminPolicy) (direction : Direction) (p : PodEn
     before ≡ start + length (admin_places (take i policies) direction p) → after ≡ before + length (if subject_selects policy.subject p then admin_rules_of direction policy else []) →
     after ≡ start + length (admin_places (take (i + 1) policies) direction p)
 cost-next policies direction p i policy start before after within is so_far more =
-    (counted (admin_places_by direction p) policies i policy (if subject_selects policy.subject p then admin_rules_of direction policy else []) start before after within is
+    (counted (places_by direction p) policies i policy (if subject_selects policy.subject p then admin_rules_of direction policy else []) start before after within is
     (length_by direction p policy) so_far more).0
 
 -- after the last policy

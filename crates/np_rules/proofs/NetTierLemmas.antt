@@ -11,8 +11,8 @@ use Rattle.np_rules.specs.model.Selection.{net_selects}
 use Rattle.np_rules.proofs.PlacesLemmas.{if_both, counted, length-numbered, list_any-next, list_any-numbered}
 
 -- the rules of a policy, where it selects the pod
-abbrev pub net_places_by : Direction → PodEnd → NetPolicy → List PlacedNetRule
-net_places_by direction p policy = if net_selects policy p then net_places_of direction policy else []
+abbrev pub places_by : Direction → PodEnd → NetPolicy → List PlacedNetRule
+places_by direction p policy = if net_selects policy p then net_places_of direction policy else []
 
 -- whether some rule of one policy more matches
 pub permits-next : (policies : List NetPolicy) (direction : Direction) (p : PodEnd) (contact : Contact) (i : ℕ) (policy : NetPolicy) (permitted here made : Bool) → i < length policies →
@@ -20,18 +20,18 @@ pub permits-next : (policies : List NetPolicy) (direction : Direction) (p : PodE
     here ≡ list_any (λ rule. net_rule_matches policy.namespace rule contact) (if net_selects policy p then unwrap_or (net_rules_of direction policy) [] else []) → made ≡ (permitted || here) →
     made ≡ permits (take (i + 1) policies) direction p contact
 permits-next policies direction p contact i policy permitted here made within is so_far is_here joined =
-    let found : list_any (placed_net_matches contact) (net_places_by direction p policy) ≡ here = if_both
+    let found : list_any (placed_net_matches contact) (places_by direction p policy) ≡ here = if_both
     (λ xs ys. list_any (placed_net_matches contact) xs ≡ list_any (λ rule. net_rule_matches policy.namespace rule contact) ys) (net_selects policy p) (net_places_of direction policy)
     (unwrap_or (net_rules_of direction policy) []) (list_any-numbered (λ numbered. record { policy = policy; place = numbered.0; rule = numbered.1 })
     (λ rule. net_rule_matches policy.namespace rule contact) (placed_net_matches contact) (λ numbered. refl) 0 (unwrap_or (net_rules_of direction policy) [])) refl ∙ sym is_here in
-    sym (list_any-next (placed_net_matches contact) (net_places_by direction p) policies i policy within is
-    ∙ ap (λ b. b || list_any (placed_net_matches contact) (net_places_by direction p policy)) (sym so_far)
+    sym (list_any-next (placed_net_matches contact) (places_by direction p) policies i policy within is
+    ∙ ap (λ b. b || list_any (placed_net_matches contact) (places_by direction p policy)) (sym so_far)
     ∙ ap (λ b. permitted || b) found
     ∙ sym joined)
 
 -- how many rules a policy has, where it selects the pod
 pub length_by : (direction : Direction) (p : PodEnd) (policy : NetPolicy) →
-    length (net_places_by direction p policy) ≡ length (if net_selects policy p then unwrap_or (net_rules_of direction policy) [] else [])
+    length (places_by direction p policy) ≡ length (if net_selects policy p then unwrap_or (net_rules_of direction policy) [] else [])
 length_by direction p policy = if_both (λ xs ys. length xs ≡ length ys) (net_selects policy p) (net_places_of direction policy) (unwrap_or (net_rules_of direction policy) [])
     (length-numbered (λ numbered. record { policy = policy; place = numbered.0; rule = numbered.1 }) 0 (unwrap_or (net_rules_of direction policy) [])) refl
 
@@ -40,5 +40,5 @@ pub cost-next : (policies : List NetPolicy) (direction : Direction) (p : PodEnd)
     before ≡ start + length (net_places (take i policies) direction p) → after ≡ before + length (if net_selects policy p then unwrap_or (net_rules_of direction policy) [] else []) →
     after ≡ start + length (net_places (take (i + 1) policies) direction p)
 cost-next policies direction p i policy start before after within is so_far more =
-    (counted (net_places_by direction p) policies i policy (if net_selects policy p then unwrap_or (net_rules_of direction policy) [] else []) start before after within is
+    (counted (places_by direction p) policies i policy (if net_selects policy p then unwrap_or (net_rules_of direction policy) [] else []) start before after within is
     (length_by direction p policy) so_far more).0

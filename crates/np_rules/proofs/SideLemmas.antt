@@ -22,7 +22,7 @@ use Rattle.np_rules.specs.model.Places.{PlacedAdminRule, admin_places_of, base_p
 use Rattle.np_rules.specs.model.Rules.{net_rule_matches}
 use Rattle.np_rules.specs.model.Selection.{net_selects, subject_selects}
 use Rattle.np_rules.specs.model.Sides.{action_says, admin_says, base_says, side_allows}
-use Rattle.np_rules.proofs.NetTierLemmas.{net_places_by}
+use Rattle.np_rules.proofs.NetTierLemmas.{places_by}
 use Rattle.np_rules.proofs.PlacesLemmas.{list_any-numbered}
 
 -- ---- pods that no policy selects
@@ -90,16 +90,16 @@ side-more lists old new direction p contact isolated still grows says =
 -- a policy between others
 permits-parts : (front back : List NetPolicy) (policy : NetPolicy) (direction : Direction) (p : PodEnd) (contact : Contact) →
     permits (front ++ policy ∷ back) direction p contact ≡ (permits front direction p contact ||
-    (list_any (placed_net_matches contact) (net_places_by direction p policy) || permits back direction p contact))
+    (list_any (placed_net_matches contact) (places_by direction p policy) || permits back direction p contact))
 permits-parts front back policy direction p contact =
-    ap (list_any (placed_net_matches contact)) (flat_map-append (net_places_by direction p) front (policy ∷ back))
-    ∙ list_any-append (placed_net_matches contact) (net_places front direction p) (net_places_by direction p policy ++ net_places back direction p)
-    ∙ ap (λ b. permits front direction p contact || b) (list_any-append (placed_net_matches contact) (net_places_by direction p policy) (net_places back direction p))
+    ap (list_any (placed_net_matches contact)) (flat_map-append (places_by direction p) front (policy ∷ back))
+    ∙ list_any-append (placed_net_matches contact) (net_places front direction p) (places_by direction p policy ++ net_places back direction p)
+    ∙ ap (λ b. permits front direction p contact || b) (list_any-append (placed_net_matches contact) (places_by direction p policy) (net_places back direction p))
 
 permits-both : (front back : List NetPolicy) (direction : Direction) (p : PodEnd) (contact : Contact) →
     permits (front ++ back) direction p contact ≡ (permits front direction p contact || permits back direction p contact)
 permits-both front back direction p contact =
-    ap (list_any (placed_net_matches contact)) (flat_map-append (net_places_by direction p) front back)
+    ap (list_any (placed_net_matches contact)) (flat_map-append (places_by direction p) front back)
     ∙ list_any-append (placed_net_matches contact) (net_places front direction p) (net_places back direction p)
 
 isolated-parts : (front back : List NetPolicy) (policy : NetPolicy) (direction : Direction) (p : PodEnd) →
@@ -123,7 +123,7 @@ policy_adds lists front back policy direction p contact isolated says =
     side-more lists (front ++ back) (front ++ policy ∷ back) direction p contact isolated
     (isolated-parts front back policy direction p ∙ or_insert (is_isolated front direction p) (isolates direction p policy) (is_isolated back direction p)
     (sym (list_any-append (isolates direction p) front back) ∙ isolated))
-    (λ permitted. permits-parts front back policy direction p contact ∙ or_insert (permits front direction p contact) (list_any (placed_net_matches contact) (net_places_by direction p policy))
+    (λ permitted. permits-parts front back policy direction p contact ∙ or_insert (permits front direction p contact) (list_any (placed_net_matches contact) (places_by direction p policy))
     (permits back direction p contact) (sym (permits-both front back direction p contact) ∙ permitted))
     says
 
@@ -139,7 +139,7 @@ isolates-with_rule Egress p rule policy = ap (λ b. net_selects policy p && b) (
 
 -- some rule of a policy that selects the pod matches
 pub places-matches : (direction : Direction) (p : PodEnd) (contact : Contact) (policy : NetPolicy) →
-    list_any (placed_net_matches contact) (net_places_by direction p policy) ≡
+    list_any (placed_net_matches contact) (places_by direction p policy) ≡
     (net_selects policy p && list_any (λ rule. net_rule_matches policy.namespace rule contact) (unwrap_or (net_rules_of direction policy) []))
 places-matches direction p contact policy = go (net_selects policy p)
     (list_any-numbered (λ numbered. record { policy = policy; place = numbered.0; rule = numbered.1 }) (λ rule. net_rule_matches policy.namespace rule contact) (placed_net_matches contact)
@@ -162,8 +162,8 @@ and-more : (a b c : Bool) → (b ≡ true → c ≡ true) → (a && b) ≡ true 
 and-more true b c grows is = grows is
 and-more false b c grows is = is
 
-rule-more : (direction : Direction) (p : PodEnd) (contact : Contact) (rule : NetRule) (policy : NetPolicy) → list_any (placed_net_matches contact) (net_places_by direction p policy) ≡ true →
-    list_any (placed_net_matches contact) (net_places_by direction p (with_rule direction rule policy)) ≡ true
+rule-more : (direction : Direction) (p : PodEnd) (contact : Contact) (rule : NetRule) (policy : NetPolicy) → list_any (placed_net_matches contact) (places_by direction p policy) ≡ true →
+    list_any (placed_net_matches contact) (places_by direction p (with_rule direction rule policy)) ≡ true
 rule-more Ingress p contact rule policy is = places-matches Ingress p contact (with_rule Ingress rule policy) ∙ and-more (net_selects policy p) _ _
     (any-more (λ r. net_rule_matches policy.namespace r contact) rule policy.ingress) (sym (places-matches Ingress p contact policy) ∙ is)
 rule-more Egress p contact rule policy is = places-matches Egress p contact (with_rule Egress rule policy) ∙ and-more (net_selects policy p) _ _
