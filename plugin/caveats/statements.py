@@ -3,7 +3,7 @@ from __future__ import annotations
 
 import re
 from functools import cached_property
-from typing import Iterable, List, Optional, Tuple
+from typing import FrozenSet, Iterable, List, Optional, Tuple
 
 from plugin.caveats.addresses import network
 from plugin.caveats.caveat import ANY_POD, ANYONE, CONTROLLER, Caveat, Ends, Span
@@ -31,6 +31,11 @@ class StatementCaveats:
         """The pairs of all caveats, each with the number of the caveat. They are gone through for each statement."""
         return [(*pair, number) for number, caveat in enumerate(self._caveats.all) for pair in caveat.touched]
 
+    @property
+    def families(self) -> FrozenSet[str]:
+        """The families of the list: those of the addresses of its pods, or IPv4 alone."""
+        return frozenset("IPv6" if ":" in address.text else "IPv4" for address in self._caveats.listed.addresses) or frozenset(["IPv4"])
+
     def of(self, number: int, parts: Parts) -> List[Caveat]:
         """The caveats that touch the statement in the line of this number."""
         sources, destinations = self._ends(parts.source), self._ends(parts.destination)
@@ -38,14 +43,14 @@ class StatementCaveats:
                     if not (senders.isdisjoint(sources) or receivers.isdisjoint(destinations))}
         found = [self._caveats.all[place] for place in sorted(touching)]
         found = at_ports(found, ports_of(parts.connections))
-        blocks = [end.text for end in (parts.source, parts.destination) if self._holds_pods(end)]
+        blocks = [end.text for end in parts.ends() if self._holds_pods(end)]
         if blocks:
             found.append(Caveat(OF_STATEMENTS, "line %d" % number, ", ".join(blocks), ()))
         return found
 
     def pod_at(self, parts: Parts) -> "Optional[Tuple[str, Address]]":
         """The address among the ends that is that of a listed pod, and the pod, where there is one."""
-        for end in (parts.source, parts.destination):
+        for end in parts.ends():
             found = self._caveats.addresses.pod_at(end.text) if end.kind == EndKind.ADDRESSES else None
             if found is not None:
                 return end.text, found
@@ -56,6 +61,19 @@ class StatementCaveats:
         block = network(end.text) if end.kind == EndKind.ADDRESSES else None
         return block is not None and block.prefixlen > 0 and self._caveats.addresses.held_by(Block(end.text, ())).pods > 0
 
+    def _ends_of_owner(self, name: str) -> Ends:
+        """The names of a workload, or of those of an owner that is named without its kind."""
+        if "[" in name:
+            return ends_of_workload(name)
+        space = name.partition("/")[0]
+        found = {pods.workload for pods in self._caveats.listed.by_namespace.get(space, []) if _without_kind(pods.workload) == name}
+        return frozenset(found) | ANY_POD | ANYONE
+
+    def _listed_with(self, end: End) -> Ends:
+        """The workloads of the namespace that have pods whose labels meet the selector."""
+        listed = self._caveats.listed.by_namespace.get(end.name, [])
+        return frozenset(pods.workload for pods in listed if end.selector.is_met(pods.labels))
+
     @cached_property
     def _all(self) -> Ends:
         return self._caveats.listed.all_ends() | ANY_POD | ANYONE
@@ -63,7 +81,12 @@ class StatementCaveats:
     def _ends(self, end: End) -> Ends:
         """The names of the end. Those of pods are also any pod, and any end."""
         if end.kind == EndKind.WORKLOAD:
-            return ends_of_workload(end.name)
+            return self._ends_of_owner(end.name)
+        if end.kind == EndKind.PODS:
+            return self._listed_with(end) | ANY_POD | ANYONE
+        if end.kind == EndKind.OTHERS:
+            named = frozenset(name for each in end.ends for name in self._ends(each)) - ANY_POD - ANYONE
+            return (self._all | CONTROLLER) - named
         if end.kind == EndKind.NAMESPACE:
             return self._caveats.listed.ends_of(end.name) | ANY_POD | ANYONE
         if end.kind == EndKind.OUTSIDE_NAMESPACE:
@@ -71,6 +94,10 @@ class StatementCaveats:
         if end.kind == EndKind.INGRESS_CONTROLLER:
             return CONTROLLER | ANYONE
         return self._all if end.kind == EndKind.ANY_POD else ANYONE
+
+
+def _without_kind(owner: str) -> str:
+    return owner.partition("[")[0]
 
 
 def ends_of_workload(name: str) -> Ends:

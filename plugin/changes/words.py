@@ -1,7 +1,6 @@
 """The words of `changes`: the two states that are compared, and how the answer is wanted."""
 from __future__ import annotations
 
-from dataclasses import dataclass, field
 from typing import List
 
 from plugin.changes.sides import Side, side_of
@@ -16,15 +15,15 @@ _VALUED = ("--fail-on", "--controller")
 _USAGE = "changes compares two states, A and B: kubectl np changes A B (kubectl np help changes says what they may be)"
 
 
-@dataclass
 class ChangesWords:
     """What `changes` is asked to do. `fail_on` and `controller` are empty where they are not given."""
 
-    names: List[str] = field(default_factory=list)
-    sides: List[Side] = field(default_factory=list)
-    form: str = ""
-    fail_on: str = ""
-    controller: str = ""
+    def __init__(self) -> None:
+        self.names: List[str] = []
+        self.sides: List[Side] = []
+        self.form = ""
+        self.fail_on = ""
+        self.controller = ""
 
 
 def read_words(words: Words) -> ChangesWords:

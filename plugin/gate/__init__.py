@@ -1,12 +1,13 @@
 """The gate: every statement of a file on its own, for pipelines.
 
-No answer is computed here: each comes from a run of np. All statements go into one run of `np check`, which names the
-first that does not hold, and those behind it go into the next, so that runs are counted by what is violated, and not
-by the length of the file. What the gate adds to np's grammar is asked as statements of np (outside-namespace), or
-compared with rows of `np list` (ingress-controller).
+No answer is computed here: each comes from np. All statements go into one run of `np check`, which names the first that
+does not hold, and those behind it go into the next; where more than a few are violated, rows of `np list` say which
+(`rows`), so that np runs few times. What np's grammar does not have (only, pods, the workloads of an owner,
+outside-namespace) is written out as statements of np, and what comes through Ingresses is compared with rows.
 
-`words` reads the command line, `grammar` the parts of a statement, `statements` the file; `check` runs np, `judge`
-has it judge the statements, `workloads` knows who is in the list, `ends`, `ingress` and `nothing` ask what np's
-grammar does not have, and `caveats` marks what some caveat touches; `report` and `junit` write the answers, and `run`
-has all that in order.
+`words` reads the command line, `grammar` the parts of a statement, `label_selectors` labels in it, and `statements` the
+file, once. `workloads` and `pods` know who is in the list, `blocks` what addresses; `written_out` makes np's statements
+of the gate's, `check` runs np, and `judge` has it judge them. `ingress` asks what comes through Ingresses, with
+`opened` to know where they lead; `nothing` finds what asks about no packet, and `caveats` marks what some caveat
+touches. `report`, `junit` and `sarif` write the answers, `files` to files, and `run` has all that in order.
 """

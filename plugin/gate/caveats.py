@@ -21,6 +21,10 @@ def refuse_addresses(statements: List[Statement], workloads: Workloads, caveats:
             statement.refuse(of_pod(text, address, named(address, workloads.names)))
 
 
+# What depends on who the controller of Ingresses is the gate says itself, as unsure.
+_SAID = "controller-not-named"
+
+
 def mark(statements: List[Statement], caveats: StatementCaveats) -> List[Caveat]:
     """Notes at each statement that is not in error which caveats bear on it, and returns them, each once, but for
     those that np's notes on Ingresses say."""
@@ -28,6 +32,7 @@ def mark(statements: List[Statement], caveats: StatementCaveats) -> List[Caveat]
     for statement in statements:
         if statement.state != State.ERROR:
             touching = _bearing(statement, caveats.of(statement.number, statement.parts))
+            touching = [caveat for caveat in touching if caveat.key != _SAID]
             keys = {caveat.key for caveat in touching}
             statement.caveats = [key for key in KINDS if key in keys]
             found += [caveat for caveat in touching if not caveat.is_noted]

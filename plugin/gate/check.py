@@ -2,6 +2,7 @@
 from __future__ import annotations
 
 import re
+import time
 from enum import Enum
 from pathlib import Path
 from typing import List, NamedTuple, NoReturn
@@ -17,10 +18,12 @@ _BAD_STATEMENT = re.compile(rb"error: BadStatement line ([1-9][0-9]{0,8})")
 
 
 class Question(NamedTuple):
-    """What np is asked, in np's own grammar, for a statement of the file."""
+    """What np is asked, in np's own grammar, for a statement of the file. The questions of a statement that have one
+    sender are a group, and the groups are in np's order of the senders."""
 
     statement: Statement
     parts: Parts
+    group: int = 0
 
 
 class Finding(Enum):
@@ -50,6 +53,13 @@ def give_up(program: Program, status: int, said: bytes) -> NoReturn:
     stop(3, "%s does not answer as np does (status %d)" % (program.name, status))
 
 
+def _share(seconds: float, questions: List[Question]) -> None:
+    """Notes the time of a run at the statements that were asked about in it, the same for each."""
+    statements = {question.statement for question in questions}
+    for statement in statements:
+        statement.seconds += seconds / len(statements)
+
+
 class Check:
     """np check, with a place for the statements that it is asked."""
 
@@ -57,12 +67,14 @@ class Check:
         self.program = program
         self._room = room
 
-    def ask(self, questions: List[Question], path: Path) -> Answer:
+    def ask(self, questions: List[Question], path: Path, name: str = "asked") -> Answer:
         """Has np judge the questions on the objects in the file. Where they hold it has to say so of as many as there
-        are."""
+        are. The file of questions has that name; those that are asked at one time have different ones."""
         lines = "".join(question.parts.line() + "\n" for question in questions)
-        asked = self._room.write("asked", encoded(lines))
+        asked = self._room.write(name, encoded(lines))
+        begun = time.monotonic()
         ended = self.program.run(["check", "--statement", str(asked), str(path)])
+        _share(time.monotonic() - begun, questions)
         out = ended.out.rstrip(b"\n")
         if ended.status == 0 and out == b"holds: %d" % len(questions):
             return Answer(Finding.HOLDS, 0, "", ended.said)

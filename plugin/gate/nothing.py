@@ -5,18 +5,18 @@ from pathlib import Path
 from typing import List, Set
 
 from plugin.gate.check import Check, Finding, Question
-from plugin.gate.grammar import NO_CONNECTIONS, EndKind, Parts, opposite
+from plugin.gate.grammar import NO_CONNECTIONS, ONLY, EndKind, Parts, opposite
 from plugin.gate.statements import Form, Statement
 from plugin.gate.workloads import Workloads
 
 
-def asking_nothing(check: Check, statements: List[Statement], questions: List[Question], path: Path,
-                   workloads: Workloads) -> List[Statement]:
+def asking_nothing(check: Check, statements: List[Statement], questions: List[Question], path: Path, workloads: Workloads,
+                   asking_of_ingresses: Set[Statement]) -> List[Statement]:
     """The statements that hold because they ask about no packet."""
-    asking = {question.statement for question in questions if _surely_asks(question, workloads)}
+    asking = asking_of_ingresses | {question.statement for question in questions if _surely_asks(question, workloads)}
     doubtful = {statement for statement in statements if statement.may_hold and statement not in asking}
-    opposites = [Question(statement, opposite(parts)) for statement, parts in questions
-                 if statement in doubtful and parts.connections != NO_CONNECTIONS]
+    opposites = [question._replace(parts=opposite(question.parts)) for question in questions
+                 if question.statement in doubtful and question.parts.connections != NO_CONNECTIONS]
     doubtful -= _shown_to_ask(check, opposites, path)
     return [statement for statement in statements if statement in doubtful]
 
@@ -24,11 +24,10 @@ def asking_nothing(check: Check, statements: List[Statement], questions: List[Qu
 def _surely_asks(question: Question, workloads: Workloads) -> bool:
     """Whether the question is about a packet by the names of the workloads alone: two different workloads are among
     its ends, or a workload and an address. Most need no run of np for that."""
-    parts = question.statement.parts
-    if parts.connections == NO_CONNECTIONS:
+    if question.statement.parts.connections == NO_CONNECTIONS:
         return False
     if question.statement.form == Form.INGRESS_CONTROLLER:
-        return bool(workloads.of(parts.destination))
+        return False
     senders, receivers = workloads.of(question.parts.source), workloads.of(question.parts.destination)
     if senders is None or receivers is None:
         return bool(senders or receivers)
@@ -58,8 +57,8 @@ def _ends(parts: Parts) -> List[str]:
 
 def reason(parts: Parts, workloads: Workloads) -> str:
     """Why a statement asks about no packet."""
-    for end in (parts.source, parts.destination):
-        if end.kind == EndKind.OUTSIDE_NAMESPACE and list(workloads.namespaces) == [end.name]:
+    for end in parts.ends():
+        if end.kind == EndKind.OUTSIDE_NAMESPACE and parts.verdict != ONLY and list(workloads.namespaces) == [end.name]:
             return "no pod is outside namespace %s" % end.name
         if end.kind == EndKind.NAMESPACE and end.name not in workloads.namespaces:
             return workloads.no_pod_in(end.name)
@@ -67,4 +66,6 @@ def reason(parts: Parts, workloads: Workloads) -> str:
             return "there is no pod in the list"
     if parts.connections == NO_CONNECTIONS:
         return "nothing is asked: its connections are No Connections"
+    if parts.verdict == ONLY:
+        return "nothing is asked: there are no others than the left ends"
     return "nothing is asked: both ends are the same single pod"

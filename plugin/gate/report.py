@@ -49,7 +49,7 @@ def _said(statement: Statement) -> str:
     text, word = printable(statement.text), printable(statement.word)
     if statement.state == State.OK:
         return "ok: %s (%s)" % (text, word) if word else "ok: " + text
-    head = "VIOLATED" if statement.state == State.VIOLATED else "error"
+    head = "VIOLATED" if statement.state == State.VIOLATED else statement.state.value
     return "%s: %s" % (head, ": ".join(part for part in (text, word) if part))
 
 
@@ -58,6 +58,7 @@ def _mark(statement: Statement) -> str:
 
 
 def _summary(statements: List[Statement]) -> str:
-    errors = count(statements, State.ERROR)
-    return "%d ok, %d violated, %d error%s" % (
+    errors, unsure = count(statements, State.ERROR), count(statements, State.UNSURE)
+    counted = "%d ok, %d violated, %d error%s" % (
         count(statements, State.OK), count(statements, State.VIOLATED), errors, "" if errors == 1 else "s")
+    return counted + (", %d unsure" % unsure if unsure else "")

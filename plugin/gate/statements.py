@@ -6,7 +6,7 @@ from dataclasses import dataclass, field
 from enum import Enum
 from typing import List
 
-from plugin.gate.grammar import NO_PARTS, EndKind, Parts, cut, misuse, slip
+from plugin.gate.grammar import NO_PARTS, ONLY, EndKind, Parts, cut, misuse, slip
 from plugin.said import decoded
 
 _COMMENT = re.compile(rb"[ \t]*#")
@@ -16,7 +16,7 @@ class Form(Enum):
     """How a statement is judged."""
 
     PLAIN = "as a statement of np"
-    OUTSIDE_NAMESPACE = "as several statements of np"
+    EXTENDED = "as several statements of np"
     INGRESS_CONTROLLER = "by rows of np's list"
     FAULTY = "not at all, since the line is no statement"
 
@@ -28,14 +28,15 @@ class State(Enum):
     OK = "ok"
     VIOLATED = "violated"
     ERROR = "error"
+    UNSURE = "unsure"
 
 
 @dataclass(eq=False)
 class Statement:
     """A statement: the number of its line, from 1, its text and parts, and what was found about it.
 
-    The word is the packet that breaks it, the reason for which it is in error, or a remark. The caveats that touch it
-    go by their keys.
+    The word is the packet that breaks it, the reason for which it is in error or unsure, or a remark. The caveats that
+    touch it go by their keys. The seconds are its share of the time of the runs of np that it was asked in.
     """
 
     number: int
@@ -45,15 +46,24 @@ class Statement:
     state: State = State.OK
     word: str = ""
     caveats: List[str] = field(default_factory=list)
+    seconds: float = 0.0
 
     @property
     def may_hold(self) -> bool:
         """Whether nothing was found against it so far."""
         return self.state == State.OK
 
+    def accept(self, remark: str) -> None:
+        """Takes it for one that holds, with a remark."""
+        self.state, self.word = State.OK, remark
+
     def violate(self, packet: str) -> None:
         """Notes the packet that breaks it."""
         self.state, self.word = State.VIOLATED, packet
+
+    def doubt(self, reason: str) -> None:
+        """Notes why it cannot be said whether it holds."""
+        self.state, self.word = State.UNSURE, reason
 
     def refuse(self, reason: str) -> None:
         """Notes why it is in error."""
@@ -91,7 +101,7 @@ def _form(parts: Parts) -> Form:
     kinds = (parts.source.kind, parts.destination.kind)
     if EndKind.INGRESS_CONTROLLER in kinds:
         return Form.INGRESS_CONTROLLER
-    return Form.OUTSIDE_NAMESPACE if EndKind.OUTSIDE_NAMESPACE in kinds else Form.PLAIN
+    return Form.EXTENDED if parts.verdict == ONLY or {EndKind.OUTSIDE_NAMESPACE, EndKind.PODS} & set(kinds) else Form.PLAIN
 
 
 def of_form(statements: List[Statement], form: Form) -> List[Statement]:

@@ -6,34 +6,37 @@ from typing import List
 
 from plugin.said import stop
 
+# The options that stand alone, and those that have a value, with what that names.
+_ALONE = {"--allow-empty": "allow_empty", "--allow-unsure": "allow_unsure", "--github": "github"}
+_VALUED = {"--junit": ("junit", "file"), "--sarif": ("sarif", "file"), "--controller": ("controller", "workload")}
 _NO_FILE = "gate needs a file of statements, or - for standard input"
 
 
 @dataclass
 class GateWords:
-    """What the gate is asked to do. `file` is `-` for standard input, and `junit` is empty where no report is
-    wanted."""
+    """What the gate is asked to do. `file` is `-` for standard input; `junit`, `sarif` and `controller` are empty where
+    they are not given."""
 
-    file: str
-    allow_empty: bool
-    junit: str
-    github: bool
+    file: str = ""
+    allow_empty: bool = False
+    allow_unsure: bool = False
+    github: bool = False
+    junit: str = ""
+    sarif: str = ""
+    controller: str = ""
     takes_addresses_of_pods: bool = False
 
 
 def read_words(words: List[str]) -> GateWords:
     """Reads the words behind `gate`; ends with status 2 where they are wrong."""
-    read = GateWords("", False, "", False)
+    read = GateWords()
     left = iter(words)
     for word in left:
-        if word == "--allow-empty":
-            read.allow_empty = True
-        elif word == "--github":
-            read.github = True
-        elif word == "--junit":
-            _take_junit(read, next(left, ""))
-        elif word.startswith("--junit="):
-            _take_junit(read, word[len("--junit="):])
+        option, equals, value = word.partition("=")
+        if word in _ALONE:
+            setattr(read, _ALONE[word], True)
+        elif option in _VALUED:
+            _take_value(read, option, value if equals else next(left, ""))
         elif word.startswith("-") and word != "-":
             stop(2, "gate has no option '%s'" % word)
         else:
@@ -43,12 +46,13 @@ def read_words(words: List[str]) -> GateWords:
     return read
 
 
-def _take_junit(read: GateWords, name: str) -> None:
-    if not name or name.startswith("-"):
-        stop(2, "--junit needs the name of a file")
-    if read.junit:
-        stop(2, "--junit is given twice")
-    read.junit = name
+def _take_value(read: GateWords, option: str, value: str) -> None:
+    name, what = _VALUED[option]
+    if not value or value.startswith("-"):
+        stop(2, "%s needs the name of a %s" % (option, what))
+    if getattr(read, name):
+        stop(2, "%s is given twice" % option)
+    setattr(read, name, value)
 
 
 def _take_file(read: GateWords, name: str) -> None:

@@ -25,9 +25,10 @@ class Answers:
     status ends the script.
     """
 
-    def __init__(self, program: Program, room: Room, lists: List[str]) -> None:
+    def __init__(self, program: Program, room: Room, lists: List[str], controller: str) -> None:
         self._program = program
         self._room = room
+        self._controller = ["--controller=" + controller] if controller else []
         self._copies = [str(room.write("page.%d" % place, self._read(path))) for place, path in enumerate(lists)]
         self.notes = b""  # what np said of the list beside its rows
         self.refused = b""  # why it showed no exposure
@@ -83,7 +84,7 @@ class Answers:
     def _read_rows(self, read: Callable[[IO[bytes]], None]) -> Ended:
         """Has the rows of np list read while np prints them."""
         with self._room.create("said") as said:
-            child = children.start([self._program.path, *self._words("list", "--format", "json")],
+            child = children.start([self._program.path, *self._words("list", "--format", "json", *self._controller)],
                                    stdout=subprocess.PIPE, stderr=said)
         try:
             with cast(IO[bytes], child.stdout) as stream:

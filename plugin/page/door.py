@@ -13,7 +13,7 @@ from plugin.room import Room
 from plugin.said import Stop
 
 _USAGE = b"""\
-usage: np-page [--before LIST]... [--only NAMESPACE] [--title TEXT] [LIST]...
+usage: np-page [--before LIST]... [--only NAMESPACE] [--title TEXT] [--controller NAME] [LIST]...
 
 Writes one HTML file to standard output, which any browser opens from disk: who reaches whom, of the objects of each LIST (a file as
 kubectl get -o json prints it, or - for standard input, which is read where no LIST is named).
@@ -21,6 +21,7 @@ kubectl get -o json prints it, or - for standard input, which is read where no L
   --before LIST      an earlier snapshot: the page then has what opened, what closed and what changed since (repeat it for several files)
   --only NAMESPACE   only rows with an end in that namespace, where the page of the whole cluster would be too large
   --title TEXT       the title of the page (otherwise the names of the files)
+  --controller NAME  the workload that sends what comes through Ingresses
 """
 
 
@@ -30,6 +31,7 @@ def main() -> int:
     children.catch_signals()
     words, files = _read_words(sys.argv[1:])
     request = Request(files=files, before=words.before, title=words.title or _title(files, words.before), only=words.only,
+                      controller=words.controller,
                       commands=[("./np explain", _words_of_files(files)), ("kubectl np explain", "")])
     with Room() as room:
         return write_page(Program(os.environ.get("NP_PAGE_PROGRAM")), room, request)

@@ -27,7 +27,8 @@ class Request(NamedTuple):
 
     `files` are the lists, and `before` those of an earlier snapshot, if any: each is a path, or - for standard input.
     `only` is the one namespace whose rows the page has (empty: all). `commands` explain two ends: what stands before
-    them, and what behind them. `caveats` are lines that stand behind np's notes.
+    them, and what behind them. `caveats` are lines that stand behind np's notes. `controller` is the workload that sends
+    what comes through Ingresses (empty: it is not known).
     """
 
     files: List[str]
@@ -36,6 +37,7 @@ class Request(NamedTuple):
     only: str
     commands: List[Tuple[str, str]]
     caveats: Sequence[str] = ()
+    controller: str = ""
 
 
 def write_page(program: Program, room: Room, request: Request) -> int:
@@ -68,8 +70,8 @@ def _data(program: Program, room: Room, request: Request) -> bytes:
     """All that the page shows, as one JSON object."""
     before = b"null"
     if request.before:
-        before = Answers(program, room, request.before).table(request.only).json()
-    after = Answers(program, room, request.files)
+        before = Answers(program, room, request.before, request.controller).table(request.only).json()
+    after = Answers(program, room, request.files, request.controller)
     table = after.table(request.only)
     commands = [quoted(text) for command in request.commands for text in command]
     return b"".join([

@@ -6,18 +6,19 @@ from typing import List
 
 from plugin.said import stop
 
-OPTIONS = ("--before", "--only", "--title")
+OPTIONS = ("--before", "--only", "--title", "--controller")
 _PLAIN = re.compile(r"[A-Za-z0-9_./:=@%+,-]+")
 
 
 class PageWords:
-    """The lists of an earlier snapshot, the one namespace that the page has (empty: all), and its title (empty: not
-    given)."""
+    """The lists of an earlier snapshot, the one namespace that the page has (empty: all), its title, and the workload
+    that sends what comes through Ingresses (both empty: not given)."""
 
     def __init__(self) -> None:
         self.before: List[str] = []
         self.only = ""
         self.title = ""
+        self.controller = ""
 
     def take(self, option: str, value: str) -> None:
         """Takes the value of one of OPTIONS."""
@@ -25,6 +26,8 @@ class PageWords:
             self.before.append(value)
         elif option == "--only":
             self.only = value
+        elif option == "--controller":
+            self.controller = value
         else:
             self.title = value
 
