@@ -4,7 +4,7 @@ use Rattle.std.proofs.lemmas.Bool.{cases_eq, cases_order, false≢true}
 use Rattle.std.proofs.lemmas.List.{length-append, length-set}
 use Rattle.std.proofs.lemmas.List.FromFn.{length-map-range_with_len}
 use Rattle.std.proofs.lemmas.Option.{none-some, same_Some, slice_get_past, slice_get_within}
-use Rattle.np_classes.proofs.Lists.{slice_get-front, slice_get-last}
+use Rattle.np_base.proofs.Lists.{slice_get-push_other, slice_get-push_same}
 use Rattle.np_model.specs.declared.lists.EstateLists.{EstateLists}
 use Rattle.np_fold.specs.Workloads.{folding_of, number_of}
 use Rattle.np_lint.proofs.FlagLemmas.{get-set_other, get-set_same}
@@ -106,8 +106,8 @@ pub each_more : (lists : EstateLists) (pods : ℕ) (kinds made : List KindPod) (
 each_more lists pods kinds made one kind count each is pushed k other at =
     elim (cases_order k kind) [
       | inl equal ↦ subst (λ (n : ℕ). IsKindPodOf lists pods n other) (sym equal)
-          (subst (IsKindPodOf lists pods kind) (same_Some one other (sym (slice_get-last kinds one) ∙ ap (slice_get (kinds ++ one ∷ [])) (count ∙ sym equal) ∙ here)) is)
-      | inr (inl before) ↦ each k other (sym (slice_get-front kinds one k (omega arith)) ∙ here)
+          (subst (IsKindPodOf lists pods kind) (same_Some one other (sym (slice_get-push_same kinds one) ∙ ap (slice_get (kinds ++ one ∷ [])) (count ∙ sym equal) ∙ here)) is)
+      | inr (inl before) ↦ each k other (sym (slice_get-push_other kinds one k (omega arith)) ∙ here)
       | inr (inr after) ↦ absurd (none-some other (sym (slice_get_past (kinds ++ one ∷ []) k (omega (arith, length-append kinds (one ∷ [])))) ∙ here))
     ]
   where
