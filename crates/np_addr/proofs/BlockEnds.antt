@@ -10,7 +10,8 @@ use Rattle.np_addr.specs.declared.cidr.Cidr.{Cidr}
 use Rattle.np_addr.specs.declared.cidr.Cidr.TheVariants as cidr
 use Rattle.np_addr.specs.Addresses.{width_of, IsCidr, cidr_has}
 use Rattle.np_addr.specs.Prefixes.{block_at, LiesIn, AreDisjoint, StandsBefore}
-use Rattle.np_addr.proofs.SubsetLemmas.{in_block, in_block-parts, in_block-from}
+use Rattle.np_addr.proofs.SubsetLemmas.{in_block-parts, in_block-from}
+use Rattle.np_addr.specs.Numbers.{is_covered}
 
 -- the address of a number
 abbrev pub address_at : Family → ℕ → Address
@@ -53,7 +54,7 @@ pub IsCidr-block_at : (family : Family) (base free : ℕ) → free ≤ width_of 
 IsCidr-block_at family.Four base free short aligned = (omega arith, ap (λ (size : ℕ). base % size) (size_of_free 32 free short) ∙ aligned)
 IsCidr-block_at family.Six base free short aligned = (omega arith, ap (λ (size : ℕ). base % size) (size_of_free 128 free short) ∙ aligned)
 
-pub has-block_at : (family : Family) (base free n : ℕ) → free ≤ width_of family → cidr_has (block_at family base free) (address_at family n) ≡ in_block base free n
+pub has-block_at : (family : Family) (base free n : ℕ) → free ≤ width_of family → cidr_has (block_at family base free) (address_at family n) ≡ is_covered base free n
 has-block_at family.Four base free n short = ap (λ (size : ℕ). nat_le base n && nat_lt n (base + size)) (size_of_free 32 free short)
 has-block_at family.Six base free n short = ap (λ (size : ℕ). nat_le base n && nat_lt n (base + size)) (size_of_free 128 free short)
 

@@ -1,5 +1,5 @@
 -- Blocks of addresses.
-use Rattle.std.proofs.Common.{◌≡◌, ℕ, Bool, true, false, not, ◌&&◌, ◌||◌, nat_le, nat_lt, min, List, [], ◌∷◌, ◌++◌, take, length, get_or, ◌+◌, ◌-◌, ◌*◌, ◌/◌, ◌%◌, ◌^◌, ◌<◌, ◌≤◌, bit_and, Option, Some}
+use Rattle.std.proofs.Common.{◌≡◌, ℕ, Bool, false, not, ◌&&◌, ◌||◌, nat_le, nat_lt, min, List, [], ◌∷◌, ◌++◌, take, length, get_or, ◌+◌, ◌-◌, ◌*◌, ◌/◌, ◌%◌, ◌^◌, ◌<◌, ◌≤◌, bit_and, Option, Some}
 use Rattle.std.proofs.Common.{None, IsSome, refl, sym, ap, ◌∙◌, one-mul, arith}
 use Rattle.std.proofs.Math.Nat.{mul-mod_left, mul-le-mul_right, add-mul}
 use Rattle.std.specs.Option.{SomeIff}
@@ -9,6 +9,7 @@ use Rattle.std.proofs.lemmas.List.{take_all}
 use Rattle.std.proofs.lemmas.List.Folds.{list_any-append, list_any_more}
 use Rattle.std.proofs.lemmas.Bool.Decides.{nat_tests}
 use Rattle.std.specs.List.{list_any}
+use Rattle.std.proofs.Math.Bool.{or-false}
 use Rattle.np_base.specs.Beside.{by_side}
 use Rattle.np_base.specs.Ranges.{holds}
 use Rattle.np_base.specs.declared.range.Range.{Range}
@@ -48,11 +49,7 @@ block_end width len n within rest fits =
 
 -- one set more at the end has its addresses more
 list_any-push : {X : Type 0} (test : X → Bool) (xs : List X) (x : X) → list_any test (xs ++ x ∷ []) ≡ (list_any test xs || test x)
-list_any-push test xs x = list_any-append test xs (x ∷ []) ∙ ap (λ t. list_any test xs || t) (or_false (test x))
-  where
-    or_false : (t : Bool) → (t || false) ≡ t
-    or_false true = refl
-    or_false false = refl
+list_any-push test xs x = list_any-append test xs (x ∷ []) ∙ ap (λ t. list_any test xs || t) (or-false (test x))
 
 -- the sets of one block more
 pub one_more : (blocks : List Cidr) (i : ℕ) (block : Cidr) (sets : List AddressRanges) (more : AddressRanges) (made : List AddressRanges) → i < length blocks → block ≡ get_or blocks i block →

@@ -1,8 +1,8 @@
 -- Looking a block up among numbers that ascend.
-use Rattle.std.proofs.Common.{◌≡◌, ℕ, suc, ◌+◌, ◌-◌, ◌^◌, ◌<◌, ◌≤◌, List, [], ◌∷◌, Bool, true, false, ◌&&◌, ◌||◌, length, get_or, nat_le, nat_lt, refl, sym, ap, subst, ◌∙◌, arith}
+use Rattle.std.proofs.Common.{◌≡◌, ℕ, suc, ◌+◌, ◌-◌, ◌^◌, ◌<◌, ◌≤◌, List, [], ◌∷◌, Bool, true, false, ◌||◌, length, get_or, nat_le, nat_lt, refl, sym, ap, subst, ◌∙◌, arith}
 use Rattle.std.specs.List.{filter_map, list_any}
 use Rattle.std.specs.List.Sorted.{IsNonDecreasing, IsPartitionPoint}
-use Rattle.std.proofs.lemmas.Bool.{false≢true, le-leb, le-ltb, lt-leb, ltb-false, ltb-true}
+use Rattle.std.proofs.lemmas.Bool.{false≢true, le-leb, le-ltb, lt-leb, ltb-false, ltb-true, and_right}
 use Rattle.std.proofs.lemmas.List.Folds.{list_any_at}
 use Rattle.np_addr.specs.Addresses.{cidr_has}
 use Rattle.np_addr.specs.Numbers.{is_covered, number_in}
@@ -33,10 +33,6 @@ none-any p (x ∷ xs) none = rw (none 0 x (omega arith)) (none-any p xs (λ k d 
 low : (base free n : ℕ) → nat_lt n base ≡ true → is_covered base free n ≡ false
 low base free n is = rw (lt-leb base n (ltb-true n base is)) refl
 
-and-false : (a b : Bool) → b ≡ false → (a && b) ≡ false
-and-false true b is = is
-and-false false b is = refl
-
 beyond : (base free n m : ℕ) → nat_lt n base ≡ false → is_covered base free n ≡ false → n ≤ m → is_covered base free m ≡ false
 beyond base free n m reached past order = go (nat_lt n (base + 2 ^ free)) refl
   where
@@ -45,7 +41,7 @@ beyond base free n m reached past order = go (nat_lt n (base + 2 ^ free)) refl
     go false is =
         let least = ltb-false n (base + 2 ^ free) is in
         let out = le-ltb m (base + 2 ^ free) (omega (arith, least, order)) in
-        and-false (nat_le base m) (nat_lt m (base + 2 ^ free)) out
+        and_right (nat_le base m) (nat_lt m (base + 2 ^ free)) out
 
 module _ (base free : ℕ) (numbers : List ℕ) (rise : IsNonDecreasing numbers) (place : ℕ) (parted : IsPartitionPoint (λ n. nat_lt n base ≡ true) (λ n. nat_lt n base ≡ false) numbers place) where
   pub none-covered : length numbers ≤ place → list_any (is_covered base free) numbers ≡ false

@@ -8,6 +8,7 @@ use Rattle.std.proofs.lemmas.List.Folds.{list_any_at}
 use Rattle.std.proofs.lemmas.List.Sums.{length-filter, count_by-le-length}
 use Rattle.std.proofs.lemmas.Nat.{pow_pos, pow_below}
 use Rattle.std.specs.List.{list_any}
+use Rattle.np_base.proofs.Lists.{AllPairs-head, AllPairs-tail}
 use Rattle.np_addr.specs.declared.address.Address.{Address}
 use Rattle.np_addr.specs.declared.address.Address.TheVariants as address
 use Rattle.np_addr.specs.declared.cidr.Cidr.{Cidr}
@@ -15,18 +16,18 @@ use Rattle.np_addr.specs.declared.cidr.Cidr.TheVariants as cidr
 use Rattle.np_addr.specs.Addresses.{IsCidr, cidr_has}
 use Rattle.np_addr.specs.Blocks.{AddressRanges, set_has, base_of}
 use Rattle.np_addr.specs.Prefixes.{some_has, LiesIn, AreDisjoint, StandsBefore, IsRightPrefixList}
-use Rattle.np_addr.proofs.Pairs.{AllPairs-head, AllPairs-tail}
 use Rattle.np_addr.proofs.SameLists.{same_elements_same_lists}
-use Rattle.np_addr.proofs.SubsetLemmas.{in_block, in_block-parts, in_block-from}
+use Rattle.np_addr.proofs.SubsetLemmas.{in_block-parts, in_block-from}
+use Rattle.np_addr.specs.Numbers.{is_covered}
 
 -- ---- blocks with the same addresses
 
-base_is_in : (block : Cidr) → cidr_has block (base_of block) ≡ true
+pub base_is_in : (block : Cidr) → cidr_has block (base_of block) ≡ true
 base_is_in (cidr.Four base len) = in_block-from base (32 - len) base (omega arith) (omega (arith, pow_pos (32 - len)))
 base_is_in (cidr.Six base len) = in_block-from base (128 - len) base (omega arith) (omega (arith, pow_pos (128 - len)))
 
 -- a block that lies in another begins in it and ends in it
-lies_between : (base free inner fewer : ℕ) → ((n : ℕ) → in_block inner fewer n ≡ true → in_block base free n ≡ true) → (base ≤ inner) × (inner + 2 ^ fewer ≤ base + 2 ^ free)
+lies_between : (base free inner fewer : ℕ) → ((n : ℕ) → is_covered inner fewer n ≡ true → is_covered base free n ≡ true) → (base ≤ inner) × (inner + 2 ^ fewer ≤ base + 2 ^ free)
 lies_between base free inner fewer lies =
     let some = pow_pos fewer in
     let last = inner + 2 ^ fewer - 1 in
@@ -44,7 +45,7 @@ same_size free fewer same =
       ]
     ]
 
-same_numbers : (base free inner fewer : ℕ) → ((n : ℕ) → in_block inner fewer n ≡ true → in_block base free n ≡ true) → ((n : ℕ) → in_block base free n ≡ true → in_block inner fewer n ≡ true) →
+same_numbers : (base free inner fewer : ℕ) → ((n : ℕ) → is_covered inner fewer n ≡ true → is_covered base free n ≡ true) → ((n : ℕ) → is_covered base free n ≡ true → is_covered inner fewer n ≡ true) →
     (base ≡ inner) × (free ≡ fewer)
 same_numbers base free inner fewer lies back =
     let one = lies_between base free inner fewer lies in

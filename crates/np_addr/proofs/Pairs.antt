@@ -1,28 +1,12 @@
 -- Lists of which facts hold in pairs, or of some element.
-use Rattle.std.proofs.Common.{zero, suc, ◌+◌, List, [], ◌∷◌, ◌++◌, length, All, AllPairs, Any, refl, ◌∙◌, arith}
+use Rattle.std.proofs.Common.{zero, ◌+◌, List, [], ◌∷◌, ◌++◌, length, AllPairs, Any, refl, ◌∙◌, arith}
 use Rattle.std.proofs.lemmas.List.{get_or_append_left, get_or-append-add, length-append}
-use Rattle.std.proofs.lemmas.List.Elements.{All-head, All-tail, All-append, All-weaker}
-use Rattle.std.proofs.lemmas.List.Kept.{AllPairs-cons}
-
-pub AllPairs-head : {X : Type 0} (R : X → X → Type 0) (x : X) (xs : List X) → AllPairs R (x ∷ xs) → All (R x) xs
-AllPairs-head R x xs pairs = λ k d within. pairs zero (suc k) d (omega arith) (omega arith)
-
-pub AllPairs-tail : {X : Type 0} (R : X → X → Type 0) (x : X) (xs : List X) → AllPairs R (x ∷ xs) → AllPairs R xs
-AllPairs-tail R x xs pairs = λ i j d before within. pairs (suc i) (suc j) d (omega arith) (omega arith)
 
 pub AllPairs-nil : {X : Type 0} (R : X → X → Type 0) → AllPairs R []
 AllPairs-nil R = λ i j d before within. absurd (omega arith)
 
 pub AllPairs-weaker : {X : Type 0} (R S : X → X → Type 0) → ((x y : X) → R x y → S x y) → (xs : List X) → AllPairs R xs → AllPairs S xs
 AllPairs-weaker R S weaker xs pairs = λ i j d before within. weaker _ _ (pairs i j d before within)
-
-pub AllPairs-append : {X : Type 0} (R : X → X → Type 0) (P Q : X → Type 0) → ((x y : X) → P x → Q y → R x y) → (xs ys : List X) → AllPairs R xs → AllPairs R ys → All P xs → All Q ys →
-    AllPairs R (xs ++ ys)
-AllPairs-append R P Q across [] ys in_xs in_ys of_xs of_ys = in_ys
-AllPairs-append R P Q across (x ∷ xs) ys in_xs in_ys of_xs of_ys =
-    AllPairs-cons R x (xs ++ ys)
-    (All-append (R x) xs ys (AllPairs-head R x xs in_xs) (All-weaker Q (R x) (λ y of_y. across x y (All-head P x xs of_xs) of_y) ys of_ys))
-    (AllPairs-append R P Q across xs ys (AllPairs-tail R x xs in_xs) in_ys (All-tail P x xs of_xs) of_ys)
 
 pub Any-cons : {X : Type 0} (P : X → Type 0) (x : X) (xs : List X) → P x → Any P (x ∷ xs)
 Any-cons P x xs held = (zero, x, omega arith, refl, held)

@@ -8,9 +8,11 @@ use Rattle.std.proofs.lemmas.List.Elements.{All-nil, All-cons, All-append, All-w
 use Rattle.std.proofs.lemmas.List.Folds.{list_any-append, list_any_none}
 use Rattle.std.proofs.lemmas.List.Kept.{AllPairs-cons}
 use Rattle.std.proofs.lemmas.Nat.{pow_pos, shr_split}
+use Rattle.std.proofs.Math.Bool.{or-false}
 use Rattle.np_base.specs.declared.range.Range.{Range}
 use Rattle.np_base.specs.Ranges.{is_within, holds, IsAscending}
 use Rattle.np_base.proofs.Ranges.{is_within-past, holds-before}
+use Rattle.np_base.proofs.Lists.{AllPairs-append}
 use Rattle.np_addr.specs.declared.address.Address.{Address}
 use Rattle.np_addr.specs.declared.address.Address.TheVariants as address
 use Rattle.np_addr.specs.declared.address.Family.{Family}
@@ -22,9 +24,10 @@ use Rattle.np_addr.specs.Blocks.{AddressRanges, set_has, IsAddressSet}
 use Rattle.np_addr.specs.Prefixes.{block_at, is_inside, blocks_in, range_prefixes, prefixes_of, some_has, LiesIn, AreDisjoint, StandsBefore, IsRightPrefixList}
 use Rattle.np_addr.proofs.BlockEnds.{address_at, IsBetween, Spans, EndsBefore, IsBetween-block_at, Spans-block_at, IsCidr-block_at, has-block_at, IsBetween-wider, EndsBefore-between}
 use Rattle.np_addr.proofs.BlockEnds.{EndsBefore-families, other_family_four, other_family_six, disjoint_by_ends, stands_by_ends, lies_four, lies_six}
-use Rattle.np_addr.proofs.Pairs.{AllPairs-nil, AllPairs-weaker, AllPairs-append, Any-cons, Any-weaker, Any-append_left, Any-append_right}
+use Rattle.np_addr.proofs.Pairs.{AllPairs-nil, AllPairs-weaker, Any-cons, Any-weaker, Any-append_left, Any-append_right}
 use Rattle.np_addr.proofs.PrefixLemmas.{is_inside-from, is_inside-parts, blocks_in-by_halves}
-use Rattle.np_addr.proofs.SubsetLemmas.{in_block, in_block-parts, in_block-from, ends_within}
+use Rattle.np_addr.proofs.SubsetLemmas.{in_block-parts, in_block-from, ends_within}
+use Rattle.np_addr.specs.Numbers.{is_covered}
 
 -- ---- the blocks of one range in one block
 
@@ -50,7 +53,7 @@ record AreBlocksIn (family : Family) (range : Range ℕ) (base free : ℕ) (bloc
   of_range : All (IsBetween family range.lo (range.hi + 1)) blocks
   well : All IsCidr blocks
   ordered : AllPairs EndsBefore blocks
-  members : (n : ℕ) → some_has blocks (address_at family n) ≡ (in_block base free n && in_range range n)
+  members : (n : ℕ) → some_has blocks (address_at family n) ≡ (is_covered base free n && in_range range n)
   greatest : (inner fewer : ℕ) → fewer ≤ width_of family → inner % 2 ^ fewer ≡ 0 → base ≤ inner → inner + 2 ^ fewer ≤ base + 2 ^ free → range.lo ≤ inner → inner + 2 ^ fewer ≤ range.hi + 1 →
       Any (Spans family inner (inner + 2 ^ fewer)) blocks
 
@@ -84,7 +87,7 @@ whole_block family range base free short aligned inside =
       ordered = AllPairs-cons EndsBefore block [] (All-nil (EndsBefore block)) (AllPairs-nil EndsBefore);
       members = λ n.
           ap (λ (t : Bool). t || false) (has-block_at family base free n short)
-          ∙ alone (in_block base free n) (in_range range n) (λ held.
+          ∙ alone (is_covered base free n) (in_range range n) (λ held.
           let place = in_block-parts base free n held in
           and_from _ _ (le-leb range.lo n (omega arith)) (le-leb n range.hi (omega arith)));
       greatest = λ inner fewer shorter rest above below low high.
@@ -98,7 +101,7 @@ no_block family range base out = record {
   well = All-nil IsCidr;
   ordered = AllPairs-nil EndsBefore;
   members = λ n. sym (false_from_ne_true _ (λ held.
-      let parts = and_parts (in_block base zero n) (in_range range n) held in
+      let parts = and_parts (is_covered base zero n) (in_range range n) held in
       let place = in_block-parts base zero n parts.0 in
       let within = in_range-parts range n parts.1 in
       both_ways _ out (is_inside-from range base zero (omega arith) (omega arith))));
@@ -107,7 +110,7 @@ no_block family range base out = record {
       absurd (both_ways _ out (is_inside-from range base zero (omega arith) (omega arith)));
 }
 
-in_halves : (base half n : ℕ) → (in_block base half n || in_block (base + 2 ^ half) half n) ≡ in_block base (suc half) n
+in_halves : (base half n : ℕ) → (is_covered base half n || is_covered (base + 2 ^ half) half n) ≡ is_covered base (suc half) n
 in_halves base half n = let double = pow-suc 2 half in let some = pow_pos half in grind (arith, nat_tests)
 
 -- a block that is not all in the range has no part in the range that is more than a half
@@ -140,8 +143,8 @@ cut_block family range base half xs ys short aligned out first second =
       members = λ n.
           list_any-append (λ block. cidr_has block (address_at family n)) xs ys
           ∙ ap (λ (t : Bool). t || some_has ys (address_at family n)) (first.members n)
-          ∙ ap (λ (t : Bool). (in_block base half n && in_range range n) || t) (second.members n)
-          ∙ both_parts (in_block base half n) (in_block middle half n) (in_range range n)
+          ∙ ap (λ (t : Bool). (is_covered base half n && in_range range n) || t) (second.members n)
+          ∙ both_parts (is_covered base half n) (is_covered middle half n) (in_range range n)
           ∙ ap (λ (t : Bool). t && in_range range n) (in_halves base half n);
       greatest = λ inner fewer shorter rest above below low high.
           let fits = at_most_half range base half inner fewer out above below low high in
@@ -219,7 +222,7 @@ more_ranges family from last range ranges xs ys room ascends first more =
       ordered = AllPairs-append EndsBefore low_part high_part (EndsBefore-between family range.lo (range.hi + 1) (range.hi + 2) (last + 1) (omega arith)) xs ys first.ordered more.ordered
           first.of_range more.of_family;
       members = λ n.
-          let in_family = absorbed (in_block 0 (width_of family) n) (in_range range n) (λ held.
+          let in_family = absorbed (is_covered 0 (width_of family) n) (in_range range n) (λ held.
           let place = in_range-parts range n held in
           in_block-from 0 (width_of family) n (omega arith) (omega arith)) in
           list_any-append (λ block. cidr_has block (address_at family n)) xs ys
@@ -251,10 +254,6 @@ blocks_of_ranges family from last (range ∷ ranges) room ascends =
 
 -- ---- the blocks of both families
 
-or_false : (x : Bool) → (x || false) ≡ x
-or_false true = refl
-or_false false = refl
-
 exact_in_both : (set : AddressRanges) (end_four end_six : ℕ) (xs ys : List Cidr) → AreBlocksOf family.Four 0 end_four set.first xs → AreBlocksOf family.Six 0 end_six set.second ys → (a : Address) →
     some_has (xs ++ ys) a ≡ set_has set a
 exact_in_both set end_four end_six xs ys four six (address.Four n) =
@@ -262,7 +261,7 @@ exact_in_both set end_four end_six xs ys four six (address.Four n) =
     ∙ ap (λ (t : Bool). t || some_has ys (address.Four n)) (four.members n)
     ∙ ap (λ (t : Bool). holds (λ a. a) set.first n || t) (list_any_none (λ block. cidr_has block (address.Four n)) ys
     (All-weaker (IsBetween family.Six 0 (end_six + 1)) (λ block. cidr_has block (address.Four n) ≡ false) (other_family_six 0 (end_six + 1) n) ys six.of_family))
-    ∙ or_false (holds (λ a. a) set.first n)
+    ∙ or-false (holds (λ a. a) set.first n)
 exact_in_both set end_four end_six xs ys four six (address.Six n) =
     list_any-append (λ block. cidr_has block (address.Six n)) xs ys
     ∙ ap (λ (t : Bool). t || some_has ys (address.Six n)) (list_any_none (λ block. cidr_has block (address.Six n)) xs

@@ -1,7 +1,7 @@
 -- Lists in one order, with the same elements, are equal.
 use Rattle.std.proofs.Common.{◌≡◌, zero, suc, ◌⊎◌, List, [], ◌∷◌, AllPairs, Contains, refl, sym, ap, subst, ◌∙◌, inl, inr, arith}
 use Rattle.std.proofs.lemmas.List.Elements.{All-contains}
-use Rattle.np_addr.proofs.Pairs.{AllPairs-head, AllPairs-tail}
+use Rattle.np_base.proofs.Lists.{AllPairs-head, AllPairs-tail, Contains-later}
 
 pub Contains-cases : {X : Type 0} (x y : X) (ys : List X) → Contains (y ∷ ys) x → (y ≡ x) ⊎ Contains ys x
 Contains-cases x y ys (zero, within, is) = inl is
@@ -9,9 +9,6 @@ Contains-cases x y ys (suc k, within, is) = inr (k, omega arith, is)
 
 pub Contains-first : {X : Type 0} (x : X) (xs : List X) → Contains (x ∷ xs) x
 Contains-first x xs = (zero, omega arith, refl)
-
-Contains-later : {X : Type 0} (x y : X) (ys : List X) → Contains ys x → Contains (y ∷ ys) x
-Contains-later x y ys (k, within, is) = (suc k, omega arith, is)
 
 module _ {X : Type 0} (R : X → X → Type 0) (one_way : (x y : X) → R x y → R y x → ⊥) where
   -- both first elements are in the other list, and none comes before the other

@@ -1,5 +1,5 @@
 -- Blocks by their first bits, and blocks in one another.
-use Rattle.std.proofs.Common.{◌≡◌, ◌↔◌, ℕ, ◌+◌, ◌-◌, ◌*◌, ◌/◌, ◌%◌, ◌^◌, ◌<◌, ◌≤◌, Bool, true, false, ◌&&◌, nat_lt, nat_le, sym, ap, ◌∙◌, inl, inr, one-mul, arith, lit≤}
+use Rattle.std.proofs.Common.{◌≡◌, ◌↔◌, ℕ, ◌+◌, ◌-◌, ◌*◌, ◌/◌, ◌%◌, ◌^◌, ◌<◌, ◌≤◌, true, false, nat_lt, sym, ap, ◌∙◌, inl, inr, one-mul, arith, lit≤}
 use Rattle.std.proofs.Math.Nat.{mul_assoc, add-mul, mul-le-mul_right, pow-le-pow_right, div-lt_iff_lt-mul, div-eq_of_lt-le}
 use Rattle.std.proofs.lemmas.Bool.{and_parts, and_from, and_left, and_right, cases_lt, leb-true, ltb-true, le-leb, lt-ltb, lt-leb, le-ltb, both_ways, false≢true}
 use Rattle.std.proofs.lemmas.Nat.{pow_pos, shr_split, mod_below, pow_below, pow-add}
@@ -10,18 +10,15 @@ use Rattle.np_addr.specs.declared.cidr.Cidr.TheVariants as cidr
 use Rattle.np_addr.specs.Addresses.{IsCidr, cidr_has}
 use Rattle.np_addr.specs.Blocks.{is_strict_part}
 use Rattle.np_addr.specs.Laws.{SharesFirstBits, IsStrictSubset}
+use Rattle.np_addr.specs.Numbers.{is_covered}
 
--- whether n is one of the block's numbers, in which so many bits are free
-abbrev pub in_block : ℕ → ℕ → ℕ → Bool
-in_block base free n = nat_le base n && nat_lt n (base + 2 ^ free)
-
-pub in_block-parts : (base free n : ℕ) → in_block base free n ≡ true → (base ≤ n) × (n < base + 2 ^ free)
+pub in_block-parts : (base free n : ℕ) → is_covered base free n ≡ true → (base ≤ n) × (n < base + 2 ^ free)
 in_block-parts base free n held = let parts = and_parts _ _ held in (leb-true base n parts.0, ltb-true n (base + 2 ^ free) parts.1)
 
-pub in_block-from : (base free n : ℕ) → base ≤ n → n < base + 2 ^ free → in_block base free n ≡ true
+pub in_block-from : (base free n : ℕ) → base ≤ n → n < base + 2 ^ free → is_covered base free n ≡ true
 in_block-from base free n above below = and_from _ _ (le-leb base n above) (lt-ltb n (base + 2 ^ free) below)
 
-in_block-out : (base free n : ℕ) → (base ≤ n → n < base + 2 ^ free → ⊥) → in_block base free n ≡ false
+in_block-out : (base free n : ℕ) → (base ≤ n → n < base + 2 ^ free → ⊥) → is_covered base free n ≡ false
 in_block-out base free n out =
     elim (cases_lt n base) [
       | inl before ↦ and_left _ _ (lt-leb base n before)
@@ -37,13 +34,13 @@ quotient_in n p q above below =
     let next : (q + 1) * p ≡ q * p + p = add-mul q 1 p ∙ ap (λ k. q * p + k) (one-mul p) in
     div-eq_of_lt-le p above (omega (arith, below, next))
 
-first_bits-in : (base free n : ℕ) → base % 2 ^ free ≡ 0 → in_block base free n ≡ true → n / 2 ^ free ≡ base / 2 ^ free
+first_bits-in : (base free n : ℕ) → base % 2 ^ free ≡ 0 → is_covered base free n ≡ true → n / 2 ^ free ≡ base / 2 ^ free
 first_bits-in base free n rest held =
     let (above, below) = in_block-parts base free n held in
     let whole = shr_split base free in
     quotient_in n (2 ^ free) (base / 2 ^ free) (omega arith) (omega arith)
 
-first_bits-from : (base free n : ℕ) → base % 2 ^ free ≡ 0 → n / 2 ^ free ≡ base / 2 ^ free → in_block base free n ≡ true
+first_bits-from : (base free n : ℕ) → base % 2 ^ free ≡ 0 → n / 2 ^ free ≡ base / 2 ^ free → is_covered base free n ≡ true
 first_bits-from base free n rest same =
     let whole = shr_split base free in
     let parts = shr_split n free in
@@ -72,8 +69,8 @@ ends_within base free inner fewer rest inner_rest less begins =
     omega (arith, step, next, end, inner_parts)
 
 -- a part of a block with fewer free bits has only numbers of the block
-part_within : (base free inner fewer : ℕ) → base % 2 ^ free ≡ 0 → inner % 2 ^ fewer ≡ 0 → fewer < free → in_block base free inner ≡ true → (n : ℕ) → in_block inner fewer n ≡ true →
-    in_block base free n ≡ true
+part_within : (base free inner fewer : ℕ) → base % 2 ^ free ≡ 0 → inner % 2 ^ fewer ≡ 0 → fewer < free → is_covered base free inner ≡ true → (n : ℕ) → is_covered inner fewer n ≡ true →
+    is_covered base free n ≡ true
 part_within base free inner fewer rest inner_rest less begins n held =
     let (above, below) = in_block-parts base free inner begins in
     let (from, to) = in_block-parts inner fewer n held in
@@ -81,7 +78,7 @@ part_within base free inner fewer rest inner_rest less begins n held =
     in_block-from base free n (omega arith) (omega arith)
 
 -- and not all of them
-part_more : (base free inner fewer : ℕ) → fewer < free → in_block base free inner ≡ true → (n : ℕ) × (in_block base free n ≡ true) × (in_block inner fewer n ≡ false)
+part_more : (base free inner fewer : ℕ) → fewer < free → is_covered base free inner ≡ true → (n : ℕ) × (is_covered base free n ≡ true) × (is_covered inner fewer n ≡ false)
 part_more base free inner fewer less begins =
     let (above, below) = in_block-parts base free inner begins in
     let smaller : 2 ^ fewer < 2 ^ free = pow_below fewer free less in
@@ -92,8 +89,8 @@ part_more base free inner fewer less begins =
     ]
 
 -- where each number of a block is in another, and there are more, it begins there and has fewer free bits
-part_from : (base free inner fewer : ℕ) → ((n : ℕ) → in_block inner fewer n ≡ true → in_block base free n ≡ true) → (n : ℕ) → in_block base free n ≡ true → in_block inner fewer n ≡ false →
-    (fewer < free) × (in_block base free inner ≡ true)
+part_from : (base free inner fewer : ℕ) → ((n : ℕ) → is_covered inner fewer n ≡ true → is_covered base free n ≡ true) → (n : ℕ) → is_covered base free n ≡ true → is_covered inner fewer n ≡ false →
+    (fewer < free) × (is_covered base free inner ≡ true)
 part_from base free inner fewer within n held out =
     let some = pow_pos fewer in
     let begins = within inner (in_block-from inner fewer inner (omega arith) (omega arith)) in
@@ -109,28 +106,28 @@ part_from base free inner fewer within n held out =
     ]
 
 at_four : (base len inner longer : ℕ) → IsStrictSubset (cidr.Four base len) (cidr.Four inner longer) → (a : Address) → cidr_has (cidr.Four base len) a ≡ true →
-    cidr_has (cidr.Four inner longer) a ≡ false → (32 - longer < 32 - len) × (in_block base (32 - len) inner ≡ true)
+    cidr_has (cidr.Four inner longer) a ≡ false → (32 - longer < 32 - len) × (is_covered base (32 - len) inner ≡ true)
 at_four base len inner longer subset (address.Four n) held out = part_from base (32 - len) inner (32 - longer) (λ m. subset.within (address.Four m)) n held out
 at_four base len inner longer subset (address.Six n) held out = absurd (false≢true held)
 
 at_six : (base len inner longer : ℕ) → IsStrictSubset (cidr.Six base len) (cidr.Six inner longer) → (a : Address) → cidr_has (cidr.Six base len) a ≡ true → cidr_has (cidr.Six inner longer) a ≡ false →
-    (128 - longer < 128 - len) × (in_block base (128 - len) inner ≡ true)
+    (128 - longer < 128 - len) × (is_covered base (128 - len) inner ≡ true)
 at_six base len inner longer subset (address.Six n) held out = part_from base (128 - len) inner (128 - longer) (λ m. subset.within (address.Six m)) n held out
 at_six base len inner longer subset (address.Four n) held out = absurd (false≢true held)
 
-within_four : (base len inner longer : ℕ) → ((n : ℕ) → in_block inner (32 - longer) n ≡ true → in_block base (32 - len) n ≡ true) → (a : Address) → cidr_has (cidr.Four inner longer) a ≡ true →
+within_four : (base len inner longer : ℕ) → ((n : ℕ) → is_covered inner (32 - longer) n ≡ true → is_covered base (32 - len) n ≡ true) → (a : Address) → cidr_has (cidr.Four inner longer) a ≡ true →
     cidr_has (cidr.Four base len) a ≡ true
 within_four base len inner longer numbers (address.Four n) held = numbers n held
 within_four base len inner longer numbers (address.Six n) held = held
 
-within_six : (base len inner longer : ℕ) → ((n : ℕ) → in_block inner (128 - longer) n ≡ true → in_block base (128 - len) n ≡ true) → (a : Address) → cidr_has (cidr.Six inner longer) a ≡ true →
+within_six : (base len inner longer : ℕ) → ((n : ℕ) → is_covered inner (128 - longer) n ≡ true → is_covered base (128 - len) n ≡ true) → (a : Address) → cidr_has (cidr.Six inner longer) a ≡ true →
     cidr_has (cidr.Six base len) a ≡ true
 within_six base len inner longer numbers (address.Six n) held = numbers n held
 within_six base len inner longer numbers (address.Four n) held = held
 
 strict_subset : (block except : Cidr) → IsCidr block → IsCidr except → is_strict_part block except ≡ true → IsStrictSubset block except
 strict_subset (cidr.Four base len) (cidr.Four inner longer) well inner_well held =
-    let (test, begins) = and_parts (nat_lt len longer) (in_block base (32 - len) inner) held in
+    let (test, begins) = and_parts (nat_lt len longer) (is_covered base (32 - len) inner) held in
     let less : 32 - longer < 32 - len = omega (arith, ltb-true len longer test, well.0, inner_well.0) in
     let other = part_more base (32 - len) inner (32 - longer) less begins in
     record {
@@ -138,7 +135,7 @@ strict_subset (cidr.Four base len) (cidr.Four inner longer) well inner_well held
       more = (address.Four other.0, other.1, other.2);
     }
 strict_subset (cidr.Six base len) (cidr.Six inner longer) well inner_well held =
-    let (test, begins) = and_parts (nat_lt len longer) (in_block base (128 - len) inner) held in
+    let (test, begins) = and_parts (nat_lt len longer) (is_covered base (128 - len) inner) held in
     let less : 128 - longer < 128 - len = omega (arith, ltb-true len longer test, well.0, inner_well.0) in
     let other = part_more base (128 - len) inner (128 - longer) less begins in
     record {

@@ -4,28 +4,19 @@ use Rattle.std.proofs.lemmas.Bool.{false_from_ne_true, false≢true, lt-ltb, ltb
 use Rattle.std.proofs.lemmas.List.Sums.{sum_by-cons}
 use Rattle.std.specs.List.{count_by, list_all}
 use Rattle.clap.proofs.OnLiterals.{clap_on_literals}
-use Rattle.clap.specs.Faults.{defaults_fault, is_simple_and_free}
+use Rattle.clap.specs.Faults.{defaults_fault}
 use Rattle.clap.specs.Simple.{Shape, built}
 use Rattle.clap.specs.Walk.{Row, Walk, finished, first_of, walked}
 use Rattle.np_addr.specs.Steps.{◌>>=◌}
 use Rattle.np_args.proofs.BehindLemmas.{Holds, IsWalked, Makes, apart, faults_from, joined, optioned, row_of_value}
 use Rattle.np_args.proofs.FileLemmas.{TakesFiles, after, plain_words}
-use Rattle.np_args.specs.Arguments.{are_files, asked_of, checked_files, files_in, is_standard_input, required_rule}
+use Rattle.np_args.specs.Arguments.{are_files, checked_files, files_in, is_standard_input, required_rule}
 use Rattle.np_args.specs.CheckWords.{check_command, check_job, check_of}
 use Rattle.np_args.specs.CommandLines.{job_of}
 use Rattle.np_args.specs.Laws.{is_plain, or_standard_input}
 use Rattle.np_args.specs.Values.{Text}
 use Rattle.np_args.specs.declared.job.Job.{Job}
 use Rattle.np_args.specs.declared.job.Job.TheVariants.{Check as CheckJob}
-
--- clap says exactly what it answers for this command line
-pub is_exact : is_simple_and_free check_command ≡ true
-unfolding clap_on_literals
-is_exact = refl
-
-pub check_asked : (words : List Text) → check_job words ≡ asked_of check_command check_of words
-unfolding check_job
-check_asked words = refl
 
 -- the statement file and the files, where each is there
 abbrev pub checked_of : Option (List Text) → Option Text → Option Job
@@ -36,8 +27,7 @@ checked_of files statement = do
 
 pub check_of-values : (rows : List Row) (files : Option (List Text)) (statement : Option Text) → files_in rows ≡ files → first_of (codes "statement") rows ≡ statement
     → check_of rows ≡ checked_of files statement
-check_of-values rows files statement one two =
-    ap (λ (value : Option (List Text)). checked_of value (first_of (codes "statement") rows)) one ∙ ap (checked_of files) two
+check_of-values rows files statement one two = rw (one, two) refl
 
 -- ---- words
 

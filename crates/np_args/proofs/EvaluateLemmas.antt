@@ -1,26 +1,15 @@
 -- The command line of `evaluate`: clap is exact for it, and what its values make.
-use Rattle.std.proofs.Common.{◌≡◌, ◌∙◌, ℕ, ap, List, Option, Some, codes, refl, true}
-use Rattle.clap.proofs.OnLiterals.{clap_on_literals}
-use Rattle.clap.specs.Faults.{is_simple_and_free}
+use Rattle.std.proofs.Common.{◌≡◌, ◌∙◌, ℕ, ap, List, Option, Some, codes}
 use Rattle.clap.specs.Walk.{Row}
 use Rattle.np_addr.specs.Steps.{◌>>=◌}
 use Rattle.np_conns.specs.ConnsText.{proto_named}
 use Rattle.np_conns.specs.declared.proto.Proto.{Proto}
-use Rattle.np_args.specs.Arguments.{asked_of, files_in, value_in}
-use Rattle.np_args.specs.EvaluateWords.{evaluate_command, evaluate_job, evaluate_of}
+use Rattle.np_args.specs.Arguments.{files_in, value_in}
+use Rattle.np_args.specs.EvaluateWords.{evaluate_of}
 use Rattle.np_args.specs.Values.{Text, end_of, port_of}
 use Rattle.np_args.specs.declared.end_word.EndWord.{EndWord}
 use Rattle.np_args.specs.declared.job.Job.{Job}
 use Rattle.np_args.specs.declared.job.Job.TheVariants.{Evaluate as EvaluateJob}
-
--- clap says exactly what it answers for this command line
-pub is_exact : is_simple_and_free evaluate_command ≡ true
-unfolding clap_on_literals
-is_exact = refl
-
-pub evaluate_asked : (words : List Text) → evaluate_job words ≡ asked_of evaluate_command evaluate_of words
-unfolding evaluate_job
-evaluate_asked words = refl
 
 -- the packet of these values, where each is there
 abbrev pub packet_of : Option Proto → Option ℕ → Option (List Text) → Option EndWord → Option EndWord → Option Job

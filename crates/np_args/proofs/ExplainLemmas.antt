@@ -1,25 +1,15 @@
 -- The command line of `explain`: clap is exact for it, and what its values make.
-use Rattle.std.proofs.Common.{◌≡◌, ◌∙◌, ◌∷◌, ◌++◌, [], ap, List, Option, Some, codes, refl, true}
+use Rattle.std.proofs.Common.{◌≡◌, ◌∙◌, ◌∷◌, ◌++◌, [], ap, List, Option, Some, codes, refl}
 use Rattle.clap.proofs.OnLiterals.{clap_on_literals}
-use Rattle.clap.specs.Faults.{is_simple_and_free}
 use Rattle.clap.specs.Walk.{Row}
 use Rattle.np_addr.specs.Steps.{◌>>=◌}
-use Rattle.np_args.specs.Arguments.{asked_of, files_in, value_in}
+use Rattle.np_args.specs.Arguments.{files_in, value_in}
 use Rattle.np_args.specs.CommandLines.{job_of}
-use Rattle.np_args.specs.ExplainWords.{explain_command, explain_job, explain_of}
+use Rattle.np_args.specs.ExplainWords.{explain_job, explain_of}
 use Rattle.np_args.specs.Values.{Text, end_of}
 use Rattle.np_args.specs.declared.end_word.EndWord.{EndWord}
 use Rattle.np_args.specs.declared.job.Job.{Job}
 use Rattle.np_args.specs.declared.job.Job.TheVariants.{Explain as ExplainJob}
-
--- clap says exactly what it answers for this command line
-pub is_exact : is_simple_and_free explain_command ≡ true
-unfolding clap_on_literals
-is_exact = refl
-
-pub explain_asked : (words : List Text) → explain_job words ≡ asked_of explain_command explain_of words
-unfolding explain_job
-explain_asked words = refl
 
 -- the ends of these values, where each is there
 abbrev ends_of : Option (List Text) → Option EndWord → Option EndWord → Option Job
@@ -31,10 +21,7 @@ ends_of files from to = do
 
 pub explain_of-values : (rows : List Row) (files : Option (List Text)) (from to : Option EndWord)
     → files_in rows ≡ files → value_in end_of (codes "from") rows ≡ from → value_in end_of (codes "to") rows ≡ to → explain_of rows ≡ ends_of files from to
-explain_of-values rows files from to one two three =
-    ap (λ (value : Option (List Text)). ends_of value (value_in end_of (codes "from") rows) (value_in end_of (codes "to") rows)) one
-    ∙ ap (λ (value : Option EndWord). ends_of files value (value_in end_of (codes "to") rows)) two
-    ∙ ap (ends_of files from) three
+explain_of-values rows files from to one two three = rw (one, two, three) refl
 
 -- both options, and no file
 asked_ends : (from to : Text) → job_of (codes "explain" ∷ (codes "--from=" ++ from) ∷ (codes "--to=" ++ to) ∷ []) ≡ ends_of (Some (codes "-" ∷ [])) (end_of from) (end_of to)

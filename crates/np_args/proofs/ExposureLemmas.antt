@@ -1,26 +1,16 @@
 -- The command line of `exposure`: clap is exact for it, and what its values make.
-use Rattle.std.proofs.Common.{◌≡◌, ◌∙◌, ◌∷◌, ◌++◌, [], ap, List, None, Option, Some, codes, refl, true}
+use Rattle.std.proofs.Common.{◌≡◌, ◌∙◌, ◌∷◌, ◌++◌, [], ap, List, None, Option, Some, codes, refl}
 use Rattle.clap.proofs.OnLiterals.{clap_on_literals}
-use Rattle.clap.specs.Faults.{is_simple_and_free}
 use Rattle.clap.specs.Walk.{Row, first_of}
 use Rattle.np_addr.specs.Steps.{◌>>=◌}
-use Rattle.np_args.specs.Arguments.{asked_of, files_in, value_in}
+use Rattle.np_args.specs.Arguments.{files_in, value_in}
 use Rattle.np_args.specs.CommandLines.{job_of}
-use Rattle.np_args.specs.ExposureWords.{exposure_command, exposure_job, exposure_of}
+use Rattle.np_args.specs.ExposureWords.{exposure_job, exposure_of}
 use Rattle.np_args.specs.Values.{Text, format_of}
 use Rattle.np_args.specs.declared.format.Format.{Format}
 use Rattle.np_args.specs.declared.format.Format.TheVariants.{Plain}
 use Rattle.np_args.specs.declared.job.Job.{Job}
 use Rattle.np_args.specs.declared.job.Job.TheVariants.{Exposure as ExposureJob}
-
--- clap says exactly what it answers for this command line
-pub is_exact : is_simple_and_free exposure_command ≡ true
-unfolding clap_on_literals
-is_exact = refl
-
-pub exposure_asked : (words : List Text) → exposure_job words ≡ asked_of exposure_command exposure_of words
-unfolding exposure_job
-exposure_asked words = refl
 
 -- the workloads of these values, where each is there
 abbrev shown_of : Option Format → Option (List Text) → Option Text → Option Job
@@ -32,10 +22,7 @@ shown_of format files workload = do
 pub exposure_of-values : (rows : List Row) (format : Option Format) (files : Option (List Text)) (workload : Option Text)
     → value_in format_of (codes "format") rows ≡ format → files_in rows ≡ files → first_of (codes "workload") rows ≡ workload
     → exposure_of rows ≡ shown_of format files workload
-exposure_of-values rows format files workload one two three =
-    ap (λ (value : Option Format). shown_of value (files_in rows) (first_of (codes "workload") rows)) one
-    ∙ ap (λ (value : Option (List Text)). shown_of format value (first_of (codes "workload") rows)) two
-    ∙ ap (shown_of format files) three
+exposure_of-values rows format files workload one two three = rw (one, two, three) refl
 
 -- ---- words
 

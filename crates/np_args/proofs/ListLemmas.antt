@@ -1,25 +1,18 @@
 -- The command line of `list`: clap is exact for it, and what its values make.
-use Rattle.std.proofs.Common.{◌≡◌, ◌∙◌, ap, List, Option, Some, codes, refl, true}
-use Rattle.clap.proofs.OnLiterals.{clap_on_literals}
-use Rattle.clap.specs.Faults.{is_simple_and_free}
+use Rattle.std.proofs.Common.{◌≡◌, List, Option, Some, codes, refl}
 use Rattle.clap.specs.Simple.{Shape, built}
 use Rattle.clap.specs.Walk.{Row, Rule, first_of}
 use Rattle.np_addr.specs.Steps.{◌>>=◌}
 use Rattle.np_args.proofs.BehindLemmas.{IsWalked}
 use Rattle.np_args.proofs.FileLemmas.{TakesFiles}
-use Rattle.np_args.specs.Arguments.{asked_of, files_in, value_in}
-use Rattle.np_args.specs.ListWords.{list_command, list_job, list_of}
+use Rattle.np_args.specs.Arguments.{files_in, value_in}
+use Rattle.np_args.specs.ListWords.{list_command, list_of}
 use Rattle.np_args.specs.Values.{Text, format_of, report_of, side_of}
 use Rattle.np_args.specs.declared.focus_side.FocusSide.{FocusSide}
 use Rattle.np_args.specs.declared.format.Format.{Format}
 use Rattle.np_args.specs.declared.job.Job.{Job}
 use Rattle.np_args.specs.declared.job.Job.TheVariants.{List as ListJob}
 use Rattle.np_args.specs.declared.report.Report.{Report}
-
--- clap says exactly what it answers for this command line
-pub is_exact : is_simple_and_free list_command ≡ true
-unfolding clap_on_literals
-is_exact = refl
 
 -- the command as clap builds it, and its arguments
 abbrev pub shape : Shape
@@ -34,10 +27,6 @@ takes = record { by_place = refl; by_name = refl }
 pub list_walked : IsWalked list_command (codes "list")
 list_walked = record { fails = λ words. refl; finds = λ words. refl }
 
-pub list_asked : (words : List Text) → list_job words ≡ asked_of list_command list_of words
-unfolding list_job
-list_asked words = refl
-
 -- the table of these values, where each is there
 abbrev pub table_of : Option Format → Option Report → Option FocusSide → Option (List Text) → Option Text → Option Text → Option Job
 table_of format report side files controller focus = do
@@ -51,11 +40,4 @@ pub list_of-values : (rows : List Row) (format : Option Format) (report : Option
     → value_in format_of (codes "format") rows ≡ format → value_in report_of (codes "report") rows ≡ report → value_in side_of (codes "side") rows ≡ side
     → files_in rows ≡ files → first_of (codes "controller") rows ≡ controller → first_of (codes "focus") rows ≡ focus
     → list_of rows ≡ table_of format report side files controller focus
-list_of-values rows format report side files controller focus one two three four five six =
-    ap (λ (value : Option Format). table_of value (value_in report_of (codes "report") rows) (value_in side_of (codes "side") rows) (files_in rows) (first_of (codes "controller") rows)
-    (first_of (codes "focus") rows)) one
-    ∙ ap (λ (value : Option Report). table_of format value (value_in side_of (codes "side") rows) (files_in rows) (first_of (codes "controller") rows) (first_of (codes "focus") rows)) two
-    ∙ ap (λ (value : Option FocusSide). table_of format report value (files_in rows) (first_of (codes "controller") rows) (first_of (codes "focus") rows)) three
-    ∙ ap (λ (value : Option (List Text)). table_of format report side value (first_of (codes "controller") rows) (first_of (codes "focus") rows)) four
-    ∙ ap (λ (value : Option Text). table_of format report side files value (first_of (codes "focus") rows)) five
-    ∙ ap (table_of format report side files controller) six
+list_of-values rows format report side files controller focus one two three four five six = rw (one, two, three, four, five, six) refl

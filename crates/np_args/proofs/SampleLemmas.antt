@@ -1,24 +1,13 @@
 -- The command line of `sample`: clap is exact for it, and which words are its number.
 use Rattle.std.proofs.Common.{◌≡◌, ◌≢◌, ◌∙◌, ◌∷◌, ◌≤◌, ℕ, [], ap, arith, List, None, Option, Some, codes, decimal, option_map, refl, true}
 use Rattle.clap.proofs.OnLiterals.{clap_on_literals}
-use Rattle.clap.specs.Faults.{is_simple_and_free}
 use Rattle.np_args.proofs.FileLemmas.{plain_words}
 use Rattle.np_args.proofs.NumberLemmas.{number_to-decimal, number_to-plain}
-use Rattle.np_args.specs.Arguments.{asked_of}
 use Rattle.np_args.specs.CommandLines.{job_of}
 use Rattle.np_args.specs.Laws.{is_plain}
-use Rattle.np_args.specs.SampleWords.{sample_command, sample_job, sample_of}
+use Rattle.np_args.specs.SampleWords.{sample_job}
 use Rattle.np_args.specs.Values.{Text, count_of}
 use Rattle.np_args.specs.declared.job.Job.TheVariants.{Sample as SampleJob}
-
--- clap says exactly what it answers for this command line
-pub is_exact : is_simple_and_free sample_command ≡ true
-unfolding clap_on_literals
-is_exact = refl
-
-pub sample_asked : (words : List Text) → sample_job words ≡ asked_of sample_command sample_of words
-unfolding sample_job
-sample_asked words = refl
 
 -- ---- words
 

@@ -1,6 +1,7 @@
 -- The command lines of `unused` and of `flatten`, which take files alone.
 use Rattle.std.specs.Prelude.{◌∷◌, [], List, Option, codes, option_map}
 use Rattle.clap.specs.Simple.{App}
+use Rattle.clap.specs.Walk.{Row}
 use Rattle.np_args.specs.Arguments.{asked_of, command_of, file_rule, files_in}
 use Rattle.np_args.specs.Values.{Text}
 use Rattle.np_args.specs.declared.job.Job.{Job}
@@ -10,14 +11,14 @@ use Rattle.np_args.specs.declared.job.Job.TheVariants.{Flatten as FlattenJob, Un
 abbrev pub files_command : Text → App
 files_command name = command_of name (file_rule ∷ [])
 
--- the files that words name of which the first is this command
-unfoldable pub files_asked : Text → List Text → Option (List Text)
-files_asked name words = asked_of (files_command name) files_in words
+-- the job that is made of the files
+abbrev pub files_of : (List Text → Job) → List Row → Option Job
+files_of job rows = option_map job (files_in rows)
 
 -- what words ask for of which the first is `unused`
-abbrev pub unused_job : List Text → Option Job
-unused_job words = option_map UnusedJob (files_asked (codes "unused") words)
+unfoldable pub unused_job : List Text → Option Job
+unused_job words = asked_of (files_command (codes "unused")) (files_of UnusedJob) words
 
 -- what words ask for of which the first is `flatten`
-abbrev pub flatten_job : List Text → Option Job
-flatten_job words = option_map FlattenJob (files_asked (codes "flatten") words)
+unfoldable pub flatten_job : List Text → Option Job
+flatten_job words = asked_of (files_command (codes "flatten")) (files_of FlattenJob) words

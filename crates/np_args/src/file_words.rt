@@ -1,46 +1,65 @@
 //! The command lines of `unused` and of `flatten`, which take files alone.
-ghost use Rattle.std.specs.Prelude.{◌≡◌, Some, None, IfOk, IsErrOf, map, string_bytes};
+ghost use Rattle.std.specs.Prelude.{◌≡◌, IfOk, codes, refl};
+ghost use Rattle.clap.proofs.OnLiterals.{clap_on_literals};
 ghost use Rattle.clap.specs.Simple.{app_of};
 ghost use Rattle.np_args.specs.FileWords as spec;
-ghost use Rattle.np_args.specs.Jobs.{IsWell};
+ghost use Rattle.np_args.specs.FileWords.{flatten_job, unused_job};
+ghost use Rattle.np_args.specs.declared.job.Job.TheVariants.{Flatten as FlattenJob, Unused as UnusedJob};
 
 use crate::arguments::file;
+use crate::command_words::CommandWords;
 use crate::files::read_files;
 use crate::job::Job;
 use crate::words_fault::WordsFault;
-use clap::Command;
-use np_base::{Seq, Text};
+use clap::{ArgMatches, Command};
 use std::alloc::{AllocError, Global};
 
-/// The job of words of which the first is `unused`. `Usage` comes exactly where they ask for none.
-pub(crate) fn read_unused(alloc: Global, words: &[String]) -> Result<Job, WordsFault>
-    ensures job { IfOk result (λ job. spec.unused_job (map string_bytes words.now) ≡ Some job) }
-    ensures well { IfOk result IsWell }
-    ensures usage { IsErrOf result WordsFault.Usage → spec.unused_job (map string_bytes words.now) ≡ None }
-{
-    let files = read_file_words(alloc, "unused", words)?;
-    Ok(Job::Unused { files })
+/// The words of `unused`.
+pub(crate) struct UnusedWords;
+
+impl CommandWords for UnusedWords {
+    ghost asked = { unused_job };
+
+    ghost line = { spec.files_command (codes "unused") };
+
+    ghost made = { spec.files_of UnusedJob };
+
+    fn line<'a>(alloc: Global) -> Result<Command<'a>, AllocError> {
+        files_command(alloc, "unused")
+    }
+
+    fn job(alloc: Global, matches: &ArgMatches) -> Result<Job, WordsFault> {
+        let files = read_files(alloc, matches)?;
+        Ok(Job::Unused { files })
+    }
+
+    ghost asks = { unfold unused_job in λ words. refl };
+
+    ghost exact = { unfold clap_on_literals in refl };
 }
 
-/// The job of words of which the first is `flatten`. `Usage` comes exactly where they ask for none.
-pub(crate) fn read_flatten(alloc: Global, words: &[String]) -> Result<Job, WordsFault>
-    ensures job { IfOk result (λ job. spec.flatten_job (map string_bytes words.now) ≡ Some job) }
-    ensures well { IfOk result IsWell }
-    ensures usage { IsErrOf result WordsFault.Usage → spec.flatten_job (map string_bytes words.now) ≡ None }
-{
-    let files = read_file_words(alloc, "flatten", words)?;
-    Ok(Job::Flatten { files })
-}
+/// The words of `flatten`.
+pub(crate) struct FlattenWords;
 
-// The files that words name of which the first is the command of this name. `Usage` comes exactly where they are no such
-// words.
-fn read_file_words(alloc: Global, name: &str, words: &[String]) -> Result<Seq<Text>, WordsFault>
-    ensures files { IfOk result (λ files. spec.files_asked name.now (map string_bytes words.now) ≡ Some files) }
-    ensures usage { IsErrOf result WordsFault.Usage →
-        spec.files_asked name.now (map string_bytes words.now) ≡ None }
-{
-    let matches = files_command(alloc, name)?.try_get_matches_from(words)?;
-    read_files(alloc, &matches)
+impl CommandWords for FlattenWords {
+    ghost asked = { flatten_job };
+
+    ghost line = { spec.files_command (codes "flatten") };
+
+    ghost made = { spec.files_of FlattenJob };
+
+    fn line<'a>(alloc: Global) -> Result<Command<'a>, AllocError> {
+        files_command(alloc, "flatten")
+    }
+
+    fn job(alloc: Global, matches: &ArgMatches) -> Result<Job, WordsFault> {
+        let files = read_files(alloc, matches)?;
+        Ok(Job::Flatten { files })
+    }
+
+    ghost asks = { unfold flatten_job in λ words. refl };
+
+    ghost exact = { unfold clap_on_literals in refl };
 }
 
 // `NAME [FILE]...`

@@ -3,6 +3,7 @@
 
 mod arguments;
 mod check_words;
+mod command_words;
 mod end_word;
 mod evaluate_words;
 mod explain_words;

@@ -1,2 +1,3 @@
 pub mod Beside
 pub mod Ranges
+pub mod Texts

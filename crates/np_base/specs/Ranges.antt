@@ -1,5 +1,5 @@
 -- Lists of ranges of points, by a function from points to numbers.
-use Rattle.std.specs.Prelude.{ℕ, ◌+◌, ◌≤◌, List, [], ◌∷◌, Bool, false, ◌&&◌, ◌||◌, nat_le}
+use Rattle.std.specs.Prelude.{ℕ, ◌+◌, ◌≤◌, List, [], ◌∷◌, Bool, false, ◌&&◌, ◌||◌, nat_le, ◌==◌}
 use Rattle.np_base.specs.declared.range.Range.{Range}
 
 -- whether a number is in the range, ends included
@@ -16,3 +16,7 @@ holds number_of (range ∷ ranges) n = is_within number_of range n || holds numb
 abbrev pub IsAscending : {P : Type 0} → (P → ℕ) → ℕ → ℕ → List (Range P) → Type 0
 IsAscending number_of from last [] = Unit {0}
 IsAscending number_of from last (range ∷ ranges) = (from ≤ number_of range.lo) × (number_of range.lo ≤ number_of range.hi) × (number_of range.hi ≤ last) × IsAscending number_of (number_of range.hi + 2) last ranges
+
+-- whether two ranges have the same ends
+abbrev pub are_same_range : Range ℕ → Range ℕ → Bool
+are_same_range a b = a.lo == b.lo && a.hi == b.hi

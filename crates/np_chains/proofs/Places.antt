@@ -1,23 +1,19 @@
 -- Tests of all places, one place after another.
-use Rattle.std.proofs.Common.{◌≡◌, ℕ, zero, suc, ◌+◌, ◌<◌, List, [], ◌∷◌, ◌++◌, length, map, Bool, true, false, ◌&&◌, ◌||◌, Option, refl, sym, subst, ap, ◌∙◌, arith}
+use Rattle.std.proofs.Common.{◌≡◌, ℕ, suc, ◌+◌, ◌<◌, List, [], ◌∷◌, length, map, Bool, true, false, ◌&&◌, ◌||◌, Option, refl, sym, subst, ◌∙◌}
 use Rattle.std.specs.Prelude.{find}
 use Rattle.std.specs.List.{list_any, range_with_len}
 use Rattle.std.proofs.Math.Bool.{or-false}
-use Rattle.std.proofs.Math.Nat.{zero-add, add-zero, suc-add}
+use Rattle.std.proofs.Math.Nat.{zero-add}
 use Rattle.std.proofs.lemmas.List.{same_lists, get_or_default}
 use Rattle.std.proofs.lemmas.List.Folds.{list_any-append}
 use Rattle.std.proofs.lemmas.List.FromFn.{length-map-range_with_len, get_or-map-range_with_len}
+use Rattle.np_base.proofs.Lists.{range-more}
 use Rattle.np_chains.specs.Chains.{places, is_marked, is_at_or_over}
-
--- one number more at the end
-range_more : (a n j : ℕ) → a + n ≡ j → range_with_len a (n + 1) ≡ range_with_len a n ++ j ∷ []
-range_more a zero j is = let same : a ≡ j = sym (add-zero a) ∙ is in rw same refl
-range_more a (suc n) j is = rw (suc-add n 1) (ap (λ (rest : List ℕ). a ∷ rest) (range_more (a + 1) n j (omega arith)))
 
 -- one place more passes or not
 any_more : (test : ℕ → Bool) (n : ℕ) → list_any test (range_with_len 0 (n + 1)) ≡ (list_any test (range_with_len 0 n) || test n)
 any_more test n =
-    rw (range_more 0 n n (zero-add n)) (list_any-append test (range_with_len 0 n) (n ∷ []) ∙ rw (or-false (test n)) refl)
+    rw (range-more 0 n n (zero-add n)) (list_any-append test (range_with_len 0 n) (n ∷ []) ∙ rw (or-false (test n)) refl)
 
 -- the first place that passes is a later one, where this one does not
 pub find_past : (test : ℕ → Bool) (place left rest : ℕ) → left ≡ suc rest → test place ≡ false → find test (range_with_len place left) ≡ find test (range_with_len (place + 1) rest)

@@ -6,8 +6,10 @@ use Rattle.std.proofs.lemmas.Bool.{and_parts, ne_eqb}
 use Rattle.std.proofs.lemmas.List.{append-nil, map-append}
 use Rattle.std.proofs.lemmas.List.Elements.{All-weaker, filter-append}
 use Rattle.std.proofs.lemmas.List.Folds.{position_or_len_push}
+use Rattle.std.specs.Cmp.{both_ways}
+use Rattle.np_base.proofs.Lists.{slice_get-push_same}
 use Rattle.np_classes.specs.Classes.{IsAlike, class_of, firsts, is_first, places}
-use Rattle.np_classes.proofs.Lists.{same_answer, any_weaker, any_filter, map_agree_on, places_more, All-places, place_that_passes, slice_get-last}
+use Rattle.np_classes.proofs.Lists.{any_weaker, any_filter, map_agree_on, places_more, All-places, place_that_passes}
 use Rattle.np_classes.proofs.Relations.{firsts_within, has_first, class_within, class_of_first}
 
 module _ (alike : ℕ → ℕ → Bool) (count : ℕ) (lawful : IsAlike alike (count + 1)) where
@@ -26,7 +28,7 @@ module _ (alike : ℕ → ℕ → Bool) (count : ℕ) (lawful : IsAlike alike (c
   -- where the last place is alike to an earlier one, it is alike to a first one
   tied_to_first : tied_before (places count) ≡ tied_before (firsts alike count)
   unfolding firsts
-  tied_to_first = same_answer (tied_before (places count)) (tied_before (firsts alike count)) to from
+  tied_to_first = both_ways (tied_before (places count)) (tied_before (firsts alike count)) to from
     where
       to : tied_before (places count) ≡ true → tied_before (firsts alike count) ≡ true
       to found =
@@ -64,7 +66,7 @@ module _ (alike : ℕ → ℕ → Bool) (count : ℕ) (lawful : IsAlike alike (c
   -- a new class has the next number
   pub last_of_new : tied_before (firsts alike count) ≡ false → class_of alike (count + 1) count ≡ length (firsts alike count)
   last_of_new apart =
-      class_of_first alike (count + 1) lawful (length (firsts alike count)) count (rw (firsts_grow apart) (slice_get-last (firsts alike count) count))
+      class_of_first alike (count + 1) lawful (length (firsts alike count)) count (rw (firsts_grow apart) (slice_get-push_same (firsts alike count) count))
 
   -- the classes of the places before stay as they are
   earlier_stay : (place : ℕ) → place < count → class_of alike (count + 1) place ≡ class_of alike count place

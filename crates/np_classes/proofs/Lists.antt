@@ -1,7 +1,7 @@
 -- Lists of places, and tests that agree on the items of a list.
-use Rattle.std.proofs.Common.{◌≡◌, ℕ, zero, suc, ◌+◌, ◌<◌, List, [], ◌∷◌, ◌++◌, length, map, Bool, true, false, cond, ◌&&◌, ◌||◌, All, Some, None, nat_lt, refl, sym, subst, ap, ◌∙◌, arith, add-zero}
-use Rattle.std.proofs.Common.{zero-add, suc-add}
-use Rattle.std.specs.Prelude.{filter, position, slice_get}
+use Rattle.std.proofs.Common.{◌≡◌, ℕ, ◌+◌, ◌<◌, List, [], ◌∷◌, ◌++◌, length, map, Bool, true, false, cond, ◌&&◌, ◌||◌, All, Some, None, nat_lt, refl, sym, subst, ap, ◌∙◌, arith}
+use Rattle.std.proofs.Common.{zero-add}
+use Rattle.std.specs.Prelude.{filter, position}
 use Rattle.std.specs.List.{list_any, position_from, position_or_len, range_with_len}
 use Rattle.std.specs.List.Sorted.{IsStrictlyIncreasing}
 use Rattle.std.specs.Option.{option_or}
@@ -13,15 +13,10 @@ use Rattle.std.proofs.lemmas.List.Folds.{list_any_at, Any-from_list_any}
 use Rattle.std.proofs.lemmas.List.FromFn.{length-range_with_len, get_or-range_with_len}
 use Rattle.std.proofs.lemmas.List.Sums.{passes_at_first}
 use Rattle.std.proofs.lemmas.Option.{cond_some, none-some}
+use Rattle.np_base.proofs.Lists.{range-more, position_from-push}
 use Rattle.np_classes.specs.Classes.{places}
 
 -- ---- tests
-
--- what two answers say of each other makes them one
-pub same_answer : (a b : Bool) → (a ≡ true → b ≡ true) → (b ≡ true → a ≡ true) → a ≡ b
-same_answer true b to from = sym (to refl)
-same_answer false true to from = from refl
-same_answer false false to from = refl
 
 module _ {X : Type 0} (p q : X → Bool) where
   pub filter_agree_on : (xs : List X) → All (λ x. p x ≡ q x) xs → filter p xs ≡ filter q xs
@@ -74,13 +69,9 @@ position_within p (x ∷ xs) found = by (p x) refl (position_within p xs)
 
 -- ---- places
 
-range_more : (a n j : ℕ) → a + n ≡ j → range_with_len a (n + 1) ≡ range_with_len a n ++ j ∷ []
-range_more a zero j is = let same : a ≡ j = sym (add-zero a) ∙ is in rw same refl
-range_more a (suc n) j is = rw (suc-add n 1) (ap (λ (rest : List ℕ). a ∷ rest) (range_more (a + 1) n j (omega arith)))
-
 -- one place more
 pub places_more : (n : ℕ) → places (n + 1) ≡ places n ++ n ∷ []
-places_more n = range_more 0 n n (zero-add n)
+places_more n = range-more 0 n n (zero-add n)
 
 -- what holds below a count holds of each place
 pub All-places : (P : ℕ → Type 0) (n : ℕ) → ((k : ℕ) → k < n → P k) → All P (places n)
@@ -108,17 +99,6 @@ range_increases a n k below =
 pub places_increase : (n : ℕ) → IsStrictlyIncreasing (places n)
 places_increase = range_increases 0
 
--- ---- one item more
-
-pub slice_get-front : {X : Type 0} (xs : List X) (last : X) (k : ℕ) → k < length xs → slice_get (xs ++ last ∷ []) k ≡ slice_get xs k
-slice_get-front [] last k within = absurd (omega arith)
-slice_get-front (x ∷ xs) last zero within = refl
-slice_get-front (x ∷ xs) last (suc k) within = slice_get-front xs last k (omega (arith, within))
-
-pub slice_get-last : {X : Type 0} (xs : List X) (last : X) → slice_get (xs ++ last ∷ []) (length xs) ≡ Some last
-slice_get-last [] last = refl
-slice_get-last (x ∷ xs) last = slice_get-last xs last
-
 -- ---- first places that pass
 
 pub position_agree : {X : Type 0} (p q : X → Bool) (xs : List X) → All (λ x. p x ≡ q x) xs → position p xs ≡ position q xs
@@ -142,16 +122,3 @@ position-push p xs last =
     position_from-zero p (xs ++ last ∷ []) ∙ position_from-push p 0 xs last
     ∙ ap (λ n. option_or (position_from p 0 xs) (cond (p last) (Some n) None)) (zero-add (length xs))
     ∙ ap (λ o. option_or o (cond (p last) (Some (length xs)) None)) (sym (position_from-zero p xs))
-  where
-    position_from-push : {X : Type 0} (p : X → Bool) (from : ℕ) (xs : List X) (last : X) →
-        position_from p from (xs ++ last ∷ []) ≡ option_or (position_from p from xs) (cond (p last) (Some (from + length xs)) None)
-    position_from-push p from [] last = rw add-zero refl
-    position_from-push p from (x ∷ xs) last = by (p x) (position_from-push p (from + 1) xs last)
-      where
-        same : from + 1 + length xs ≡ from + length (x ∷ xs)
-        same = omega arith
-
-        by : (b : Bool) → position_from p (from + 1) (xs ++ last ∷ []) ≡ option_or (position_from p (from + 1) xs) (cond (p last) (Some (from + 1 + length xs)) None) →
-            cond b (Some from) (position_from p (from + 1) (xs ++ last ∷ [])) ≡ option_or (cond b (Some from) (position_from p (from + 1) xs)) (cond (p last) (Some (from + length (x ∷ xs))) None)
-        by true behind = refl
-        by false behind = behind ∙ ap (λ n. option_or (position_from p (from + 1) xs) (cond (p last) (Some n) None)) same

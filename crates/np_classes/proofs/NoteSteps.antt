@@ -9,17 +9,14 @@ use Rattle.std.specs.Ordering.{is_eq}
 use Rattle.std.proofs.lemmas.List.{length_push}
 use Rattle.std.proofs.lemmas.List.Elements.{All-weaker}
 use Rattle.std.proofs.lemmas.List.FromFn.{length-map-range_with_len}
+use Rattle.np_base.proofs.Lists.{slice_get-push_other, slice_get-push_same}
+use Rattle.np_base.proofs.Options.{option_or-none}
 use Rattle.np_classes.specs.Classes.{IsAlike, class_of, firsts, keys_tie, of_both, places}
 use Rattle.np_classes.specs.Noted.{HoldsClasses, ties_at, class_by_key}
 use Rattle.np_classes.proofs.Growing.{firsts_stay, firsts_grow, last_of_earlier, last_of_new, numbers_more}
 use Rattle.np_classes.proofs.KeyTies.{keys_are_alike, tie-back, tie-onward}
-use Rattle.np_classes.proofs.Lists.{map_agree_on, All-places, position_agree, slice_get-front, slice_get-last, at_position, no_position, position-push}
+use Rattle.np_classes.proofs.Lists.{map_agree_on, All-places, position_agree, at_position, no_position, position-push}
 use Rattle.np_classes.proofs.Relations.{firsts_within, firsts-le-count, firsts_agree, class_of_agree}
-
--- nothing more to choose
-or_none : {X : Type 0} (o : Option X) → option_or o None ≡ o
-or_none None = refl
-or_none (Some x) = refl
 
 -- of no key
 pub HoldsClasses-none : {K : Type 0} (compare : K → K → Ordering) (known : BTreeMap K ℕ) → known.entries ≡ [] → HoldsClasses compare [] known [] []
@@ -55,7 +52,7 @@ module _ {K : Type 0} (compare : K → K → Ordering) (total : IsTotalOrder com
 
   -- the keys before stay at their places
   alike_before : (a b : ℕ) → a < count → b < count → keys_tie compare earlier a b ≡ alike a b
-  alike_before a b in_a in_b = rw (slice_get-front earlier key a in_a, slice_get-front earlier key b in_b) refl
+  alike_before a b in_a in_b = rw (slice_get-push_other earlier key a in_a, slice_get-push_other earlier key b in_b) refl
 
   -- so they have the classes that they had
   same_firsts : firsts (keys_tie compare earlier) count ≡ firsts alike count
@@ -76,11 +73,11 @@ module _ {K : Type 0} (compare : K → K → Ordering) (total : IsTotalOrder com
       ap (position (ties_at compare earlier other)) same_firsts
       ∙ position_agree (ties_at compare earlier other) (ties_at compare later other) (firsts alike count)
       (All-weaker (λ first. first < count) (λ first. ties_at compare earlier other first ≡ ties_at compare later other first)
-      (λ first below. rw (slice_get-front earlier key first below) refl) (firsts alike count) (firsts_within alike count))
+      (λ first below. rw (slice_get-push_other earlier key first below) refl) (firsts alike count) (firsts_within alike count))
 
   -- the last key is at the last place
   at_last : position (λ first. alike first count) (firsts alike count) ≡ class_so_far key
-  at_last = rw (slice_get-last earlier key) refl
+  at_last = rw (slice_get-push_same earlier key) refl
 
   -- a key of an earlier class
   pub HoldsClasses-earlier : (known : BTreeMap K ℕ) (first_places numbers more : List ℕ) (number : ℕ) → get compare known key ≡ Some number → more ≡ numbers ++ number ∷ []
@@ -109,7 +106,7 @@ module _ {K : Type 0} (compare : K → K → Ordering) (total : IsTotalOrder com
     of_keys = λ other. noted other ∙ by other (is_eq (compare key other)) refl
         ∙ sym (rw length_push (ap (position (ties_at compare later other)) grown ∙ position-push (ties_at compare later other) (firsts alike count) count
         ∙ ap (λ (last : Option K). option_or (class_so_far other) (cond (of_both (λ x y. is_eq (compare x y)) last (Some other)) (Some (length (firsts alike count))) None))
-        (slice_get-last earlier key)));
+        (slice_get-push_same earlier key)));
   }
     where
       known_firsts : first_places ≡ firsts alike count
@@ -137,4 +134,4 @@ module _ {K : Type 0} (compare : K → K → Ordering) (total : IsTotalOrder com
 
       by : (other : K) (b : Bool) → is_eq (compare key other) ≡ b → cond b (Some number) (get compare known other) ≡ option_or (class_so_far other) (cond b (Some (length (firsts alike count))) None)
       by other true tied = rw (tied_free other tied, in_number) refl
-      by other false apart = held.of_keys other ∙ same_class_so_far other ∙ sym (or_none (class_so_far other))
+      by other false apart = held.of_keys other ∙ same_class_so_far other ∙ sym (option_or-none (class_so_far other))

@@ -10,8 +10,9 @@ use Rattle.std.proofs.lemmas.List.FromFn.{length-range_with_len}
 use Rattle.std.proofs.lemmas.List.Kept.{AllPairs-from_increasing, IsStrictlyIncreasing-filter}
 use Rattle.std.proofs.lemmas.List.Sums.{count_by-le-length, length-filter, passes_at_first, position_or_len_is}
 use Rattle.std.proofs.lemmas.Option.{same_Some, slice_get-get_or, slice_get_within, get_or_from_slice_get}
+use Rattle.std.specs.Cmp.{both_ways}
 use Rattle.np_classes.specs.Classes.{IsAlike, class_of, firsts, is_first, members, places}
-use Rattle.np_classes.proofs.Lists.{same_answer, filter_agree_on, any_agree_on, any_weaker, any_filter, position_agree_on, position_within, places_increase, All-places, any_place, place_that_passes}
+use Rattle.np_classes.proofs.Lists.{filter_agree_on, any_agree_on, any_weaker, any_filter, position_agree_on, position_within, places_increase, All-places, any_place, place_that_passes}
 
 -- ---- first places
 
@@ -111,7 +112,7 @@ module _ (alike : ℕ → ℕ → Bool) where
   same_class count lawful a b in_a in_b tied =
       position_agree_on (λ first. alike first a) (λ first. alike first b) (firsts alike count)
       (All-weaker (λ first. first < count) (λ first. alike first a ≡ alike first b)
-      (λ first below. same_answer (alike first a) (alike first b)
+      (λ first below. both_ways (alike first a) (alike first b)
       (λ near. lawful.onward first a b below in_a in_b near tied)
       (λ near. lawful.onward first b a below in_b in_a near (lawful.both_ways a b in_a in_b tied)))
       (firsts alike count) (firsts_within count))
@@ -128,7 +129,7 @@ module _ (alike : ℕ → ℕ → Bool) where
   members_of_class count lawful place within =
       filter_agree_on (alike place) (λ other. class_of alike count other == class_of alike count place) (places count)
       (All-places (λ other. alike place other ≡ (class_of alike count other == class_of alike count place)) count
-      (λ other below. same_answer (alike place other) (class_of alike count other == class_of alike count place)
+      (λ other below. both_ways (alike place other) (class_of alike count other == class_of alike count place)
       (λ tied. eq-eqb (class_of alike count other) (class_of alike count place) (sym (same_class count lawful place other within below tied)))
       (λ same. alike_in_class count lawful place other within below (sym (eqb-true (class_of alike count other) (class_of alike count place) same)))))
 

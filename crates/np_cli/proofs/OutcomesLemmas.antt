@@ -1,8 +1,9 @@
 -- What a run leaves, from why it ends as it does.
-use Rattle.std.proofs.Common.{◌≡◌, ℕ, List, [], ◌∷◌, ◌++◌, append-nil, Bool, true, false, Option, Some, None, Result, Ok, Err, refl, sym, ap, subst, ◌∙◌, inl, inr}
+use Rattle.std.proofs.Common.{◌≡◌, ℕ, List, [], ◌∷◌, ◌++◌, Bool, true, false, Option, Some, None, Result, Ok, Err, refl, sym, ap, subst, ◌∙◌, inl, inr}
 use Rattle.std.specs.Io.KnownBytes.{append_known}
 use Rattle.std.specs.Prelude.{◌⊎◌}
 use Rattle.np_io.specs.Taken.{TookFront, TookLess}
+use Rattle.np_io.proofs.TakenLemmas.{append_known-nil}
 use Rattle.np_args.specs.declared.job.Job.{Job}
 use Rattle.np_args.specs.declared.job.Job.TheVariants.{Check, Evaluate, Explain, Exposure, Flatten, List as ListJob, Sample, Unused}
 use Rattle.np_cli.proofs.HeadlineLemmas.{refuses-for, says-of}
@@ -82,13 +83,9 @@ none-left : (front rest : List ℕ) → [] ≡ front ++ rest → front ≡ []
 none-left [] rest parts = refl
 none-left (x ∷ front) rest parts = cc
 
-taken-none : (old : Option (List ℕ)) → append_known old [] ≡ old
-taken-none None = refl
-taken-none (Some bytes) = ap Some (append-nil bytes)
-
 -- of nothing, nothing was taken
 took-none : (old new : Option (List ℕ)) → TookLess old new [] → new ≡ old
-took-none old new less = less.taken ∙ ap (append_known old) (none-left less.front less.rest less.parts) ∙ taken-none old
+took-none old new less = less.taken ∙ ap (append_known old) (none-left less.front less.rest less.parts) ∙ append_known-nil old
 
 -- what want of memory may leave of told bytes
 abbrev LeftLess : Run → List (List ℕ) → Type 0

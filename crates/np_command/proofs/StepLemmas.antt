@@ -1,13 +1,12 @@
 -- What is due for all rows of a table is within what a list may count.
-use Rattle.std.proofs.Common.{◌≡◌, ℕ, ◌+◌, ◌*◌, ◌≤◌, Bool, length, arith, refl, sym, subst, [], ◌∷◌, List, Option, None, Some}
-use Rattle.std.proofs.lemmas.List.FromFn.{length-range_with_len}
-use Rattle.std.proofs.lemmas.List.Sums.{count_by-le-length, length-filter}
+use Rattle.std.proofs.Common.{◌≡◌, ℕ, ◌+◌, ◌*◌, ◌≤◌, length, arith, refl, sym, subst, [], ◌∷◌, List, Option, None, Some}
 use Rattle.std.proofs.Math.Nat.{mul-le-mul_left, mul-le-mul_right}
 use Rattle.np_command.specs.TableSteps.{list_steps}
 use Rattle.np_model.specs.declared.lists.EstateLists.{EstateLists}
-use Rattle.np_classes.specs.Classes.{firsts, is_first, places}
+use Rattle.np_classes.specs.Classes.{firsts}
 use Rattle.np_fold.proofs.WorkloadLemmas.{workloads-count}
 use Rattle.np_fold.specs.Workloads.{Folding, folding_of, kinds_alike, workload_count}
+use Rattle.np_fold.proofs.PartLemmas.{length-firsts}
 use Rattle.np_table.specs.ToCome.{most_rules}
 use Rattle.std.specs.Prelude.{MatchOption}
 use Rattle.np_table.specs.declared.rows.Row.{Row}
@@ -21,10 +20,6 @@ due-within lists workloads kinds is fewer =
     let all : 4 * workloads * kinds + 6 * workloads ≤ 4 * workloads * workloads + 6 * workloads = omega (arith, pairs) in
     subst (λ (n : ℕ). (4 * workloads * kinds + 6 * workloads) * most_rules lists (folding_of lists) ≤ (4 * n * n + 6 * n) * most_rules lists (folding_of lists)) is
     (mul-le-mul_right (most_rules lists (folding_of lists)) all)
-
-length-firsts : (alike : ℕ → ℕ → Bool) (count : ℕ) → length (firsts alike count) ≤ count
-unfolding firsts
-length-firsts alike count = omega (arith, length-filter (is_first alike) (places count), count_by-le-length (is_first alike) (places count), length-range_with_len 0 count)
 
 pub kinds-fewer : (lists : EstateLists) → (folding_of lists).kind_count ≤ length (folding_of lists).workloads
 unfolding folding_of

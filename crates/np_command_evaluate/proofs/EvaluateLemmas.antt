@@ -1,6 +1,7 @@
 -- Words that name pods, and ends that are not there.
-use Rattle.std.proofs.Common.{◌≡◌, ℕ, List, [], ◌∷◌, ◌++◌, Bool, true, false, ◌&&◌, ◌==◌, length, take, drop, refl, ap, ◌∙◌, Result, Ok, Err, subst, sym}
+use Rattle.std.proofs.Common.{◌≡◌, ℕ, List, [], ◌∷◌, ◌++◌, Bool, ◌&&◌, ◌==◌, length, take, drop, refl, ap, ◌∙◌, Result, Ok, Err, subst, sym}
 use Rattle.std.specs.Str.{bytes_eq}
+use Rattle.np_base.proofs.Bools.{and-leftwards}
 use Rattle.np_args.specs.declared.end_word.EndWord.{EndWord}
 use Rattle.np_command.proofs.WroteLemmas.{Wrote-refused}
 use Rattle.np_command.specs.Inputs.{Refuses}
@@ -18,11 +19,7 @@ pub bytes_eq_parts : (word front rest : List ℕ) → bytes_eq word (front ++ re
 bytes_eq_parts word [] rest = refl
 bytes_eq_parts [] (a ∷ front) rest = refl
 bytes_eq_parts (b ∷ word) (a ∷ front) rest =
-    ap (λ (more : Bool). (b == a) && more) (bytes_eq_parts word front rest) ∙ together (b == a) (bytes_eq (take (length front) word) front) (bytes_eq (drop (length front) word) rest)
-  where
-    together : (x y z : Bool) → (x && (y && z)) ≡ ((x && y) && z)
-    together true y z = refl
-    together false y z = refl
+    ap (λ (more : Bool). (b == a) && more) (bytes_eq_parts word front rest) ∙ and-leftwards (b == a) (bytes_eq (take (length front) word) front) (bytes_eq (drop (length front) word) rest)
 
 -- behind a source that is known, the fault of the destination is that of the reply
 pub wrote-unknown : (out : SinkTrace) (from to : EndWord) (spot : PortSpot) (lists : EstateLists) (source : End) (failure : Failure) → known_end lists from ≡ Ok source →

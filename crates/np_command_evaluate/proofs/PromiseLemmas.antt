@@ -17,6 +17,7 @@ use Rattle.np_command.specs.Prints.{fault_in, text_in}
 use Rattle.np_command.specs.Sinks.{SinkTrace, TookWhole}
 use Rattle.np_command.specs.declared.fault.Fault.{Fault}
 use Rattle.np_command.specs.declared.fault.Fault.TheVariants.{SameEnd, UnknownEnd}
+use Rattle.np_command.proofs.EndLemmas.{no_fault_at}
 use Rattle.np_command_evaluate.specs.Promise.{EvaluatesAll, NamesListed, NamesNoneListed, RefusesEvaluate, no_destination, no_source, one_pod}
 use Rattle.np_command_evaluate.specs.Report.{between, end_named, evaluate_reply, is_listed_as, known_end, lines_or, pod_word, verdict_lines}
 use Rattle.np_conns.specs.declared.port_spot.PortSpot.{PortSpot}
@@ -95,9 +96,6 @@ one_place (end.Pod p) (end.At address) one = absurd (false≢true one)
 one_place (end.At address) destination one = absurd (false≢true one)
 
 -- ---- what is said
-
-no_fault_at : (fault : Fault) → Some fault ≡ None → ⊥
-no_fault_at fault is = cc
 
 says_ends : (out : SinkTrace) (from to : EndWord) (spot : PortSpot) (texts : List (List ℕ)) (lists : EstateLists) (source destination : Result End Fault) → lists_of texts ≡ Ok lists → IsLawful lists
     → known_end lists from ≡ source → known_end lists to ≡ destination → fault_in (between lists from to spot source destination) ≡ None

@@ -1,11 +1,12 @@
 -- What a report of `explain` says.
-use Rattle.std.proofs.Common.{◌≡◌, ◌≢◌, ◌<◌, ℕ, zero, suc, List, [], ◌∷◌, cond, length, get_or, Bool, true, false, ◌==◌, Less, Equal, inr, Contains, Option, None, Some, Result, Ok, Err, if◌then◌else◌}
+use Rattle.std.proofs.Common.{◌≡◌, ◌≢◌, ◌<◌, ℕ, List, [], ◌∷◌, cond, length, get_or, Bool, true, false, ◌==◌, Less, Equal, inr, Contains, Option, None, Some, Result, Ok, Err, if◌then◌else◌}
 use Rattle.std.proofs.Common.{arith, refl, sym, ap, subst, ◌∙◌}
 use Rattle.std.proofs.lemmas.Bool.{eq-eqb, false≢true, ne_eqb}
 use Rattle.std.proofs.lemmas.Map.Keys.{Less-from_sorted}
 use Rattle.std.proofs.lemmas.Cmp.{nat_cmp_total}
 use Rattle.std.specs.Cmp.{tied_itself}
 use Rattle.std.specs.Ordering.{nat_cmp}
+use Rattle.np_base.proofs.Lists.{Contains-one}
 use Rattle.np_addr.specs.declared.address.Address.{Address}
 use Rattle.np_addr.specs.declared.address.Family.{Family}
 use Rattle.np_addr.specs.declared.address.Family.TheVariants.{Four, Six}
@@ -197,14 +198,9 @@ right-for lists s d s' d' family made first second =
 
 -- ---- families
 
--- the family that is asked about is that of the packets between two ends
-contained-one : (x family : Family) → Contains (x ∷ []) family → x ≡ family
-contained-one x family (zero, within, is) = is
-contained-one x family (suc n, within, is) = absurd (omega arith)
-
 only-contained : (families : List Family) (one family : Family) → only_family families ≡ Some one → Contains families family → one ≡ family
 only-contained [] one family is has = absurd (cc)
-only-contained (x ∷ []) one family is has = cc (contained-one x family has)
+only-contained (x ∷ []) one family is has = cc (Contains-one x family has)
 only-contained (x ∷ y ∷ more) one family is has = absurd (cc)
 
 asked-family : (lists : EstateLists) (source destination : AskedEnd) (s d : End) (one family : Family) → IsOf lists source s → IsOf lists destination d → IsFamilyBetween lists s d family

@@ -5,21 +5,21 @@ use Rattle.std.proofs.lemmas.Bool.{cases_eq, cases_order, false≢true, true≢f
 use Rattle.std.proofs.lemmas.List.{get_or-map, length-map}
 use Rattle.std.proofs.lemmas.List.Elements.{Contains-get_or}
 use Rattle.std.proofs.lemmas.List.Folds.{list_any_at}
-use Rattle.std.proofs.lemmas.List.Quantifiers.{position-Some}
 use Rattle.std.proofs.lemmas.Map.Keys.{Less-from_sorted}
 use Rattle.std.proofs.lemmas.Option.{slice_get-get_or}
 use Rattle.std.proofs.lemmas.Slice.Eq.{bytes_eq-Decides}
-use Rattle.std.specs.Cmp.Lexicographic.{nat_list_cmp_total, slice_cmp}
+use Rattle.std.specs.Cmp.Lexicographic.{slice_cmp}
 use Rattle.std.specs.List.Sorted.{IsStrictlySortedBy}
 use Rattle.std.specs.Option.{option_map_or}
-use Rattle.std.specs.Ordering.{nat_cmp, ordering_reverse}
+use Rattle.std.specs.Ordering.{nat_cmp}
 use Rattle.std.specs.Str.{bytes_eq}
+use Rattle.np_base.proofs.Orders.{not-before}
 use Rattle.np_addr.specs.declared.address.Address.{Address}
 use Rattle.np_args.specs.declared.end_word.EndWord.{EndWord}
 use Rattle.np_args.specs.declared.end_word.EndWord.TheVariants as word
 use Rattle.np_classes.proofs.Lists.{no_position}
 use Rattle.np_classes.proofs.Relations.{firsts-le-count}
-use Rattle.np_command.proofs.EndLemmas.{named_workload}
+use Rattle.np_command.proofs.EndLemmas.{named_workload, found-named}
 use Rattle.np_command.specs.Ends.{end_text, or_unknown}
 use Rattle.np_command.specs.declared.fault.Fault.{Fault}
 use Rattle.np_command.specs.declared.fault.Fault.TheVariants.{UnknownEnd}
@@ -55,13 +55,6 @@ AsksFor lists (word.Named name) (Work number) = number_named (folding_of lists) 
 names-ascend : (lists : EstateLists) → IsLawful lists → IsStrictlySortedBy (slice_cmp nat_cmp) (map (λ (one : Workload). one.name) (workloads_of lists))
 names-ascend lists lawful = let count = firsts-le-count (pods_alike lists) (length lists.pods) in let most = lawful.few.pods in workloads-by_name lists (omega (arith, count, most))
 
--- no text comes before itself
-not-before : (text : List ℕ) → slice_cmp nat_cmp text text ≡ Less → ⊥
-not-before text less =
-    let turned : slice_cmp nat_cmp text text ≡ ordering_reverse (slice_cmp nat_cmp text text) = nat_list_cmp_total.antisymm text text in
-    let never = sym less ∙ turned ∙ ap ordering_reverse less in
-    absurd cc
-
 -- a workload at an earlier place has another name
 earlier-differs : (lists : EstateLists) (a b : ℕ) (d : Workload) → IsLawful lists → a < b → b < length (workloads_of lists)
     → (get_or (workloads_of lists) a d).name ≡ (get_or (workloads_of lists) b d).name → ⊥
@@ -87,14 +80,6 @@ one-name lists a b d lawful a_in b_in same =
     ]
 
 -- ---- pods of the workload of a name
-
--- the workload at the number of a name has it
-found-named : (lists : EstateLists) (name : List ℕ) (number : ℕ) (d : Workload) → number_named (folding_of lists) name ≡ Some number
-    → (number < length (workloads_of lists)) × ((get_or (workloads_of lists) number d).name ≡ name)
-unfolding folding_of
-found-named lists name number d is =
-    let found = position-Some (λ (one : Workload). bytes_eq one.name name) (workloads_of lists) number d is in
-    (found.0, (bytes_eq-Decides (get_or (workloads_of lists) number d).name name).0 found.1)
 
 -- and its pods are those of the number
 members-at : (lists : EstateLists) (number : ℕ) (d : Workload) → number < length (workloads_of lists) → members_of (folding_of lists) number ≡ (get_or (workloads_of lists) number d).members

@@ -7,6 +7,7 @@ use Rattle.np_command.specs.Prints.{fault_in, text_in}
 use Rattle.np_command.specs.Sinks.{SinkTrace, TookWhole}
 use Rattle.np_command.specs.declared.fault.Fault.{Fault}
 use Rattle.np_command.specs.declared.fault.Fault.TheVariants.{SameEnd}
+use Rattle.np_command.proofs.EndLemmas.{no_fault_at}
 use Rattle.np_command_explain.proofs.ExplainLemmas.{asked-there, ends-between, ends-there, explained}
 use Rattle.np_command_explain.proofs.NamedLemmas.{AsksFor, all-one, asked-is, far-named, near-named, none-asked}
 use Rattle.np_command_explain.specs.Promise.{ExplainsAll, NamesSome, RefusesExplain, no_destination, no_source, one_pod}
@@ -16,9 +17,6 @@ use Rattle.np_command_explain.specs.declared.report.Ends.{Ends}
 use Rattle.np_fold.specs.Workloads.{folding_of}
 use Rattle.np_model.specs.Lawful.{IsLawful}
 use Rattle.np_model.specs.declared.lists.EstateLists.{EstateLists}
-
-no_fault_at : (fault : Fault) → Some fault ≡ None → ⊥
-no_fault_at fault is = cc
 
 no_ends : (fault : Fault) (ends : Ends) → Err fault ≡ Ok ends → ⊥
 no_ends fault ends is = cc

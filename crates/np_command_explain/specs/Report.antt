@@ -12,7 +12,6 @@ use Rattle.np_command.specs.declared.fault.Fault.TheVariants.{SameEnd}
 use Rattle.np_conns.specs.Conns.{has_spot}
 use Rattle.np_conns.specs.ConnsText.{conns_text}
 use Rattle.np_model.specs.declared.lists.EstateLists.{EstateLists}
-use Rattle.np_rules.specs.Texts.{direction_text}
 pub use Rattle.np_explain.specs.PartLine.{part_line}
 use Rattle.np_explain.specs.Explanations.{explanation_of, same_sides}
 use Rattle.np_explain.specs.declared.explanation.Explanation.{Explanation}
@@ -20,6 +19,7 @@ use Rattle.np_explain.specs.declared.part.Part.{Part}
 use Rattle.np_fold.specs.Workloads.{Folding, folding_of, number_named}
 use Rattle.np_model.specs.declared.direction.Direction.{Direction}
 use Rattle.np_model.specs.declared.direction.Direction.TheVariants.{Ingress, Egress}
+use Rattle.np_model.specs.Words.{direction_text}
 use Rattle.np_report.specs.RowText.{family_suffix}
 use Rattle.np_rules.specs.declared.packet.End.{End}
 use Rattle.np_rules.specs.declared.packet.End.TheVariants as end

@@ -7,6 +7,7 @@ use Rattle.std.proofs.lemmas.Bool.Decides.{nat_tests}
 use Rattle.std.proofs.lemmas.Grind.{flat_map-append}
 use Rattle.std.proofs.lemmas.List.Elements.{All-from_recursion}
 use Rattle.std.specs.List.{AllByRecursion, range_with_len}
+use Rattle.np_base.proofs.Lists.{drop-ended}
 use Rattle.np_command.specs.Inputs.{Refuses}
 use Rattle.np_command_exposure.specs.Report.{both_sides, first_fault, nothing_unless, or_later, side_rows, weight_at, weight_fault}
 use Rattle.np_command_exposure.specs.declared.report.ShownSide.{ShownSide}
@@ -99,12 +100,6 @@ few-all lists sides none = All-from_recursion (λ (side : ShownSide). weight_at 
 
 -- ---- what is left of the text
 
-drop-past : {X : Type 0} (xs : List X) (i : ℕ) → length xs ≤ i → drop i xs ≡ []
-drop-past [] zero within = refl
-drop-past [] (suc i) within = refl
-drop-past (x ∷ xs) zero within = absurd (omega arith)
-drop-past (x ∷ xs) (suc i) within = drop-past xs i (omega arith)
-
 some-rows : (rows : List RowText) (empty : Bool) → empty ≡ (length rows == 0) → is_some_row rows ≡ not empty
 some-rows [] empty is = ap not (sym is)
 some-rows (row ∷ rows) empty is = ap not (sym (is ∙ ne_eqb (length (row ∷ rows)) 0 (λ none. absurd (omega (arith, none)))))
@@ -125,4 +120,4 @@ left-next form lists sides i d came rows empty within made none =
 -- behind the last side it is the end
 pub left-none : (form : Form) (lists : EstateLists) (sides : List ShownSide) (i : ℕ) (came : Bool) → length sides ≤ i
     → text_to_come form came (flat_map (side_rows lists) (drop i sides)) ≡ form.end came
-left-none form lists sides i came within = ap (λ (left : List ShownSide). text_to_come form came (flat_map (side_rows lists) left)) (drop-past sides i within)
+left-none form lists sides i came within = ap (λ (left : List ShownSide). text_to_come form came (flat_map (side_rows lists) left)) (drop-ended sides i within)

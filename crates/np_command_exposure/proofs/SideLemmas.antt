@@ -7,7 +7,6 @@ use Rattle.std.proofs.lemmas.Bool.{true≢false}
 use Rattle.std.proofs.lemmas.Bool.Decides.{nat_tests}
 use Rattle.std.proofs.lemmas.List.Elements.{All-contains, All-from_recursion, Contains-get_or}
 use Rattle.std.proofs.lemmas.List.Folds.{list_any_at}
-use Rattle.std.proofs.lemmas.List.Quantifiers.{position-Some}
 use Rattle.std.proofs.lemmas.Option.{slice_get-get_or}
 use Rattle.std.proofs.lemmas.Slice.Eq.{bytes_eq-Decides}
 use Rattle.std.specs.List.{AllByRecursion, range_with_len}
@@ -17,6 +16,7 @@ use Rattle.np_classes.proofs.Lists.{no_position}
 use Rattle.np_command.specs.Ends.{or_unknown}
 use Rattle.np_command.specs.declared.fault.Fault.{Fault}
 use Rattle.np_command.specs.declared.fault.Fault.TheVariants.{TooManyPatterns, UnknownEnd}
+use Rattle.np_command.proofs.EndLemmas.{no_workload, found-named}
 use Rattle.np_command_exposure.proofs.ExposureLemmas.{both-none, few-at}
 use Rattle.np_command_exposure.specs.Promise.{AreAsked, IsFirstOver, SaysWhatIsExposed, WorkloadSide, sides_of, texts_of, weight_of}
 use Rattle.np_command_exposure.specs.Report.{both_sides, first_fault, or_later, row_text, side_rows, sides_shown, weight_at, weight_fault}
@@ -116,14 +116,6 @@ all-shown lists shown is =
     let same : all ≡ shown = one_ok (sides_shown None lists) all shown refl is in
     subst (λ (some : List ShownSide). AreSidesOf lists some (flat_map sides_of (workloads_of lists))) same (all-are lists 0 (workloads_of lists) refl (omega arith))
 
--- the workload at the number of a name has it
-found-named : (lists : EstateLists) (name : List ℕ) (number : ℕ) (d : Workload) → number_named (folding_of lists) name ≡ Some number
-    → (number < length (workloads_of lists)) × ((get_or (workloads_of lists) number d).name ≡ name)
-unfolding folding_of
-found-named lists name number d is =
-    let found = position-Some (λ (one : Workload). bytes_eq one.name name) (workloads_of lists) number d is in
-    (found.0, (bytes_eq-Decides (get_or (workloads_of lists) number d).name name).0 found.1)
-
 -- a name without a number is no workload's
 unnamed : (lists : EstateLists) (name : List ℕ) → number_named (folding_of lists) name ≡ None → (one : Workload) → Contains (workloads_of lists) one → one.name ≡ name → ⊥
 unfolding folding_of
@@ -132,9 +124,6 @@ unnamed lists name none one has named =
     let at = get_or (workloads_of lists) has.0 one in
     let passes : test at ≡ true = (bytes_eq-Decides at.name name).1 (ap (λ (w : Workload). w.name) has.2 ∙ named) in
     true≢false (sym (list_any_at test (workloads_of lists) has.0 one has.1 passes) ∙ no_position test (workloads_of lists) none)
-
-no_workload : Workload
-no_workload = record { name = []; members = [] }
 
 -- the sides of one are those of the workload of the name
 one-shown : (lists : EstateLists) (name : List ℕ) (number : ℕ) (shown : List ShownSide) → number_named (folding_of lists) name ≡ Some number → both_sides number ≡ shown

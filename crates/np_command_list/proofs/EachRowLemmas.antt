@@ -1,5 +1,5 @@
 -- Each row of a cluster is of pods of the estate.
-use Rattle.std.proofs.Common.{◌≡◌, ◌≢◌, ◌<◌, ◌≤◌, ◌+◌, ◌-◌, ◌^◌, ◌==◌, ◌&&◌, ℕ, zero, suc, List, [], ◌∷◌}
+use Rattle.std.proofs.Common.{◌≡◌, ◌≢◌, ◌<◌, ◌-◌, ◌^◌, ◌==◌, ◌&&◌, ℕ, List, [], ◌∷◌}
 use Rattle.std.proofs.Common.{map, length, slice_index, Bool, true, false, All, Option, None, if◌then◌else◌, arith, refl, sym, ap, ◌∙◌}
 use Rattle.std.proofs.Common.{inl, inr}
 use Rattle.std.specs.Prelude.{◌↔◌}
@@ -10,8 +10,8 @@ use Rattle.std.specs.Ordering.{nat_cmp}
 use Rattle.std.specs.declared.cmp.Ordering.TheVariants.{Less}
 use Rattle.std.proofs.lemmas.Bool.{false_from_ne_true, false≢true}
 use Rattle.std.proofs.lemmas.Bool.Decides.{eqb_tells}
-use Rattle.std.proofs.lemmas.List.{length-map}
-use Rattle.std.proofs.lemmas.List.Elements.{All-append, All-map, All-nil, All-weaker}
+use Rattle.std.proofs.lemmas.List.Elements.{All-append, All-map, All-weaker}
+use Rattle.np_base.proofs.Lists.{All-numbers}
 use Rattle.np_addr.specs.declared.address.Family.{Family}
 use Rattle.np_addr.specs.declared.address.Family.TheVariants.{Four, Six}
 use Rattle.np_command_list.proofs.RowPartLemmas.{Agree, IsStretchOf, families-each, row_if-each, walk-stretches}
@@ -25,6 +25,7 @@ use Rattle.np_model.specs.declared.direction.Direction.TheVariants.{Egress, Ingr
 use Rattle.np_model.specs.declared.lists.EstateLists.{EstateLists}
 use Rattle.np_routes.specs.ClusterTable.{all_ingress_rows, cluster_rows, cluster_table, ingress_key, ingress_row}
 use Rattle.np_routes.specs.Controllers.{ingress_allows}
+use Rattle.np_routes.proofs.ClusterLemmas.{estate-names}
 use Rattle.np_kinds.proofs.MemberLemmas.{destination-member, member-number, members-some, members-within, source-member}
 use Rattle.np_kinds.proofs.PairLemmas.{pair_allows-alone, pair_allows-between}
 use Rattle.np_table.proofs.SetLemmas.{has_spot-conns_of}
@@ -34,13 +35,6 @@ use Rattle.np_kinds.specs.Between.{IsWorkload, address_allows, between_pods, des
 use Rattle.np_table.specs.Table.{estate_table, table_of}
 use Rattle.np_table.specs.declared.rows.AddressRow.{AddressRow}
 use Rattle.np_table.specs.declared.rows.Row.{Row}
-
--- what holds of all that each number gives
-All-numbers : {X : Type 0} (P : X → Type 0) (f : ℕ → List X) (from count end : ℕ) → from + count ≤ end → ((k : ℕ) → k < end → All P (f k)) → All P (flat_map f (range_with_len from count))
-All-numbers P f from zero end within each = All-nil P
-All-numbers P f from (suc count) end within each =
-    All-append P (f from) (flat_map f (range_with_len (from + 1) count)) (each from (omega (arith, within)))
-    (All-numbers P f (from + 1) count end (omega (arith, within)) each)
 
 -- the first two of ascending numbers differ
 two-apart : (xs : List ℕ) → IsStrictlySortedBy nat_cmp xs → 1 < length xs → slice_index xs 0 ≢ slice_index xs 1
@@ -170,13 +164,9 @@ module _ (lists : EstateLists) where
 
   -- ---- all of them
 
-  names-count : length (estate_table lists).names ≡ number_of_workloads lists
-  unfolding table_of
-  names-count = length-map (folding_of lists).workloads (λ one. one.name)
-
   -- what holds of what each workload gives
   All-workloads : (f : ℕ → List Row) → ((k : ℕ) → IsWorkload lists k → All IsOne (f k)) → All IsOne (flat_map f (range_with_len 0 (length (estate_table lists).names)))
-  All-workloads f each = All-numbers IsOne f 0 (length (estate_table lists).names) (number_of_workloads lists) (omega (arith, names-count)) each
+  All-workloads f each = All-numbers IsOne f 0 (length (estate_table lists).names) (number_of_workloads lists) (omega (arith, estate-names lists)) each
 
   all_rows-are : All IsOne (all_rows (estate_table lists))
   unfolding all_pair_rows all_address_rows

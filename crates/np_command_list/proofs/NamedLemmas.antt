@@ -13,6 +13,7 @@ use Rattle.np_args.specs.declared.focus_side.FocusSide.{FocusSide}
 use Rattle.np_command.specs.declared.fault.Fault.{Fault}
 use Rattle.np_command.specs.declared.fault.Fault.TheVariants.{UnknownEnd}
 use Rattle.np_command.specs.Ends.{or_unknown}
+use Rattle.np_command.proofs.EndLemmas.{no_workload}
 use Rattle.np_command_list.specs.Promise.{IsNamed, query_for}
 use Rattle.np_command_list.specs.Report.{controller_of, query_of}
 use Rattle.np_fold.specs.Workloads.{Workload, folding_of, number_named}
@@ -20,9 +21,6 @@ use Rattle.np_model.specs.declared.lists.EstateLists.{EstateLists}
 use Rattle.np_report.specs.RowText.{names_of}
 use Rattle.np_report.specs.declared.query.Query.{Query}
 use Rattle.np_report.specs.declared.query.Query.TheVariants.{Work}
-
-abbrev no_workload : Workload
-no_workload = record { name = []; members = [] }
 
 abbrev has_name : List ℕ → Workload → Bool
 has_name name one = bytes_eq one.name name

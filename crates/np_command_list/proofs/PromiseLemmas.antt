@@ -1,6 +1,6 @@
 -- What a report of `list` says, from what was written of it.
 use Rattle.std.proofs.Common.{◌≡◌, ◌<◌, ◌⊎◌, inl, inr, ℕ, List, [], ◌∷◌, length, Bool, true, false, not, ◌&&◌, Option, None, Some, Result, Ok, Err, refl, ap, sym, subst, ◌∙◌}
-use Rattle.std.proofs.lemmas.Bool.{and_parts, eqb-true, false≢true}
+use Rattle.std.proofs.lemmas.Bool.{and_parts, false≢true}
 use Rattle.std.proofs.lemmas.List.Elements.{All-filter, All-head, All-same, filter_passes}
 use Rattle.std.proofs.lemmas.List.Kept.{AllPairs-filter}
 use Rattle.np_addr.specs.declared.address.Family.{Family}
@@ -32,7 +32,7 @@ use Rattle.np_report.specs.RowText.{names_of}
 use Rattle.np_report.specs.TableText.{list_text, shown_rows, texts_of}
 use Rattle.np_report.specs.declared.query.Query.{Query}
 use Rattle.np_report.specs.declared.query.Query.TheVariants as query
-use Rattle.np_routes.proofs.ClusterLemmas.{allows_in-workloads, rows_between-cluster, rows_from_controller-kept, rows_of_address-cluster}
+use Rattle.np_routes.proofs.ClusterLemmas.{allows_in-workloads, rows_between-cluster, rows_from_controller-kept, rows_of_address-cluster, workload-end}
 use Rattle.np_routes.proofs.ReachedLemmas.{number-workload, reaches-allows}
 use Rattle.np_routes.specs.ClusterTable.{cluster_rows, cluster_table, rows_from_controller}
 use Rattle.np_routes.specs.Controllers.{ingress_allows, ingress_reaches, is_controller, sender_of}
@@ -85,11 +85,6 @@ address-end : (family : Family) (number : ℕ) (end : RowEnd) → is_address fam
 address-end family number (Span addresses) is = (addresses, refl)
 address-end family number (Work other) is = absurd (false≢true is)
 address-end family number Controller is = absurd (false≢true is)
-
-workload-end : (number : ℕ) (end : RowEnd) → is_workload number end ≡ true → end ≡ Work number
-workload-end number (Work other) is = ap (λ (n : ℕ). Work n) (eqb-true other number is)
-workload-end number (Span addresses) is = absurd (false≢true is)
-workload-end number Controller is = absurd (false≢true is)
 
 -- a row of an address has the key of a workload and a span
 address-key : (workload : ℕ) (direction : Direction) (family : Family) (number : ℕ) (row : Row) → is_of_address workload direction family number row ≡ true →

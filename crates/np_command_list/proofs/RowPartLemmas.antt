@@ -2,17 +2,19 @@
 use Rattle.std.proofs.Common.{◌≡◌, ◌≢◌, ◌≤◌, ◌+◌, ℕ, List, [], ◌∷◌, ◌++◌, Bool, true, false, nat_le, All, Contains, Option, None, Some, if◌then◌else◌, arith, refl, sym, ap, subst, ◌∙◌}
 use Rattle.std.specs.Prelude.{◌↔◌}
 use Rattle.std.proofs.lemmas.Bool.{and_from, false≢true, le-leb}
-use Rattle.std.proofs.lemmas.List.Elements.{All-append, All-cons, All-contains, All-nil}
+use Rattle.std.proofs.lemmas.List.Elements.{All-append, All-cons, All-nil}
+use Rattle.np_routes.proofs.StretchLemmas.{right-within}
 use Rattle.np_addr.specs.declared.address.Family.{Family}
 use Rattle.np_addr.specs.declared.address.Family.TheVariants.{Four, Six}
 use Rattle.np_base.specs.Ranges.{holds}
 use Rattle.np_base.specs.declared.range.Range.{Range}
+use Rattle.np_base.proofs.Lists.{Contains-one}
 use Rattle.np_command_list.specs.EachRow.{LetSomePass}
-use Rattle.np_conns.proofs.RunLemmas.{runs-ascend}
 use Rattle.np_conns.specs.Conns.{AscendsInPorts, Conns, IsConns, has_spot, ranges_of}
 use Rattle.np_conns.specs.declared.port_spot.PortSpot.{PortSpot}
 use Rattle.np_conns.specs.declared.proto.Proto.{Proto}
 use Rattle.np_conns.specs.declared.proto.Proto.TheVariants.{Sctp, Tcp, Udp}
+use Rattle.np_conns.proofs.ConnLemmas.{conns_of-well}
 use Rattle.np_model.specs.Families.{families_of, has_family, or_four}
 use Rattle.np_model.specs.declared.pod.Pod.{Pod}
 use Rattle.np_table.proofs.RangeWalks.{walk-right}
@@ -25,9 +27,6 @@ use Rattle.np_table.specs.declared.rows.Row.{Row}
 use Rattle.np_table.specs.declared.rows.RowKey.{RowKey}
 
 -- ---- connections
-
-pub conns_of-well : (passes : PortSpot → Bool) → IsConns (conns_of passes)
-conns_of-well passes = record { tcp = runs-ascend _; udp = runs-ascend _; sctp = runs-ascend _ }
 
 -- ranges that are some hold a port
 some_port : (ranges : List (Range ℕ)) → AscendsInPorts ranges → is_none ranges ≡ false → (port : ℕ) × (nat_le 1 port ≡ true) × (nat_le port 65535 ≡ true) × (holds (λ p. p) ranges port ≡ true)
@@ -80,11 +79,8 @@ families-cases P four six both pods = by (has_family pods Four) (has_family pods
 abbrev pub Agree : List Family → (Family → PortSpot → Bool) → Type 0
 Agree families passes = (one other : Family) → Contains families one → Contains families other → AllowSamePorts (passes one) (passes other)
 
-pub only_family : (one family : Family) → Contains (one ∷ []) family → one ≡ family
-only_family one family has = All-contains (λ (other : Family). one ≡ other) (one ∷ []) family (All-cons (λ (other : Family). one ≡ other) one [] refl (All-nil (λ (other : Family). one ≡ other))) has
-
 pub agree-one : (family : Family) (passes : Family → PortSpot → Bool) → Agree (family ∷ []) passes
-agree-one family passes = λ one other has has' spot is. ap (λ (own : Family). passes own spot) (sym (only_family family one has) ∙ only_family family other has')
+agree-one family passes = λ one other has has' spot is. ap (λ (own : Family). passes own spot) (sym (Contains-one family one has) ∙ Contains-one family other has')
 
 agree-both : (passes : Family → PortSpot → Bool) → AllowSamePorts (passes Four) (passes Six) → Agree (Four ∷ Six ∷ []) passes
 agree-both passes same = λ one other has has'. by one other
@@ -136,14 +132,6 @@ pub record IsStretchOf (passes : ℕ → PortSpot → Bool) (high : ℕ) (stretc
   pub filled : stretch.lo ≤ stretch.hi
   pub within : stretch.hi ≤ high
   pub changes : stretch.hi + 1 ≤ high → AllowSamePorts (has_spot stretch.conns) (passes (stretch.hi + 1)) → ⊥
-
-right-within : (passes : ℕ → PortSpot → Bool) (from to : ℕ) (before : Option Conns) (stretches : List Stretch) → AreRight passes from to before stretches → from ≤ to
-right-within passes from to before [] right = omega (arith, right)
-right-within passes from to before (stretch ∷ stretches) right =
-    let rest = right-within passes (stretch.hi + 1) to (Some stretch.conns) stretches right.1 in
-    let start = right.0.start in
-    let filled = right.0.filled in
-    omega (arith, rest, start, filled)
 
 -- where stretches go on, other connections pass than before
 next-differs : (passes : ℕ → PortSpot → Bool) (from high : ℕ) (conns : Conns) (stretches : List Stretch) → AreRight passes from (high + 1) (Some conns) stretches → from ≤ high →

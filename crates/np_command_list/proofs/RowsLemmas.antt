@@ -1,5 +1,6 @@
 -- Rows that are still to come.
 use Rattle.std.proofs.Common.{◌≡◌, ℕ, Bool, true, false, ◌||◌, if◌then◌else◌, List, [], ◌∷◌, ◌++◌, Option, refl, sym, ap, subst, ◌∙◌}
+use Rattle.std.proofs.Math.Bool.{or-false, or-true}
 use Rattle.np_command.proofs.LeftLemmas.{HasLeft, HasLeft-last}
 use Rattle.np_report.proofs.ToComeLemmas.{rows_to_come-kept, rows_to_come-left_out, rows_to_come-none}
 use Rattle.np_report.specs.Forms.{Form}
@@ -9,14 +10,6 @@ use Rattle.np_report.specs.TableText.{rows_to_come}
 use Rattle.np_report.specs.declared.query.Query.{Query}
 use Rattle.np_args.specs.declared.report.Report.{Report}
 use Rattle.np_table.specs.declared.rows.Row.{Row}
-
-or_true : (c : Bool) → (c || true) ≡ true
-or_true true = refl
-or_true false = refl
-
-or_false : (c : Bool) → (c || false) ≡ c
-or_false true = refl
-or_false false = refl
 
 -- the bytes of the next row, if it is asked for, stand before what is left then
 pub rows_to_come-next : (form : Form) (names : List (List ℕ)) (query : Query) (report : Report) (came : Bool) (row : Row) (rows : List Row) →
@@ -28,10 +21,10 @@ rows_to_come-next form names query report came row rows = by (keeps query row.ke
         rows_to_come form names query report came (row ∷ rows) ≡ (if kept then form.row came (row_text names report row) else []) ++ rows_to_come form names query report (came || kept) rows
     by true is =
         rows_to_come-kept form names query report came row rows is
-        ∙ ap (λ (c : Bool). form.row came (row_text names report row) ++ rows_to_come form names query report c rows) (sym (or_true came))
+        ∙ ap (λ (c : Bool). form.row came (row_text names report row) ++ rows_to_come form names query report c rows) (sym (or-true came))
     by false is =
         rows_to_come-left_out form names query report came row rows is
-        ∙ ap (λ (c : Bool). rows_to_come form names query report c rows) (sym (or_false came))
+        ∙ ap (λ (c : Bool). rows_to_come form names query report c rows) (sym (or-false came))
 
 module _ (form : Form) (names : List (List ℕ)) (query : Query) (report : Report) (came : Bool) (before after : Option (List ℕ)) (faults_before faults_after : ℕ) (whole held : List ℕ)
     (all : List Row) (left : HasLeft before after faults_before faults_after whole held (rows_to_come form names query report came all)) where

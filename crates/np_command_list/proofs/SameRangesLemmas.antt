@@ -1,6 +1,8 @@
 -- Two lists of rows that say what passes have the same rows of ranges of addresses.
-use Rattle.std.proofs.Common.{◌≡◌, ◌≤◌, ◌+◌, ◌-◌, inl, inr, ℕ, List, [], ◌∷◌, Bool, true, false, ◌&&◌, nat_le, Contains, Option, arith, eq-eqb, refl, sym, ap, subst, ◌∙◌}
+use Rattle.std.proofs.Common.{◌≡◌, ◌≤◌, ◌+◌, ◌-◌, inl, inr, ℕ, List, [], ◌∷◌, Bool, true, ◌&&◌, nat_le, Contains, Option, arith, eq-eqb, refl, sym, ap, subst, ◌∙◌}
 use Rattle.std.proofs.lemmas.Bool.{and_from, and_parts, cases_lt, false≢true, le-leb, leb-true}
+use Rattle.std.proofs.Math.Bool.{and-true}
+use Rattle.np_routes.proofs.ClusterLemmas.{workload-end}
 use Rattle.np_addr.specs.declared.address.Family.{Family}
 use Rattle.np_addr.specs.declared.address.Family.TheVariants.{Four, Six}
 use Rattle.np_base.specs.Ranges.{is_within}
@@ -13,7 +15,7 @@ use Rattle.np_model.specs.declared.lists.EstateLists.{EstateLists}
 use Rattle.np_rules.specs.model.Ends.{pod}
 use Rattle.np_rules.specs.model.Verdict.{pod_at}
 use Rattle.np_command_list.proofs.OneListLemmas.{AreToldAlike, from-kept, has-cases, has-head, kept, nothing-has}
-use Rattle.np_command_list.proofs.SameRowsLemmas.{key-from, row-of, workload-end}
+use Rattle.np_command_list.proofs.SameRowsLemmas.{key-from, row-of}
 use Rattle.np_command_list.specs.EachRow.{IsAddressRow, IsPodOf, IsRowOf}
 use Rattle.np_command_list.specs.Promise.{SayWhatPasses}
 use Rattle.np_report.specs.Keeps.{keeps}
@@ -75,10 +77,6 @@ module _ (workload : ℕ) (family : Family) (range : Range ℕ) where
       ap (λ (key : RowKey). is_address family number key.source && is_workload workload key.destination) is
       ∙ ap (λ (b : Bool). b && is_workload workload (Work workload)) (span_has-is family range number) ∙ ap (λ (b : Bool). is_within (λ n. n) range number && b) (eq-eqb workload workload refl)
       ∙ and-true (is_within (λ n. n) range number)
-    where
-      and-true : (b : Bool) → (b && true) ≡ b
-      and-true true = refl
-      and-true false = refl
   of_address-is Egress number row is =
       ap (λ (key : RowKey). is_workload workload key.source && is_address family number key.destination) is
       ∙ ap (λ (b : Bool). b && span_has (span_of family range) family number) (eq-eqb workload workload refl) ∙ span_has-is family range number

@@ -1,9 +1,11 @@
 -- Two lists of rows that say what passes have the same rows.
-use Rattle.std.proofs.Common.{◌≡◌, ◌≢◌, ℕ, List, [], ◌∷◌, Bool, true, false, ◌&&◌, Contains, Option, None, Some, arith, eq-eqb, refl, sym, ap, subst, ◌∙◌}
-use Rattle.std.proofs.lemmas.Bool.{and_from, and_parts, eqb-true, false≢true}
+use Rattle.std.proofs.Common.{◌≡◌, ◌≢◌, ℕ, List, [], ◌∷◌, Bool, true, ◌&&◌, Contains, Option, None, Some, arith, eq-eqb, refl, sym, ap, subst, ◌∙◌}
+use Rattle.std.proofs.lemmas.Bool.{and_from, and_parts, false≢true}
 use Rattle.std.proofs.lemmas.List.Elements.{All-contains}
+use Rattle.std.specs.Cmp.{both_ways}
 use Rattle.np_addr.specs.declared.address.Family.{Family}
 use Rattle.np_addr.specs.declared.address.Family.TheVariants.{Four, Six}
+use Rattle.np_model.proofs.FamilyLemmas.{same_family-itself}
 use Rattle.np_conns.specs.Conns.{has_spot, is_spot}
 use Rattle.np_conns.specs.declared.port_spot.PortSpot.{PortSpot}
 use Rattle.np_fold.specs.Workloads.{number_of}
@@ -17,30 +19,22 @@ use Rattle.np_command_list.specs.Promise.{SayWhatPasses}
 use Rattle.np_report.specs.Keeps.{keeps}
 use Rattle.np_report.specs.declared.query.Query.{Query}
 use Rattle.np_routes.specs.ClusterTable.{ingress_key, is_from_controller, is_ingress_controller, rows_from_controller}
+use Rattle.np_routes.proofs.ClusterLemmas.{controller-end, workload-end}
 use Rattle.np_table.specs.Rows.{pair_key}
 use Rattle.np_table.specs.Said.{allows_in, is_between, is_workload, rows_between, says, speaks_of}
 use Rattle.np_kinds.specs.Between.{between_pods}
 use Rattle.np_table.specs.declared.rows.Row.{Row}
 use Rattle.np_table.specs.declared.rows.RowEnd.{RowEnd}
-use Rattle.np_table.specs.declared.rows.RowEnd.TheVariants.{Controller, Span, Work}
+use Rattle.np_table.specs.declared.rows.RowEnd.TheVariants.{Controller, Work}
 use Rattle.np_table.specs.declared.rows.RowKey.{RowKey}
 
 -- ---- small facts
-
-same-answer : (a b : Bool) → (a ≡ true → b ≡ true) → (b ≡ true → a ≡ true) → a ≡ b
-same-answer true b forth back = sym (forth refl)
-same-answer false true forth back = back refl
-same-answer false false forth back = refl
 
 family-same : (one other : Family) → same_family one other ≡ true → one ≡ other
 family-same Four Four is = refl
 family-same Four Six is = absurd (false≢true is)
 family-same Six Four is = absurd (false≢true is)
 family-same Six Six is = refl
-
-family-itself : (family : Family) → same_family family family ≡ true
-family-itself Four = refl
-family-itself Six = refl
 
 -- marks that speak of one family are one, where both are none or neither is
 marks-same : (one other : Option Family) (family : Family) → (one ≡ None → other ≡ None) → (other ≡ None → one ≡ None) → speaks_of one family ≡ true → speaks_of other family ≡ true → one ≡ other
@@ -61,16 +55,6 @@ each-family passes family =
     by : (one : Family) → Contains (Four ∷ Six ∷ []) one
     by Four = (0, omega arith, refl)
     by Six = (1, omega arith, refl)
-
-pub workload-end : (number : ℕ) (end : RowEnd) → is_workload number end ≡ true → end ≡ Work number
-workload-end number (Work other) is = ap (λ (n : ℕ). Work n) (eqb-true other number is)
-workload-end number (Span addresses) is = absurd (false≢true is)
-workload-end number Controller is = absurd (false≢true is)
-
-controller-end : (end : RowEnd) → is_ingress_controller end ≡ true → end ≡ Controller
-controller-end Controller is = refl
-controller-end (Work other) is = absurd (false≢true is)
-controller-end (Span addresses) is = absurd (false≢true is)
 
 -- two ends make a key
 pub key-from : (key : RowKey) (source destination : RowEnd) → key.source ≡ source → key.destination ≡ destination → key ≡ record { source = source; destination = destination }
@@ -128,7 +112,7 @@ module _ (lists : EstateLists) (sender : Option ℕ) (query : Query) where
         by : (mark : Option Family) → row.family ≡ mark → (family : Family) × Contains (families_of lists.pods) family × (speaks_of mark family ≡ true)
         by None at = let one = some-family lists.pods in (one.0, one.1, refl)
         by (Some family) at =
-            (family, each-family (between_pods lists is.p is.q) family lists.pods (λ agree. no_mark family (sym at ∙ is.mark.1 agree)), family-itself family)
+            (family, each-family (between_pods lists is.p is.q) family lists.pods (λ agree. no_mark family (sym at ∙ is.mark.1 agree)), same_family-itself family)
 
     is_between-own : (row : Row) → row.key ≡ pair_key source destination → is_between source destination row ≡ true
     is_between-own row is = ap (λ (key : RowKey). is_workload source key.source && is_workload destination key.destination) is ∙ and_from _ _ (eq-eqb source source refl)
@@ -143,7 +127,7 @@ module _ (lists : EstateLists) (sender : Option ℕ) (query : Query) where
     pair-says : (rows : List Row) → Says rows → (row : Row) → Contains rows row → row.key ≡ pair_key source destination → (family : Family) → speaks_of row.family family ≡ true → (spot : PortSpot) →
         has_spot row.conns spot ≡ allows_in (rows_between source destination rows) family spot
     pair-says rows say row has key family speaks spot =
-        same-answer (has_spot row.conns spot) (allows_in (rows_between source destination rows) family spot)
+        both_ways (has_spot row.conns spot) (allows_in (rows_between source destination rows) family spot)
         (λ passes. any-from (says family spot) (rows_between source destination rows) row (kept (is_between source destination) rows row has (is_between-own row key)) (and_from _ _ speaks passes))
         (λ allowed.
         let found = any-to (says family spot) (rows_between source destination rows) allowed in
@@ -198,7 +182,7 @@ module _ (lists : EstateLists) (sender : Option ℕ) (query : Query) where
         has_spot row.conns spot ≡ allows_in (rows_from_controller workload rows) Four spot
     ingress-says rows say row has key spot =
         let unmarked = ingress-unmarked rows say row has key in
-        same-answer (has_spot row.conns spot) (allows_in (rows_from_controller workload rows) Four spot)
+        both_ways (has_spot row.conns spot) (allows_in (rows_from_controller workload rows) Four spot)
         (λ passes. any-from (says Four spot) (rows_from_controller workload rows) row (kept (is_from_controller workload) rows row has (is_from_controller-own row key))
         (and_from _ _ (ap (λ (mark : Option Family). speaks_of mark Four) unmarked) passes))
         (λ allowed.

@@ -1,15 +1,15 @@
 -- The spans and the text of connection sets.
-use Rattle.std.proofs.Common.{◌≡◌, ℕ, List, Bool, true, false, ◌&&◌, not, MatchBool, sym, ◌∙◌, ap, subst}
-use Rattle.std.proofs.lemmas.Bool.{and_from, le-leb}
+use Rattle.std.proofs.Common.{◌≡◌, ℕ, List, Bool, true, false, ◌&&◌, not, ◌≤◌, MatchBool, nat_le, sym, ◌∙◌, ap, subst}
+use Rattle.std.proofs.lemmas.Bool.{and_from, and_parts, le-leb, leb-true}
 use Rattle.np_base.specs.Ranges.{holds}
 use Rattle.np_base.specs.declared.range.Range.{Range}
 use Rattle.np_conns.specs.Conns.{Conns, ranges_of, is_spot, has_spot, AscendsInPorts, IsConns}
-use Rattle.np_conns.specs.ConnsText.{spans_of, text_of_runs, conns_text}
+use Rattle.np_conns.specs.ConnsText.{conns_of, spans_of, text_of_runs, conns_text}
 use Rattle.np_conns.specs.Spots.{ranges_of-ascend, equal_by_ranges}
 use Rattle.np_conns.specs.declared.port_spot.PortSpot.{PortSpot}
 use Rattle.np_conns.specs.declared.proto.Proto.{Proto}
 use Rattle.np_conns.specs.declared.proto.Proto.TheVariants.{Tcp, Udp, Sctp}
-use Rattle.np_conns.proofs.RunLemmas.{runs-holds, runs-agree}
+use Rattle.np_conns.proofs.RunLemmas.{runs-agree, runs-ascend, runs-hold, runs-holds}
 
 -- sets with equal ranges of each protocol are equal, and a spot of one protocol tells two sets apart
 pub same_by_protocols : (a b : Conns) (tcp udp sctp : Bool) → MatchBool tcp (a.tcp ≡ b.tcp) ((port : ℕ) × (holds (λ p. p) a.tcp port ≡ not (holds (λ p. p) b.tcp port))) →
@@ -61,3 +61,42 @@ conns_text-agrees f g alike =
     ap (λ t. text_of_runs t (spans_of f Udp) (spans_of f Sctp)) (spans_of-agrees f g Tcp alike)
     ∙ ap (λ u. text_of_runs (spans_of g Tcp) u (spans_of f Sctp)) (spans_of-agrees f g Udp alike)
     ∙ ap (λ s. text_of_runs (spans_of g Tcp) (spans_of g Udp) s) (spans_of-agrees f g Sctp alike)
+
+-- ---- the connections of a test
+
+-- their ranges ascend
+pub conns_of-well : (passes : PortSpot → Bool) → IsConns (conns_of passes)
+conns_of-well passes = record { tcp = runs-ascend _; udp = runs-ascend _; sctp = runs-ascend _ }
+
+-- they have the spots that pass
+pub conns_of-has : (passes : PortSpot → Bool) (spot : PortSpot) → is_spot spot ≡ true → has_spot (conns_of passes) spot ≡ passes spot
+conns_of-has passes spot inside =
+    let ends = and_parts (nat_le 1 spot.port) (nat_le spot.port 65535) inside in
+    by spot.port (leb-true 1 spot.port ends.0) (leb-true spot.port 65535 ends.1) spot.proto
+  where
+    by : (port : ℕ) → 1 ≤ port → port ≤ 65535 → (proto : Proto) → has_spot (conns_of passes) (record { proto = proto; port = port }) ≡ passes (record { proto = proto; port = port })
+    by port low high Tcp = runs-hold (λ (n : ℕ). passes (record { proto = Tcp; port = n })) port low high
+    by port low high Udp = runs-hold (λ (n : ℕ). passes (record { proto = Udp; port = n })) port low high
+    by port low high Sctp = runs-hold (λ (n : ℕ). passes (record { proto = Sctp; port = n })) port low high
+
+-- tests that agree on every spot have the same ones
+pub conns_of-agrees : (f g : PortSpot → Bool) → ((spot : PortSpot) → is_spot spot ≡ true → f spot ≡ g spot) → conns_of f ≡ conns_of g
+conns_of-agrees f g alike =
+    equal_by_ranges (conns_of f) (conns_of g) (elim [
+      | Tcp ↦ spans_of-agrees f g Tcp alike
+      | Udp ↦ spans_of-agrees f g Udp alike
+      | Sctp ↦ spans_of-agrees f g Sctp alike
+    ])
+
+-- a well-formed set is the connections of its own spots
+pub conns_of-has_spot : (conns : Conns) → IsConns conns → conns_of (has_spot conns) ≡ conns
+conns_of-has_spot conns well =
+    equal_by_ranges (conns_of (has_spot conns)) conns (elim [
+      | Tcp ↦ spans_of-has_spot conns well Tcp
+      | Udp ↦ spans_of-has_spot conns well Udp
+      | Sctp ↦ spans_of-has_spot conns well Sctp
+    ])
+
+-- a well-formed set whose spots are those that pass is the connections of the test
+pub conns_of-set : (conns : Conns) (passes : PortSpot → Bool) → IsConns conns → ((spot : PortSpot) → is_spot spot ≡ true → has_spot conns spot ≡ passes spot) → conns ≡ conns_of passes
+conns_of-set conns passes well agrees = sym (conns_of-has_spot conns well) ∙ conns_of-agrees (has_spot conns) passes agrees

@@ -5,6 +5,7 @@ use Rattle.std.proofs.lemmas.Fmt.{decimal_injective}
 use Rattle.std.proofs.lemmas.List.{drop_at}
 use Rattle.std.specs.List.{slice_split, join_by, flat_map, AllByRecursion, filter}
 use Rattle.np_base.specs.declared.range.Range.{Range}
+use Rattle.np_base.proofs.Each.{All-append}
 use Rattle.np_conns.specs.Conns.{Conns, has_spot, AscendsInPorts, IsConns, IsRun}
 use Rattle.np_conns.specs.ConnsText.{proto_name, run_text, part_text, part, joined, is_whole, text_of_runs, conns_text}
 use Rattle.np_conns.specs.Spots.{equal_by_ranges}
@@ -91,14 +92,10 @@ part-lacks proto (run ∷ others) real = (part_text-lacks proto run others real,
 abbrev pub parts : List (Range ℕ) → List (Range ℕ) → List (Range ℕ) → List (List ℕ)
 parts tcp udp sctp = part Tcp tcp ++ part Udp udp ++ part Sctp sctp
 
-pub all-append : {X : Type 0} (P : X → Type 0) (xs ys : List X) → AllByRecursion P xs → AllByRecursion P ys → AllByRecursion P (xs ++ ys)
-all-append P [] ys front back = back
-all-append P (x ∷ xs) ys front back = (front.0, all-append P xs ys front.1 back)
-
 parts-lack : (tcp udp sctp : List (Range ℕ)) → AllByRecursion IsRun tcp → AllByRecursion IsRun udp → AllByRecursion IsRun sctp → AllByRecursion (λ text. lacks 59 text ≡ true) (parts tcp udp sctp)
 parts-lack tcp udp sctp real_tcp real_udp real_sctp =
     let free : List ℕ → Type 0 = λ text. lacks 59 text ≡ true in
-    all-append free (part Tcp tcp ++ part Udp udp) _ (all-append free (part Tcp tcp) _ (part-lacks Tcp tcp real_tcp) (part-lacks Udp udp real_udp)) (part-lacks Sctp sctp real_sctp)
+    All-append free (part Tcp tcp ++ part Udp udp) _ (All-append free (part Tcp tcp) _ (part-lacks Tcp tcp real_tcp) (part-lacks Udp udp real_udp)) (part-lacks Sctp sctp real_sctp)
 
 spaced : (texts : List (List ℕ)) → AllByRecursion (λ text. lacks 59 text ≡ true) texts → AllByRecursion (λ text. lacks 59 (32 ∷ text) ≡ true) texts
 spaced [] free = tt

@@ -1,10 +1,12 @@
 -- The three forms of a printed text, and the spots that each has.
-use Rattle.std.proofs.Common.{◌≡◌, ℕ, ◌≤◌, length, length-append, List, [], ◌∷◌, ◌++◌, Bool, true, false, ◌&&◌, ◌||◌, eqb, nat_le, get_or, map, codes, refl, sym, ◌∙◌, ap, subst, arith, inl, inr}
+use Rattle.std.proofs.Common.{◌≡◌, ℕ, ◌≤◌, length, length-append, List, [], ◌∷◌, ◌++◌, true, false, ◌&&◌, ◌||◌, eqb, nat_le, get_or, map, codes, refl, sym, ◌∙◌, ap, subst, arith, inl, inr}
 use Rattle.std.proofs.lemmas.Bool.{cases_Bool, cond-true, cond-false, false≢true}
 use Rattle.std.proofs.lemmas.List.Folds.{list_any-append, flat_map-map}
 use Rattle.std.specs.List.{join_by, AllByRecursion}
+use Rattle.std.proofs.Math.Bool.{or-false, and-false}
 use Rattle.np_base.specs.Ranges.{is_within, holds}
 use Rattle.np_base.specs.declared.range.Range.{Range}
+use Rattle.np_base.proofs.Each.{All-append}
 use Rattle.np_conns.specs.Conns.{Conns, ranges_of, is_spot, has_spot, same_proto, IsConns, IsRun}
 use Rattle.np_conns.specs.ConnsText.{joined, conns_text}
 use Rattle.np_conns.specs.Reading.{in_runs, Part, IsPart, text_of_part, in_part, in_parts}
@@ -12,12 +14,8 @@ use Rattle.np_conns.specs.declared.port_spot.PortSpot.{PortSpot}
 use Rattle.np_conns.specs.declared.proto.Proto.{Proto}
 use Rattle.np_conns.specs.declared.proto.Proto.TheVariants.{Tcp, Udp, Sctp}
 use Rattle.np_conns.proofs.ConnLemmas.{conns_text-has_spot}
-use Rattle.np_conns.proofs.OneText.{all-append, parts, found, joined-tells, none-from_part, joined-not_whole, all_whole, all_whole-is}
+use Rattle.np_conns.proofs.OneText.{parts, found, joined-tells, none-from_part, joined-not_whole, all_whole, all_whole-is}
 use Rattle.np_conns.proofs.RunLemmas.{IsRun-from_ascending}
-
-or-false : (b : Bool) → (b || false) ≡ b
-or-false true = refl
-or-false false = refl
 
 -- ports in one range of all ports are ports
 whole-has : (proto : Proto) (port : ℕ) →
@@ -71,10 +69,6 @@ holds-in_runs : (runs : List (Range ℕ)) (port : ℕ) → holds (λ p. p) runs 
 holds-in_runs [] port = refl
 holds-in_runs (run ∷ others) port = ap (λ b. is_within (λ p. p) run port || b) (holds-in_runs others port)
 
-and-false : (b : Bool) → (b && false) ≡ false
-and-false true = refl
-and-false false = refl
-
 -- the spots of a protocol's part
 kept-has : (proto : Proto) (runs : List (Range ℕ)) (spot : PortSpot) → in_parts (kept proto runs) spot ≡ (same_proto spot.proto proto && holds (λ p. p) runs spot.port)
 kept-has proto [] spot = sym (and-false (same_proto spot.proto proto))
@@ -114,8 +108,8 @@ kept-real proto (first ∷ others) real = (real, tt)
 
 all_kept-real : (conns : Conns) → IsConns conns → AllByRecursion IsPart (all_kept conns)
 all_kept-real conns well =
-    all-append IsPart (kept Tcp conns.tcp ++ kept Udp conns.udp) _
-    (all-append IsPart (kept Tcp conns.tcp) _ (kept-real Tcp conns.tcp (IsRun-from_ascending 1 conns.tcp (omega arith) well.tcp))
+    All-append IsPart (kept Tcp conns.tcp ++ kept Udp conns.udp) _
+    (All-append IsPart (kept Tcp conns.tcp) _ (kept-real Tcp conns.tcp (IsRun-from_ascending 1 conns.tcp (omega arith) well.tcp))
     (kept-real Udp conns.udp (IsRun-from_ascending 1 conns.udp (omega arith) well.udp)))
     (kept-real Sctp conns.sctp (IsRun-from_ascending 1 conns.sctp (omega arith) well.sctp))
 

@@ -48,3 +48,9 @@ pub record IsRun (run : Range ℕ) : Type 0 where
   pub low : 1 ≤ run.lo
   pub ordered : run.lo ≤ run.hi
   pub high : run.hi ≤ 65535
+
+-- the place of a protocol among the three
+abbrev pub proto_number : Proto → ℕ
+proto_number Tcp = 0
+proto_number Udp = 1
+proto_number Sctp = 2

@@ -8,6 +8,7 @@ use Rattle.np_conns.specs.Runs.{runs}
 use Rattle.np_conns.specs.declared.port_spot.PortSpot.{PortSpot}
 use Rattle.np_conns.specs.declared.proto.Proto.{Proto}
 use Rattle.np_conns.specs.declared.proto.Proto.TheVariants.{Tcp, Udp, Sctp}
+use Rattle.np_conns.specs.Conns.{Conns}
 
 abbrev pub proto_name : Proto → List ℕ
 proto_name Tcp = codes "TCP"
@@ -53,3 +54,7 @@ spans_of passes proto = runs (λ port. passes (record { proto = proto; port = po
 -- the text of the spots that pass
 unfoldable pub conns_text : (PortSpot → Bool) → List ℕ
 conns_text passes = text_of_runs (spans_of passes Tcp) (spans_of passes Udp) (spans_of passes Sctp)
+
+-- the maximal runs of those ports of each protocol whose spots pass
+abbrev pub conns_of : (PortSpot → Bool) → Conns
+conns_of passes = record { tcp = spans_of passes Tcp; udp = spans_of passes Udp; sctp = spans_of passes Sctp }

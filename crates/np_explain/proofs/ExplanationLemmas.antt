@@ -3,23 +3,24 @@ use Rattle.std.proofs.Common.{◌≡◌, ◌↔◌, IsTrue, List, [], ◌∷◌,
 use Rattle.std.specs.Bool.{Decides}
 use Rattle.std.specs.List.{list_any}
 use Rattle.std.specs.Cmp.Lexicographic.{pointwise}
-use Rattle.std.proofs.lemmas.Bool.{false≢true, true≢false}
 use Rattle.std.proofs.lemmas.Bool.Decides.{Decides-and, Decides-eqb}
 use Rattle.std.proofs.lemmas.Slice.Eq.{slice_eq-Decides}
+use Rattle.std.proofs.Math.Bool.{or-false, and-true, and-false}
 use Rattle.np_addr.specs.declared.address.Family.{Family}
 use Rattle.np_base.specs.declared.range.Range.{Range}
-use Rattle.np_conns.proofs.ConnLemmas.{spans_of-agrees, spans_of-has_spot}
+use Rattle.np_base.proofs.Bools.{not_itself}
+use Rattle.np_base.specs.Ranges.{are_same_range}
+use Rattle.np_conns.proofs.ConnLemmas.{conns_of-has, conns_of-set}
 use Rattle.np_conns.specs.Conns.{Conns, IsConns, has_spot, is_spot}
-use Rattle.np_conns.specs.ConnsText.{spans_of}
+use Rattle.np_conns.specs.ConnsText.{conns_of}
 use Rattle.np_conns.specs.declared.port_spot.PortSpot.{PortSpot}
-use Rattle.np_conns.specs.declared.proto.Proto.TheVariants.{Tcp, Udp, Sctp}
 use Rattle.np_model.specs.declared.lists.EstateLists.{EstateLists}
 use Rattle.np_explain.proofs.OneListLemmas.{both_say, one_part}
-use Rattle.np_explain.proofs.RightPartsLemmas.{conns_of-has, made_are_right}
+use Rattle.np_explain.proofs.RightPartsLemmas.{made_are_right}
 use Rattle.np_explain.proofs.SameDecider.{same_decider-Decides}
-use Rattle.np_explain.specs.Explanations.{IsRightFor, explanation_of, passes_between, same_conns, same_part, same_parts, same_range, same_sides, some_allows}
+use Rattle.np_explain.specs.Explanations.{IsRightFor, explanation_of, passes_between, same_conns, same_part, same_parts, same_sides, some_allows}
 use Rattle.np_explain.specs.Parts.{AreRightParts}
-use Rattle.np_explain.specs.RightParts.{conns_of, parts_of, same_decider}
+use Rattle.np_explain.specs.RightParts.{parts_of, same_decider}
 use Rattle.np_explain.specs.Sides.{decider_between, packet_between}
 use Rattle.np_explain.specs.declared.explanation.Explanation.{Explanation}
 use Rattle.np_explain.specs.declared.part.Part.{Part}
@@ -31,28 +32,16 @@ use Rattle.np_rules.specs.declared.packet.End.{End}
 
 -- ---- parts that allow
 
-or_false : (b : Bool) → (b || false) ≡ b
-or_false true = refl
-or_false false = refl
-
 any-kept : (has : Part → Bool) (parts : List Part)
     → list_any (λ part. decider_allows part.decider && has part) parts ≡ list_any decider_allows (map (λ part. part.decider) (filter has parts))
 any-kept has [] = refl
 any-kept has (part ∷ parts) = by (has part) refl (any-kept has parts)
   where
-    and_true : (b : Bool) → (b && true) ≡ b
-    and_true true = refl
-    and_true false = refl
-
-    and_false : (b : Bool) → (b && false) ≡ false
-    and_false true = refl
-    and_false false = refl
-
     by : (h : Bool) → has part ≡ h
         → list_any (λ one. decider_allows one.decider && has one) parts ≡ list_any decider_allows (map (λ one. one.decider) (filter has parts))
         → list_any (λ one. decider_allows one.decider && has one) (part ∷ parts) ≡ list_any decider_allows (map (λ one. one.decider) (filter has (part ∷ parts)))
-    by true is rest = rw is (ap₂ (λ (a b : Bool). a || b) (and_true (decider_allows part.decider)) rest)
-    by false is rest = rw is (ap (λ (a : Bool). a || list_any (λ (one : Part). decider_allows one.decider && has one) parts) (and_false (decider_allows part.decider)) ∙ rest)
+    by true is rest = rw is (ap₂ (λ (a b : Bool). a || b) (and-true (decider_allows part.decider)) rest)
+    by false is rest = rw is (ap (λ (a : Bool). a || list_any (λ (one : Part). decider_allows one.decider && has one) parts) (and-false (decider_allows part.decider)) ∙ rest)
 
 -- a spot is in a right part that allows where what decides it does
 pub allows-right : (decides : PortSpot → Decider) (parts : List Part) (spot : PortSpot) → AreRightParts decides parts → is_spot spot ≡ true
@@ -60,25 +49,9 @@ pub allows-right : (decides : PortSpot → Decider) (parts : List Part) (spot : 
 allows-right decides parts spot right inside =
     any-kept (λ part. has_spot part.conns spot) parts
     ∙ ap (list_any decider_allows) (one_part decides parts spot right inside)
-    ∙ or_false (decider_allows (decides spot))
+    ∙ or-false (decider_allows (decides spot))
 
 -- ---- connections
-
-pub conns_of-agrees : (f g : PortSpot → Bool) → ((spot : PortSpot) → is_spot spot ≡ true → f spot ≡ g spot) → conns_of f ≡ conns_of g
-conns_of-agrees f g agrees =
-    ap (λ (ranges : List (Range ℕ)). record { tcp = ranges; udp = spans_of f Udp; sctp = spans_of f Sctp }) (spans_of-agrees f g Tcp agrees)
-    ∙ ap (λ (ranges : List (Range ℕ)). record { tcp = spans_of g Tcp; udp = ranges; sctp = spans_of f Sctp }) (spans_of-agrees f g Udp agrees)
-    ∙ ap (λ (ranges : List (Range ℕ)). record { tcp = spans_of g Tcp; udp = spans_of g Udp; sctp = ranges }) (spans_of-agrees f g Sctp agrees)
-
-conns_of-own : (conns : Conns) → IsConns conns → conns_of (has_spot conns) ≡ conns
-conns_of-own conns well =
-    ap (λ (ranges : List (Range ℕ)). record { tcp = ranges; udp = spans_of (has_spot conns) Udp; sctp = spans_of (has_spot conns) Sctp }) (spans_of-has_spot conns well Tcp)
-    ∙ ap (λ (ranges : List (Range ℕ)). record { tcp = conns.tcp; udp = ranges; sctp = spans_of (has_spot conns) Sctp }) (spans_of-has_spot conns well Udp)
-    ∙ ap (λ (ranges : List (Range ℕ)). record { tcp = conns.tcp; udp = conns.udp; sctp = ranges }) (spans_of-has_spot conns well Sctp)
-
-conns_of-set : (conns : Conns) (passes : PortSpot → Bool) → IsConns conns → ((spot : PortSpot) → is_spot spot ≡ true → has_spot conns spot ≡ passes spot)
-    → conns ≡ conns_of passes
-conns_of-set conns passes well agrees = sym (conns_of-own conns well) ∙ conns_of-agrees (has_spot conns) passes agrees
 
 module _ (lists : EstateLists) (source destination : End) (family : Family) where
   -- what decides at both sides tells what passes
@@ -153,7 +126,7 @@ right-alike lists s d s' d' family made sends receives right = record {
 
 -- ---- the same parts
 
-same_range-Decides : (a b : Range ℕ) → Decides (same_range a b) (a ≡ b)
+same_range-Decides : (a b : Range ℕ) → Decides (are_same_range a b) (a ≡ b)
 same_range-Decides a b =
     let parts = Decides-and (a.lo == b.lo) (a.hi == b.hi) (Decides-eqb a.lo b.lo) (Decides-eqb a.hi b.hi) in
     let of_lo : ℕ → Range ℕ = λ lo. record { lo = lo; hi = a.hi } in
@@ -162,13 +135,13 @@ same_range-Decides a b =
       λ same. parts.1 (ap (λ (range : Range ℕ). range.lo) same, ap (λ (range : Range ℕ). range.hi) same),
     )
 
-ranges-Decide : (a b : List (Range ℕ)) → Decides (pointwise same_range a b) (a ≡ b)
-ranges-Decide a b = slice_eq-Decides same_range-Decides a b (pointwise same_range a b) refl
+ranges-Decide : (a b : List (Range ℕ)) → Decides (pointwise are_same_range a b) (a ≡ b)
+ranges-Decide a b = slice_eq-Decides same_range-Decides a b (pointwise are_same_range a b) refl
 
 same_conns-Decides : (a b : Conns) → Decides (same_conns a b) (a ≡ b)
 same_conns-Decides a b =
-    let later = Decides-and (pointwise same_range a.udp b.udp) (pointwise same_range a.sctp b.sctp) (ranges-Decide a.udp b.udp) (ranges-Decide a.sctp b.sctp) in
-    let parts = Decides-and (pointwise same_range a.tcp b.tcp) _ (ranges-Decide a.tcp b.tcp) later in
+    let later = Decides-and (pointwise are_same_range a.udp b.udp) (pointwise are_same_range a.sctp b.sctp) (ranges-Decide a.udp b.udp) (ranges-Decide a.sctp b.sctp) in
+    let parts = Decides-and (pointwise are_same_range a.tcp b.tcp) _ (ranges-Decide a.tcp b.tcp) later in
     let of_tcp : List (Range ℕ) → Conns = λ ranges. record { tcp = ranges; udp = a.udp; sctp = a.sctp } in
     let of_udp : List (Range ℕ) → Conns = λ ranges. record { tcp = b.tcp; udp = ranges; sctp = a.sctp } in
     let of_sctp : List (Range ℕ) → Conns = λ ranges. record { tcp = b.tcp; udp = b.udp; sctp = ranges } in (
@@ -181,12 +154,8 @@ pub same_conns_answer : (a b : Conns) (answer : Bool) → MatchBool answer (a �
 same_conns_answer a b true same = sym ((same_conns-Decides a b).1 same)
 same_conns_answer a b false other = go (same_conns a b) refl
   where
-    never : (x : Bool) → x ≡ not x → ⊥
-    never true is = true≢false is
-    never false is = false≢true is
-
     go : (x : Bool) → same_conns a b ≡ x → false ≡ x
-    go true is = absurd (never (has_spot b other.0) (sym (ap (λ (set : Conns). has_spot set other.0) ((same_conns-Decides a b).0 is)) ∙ other.1))
+    go true is = absurd (not_itself (has_spot b other.0) (sym (ap (λ (set : Conns). has_spot set other.0) ((same_conns-Decides a b).0 is)) ∙ other.1))
     go false is = refl
 
 same_part-Decides : (a b : Part) → Decides (same_part a b) (a ≡ b)

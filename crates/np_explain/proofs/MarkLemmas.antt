@@ -2,7 +2,7 @@
 use Rattle.std.proofs.Common.{◌≡◌, ◌≢◌, ◌⊎◌, ℕ, ◌<◌, ◌≤◌, List, length, get_or, Option, Some, None, AllPairs, refl, sym, ap, ◌∙◌, subst, inl, inr, arith}
 use Rattle.std.specs.List.{slice_get}
 use Rattle.std.specs.Option.{option_map}
-use Rattle.std.proofs.lemmas.Option.{slice_get_cases}
+use Rattle.std.proofs.lemmas.Option.{slice_get_cases, none-some}
 use Rattle.np_model.specs.Lawful.{IsLawful}
 use Rattle.np_explain.specs.Marks.{IsMarkOf, IsPassOf, admin_rules, base_rules, mark_decider, net_rules, pass_name}
 use Rattle.np_explain.proofs.PlaceLemmas.{at_place, place_told}
@@ -66,9 +66,6 @@ IsNamed side (decider.Isolated pass policies) m = IsIsolated side pass m
 IsNamed side (decider.Base pass rule allow) m = IsBase side pass rule m
 IsNamed side (decider.Free pass) m = IsFree side pass m
 
-none_is_some : {X : Type 0} {x : X} → None ≡ Some x → ⊥
-none_is_some same = cc
-
 met_named : (side : PodSide) (pass : Option ℕ) → IsPassOf side pass → IsMet side (pass_name side pass) pass
 unfolding IsMet
 met_named side None there = tt
@@ -80,7 +77,7 @@ met_named side (Some place) there = go (slice_get (admin_rules side) place) refl
         missing : ((placed : PlacedAdminRule) × (place < length (admin_rules side)) × (slice_get (admin_rules side) place ≡ Some placed) × (get_or (admin_rules side) place placed ≡ placed)) ⊎
             ((length (admin_rules side) ≤ place) × (slice_get (admin_rules side) place ≡ None)) →
             ⊥
-        missing (inl found) = none_is_some (sym is ∙ found.2)
+        missing (inl found) = none-some _ (sym is ∙ found.2)
         missing (inr past) = absurd (omega (arith, past.0))
     go (Some placed) is = record { placed = placed; is = is; named = refl }
 

@@ -8,6 +8,7 @@ use Rattle.std.proofs.lemmas.Bool.Decides.{nat_tests}
 use Rattle.std.proofs.lemmas.List.{length-append}
 use Rattle.std.proofs.lemmas.List.Elements.{All-append, All-cons, All-filter, All-head, All-nil, All-tail, All-weaker}
 use Rattle.std.proofs.lemmas.List.Folds.{list_all-append}
+use Rattle.np_base.proofs.Options.{some_is}
 use Rattle.np_addr.specs.declared.address.Family.{Family}
 use Rattle.np_conns.specs.Spots.{has_spot-is_spot}
 use Rattle.np_conns.specs.declared.port_spot.PortSpot.{PortSpot}
@@ -20,19 +21,19 @@ use Rattle.np_explain.proofs.TextLemmas.{decider_text-one}
 use Rattle.np_explain.specs.DeciderText.{decider_text}
 use Rattle.np_explain.specs.Parts.{AreRightParts}
 use Rattle.np_explain.specs.Sides.{decider_between, end_at, packet_between, placed_at}
-use Rattle.np_explain.specs.WellNamed.{is_policy_name, is_rule_name, is_well_named}
+use Rattle.np_explain.specs.WellNamed.{is_rule_name, is_well_named}
 use Rattle.np_explain.specs.declared.part.Part.{Part}
-use Rattle.np_model.specs.Words.{has_slash, is_name, is_word, is_word_byte}
-use Rattle.np_model.specs.WellPolicies.{if_there, is_well_admin_policy, is_well_base_policy, is_well_net_policy}
+use Rattle.np_model.specs.Words.{has_slash, is_name, is_word, is_word_byte, is_whole_word}
+use Rattle.np_model.specs.WellPolicies.{is_well_admin_policy, is_well_base_policy, is_well_net_policy}
 use Rattle.np_model.specs.declared.admin_policy.Action.{Action}
 use Rattle.np_model.specs.declared.admin_policy.Action.TheVariants.{Allow, Deny, Pass}
 use Rattle.np_model.specs.declared.admin_policy.AdminPolicy.{AdminPolicy}
 use Rattle.np_model.specs.declared.admin_policy.BasePolicy.{BasePolicy}
-use Rattle.np_model.specs.declared.admin_policy.AdminRule.{AdminRule}
 use Rattle.np_model.specs.declared.direction.Direction.{Direction}
 use Rattle.np_model.specs.declared.direction.Direction.TheVariants.{Ingress, Egress}
 use Rattle.np_model.specs.declared.network_policy.NetPolicy.{NetPolicy}
 use Rattle.np_model.specs.declared.network_policy.NetRule.{NetRule}
+use Rattle.np_model.specs.WellObjects.{option_all}
 use Rattle.np_rules.proofs.DeciderLemmas.{least_is_among}
 use Rattle.np_rules.proofs.PlacesLemmas.{length-numbered}
 use Rattle.np_rules.specs.model.AdminTier.{admin_decider, admin_precedes, least_by}
@@ -48,17 +49,18 @@ use Rattle.np_rules.specs.model.Verdict.{end_of}
 use Rattle.np_rules.specs.declared.decider.Decider.{Decider}
 use Rattle.np_rules.specs.declared.decider.RuleName.{RuleName}
 use Rattle.np_rules.specs.declared.packet.End.{End as PlacedEnd}
+use Rattle.np_rules.proofs.PolicyRulesLemmas.{placed_admin}
 
 -- ---- names
 
-name-is : (text : List ℕ) → is_name text ≡ true → is_policy_name text ≡ true
-name-is text name = (and_parts (is_policy_name text) (not (has_slash text)) name).0
+name-is : (text : List ℕ) → is_name text ≡ true → is_whole_word text ≡ true
+name-is text name = (and_parts (is_whole_word text) (not (has_slash text)) name).0
 
 not-empty : {X : Type 0} (x : X) (xs : List X) → not (length (x ∷ xs) == 0) ≡ true
 not-empty x xs = grind (arith, nat_tests)
 
 -- `namespace/name`
-net_name-is : (namespace name : List ℕ) → is_name namespace ≡ true → is_name name ≡ true → is_policy_name (namespace ++ codes "/" ++ name) ≡ true
+net_name-is : (namespace name : List ℕ) → is_name namespace ≡ true → is_name name ≡ true → is_whole_word (namespace ++ codes "/" ++ name) ≡ true
 net_name-is [] name first second = absurd (false≢true first)
 net_name-is (b ∷ bs) name first second =
     let front = and_parts (not (length (b ∷ bs) == 0)) (is_word (b ∷ bs)) (name-is (b ∷ bs) first) in
@@ -66,7 +68,7 @@ net_name-is (b ∷ bs) name first second =
     let slashed : is_word ((b ∷ bs) ++ codes "/") ≡ true = list_all-append is_word_byte (b ∷ bs) (codes "/") ∙ and_from _ _ front.1 refl in
     and_from _ _ (not-empty b (bs ++ codes "/" ++ name)) (list_all-append is_word_byte ((b ∷ bs) ++ codes "/") name ∙ and_from _ _ slashed back.1)
 
-net_policy-is : (policy : NetPolicy) → is_well_net_policy policy ≡ true → is_policy_name (net_policy_name policy) ≡ true
+net_policy-is : (policy : NetPolicy) → is_well_net_policy policy ≡ true → is_whole_word (net_policy_name policy) ≡ true
 net_policy-is policy well =
     let egress = and_parts _ _ well in
     let ingress = and_parts _ _ egress.0 in
@@ -74,7 +76,7 @@ net_policy-is policy well =
     let names = and_parts (is_name policy.namespace) (is_name policy.name) subject.0 in
     net_name-is policy.namespace policy.name names.0 names.1
 
-admin_policy-is : (policy : AdminPolicy) → is_well_admin_policy policy ≡ true → is_policy_name policy.name ≡ true
+admin_policy-is : (policy : AdminPolicy) → is_well_admin_policy policy ≡ true → is_whole_word policy.name ≡ true
 admin_policy-is policy well =
     let egress = and_parts _ _ well in
     let ingress = and_parts _ _ egress.0 in
@@ -93,9 +95,6 @@ All-of test (x ∷ xs) all =
 -- what holds of each item holds of the least, and of the one that is found
 of_least : {X : Type 0} (P : X → Type 0) (precedes : X → X → Bool) (xs : List X) → All P xs → (x : X) → least_by precedes xs ≡ Some x → P x
 of_least P precedes xs all x is = among_all P xs all x (least_is_among precedes xs x is)
-
-some_is : {X : Type 0} (a b : X) → Some a ≡ Some b → a ≡ b
-some_is a b same = cc
 
 of_found : {X : Type 0} (P : X → Type 0) (test : X → Bool) (xs : List X) → All P xs → (x : X) → find test xs ≡ Some x → P x
 of_found P test [] all x is = cc
@@ -137,7 +136,7 @@ flat-below {A} {X} place_of f each (a ∷ owners) =
     sum : length (flat_map f (a ∷ owners)) ≡ length (f a) + length (flat_map f owners)
     sum = length-append (f a) (flat_map f owners)
 
-rule-is : (policy : List ℕ) (place most : ℕ) → is_policy_name policy ≡ true → place < most → most < 2 ^ 64 → is_rule_name (record { policy = policy; place = place }) ≡ true
+rule-is : (policy : List ℕ) (place most : ℕ) → is_whole_word policy ≡ true → place < most → most < 2 ^ 64 → is_rule_name (record { policy = policy; place = place }) ≡ true
 rule-is policy place most name less few = and_from _ _ name (lt-ltb place (2 ^ 64) (omega arith))
 
 -- ---- rules
@@ -148,7 +147,7 @@ module _ {A R X : Type 0} (test chosen : A → Bool) (rules : A → List R) (mak
   rules_of a = if chosen a then map (make a) (enumerate_from 0 (rules a)) else []
 
   abbrev IsNamed : X → Type 0
-  IsNamed x = is_policy_name (name_of x) ≡ true
+  IsNamed x = is_whole_word (name_of x) ≡ true
 
   names-are : ((a : A) → test a ≡ true → (numbered : ℕ × R) → IsNamed (make a numbered)) → (owners : List A) → list_all test owners ≡ true → All IsNamed (flat_map rules_of owners)
   names-are named owners well =
@@ -163,9 +162,6 @@ module _ {A R X : Type 0} (test chosen : A → Bool) (rules : A → List R) (mak
       let below = flat-below place_of rules_of (λ a. chosen-below place_of (make a) (placed a) (chosen a) (rules a)) owners in
       rule-is (name_of _) (place_of _) (length (flat_map rules_of owners)) (names-are named owners well k d within) (below k d within) few
 
-abbrev admin_made : AdminPolicy → ℕ × AdminRule → PlacedAdminRule
-admin_made policy numbered = record { policy = policy; place = numbered.0; rule = numbered.1 }
-
 abbrev net_made : NetPolicy → ℕ × NetRule → PlacedNetRule
 net_made policy numbered = record { policy = policy; place = numbered.0; rule = numbered.1 }
 
@@ -173,7 +169,7 @@ module _ (direction : Direction) (p : PodEnd) where
   admin_rules-are : (policies : List AdminPolicy) → list_all is_well_admin_policy policies ≡ true → length (admin_places policies direction p) < 2 ^ 64
       → All (λ placed. is_rule_name (admin_rule_name placed) ≡ true) (admin_places policies direction p)
   admin_rules-are policies well few =
-      rules-are is_well_admin_policy (λ policy. subject_selects policy.subject p) (admin_rules_of direction) admin_made (λ placed. placed.policy.name) (λ placed. placed.place)
+      rules-are is_well_admin_policy (λ policy. subject_selects policy.subject p) (admin_rules_of direction) placed_admin (λ placed. placed.policy.name) (λ placed. placed.place)
       (λ policy fit numbered. admin_policy-is policy fit) (λ policy numbered. refl) policies well few
 
   net_rules-are : (policies : List NetPolicy) → list_all is_well_net_policy policies ≡ true → length (net_places policies direction p) < 2 ^ 64
@@ -191,7 +187,7 @@ module _ (direction : Direction) (p : PodEnd) where
 
   -- ---- isolation
 
-  isolating-are : (policies : List NetPolicy) → list_all is_well_net_policy policies ≡ true → list_all is_policy_name (isolating_names policies direction p) ≡ true
+  isolating-are : (policies : List NetPolicy) → list_all is_well_net_policy policies ≡ true → list_all is_whole_word (isolating_names policies direction p) ≡ true
   isolating-are [] well = refl
   isolating-are (policy ∷ policies) well =
       let parts = and_parts (is_well_net_policy policy) (list_all is_well_net_policy policies) well in
@@ -200,8 +196,8 @@ module _ (direction : Direction) (p : PodEnd) where
       others : List NetPolicy
       others = filter (isolates direction p) policies
 
-      by : (b : Bool) → is_policy_name (net_policy_name policy) ≡ true → list_all is_policy_name (map net_policy_name others) ≡ true
-          → list_all is_policy_name (map net_policy_name (if b then policy ∷ others else others)) ≡ true
+      by : (b : Bool) → is_whole_word (net_policy_name policy) ≡ true → list_all is_whole_word (map net_policy_name others) ≡ true
+          → list_all is_whole_word (map net_policy_name (if b then policy ∷ others else others)) ≡ true
       by true first later = and_from _ _ first later
       by false first later = later
 
@@ -220,19 +216,19 @@ module _ (direction : Direction) (p : PodEnd) where
 -- ---- what decides
 
 net_decides-well : (pass : Option RuleName) (names : List (List ℕ)) (found : Option PlacedNetRule)
-    → if_there is_rule_name pass ≡ true → not (length names == 0) ≡ true → list_all is_policy_name names ≡ true
+    → option_all is_rule_name pass ≡ true → not (length names == 0) ≡ true → list_all is_whole_word names ≡ true
     → ((placed : PlacedNetRule) → found ≡ Some placed → is_rule_name (net_rule_name placed) ≡ true) → is_well_named (net_decides pass names found) ≡ true
 net_decides-well pass names None passed some named rules = and_from _ _ (and_from _ _ passed some) named
 net_decides-well pass names (Some placed) passed some named rules = and_from _ _ passed (rules placed refl)
 
-base_decides-well : (pass : Option RuleName) (found : Option PlacedBaseRule) → if_there is_rule_name pass ≡ true
+base_decides-well : (pass : Option RuleName) (found : Option PlacedBaseRule) → option_all is_rule_name pass ≡ true
     → ((placed : PlacedBaseRule) → found ≡ Some placed → is_rule_name (base_rule_name placed) ≡ true) → is_well_named (base_decides pass found) ≡ true
 base_decides-well pass None passed rules = passed
 base_decides-well pass (Some placed) passed rules = and_from _ _ passed (rules placed refl)
 
 admin_decides-well : (found : Option PlacedAdminRule) (lower : Option RuleName → Decider)
     → ((placed : PlacedAdminRule) → found ≡ Some placed → is_rule_name (admin_rule_name placed) ≡ true)
-    → ((pass : Option RuleName) → if_there is_rule_name pass ≡ true → is_well_named (lower pass) ≡ true) → is_well_named (admin_decides found lower) ≡ true
+    → ((pass : Option RuleName) → option_all is_rule_name pass ≡ true → is_well_named (lower pass) ≡ true) → is_well_named (admin_decides found lower) ≡ true
 admin_decides-well None lower rules lowers = lowers None refl
 admin_decides-well (Some placed) lower rules lowers = by placed.rule.action
   where
@@ -264,7 +260,7 @@ module _ (lists : EstateLists) (direction : Direction) (p : PodEnd) (contact : C
   of_admin : All AdminIs (admin_places lists.admin_policies direction p)
   of_admin = admin_rules-are direction p lists.admin_policies policies-well.1 (omega arith)
 
-  lower-well : (pass : Option RuleName) → if_there is_rule_name pass ≡ true → is_well_named (lower_decider lists direction p contact pass) ≡ true
+  lower-well : (pass : Option RuleName) → option_all is_rule_name pass ≡ true → is_well_named (lower_decider lists direction p contact pass) ≡ true
   lower-well pass passed = by (is_isolated lists.net_policies direction p) refl
     where
       names : List (List ℕ)

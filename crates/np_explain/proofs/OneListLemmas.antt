@@ -4,7 +4,7 @@ use Rattle.std.specs.Cmp.{both_ways}
 use Rattle.std.specs.List.{list_any}
 use Rattle.std.proofs.lemmas.Bool.{false≢true}
 use Rattle.std.proofs.lemmas.List.Elements.{All-head, All-tail}
-use Rattle.np_addr.proofs.Pairs.{AllPairs-head, AllPairs-tail}
+use Rattle.np_base.proofs.Lists.{AllPairs-head, AllPairs-tail}
 use Rattle.np_addr.specs.declared.address.Family.{Family}
 use Rattle.np_conns.specs.Conns.{Conns, IsConns, has_spot, is_spot}
 use Rattle.np_conns.specs.Spots.{equal_by_spots, has_spot-is_spot}

@@ -3,8 +3,9 @@ use Rattle.std.proofs.Common.{◌≡◌, ℕ, List, [], ◌∷◌, ◌++◌, tru
 use Rattle.std.proofs.lemmas.Bool.{and_parts, cond_both, eqb-false, not-true}
 use Rattle.std.specs.List.{AllByRecursion, flat_map}
 use Rattle.np_base.specs.declared.range.Range.{Range}
+use Rattle.np_base.proofs.Each.{All-append}
 use Rattle.np_conns.proofs.ConnLemmas.{conns_text-has_spot}
-use Rattle.np_conns.proofs.OneText.{all-append, all_whole, conns_text-injective, parts}
+use Rattle.np_conns.proofs.OneText.{all_whole, conns_text-injective, parts}
 use Rattle.np_conns.proofs.RunLemmas.{IsRun-from_ascending}
 use Rattle.np_conns.proofs.SplitLemmas.{lacks, lacks-append, run_text-lacks}
 use Rattle.np_conns.specs.Conns.{Conns, IsConns, IsRun, has_spot}
@@ -43,7 +44,7 @@ in_runs : (tcp udp sctp : List (Range ℕ)) → AllByRecursion IsRun tcp → All
 in_runs tcp udp sctp real_tcp real_udp real_sctp =
     let free : List ℕ → Type 0 = λ text. lacks 58 text ≡ true in
     in_joined (parts tcp udp sctp)
-    (all-append free (part Tcp tcp ++ part Udp udp) _ (all-append free (part Tcp tcp) _ (in_part Tcp tcp real_tcp) (in_part Udp udp real_udp)) (in_part Sctp sctp real_sctp))
+    (All-append free (part Tcp tcp ++ part Udp udp) _ (All-append free (part Tcp tcp) _ (in_part Tcp tcp real_tcp) (in_part Udp udp real_udp)) (in_part Sctp sctp real_sctp))
 
 conns_text-lacks : (conns : Conns) → IsConns conns → lacks 58 (conns_text (has_spot conns)) ≡ true
 conns_text-lacks conns well =

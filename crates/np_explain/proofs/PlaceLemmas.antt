@@ -6,7 +6,8 @@ use Rattle.std.proofs.lemmas.Bool.{cases_order}
 use Rattle.std.proofs.lemmas.List.Elements.{All-append, All-cons, All-head, All-nil, All-tail, All-weaker}
 use Rattle.std.proofs.lemmas.List.Kept.{AllPairs-cons}
 use Rattle.std.proofs.lemmas.Option.{get_or_from_slice_get, slice_get_cases, slice_get_within}
-use Rattle.np_addr.proofs.Pairs.{AllPairs-append, AllPairs-head, AllPairs-nil, AllPairs-tail}
+use Rattle.np_base.proofs.Lists.{AllPairs-head, AllPairs-tail, AllPairs-append}
+use Rattle.np_addr.proofs.Pairs.{AllPairs-nil}
 
 -- ---- places
 

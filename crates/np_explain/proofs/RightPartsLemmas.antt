@@ -1,31 +1,27 @@
 -- The parts that are made from what decides each spot are right.
-use Rattle.std.proofs.Common.{◌≡◌, ◌≢◌, ◌↔◌, ℕ, zero, suc, ◌<◌, ◌≤◌, nat_le, List, [], ◌∷◌, Bool, true, false, not, IsTrue, get_or, map, filter, All, AllPairs, refl, sym, ap, ◌∙◌, arith}
+use Rattle.std.proofs.Common.{◌≡◌, ◌≢◌, ◌↔◌, ℕ, zero, suc, ◌<◌, ◌≤◌, List, [], ◌∷◌, Bool, true, false, not, IsTrue, get_or, map, filter, All, AllPairs, refl, sym, ap, ◌∙◌, arith}
 use Rattle.std.proofs.Common.{if◌then◌else◌}
-use Rattle.std.proofs.lemmas.Bool.{and_parts, leb-true, or_left, or_right}
+use Rattle.std.proofs.lemmas.Bool.{or_left, or_right}
 use Rattle.std.proofs.lemmas.Bool.Decides.{Decides-not}
 use Rattle.std.proofs.lemmas.List.Elements.{All-cons, All-contains, All-filter, All-map, All-nil, All-weaker, filter_passes}
 use Rattle.std.proofs.lemmas.List.Kept.{AllPairs-cons, AllPairs-filter}
 use Rattle.std.specs.List.{Contains, list_any}
-use Rattle.np_addr.proofs.Pairs.{AllPairs-head, AllPairs-nil, AllPairs-tail}
-use Rattle.np_conns.proofs.RunLemmas.{runs-ascend, runs-hold}
+use Rattle.np_base.proofs.Lists.{AllPairs-head, AllPairs-tail, Contains-later}
+use Rattle.np_addr.proofs.Pairs.{AllPairs-nil}
 use Rattle.np_conns.specs.Conns.{IsConns, has_spot, is_spot}
 use Rattle.np_conns.specs.Spots.{has_spot-is_spot}
 use Rattle.np_conns.specs.declared.port_spot.PortSpot.{PortSpot}
-use Rattle.np_conns.specs.declared.proto.Proto.{Proto}
-use Rattle.np_conns.specs.declared.proto.Proto.TheVariants.{Tcp, Udp, Sctp}
+use Rattle.np_conns.proofs.ConnLemmas.{conns_of-has, conns_of-well}
 use Rattle.np_explain.proofs.OneListLemmas.{one_is_right}
 use Rattle.np_explain.proofs.PartLemmas.{AllPairs-map}
 use Rattle.np_explain.proofs.SameDecider.{same_decider-Decides}
 use Rattle.np_explain.proofs.SpotLemmas.{IsBefore, all_spots-are_spots, all_spots-ascend, all_spots-has}
 use Rattle.np_explain.specs.Parts.{AreRightParts, StartsBefore, spot_number}
-use Rattle.np_explain.specs.RightParts.{all_spots, conns_of, each_once, part_of, parts_of, same_decider}
+use Rattle.np_explain.specs.RightParts.{all_spots, each_once, part_of, parts_of, same_decider}
 use Rattle.np_explain.specs.declared.part.Part.{Part}
 use Rattle.np_rules.specs.declared.decider.Decider.{Decider}
 
 -- ---- lists
-
-Contains-cons : {X : Type 0} (x y : X) (xs : List X) → Contains xs x → Contains (y ∷ xs) x
-Contains-cons x y xs (k, within, is) = (suc k, omega arith, is)
 
 Contains-filter : {X : Type 0} (test : X → Bool) (x : X) (xs : List X) → Contains xs x → test x ≡ true → Contains (filter test xs) x
 Contains-filter test x [] (k, within, is) passes = absurd (omega arith)
@@ -33,7 +29,7 @@ Contains-filter test x (y ∷ ys) (zero, within, is) passes = rw (ap test is ∙
 Contains-filter {X} test x (y ∷ ys) (suc k, within, is) passes = go (test y) (Contains-filter test x ys (k, omega arith, is) passes)
   where
     go : (b : Bool) → Contains (filter test ys) x → Contains (if b then y ∷ filter test ys else filter test ys) x
-    go true later = Contains-cons x y (filter test ys) later
+    go true later = Contains-later x y (filter test ys) later
     go false later = later
 
 -- a test that passes at an image of an item passes at some image
@@ -86,7 +82,7 @@ module _ (decides : PortSpot → Decider) where
       onto : (one other : Decider) → LeadsIn spots one other → decides spot ≢ other → LeadsIn (spot ∷ spots) one other
       onto one other lead apart = record {
         spot = lead.spot;
-        within = Contains-cons lead.spot spot spots lead.within;
+        within = Contains-later lead.spot spot spots lead.within;
         is = lead.is;
         first = first;
       }
@@ -105,7 +101,7 @@ module _ (decides : PortSpot → Decider) where
       go : (b : Bool) → same_decider (decides next) (decides spot) ≡ b → Contains (each_once (map decides spots)) (decides spot) →
           Contains (decides next ∷ filter (λ other. not (same_decider (decides next) other)) (each_once (map decides spots))) (decides spot)
       go true same has = (zero, omega arith, (same_decider-Decides (decides next) (decides spot)).0 same)
-      go false other has = Contains-cons (decides spot) (decides next) _ (Contains-filter (λ d. not (same_decider (decides next) d)) (decides spot) (each_once (map decides spots)) has (ap not other))
+      go false other has = Contains-later (decides spot) (decides next) _ (Contains-filter (λ d. not (same_decider (decides next) d)) (decides spot) (each_once (map decides spots)) has (ap not other))
 
   -- and each of them decides some spot of the list
   once_decide : (spots : List PortSpot) → All (λ decider. (spot : PortSpot) × Contains spots spot × (decides spot ≡ decider)) (each_once (map decides spots))
@@ -116,24 +112,7 @@ module _ (decides : PortSpot → Decider) where
       (next, (zero, omega arith, refl), refl)
       (All-filter _ (λ decider. (spot : PortSpot) × Contains (next ∷ spots) spot × (decides spot ≡ decider)) (each_once (map decides spots))
       (All-weaker (λ decider. (spot : PortSpot) × Contains spots spot × (decides spot ≡ decider)) (λ decider. (spot : PortSpot) × Contains (next ∷ spots) spot × (decides spot ≡ decider))
-      (λ decider found. (found.0, Contains-cons found.0 next spots found.1, found.2)) (each_once (map decides spots)) (once_decide spots)))
-
--- ---- connections
-
--- the connections of a test have the spots that pass
-module _ (passes : PortSpot → Bool) (port : ℕ) (low : 1 ≤ port) (high : port ≤ 65535) where
-  has_port : (proto : Proto) → has_spot (conns_of passes) (record { proto = proto; port = port }) ≡ passes (record { proto = proto; port = port })
-  has_port Tcp = runs-hold (λ (n : ℕ). passes (record { proto = Tcp; port = n })) port low high
-  has_port Udp = runs-hold (λ (n : ℕ). passes (record { proto = Udp; port = n })) port low high
-  has_port Sctp = runs-hold (λ (n : ℕ). passes (record { proto = Sctp; port = n })) port low high
-
-pub conns_of-has : (passes : PortSpot → Bool) (spot : PortSpot) → is_spot spot ≡ true → has_spot (conns_of passes) spot ≡ passes spot
-conns_of-has passes spot inside =
-    let ends = and_parts (nat_le 1 spot.port) (nat_le spot.port 65535) inside in
-    has_port passes spot.port (leb-true 1 spot.port ends.0) (leb-true spot.port 65535 ends.1) spot.proto
-
-pub conns_of-well : (passes : PortSpot → Bool) → IsConns (conns_of passes)
-conns_of-well passes = record { tcp = runs-ascend _; udp = runs-ascend _; sctp = runs-ascend _ }
+      (λ decider found. (found.0, Contains-later found.0 next spots found.1, found.2)) (each_once (map decides spots)) (once_decide spots)))
 
 -- ---- the parts
 

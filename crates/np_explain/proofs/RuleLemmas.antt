@@ -10,7 +10,8 @@ use Rattle.std.proofs.lemmas.Cmp.{nat_list_cmp_total, tied_itself}
 use Rattle.std.proofs.lemmas.List.{append_cancel_left}
 use Rattle.std.proofs.lemmas.List.Elements.{All-nil, recursion_from_All}
 use Rattle.std.proofs.lemmas.Slice.Eq.{bytes_eq-Decides}
-use Rattle.np_addr.proofs.Pairs.{AllPairs-head, AllPairs-nil, AllPairs-tail}
+use Rattle.np_base.proofs.Lists.{AllPairs-head, AllPairs-tail}
+use Rattle.np_addr.proofs.Pairs.{AllPairs-nil}
 use Rattle.np_model.specs.Lawful.{AreNamesApart, StandsBefore, comes_before}
 use Rattle.np_model.specs.declared.admin_policy.AdminPolicy.{AdminPolicy}
 use Rattle.np_model.specs.declared.admin_policy.BasePolicy.{BasePolicy}
@@ -22,7 +23,8 @@ use Rattle.np_rules.specs.model.NetTier.{placed_net_matches}
 use Rattle.np_rules.specs.model.Places.{PlacedAdminRule, PlacedNetRule, admin_places, admin_places_of, admin_rules_of, base_places, base_rules_of, net_places, net_places_of, net_rules_of}
 use Rattle.np_rules.specs.model.Selection.{net_selects, subject_selects}
 use Rattle.np_rules.specs.declared.decider.RuleName.{RuleName}
-use Rattle.np_rules.proofs.AdminTierLemmas.{IsInOrder, least_is_first}
+use Rattle.np_rules.proofs.AdminTierLemmas.{IsInOrder, least_is_first, places_by as admin_places_by}
+use Rattle.np_rules.proofs.NetTierLemmas.{places_by as net_places_by}
 use Rattle.np_explain.proofs.PlaceLemmas.{all_made, numbered_pairs, pairs_flat}
 
 -- what relates two items of which the same holds
@@ -36,9 +38,6 @@ if_any P false xs some none = none
 
 -- ---- NetworkPolicies
 
-abbrev net_by : Direction → PodEnd → NetPolicy → List PlacedNetRule
-net_by direction p policy = if net_selects policy p then net_places_of direction policy else []
-
 -- a rule of a policy that selects the pod is of the pod's namespace
 record IsNetOf (p : PodEnd) (policy : NetPolicy) (placed : PlacedNetRule) : Type 0 where
   pub owner : placed.policy ≡ policy
@@ -49,7 +48,7 @@ record Before (x y : PlacedNetRule) : Type 0 where
   pub precedes : net_precedes x y ≡ true
   pub namespace : x.policy.namespace ≡ y.policy.namespace
 
-net_of : (direction : Direction) (p : PodEnd) (policy : NetPolicy) → All (IsNetOf p policy) (net_by direction p policy)
+net_of : (direction : Direction) (p : PodEnd) (policy : NetPolicy) → All (IsNetOf p policy) (net_places_by direction p policy)
 net_of direction p policy =
     if_any (All (IsNetOf p policy)) (net_selects policy p) (net_places_of direction policy)
     (λ selects. all_made (IsNetOf p policy) (λ numbered. record { policy = policy; place = numbered.0; rule = numbered.1 })
@@ -97,7 +96,7 @@ two_nets p a b x y stands of_x of_y =
 
 all_nets : (policies : List NetPolicy) (direction : Direction) (p : PodEnd) → AllPairs StandsBefore policies → AllPairs Before (net_places policies direction p)
 all_nets policies direction p ascend =
-    pairs_flat Before StandsBefore (IsNetOf p) (net_by direction p) (net_of direction p)
+    pairs_flat Before StandsBefore (IsNetOf p) (net_places_by direction p) (net_of direction p)
     (λ policy. if_any (λ placed. All (IsNetOf p policy) placed → AllPairs Before placed) (net_selects policy p) (net_places_of direction policy)
     (λ selects all. pairs_with (IsNetOf p policy) (λ x y. x.place < y.place) Before (one_net p policy) (net_places_of direction policy) all
     (numbered_pairs (λ placed. placed.place) (λ numbered. record { policy = policy; place = numbered.0; rule = numbered.1 }) (λ numbered. refl) 0 (unwrap_or (net_rules_of direction policy) [])))
@@ -149,13 +148,10 @@ net_names_apart policies direction p ascend = λ i j d before within. net_named_
 
 -- ---- admin policies
 
-abbrev admin_by : Direction → PodEnd → AdminPolicy → List PlacedAdminRule
-admin_by direction p policy = if subject_selects policy.subject p then admin_places_of direction policy else []
-
 abbrev IsAdminOf : AdminPolicy → PlacedAdminRule → Type 0
 IsAdminOf policy placed = placed.policy ≡ policy
 
-admin_of : (direction : Direction) (p : PodEnd) (policy : AdminPolicy) → All (IsAdminOf policy) (admin_by direction p policy)
+admin_of : (direction : Direction) (p : PodEnd) (policy : AdminPolicy) → All (IsAdminOf policy) (admin_places_by direction p policy)
 admin_of direction p policy =
     if_any (All (IsAdminOf policy)) (subject_selects policy.subject p) (admin_places_of direction policy)
     (λ selects. all_made (IsAdminOf policy) (λ numbered. record { policy = policy; place = numbered.0; rule = numbered.1 }) (λ numbered. refl) 0 (admin_rules_of direction policy))
@@ -174,7 +170,7 @@ two_admins a b x y apart of_x of_y same =
 pub admin_names_apart : (policies : List AdminPolicy) (direction : Direction) (p : PodEnd) → AllPairs AreNamesApart policies →
     AllPairs (λ x y. admin_rule_name x ≢ admin_rule_name y) (admin_places policies direction p)
 admin_names_apart policies direction p apart =
-    pairs_flat (λ x y. admin_rule_name x ≢ admin_rule_name y) AreNamesApart IsAdminOf (admin_by direction p) (admin_of direction p)
+    pairs_flat (λ x y. admin_rule_name x ≢ admin_rule_name y) AreNamesApart IsAdminOf (admin_places_by direction p) (admin_of direction p)
     (λ policy. if_any (AllPairs (λ x y. admin_rule_name x ≢ admin_rule_name y)) (subject_selects policy.subject p) (admin_places_of direction policy)
     (λ selects i j d before within. places_differ _ _ (numbered_pairs (λ placed. placed.place) (λ numbered. record { policy = policy; place = numbered.0; rule = numbered.1 }) (λ numbered. refl) 0
     (admin_rules_of direction policy) i j d before within))

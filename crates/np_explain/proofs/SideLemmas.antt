@@ -5,6 +5,8 @@ use Rattle.std.specs.Option.{option_map, option_map_or}
 use Rattle.std.proofs.lemmas.List.{map-append, take_more}
 use Rattle.std.proofs.lemmas.List.Elements.{All-cons, All-nil}
 use Rattle.std.proofs.lemmas.Option.{slice_get_cases, slice_get_read, slice_get_within}
+use Rattle.np_base.proofs.Lists.{slice_get-some}
+use Rattle.np_base.proofs.Options.{some_is}
 use Rattle.np_explain.proofs.PlaceLemmas.{at_place}
 use Rattle.np_explain.specs.Marks.{KeepsNames, admin_rules, base_rules, mark_decider, net_rules, pass_name, policy_name_at}
 use Rattle.np_model.specs.declared.admin_policy.AdminPolicy.{AdminPolicy}
@@ -25,9 +27,6 @@ use Rattle.np_tiers.specs.declared.layer.AdminPart.{AdminPart}
 use Rattle.np_tiers.specs.declared.layer.BasePart.{BasePart}
 use Rattle.np_tiers.specs.declared.layer.Layer.{Layer}
 use Rattle.np_tiers.specs.declared.mark.Mark.TheVariants as mark
-
-some_is : {X : Type 0} (a b : X) → Some a ≡ Some b → a ≡ b
-some_is a b same = cc
 
 -- ---- related lists
 
@@ -118,27 +117,19 @@ module _ {S : Type 0} {side : PodSide} {layer : Layer S} {rules : LayerRules} (n
       (get_or parts place d).allow ≡ is_allow placed.rule.action
   allow_at parts d are placed is = rw are (related_at (λ part p. part.allow ≡ is_allow p.rule.action) layer.base (base_rules side) place d placed names.says.base is)
 
--- there is a rule at each place
-there_is : {X : Type 0} (rules : List X) (place : ℕ) → place < length rules → (placed : X) × (slice_get rules place ≡ Some placed)
-there_is rules place within =
-    elim (slice_get_cases rules place).1 [
-      | inl there ↦ (there.0, there.2)
-      | inr past ↦ absurd (omega (arith, past.0))
-    ]
-
 -- so the policy of the name that is kept is there too
 pub admin_policy_within : {S : Type 0} {side : PodSide} {layer : Layer S} {rules : LayerRules} (names : KeepsNames side layer rules) (place : ℕ) (ids : List RuleId) (d : RuleId)
     (policies : List AdminPolicy) →
     ids ≡ rules.admin → policies ≡ side.lists.admin_policies → place < length (admin_rules side) → (get_or ids place d).policy < length policies
 admin_policy_within {S} {side} names place ids d policies are same there =
-    let rule = there_is (admin_rules side) place there in
+    let rule = slice_get-some (admin_rules side) place there in
     slice_get_within policies (get_or ids place d).policy rule.0.policy (admin_at names place ids d policies are same rule.0 rule.1).policy
 
 pub net_policy_within : {S : Type 0} {side : PodSide} {layer : Layer S} {rules : LayerRules} (names : KeepsNames side layer rules) (place : ℕ) (ids : List RuleId) (d : RuleId)
     (policies : List NetPolicy) →
     ids ≡ rules.net → policies ≡ side.lists.net_policies → place < length (net_rules side) → (get_or ids place d).policy < length policies
 net_policy_within {S} {side} names place ids d policies are same there =
-    let rule = there_is (net_rules side) place there in
+    let rule = slice_get-some (net_rules side) place there in
     slice_get_within policies (get_or ids place d).policy rule.0.policy (net_at names place ids d policies are same rule.0 rule.1).policy
 
 -- the NetworkPolicies that isolate the pod are there, and these are their names

@@ -4,12 +4,13 @@ use Rattle.std.proofs.lemmas.Bool.{and_from, and_parts, le-leb, leb-true}
 use Rattle.std.proofs.lemmas.List.Elements.{All-append, All-contains, All-nil, All-weaker, Contains-append_left, Contains-append_right}
 use Rattle.std.proofs.lemmas.List.FromFn.{get_or-map-range_with_len, length-map-range_with_len}
 use Rattle.std.specs.List.{Contains}
-use Rattle.np_addr.proofs.Pairs.{AllPairs-append, AllPairs-nil}
-use Rattle.np_conns.specs.Conns.{is_spot}
+use Rattle.np_base.proofs.Lists.{AllPairs-append}
+use Rattle.np_addr.proofs.Pairs.{AllPairs-nil}
+use Rattle.np_conns.specs.Conns.{is_spot, proto_number}
 use Rattle.np_conns.specs.declared.port_spot.PortSpot.{PortSpot}
 use Rattle.np_conns.specs.declared.proto.Proto.{Proto}
 use Rattle.np_conns.specs.declared.proto.Proto.TheVariants.{Tcp, Udp, Sctp}
-use Rattle.np_explain.specs.Parts.{proto_number, spot_number}
+use Rattle.np_explain.specs.Parts.{spot_number}
 use Rattle.np_explain.specs.RightParts.{all_spots, spots_from}
 
 abbrev spot_at : Proto → ℕ → PortSpot

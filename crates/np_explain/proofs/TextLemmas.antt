@@ -1,54 +1,28 @@
 -- A text of what decides belongs to one decider.
 use Rattle.std.proofs.Common.{◌≡◌, ℕ, ◌+◌, ◌*◌, ◌<◌, ◌^◌, List, [], ◌∷◌, ◌++◌, length, flat_map, get_or, Bool, true, false, not, ◌&&◌, ◌==◌, nat_lt, codes, decimal, Option, Some, None, is_some, refl}
 use Rattle.std.proofs.Common.{sym, ap, ◌∙◌, append_assoc, arith}
-use Rattle.std.specs.Int.{IsInRange}
 use Rattle.std.specs.List.{list_all}
-use Rattle.std.specs.Str.Parse.{AllDigits}
-use Rattle.std.proofs.lemmas.Bool.{and_from, and_parts, eqb-false, false≢true, not-true, true≢false}
+use Rattle.std.proofs.lemmas.Bool.{and_parts, eqb-false, false≢true, not-true, true≢false}
 use Rattle.std.proofs.lemmas.Bool.Decides.{nat_tests}
-use Rattle.std.proofs.lemmas.Fmt.{decimal_injective, decimal_is_IsNumeral}
+use Rattle.std.proofs.lemmas.Fmt.{decimal_injective}
 use Rattle.std.proofs.lemmas.List.{append_cancel_left}
-use Rattle.std.proofs.lemmas.Str.Parse.{digit_from_value}
+use Rattle.np_base.proofs.Texts.{texts-apart}
 use Rattle.np_explain.specs.DeciderText.{decider_text, names_text, pass_text, rule_text}
-use Rattle.np_explain.specs.WellNamed.{has_rule, is_policy_name, is_rule_name, is_well_named}
+use Rattle.np_explain.specs.WellNamed.{has_rule, is_rule_name, is_well_named}
 use Rattle.np_rules.specs.Deciders.{decider_allows}
-use Rattle.np_rules.specs.Texts.{direction_text, verdict_text}
-use Rattle.np_model.specs.WellPolicies.{if_there}
-use Rattle.np_model.specs.Words.{is_word, is_word_byte}
+use Rattle.np_rules.specs.Texts.{verdict_text}
+use Rattle.np_model.specs.Words.{is_word, is_word_byte, direction_text, is_whole_word}
 use Rattle.np_rules.specs.declared.decider.Decider.{Decider}
 use Rattle.np_rules.specs.declared.decider.Decider.TheVariants.{NoSide, Admin, Net, Isolated, Base, Free}
 use Rattle.np_rules.specs.declared.decider.RuleName.{RuleName}
 use Rattle.np_model.specs.declared.direction.Direction.{Direction}
 use Rattle.np_model.specs.declared.direction.Direction.TheVariants.{Ingress, Egress}
+use Rattle.np_model.specs.WellObjects.{option_all}
+use Rattle.np_model.proofs.WordLemmas.{words-cut, decimal-word}
 
 -- ---- words
 
--- words that end at a byte that is none of a word are equal, and so is what follows
-cut : (w w' : List ℕ) (c c' : ℕ) (t t' : List ℕ) → is_word w ≡ true → is_word w' ≡ true → is_word_byte c ≡ false → is_word_byte c' ≡ false → w ++ c ∷ t ≡ w' ++ c' ∷ t' → (w ≡ w') × (c ≡ c') × (t ≡ t')
-cut [] [] c c' t t' word word' end end' same = (refl, cc, cc)
-cut [] (y ∷ ys) c c' t t' word word' end end' same =
-    let here : c ≡ y = cc in
-    absurd (false≢true (sym end ∙ ap is_word_byte here ∙ (and_parts (is_word_byte y) (is_word ys) word').0))
-cut (x ∷ xs) [] c c' t t' word word' end end' same =
-    let here : x ≡ c' = cc in
-    absurd (true≢false (sym (and_parts (is_word_byte x) (is_word xs) word).0 ∙ ap is_word_byte here ∙ end'))
-cut (x ∷ xs) (y ∷ ys) c c' t t' word word' end end' same =
-    let heads : x ≡ y = cc in
-    let tails : xs ++ c ∷ t ≡ ys ++ c' ∷ t' = cc in
-    let rest = cut xs ys c c' t t' (and_parts (is_word_byte x) (is_word xs) word).1 (and_parts (is_word_byte y) (is_word ys) word').1 end end' tails in
-    (rw (heads, rest.0) refl, rest.1, rest.2)
-
-digit-word : (d : ℕ) → IsInRange 48 57 d → is_word_byte d ≡ true
-digit-word d digit = grind (arith, nat_tests)
-
-digits-word : (digits : List ℕ) → AllDigits 10 digits → is_word digits ≡ true
-digits-word [] all = refl
-digits-word (d ∷ digits) all = and_from _ _ (digit-word d (digit_from_value d all.0)) (digits-word digits all.1)
-
-decimal-word : (n : ℕ) → n < 2 ^ 64 → is_word (decimal n) ≡ true
-decimal-word n few = digits-word (decimal n) (decimal_is_IsNumeral n few).0.1
-
-name-word : (text : List ℕ) → is_policy_name text ≡ true → is_word text ≡ true
+name-word : (text : List ℕ) → is_whole_word text ≡ true → is_word text ≡ true
 name-word text name = (and_parts (not (length text == 0)) (is_word text) name).1
 
 -- ---- rules
@@ -57,22 +31,18 @@ direction-word : (direction : Direction) → is_word (direction_text direction) 
 direction-word Ingress = refl
 direction-word Egress = refl
 
--- a text that tells two apart
-apart : (place x y : ℕ) (text text' : List ℕ) → text ≡ text' → get_or text place 0 ≡ x → get_or text' place 0 ≡ y → (x == y) ≡ false → ⊥
-apart place x y text text' same first second differ = eqb-false x y differ (sym first ∙ ap (λ (t : List ℕ). get_or t place 0) same ∙ second)
-
 direction-one : (a b : Direction) → direction_text a ≡ direction_text b → a ≡ b
 direction-one Ingress Ingress same = refl
 direction-one Egress Egress same = refl
-direction-one Ingress Egress same = absurd (apart 0 105 101 (codes "ingress") (codes "egress") same refl refl refl)
-direction-one Egress Ingress same = absurd (apart 0 101 105 (codes "egress") (codes "ingress") same refl refl refl)
+direction-one Ingress Egress same = absurd (texts-apart 0 105 101 (codes "ingress") (codes "egress") same refl refl refl)
+direction-one Egress Ingress same = absurd (texts-apart 0 101 105 (codes "egress") (codes "ingress") same refl refl refl)
 
 below : (n : ℕ) → nat_lt n (2 ^ 64) ≡ true → n < 2 ^ 64
 below n few = grind (arith, nat_tests)
 
 rule-parts : (rule : RuleName) → is_rule_name rule ≡ true → (is_word rule.policy ≡ true) × (rule.place < 2 ^ 64)
 rule-parts rule well =
-    let parts = and_parts (is_policy_name rule.policy) (nat_lt rule.place (2 ^ 64)) well in
+    let parts = and_parts (is_whole_word rule.policy) (nat_lt rule.place (2 ^ 64)) well in
     (name-word rule.policy parts.0, below rule.place parts.1)
 
 rule-equal : (rule other : RuleName) → rule.policy ≡ other.policy → rule.place ≡ other.place → rule ≡ other
@@ -94,18 +64,18 @@ rule-one : (a b : Direction) (rule other : RuleName) (t t' : List ℕ) → is_ru
 rule-one a b rule other t t' well well' same =
     let one = rule-parts rule well in
     let two = rule-parts other well' in
-    let names = cut rule.policy other.policy 32 32 _ _ one.0 two.0 refl refl (sym (rule-spelled a rule t) ∙ same ∙ rule-spelled b other t') in
-    let ways = cut (direction_text a) (direction_text b) 91 91 _ _ (direction-word a) (direction-word b) refl refl names.2 in
-    let numbers = cut (decimal rule.place) (decimal other.place) 93 93 t t' (decimal-word rule.place one.1) (decimal-word other.place two.1) refl refl ways.2 in
+    let names = words-cut rule.policy other.policy 32 32 _ _ one.0 two.0 refl refl (sym (rule-spelled a rule t) ∙ same ∙ rule-spelled b other t') in
+    let ways = words-cut (direction_text a) (direction_text b) 91 91 _ _ (direction-word a) (direction-word b) refl refl names.2 in
+    let numbers = words-cut (decimal rule.place) (decimal other.place) 93 93 t t' (decimal-word rule.place one.1) (decimal-word other.place two.1) refl refl ways.2 in
     record { direction = direction-one a b ways.0; name = rule-equal rule other names.0 (decimal_injective rule.place other.place one.1 two.1 numbers.0); rest = numbers.2 }
 
 -- ---- rules with Pass; each text ends with a newline, so that something stands behind every word
 
-pass-one : (a b : Direction) (pass passed : Option RuleName) → if_there is_rule_name pass ≡ true → if_there is_rule_name passed ≡ true
+pass-one : (a b : Direction) (pass passed : Option RuleName) → option_all is_rule_name pass ≡ true → option_all is_rule_name passed ≡ true
     → pass_text a pass ++ 10 ∷ [] ≡ pass_text b passed ++ 10 ∷ [] → (pass ≡ passed) × (is_some pass ≡ true → a ≡ b)
 pass-one a b None None well well' same = (refl, λ is. absurd (false≢true is))
-pass-one a b None (Some other) well well' same = absurd (apart 0 10 32 (10 ∷ []) (pass_text b (Some other) ++ 10 ∷ []) same refl refl refl)
-pass-one a b (Some rule) None well well' same = absurd (apart 0 32 10 (pass_text a (Some rule) ++ 10 ∷ []) (10 ∷ []) same refl refl refl)
+pass-one a b None (Some other) well well' same = absurd (texts-apart 0 10 32 (10 ∷ []) (pass_text b (Some other) ++ 10 ∷ []) same refl refl refl)
+pass-one a b (Some rule) None well well' same = absurd (texts-apart 0 32 10 (pass_text a (Some rule) ++ 10 ∷ []) (10 ∷ []) same refl refl refl)
 pass-one a b (Some rule) (Some other) well well' same =
     let front = codes " after Pass by AdminNetworkPolicy " in
     let both : front ++ (rule_text a rule ++ 10 ∷ []) ≡ front ++ (rule_text b other ++ 10 ∷ []) =
@@ -134,29 +104,29 @@ others-spelled : (name : List ℕ) (names : List (List ℕ)) (t : List ℕ) → 
 others-spelled name names t = ap (λ (rest : List ℕ). 44 ∷ 32 ∷ rest) (append_assoc name (others_text names) t)
 
 module _ (c c' : ℕ) (t t' : List ℕ) (end : is_word_byte c ≡ false) (end' : is_word_byte c' ≡ false) (no_comma : (c == 44) ≡ false) (no_comma' : (c' == 44) ≡ false) where
-  names-one : (v v' : List ℕ) (vs vs' : List (List ℕ)) → list_all is_policy_name (v ∷ vs) ≡ true → list_all is_policy_name (v' ∷ vs') ≡ true
+  names-one : (v v' : List ℕ) (vs vs' : List (List ℕ)) → list_all is_whole_word (v ∷ vs) ≡ true → list_all is_whole_word (v' ∷ vs') ≡ true
       → v ++ (others_text vs ++ c ∷ t) ≡ v' ++ (others_text vs' ++ c' ∷ t') → (v ∷ vs ≡ v' ∷ vs') × (c ∷ t ≡ c' ∷ t')
   names-one v v' [] [] words words' same =
-      let parts = cut v v' c c' t t' (name-word v (and_parts (is_policy_name v) true words).0) (name-word v' (and_parts (is_policy_name v') true words').0) end end' same in
+      let parts = words-cut v v' c c' t t' (name-word v (and_parts (is_whole_word v) true words).0) (name-word v' (and_parts (is_whole_word v') true words').0) end end' same in
       (rw parts.0 refl, rw (parts.1, parts.2) refl)
   names-one v v' [] (u' ∷ us') words words' same =
-      let parts = cut v v' c 44 t _ (name-word v (and_parts (is_policy_name v) true words).0) (name-word v' (and_parts (is_policy_name v') (list_all is_policy_name (u' ∷ us')) words').0) end refl
+      let parts = words-cut v v' c 44 t _ (name-word v (and_parts (is_whole_word v) true words).0) (name-word v' (and_parts (is_whole_word v') (list_all is_whole_word (u' ∷ us')) words').0) end refl
       (same ∙ ap (λ (rest : List ℕ). v' ++ rest) (others-spelled u' us' (c' ∷ t'))) in
       absurd (eqb-false c 44 no_comma parts.1)
   names-one v v' (u ∷ us) [] words words' same =
-      let parts = cut v v' 44 c' _ t' (name-word v (and_parts (is_policy_name v) (list_all is_policy_name (u ∷ us)) words).0) (name-word v' (and_parts (is_policy_name v') true words').0) refl end'
+      let parts = words-cut v v' 44 c' _ t' (name-word v (and_parts (is_whole_word v) (list_all is_whole_word (u ∷ us)) words).0) (name-word v' (and_parts (is_whole_word v') true words').0) refl end'
       (sym (ap (λ (rest : List ℕ). v ++ rest) (others-spelled u us (c ∷ t))) ∙ same) in
       absurd (eqb-false c' 44 no_comma' (sym parts.1))
   names-one v v' (u ∷ us) (u' ∷ us') words words' same =
-      let here = and_parts (is_policy_name v) (list_all is_policy_name (u ∷ us)) words in
-      let there = and_parts (is_policy_name v') (list_all is_policy_name (u' ∷ us')) words' in
-      let parts = cut v v' 44 44 _ _ (name-word v here.0) (name-word v' there.0) refl refl
+      let here = and_parts (is_whole_word v) (list_all is_whole_word (u ∷ us)) words in
+      let there = and_parts (is_whole_word v') (list_all is_whole_word (u' ∷ us')) words' in
+      let parts = words-cut v v' 44 44 _ _ (name-word v here.0) (name-word v' there.0) refl refl
       (sym (ap (λ (rest : List ℕ). v ++ rest) (others-spelled u us (c ∷ t))) ∙ same ∙ ap (λ (rest : List ℕ). v' ++ rest) (others-spelled u' us' (c' ∷ t'))) in
       let behind : u ++ (others_text us ++ c ∷ t) ≡ u' ++ (others_text us' ++ c' ∷ t') = let tails = parts.2 in cc in
       let rest = names-one u u' us us' here.1 there.1 behind in
       (rw (parts.0, rest.0) refl, rest.1)
 
-  listed-one : (names others : List (List ℕ)) → (length names == 0) ≡ false → (length others == 0) ≡ false → list_all is_policy_name names ≡ true → list_all is_policy_name others ≡ true
+  listed-one : (names others : List (List ℕ)) → (length names == 0) ≡ false → (length others == 0) ≡ false → list_all is_whole_word names ≡ true → list_all is_whole_word others ≡ true
       → names_text names ++ c ∷ t ≡ names_text others ++ c' ∷ t' → (names ≡ others) × (c ∷ t ≡ c' ∷ t')
   listed-one [] others some some' words words' same = absurd (true≢false some)
   listed-one (v ∷ vs) [] some some' words words' same = absurd (true≢false some')
@@ -198,8 +168,8 @@ in_two direction (Free pass) = refl
 verdict-one : (allow allows : Bool) (t t' : List ℕ) → verdict_text allow ++ t ≡ verdict_text allows ++ t' → (allow ≡ allows) × (t ≡ t')
 verdict-one true true t t' same = (refl, append_cancel_left (codes "Allow") t t' same)
 verdict-one false false t t' same = (refl, append_cancel_left (codes "Deny") t t' same)
-verdict-one true false t t' same = absurd (apart 0 65 68 (codes "Allow" ++ t) (codes "Deny" ++ t') same refl refl refl)
-verdict-one false true t t' same = absurd (apart 0 68 65 (codes "Deny" ++ t) (codes "Allow" ++ t') same refl refl refl)
+verdict-one true false t t' same = absurd (texts-apart 0 65 68 (codes "Allow" ++ t) (codes "Deny" ++ t') same refl refl refl)
+verdict-one false true t t' same = absurd (texts-apart 0 68 65 (codes "Deny" ++ t) (codes "Allow" ++ t') same refl refl refl)
 
 -- two bytes that are others where another kind decides
 abbrev mark : List ℕ → ℕ
@@ -210,21 +180,21 @@ IsOne a b d e = (d ≡ e) × (has_rule d ≡ true → a ≡ b)
 
 -- a rule, and the rule with Pass that was met before
 tier-one : (a b : Direction) (front : List ℕ) (pass passed : Option RuleName) (rule other : RuleName)
-    → (if_there is_rule_name pass && is_rule_name rule) ≡ true → (if_there is_rule_name passed && is_rule_name other) ≡ true
+    → (option_all is_rule_name pass && is_rule_name rule) ≡ true → (option_all is_rule_name passed && is_rule_name other) ≡ true
     → front ++ rule_text a rule ++ pass_text a pass ≡ front ++ rule_text b other ++ pass_text b passed → (pass ≡ passed) × (rule ≡ other) × (a ≡ b)
 tier-one a b front pass passed rule other well well' same =
-    let here = and_parts (if_there is_rule_name pass) (is_rule_name rule) well in
-    let there = and_parts (if_there is_rule_name passed) (is_rule_name other) well' in
+    let here = and_parts (option_all is_rule_name pass) (is_rule_name rule) well in
+    let there = and_parts (option_all is_rule_name passed) (is_rule_name other) well' in
     let rules = rule-one a b rule other _ _ here.1 there.1 (go_on front (rule_text a rule) (rule_text b other) (pass_text a pass) (pass_text b passed) same) in
     ((pass-one a b pass passed here.0 there.0 rules.rest).0, rules.name, rules.direction)
 
 isolated-one : (a b : Direction) (pass passed : Option RuleName) (names others : List (List ℕ)) → is_well_named (Isolated pass names) ≡ true → is_well_named (Isolated passed others) ≡ true
     → reason a (Isolated pass names) ≡ reason b (Isolated passed others) → IsOne a b (Isolated pass names) (Isolated passed others)
 isolated-one a b pass passed names others well well' same =
-    let here = and_parts _ (list_all is_policy_name names) well in
-    let there = and_parts _ (list_all is_policy_name others) well' in
-    let some = and_parts (if_there is_rule_name pass) (not (length names == 0)) here.0 in
-    let some' = and_parts (if_there is_rule_name passed) (not (length others == 0)) there.0 in
+    let here = and_parts _ (list_all is_whole_word names) well in
+    let there = and_parts _ (list_all is_whole_word others) well' in
+    let some = and_parts (option_all is_rule_name pass) (not (length names == 0)) here.0 in
+    let some' = and_parts (option_all is_rule_name passed) (not (length others == 0)) there.0 in
     let first = pass-begins a pass in
     let second = pass-begins b passed in
     let both = go_on (codes " since isolated by NetworkPolicy ") (names_text names) (names_text others) (pass_text a pass) (pass_text b passed) same in

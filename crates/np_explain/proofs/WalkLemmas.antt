@@ -1,8 +1,9 @@
 -- The mark of a spot stands for what decides it, whatever the spots are.
-use Rattle.std.proofs.Common.{◌≡◌, ℕ, suc, ◌+◌, List, [], ◌∷◌, Bool, true, false, find, Option, Some, None, refl, sym, ap, ◌∙◌, subst, arith, if◌then◌else◌}
+use Rattle.std.proofs.Common.{◌≡◌, ℕ, ◌+◌, List, [], ◌∷◌, Bool, true, false, find, Option, Some, None, refl, sym, ap, ◌∙◌, subst, if◌then◌else◌}
 use Rattle.std.specs.List.{enumerate_from, position_from, slice_get}
 use Rattle.std.specs.Option.{option_map, option_map_or}
 use Rattle.std.proofs.lemmas.Option.{slice_get_within}
+use Rattle.np_base.proofs.Options.{some_is}
 use Rattle.np_conns.specs.Conns.{Conns, has_spot, is_spot}
 use Rattle.np_conns.specs.declared.port_spot.PortSpot.{PortSpot}
 use Rattle.np_model.specs.Lawful.{IsLawful}
@@ -28,34 +29,22 @@ use Rattle.np_tiers.specs.declared.layer.Action.{Action as TierAction}
 use Rattle.np_tiers.specs.declared.layer.AdminPart.{AdminPart}
 use Rattle.np_tiers.specs.declared.layer.Layer.{Layer}
 use Rattle.np_tiers.specs.declared.mark.Mark.{Mark}
+use Rattle.np_tiers.proofs.Verdicts.{StandsAt, whole_stands, first_stands, rest_stands}
 
 -- ---- places and items
 
--- what stands at the places from n on
-abbrev pub StandsFrom : {X : Type 0} → List X → ℕ → List X → Type 0
-StandsFrom all n items = (k : ℕ) → slice_get all (n + k) ≡ slice_get items k
-
-pub stands_all : {X : Type 0} (all : List X) → StandsFrom all 0 all
-stands_all all k = let same : 0 + k ≡ k = omega arith in ap (slice_get all) same
-
-pub stands_first : {X : Type 0} (all : List X) (n : ℕ) (x : X) (items : List X) → StandsFrom all n (x ∷ items) → slice_get all n ≡ Some x
-stands_first all n x items stands = let same : n ≡ n + 0 = omega arith in ap (slice_get all) same ∙ stands 0
-
-pub stands_rest : {X : Type 0} (all : List X) (n : ℕ) (x : X) (items : List X) → StandsFrom all n (x ∷ items) → StandsFrom all (n + 1) items
-stands_rest all n x items stands k = let same : n + 1 + k ≡ n + suc k = omega arith in ap (slice_get all) same ∙ stands (suc k)
-
 -- the first set that has a spot stands at the place of the first item that passes
-found : {S X : Type 0} (at : S → Bool) (test : X → Bool) (all : List X) (n : ℕ) (sets : List S) (items : List X) → Pairwise (λ set item. at set ≡ test item) sets items → StandsFrom all n items →
+found : {S X : Type 0} (at : S → Bool) (test : X → Bool) (all : List X) (n : ℕ) (sets : List S) (items : List X) → Pairwise (λ set item. at set ≡ test item) sets items → StandsAt all n items →
     option_map (slice_get all) (position_from at n sets) ≡ option_map Some (find test items)
 found at test all n [] [] related stands = refl
 found at test all n [] (x ∷ items) related stands = absurd related
 found at test all n (set ∷ sets) [] related stands = absurd related
 found {S} {X} at test all n (set ∷ sets) (x ∷ items) related stands =
-    rw related.0 (go (test x) (found at test all (n + 1) sets items related.1 (stands_rest all n x items stands)))
+    rw related.0 (go (test x) (found at test all (n + 1) sets items related.1 (rest_stands all n x items stands)))
   where
     go : (b : Bool) → option_map (slice_get all) (position_from at (n + 1) sets) ≡ option_map Some (find test items) →
         option_map (slice_get all) (if b then Some n else position_from at (n + 1) sets) ≡ option_map Some (if b then Some x else find test items)
-    go true rest = ap {A = Option X} Some (stands_first all n x items stands)
+    go true rest = ap {A = Option X} Some (first_stands all n x items stands)
     go false rest = rest
 
 -- the rule at the place of an admin part, and what the part says; and a rule with what it says
@@ -67,21 +56,18 @@ spoken placed = (Some placed, tier_action placed.rule.action)
 
 -- so it is for the admin parts, of which each says what its rule says
 admin_found : {S : Type 0} (at : S → Bool) (test : PlacedAdminRule → Bool) (all : List PlacedAdminRule) (n : ℕ) (parts : List (AdminPart S)) (items : List PlacedAdminRule) →
-    Pairwise (λ part placed. (part.action ≡ tier_action placed.rule.action) × (at part.set ≡ test placed)) parts items → StandsFrom all n items →
+    Pairwise (λ part placed. (part.action ≡ tier_action placed.rule.action) × (at part.set ≡ test placed)) parts items → StandsAt all n items →
     option_map (seen all) (find (λ numbered. at numbered.1.set) (enumerate_from n parts)) ≡ option_map spoken (find test items)
 admin_found at test all n [] [] related stands = refl
 admin_found at test all n [] (placed ∷ items) related stands = absurd related
 admin_found at test all n (part ∷ parts) [] related stands = absurd related
 admin_found at test all n (part ∷ parts) (placed ∷ items) related stands =
-    rw related.0.1 (go (test placed) (admin_found at test all (n + 1) parts items related.1 (stands_rest all n placed items stands)))
+    rw related.0.1 (go (test placed) (admin_found at test all (n + 1) parts items related.1 (rest_stands all n placed items stands)))
   where
     go : (b : Bool) → option_map (seen all) (find (λ numbered. at numbered.1.set) (enumerate_from (n + 1) parts)) ≡ option_map spoken (find test items) →
         option_map (seen all) (if b then Some (n, part) else find (λ numbered. at numbered.1.set) (enumerate_from (n + 1) parts)) ≡ option_map spoken (if b then Some placed else find test items)
-    go true rest = cc (stands_first all n placed items stands, related.0.0)
+    go true rest = cc (first_stands all n placed items stands, related.0.0)
     go false rest = rest
-
-some_is : {X : Type 0} (a b : X) → Some a ≡ Some b → a ≡ b
-some_is a b same = cc
 
 none_is_some : {X A : Type 0} (x : X) → None ≡ Some x → A
 none_is_some x same = cc
@@ -168,7 +154,7 @@ module _ {S Spot : Type 0} (has : S → Spot → Bool) (in_space : Spot → Bool
       found (λ set. has set spot) (placed_net_matches (looks_at spot)) (net_rules side) 0 layer.net (net_rules side)
       (Pairwise-weaker (λ set placed. IsSetOf has in_space looks_at set (matches_of placed)) (λ set placed. has set spot ≡ placed_net_matches (looks_at spot) placed)
       (λ set placed members. members spot within) layer.net (net_rules side) is.net)
-      (stands_all (net_rules side))
+      (whole_stands (net_rules side))
 
   bases : option_map (slice_get (base_rules side)) (position_from (λ part. has part.set spot) 0 layer.base) ≡ option_map Some
       (find (λ placed. admin_rule_matches placed.rule (looks_at spot)) (base_rules side))
@@ -176,7 +162,7 @@ module _ {S Spot : Type 0} (has : S → Spot → Bool) (in_space : Spot → Bool
       found (λ part. has part.set spot) (λ placed. admin_rule_matches placed.rule (looks_at spot)) (base_rules side) 0 layer.base (base_rules side)
       (Pairwise-weaker (λ part placed. IsBasePart has in_space looks_at part placed.rule) (λ part placed. has part.set spot ≡ admin_rule_matches placed.rule (looks_at spot))
       (λ part placed one. one.members spot within) layer.base (base_rules side) is.base)
-      (stands_all (base_rules side))
+      (whole_stands (base_rules side))
 
   admins : option_map (seen (admin_rules side)) (find (λ n. has n.1.set spot) (enumerate_from 0 layer.admin)) ≡ option_map spoken
       (find (λ placed. admin_rule_matches placed.rule (looks_at spot)) (admin_rules side))
@@ -185,7 +171,7 @@ module _ {S Spot : Type 0} (has : S → Spot → Bool) (in_space : Spot → Bool
       (Pairwise-weaker (λ part placed. IsAdminPart has in_space looks_at part placed.rule)
       (λ part placed. (part.action ≡ tier_action placed.rule.action) × (has part.set spot ≡ admin_rule_matches placed.rule (looks_at spot)))
       (λ part placed one. (one.action, one.members spot within)) layer.admin (admin_rules side) is.admin)
-      (stands_all (admin_rules side))
+      (whole_stands (admin_rules side))
 
   -- below the admin tier
   lower_named : (pass : Option ℕ) → IsPassOf side pass →

@@ -3,7 +3,8 @@ use Rattle.std.specs.Prelude.{ℕ, List, [], ◌++◌, codes, decimal, Option}
 use Rattle.std.specs.List.{join_by}
 use Rattle.std.specs.Option.{option_map_or}
 use Rattle.np_model.specs.declared.direction.Direction.{Direction}
-use Rattle.np_rules.specs.Texts.{direction_text, verdict_text}
+use Rattle.np_model.specs.Words.{direction_text}
+use Rattle.np_rules.specs.Texts.{verdict_text}
 use Rattle.np_rules.specs.declared.decider.Decider.{Decider}
 use Rattle.np_rules.specs.declared.decider.Decider.TheVariants.{NoSide, Admin, Net, Isolated, Base, Free}
 use Rattle.np_rules.specs.declared.decider.RuleName.{RuleName}

@@ -1,14 +1,15 @@
 -- What decides between two ends, at both sides of them, and what passes.
-use Rattle.std.specs.Prelude.{ℕ, ◌≡◌, ◌==◌, ◌&&◌, List, Bool, true}
+use Rattle.std.specs.Prelude.{◌≡◌, ◌&&◌, List, Bool, true}
 use Rattle.std.specs.Cmp.Lexicographic.{pointwise}
 use Rattle.std.specs.List.{list_any}
 use Rattle.np_addr.specs.declared.address.Family.{Family}
-use Rattle.np_base.specs.declared.range.Range.{Range}
+use Rattle.np_base.specs.Ranges.{are_same_range}
 use Rattle.np_conns.specs.Conns.{Conns, has_spot, is_spot}
 use Rattle.np_conns.specs.declared.port_spot.PortSpot.{PortSpot}
+use Rattle.np_conns.specs.ConnsText.{conns_of}
 use Rattle.np_model.specs.declared.lists.EstateLists.{EstateLists}
 use Rattle.np_explain.specs.Parts.{AreRightParts}
-use Rattle.np_explain.specs.RightParts.{conns_of, parts_of, same_decider}
+use Rattle.np_explain.specs.RightParts.{parts_of, same_decider}
 use Rattle.np_explain.specs.Sides.{decider_between, packet_between}
 use Rattle.np_explain.specs.declared.explanation.Explanation.{Explanation}
 use Rattle.np_explain.specs.declared.part.Part.{Part}
@@ -46,11 +47,8 @@ some_allows parts spot = list_any (λ part. decider_allows part.decider && has_s
 
 -- ---- explanations that are alike
 
-abbrev pub same_range : Range ℕ → Range ℕ → Bool
-same_range a b = a.lo == b.lo && a.hi == b.hi
-
 abbrev pub same_conns : Conns → Conns → Bool
-same_conns a b = pointwise same_range a.tcp b.tcp && (pointwise same_range a.udp b.udp && pointwise same_range a.sctp b.sctp)
+same_conns a b = pointwise are_same_range a.tcp b.tcp && (pointwise are_same_range a.udp b.udp && pointwise are_same_range a.sctp b.sctp)
 
 abbrev pub same_part : Part → Part → Bool
 same_part a b = same_decider a.decider b.decider && same_conns a.conns b.conns

@@ -1,19 +1,12 @@
 -- One set of spots for each decider. `decides` says what decides a spot.
 use Rattle.std.specs.Prelude.{◌≡◌, ◌≢◌, ◌↔◌, ℕ, ◌+◌, ◌*◌, ◌<◌, List, Bool, true, IsTrue, All, AllPairs}
 use Rattle.std.specs.List.{list_any}
-use Rattle.np_conns.specs.Conns.{Conns, IsConns, has_spot, is_spot}
+use Rattle.np_conns.specs.Conns.{Conns, IsConns, has_spot, is_spot, proto_number}
 use Rattle.np_conns.specs.declared.port_spot.PortSpot.{PortSpot}
-use Rattle.np_conns.specs.declared.proto.Proto.{Proto}
-use Rattle.np_conns.specs.declared.proto.Proto.TheVariants.{Tcp, Udp, Sctp}
 use Rattle.np_explain.specs.declared.part.Part.{Part}
 use Rattle.np_rules.specs.declared.decider.Decider.{Decider}
 
 -- ---- the order of spots
-
-abbrev pub proto_number : Proto → ℕ
-proto_number Tcp = 0
-proto_number Udp = 1
-proto_number Sctp = 2
 
 -- the spots in their order: those of TCP, of UDP, of SCTP, and each protocol's by their ports
 abbrev pub spot_number : PortSpot → ℕ

@@ -5,8 +5,7 @@ use Rattle.std.specs.Cmp.Lexicographic.{pointwise}
 use Rattle.std.specs.List.{flat_map, range_with_len}
 use Rattle.std.specs.Option.{option_eq}
 use Rattle.std.specs.Str.{bytes_eq}
-use Rattle.np_conns.specs.Conns.{Conns}
-use Rattle.np_conns.specs.ConnsText.{spans_of}
+use Rattle.np_conns.specs.ConnsText.{conns_of}
 use Rattle.np_conns.specs.declared.port_spot.PortSpot.{PortSpot}
 use Rattle.np_conns.specs.declared.proto.Proto.{Proto}
 use Rattle.np_conns.specs.declared.proto.Proto.TheVariants.{Tcp, Udp, Sctp}
@@ -45,10 +44,6 @@ same_decider one another = false
 unfoldable pub each_once : List Decider → List Decider
 each_once [] = []
 each_once (decider ∷ others) = decider ∷ filter (λ other. not (same_decider decider other)) (each_once others)
-
--- the connections of the spots that pass
-abbrev pub conns_of : (PortSpot → Bool) → Conns
-conns_of passes = record { tcp = spans_of passes Tcp; udp = spans_of passes Udp; sctp = spans_of passes Sctp }
 
 -- a decider with exactly the spots that it decides
 abbrev pub part_of : (PortSpot → Decider) → Decider → Part

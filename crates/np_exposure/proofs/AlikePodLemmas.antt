@@ -1,8 +1,8 @@
 -- Pods that policies select alike, with the same named ports, say the same to each hypothetical pod.
-use Rattle.std.proofs.Common.{◌≡◌, ℕ, List, [], ◌∷◌, ◌++◌, map, filter, find, Bool, true, false, ◌&&◌, ◌||◌, Option, Some, None, is_some, refl, ap, ◌∙◌, if◌then◌else◌}
-use Rattle.std.specs.List.{AllByRecursion, enumerate_from, flat_map, list_all, list_any}
-use Rattle.std.specs.Cmp.Lexicographic.{bytes_decides}
+use Rattle.std.proofs.Common.{◌≡◌, ℕ, List, [], ◌∷◌, ◌++◌, map, filter, find, ◌&&◌, ◌||◌, Option, Some, None, is_some, refl, ap, ◌∙◌, if◌then◌else◌}
+use Rattle.std.specs.List.{AllByRecursion, enumerate_from, flat_map, list_any}
 use Rattle.std.specs.Str.{bytes_eq}
+use Rattle.np_base.proofs.Each.{All-parts}
 use Rattle.np_addr.specs.declared.address.Family.TheVariants.{Four}
 use Rattle.np_conns.specs.Conns.{same_proto}
 use Rattle.np_conns.specs.declared.port_spot.PortSpot.{PortSpot}
@@ -11,11 +11,9 @@ use Rattle.np_exposure.specs.Mentions.{mentions}
 use Rattle.np_exposure.specs.Strangers.{exposes}
 use Rattle.np_fold.specs.Keys.{keys_of_admin_policy, keys_of_admin_rule, keys_of_baseline, keys_of_estate, keys_of_net_direction, keys_of_net_policy, keys_of_selector, keys_of_service}
 use Rattle.np_fold.specs.Keys.{keys_of_subject}
-use Rattle.np_labels.specs.Labels.{value_of}
-use Rattle.np_labels.specs.Selectors.{allows, is_listed, meets_requirement, meets_selector}
-use Rattle.np_labels.specs.declared.pair.Pair.{Pair}
-use Rattle.np_labels.specs.declared.requirement.Requirement.{Requirement}
-use Rattle.np_labels.specs.declared.selector.Selector.{Selector}
+use Rattle.np_fold.proofs.SelectorLemmas.{selector-agree}
+use Rattle.np_labels.specs.Labels.{AgreeOn}
+use Rattle.np_labels.specs.Selectors.{meets_selector}
 use Rattle.np_model.specs.declared.admin_policy.AdminPolicy.{AdminPolicy}
 use Rattle.np_model.specs.declared.admin_policy.AdminPort.{AdminPort}
 use Rattle.np_model.specs.declared.admin_policy.AdminPort.TheVariants as admin_port
@@ -28,7 +26,7 @@ use Rattle.np_model.specs.declared.network_policy.NetPolicy.{NetPolicy}
 use Rattle.np_model.specs.declared.network_policy.NetPort.{NetPort}
 use Rattle.np_model.specs.declared.network_policy.NetPort.TheVariants as net_port
 use Rattle.np_model.specs.declared.network_policy.NetRule.{NetRule}
-use Rattle.np_rules.proofs.EachItem.{All-each, All-parts, filter-same, find-same, list_any-same, none_or_any-same}
+use Rattle.np_rules.proofs.EachItem.{All-each, filter-same, find-same, list_any-same, none_or_any-same}
 use Rattle.np_rules.specs.model.AdminTier.{admin_decider, admin_precedes, least_by}
 use Rattle.np_rules.specs.model.BaseTier.{base_decider}
 use Rattle.np_rules.specs.model.Ends.{Contact, PodEnd, contact, destination_of, pod, stranger_end}
@@ -43,10 +41,6 @@ use Rattle.np_rules.specs.model.Sides.{admin_says, base_says, lower_allows, side
 use Rattle.np_rules.specs.model.Verdict.{pod_at}
 use Rattle.np_rules.specs.declared.stranger.Stranger.{Stranger}
 
--- both lists of labels have the same value of the key
-abbrev pub AgreeOn : List Pair → List Pair → List ℕ → Type 0
-AgreeOn one other key = value_of one key ≡ value_of other key
-
 -- Two pods of one namespace, with the same labels of it and the same named ports, that have the same values of the keys
 -- that selectors name.
 pub record AreAlikePods (lists : EstateLists) (p q : PodEnd) : Type 0 where
@@ -54,28 +48,6 @@ pub record AreAlikePods (lists : EstateLists) (p q : PodEnd) : Type 0 where
   pub namespace_labels : p.namespace_labels ≡ q.namespace_labels
   pub ports : p.ports ≡ q.ports
   pub labels : AllByRecursion (AgreeOn p.labels q.labels) (keys_of_estate lists)
-
--- ---- selectors
-
-requirements-agree : (one other : List Pair) (requirements : List Requirement) → AllByRecursion (AgreeOn one other) (map (λ requirement. requirement.key) requirements) →
-    list_all (λ requirement. meets_requirement requirement one) requirements ≡ list_all (λ requirement. meets_requirement requirement other) requirements
-requirements-agree one other [] agree = refl
-requirements-agree one other (requirement ∷ requirements) agree =
-    ap (λ (found : Option (List ℕ)). allows requirement.op requirement.values found && list_all (λ more. meets_requirement more one) requirements) agree.0
-    ∙ ap (λ b. meets_requirement requirement other && b) (requirements-agree one other requirements agree.1)
-
-selector-agree : (one other : List Pair) (selector : Selector) → AllByRecursion (AgreeOn one other) (keys_of_selector selector) → meets_selector selector one ≡ meets_selector selector other
-selector-agree one other selector agree = requirements-agree one other selector.requirements agree
-
--- what is so of each listed key is so of all keys of the list
-pub All-from_listed : (P : List ℕ → Type 0) (keys : List (List ℕ)) → ((key : List ℕ) → is_listed keys key ≡ true → P key) → AllByRecursion P keys
-All-from_listed P [] each = tt
-All-from_listed P (first ∷ keys) each =
-    (each first (rw ((bytes_decides first first).1 refl) refl), All-from_listed P keys (λ key here. each key (rw here (or_true (bytes_eq first key)))))
-  where
-    or_true : (b : Bool) → (b || true) ≡ true
-    or_true true = refl
-    or_true false = refl
 
 module _ (lists : EstateLists) (p q : PodEnd) (alike : AreAlikePods lists p q) where
   abbrev Agree : List ℕ → Type 0

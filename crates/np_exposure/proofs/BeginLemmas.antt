@@ -6,6 +6,7 @@ use Rattle.std.specs.Str.{bytes_eq}
 use Rattle.std.specs.Cmp.Lexicographic.{bytes_decides, nat_list_eq_equiv}
 use Rattle.std.proofs.lemmas.Bool.{and_parts, and_from, false≢true, true≢false, or_cases}
 use Rattle.std.proofs.lemmas.List.{length-append}
+use Rattle.np_base.proofs.Each.{All-append}
 use Rattle.np_exposure.proofs.FirstLemmas.{first-parts}
 use Rattle.np_exposure.proofs.ListLemmas.{All-from, IsAmong-filter, list_all-from}
 use Rattle.np_exposure.proofs.SameLemmas.{is_same-equal}
@@ -26,7 +27,7 @@ use Rattle.np_labels.specs.Labels.{value_of}
 use Rattle.np_labels.specs.Selectors.{allows, is_listed}
 use Rattle.np_labels.specs.declared.op.Op.{Op}
 use Rattle.np_labels.specs.declared.op.Op.TheVariants.{OneOf, NoneOf, Present, Absent}
-use Rattle.np_rules.proofs.EachItem.{All-append, All-each}
+use Rattle.np_rules.proofs.EachItem.{All-each}
 use Rattle.np_rules.specs.Laws.{IsAmong}
 use Rattle.np_rules.specs.PodSides.{PodSide}
 use Rattle.np_rules.specs.declared.stranger.Stranger.{Stranger}

@@ -1,8 +1,10 @@
 -- Strangers that meet the same mentioned requirements have one exposure.
-use Rattle.std.proofs.Common.{◌≡◌, ℕ, List, [], ◌∷◌, ◌++◌, map, flat_map, Bool, true, false, ◌&&◌, ◌||◌, Option, Some, None, is_some, unwrap_or, codes, refl, sym, ap, ◌∙◌, if◌then◌else◌}
+use Rattle.std.proofs.Common.{◌≡◌, ℕ, List, [], ◌∷◌, ◌++◌, map, flat_map, true, ◌&&◌, Option, Some, None, is_some, unwrap_or, codes, refl, sym, ap, ◌∙◌, if◌then◌else◌}
 use Rattle.std.specs.List.{AllByRecursion, list_all, list_any}
 use Rattle.std.specs.Str.{bytes_eq}
 use Rattle.std.proofs.lemmas.Bool.{false≢true}
+use Rattle.std.proofs.Math.Bool.{or-false}
+use Rattle.np_base.proofs.Each.{All-weaker, All-parts}
 use Rattle.np_addr.specs.declared.address.Family.TheVariants.{Four}
 use Rattle.np_conns.specs.declared.port_spot.PortSpot.{PortSpot}
 use Rattle.np_exposure.specs.Mentions.{mentions, named, of_admin_peer, of_admin_rule, of_net_peer, of_net_rule, of_placed, of_selector}
@@ -27,7 +29,7 @@ use Rattle.np_model.specs.declared.network_policy.NetPeer.TheVariants as net
 use Rattle.np_model.specs.declared.network_policy.NetPort.{NetPort}
 use Rattle.np_model.specs.declared.network_policy.NetPort.TheVariants as net_port
 use Rattle.np_model.specs.declared.network_policy.NetRule.{NetRule}
-use Rattle.np_rules.proofs.EachItem.{All-each, All-flat, All-parts, All-weaker, filter-same, find-same, list_any-same, none_or_any-same}
+use Rattle.np_rules.proofs.EachItem.{All-each, All-flat, filter-same, find-same, list_any-same, none_or_any-same}
 use Rattle.np_rules.specs.model.AdminTier.{admin_decider, admin_precedes, least_by}
 use Rattle.np_rules.specs.model.BaseTier.{base_decider}
 use Rattle.np_rules.specs.model.Ends.{Contact, PodEnd, destination_of, pod, stranger_end}
@@ -40,16 +42,12 @@ use Rattle.np_rules.specs.model.Rules.{admin_rule_matches, net_rule_matches, non
 use Rattle.np_rules.specs.model.Sides.{admin_says, base_says, lower_allows, side_allows}
 use Rattle.np_rules.specs.declared.stranger.Stranger.{Stranger}
 
-or_false : (b : Bool) → (b || false) ≡ b
-or_false true = refl
-or_false false = refl
-
 -- names of which both or neither is this one
 names-same : (namespace : List ℕ) (a b : Option (List ℕ)) → is_some a ≡ true → is_some b ≡ true → allows OneOf (namespace ∷ []) a ≡ allows OneOf (namespace ∷ []) b →
     bytes_eq namespace (unwrap_or a []) ≡ bytes_eq namespace (unwrap_or b [])
 names-same namespace None b some some' same = absurd (false≢true some)
 names-same namespace (Some v) None some some' same = absurd (false≢true some')
-names-same namespace (Some v) (Some u) some some' same = sym (or_false (bytes_eq namespace v)) ∙ same ∙ or_false (bytes_eq namespace u)
+names-same namespace (Some v) (Some u) some some' same = sym (or-false (bytes_eq namespace v)) ∙ same ∙ or-false (bytes_eq namespace u)
 
 -- both strangers meet a requirement, or neither does
 abbrev pub Agree : Stranger → Stranger → SidedRequirement → Type 0

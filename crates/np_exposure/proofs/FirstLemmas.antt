@@ -5,6 +5,7 @@ use Rattle.std.specs.Cmp.Lexicographic.{slice_cmp}
 use Rattle.std.specs.Ordering.{nat_cmp}
 use Rattle.std.proofs.lemmas.Bool.{and_parts, and_from}
 use Rattle.std.proofs.lemmas.List.{map-append}
+use Rattle.np_base.proofs.Lists.{list_all-both}
 use Rattle.np_exposure.proofs.SameLemmas.{same_side-refl}
 use Rattle.np_exposure.specs.Mentions.{same_side}
 use Rattle.np_exposure.specs.Weight.{keys_on}
@@ -69,12 +70,6 @@ sides-apart : (all : List SidedRequirement) (key : List ℕ) (keys : List (List 
 sides-apart all key [] = refl
 sides-apart all key (other ∷ keys) = sides-apart all key keys
 
-all-append : {X : Type 0} (test : X → Bool) (xs ys : List X) → list_all test xs ≡ true → list_all test ys ≡ true → list_all test (xs ++ ys) ≡ true
-all-append test [] ys front back = back
-all-append test (x ∷ xs) ys front back =
-    let parts = and_parts (test x) (list_all test xs) front in
-    and_from (test x) (list_all test (xs ++ ys)) parts.0 (all-append test xs ys parts.1 back)
-
 both-apart : (all : List SidedRequirement) (keys others : List (List ℕ)) → is_apart (map choices_of (map (label_at Namespace all) keys)) ≡ true →
     is_apart (map choices_of (map (label_at Pod all) others)) ≡ true → is_apart (map choices_of (map (label_at Namespace all) keys) ++ map choices_of (map (label_at Pod all) others)) ≡ true
 both-apart all [] others front back = back
@@ -82,7 +77,7 @@ both-apart all (key ∷ keys) others front back =
     let parts = and_parts (list_all (are_apart (choices_of (label_at Namespace all key))) (map choices_of (map (label_at Namespace all) keys)))
     (is_apart (map choices_of (map (label_at Namespace all) keys))) front in
     and_from _ (is_apart (map choices_of (map (label_at Namespace all) keys) ++ map choices_of (map (label_at Pod all) others)))
-    (all-append (are_apart (choices_of (label_at Namespace all key))) (map choices_of (map (label_at Namespace all) keys)) (map choices_of (map (label_at Pod all) others)) parts.0
+    (list_all-both (are_apart (choices_of (label_at Namespace all key))) (map choices_of (map (label_at Namespace all) keys)) (map choices_of (map (label_at Pod all) others)) parts.0
     (sides-apart all key others))
     (both-apart all keys others parts.1 back)
 

@@ -5,8 +5,9 @@ use Rattle.std.specs.Option.{option_or}
 use Rattle.std.specs.Str.{bytes_eq}
 use Rattle.std.specs.Cmp.Lexicographic.{nat_list_eq_equiv}
 use Rattle.std.proofs.lemmas.Bool.{and_parts, and_from, false≢true, not-true, true≢false}
+use Rattle.np_base.proofs.Options.{option_or-none, is_some-or}
 use Rattle.np_exposure.proofs.SameLemmas.{same_side-equal, same_side-refl}
-use Rattle.np_exposure.proofs.WitnessLemmas.{first-among, value_of-append}
+use Rattle.np_exposure.proofs.WitnessLemmas.{first-among, value_of-append, named as name}
 use Rattle.np_exposure.specs.Choices.{Choices, first_found, first_label, first_stranger, has_choice, is_name_key, is_open, label_if}
 use Rattle.np_exposure.specs.Mentions.{same_side}
 use Rattle.np_exposure.specs.Strangers.{labels_at}
@@ -53,10 +54,6 @@ own-label : (key : List ℕ) (found : Option (List ℕ)) → value_of (label_if 
 own-label key None = refl
 own-label key (Some value) = rw (nat_list_eq_equiv.refl key) refl
 
-or-none : (found : Option (List ℕ)) → option_or found None ≡ found
-or-none None = refl
-or-none (Some value) = refl
-
 later-first : (side : Side) (here : Choices) (labels : List Pair) (state : List Choices) → list_all (are_apart here) state ≡ true → AllByRecursion (HasFirst side labels) state →
     AllByRecursion (HasFirst side (first_label side here ++ labels)) state
 later-first side here labels [] apart all = tt
@@ -78,19 +75,11 @@ all-first side (choices ∷ state) apart =
           ∙ ap (λ b. option_or (value_of (label_if choices.key (cond b (first_found choices.found) None)) choices.key) (value_of (flat_map (first_label side) state) choices.key)) of
           ∙ ap (λ (found : Option (List ℕ)). option_or found (value_of (flat_map (first_label side) state) choices.key)) (own-label choices.key (first_found choices.found))
           ∙ ap (λ (found : Option (List ℕ)). option_or (first_found choices.found) found) (others-none side choices state of parts.0)
-          ∙ or-none (first_found choices.found),
+          ∙ option_or-none (first_found choices.found),
       later-first side choices (flat_map (first_label side) state) state parts.0 (all-first side state parts.1),
     )
 
 -- ---- the pod
-
--- the name stands after all choices, and counts where none of them is a name
-abbrev name : List Pair
-name = record { key = codes "kubernetes.io/metadata.name"; value = codes "a" } ∷ []
-
-some-or : (found : Option (List ℕ)) (value : List ℕ) → is_some (option_or found (Some value)) ≡ true
-some-or None value = refl
-some-or (Some other) value = refl
 
 name-found : (found : List (Option (List ℕ))) (key : List ℕ) (is_name : Bool) → is_name ≡ bytes_eq key (codes "kubernetes.io/metadata.name") → list_any (λ one. true) found ≡ true →
     (not is_name || list_all (λ one. is_some one) found) ≡ true → option_or (first_found found) (value_of name key) ≡ first_found found
@@ -128,6 +117,6 @@ module _ (state : List Choices) (is : IsState state) where
   IsWitness-first_stranger = record {
     named =
         ap (λ (found : Option (List ℕ)). is_some found) (value_of-append (flat_map (first_label Namespace) state) name (codes "kubernetes.io/metadata.name"))
-        ∙ some-or (value_of (flat_map (first_label Namespace) state) (codes "kubernetes.io/metadata.name")) (codes "a");
+        ∙ is_some-or (value_of (flat_map (first_label Namespace) state) (codes "kubernetes.io/metadata.name")) (codes "a");
     chosen = chosen state (all-first Namespace state is.apart) (all-first Pod state is.apart) is.«open» is.named;
   }

@@ -1,16 +1,18 @@
 -- The choices that are left by what is assumed are those of the walk, and so the function gives the rows.
 use Rattle.std.proofs.Common.{◌≡◌, ℕ, List, [], ◌∷◌, map, filter, Bool, true, false, cond, ◌&&◌, ◌||◌, Option, refl, sym, ap, ◌∙◌, subst}
 use Rattle.std.specs.List.{list_any}
+use Rattle.np_conns.specs.ConnsText.{conns_of}
+use Rattle.np_conns.proofs.ConnLemmas.{conns_of-has, conns_of-well}
 use Rattle.np_exposure.proofs.BeginLemmas.{Stands-first, walked-rows_of}
 use Rattle.np_exposure.proofs.FirstLemmas.{IsState-first}
 use Rattle.np_exposure.proofs.FirstStrangerLemmas.{IsWitness-first_stranger}
 use Rattle.np_exposure.proofs.RightLemmas.{rows-one}
-use Rattle.np_exposure.proofs.RowLemmas.{IsJoined-joined, conns_of-has, conns_of-well}
+use Rattle.np_exposure.proofs.RowLemmas.{IsJoined-joined}
 use Rattle.np_exposure.proofs.StandsLemmas.{answered, fits-more, walked-rows}
 use Rattle.np_exposure.proofs.StateLemmas.{IsState-narrowed, only-wanted}
 use Rattle.np_exposure.specs.Choices.{Choices, can_be_assumed, choices_at_first, choices_left, first_stranger, fits, is_open, left_at}
 use Rattle.np_exposure.specs.Mentions.{each_once, mentions, requirements}
-use Rattle.np_exposure.specs.Rows.{conns_of, rows_at, rows_left, rows_of}
+use Rattle.np_exposure.specs.Rows.{rows_at, rows_left, rows_of}
 use Rattle.np_exposure.specs.Strangers.{exposes, negated}
 use Rattle.np_exposure.specs.Tree.{AreRowsOf}
 use Rattle.np_exposure.specs.declared.exposure_row.ExposureRow.{ExposureRow}

@@ -1,34 +1,21 @@
 -- A text of requirements belongs to one list of them.
-use Rattle.std.proofs.Common.{◌≡◌, ℕ, List, [], ◌∷◌, ◌++◌, length, flat_map, get_or, drop, Bool, true, false, not, ◌&&◌, ◌==◌, codes, refl, sym, ap, ◌∙◌, append_assoc, arith}
+use Rattle.std.proofs.Common.{◌≡◌, ℕ, List, [], ◌∷◌, ◌++◌, length, flat_map, drop, Bool, true, false, not, ◌&&◌, ◌==◌, codes, refl, sym, ap, ◌∙◌, append_assoc}
 use Rattle.std.specs.List.{list_all}
 use Rattle.std.proofs.lemmas.Bool.{and_parts, false≢true, true≢false, not-true, eqb-false}
-use Rattle.std.proofs.lemmas.Bool.Decides.{nat_tests}
+use Rattle.np_base.proofs.Lists.{some-more}
+use Rattle.np_base.proofs.Texts.{texts-apart}
 use Rattle.np_exposure.proofs.SameLemmas.{requirement-equal, sided-equal}
 use Rattle.np_exposure.specs.PeerText.{are_well, asked_text, peer_text, requirement_text, side_text, values_text}
 use Rattle.np_exposure.specs.declared.side.Side.{Side}
 use Rattle.np_exposure.specs.declared.side.Side.TheVariants.{Namespace, Pod}
 use Rattle.np_exposure.specs.declared.sided_requirement.SidedRequirement.{SidedRequirement}
-use Rattle.np_model.specs.Words.{is_word, is_word_byte, is_key}
+use Rattle.np_model.specs.Words.{is_word, is_whole_word}
 use Rattle.np_labels.specs.Values.{is_ascending}
 use Rattle.np_labels.specs.WellFormed.{fits, is_well_requirement}
 use Rattle.np_labels.specs.declared.op.Op.{Op}
 use Rattle.np_labels.specs.declared.op.Op.TheVariants.{OneOf, NoneOf, Present, Absent}
 use Rattle.np_model.specs.WellPolicies.{is_worded}
-
--- words that end at a byte that is none of a word are equal, and so is what follows
-cut : (w w' : List ℕ) (c c' : ℕ) (t t' : List ℕ) → is_word w ≡ true → is_word w' ≡ true → is_word_byte c ≡ false → is_word_byte c' ≡ false → w ++ c ∷ t ≡ w' ++ c' ∷ t' → (w ≡ w') × (c ≡ c') × (t ≡ t')
-cut [] [] c c' t t' word word' end end' same = (refl, cc, cc)
-cut [] (y ∷ ys) c c' t t' word word' end end' same =
-    let here : c ≡ y = cc in
-    absurd (false≢true (sym end ∙ ap is_word_byte here ∙ (and_parts (is_word_byte y) (is_word ys) word').0))
-cut (x ∷ xs) [] c c' t t' word word' end end' same =
-    let here : x ≡ c' = cc in
-    absurd (true≢false (sym (and_parts (is_word_byte x) (is_word xs) word).0 ∙ ap is_word_byte here ∙ end'))
-cut (x ∷ xs) (y ∷ ys) c c' t t' word word' end end' same =
-    let heads : x ≡ y = cc in
-    let tails : xs ++ c ∷ t ≡ ys ++ c' ∷ t' = cc in
-    let rest = cut xs ys c c' t t' (and_parts (is_word_byte x) (is_word xs) word).1 (and_parts (is_word_byte y) (is_word ys) word').1 end end' tails in
-    (rw (heads, rest.0) refl, rest.1, rest.2)
+use Rattle.np_model.proofs.WordLemmas.{words-cut}
 
 -- ---- values
 
@@ -38,20 +25,20 @@ others_text values = flat_map (λ value. codes "," ++ value) values
 values-one : (v v' : List ℕ) (vs vs' : List (List ℕ)) (t t' : List ℕ) → list_all is_word (v ∷ vs) ≡ true → list_all is_word (v' ∷ vs') ≡ true →
     v ++ (others_text vs ++ 41 ∷ t) ≡ v' ++ (others_text vs' ++ 41 ∷ t') → (v ∷ vs ≡ v' ∷ vs') × (t ≡ t')
 values-one v v' [] [] t t' words words' same =
-    let parts = cut v v' 41 41 t t' (and_parts (is_word v) true words).0 (and_parts (is_word v') true words').0 refl refl same in
+    let parts = words-cut v v' 41 41 t t' (and_parts (is_word v) true words).0 (and_parts (is_word v') true words').0 refl refl same in
     (rw parts.0 refl, parts.2)
 values-one v v' [] (u' ∷ us') t t' words words' same =
-    let parts = cut v v' 41 44 t (u' ++ (others_text us' ++ 41 ∷ t')) (and_parts (is_word v) true words).0 (and_parts (is_word v') (list_all is_word (u' ∷ us')) words').0 refl refl
+    let parts = words-cut v v' 41 44 t (u' ++ (others_text us' ++ 41 ∷ t')) (and_parts (is_word v) true words).0 (and_parts (is_word v') (list_all is_word (u' ∷ us')) words').0 refl refl
     (same ∙ ap (λ (rest : List ℕ). v' ++ 44 ∷ rest) (append_assoc u' (others_text us') (41 ∷ t'))) in
     absurd (eqb-false 41 44 refl parts.1)
 values-one v v' (u ∷ us) [] t t' words words' same =
-    let parts = cut v v' 44 41 (u ++ (others_text us ++ 41 ∷ t)) t' (and_parts (is_word v) (list_all is_word (u ∷ us)) words).0 (and_parts (is_word v') true words').0 refl refl
+    let parts = words-cut v v' 44 41 (u ++ (others_text us ++ 41 ∷ t)) t' (and_parts (is_word v) (list_all is_word (u ∷ us)) words).0 (and_parts (is_word v') true words').0 refl refl
     (sym (ap (λ (rest : List ℕ). v ++ 44 ∷ rest) (append_assoc u (others_text us) (41 ∷ t))) ∙ same) in
     absurd (eqb-false 44 41 refl parts.1)
 values-one v v' (u ∷ us) (u' ∷ us') t t' words words' same =
     let here = and_parts (is_word v) (list_all is_word (u ∷ us)) words in
     let there = and_parts (is_word v') (list_all is_word (u' ∷ us')) words' in
-    let parts = cut v v' 44 44 (u ++ (others_text us ++ 41 ∷ t)) (u' ++ (others_text us' ++ 41 ∷ t')) here.0 there.0 refl refl
+    let parts = words-cut v v' 44 44 (u ++ (others_text us ++ 41 ∷ t)) (u' ++ (others_text us' ++ 41 ∷ t')) here.0 there.0 refl refl
     (sym (ap (λ (rest : List ℕ). v ++ 44 ∷ rest) (append_assoc u (others_text us) (41 ∷ t))) ∙ same ∙ ap (λ (rest : List ℕ). v' ++ 44 ∷ rest) (append_assoc u' (others_text us') (41 ∷ t'))) in
     let rest = values-one u u' us us' t t' here.1 there.1 parts.2 in
     (rw (parts.0, rest.0) refl, rest.1)
@@ -65,12 +52,9 @@ listed-one (v ∷ vs) (v' ∷ vs') t t' some some' words words' same =
 
 -- ---- what is asked
 
-some-listed : (v : List ℕ) (vs : List (List ℕ)) → (length (v ∷ vs) == 0) ≡ false
-some-listed v vs = grind (arith, nat_tests)
-
 none-listed : (values : List (List ℕ)) → (length values == 0) ≡ true → values ≡ []
 none-listed [] none = refl
-none-listed (v ∷ vs) none = absurd (false≢true (sym (some-listed v vs) ∙ none))
+none-listed (v ∷ vs) none = absurd (false≢true (sym (some-more v vs) ∙ none))
 
 twice-true : (b : Bool) → not (not b) ≡ true → b ≡ true
 twice-true true is = refl
@@ -80,10 +64,6 @@ pub record IsSameAsked (one other : Op) (these those : List (List ℕ)) (t t' : 
   pub op : one ≡ other
   pub values : these ≡ those
   pub rest : t ≡ t'
-
--- texts that begin otherwise are apart
-begin-apart : (place x y : ℕ) (xs ys : List ℕ) → xs ≡ ys → get_or xs place 0 ≡ x → get_or ys place 0 ≡ y → (x == y) ≡ false → ⊥
-begin-apart place x y xs ys same first second differ = eqb-false x y differ (sym first ∙ ap (λ (text : List ℕ). get_or text place 0) same ∙ second)
 
 opened : (values : List (List ℕ)) (t : List ℕ) → asked_text OneOf values ++ t ≡ codes "In (" ++ (values_text values ++ 41 ∷ t)
 opened values t = simp append_assoc
@@ -105,26 +85,26 @@ asked-one Present Present values values' t t' words words' fit fit' same =
     record { op = refl; values = none-listed values (twice-true _ fit) ∙ sym (none-listed values' (twice-true _ fit')); rest = ap (λ (text : List ℕ). drop 6 text) same }
 asked-one Absent Absent values values' t t' words words' fit fit' same =
     record { op = refl; values = none-listed values (twice-true _ fit) ∙ sym (none-listed values' (twice-true _ fit')); rest = ap (λ (text : List ℕ). drop 12 text) same }
-asked-one OneOf NoneOf values values' t t' words words' fit fit' same = absurd (begin-apart 0 73 78 (asked_text OneOf values ++ t) (asked_text NoneOf values' ++ t') same refl refl refl)
-asked-one OneOf Present values values' t t' words words' fit fit' same = absurd (begin-apart 0 73 69 (asked_text OneOf values ++ t) (asked_text Present values' ++ t') same refl refl refl)
-asked-one OneOf Absent values values' t t' words words' fit fit' same = absurd (begin-apart 0 73 68 (asked_text OneOf values ++ t) (asked_text Absent values' ++ t') same refl refl refl)
-asked-one NoneOf OneOf values values' t t' words words' fit fit' same = absurd (begin-apart 0 78 73 (asked_text NoneOf values ++ t) (asked_text OneOf values' ++ t') same refl refl refl)
-asked-one NoneOf Present values values' t t' words words' fit fit' same = absurd (begin-apart 0 78 69 (asked_text NoneOf values ++ t) (asked_text Present values' ++ t') same refl refl refl)
-asked-one NoneOf Absent values values' t t' words words' fit fit' same = absurd (begin-apart 0 78 68 (asked_text NoneOf values ++ t) (asked_text Absent values' ++ t') same refl refl refl)
-asked-one Present OneOf values values' t t' words words' fit fit' same = absurd (begin-apart 0 69 73 (asked_text Present values ++ t) (asked_text OneOf values' ++ t') same refl refl refl)
-asked-one Present NoneOf values values' t t' words words' fit fit' same = absurd (begin-apart 0 69 78 (asked_text Present values ++ t) (asked_text NoneOf values' ++ t') same refl refl refl)
-asked-one Present Absent values values' t t' words words' fit fit' same = absurd (begin-apart 0 69 68 (asked_text Present values ++ t) (asked_text Absent values' ++ t') same refl refl refl)
-asked-one Absent OneOf values values' t t' words words' fit fit' same = absurd (begin-apart 0 68 73 (asked_text Absent values ++ t) (asked_text OneOf values' ++ t') same refl refl refl)
-asked-one Absent NoneOf values values' t t' words words' fit fit' same = absurd (begin-apart 0 68 78 (asked_text Absent values ++ t) (asked_text NoneOf values' ++ t') same refl refl refl)
-asked-one Absent Present values values' t t' words words' fit fit' same = absurd (begin-apart 0 68 69 (asked_text Absent values ++ t) (asked_text Present values' ++ t') same refl refl refl)
+asked-one OneOf NoneOf values values' t t' words words' fit fit' same = absurd (texts-apart 0 73 78 (asked_text OneOf values ++ t) (asked_text NoneOf values' ++ t') same refl refl refl)
+asked-one OneOf Present values values' t t' words words' fit fit' same = absurd (texts-apart 0 73 69 (asked_text OneOf values ++ t) (asked_text Present values' ++ t') same refl refl refl)
+asked-one OneOf Absent values values' t t' words words' fit fit' same = absurd (texts-apart 0 73 68 (asked_text OneOf values ++ t) (asked_text Absent values' ++ t') same refl refl refl)
+asked-one NoneOf OneOf values values' t t' words words' fit fit' same = absurd (texts-apart 0 78 73 (asked_text NoneOf values ++ t) (asked_text OneOf values' ++ t') same refl refl refl)
+asked-one NoneOf Present values values' t t' words words' fit fit' same = absurd (texts-apart 0 78 69 (asked_text NoneOf values ++ t) (asked_text Present values' ++ t') same refl refl refl)
+asked-one NoneOf Absent values values' t t' words words' fit fit' same = absurd (texts-apart 0 78 68 (asked_text NoneOf values ++ t) (asked_text Absent values' ++ t') same refl refl refl)
+asked-one Present OneOf values values' t t' words words' fit fit' same = absurd (texts-apart 0 69 73 (asked_text Present values ++ t) (asked_text OneOf values' ++ t') same refl refl refl)
+asked-one Present NoneOf values values' t t' words words' fit fit' same = absurd (texts-apart 0 69 78 (asked_text Present values ++ t) (asked_text NoneOf values' ++ t') same refl refl refl)
+asked-one Present Absent values values' t t' words words' fit fit' same = absurd (texts-apart 0 69 68 (asked_text Present values ++ t) (asked_text Absent values' ++ t') same refl refl refl)
+asked-one Absent OneOf values values' t t' words words' fit fit' same = absurd (texts-apart 0 68 73 (asked_text Absent values ++ t) (asked_text OneOf values' ++ t') same refl refl refl)
+asked-one Absent NoneOf values values' t t' words words' fit fit' same = absurd (texts-apart 0 68 78 (asked_text Absent values ++ t) (asked_text NoneOf values' ++ t') same refl refl refl)
+asked-one Absent Present values values' t t' words words' fit fit' same = absurd (texts-apart 0 68 69 (asked_text Absent values ++ t) (asked_text Present values' ++ t') same refl refl refl)
 
 -- ---- requirements
 
 side-one : (side side' : Side) → side_text side ≡ side_text side' → side ≡ side'
 side-one Namespace Namespace same = refl
 side-one Pod Pod same = refl
-side-one Namespace Pod same = absurd (begin-apart 0 110 112 (codes "namespace") (codes "pod") same refl refl refl)
-side-one Pod Namespace same = absurd (begin-apart 0 112 110 (codes "pod") (codes "namespace") same refl refl refl)
+side-one Namespace Pod same = absurd (texts-apart 0 110 112 (codes "namespace") (codes "pod") same refl refl refl)
+side-one Pod Namespace same = absurd (texts-apart 0 112 110 (codes "pod") (codes "namespace") same refl refl refl)
 
 side-word : (side : Side) → is_word (side_text side) ≡ true
 side-word Namespace = refl
@@ -141,14 +121,14 @@ requirement-one : (a b : SidedRequirement) (t t' : List ℕ) → is_well a ≡ t
 requirement-one a b t t' well well' same =
     let one = and_parts (is_worded a.requirement) (is_well_requirement a.requirement) well in
     let two = and_parts (is_worded b.requirement) (is_well_requirement b.requirement) well' in
-    let words = and_parts (is_key a.requirement.key) (list_all is_word a.requirement.values) one.0 in
-    let words' = and_parts (is_key b.requirement.key) (list_all is_word b.requirement.values) two.0 in
+    let words = and_parts (is_whole_word a.requirement.key) (list_all is_word a.requirement.values) one.0 in
+    let words' = and_parts (is_whole_word b.requirement.key) (list_all is_word b.requirement.values) two.0 in
     let key = and_parts (not (length a.requirement.key == 0)) (is_word a.requirement.key) words.0 in
     let key' = and_parts (not (length b.requirement.key == 0)) (is_word b.requirement.key) words'.0 in
     let fit = and_parts (is_ascending a.requirement.values) (fits a.requirement.op (not (length a.requirement.values == 0))) one.1 in
     let fit' = and_parts (is_ascending b.requirement.values) (fits b.requirement.op (not (length b.requirement.values == 0))) two.1 in
-    let sides = cut (side_text a.side) (side_text b.side) 32 32 _ _ (side-word a.side) (side-word b.side) refl refl (sym (spelled a t) ∙ same ∙ spelled b t') in
-    let keys = cut a.requirement.key b.requirement.key 32 32 _ _ key.1 key'.1 refl refl sides.2 in
+    let sides = words-cut (side_text a.side) (side_text b.side) 32 32 _ _ (side-word a.side) (side-word b.side) refl refl (sym (spelled a t) ∙ same ∙ spelled b t') in
+    let keys = words-cut a.requirement.key b.requirement.key 32 32 _ _ key.1 key'.1 refl refl sides.2 in
     let asked = asked-one a.requirement.op b.requirement.op a.requirement.values b.requirement.values t t' words.1 words'.1 fit.1 fit'.1 keys.2 in
     (sided-equal a b (side-one a.side b.side sides.0) (requirement-equal a.requirement b.requirement keys.0 asked.op asked.values), asked.rest)
 
@@ -171,12 +151,12 @@ list-one a b [] (next ∷ ys) well well' same =
     let here = and_parts (is_well a) true well in
     let there = and_parts (is_well b) (are_well (next ∷ ys)) well' in
     let parts = requirement-one a b (codes "}") (more_text (next ∷ ys) ++ codes "}") here.0 there.0 same in
-    absurd (begin-apart 0 125 32 (codes "}") _ (parts.1 ∙ behind next ys) refl refl refl)
+    absurd (texts-apart 0 125 32 (codes "}") _ (parts.1 ∙ behind next ys) refl refl refl)
 list-one a b (next ∷ xs) [] well well' same =
     let here = and_parts (is_well a) (are_well (next ∷ xs)) well in
     let there = and_parts (is_well b) true well' in
     let parts = requirement-one a b (more_text (next ∷ xs) ++ codes "}") (codes "}") here.0 there.0 same in
-    absurd (begin-apart 0 32 125 _ (codes "}") (sym (behind next xs) ∙ parts.1) refl refl refl)
+    absurd (texts-apart 0 32 125 _ (codes "}") (sym (behind next xs) ∙ parts.1) refl refl refl)
 list-one a b (next ∷ xs) (next' ∷ ys) well well' same =
     let here = and_parts (is_well a) (are_well (next ∷ xs)) well in
     let there = and_parts (is_well b) (are_well (next' ∷ ys)) well' in
@@ -197,8 +177,8 @@ any-apart first others same = by first.side (same ∙ ap (λ (rest : List ℕ). 
   where
     by : (side : Side) →
         codes "{any pod}" ≡ codes "{" ++ (side_text side ++ 32 ∷ (first.requirement.key ++ 32 ∷ (asked_text first.requirement.op first.requirement.values ++ (more_text others ++ codes "}")))) → ⊥
-    by Namespace is = begin-apart 1 97 110 (codes "{any pod}") _ is refl refl refl
-    by Pod is = begin-apart 1 97 112 (codes "{any pod}") _ is refl refl refl
+    by Namespace is = texts-apart 1 97 110 (codes "{any pod}") _ is refl refl refl
+    by Pod is = texts-apart 1 97 112 (codes "{any pod}") _ is refl refl refl
 
 -- a text belongs to one list of requirements
 pub peer_text-one : (a b : List SidedRequirement) → are_well a ≡ true → are_well b ≡ true → peer_text a ≡ peer_text b → a ≡ b

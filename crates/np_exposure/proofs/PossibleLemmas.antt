@@ -2,6 +2,7 @@
 use Rattle.std.proofs.Common.{◌≡◌, List, [], ◌∷◌, ◌++◌, map, Bool, true, false, refl, sym, ap, ◌∙◌, subst, inl, inr, ◌⊎◌}
 use Rattle.std.specs.List.{AllByRecursion, list_all}
 use Rattle.std.proofs.lemmas.Bool.{and_from}
+use Rattle.np_base.proofs.Each.{All-weaker}
 use Rattle.np_exposure.proofs.BeginLemmas.{Stands-first}
 use Rattle.np_exposure.proofs.FirstLemmas.{IsState-first}
 use Rattle.np_exposure.proofs.FirstStrangerLemmas.{IsWitness-first_stranger}
@@ -14,7 +15,6 @@ use Rattle.np_exposure.specs.Strangers.{negated}
 use Rattle.np_exposure.specs.Tree.{IsPossible}
 use Rattle.np_exposure.specs.declared.sided_requirement.SidedRequirement.{SidedRequirement}
 use Rattle.np_exposure.specs.steps.States.{IsState, is_apart, is_named_at, narrowed}
-use Rattle.np_rules.proofs.EachItem.{All-weaker}
 use Rattle.np_rules.specs.Laws.{IsAmong}
 use Rattle.np_rules.specs.declared.stranger.Stranger.{Stranger}
 

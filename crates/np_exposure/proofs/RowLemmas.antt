@@ -1,19 +1,17 @@
--- The connections of a test, and when rows are equal.
-use Rattle.std.proofs.Common.{◌≡◌, ℕ, ◌≤◌, List, Bool, true, false, ◌&&◌, ◌==◌, nat_le, refl, sym, ap, ◌∙◌, subst}
+-- When rows are equal.
+use Rattle.std.proofs.Common.{◌≡◌, ℕ, ◌≤◌, List, Bool, true, false, ◌&&◌, ◌==◌, refl, sym, ap, ◌∙◌, subst}
 use Rattle.std.specs.Cmp.Lexicographic.{pointwise}
-use Rattle.std.proofs.lemmas.Bool.{and_parts, and_from, eq-eqb, eqb-true, false≢true, leb-true}
+use Rattle.std.proofs.lemmas.Bool.{and_parts, and_from, eq-eqb, eqb-true, false≢true}
 use lib.Pointwise.{pointwise_decides}
 use Rattle.np_base.specs.declared.range.Range.{Range}
-use Rattle.np_conns.proofs.ConnLemmas.{spans_of-agrees}
-use Rattle.np_conns.proofs.RunLemmas.{runs-ascend, runs-hold}
-use Rattle.np_conns.specs.Conns.{Conns, IsConns, has_spot, is_spot}
+use Rattle.np_base.specs.Ranges.{are_same_range}
+use Rattle.np_conns.specs.Conns.{Conns}
 use Rattle.np_conns.specs.Spots.{equal_by_ranges}
 use Rattle.np_conns.specs.declared.port_spot.PortSpot.{PortSpot}
-use Rattle.np_conns.specs.declared.proto.Proto.{Proto}
 use Rattle.np_conns.specs.declared.proto.Proto.TheVariants.{Tcp, Udp, Sctp}
 use Rattle.np_exposure.proofs.SameLemmas.{is_same-equal, is_same-refl}
 use Rattle.np_exposure.specs.Mentions.{is_same}
-use Rattle.np_exposure.specs.Rows.{are_same_conns, are_same_range, are_same_row, are_same_rows, conns_of, joined}
+use Rattle.np_exposure.specs.Rows.{are_same_conns, are_same_row, are_same_rows, joined}
 use Rattle.np_exposure.specs.Tree.{IsJoined, apart, equal}
 use Rattle.np_exposure.specs.declared.exposure_row.ExposureRow.{ExposureRow}
 use Rattle.np_exposure.specs.declared.sided_requirement.SidedRequirement.{SidedRequirement}
@@ -71,29 +69,3 @@ IsJoined-joined asked met unmet = by (are_same_rows met unmet) refl
     by : (b : Bool) → are_same_rows met unmet ≡ b → IsJoined asked met unmet (joined asked met unmet)
     by true same = equal (tells.0 same) (rw same refl)
     by false differ = apart (λ is. false≢true (sym differ ∙ tells.1 is)) (rw differ refl)
-
--- ---- the connections of a test
-
--- they have the spots that pass
-module _ (passes : PortSpot → Bool) (port : ℕ) (low : 1 ≤ port) (high : port ≤ 65535) where
-  has_port : (proto : Proto) → has_spot (conns_of passes) (record { proto = proto; port = port }) ≡ passes (record { proto = proto; port = port })
-  has_port Tcp = runs-hold (λ (n : ℕ). passes (record { proto = Tcp; port = n })) port low high
-  has_port Udp = runs-hold (λ (n : ℕ). passes (record { proto = Udp; port = n })) port low high
-  has_port Sctp = runs-hold (λ (n : ℕ). passes (record { proto = Sctp; port = n })) port low high
-
-pub conns_of-has : (passes : PortSpot → Bool) (spot : PortSpot) → is_spot spot ≡ true → has_spot (conns_of passes) spot ≡ passes spot
-conns_of-has passes spot inside =
-    let ends = and_parts (nat_le 1 spot.port) (nat_le spot.port 65535) inside in
-    has_port passes spot.port (leb-true 1 spot.port ends.0) (leb-true spot.port 65535 ends.1) spot.proto
-
-pub conns_of-well : (passes : PortSpot → Bool) → IsConns (conns_of passes)
-conns_of-well passes = record { tcp = runs-ascend _; udp = runs-ascend _; sctp = runs-ascend _ }
-
--- tests that agree on every spot have the same ones
-pub conns_of-agrees : (f g : PortSpot → Bool) → ((spot : PortSpot) → is_spot spot ≡ true → f spot ≡ g spot) → conns_of f ≡ conns_of g
-conns_of-agrees f g alike =
-    equal_by_ranges (conns_of f) (conns_of g) (elim [
-      | Tcp ↦ spans_of-agrees f g Tcp alike
-      | Udp ↦ spans_of-agrees f g Udp alike
-      | Sctp ↦ spans_of-agrees f g Sctp alike
-    ])

@@ -7,6 +7,8 @@ use Rattle.std.specs.Cmp.Lexicographic.{bytes_decides}
 use Rattle.std.proofs.lemmas.Bool.{and_parts, false≢true}
 use Rattle.std.proofs.lemmas.List.Folds.{list_all-map, list_all_more, list_any-append, list_any_more}
 use Rattle.std.proofs.lemmas.List.{take_all}
+use Rattle.std.proofs.Math.Bool.{or-false, or_assoc}
+use Rattle.np_base.proofs.Bools.{or-last}
 use Rattle.np_conns.specs.Conns.{has_spot}
 use Rattle.np_conns.specs.declared.port_spot.PortSpot.{PortSpot}
 use Rattle.np_exposure.proofs.ListLemmas.{All-at, list_all-at, list_any-at}
@@ -88,29 +90,14 @@ module _ {X : Type 0} (state : List Choices) (asks : X → Stranger → Bool) (i
 
 -- ---- one rule more
 
-pub or_none : (b : Bool) → (b || false) ≡ b
-or_none true = refl
-or_none false = refl
-
 pub any-pushed : {X : Type 0} (test : X → Bool) (xs new : List X) (x : X) → new ≡ xs ++ x ∷ [] → list_any test new ≡ (list_any test xs || test x)
-any-pushed test xs new x is = ap (list_any test) is ∙ list_any-append test xs (x ∷ []) ∙ ap (λ b. list_any test xs || b) (or_none (test x))
-
-or_same : (a b c : Bool) → ((a || b) || c) ≡ (a || (b || c))
-or_same true b c = refl
-or_same false b c = refl
-
-or_swapped : (a b c : Bool) → ((a || b) || c) ≡ ((a || c) || b)
-or_swapped true b c = refl
-or_swapped false true true = refl
-or_swapped false true false = refl
-or_swapped false false true = refl
-or_swapped false false false = refl
+any-pushed test xs new x is = ap (list_any test) is ∙ list_any-append test xs (x ∷ []) ∙ ap (λ b. list_any test xs || b) (or-false (test x))
 
 module _ (namespace : List ℕ) (s : Stranger) (spot : PortSpot) (settled : Bool) (items : List OpenRule) (i : ℕ) (x : OpenRule) (within : i < length items) (is : x ≡ get_or items i x) where
   with_next : ((settled || list_any (rule_matches namespace s spot) (take i items)) || rule_matches namespace s spot x)
       ≡ (settled || list_any (rule_matches namespace s spot) (take (i + 1) items))
   with_next =
-      or_same settled (list_any (rule_matches namespace s spot) (take i items)) (rule_matches namespace s spot x)
+      or_assoc settled (list_any (rule_matches namespace s spot) (take i items)) (rule_matches namespace s spot x)
       ∙ ap (λ b. settled || b)
       (ap (λ y. list_any (rule_matches namespace s spot) (take i items) || rule_matches namespace s spot y) is ∙ sym (list_any_more (rule_matches namespace s spot) items i x within))
 
@@ -127,18 +114,18 @@ module _ (namespace : List ℕ) (s : Stranger) (spot : PortSpot) (settled : Bool
     pub met-next : (now : Bool) → answer ≡ Some true → now ≡ (sets || has_spot x.kept.now.conns spot)
         → (now || opens) ≡ (settled || list_any (rule_matches namespace s spot) (take (i + 1) items))
     met-next now said is_now =
-        ap (λ b. b || opens) is_now ∙ or_swapped sets (has_spot x.kept.now.conns spot) opens
+        ap (λ b. b || opens) is_now ∙ or-last sets (has_spot x.kept.now.conns spot) opens
         ∙ ap (λ b. (sets || opens) || b) (sym (answered true said)) ∙ ap (λ b. b || rule_matches namespace s spot x) so_far ∙ with_next
 
     -- one that matches none is gone
     pub missed-next : answer ≡ Some false → (sets || opens) ≡ (settled || list_any (rule_matches namespace s spot) (take (i + 1) items))
     missed-next said =
-        sym (or_none (sets || opens)) ∙ ap (λ b. (sets || opens) || b) (sym (answered false said)) ∙ ap (λ b. b || rule_matches namespace s spot x) so_far ∙ with_next
+        sym (or-false (sets || opens)) ∙ ap (λ b. (sets || opens) || b) (sym (answered false said)) ∙ ap (λ b. b || rule_matches namespace s spot x) so_far ∙ with_next
 
     -- any other stays
     pub open-next : (now : Bool) → now ≡ (opens || rule_matches namespace s spot x) → (sets || now) ≡ (settled || list_any (rule_matches namespace s spot) (take (i + 1) items))
     open-next now is_now =
-        ap (λ b. sets || b) is_now ∙ sym (or_same sets opens (rule_matches namespace s spot x)) ∙ ap (λ b. b || rule_matches namespace s spot x) so_far ∙ with_next
+        ap (λ b. sets || b) is_now ∙ sym (or_assoc sets opens (rule_matches namespace s spot x)) ∙ ap (λ b. b || rule_matches namespace s spot x) so_far ∙ with_next
 
 -- all rules
 pub all-rules : (namespace : List ℕ) (s : Stranger) (spot : PortSpot) (rules : OpenRules) (items : List OpenRule) (i : ℕ) (made : Bool) → items ≡ rules.open.items → length items ≤ i

@@ -4,6 +4,7 @@ use Rattle.std.specs.List.{AllByRecursion, list_all, list_any}
 use Rattle.std.specs.Str.{bytes_eq}
 use Rattle.std.specs.Cmp.Lexicographic.{bytes_decides}
 use Rattle.std.proofs.lemmas.Bool.{and_parts, and_from, false≢true}
+use Rattle.np_base.proofs.Each.{All-weaker}
 use Rattle.np_conns.specs.Conns.{Conns}
 use Rattle.np_exposure.proofs.ExposureLemmas.{Agree, exposes-same}
 use Rattle.np_exposure.proofs.ListLemmas.{All-at, IsAmong-filter, list_all-at, list_all-from, list_any-at}
@@ -22,7 +23,6 @@ use Rattle.np_labels.specs.Labels.{value_of}
 use Rattle.np_labels.specs.Selectors.{allows, opposite_of}
 use Rattle.np_labels.specs.declared.op.Op.{Op}
 use Rattle.np_labels.specs.declared.op.Op.TheVariants.{OneOf, NoneOf, Present, Absent}
-use Rattle.np_rules.proofs.EachItem.{All-weaker}
 use Rattle.np_rules.specs.Laws.{IsAmong}
 use Rattle.np_rules.specs.PodSides.{PodSide}
 use Rattle.np_rules.specs.declared.stranger.Stranger.{Stranger}

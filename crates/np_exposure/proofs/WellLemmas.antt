@@ -17,7 +17,7 @@ use Rattle.np_model.specs.Words.{has_slash, is_name, is_word}
 use Rattle.np_labels.specs.WellFormed as labels
 use Rattle.np_labels.specs.declared.requirement.Requirement.{Requirement}
 use Rattle.np_labels.specs.declared.selector.Selector.{Selector}
-use Rattle.np_model.specs.WellPolicies.{if_there, is_well_admin_peer, is_well_admin_policy, is_well_admin_rule, is_well_base_policy, is_well_base_rule, is_well_net_peer, is_well_net_policy}
+use Rattle.np_model.specs.WellPolicies.{is_well_admin_peer, is_well_admin_policy, is_well_admin_rule, is_well_base_policy, is_well_base_rule, is_well_net_peer, is_well_net_policy}
 use Rattle.np_model.specs.WellPolicies.{is_well_net_rule, is_well_selector, is_worded}
 use Rattle.np_model.specs.declared.admin_policy.AdminPeer.{AdminPeer}
 use Rattle.np_model.specs.declared.admin_policy.AdminPeer.TheVariants as admin
@@ -30,6 +30,7 @@ use Rattle.np_model.specs.declared.network_policy.NetPeer.{NetPeer}
 use Rattle.np_model.specs.declared.network_policy.NetPeer.TheVariants as net
 use Rattle.np_model.specs.declared.network_policy.NetPolicy.{NetPolicy}
 use Rattle.np_model.specs.declared.network_policy.NetRule.{NetRule}
+use Rattle.np_model.specs.WellObjects.{option_all}
 use Rattle.np_rules.specs.model.Ends.{PodEnd}
 use Rattle.np_rules.specs.model.Places.{admin_places, admin_rules_of, base_places, base_rules_of, net_places, net_rules_of}
 use Rattle.np_rules.specs.PodSides.{PodSide, near_pod}
@@ -69,7 +70,7 @@ selector-well side selector well =
     let parts = and_parts (labels.is_well_selector selector) (list_all is_worded selector.requirements) well in
     requirements-well side selector.requirements parts.0 parts.1
 
-optional-well : (side : Side) (selector : Option Selector) → if_there is_well_selector selector ≡ true → are_well (of_optional side selector) ≡ true
+optional-well : (side : Side) (selector : Option Selector) → option_all is_well_selector selector ≡ true → are_well (of_optional side selector) ≡ true
 optional-well side None well = refl
 optional-well side (Some selector) well = selector-well side selector well
 
@@ -79,7 +80,7 @@ named-well namespace name =
     let word = and_parts (not (length namespace == 0)) (is_word namespace) some.0 in
     rw word.1 refl
 
-namespaces-well : (namespace : List ℕ) (namespaces : Option Selector) (has_pods : Bool) → is_name namespace ≡ true → if_there is_well_selector namespaces ≡ true →
+namespaces-well : (namespace : List ℕ) (namespaces : Option Selector) (has_pods : Bool) → is_name namespace ≡ true → option_all is_well_selector namespaces ≡ true →
     are_well (of_namespaces namespace namespaces has_pods) ≡ true
 namespaces-well namespace (Some namespaces) has_pods name well = selector-well Namespace namespaces well
 namespaces-well namespace None true name well = named-well namespace name
@@ -87,7 +88,7 @@ namespaces-well namespace None false name well = refl
 
 net_peer-well : (namespace : List ℕ) (peer : NetPeer) → is_name namespace ≡ true → is_well_net_peer peer ≡ true → are_well (of_net_peer namespace peer) ≡ true
 net_peer-well namespace (net.Pods namespaces pods) name well =
-    let parts = and_parts (if_there is_well_selector namespaces) (if_there is_well_selector pods) well in
+    let parts = and_parts (option_all is_well_selector namespaces) (option_all is_well_selector pods) well in
     well-append (of_namespaces namespace namespaces (is_some pods)) (of_optional Pod pods) (namespaces-well namespace namespaces (is_some pods) name parts.0) (optional-well Pod pods parts.1)
 net_peer-well namespace (net.Block cidr excepts) name well = refl
 
@@ -110,22 +111,22 @@ base_rule-well rule well = admin_rule-well rule (and_parts _ _ well).1
 
 -- ---- policies
 
-net_rules-well : (namespace : List ℕ) (rules : Option (List NetRule)) → is_name namespace ≡ true → if_there (λ all. list_all is_well_net_rule all) rules ≡ true →
+net_rules-well : (namespace : List ℕ) (rules : Option (List NetRule)) → is_name namespace ≡ true → option_all (λ all. list_all is_well_net_rule all) rules ≡ true →
     are_well (flat_map (of_net_rule namespace) (unwrap_or rules [])) ≡ true
 net_rules-well namespace None name well = refl
 net_rules-well namespace (Some rules) name well = well-flat is_well_net_rule (of_net_rule namespace) (λ rule. net_rule-well namespace rule name) rules well
 
 net_policy-well : (direction : Direction) (p : PodEnd) (policy : NetPolicy) → is_well_net_policy policy ≡ true → are_well (of_net_policy direction p policy) ≡ true
 net_policy-well direction p policy well =
-    let egress = and_parts _ (if_there (λ all. list_all is_well_net_rule all) policy.egress) well in
-    let ingress = and_parts _ (if_there (λ all. list_all is_well_net_rule all) policy.ingress) egress.0 in
+    let egress = and_parts _ (option_all (λ all. list_all is_well_net_rule all) policy.egress) well in
+    let ingress = and_parts _ (option_all (λ all. list_all is_well_net_rule all) policy.ingress) egress.0 in
     let names = and_parts (is_name policy.namespace && is_name policy.name) (is_well_selector policy.subject) ingress.0 in
     let name = and_parts (is_name policy.namespace) (is_name policy.name) names.0 in
     well-if (net_selects policy p) (flat_map (of_net_rule policy.namespace) (unwrap_or (net_rules_of direction policy) []))
     (net_rules-well policy.namespace (net_rules_of direction policy) name.0 (by direction ingress.1 egress.1))
   where
-    by : (d : Direction) → if_there (λ all. list_all is_well_net_rule all) policy.ingress ≡ true → if_there (λ all. list_all is_well_net_rule all) policy.egress ≡ true →
-        if_there (λ all. list_all is_well_net_rule all) (net_rules_of d policy) ≡ true
+    by : (d : Direction) → option_all (λ all. list_all is_well_net_rule all) policy.ingress ≡ true → option_all (λ all. list_all is_well_net_rule all) policy.egress ≡ true →
+        option_all (λ all. list_all is_well_net_rule all) (net_rules_of d policy) ≡ true
     by Ingress first second = first
     by Egress first second = second
 

@@ -6,6 +6,7 @@ use Rattle.std.specs.Cmp.Lexicographic.{bytes_decides, nat_list_eq_equiv}
 use Rattle.std.specs.Option.{option_or}
 use Rattle.std.proofs.lemmas.Bool.{and_parts, and_from, false≢true, true≢false, not-true}
 use Rattle.std.proofs.lemmas.List.{reverse-append}
+use Rattle.np_base.proofs.Options.{is_some-or}
 use Rattle.np_exposure.proofs.SameLemmas.{same_side-equal, same_side-refl}
 use Rattle.np_exposure.specs.Mentions.{same_side}
 use Rattle.np_exposure.specs.Strangers.{is_hypothetical, labels_at}
@@ -109,7 +110,7 @@ first-among [] some = absurd (false≢true some)
 first-among (one ∷ found) some = inl refl
 
 -- the name that a namespace has where no key says another
-abbrev named : List Pair
+abbrev pub named : List Pair
 named = record { key = codes "kubernetes.io/metadata.name"; value = codes "a" } ∷ []
 
 -- the name stands only where no key of the namespace's labels is chosen to be absent
@@ -124,15 +125,11 @@ named-found (None ∷ found) key false same some all =
 module _ (state : List Choices) (s : Stranger) (is : IsState state)
     (namespaces : (key : List ℕ) → value_of s.namespace key ≡ last_value_of (named ++ flat_map (first_label Namespace) state) key)
     (pods : (key : List ℕ) → value_of s.labels key ≡ last_value_of (flat_map (first_label Pod) state) key) where
-  some-or : (found : Option (List ℕ)) (value : List ℕ) → is_some (option_or found (Some value)) ≡ true
-  some-or None value = refl
-  some-or (Some other) value = refl
-
   is_named : is_hypothetical s ≡ true
   is_named =
       ap (λ (found : Option (List ℕ)). is_some found) (namespaces (codes "kubernetes.io/metadata.name") ∙ last-append named (flat_map (first_label Namespace) state)
       (codes "kubernetes.io/metadata.name"))
-      ∙ some-or (last_value_of (flat_map (first_label Namespace) state) (codes "kubernetes.io/metadata.name")) (codes "a")
+      ∙ is_some-or (last_value_of (flat_map (first_label Namespace) state) (codes "kubernetes.io/metadata.name")) (codes "a")
 
   named-none : (choices : Choices) → choices.side ≡ Namespace → has_choice choices ≡ true → is_named_at choices ≡ true →
       option_or (first_found choices.found) (last_value_of named choices.key) ≡ first_found choices.found

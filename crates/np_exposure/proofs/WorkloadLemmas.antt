@@ -1,13 +1,15 @@
 -- The pods of a workload have one list of rows.
-use Rattle.std.proofs.Common.{◌≡◌, ◌<◌, ℕ, List, [], ◌∷◌, Some, length, slice_get, get_or, sym, ap, subst, ◌∙◌, arith, Option}
+use Rattle.std.proofs.Common.{◌≡◌, ◌<◌, ℕ, List, [], ◌∷◌, Some, length, slice_get, sym, ap, subst, ◌∙◌, Option}
 use Rattle.std.specs.Option.{option_map_or}
-use Rattle.std.proofs.lemmas.Option.{slice_get-get_or}
+use Rattle.np_labels.specs.Labels.{AgreeOn}
+use Rattle.np_labels.proofs.Agreed.{All-from_listed}
+use Rattle.np_base.proofs.Lists.{slice_get-some}
 use Rattle.np_conns.specs.declared.port_spot.PortSpot.{PortSpot}
+use Rattle.np_conns.proofs.ConnLemmas.{conns_of-agrees}
 use Rattle.np_model.specs.Lawful.{IsLawful}
 use Rattle.np_model.specs.declared.lists.EstateLists.{EstateLists}
 use Rattle.np_model.specs.declared.pod.Pod.{Pod}
-use Rattle.np_exposure.proofs.AlikePodLemmas.{AgreeOn, All-from_listed, AreAlikePods, exposes-agree, mentions-agree}
-use Rattle.np_exposure.proofs.RowLemmas.{conns_of-agrees}
+use Rattle.np_exposure.proofs.AlikePodLemmas.{AreAlikePods, exposes-agree, mentions-agree}
 use Rattle.np_exposure.specs.Choices.{can_be_assumed, choices_left, first_stranger}
 use Rattle.np_exposure.specs.Mentions.{each_once, mentions}
 use Rattle.np_exposure.specs.Rows.{row_of, rows_at, rows_left, rows_of}
@@ -49,11 +51,6 @@ module _ (a b : PodSide) (same : mentions a ≡ mentions b) (alike : (s : Strang
 
 -- ---- pods of one workload
 
--- there is a pod at each place
-pod_there : (pods : List Pod) (place : ℕ) → place < length pods → (a : Pod) × (slice_get pods place ≡ Some a)
-pod_there [] place within = absurd (omega arith)
-pod_there (first ∷ pods) place within = (get_or (first ∷ pods) place first, slice_get-get_or (first ∷ pods) place first within)
-
 alike-by : (lists : EstateLists) (p q : ℕ) (a b : Pod) → IsLawful lists → slice_get lists.pods p ≡ Some a → slice_get lists.pods q ≡ Some b → IsSameKind lists a b →
     AreAlikePods lists (pod_at lists p) (pod_at lists q)
 alike-by lists p q a b lawful is is' kind =
@@ -73,8 +70,8 @@ module _ (lists : EstateLists) (p q : ℕ) (direction : Direction) (lawful : IsL
     (one : number_of lists p ≡ number_of lists q) where
   alike : AreAlikePods lists (pod_at lists p) (pod_at lists q)
   alike =
-      let a = pod_there lists.pods p p_in in
-      let b = pod_there lists.pods q q_in in
+      let a = slice_get-some lists.pods p p_in in
+      let b = slice_get-some lists.pods q q_in in
       alike-by lists p q a.0 b.0 lawful a.1 b.1 ((one_workload lists p q a.0 b.0 a.1 b.1).0 one).kind
 
   -- every hypothetical pod has one exposure at both

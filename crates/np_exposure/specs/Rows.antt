@@ -1,12 +1,10 @@
 -- The list of rows of a pod's side, as a function: the same as the relation of `Tree` says, with a test of what is possible
 -- and one pod for all that have the same exposure.
-use Rattle.std.specs.Prelude.{ℕ, List, [], ◌∷◌, ◌++◌, map, Bool, true, false, ◌&&◌, ◌==◌, if◌then◌else◌}
+use Rattle.std.specs.Prelude.{List, [], ◌∷◌, ◌++◌, map, Bool, true, false, ◌&&◌, if◌then◌else◌}
 use Rattle.std.specs.Cmp.Lexicographic.{pointwise}
-use Rattle.np_base.specs.declared.range.Range.{Range}
+use Rattle.np_base.specs.Ranges.{are_same_range}
 use Rattle.np_conns.specs.Conns.{Conns}
-use Rattle.np_conns.specs.ConnsText.{spans_of}
-use Rattle.np_conns.specs.declared.port_spot.PortSpot.{PortSpot}
-use Rattle.np_conns.specs.declared.proto.Proto.TheVariants.{Tcp, Udp, Sctp}
+use Rattle.np_conns.specs.ConnsText.{conns_of}
 use Rattle.np_exposure.specs.Choices.{can_be_assumed, choices_left, first_stranger}
 use Rattle.np_exposure.specs.Mentions.{is_same, mentions, requirements}
 use Rattle.np_exposure.specs.Strangers.{exposes, negated}
@@ -18,9 +16,6 @@ use Rattle.np_rules.specs.declared.stranger.Stranger.{Stranger}
 
 -- ---- whether rows are equal
 
-abbrev pub are_same_range : Range ℕ → Range ℕ → Bool
-are_same_range a b = a.lo == b.lo && a.hi == b.hi
-
 abbrev pub are_same_conns : Conns → Conns → Bool
 are_same_conns a b = pointwise are_same_range a.tcp b.tcp && pointwise are_same_range a.udp b.udp && pointwise are_same_range a.sctp b.sctp
 
@@ -31,10 +26,6 @@ abbrev pub are_same_rows : List ExposureRow → List ExposureRow → Bool
 are_same_rows these those = pointwise are_same_row these those
 
 -- ---- the rows
-
--- the maximal runs of those ports of each protocol whose spots pass
-abbrev pub conns_of : (PortSpot → Bool) → Conns
-conns_of passes = record { tcp = spans_of passes Tcp; udp = spans_of passes Udp; sctp = spans_of passes Sctp }
 
 -- a row without requirements, with the exposure of a hypothetical pod
 abbrev pub row_of : PodSide → Stranger → ExposureRow

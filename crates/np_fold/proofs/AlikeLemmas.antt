@@ -1,5 +1,5 @@
 -- The questions about two pods, and what they say of pods at places.
-use Rattle.std.proofs.Common.{◌≡◌, ℕ, ◌<◌, List, [], ◌∷◌, map, length, get_or, slice_get, Bool, true, false, ◌==◌, Option, Some, None, All, refl, sym, ap, ◌∙◌, arith}
+use Rattle.std.proofs.Common.{◌≡◌, ℕ, ◌<◌, List, map, length, slice_get, Bool, true, false, ◌==◌, Option, Some, None, All, refl, sym, ap, ◌∙◌}
 use Rattle.std.specs.Bool.{Decides}
 use Rattle.std.specs.Cmp.{Equal-is}
 use Rattle.std.specs.Cmp.Lexicographic.{bytes_decides, pointwise, pointwise_decides}
@@ -8,7 +8,9 @@ use Rattle.std.specs.Option.{option_eq, option_map}
 use Rattle.std.specs.Ordering.{is_eq}
 use Rattle.std.proofs.lemmas.Bool.Decides.{Decides-and, Decides-eqb, Decides-like, same_from_decides}
 use Rattle.std.proofs.lemmas.List.Elements.{All-from_recursion, recursion_from_All}
-use Rattle.std.proofs.lemmas.Option.{same_Some, slice_get-get_or, slice_get-map}
+use Rattle.std.proofs.lemmas.Option.{same_Some, slice_get-map}
+use Rattle.np_conns.specs.Conns.{proto_number}
+use Rattle.np_base.proofs.Lists.{slice_get-some}
 use Rattle.np_classes.specs.Classes.{IsAlike, keys_tie, of_both}
 use Rattle.np_addr.specs.declared.cidr.Cidr.{Cidr}
 use Rattle.np_model.specs.declared.lists.EstateLists.{EstateLists}
@@ -16,9 +18,9 @@ use Rattle.np_model.specs.declared.pod.Pod.{Pod}
 use Rattle.np_fold.specs.Alike.{Alike, IsSameKind, are_alike, are_both_in, are_same_kind, are_same_owner, are_same_port, have_same_value, is_in}
 use Rattle.np_fold.specs.Blocks.{cidrs_of_estate}
 use Rattle.np_fold.specs.Keys.{keys_of_estate}
-use Rattle.np_fold.specs.Order.{compare_traits, rank}
+use Rattle.np_fold.specs.Order.{compare_traits}
 use Rattle.np_fold.specs.Traits.{traits_of, with_owner}
-use Rattle.np_fold.specs.steps.Folded.{HaveSame}
+use Rattle.np_fold.specs.steps.Folded.{HaveSame, nobody}
 use Rattle.np_fold.specs.Workloads.{first_pod, kinds_alike, pods_alike}
 use Rattle.np_fold.specs.declared.traits.Traits.{Traits}
 use Rattle.np_fold.proofs.BlockLemmas.{agree-from_test, test-from_agree}
@@ -43,8 +45,8 @@ ports_decide : (a b : NamedPort) → Decides (are_same_port a b) (a ≡ b)
 ports_decide a b =
     Decides-like (are_same_port a b)
     (λ same. rw (same.0.0, protos a.proto b.proto same.0.1, same.1) refl)
-    (λ same. ((ap (λ (p : NamedPort). p.name) same, ap (λ (p : NamedPort). rank p.proto) same), ap (λ (p : NamedPort). p.number) same))
-    (Decides-and _ _ (Decides-and _ _ (bytes_decides a.name b.name) (Decides-eqb (rank a.proto) (rank b.proto))) (Decides-eqb a.number b.number))
+    (λ same. ((ap (λ (p : NamedPort). p.name) same, ap (λ (p : NamedPort). proto_number p.proto) same), ap (λ (p : NamedPort). p.number) same))
+    (Decides-and _ _ (Decides-and _ _ (bytes_decides a.name b.name) (Decides-eqb (proto_number a.proto) (proto_number b.proto))) (Decides-eqb a.number b.number))
 
 values_decide : (a b : Option (List ℕ)) → Decides (option_eq (pointwise (λ x y. x == y)) a b) (a ≡ b)
 values_decide None None = (λ _. refl, λ _. refl)
@@ -144,11 +146,6 @@ module _ {K X : Type 0} (ask : X → X → Bool) (seen : X → K) (decides : (x 
     onward = λ a b c _ _ _ near far. asked_onward (at a) (at b) (at c) near far;
   }
 
--- a place of a list has an item
-pub slice_get-some : {X : Type 0} (xs : List X) (place : ℕ) → place < length xs → (x : X) × (slice_get xs place ≡ Some x)
-slice_get-some [] place within = absurd (omega arith)
-slice_get-some (x ∷ xs) place within = (get_or (x ∷ xs) place x, slice_get-get_or (x ∷ xs) place x within)
-
 -- pods by their places
 pub alike-is : (lists : EstateLists) → IsAlike (pods_alike lists) (length lists.pods)
 alike-is lists =
@@ -157,10 +154,6 @@ alike-is lists =
     let equal = traits-alike lists (keys_of_estate lists) (λ key. refl) (cidrs_of_estate lists) (λ test. refl) a b in
     Decides-like (are_alike lists a b) equal.1 equal.0 (alike_decide lists a b))
     (slice_get lists.pods) (length lists.pods) (slice_get-some lists.pods)
-
--- an owner of no name
-abbrev nobody : Owner
-nobody = record { kind = []; name = [] }
 
 -- first pods of one kind by the numbers of their workloads
 pub kinds-are : (lists : EstateLists) (count : ℕ) → ((number : ℕ) → number < count → (pod : Pod) × (first_pod lists number ≡ Some pod)) → IsAlike (kinds_alike lists) count

@@ -9,13 +9,15 @@ use Rattle.std.proofs.lemmas.Bool.{and_from, and_parts}
 use Rattle.std.proofs.lemmas.List.{length-take, map-append, take_more}
 use Rattle.std.proofs.lemmas.List.Elements.{filter-append}
 use Rattle.std.proofs.lemmas.List.Folds.{list_all_more}
+use Rattle.np_base.proofs.Bools.{and-leftwards}
+use Rattle.np_base.proofs.Orders.{second_ties}
 use Rattle.np_addr.specs.contracts.address.AddressOrd.TheImpl as address_ord
 use Rattle.np_addr.specs.declared.address.Address.{Address}
 use Rattle.np_addr.specs.declared.address.Address.TheVariants.{Four, Six}
 use Rattle.np_addr.specs.declared.cidr.Cidr.{Cidr}
 use Rattle.np_addr.specs.declared.cidr.Cidr.TheVariants as cidr
 use Rattle.np_fold.specs.steps.Folded.{HaveSame, block_at, start_of}
-use Rattle.np_fold.proofs.OrderLemmas.{first_ties, numbers, second_ties}
+use Rattle.np_fold.proofs.OrderLemmas.{first_ties, numbers}
 use mathlib.Core.Bool.{beq}
 
 -- ---- the places of items that pass a test
@@ -133,10 +135,6 @@ and_again true true = refl
 and_again true false = refl
 and_again false b = refl
 
-and_later : (a b c : Bool) → (a && (b && c)) ≡ ((a && b) && c)
-and_later true b c = refl
-and_later false b c = refl
-
 -- what all keys and one more pass, all of them together do
 module _ {K : Type 0} (cmp : K → K → Ordering) (only : (x y : K) → cmp x y ≡ Equal → x ≡ y) (test : K → Bool) where
   all-insert : (keys : List K) (key : K) → list_all test (insert_key cmp keys key) ≡ (list_all test keys && test key)
@@ -148,7 +146,7 @@ module _ {K : Type 0} (cmp : K → K → Ordering) (only : (x y : K) → cmp x y
       by Less is others = and_swap (test key) (test first && list_all test keys)
       by Equal is others =
           and_again (test first) (list_all test keys) ∙ ap (λ (k : K). (test first && list_all test keys) && test k) (sym (only key first is))
-      by Greater is others = ap (λ (b : Bool). test first && b) others ∙ and_later (test first) (list_all test keys) (test key)
+      by Greater is others = ap (λ (b : Bool). test first && b) others ∙ and-leftwards (test first) (list_all test keys) (test key)
 
 list_all-map : {X Y : Type 0} (test : Y → Bool) (f : X → Y) (xs : List X) → list_all test (map f xs) ≡ list_all (λ x. test (f x)) xs
 list_all-map test f [] = refl

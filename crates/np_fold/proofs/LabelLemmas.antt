@@ -8,11 +8,12 @@ use Rattle.std.specs.List.Sorted.{IsStrictlySortedBy}
 use Rattle.std.specs.Option.{option_map}
 use Rattle.std.specs.Ordering.{is_lt, nat_cmp}
 use Rattle.std.specs.Str.{bytes_eq}
-use Rattle.std.specs.declared.cmp.Ordering.{Ordering}
 use Rattle.std.specs.declared.cmp.Ordering.TheVariants.{Less}
 use Rattle.std.proofs.lemmas.Bool.{and_from, and_parts}
 use Rattle.std.proofs.lemmas.List.{map-append}
 use Rattle.std.proofs.lemmas.List.Elements.{filter_more}
+use Rattle.std.proofs.Math.Bool.{or-true}
+use Rattle.np_base.specs.Texts.{compare_texts}
 use Rattle.np_fold.specs.Traits.{label_of}
 use Rattle.np_fold.specs.declared.traits.Label.{Label}
 use Rattle.np_labels.proofs.Ascending.{same_by_values}
@@ -21,16 +22,8 @@ use Rattle.np_labels.specs.Selectors.{is_listed}
 use Rattle.np_labels.specs.Values.{is_ascending, is_below}
 use Rattle.np_labels.specs.declared.pair.Pair.{Pair}
 
--- the order of texts
-abbrev order : List ℕ → List ℕ → Ordering
-order = slice_cmp nat_cmp
-
 abbrev label_with : List ℕ → List ℕ → Label
 label_with key value = record { key = key; value = value }
-
-or_true : (b : Bool) → (b || true) ≡ true
-or_true true = refl
-or_true false = refl
 
 -- a key is listed where it is the first
 listed_first : (first : List ℕ) (keys : List (List ℕ)) → is_listed (first ∷ keys) first ≡ true
@@ -52,7 +45,7 @@ module _ (test : List ℕ → Bool) (P : List ℕ → Type 0) (each : (key : Lis
   to_all [] passed = refl
   to_all (first ∷ keys) passed =
       and_from (test first) (list_all test keys) ((each first).1 (passed first (listed_first first keys)))
-      (to_all keys (λ key listed. passed key (rw listed (or_true (bytes_eq first key)))))
+      (to_all keys (λ key listed. passed key (rw listed (or-true (bytes_eq first key)))))
 
   pub Decides-listed : (keys : List (List ℕ)) → Decides (list_all test keys) ((key : List ℕ) → is_listed keys key ≡ true → P key)
   Decides-listed keys = (from_all keys, to_all keys)
@@ -63,7 +56,7 @@ pub labels-from_values : (pairs others : List Pair) (keys : List (List ℕ)) →
 labels-from_values pairs others [] agree = refl
 labels-from_values pairs others (first ∷ keys) agree =
     let here : label_of pairs first ≡ label_of others first = ap (option_map (label_with first)) (agree first (listed_first first keys)) in
-    rw (here, labels-from_values pairs others keys (λ key listed. agree key (rw listed (or_true (bytes_eq first key))))) refl
+    rw (here, labels-from_values pairs others keys (λ key listed. agree key (rw listed (or-true (bytes_eq first key))))) refl
 
 -- ---- the same as pairs
 
@@ -161,14 +154,14 @@ all-pairs_at P (first ∷ keys) pairs all = by (value_of pairs first) (all-pairs
     by None others = others
     by (Some value) others = (all.0, others)
 
-HasAscendingKeys-pairs_at : (keys : List (List ℕ)) (pairs : List Pair) → IsStrictlySortedBy order keys → HasAscendingKeys (pairs_at keys pairs)
+HasAscendingKeys-pairs_at : (keys : List (List ℕ)) (pairs : List Pair) → IsStrictlySortedBy compare_texts keys → HasAscendingKeys (pairs_at keys pairs)
 unfolding IsStrictlySortedBy
 HasAscendingKeys-pairs_at [] pairs ascending = tt
 HasAscendingKeys-pairs_at (first ∷ keys) pairs ascending = by (value_of pairs first) (HasAscendingKeys-pairs_at keys pairs ascending.1)
   where
     by : (found : Option (List ℕ)) → HasAscendingKeys (pairs_at keys pairs) → HasAscendingKeys (cons_option (option_map (pair_with first) found) (pairs_at keys pairs))
     by None others = others
-    by (Some value) others = (all-pairs_at (λ other. order first other ≡ Less) keys pairs ascending.0, others)
+    by (Some value) others = (all-pairs_at (λ other. compare_texts first other ≡ Less) keys pairs ascending.0, others)
 
 all-are_listed : (P : List ℕ → Type 0) (keys : List (List ℕ)) (pairs : List Pair) → AllByRecursion P (keys_of pairs) → AllByRecursion P (keys_of (are_listed keys pairs))
 all-are_listed P keys [] all = tt
@@ -184,7 +177,7 @@ HasAscendingKeys-are_listed keys [] ascending = tt
 HasAscendingKeys-are_listed keys (pair ∷ pairs) ascending = by (is_listed keys pair.key) (HasAscendingKeys-are_listed keys pairs ascending.1)
   where
     by : (listed : Bool) → HasAscendingKeys (are_listed keys pairs) → HasAscendingKeys (cond listed (pair ∷ are_listed keys pairs) (are_listed keys pairs))
-    by true others = (all-are_listed (λ other. order pair.key other ≡ Less) keys pairs ascending.0, others)
+    by true others = (all-are_listed (λ other. compare_texts pair.key other ≡ Less) keys pairs ascending.0, others)
     by false others = others
 
 -- the labels of ascending keys are those of ascending pairs whose keys are listed
@@ -198,7 +191,7 @@ labels-listed keys pairs ascending in_order =
 
 -- ---- a key that is looked up
 
-below_all : (key : List ℕ) (keys : List (List ℕ)) → AllByRecursion (λ other. order key other ≡ Less) keys → list_all (is_below key) keys ≡ true
+below_all : (key : List ℕ) (keys : List (List ℕ)) → AllByRecursion (λ other. compare_texts key other ≡ Less) keys → list_all (is_below key) keys ≡ true
 below_all key [] all = refl
 below_all key (other ∷ keys) all = and_from (is_below key other) (list_all (is_below key) keys) (ap is_lt all.0) (below_all key keys all.1)
 

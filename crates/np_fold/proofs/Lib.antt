@@ -9,5 +9,6 @@ pub mod NumberLemmas
 pub mod OrderLemmas
 pub mod OwnerNameLemmas
 pub mod PartLemmas
+pub mod SelectorLemmas
 pub mod TraitLemmas
 pub mod WorkloadLemmas

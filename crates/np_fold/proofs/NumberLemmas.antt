@@ -11,13 +11,16 @@ use Rattle.std.proofs.lemmas.List.{length-map}
 use Rattle.std.proofs.lemmas.List.Elements.{All-get_or, All-map, All-weaker}
 use Rattle.std.proofs.lemmas.List.FromFn.{get_or-map-range_with_len, length-map-range_with_len}
 use Rattle.std.proofs.lemmas.Option.{slice_get-get_or, slice_get_within}
+use Rattle.std.specs.Cmp.{both_ways}
+use Rattle.np_base.proofs.Lists.{slice_get-some}
+use Rattle.np_base.proofs.Bools.{eq-swap}
 use Rattle.np_classes.specs.Classes.{class_of, members, numbered, places}
-use Rattle.np_classes.proofs.Lists.{All-places, any_filter, any_place, filter_agree_on, place_that_passes, position_agree_on, same_answer}
+use Rattle.np_classes.proofs.Lists.{All-places, any_filter, any_place, filter_agree_on, place_that_passes, position_agree_on}
 use Rattle.np_classes.proofs.Relations.{alike_in_class, class_of_first, class_within, firsts_within, same_class}
 use Rattle.np_model.specs.declared.lists.EstateLists.{EstateLists}
 use Rattle.np_model.specs.declared.pod.Pod.{Pod}
 use Rattle.np_fold.specs.Workloads.{first_of, first_pods, has_member, named_first_pods, number_of, owner_name, owner_name_at, owner_names, pods_alike, pods_like, workload, workloads_of}
-use Rattle.np_fold.proofs.AlikeLemmas.{alike-is, slice_get-some}
+use Rattle.np_fold.proofs.AlikeLemmas.{alike-is}
 use Rattle.np_names.specs.Names.{EndsInBracket, named}
 use Rattle.np_names.specs.declared.named.Named.{Named}
 use Rattle.np_names.proofs.NumberLemmas.{names-in-order, number-of-one, one-of-place}
@@ -35,7 +38,7 @@ member-is : (alike : ℕ → ℕ → Bool) (count first place : ℕ) → place <
 unfolding members
 member-is alike count first place within =
     any_filter (alike first) (λ member. member == place) (places count)
-    ∙ same_answer (list_any (λ member. alike first member && member == place) (places count)) (alike first place) there here
+    ∙ both_ways (list_any (λ member. alike first member && member == place) (places count)) (alike first place) there here
   where
     there : list_any (λ member. alike first member && member == place) (places count) ≡ true → alike first place ≡ true
     there found =
@@ -85,7 +88,7 @@ module _ (lists : EstateLists) where
       → has_member place (workload lists one) ≡ (one.place == class place)
   has_member-is place one within known =
       member-is (pods_alike lists) count (first_of lists one) place within
-      ∙ same_answer (pods_alike lists (first_of lists one) place) (one.place == class place)
+      ∙ both_ways (pods_alike lists (first_of lists one) place) (one.place == class place)
       (λ tied. eq-eqb one.place (class place)
       (sym (class-first one known) ∙ same_class (pods_alike lists) count (alike-is lists) (first_of lists one) place (first-within one known) within tied))
       (λ same. alike_in_class (pods_alike lists) count (alike-is lists) (first_of lists one) place (first-within one known) within
@@ -128,7 +131,7 @@ module _ (lists : EstateLists) where
   pub number-is : (number : ℕ) (one : Named) (place : ℕ) → slice_get (named_first_pods lists) number ≡ Some one → place < count
       → (one.place == class place) ≡ (number == number_of lists place)
   number-is number one place at within =
-      same_answer (one.place == class place) (number == number_of lists place)
+      both_ways (one.place == class place) (number == number_of lists place)
       (λ same. eq-eqb number (number_of lists place)
       (sym (at-number number one at).2
       ∙ ap (λ (n : ℕ). position_or_len (λ other. other.place == n) (named_first_pods lists)) (eqb-true one.place (class place) same)
@@ -150,15 +153,12 @@ module _ (lists : EstateLists) where
       (All-places (λ place. pods_alike lists (first_of lists one) place ≡ (slice_index (map (number_of lists) (places count)) place == number)) count each)
       ∙ ap (λ (n : ℕ). filter (λ place. slice_index (map (number_of lists) (places count)) place == number) (places n)) (sym (length-map-range_with_len (number_of lists) 0 count))
     where
-      turned : (a b : ℕ) → (a == b) ≡ (b == a)
-      turned a b = same_answer (a == b) (b == a) (λ same. eq-eqb b a (sym (eqb-true a b same))) (λ same. eq-eqb a b (sym (eqb-true b a same)))
-
       each : (place : ℕ) → place < count → pods_alike lists (first_of lists one) place ≡ (slice_index (map (number_of lists) (places count)) place == number)
       each place within =
           sym (member-is (pods_alike lists) count (first_of lists one) place within)
           ∙ has_member-is place one within (place-within number one at)
           ∙ number-is number one place at within
-          ∙ turned number (number_of lists place)
+          ∙ eq-swap number (number_of lists place)
           ∙ ap (λ (n : ℕ). n == number) (sym (get_or-map-range_with_len (number_of lists) 0 count place place 0 within (omega arith)))
 
   pub numbers-within : All (λ number. number < length (named_first_pods lists)) (map (number_of lists) (places count))

@@ -3,9 +3,12 @@ use Rattle.std.proofs.Common.{◌≡◌, ◌↔◌, [], ◌∷◌, arith, Orderi
 use Rattle.std.specs.Cmp.{ranked, tied_itself}
 use Rattle.std.specs.Cmp.Lexicographic.{slice_cmp}
 use Rattle.std.specs.Ordering.{nat_cmp, ordering_then}
+use Rattle.np_base.proofs.Orders.{second_ties}
+use Rattle.np_base.specs.Texts.{compare_texts}
 use Rattle.np_conns.specs.declared.proto.Proto.{Proto}
 use Rattle.np_conns.specs.declared.proto.Proto.TheVariants.{Tcp, Udp, Sctp}
-use Rattle.np_fold.specs.Order.{compare_labels, compare_owners, compare_ports, compare_texts, compare_traits, rank, traits_total}
+use Rattle.np_conns.specs.Conns.{proto_number}
+use Rattle.np_fold.specs.Order.{compare_labels, compare_owners, compare_ports, compare_traits, traits_total}
 use Rattle.np_fold.specs.declared.traits.Traits.{Traits}
 
 -- only equal values tie
@@ -16,11 +19,6 @@ pub first_ties : (first second : Ordering) → ordering_then first second ≡ Eq
 first_ties Less second ties = cc
 first_ties Equal second ties = refl
 first_ties Greater second ties = cc
-
-pub second_ties : (first second : Ordering) → ordering_then first second ≡ Equal → second ≡ Equal
-second_ties Less second ties = cc
-second_ties Equal second ties = ties
-second_ties Greater second ties = cc
 
 pub numbers : TiesOnlyEqual nat_cmp
 numbers x y ties = ranked x y Equal (sym ties)
@@ -34,7 +32,7 @@ lists R only (x ∷ xs) (y ∷ ys) ties = rw (only x y (first_ties (R x y) (slic
 texts : TiesOnlyEqual compare_texts
 texts = lists nat_cmp numbers
 
-pub protos : (x y : Proto) → rank x ≡ rank y → x ≡ y
+pub protos : (x y : Proto) → proto_number x ≡ proto_number y → x ≡ y
 protos Tcp Tcp same = refl
 protos Tcp Udp same = absurd (omega (arith, same))
 protos Tcp Sctp same = absurd (omega (arith, same))
@@ -64,12 +62,12 @@ labels x y ties =
 ports : TiesOnlyEqual compare_ports
 ports x y ties =
     let name : Ordering = compare_texts x.name y.name in
-    let proto : Ordering = nat_cmp (rank x.proto) (rank y.proto) in
+    let proto : Ordering = nat_cmp (proto_number x.proto) (proto_number y.proto) in
     let number : Ordering = nat_cmp x.number y.number in
     let before : ordering_then name proto ≡ Equal = first_ties (ordering_then name proto) number ties in
     rw (
       texts x.name y.name (first_ties name proto before),
-      protos x.proto y.proto (numbers (rank x.proto) (rank y.proto) (second_ties name proto before)),
+      protos x.proto y.proto (numbers (proto_number x.proto) (proto_number y.proto) (second_ties name proto before)),
       numbers x.number y.number
           (second_ties (ordering_then name proto) number ties),
     ) refl

@@ -79,7 +79,7 @@ module _ (lists : EstateLists) (few : workload_count lists ≤ 2000) (named : Li
 
 -- ---- kinds
 
-length-firsts : (alike : ℕ → ℕ → Bool) (count : ℕ) → length (firsts alike count) ≤ count
+pub length-firsts : (alike : ℕ → ℕ → Bool) (count : ℕ) → length (firsts alike count) ≤ count
 unfolding firsts
 length-firsts alike count = omega (arith, length-filter (is_first alike) (places count), count_by-le-length (is_first alike) (places count), length-range_with_len 0 count)
 

@@ -15,6 +15,7 @@ use Rattle.std.proofs.lemmas.List.FromFn.{get_or-range_with_len, length-range_wi
 use Rattle.std.proofs.lemmas.List.Kept.{IsStrictlySortedBy-filter}
 use Rattle.std.proofs.lemmas.List.Sums.{position_or_len_is}
 use Rattle.std.proofs.lemmas.Option.{none-some, same_Some, slice_get-get_or, slice_get-map, slice_get_within}
+use Rattle.np_base.proofs.Lists.{slice_get-some}
 use Rattle.np_classes.specs.Classes.{class_of, firsts, is_first, members, places}
 use Rattle.np_classes.proofs.Lists.{All-places, any_place}
 use Rattle.np_classes.proofs.Relations.{alike_in_class, same_class}
@@ -23,7 +24,7 @@ use Rattle.np_model.specs.declared.pod.Pod.{Pod}
 use Rattle.np_fold.specs.Alike.{Alike, IsSameKind, are_alike, are_same_kind}
 use Rattle.np_fold.specs.Workloads.{Workload, first_of, first_pod, first_pods, folding_of, has_member, kinds_alike, members_of, named_first_pods, number_of, owner_names, pods_alike, pods_like}
 use Rattle.np_fold.specs.Workloads.{workload, workload_count, workloads_of}
-use Rattle.np_fold.proofs.AlikeLemmas.{alike_decide, alike-is, kinds_decide, kinds-are, slice_get-some}
+use Rattle.np_fold.proofs.AlikeLemmas.{alike_decide, alike-is, kinds_decide, kinds-are}
 use Rattle.np_fold.proofs.NumberLemmas.{count-is, first-within, has_member-is, named-number, names-strict, number-is, number-rank, number-within, place-within}
 use Rattle.np_names.specs.Names.{named}
 use Rattle.np_names.specs.declared.named.Named.{Named}

@@ -4,6 +4,7 @@ use Rattle.std.specs.Cmp.Lexicographic.{pointwise}
 use Rattle.std.specs.List.{list_all, list_any}
 use Rattle.std.specs.Option.{option_eq}
 use Rattle.std.specs.Str.{bytes_eq}
+use Rattle.np_conns.specs.Conns.{proto_number}
 use Rattle.np_addr.specs.Addresses.{cidr_has}
 use Rattle.np_addr.specs.declared.address.Address.{Address}
 use Rattle.np_addr.specs.declared.cidr.Cidr.{Cidr}
@@ -11,7 +12,6 @@ use Rattle.np_model.specs.declared.lists.EstateLists.{EstateLists}
 use Rattle.np_model.specs.declared.pod.Pod.{Pod}
 use Rattle.np_fold.specs.Blocks.{cidrs_of_estate}
 use Rattle.np_fold.specs.Keys.{keys_of_estate}
-use Rattle.np_fold.specs.Order.{rank}
 use Rattle.np_labels.specs.Labels.{value_of}
 use Rattle.np_labels.specs.Selectors.{is_listed}
 use Rattle.np_model.specs.declared.named_port.NamedPort.{NamedPort}
@@ -41,7 +41,7 @@ abbrev pub are_same_owner : Owner → Owner → Bool
 are_same_owner a b = bytes_eq a.kind b.kind && bytes_eq a.name b.name
 
 abbrev pub are_same_port : NamedPort → NamedPort → Bool
-are_same_port a b = bytes_eq a.name b.name && rank a.proto == rank b.proto && a.number == b.number
+are_same_port a b = bytes_eq a.name b.name && proto_number a.proto == proto_number b.proto && a.number == b.number
 
 -- whether two pods have the same value of a key, or neither has the key
 abbrev pub have_same_value : Pod → Pod → List ℕ → Bool

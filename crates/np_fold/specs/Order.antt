@@ -1,33 +1,22 @@
 -- The order of traits, which are what rules see of a pod: namespace, owner, labels, named ports and blocks.
-use Rattle.std.specs.Prelude.{ℕ, List}
 use Rattle.std.specs.Cmp.{IsTotalOrder, nat_cmp_total, on_total, then_total}
 use Rattle.std.specs.Cmp.Lexicographic.{slice_cmp, lists_total, nat_list_cmp_total}
 use Rattle.std.specs.Ordering.{nat_cmp, on, ordering_then, then_cmp}
 use Rattle.std.specs.declared.cmp.Ordering.{Ordering}
-use Rattle.np_conns.specs.declared.proto.Proto.{Proto}
-use Rattle.np_conns.specs.declared.proto.Proto.TheVariants.{Tcp, Udp, Sctp}
+use Rattle.np_base.specs.Texts.{compare_texts}
+use Rattle.np_conns.specs.Conns.{proto_number}
 use Rattle.np_fold.specs.declared.traits.Label.{Label}
 use Rattle.np_fold.specs.declared.traits.Traits.{Traits}
 use Rattle.np_model.specs.declared.named_port.NamedPort.{NamedPort}
 use Rattle.np_model.specs.declared.owner.Owner.{Owner}
 
--- by their bytes
-abbrev pub compare_texts : List ℕ → List ℕ → Ordering
-compare_texts = slice_cmp nat_cmp
-
 -- by kind, and then by name
 abbrev pub compare_owners : Owner → Owner → Ordering
 compare_owners = then_cmp (on (λ owner. owner.kind) compare_texts) (on (λ owner. owner.name) compare_texts)
 
--- the place of a protocol among the three
-abbrev pub rank : Proto → ℕ
-rank Tcp = 0
-rank Udp = 1
-rank Sctp = 2
-
 -- by name, then by protocol, and then by number
 abbrev pub compare_ports : NamedPort → NamedPort → Ordering
-compare_ports = then_cmp (then_cmp (on (λ port. port.name) compare_texts) (on (λ port. rank port.proto) nat_cmp)) (on (λ port. port.number) nat_cmp)
+compare_ports = then_cmp (then_cmp (on (λ port. port.name) compare_texts) (on (λ port. proto_number port.proto) nat_cmp)) (on (λ port. port.number) nat_cmp)
 
 -- by key, and then by value
 abbrev pub compare_labels : Label → Label → Ordering
@@ -50,7 +39,7 @@ owners_total = then_total (on_total (λ (o : Owner). o.kind) nat_list_cmp_total)
 
 ports_total : IsTotalOrder compare_ports
 ports_total =
-    then_total (then_total (on_total (λ (p : NamedPort). p.name) nat_list_cmp_total) (on_total (λ (p : NamedPort). rank p.proto) nat_cmp_total))
+    then_total (then_total (on_total (λ (p : NamedPort). p.name) nat_list_cmp_total) (on_total (λ (p : NamedPort). proto_number p.proto) nat_cmp_total))
     (on_total (λ (p : NamedPort). p.number) nat_cmp_total)
 
 labels_total : IsTotalOrder compare_labels

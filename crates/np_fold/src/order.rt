@@ -2,6 +2,7 @@
 ghost use Rattle.std.specs.Prelude.{◌≡◌};
 ghost use Rattle.std.specs.Cmp.Lexicographic.{slice_cmp};
 ghost use Rattle.np_fold.specs.Order as spec;
+ghost use Rattle.np_conns.specs.Conns.{proto_number};
 
 use crate::traits::Traits;
 use np_conns::Proto;
@@ -103,7 +104,7 @@ fn compare_ports(port: &NamedPort, other: &NamedPort) -> Ordering
 
 // The place of a protocol among the three.
 fn rank(proto: Proto) -> u8
-    ensures { result ≡ spec.rank proto }
+    ensures { result ≡ proto_number proto }
 {
     match proto {
         Proto::Tcp => 0,

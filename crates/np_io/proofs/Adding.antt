@@ -5,6 +5,7 @@ use Rattle.std.specs.Option.{option_map_or}
 use Rattle.std.specs.Str.{bytes_eq}
 use Rattle.std.proofs.lemmas.List.{get_or_append_left, get_or_push}
 use Rattle.std.proofs.lemmas.Slice.Eq.{bytes_eq-Decides}
+use Rattle.np_base.proofs.Lists.{slice_get-push_other, slice_get-push_same}
 use Rattle.np_io.specs.declared.mem_inputs.Held.{Held}
 use Rattle.np_io.specs.Memory.{is_named, place_of, bytes_at}
 use Rattle.np_io.proofs.Places.{position_from-push_found, position_from-push_none, position_from-set, held_at}
@@ -20,15 +21,6 @@ slice_get-set_other (z ∷ zs) zero zero y elsewhere = absurd (elsewhere refl)
 slice_get-set_other (z ∷ zs) zero (suc q) y elsewhere = refl
 slice_get-set_other (z ∷ zs) (suc k) zero y elsewhere = refl
 slice_get-set_other (z ∷ zs) (suc k) (suc q) y elsewhere = slice_get-set_other zs k q y (λ here. elsewhere (ap suc here))
-
-slice_get-push_same : {X : Type 0} (xs : List X) (x : X) → slice_get (xs ++ x ∷ []) (length xs) ≡ Some x
-slice_get-push_same [] x = refl
-slice_get-push_same (z ∷ zs) x = slice_get-push_same zs x
-
-slice_get-push_other : {X : Type 0} (xs : List X) (x : X) (q : ℕ) → q < length xs → slice_get (xs ++ x ∷ []) q ≡ slice_get xs q
-slice_get-push_other [] x q within = absurd (omega arith)
-slice_get-push_other (z ∷ zs) x zero within = refl
-slice_get-push_other (z ∷ zs) x (suc q) within = slice_get-push_other zs x q (omega arith)
 
 -- a name keeps its place where other bytes are put in place of those of a name
 same_places : (held : List Held) (place : ℕ) (old new : Held) (other : List ℕ) → slice_get held place ≡ Some old → new.name ≡ old.name → place_of (set held place new) other ≡ place_of held other

@@ -6,7 +6,7 @@ use Rattle.np_io.specs.Taken.{TookAllBut, TookFront, TookLess}
 -- ---- bytes that are taken one after another
 
 -- no bytes change nothing
-append_known-nil : (known : Option (List ℕ)) → append_known known [] ≡ known
+pub append_known-nil : (known : Option (List ℕ)) → append_known known [] ≡ known
 append_known-nil None = refl
 append_known-nil (Some taken) = ap Some (append-nil taken)
 

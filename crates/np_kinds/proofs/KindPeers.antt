@@ -1,6 +1,7 @@
 -- Ends that a peer and a port entry do not tell apart.
 use Rattle.std.proofs.Common.{◌≡◌, ℕ, List, [], ◌∷◌, ◌++◌, Bool, ◌&&◌, Option, Some, None, refl, sym, ap, ◌∙◌}
 use Rattle.std.specs.List.{AllByRecursion}
+use Rattle.np_base.proofs.Each.{All-parts}
 use Rattle.np_addr.specs.Addresses.{cidr_has}
 use Rattle.np_addr.specs.declared.address.Address.{Address}
 use Rattle.np_addr.specs.declared.address.Family.{Family}
@@ -10,9 +11,8 @@ use Rattle.np_conns.specs.declared.port_spot.PortSpot.{PortSpot}
 use Rattle.np_fold.specs.Alike.{is_in}
 use Rattle.np_fold.specs.Blocks.{cidrs_of_peer}
 use Rattle.np_fold.specs.Keys.{keys_of_admin_peer, keys_of_net_peer, keys_of_optional, keys_of_selector}
-use Rattle.np_rules.proofs.EachItem.{All-parts}
-use Rattle.np_kinds.proofs.KindSelectors.{AgreeOn, selector-same}
-use Rattle.np_labels.specs.Labels.{value_of}
+use Rattle.np_fold.proofs.SelectorLemmas.{selector-agree}
+use Rattle.np_labels.specs.Labels.{value_of, AgreeOn}
 use Rattle.np_labels.specs.declared.selector.Selector.{Selector}
 use Rattle.np_model.specs.declared.admin_policy.AdminPeer.{AdminPeer}
 use Rattle.np_model.specs.declared.admin_policy.AdminPeer.TheVariants as admin
@@ -62,11 +62,11 @@ AgreeIn one other cidr = is_inside one cidr ≡ is_inside other cidr
 pods-same : (namespace : List ℕ) (namespaces pods : Option Selector) (p q : PodEnd) → SamePod p q → AllByRecursion (AgreeOn p.labels q.labels) (keys_of_optional namespaces ++ keys_of_optional pods) →
     pods_match namespace namespaces pods p ≡ pods_match namespace namespaces pods q
 pods-same namespace None None p q same agree = refl
-pods-same namespace None (Some pods) p q same agree = rw (same.namespace, selector-same p.labels q.labels pods agree) refl
+pods-same namespace None (Some pods) p q same agree = rw (same.namespace, selector-agree p.labels q.labels pods agree) refl
 pods-same namespace (Some namespaces) None p q same agree = rw same.namespace_labels refl
 pods-same namespace (Some namespaces) (Some pods) p q same agree =
     let parts = All-parts (AgreeOn p.labels q.labels) (keys_of_selector namespaces) (keys_of_selector pods) agree in
-    rw (same.namespace_labels, selector-same p.labels q.labels pods parts.1) refl
+    rw (same.namespace_labels, selector-agree p.labels q.labels pods parts.1) refl
 
 pub net_peer-same : (namespace : List ℕ) (peer : NetPeer) (one other : End) → SameEnd one other → AllByRecursion (AgreeAt one other) (keys_of_net_peer peer) →
     net_peer_matches namespace peer one ≡ net_peer_matches namespace peer other
@@ -88,7 +88,7 @@ pub admin_peer-same : (peer : AdminPeer) (one other : End) (family : Family) →
     AllByRecursion (AgreeIn one other) (cidrs_of_peer peer) → admin_peer_matches peer one family ≡ admin_peer_matches peer other family
 admin_peer-same (admin.Pods namespaces pods) (pod p) (pod q) family same agree within =
     let parts = All-parts (AgreeOn p.labels q.labels) (keys_of_selector namespaces) (keys_of_selector pods) agree in
-    rw (same.namespace_labels, selector-same p.labels q.labels pods parts.1) refl
+    rw (same.namespace_labels, selector-agree p.labels q.labels pods parts.1) refl
 admin_peer-same (admin.Networks cidrs) (pod p) (pod q) family same agree within =
     by_blocks family cidrs p.addresses ∙ inside-same family p.addresses q.addresses cidrs within ∙ sym (by_blocks family cidrs q.addresses)
 admin_peer-same (admin.Pods namespaces pods) (address a) (address b) family same agree within = refl

@@ -2,14 +2,16 @@
 use Rattle.std.proofs.Common.{◌≡◌, List, [], ◌∷◌, ◌++◌, ◌&&◌, map, Option, Some, None, unwrap_or, refl, ap, ◌∙◌, if◌then◌else◌}
 use Rattle.std.specs.List.{AllByRecursion, enumerate_from, flat_map}
 use Rattle.std.specs.Str.{bytes_eq}
+use Rattle.np_base.proofs.Each.{All-weaker, All-parts, All-append, All-if}
 use Rattle.np_fold.specs.Blocks.{cidrs_of_admin_policy, cidrs_of_baseline, cidrs_of_base_policy, cidrs_of_rule}
 use Rattle.np_fold.specs.Keys.{keys_of_admin_policy, keys_of_admin_rule, keys_of_base_policy, keys_of_baseline, keys_of_net_direction, keys_of_net_policy, keys_of_net_rule, keys_of_selector}
 use Rattle.np_fold.specs.Keys.{keys_of_subject}
-use Rattle.np_rules.proofs.EachItem.{All-append, All-flat, All-if, All-numbered, All-parts, All-three, All-weaker}
+use Rattle.np_fold.proofs.SelectorLemmas.{selector-agree}
+use Rattle.np_rules.proofs.EachItem.{All-flat, All-numbered, All-three}
 use Rattle.np_kinds.proofs.KindPeers.{AgreeAt, AgreeIn, SamePod}
 use Rattle.np_kinds.proofs.KindRules.{IsAlikeAt, SameContact, admin_rules-same, net_rule-same}
-use Rattle.np_kinds.proofs.KindSelectors.{AgreeOn, selector-same}
 use Rattle.np_labels.specs.Selectors.{meets_selector}
+use Rattle.np_labels.specs.Labels.{AgreeOn}
 use Rattle.np_model.specs.declared.admin_policy.AdminPolicy.{AdminPolicy}
 use Rattle.np_model.specs.declared.admin_policy.BasePolicy.{BasePolicy}
 use Rattle.np_model.specs.declared.admin_policy.Subject.{Subject}
@@ -28,13 +30,13 @@ subject-same : (p q : PodEnd) → SamePod p q → (subject : Subject) → AllByR
 subject-same p q same subject agree =
     let parts = All-parts (AgreeOn p.labels q.labels) (keys_of_selector subject.namespaces) (keys_of_selector subject.pods) agree in
     ap (λ labels. meets_selector subject.namespaces labels && meets_selector subject.pods p.labels) same.namespace_labels
-    ∙ ap (λ b. meets_selector subject.namespaces q.namespace_labels && b) (selector-same p.labels q.labels subject.pods parts.1)
+    ∙ ap (λ b. meets_selector subject.namespaces q.namespace_labels && b) (selector-agree p.labels q.labels subject.pods parts.1)
 
 net-same : (p q : PodEnd) → SamePod p q → (policy : NetPolicy) → AllByRecursion (AgreeOn p.labels q.labels) (keys_of_net_policy policy) → net_selects policy p ≡ net_selects policy q
 net-same p q same policy agree =
     let parts = All-three (AgreeOn p.labels q.labels) (keys_of_selector policy.subject) (keys_of_net_direction policy.ingress) (keys_of_net_direction policy.egress) agree in
     ap (λ namespace. bytes_eq policy.namespace namespace && meets_selector policy.subject p.labels) same.namespace
-    ∙ ap (λ b. bytes_eq policy.namespace q.namespace && b) (selector-same p.labels q.labels policy.subject parts.0)
+    ∙ ap (λ b. bytes_eq policy.namespace q.namespace && b) (selector-agree p.labels q.labels policy.subject parts.0)
 
 module _ (p q : PodEnd) (one other : Contact) (pods : SamePod p q) (same : SameContact one other) where
   -- ---- admin policies

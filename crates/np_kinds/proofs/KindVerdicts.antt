@@ -2,6 +2,9 @@
 use Rattle.std.proofs.Common.{◌≡◌, ℕ, ◌+◌, List, ◌++◌, length, ◌&&◌, Option, Some, None, map, filter, is_some, refl, ap, subst, inl, inr, ◌∙◌, if◌then◌else◌}
 use Rattle.std.specs.List.{AllByRecursion, find, flat_map, list_any}
 use Rattle.std.proofs.lemmas.List.Elements.{recursion_from_All}
+use Rattle.np_labels.specs.Labels.{AgreeOn}
+use Rattle.np_labels.proofs.Agreed.{All-from_listed}
+use Rattle.np_base.proofs.Each.{All-weaker, All-parts}
 use Rattle.np_addr.specs.declared.address.Family.{Family}
 use Rattle.np_addr.specs.declared.address.Family.TheVariants.{Four}
 use Rattle.np_conns.specs.declared.port_spot.PortSpot.{PortSpot}
@@ -12,10 +15,9 @@ use Rattle.np_fold.specs.Alike.{IsSameKind}
 use Rattle.np_fold.specs.Blocks.{cidrs_of_admin_policy, cidrs_of_baseline, cidrs_of_estate}
 use Rattle.np_fold.specs.Keys.{keys_of_admin_policy, keys_of_baseline, keys_of_estate, keys_of_net_policy, keys_of_service}
 use Rattle.np_kinds.specs.Ends.{AreOneKind}
-use Rattle.np_rules.proofs.EachItem.{All-each, All-parts, All-three, All-weaker, filter-same, find-same, list_any-same}
+use Rattle.np_rules.proofs.EachItem.{All-each, All-three, filter-same, find-same, list_any-same}
 use Rattle.np_kinds.proofs.KindPeers.{AgreeAt, AgreeIn, SameEnd, SamePod}
 use Rattle.np_kinds.proofs.KindRules.{SameContact}
-use Rattle.np_kinds.proofs.KindSelectors.{AgreeOn, All-from_listed}
 use Rattle.np_kinds.proofs.KindSides.{admin_places-alike, admin_places-same, base_places-alike, base_places-same, net_places-alike, net_places-same, net_selects-same}
 use Rattle.np_model.specs.declared.admin_policy.Action.{Action}
 use Rattle.np_model.specs.declared.admin_policy.Action.TheVariants.{Allow, Deny, Pass}

@@ -1,7 +1,6 @@
 pub mod KindNumbers
 pub mod KindPeers
 pub mod KindRules
-pub mod KindSelectors
 pub mod KindSides
 pub mod KindVerdicts
 pub mod MemberLemmas

@@ -1,9 +1,9 @@
 -- What passes between workloads is what passes between their pods.
-use Rattle.std.proofs.Common.{◌≡◌, ◌≢◌, ◌<◌, ℕ, List, [], ◌∷◌, Bool, true, false, Option, Some, None, Contains, length, slice_get, slice_index, get_or, if◌then◌else◌, arith, refl, sym, ap}
+use Rattle.std.proofs.Common.{◌≡◌, ◌≢◌, ◌<◌, ℕ, List, [], ◌∷◌, Bool, true, false, Option, Some, None, Contains, length, slice_get, slice_index, if◌then◌else◌, refl, sym, ap}
 use Rattle.std.specs.Option.{option_map_or}
 use Rattle.std.proofs.Common.{subst, ◌∙◌, inl, inr}
 use Rattle.std.specs.Prelude.{IsSomeAnd}
-use Rattle.std.proofs.lemmas.Option.{slice_get-get_or}
+use Rattle.np_base.proofs.Lists.{slice_get-some}
 use Rattle.np_addr.specs.declared.address.Family.{Family}
 use Rattle.np_classes.specs.Classes.{class_of}
 use Rattle.np_conns.specs.declared.port_spot.PortSpot.{PortSpot}
@@ -41,11 +41,7 @@ one_kind-by lists i j a b lawful is is' kind =
 
 -- there is a pod at each place
 pub pod_there : (lists : EstateLists) (place : ℕ) → place < length lists.pods → (a : Pod) × (slice_get lists.pods place ≡ Some a)
-pod_there lists place within = there lists.pods place within
-  where
-    there : (pods : List Pod) (place : ℕ) → place < length pods → (a : Pod) × (slice_get pods place ≡ Some a)
-    there [] place within = absurd (omega arith)
-    there (first ∷ pods) place within = (get_or (first ∷ pods) place first, slice_get-get_or (first ∷ pods) place first within)
+pod_there lists place within = slice_get-some lists.pods place within
 
 -- the pods of a workload are of one kind
 one_kind-members : (lists : EstateLists) (p q : ℕ) → IsLawful lists → p < length lists.pods → q < length lists.pods → number_of lists p ≡ number_of lists q →

@@ -1,8 +1,8 @@
 -- Kinds between which nothing may pass.
-use Rattle.std.proofs.Common.{◌≡◌, ℕ, zero, suc, List, [], Bool, true, false, ◌&&◌, Some, map, not, slice_get, slice_index, refl, sym}
+use Rattle.std.proofs.Common.{◌≡◌, ℕ, zero, suc, List, [], Bool, true, false, ◌&&◌, Some, map, slice_get, slice_index, refl, sym}
 use Rattle.std.proofs.Common.{ap, ◌∙◌, ◌⊎◌, inl, inr}
 use Rattle.std.specs.Option.{option_map}
-use Rattle.std.proofs.lemmas.Bool.{and_left}
+use Rattle.std.proofs.lemmas.Bool.{and_left, and_right}
 use Rattle.std.proofs.lemmas.Option.{slice_get-map}
 use Rattle.np_addr.specs.declared.address.Family.{Family}
 use Rattle.np_conns.specs.declared.port_spot.PortSpot.{PortSpot}
@@ -30,10 +30,6 @@ pub between-is : (lists : EstateLists) (source destination : ℕ) (family : Fami
 unfolding allows
 between-is lists source destination family spot = refl
 
-pub and_false : (a b : Bool) → b ≡ false → (a && b) ≡ false
-and_false true b is = is
-and_false false b is = refl
-
 -- what the sides of kinds let through is right where it is what the sides of their first pods do
 pub reach-right : (lists : EstateLists) (direction : Direction) (pods : List PodEnd) (reach : List (List Bool)) → pods ≡ map (first_end lists) (folding_of lists).first_of_kinds →
     reach ≡ reach_of lists direction pods → IsReach lists direction reach
@@ -53,10 +49,6 @@ unfolding IsReach
 reach-nothing lists direction zero far workload peer near_is far_is out contact far_end = absurd (cc)
 reach-nothing lists direction (suc near) far workload peer near_is far_is out contact far_end = absurd (cc)
 
-pub not_true : (b : Bool) → not b ≡ true → b ≡ false
-not_true true is = sym is
-not_true false is = refl
-
 and_either : (a b : Bool) → (a && b) ≡ false → (a ≡ false) ⊎ (b ≡ false)
 and_either true b is = inr is
 and_either false b is = inl refl
@@ -73,7 +65,7 @@ silent-between lists reach near far a b family spot are near_is far_is out =
     ∙ elim (and_either (may_at reach.sent near far) (may_at reach.received far near) out) [
       | inl silent ↦ and_left (side_allows_pod (side_of lists p Egress) q family spot) (side_allows_pod (side_of lists q Ingress) p family spot)
           (are.sent near far a b near_is far_is silent (with_pod q family (side_of lists p Egress) spot) refl)
-      | inr silent ↦ and_false (side_allows_pod (side_of lists p Egress) q family spot) (side_allows_pod (side_of lists q Ingress) p family spot)
+      | inr silent ↦ and_right (side_allows_pod (side_of lists p Egress) q family spot) (side_allows_pod (side_of lists q Ingress) p family spot)
           (are.received far near b a far_is near_is silent (with_pod p family (side_of lists q Ingress) spot) refl)
     ]
 

@@ -2,26 +2,23 @@
 use Rattle.std.proofs.Common.{◌≡◌, ℕ, List, [], ◌∷◌, Bool, true, false, Some, None, fold, refl, sym, ap, subst, ◌∙◌}
 use Rattle.std.specs.declared.cmp.Ordering.{Ordering}
 use Rattle.std.specs.declared.cmp.Ordering.TheVariants.{Less, Equal, Greater}
-use Rattle.std.specs.Ordering.{nat_cmp, is_eq, ordering_reverse, match_ordering}
-use Rattle.std.specs.Cmp.Lexicographic.{slice_cmp, nat_list_eq_equiv, nat_list_cmp_total, bytes_decides}
+use Rattle.std.specs.Ordering.{is_eq, ordering_reverse, match_ordering}
+use Rattle.std.specs.Cmp.Lexicographic.{nat_list_eq_equiv, nat_list_cmp_total, bytes_decides}
 use Rattle.std.specs.List.{AllByRecursion}
 use Rattle.std.specs.List.Sorted.{IsStrictlySortedBy}
 use Rattle.std.specs.Str.{bytes_eq}
 use Rattle.std.proofs.lemmas.Map.Keys.{sorted_head, sorted_tail}
-use Rattle.np_labels.proofs.PairLists.{is_eq-slice_cmp}
+use Rattle.std.proofs.lemmas.Map.Text.{is_eq-slice_cmp}
+use Rattle.np_base.specs.Texts.{compare_texts}
 use Rattle.np_labels.specs.Labels.{value_of, keys_of, with_pair, labels_of, HasAscendingKeys}
 use Rattle.np_labels.specs.declared.pair.Pair.{Pair}
 
--- the order of texts
-abbrev pub order : List ℕ → List ℕ → Ordering
-order = slice_cmp nat_cmp
-
 -- a text is above one that is below it
-flipped : (high low : List ℕ) → order high low ≡ Greater → order low high ≡ Less
+flipped : (high low : List ℕ) → compare_texts high low ≡ Greater → compare_texts low high ≡ Less
 flipped high low above = nat_list_cmp_total.antisymm low high ∙ ap ordering_reverse above
 
 -- two texts of which one is below the other differ
-pub bytes_eq-below : (low high : List ℕ) → order low high ≡ Less → bytes_eq low high ≡ false
+pub bytes_eq-below : (low high : List ℕ) → compare_texts low high ≡ Less → bytes_eq low high ≡ false
 bytes_eq-below low high below = sym (is_eq-slice_cmp low high) ∙ ap is_eq below
 
 -- the key of the first pair has its value
@@ -29,24 +26,24 @@ pub value_of-head : (pair : Pair) (pairs : List Pair) → value_of (pair ∷ pai
 value_of-head pair pairs = rw (nat_list_eq_equiv.refl pair.key) refl
 
 -- a key below all others has no value among them
-pub value_of-below : (key : List ℕ) (pairs : List Pair) → AllByRecursion (λ other. order key other ≡ Less) (keys_of pairs) → value_of pairs key ≡ None
+pub value_of-below : (key : List ℕ) (pairs : List Pair) → AllByRecursion (λ other. compare_texts key other ≡ Less) (keys_of pairs) → value_of pairs key ≡ None
 value_of-below key [] all = refl
 value_of-below key (pair ∷ pairs) all =
     rw (nat_list_eq_equiv.symm pair.key key, bytes_eq-below key pair.key all.0) (value_of-below key pairs all.1)
 
 -- what is below a key is below all that the key is below
-pub below-trans : (low key : List ℕ) (keys : List (List ℕ)) → order low key ≡ Less → AllByRecursion (λ other. order key other ≡ Less) keys → AllByRecursion (λ other. order low other ≡ Less) keys
+pub below-trans : (low key : List ℕ) (keys : List (List ℕ)) → compare_texts low key ≡ Less → AllByRecursion (λ other. compare_texts key other ≡ Less) keys → AllByRecursion (λ other. compare_texts low other ≡ Less) keys
 below-trans low key [] below all = tt
 below-trans low key (other ∷ keys) below all = (nat_list_cmp_total.trans low key other below all.0, below-trans low key keys below all.1)
 
 -- a key below the first has no value
-pub value_of-first : (key : List ℕ) (pair : Pair) (pairs : List Pair) → HasAscendingKeys (pair ∷ pairs) → order key pair.key ≡ Less → value_of (pair ∷ pairs) key ≡ None
+pub value_of-first : (key : List ℕ) (pair : Pair) (pairs : List Pair) → HasAscendingKeys (pair ∷ pairs) → compare_texts key pair.key ≡ Less → value_of (pair ∷ pairs) key ≡ None
 value_of-first key pair pairs ascending below =
-    value_of-below key (pair ∷ pairs) (below, below-trans key pair.key (keys_of pairs) below (sorted_head order pair.key (keys_of pairs) ascending))
+    value_of-below key (pair ∷ pairs) (below, below-trans key pair.key (keys_of pairs) below (sorted_head compare_texts pair.key (keys_of pairs) ascending))
 
 -- the first key has no value among the others
 pub value_of-others : (pair : Pair) (pairs : List Pair) → HasAscendingKeys (pair ∷ pairs) → value_of pairs pair.key ≡ None
-value_of-others pair pairs ascending = value_of-below pair.key pairs (sorted_head order pair.key (keys_of pairs) ascending)
+value_of-others pair pairs ascending = value_of-below pair.key pairs (sorted_head compare_texts pair.key (keys_of pairs) ascending)
 
 -- lists with the same first key and the same values have others with the same values
 tails_same : (x y : Pair) (xs ys : List Pair) → HasAscendingKeys (x ∷ xs) → HasAscendingKeys (y ∷ ys) → x.key ≡ y.key → (key : List ℕ) → value_of (x ∷ xs) key ≡ value_of (y ∷ ys) key →
@@ -72,9 +69,9 @@ same_pair x y key value =
 -- lists with the same values are equal where their others are
 same_cons : (x y : Pair) (xs ys : List Pair) → HasAscendingKeys (x ∷ xs) → HasAscendingKeys (y ∷ ys) → ((key : List ℕ) → value_of (x ∷ xs) key ≡ value_of (y ∷ ys) key) →
     (((key : List ℕ) → value_of xs key ≡ value_of ys key) → xs ≡ ys) → x ∷ xs ≡ y ∷ ys
-same_cons x y xs ys ascending_x ascending_y alike others = by (order x.key y.key) refl
+same_cons x y xs ys ascending_x ascending_y alike others = by (compare_texts x.key y.key) refl
   where
-    by : (o : Ordering) → order x.key y.key ≡ o → x ∷ xs ≡ y ∷ ys
+    by : (o : Ordering) → compare_texts x.key y.key ≡ o → x ∷ xs ≡ y ∷ ys
     by Less is =
         let here = sym (value_of-head x xs) ∙ alike x.key ∙ value_of-first x.key y ys ascending_y is in cc
     by Greater is =
@@ -96,16 +93,16 @@ same_by_values (x ∷ xs) [] ascending_x ascending_y alike =
     let here = sym (value_of-head x xs) ∙ alike x.key in cc
 same_by_values (x ∷ xs) (y ∷ ys) ascending_x ascending_y alike =
     same_cons x y xs ys ascending_x ascending_y alike
-    (same_by_values xs ys (sorted_tail order x.key (keys_of xs) ascending_x) (sorted_tail order y.key (keys_of ys) ascending_y))
+    (same_by_values xs ys (sorted_tail compare_texts x.key (keys_of xs) ascending_x) (sorted_tail compare_texts y.key (keys_of ys) ascending_y))
 
 -- what is below the keys of pairs and below one more is below all of them together
-below-with_pair : (low : List ℕ) (pairs : List Pair) (pair : Pair) → AllByRecursion (λ other. order low other ≡ Less) (keys_of pairs) → order low pair.key ≡ Less →
-    AllByRecursion (λ other. order low other ≡ Less) (keys_of (with_pair pairs pair))
+below-with_pair : (low : List ℕ) (pairs : List Pair) (pair : Pair) → AllByRecursion (λ other. compare_texts low other ≡ Less) (keys_of pairs) → compare_texts low pair.key ≡ Less →
+    AllByRecursion (λ other. compare_texts low other ≡ Less) (keys_of (with_pair pairs pair))
 below-with_pair low [] pair all below = (below, tt)
-below-with_pair low (first ∷ pairs) pair all below = by (order pair.key first.key) (below-with_pair low pairs pair all.1 below)
+below-with_pair low (first ∷ pairs) pair all below = by (compare_texts pair.key first.key) (below-with_pair low pairs pair all.1 below)
   where
-    by : (o : Ordering) → AllByRecursion (λ other. order low other ≡ Less) (keys_of (with_pair pairs pair)) →
-        AllByRecursion (λ other. order low other ≡ Less) (keys_of (match_ordering o (pair ∷ first ∷ pairs) (record first { value = pair.value } ∷ pairs) (first ∷ with_pair pairs pair)))
+    by : (o : Ordering) → AllByRecursion (λ other. compare_texts low other ≡ Less) (keys_of (with_pair pairs pair)) →
+        AllByRecursion (λ other. compare_texts low other ≡ Less) (keys_of (match_ordering o (pair ∷ first ∷ pairs) (record first { value = pair.value } ∷ pairs) (first ∷ with_pair pairs pair)))
     by Less others = (below, all)
     by Equal others = all
     by Greater others = (all.0, others)
@@ -114,9 +111,9 @@ below-with_pair low (first ∷ pairs) pair all below = by (order pair.key first.
 HasAscendingKeys-with_pair : (pairs : List Pair) (pair : Pair) → HasAscendingKeys pairs → HasAscendingKeys (with_pair pairs pair)
 unfolding IsStrictlySortedBy
 HasAscendingKeys-with_pair [] pair ascending = (tt, tt)
-HasAscendingKeys-with_pair (first ∷ pairs) pair ascending = by (order pair.key first.key) refl (HasAscendingKeys-with_pair pairs pair ascending.1)
+HasAscendingKeys-with_pair (first ∷ pairs) pair ascending = by (compare_texts pair.key first.key) refl (HasAscendingKeys-with_pair pairs pair ascending.1)
   where
-    by : (o : Ordering) → order pair.key first.key ≡ o → HasAscendingKeys (with_pair pairs pair) →
+    by : (o : Ordering) → compare_texts pair.key first.key ≡ o → HasAscendingKeys (with_pair pairs pair) →
         HasAscendingKeys (match_ordering o (pair ∷ first ∷ pairs) (record first { value = pair.value } ∷ pairs) (first ∷ with_pair pairs pair))
     by Less is others = ((is, below-trans pair.key first.key (keys_of pairs) is ascending.0), ascending)
     by Equal is others = ascending

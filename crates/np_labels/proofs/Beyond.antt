@@ -9,7 +9,7 @@ use Rattle.std.specs.Str.{bytes_eq}
 use Rattle.std.proofs.lemmas.Cmp.{tied_itself}
 use Rattle.std.proofs.lemmas.List.Elements.{All-weaker}
 use Rattle.std.proofs.lemmas.List.Folds.{list_any_none}
-use Rattle.np_labels.proofs.PairLists.{is_eq-slice_cmp}
+use Rattle.std.proofs.lemmas.Map.Text.{is_eq-slice_cmp}
 
 -- a text is below itself with a letter more
 below_longer : (text : List ℕ) (letter : ℕ) → slice_cmp nat_cmp text (text ++ letter ∷ []) ≡ Less

@@ -1,5 +1,5 @@
 -- Values in the order of their bytes, each once.
-use Rattle.std.proofs.Common.{◌≡◌, ℕ, List, [], ◌∷◌, length, fold, Bool, true, false, ◌||◌, ◌==◌, refl, sym, ap, ◌∙◌, arith}
+use Rattle.std.proofs.Common.{◌≡◌, ℕ, List, [], ◌∷◌, length, fold, Bool, true, false, ◌||◌, ◌==◌, refl, sym, ap, ◌∙◌}
 use Rattle.std.specs.BTreeSet.{insert_key}
 use Rattle.std.specs.Cmp.Lexicographic.{slice_cmp, bytes_decides}
 use Rattle.std.specs.List.{AllByRecursion, list_all}
@@ -9,51 +9,39 @@ use Rattle.std.specs.Str.{bytes_eq}
 use Rattle.std.specs.declared.cmp.Ordering.{Ordering}
 use Rattle.std.specs.declared.cmp.Ordering.TheVariants.{Less, Equal, Greater}
 use Rattle.std.proofs.lemmas.Bool.{and_parts}
-use Rattle.std.proofs.lemmas.Bool.Decides.{nat_tests}
-use Rattle.np_labels.proofs.PairLists.{is_eq-slice_cmp}
+use Rattle.std.proofs.Math.Bool.{or-false, or_comm}
+use Rattle.std.proofs.lemmas.Map.Text.{is_eq-slice_cmp}
+use Rattle.np_base.proofs.Lists.{some-more}
+use Rattle.np_base.proofs.Bools.{or-leftwards}
 use Rattle.np_labels.specs.DistinctAscends.{Less-from_test, distinct-ascends, list_all-insert_key}
 use Rattle.np_labels.specs.Selectors.{is_listed}
 use Rattle.np_labels.specs.Values.{is_below, is_ascending, distinct}
 
 -- ---- which values
 
-or_false : (b : Bool) → (b || false) ≡ b
-or_false true = refl
-or_false false = refl
-
 or_twice : (b more : Bool) → (b || more) ≡ ((b || more) || b)
 or_twice true more = refl
 or_twice false true = refl
 or_twice false false = refl
 
-or_swap : (first more here : Bool) → (first || (more || here)) ≡ ((first || more) || here)
-or_swap true more here = refl
-or_swap false more here = refl
-
-or_first : (here others : Bool) → (here || others) ≡ (others || here)
-or_first true true = refl
-or_first true false = refl
-or_first false true = refl
-or_first false false = refl
-
 -- one more value is listed, wherever it is put
 is_listed-insert_key : (values : List (List ℕ)) (value s : List ℕ) → is_listed (insert_key (slice_cmp nat_cmp) values value) s ≡ (is_listed values s || bytes_eq value s)
-is_listed-insert_key [] value s = or_false (bytes_eq value s)
+is_listed-insert_key [] value s = or-false (bytes_eq value s)
 is_listed-insert_key (first ∷ values) value s = by (slice_cmp nat_cmp value first) refl (is_listed-insert_key values value s)
   where
     by : (o : Ordering) → slice_cmp nat_cmp value first ≡ o → is_listed (insert_key (slice_cmp nat_cmp) values value) s ≡ (is_listed values s || bytes_eq value s)
         → is_listed (match_ordering o (value ∷ first ∷ values) (first ∷ values) (first ∷ insert_key (slice_cmp nat_cmp) values value)) s ≡ (is_listed (first ∷ values) s || bytes_eq value s)
-    by Less is others = or_first (bytes_eq value s) (is_listed (first ∷ values) s)
+    by Less is others = or_comm (bytes_eq value s) (is_listed (first ∷ values) s)
     by Equal is others =
         let same : value ≡ first = (bytes_decides value first).0 (sym (is_eq-slice_cmp value first) ∙ ap is_eq is) in
         rw same (or_twice (bytes_eq first s) (is_listed values s))
-    by Greater is others = rw others (or_swap (bytes_eq first s) (is_listed values s) (bytes_eq value s))
+    by Greater is others = rw others (or-leftwards (bytes_eq first s) (is_listed values s) (bytes_eq value s))
 
 is_listed-fold : (made values : List (List ℕ)) (s : List ℕ) → is_listed (fold (insert_key (slice_cmp nat_cmp)) made values) s ≡ (is_listed made s || is_listed values s)
-is_listed-fold made [] s = sym (or_false (is_listed made s))
+is_listed-fold made [] s = sym (or-false (is_listed made s))
 is_listed-fold made (value ∷ values) s =
     is_listed-fold (insert_key (slice_cmp nat_cmp) made value) values s
-    ∙ rw (is_listed-insert_key made value s) (sym (or_swap (is_listed made s) (bytes_eq value s) (is_listed values s)))
+    ∙ rw (is_listed-insert_key made value s) (sym (or-leftwards (is_listed made s) (bytes_eq value s) (is_listed values s)))
 
 -- the values in order, each once, are the values
 pub is_listed-distinct : (values : List (List ℕ)) (s : List ℕ) → is_listed (distinct values) s ≡ is_listed values s
@@ -74,17 +62,14 @@ list_all-distinct test values all = list_all-fold test [] values refl all
 
 -- ---- whether there are some
 
-some_more : (first : List ℕ) (values : List (List ℕ)) → (length (first ∷ values) == 0) ≡ false
-some_more first values = grind (arith, nat_tests)
-
 is_empty-insert_key : (values : List (List ℕ)) (value : List ℕ) → (length (insert_key (slice_cmp nat_cmp) values value) == 0) ≡ false
-is_empty-insert_key [] value = some_more value []
+is_empty-insert_key [] value = some-more value []
 is_empty-insert_key (first ∷ values) value = by (slice_cmp nat_cmp value first)
   where
     by : (o : Ordering) → (length (match_ordering o (value ∷ first ∷ values) (first ∷ values) (first ∷ insert_key (slice_cmp nat_cmp) values value)) == 0) ≡ false
-    by Less = some_more value (first ∷ values)
-    by Equal = some_more first values
-    by Greater = some_more first (insert_key (slice_cmp nat_cmp) values value)
+    by Less = some-more value (first ∷ values)
+    by Equal = some-more first values
+    by Greater = some-more first (insert_key (slice_cmp nat_cmp) values value)
 
 is_empty-fold : (made values : List (List ℕ)) → (length made == 0) ≡ false → (length (fold (insert_key (slice_cmp nat_cmp)) made values) == 0) ≡ false
 is_empty-fold made [] some = some
@@ -93,7 +78,7 @@ is_empty-fold made (value ∷ values) some = is_empty-fold (insert_key (slice_cm
 -- in order and each once there are none exactly where there are none
 pub is_empty-distinct : (values : List (List ℕ)) → (length (distinct values) == 0) ≡ (length values == 0)
 is_empty-distinct [] = refl
-is_empty-distinct (value ∷ values) = is_empty-fold (value ∷ []) values (some_more value []) ∙ sym (some_more value values)
+is_empty-distinct (value ∷ values) = is_empty-fold (value ∷ []) values (some-more value []) ∙ sym (some-more value values)
 
 -- ---- their order
 

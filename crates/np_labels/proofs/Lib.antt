@@ -1,3 +1,4 @@
+pub mod Agreed
 pub mod Ascending
 pub mod Beyond
 pub mod Distinct

@@ -6,7 +6,9 @@ use Rattle.std.specs.Cmp.Lexicographic.{slice_cmp, bytes_decides, nat_list_eq_eq
 use Rattle.std.specs.List.{list_all}
 use Rattle.std.specs.Str.{bytes_eq}
 use Rattle.std.proofs.lemmas.List.Folds.{list_all_more}
-use Rattle.np_labels.proofs.PairLists.{is_eq-slice_cmp}
+use Rattle.std.proofs.Math.Bool.{and-true}
+use Rattle.std.proofs.lemmas.Bool.{and_from}
+use Rattle.std.proofs.lemmas.Map.Text.{is_eq-slice_cmp}
 use Rattle.np_labels.specs.Demands.{admits, admits_unless_free, allowed_at}
 use Rattle.np_labels.specs.Labels.{value_of}
 use Rattle.np_labels.specs.Selectors.{allows, meets_requirement}
@@ -26,14 +28,11 @@ allows_here requirement labels key met = by (bytes_eq requirement.key key) refl
     by false is = refl
     by true is = subst (λ (k : List ℕ). allows requirement.op requirement.values (value_of labels k) ≡ true) ((bytes_decides requirement.key key).0 is) met
 
-both_so : (a b : Bool) → a ≡ true → b ≡ true → (a && b) ≡ true
-both_so a b first second = rw (first, second) refl
-
 -- labels that meet all requirements have at each key what the requirements on it allow
 pub allowed_from_met : (requirements : List Requirement) (labels : List Pair) → meets_all requirements labels ≡ true → (key : List ℕ) → allowed_at requirements key (value_of labels key) ≡ true
 allowed_from_met [] labels met key = refl
 allowed_from_met (requirement ∷ requirements) labels met key =
-    both_so _ _ (allows_here requirement labels key (first_so _ _ met)) (allowed_from_met requirements labels (second_so _ _ met) key)
+    and_from _ _ (allows_here requirement labels key (first_so _ _ met)) (allowed_from_met requirements labels (second_so _ _ met) key)
 
 here : (requirement : Requirement) (labels : List Pair) → (not (bytes_eq requirement.key requirement.key) || allows requirement.op requirement.values (value_of labels requirement.key)) ≡ true →
     meets_requirement requirement labels ≡ true
@@ -43,7 +42,7 @@ here requirement labels allowed = rw (nat_list_eq_equiv.refl requirement.key) at
 pub met_from_allowed : (requirements : List Requirement) (labels : List Pair) → ((key : List ℕ) → allowed_at requirements key (value_of labels key) ≡ true) → meets_all requirements labels ≡ true
 met_from_allowed [] labels allowed = refl
 met_from_allowed (requirement ∷ requirements) labels allowed =
-    both_so _ _ (here requirement labels (first_so _ _ (allowed requirement.key))) (met_from_allowed requirements labels (λ key. second_so _ _ (allowed key)))
+    and_from _ _ (here requirement labels (first_so _ _ (allowed requirement.key))) (met_from_allowed requirements labels (λ key. second_so _ _ (allowed key)))
 
 -- where nothing at some key is allowed, no labels meet all requirements
 pub unmet_from_clash : (requirements : List Requirement) (key : List ℕ) → ((found : Option (List ℕ)) → allowed_at requirements key found ≡ false) → (labels : List Pair) →
@@ -53,10 +52,6 @@ unmet_from_clash requirements key clash labels = by (meets_all requirements labe
     by : (b : Bool) → meets_all requirements labels ≡ b → b ≡ false
     by false is = refl
     by true is = let here = sym (allowed_from_met requirements labels is key) ∙ clash (value_of labels key) in cc
-
-and_true : (b : Bool) → (b && true) ≡ b
-and_true true = refl
-and_true false = refl
 
 -- one more requirement
 allowed_at-more : (all : List Requirement) (i : ℕ) (item : Requirement) → i < length all → item ≡ get_or all i item → (key : List ℕ) (found : Option (List ℕ)) →
@@ -80,7 +75,7 @@ demands_step all i item below is old taken new made removed inserted narrowed so
         let same = (bytes_decides item.key key).0 is_here in
         rw (inserted key, is_eq-slice_cmp item.key key, is_here, narrowed found, so_far item.key found, same) refl
     by false is_here =
-        rw (inserted key, removed key, is_eq-slice_cmp item.key key, is_here, so_far key found) (sym (and_true _))
+        rw (inserted key, removed key, is_eq-slice_cmp item.key key, is_here, so_far key found) (sym (and-true _))
 
 -- what the labels of the demands say of the requirements
 pub met_from_settled : (requirements : List Requirement) (demand : List ℕ → Option Demand) (made : Option (List Pair))

@@ -3,22 +3,16 @@ use Rattle.std.proofs.Common.{◌≡◌, ℕ, List, [], ◌∷◌, ◌++◌, map
 use Rattle.std.specs.declared.cmp.Ordering.{Ordering}
 use Rattle.std.specs.declared.cmp.Ordering.TheVariants.{Less, Equal, Greater}
 use Rattle.std.specs.BTreeMap.{insert_entry}
-use Rattle.std.specs.Cmp.Lexicographic.{slice_cmp, texts_ties, bytes_decides}
+use Rattle.std.specs.Cmp.Lexicographic.{slice_cmp, bytes_decides}
 use Rattle.std.specs.Option.{option_or}
 use Rattle.std.specs.Ordering.{nat_cmp, is_eq, match_ordering}
 use Rattle.std.specs.Str.{bytes_eq}
 use Rattle.std.proofs.lemmas.List.{reverse-append}
 use Rattle.std.proofs.lemmas.List.Sums.{fold-append}
-use Rattle.np_labels.specs.Labels.{value_of, last_value_of, keys_of, with_pair, labels_of}
+use Rattle.std.proofs.lemmas.Map.Text.{is_eq-slice_cmp}
+use Rattle.np_base.proofs.Options.{option_or-none}
+use Rattle.np_labels.specs.Labels.{value_of, last_value_of, keys_of, with_pair, labels_of, pair_of}
 use Rattle.np_labels.specs.declared.pair.Pair.{Pair}
-
--- the pair of an entry
-abbrev pub pair_of : List ℕ × List ℕ → Pair
-pair_of entry = record { key = entry.0; value = entry.1 }
-
--- the order of two texts says whether they are equal
-pub is_eq-slice_cmp : (text other : List ℕ) → is_eq (slice_cmp nat_cmp text other) ≡ bytes_eq text other
-is_eq-slice_cmp text other = sym (texts_ties text other)
 
 -- ---- a pair at the end
 
@@ -86,13 +80,9 @@ more_values made (pair ∷ pairs) key =
     more_values (with_pair made pair) pairs key ∙ rw (value_of-with_pair made pair key, reverse-append (pair ∷ []) pairs, value_of-push (reverse pairs) pair key)
     (or_assoc (last_value_of pairs key) (bytes_eq pair.key key) pair.value (value_of made key))
 
-pub or_none : (found : Option (List ℕ)) → option_or found None ≡ found
-or_none None = refl
-or_none (Some value) = refl
-
 -- labels have the last value of each key
 pub value_of-labels_of : (pairs : List Pair) (key : List ℕ) → value_of (labels_of pairs) key ≡ last_value_of pairs key
-value_of-labels_of pairs key = more_values [] pairs key ∙ or_none (last_value_of pairs key)
+value_of-labels_of pairs key = more_values [] pairs key ∙ option_or-none (last_value_of pairs key)
 
 -- ---- entries of a map
 

@@ -1,5 +1,5 @@
 -- Labels as lists of pairs.
-use Rattle.std.specs.Prelude.{ℕ, List, [], ◌∷◌, map, reverse, fold, Option, Some, None, if◌then◌else◌}
+use Rattle.std.specs.Prelude.{◌≡◌, ℕ, List, [], ◌∷◌, map, reverse, fold, Option, Some, None, if◌then◌else◌}
 use Rattle.std.specs.Ordering.{nat_cmp, match_ordering}
 use Rattle.std.specs.Cmp.Lexicographic.{slice_cmp}
 use Rattle.std.specs.List.Sorted.{IsStrictlySortedBy}
@@ -31,3 +31,11 @@ with_pair (first ∷ pairs) pair = match_ordering (slice_cmp nat_cmp pair.key fi
 -- the labels of these pairs: put in one after another
 abbrev pub labels_of : List Pair → List Pair
 labels_of pairs = fold with_pair [] pairs
+
+-- a key and its value
+abbrev pub pair_of : List ℕ × List ℕ → Pair
+pair_of entry = record { key = entry.0; value = entry.1 }
+
+-- both lists of labels have the same value of the key
+abbrev pub AgreeOn : List Pair → List Pair → List ℕ → Type 0
+AgreeOn one other key = value_of one key ≡ value_of other key

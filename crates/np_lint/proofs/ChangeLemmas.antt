@@ -2,10 +2,10 @@
 use Rattle.std.proofs.Common.{◌≡◌, ℕ, ◌<◌, List, [], Bool, true, false, not, map, filter, find, is_some, slice_get, Option, Some, None, refl, sym, ap, ◌∙◌, subst, if◌then◌else◌}
 use Rattle.std.specs.List.{enumerate_from, list_any}
 use Rattle.std.specs.Option.{option_map, option_map_or}
+use Rattle.np_tiers.proofs.Verdicts.{whole_stands}
 use Rattle.np_model.specs.Lawful.{IsLawful}
 use Rattle.np_model.specs.declared.lists.EstateLists.{EstateLists}
 use Rattle.np_explain.proofs.RuleLemmas.{net_decider_is_first}
-use Rattle.np_explain.proofs.WalkLemmas.{stands_all}
 use Rattle.np_lint.proofs.StayLemmas.{any_found, any_map, find_map, first_stays, found_is}
 use Rattle.np_lint.proofs.WithoutLemmas.{IsAdminAt, IsBaseAt, IsNetAt, admin_are, admin_from, admin_left, admin_placed, admin_stays, ascending_left, base_are, base_from, base_left, base_placed}
 use Rattle.np_lint.proofs.WithoutLemmas.{base_stays, isolated_left, net_are, net_from, net_left, net_placed, net_stays, spaced}
@@ -129,7 +129,7 @@ module _ (lists : EstateLists) (lawful : IsLawful lists) (gone : List RuleRef) (
   unfolding Stays
   admin_first_stays stays x found =
       let at = found_is (IsAdminAt gone direction p lists.admin_policies) admin_test admins
-      (admin_are gone direction p lists.admin_policies 0 lists.admin_policies (stands_all lists.admin_policies)) x found in
+      (admin_are gone direction p lists.admin_policies 0 lists.admin_policies (whole_stands lists.admin_policies)) x found in
       let count : Option AdminPolicy → ℕ = λ one. option_map_or (admin_count direction) one 0 in
       let valid : x.1.place < rule_count_at lists tier.Admin direction x.0 = subst (λ (n : ℕ). x.1.place < n) (sym (ap count at.0)) at.1 in
       let decides : admin_decider lists.admin_policies direction p contact ≡ Some x.1 = admin_found ∙ ap (option_map (λ y. y.1)) found in
@@ -182,7 +182,7 @@ module _ (lists : EstateLists) (lawful : IsLawful lists) (gone : List RuleRef) (
       (x : ℕ × PlacedNetRule) → find net_test nets ≡ Some x → net_stays gone direction p x ≡ true
   unfolding Stays
   net_first_stays stays pass lower isolated x found =
-      let at = found_is (IsNetAt gone direction p lists.net_policies) net_test nets (net_are gone direction p lists.net_policies 0 lists.net_policies (stands_all lists.net_policies)) x found in
+      let at = found_is (IsNetAt gone direction p lists.net_policies) net_test nets (net_are gone direction p lists.net_policies 0 lists.net_policies (whole_stands lists.net_policies)) x found in
       let count : Option NetPolicy → ℕ = λ one. option_map_or (net_count direction) one 0 in
       let valid : x.1.place < rule_count_at lists tier.Net direction x.0 = subst (λ (n : ℕ). x.1.place < n) (sym (ap count at.0)) at.1 in
       let decides : net_decider lists.net_policies direction p contact ≡ Some x.1 = net_found ∙ ap (option_map (λ y. y.1)) found in

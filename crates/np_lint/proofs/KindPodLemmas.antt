@@ -60,11 +60,11 @@ onward lists p q r one other = record {
 
 -- ---- kinds of pods
 
-number_is : (lists : EstateLists) (p : ℕ) → p < length lists.pods → slice_index (folding_of lists).numbers p ≡ number_of lists p
+pub number_is : (lists : EstateLists) (p : ℕ) → p < length lists.pods → slice_index (folding_of lists).numbers p ≡ number_of lists p
 unfolding folding_of
 number_is lists p within = get_or-map-range_with_len (number_of lists) 0 (length lists.pods) p p 0 within (omega arith)
 
-number_within : (lists : EstateLists) (p : ℕ) → p < length lists.pods → number_of lists p < length (folding_of lists).workloads
+pub number_within : (lists : EstateLists) (p : ℕ) → p < length lists.pods → number_of lists p < length (folding_of lists).workloads
 unfolding folding_of
 number_within lists p within = number-in_workloads lists p within
 

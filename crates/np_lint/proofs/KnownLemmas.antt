@@ -1,8 +1,8 @@
 -- What is known after the tiers of a layer were looked at.
-use Rattle.std.proofs.Common.{◌≡◌, ◌⊎◌, ℕ, ◌+◌, List, [], ◌∷◌, Bool, true, false, ◌&&◌, not, Option, Some, None, refl, sym, ap, ◌∙◌, inl, inr, if◌then◌else◌, find}
+use Rattle.std.proofs.Common.{◌≡◌, ℕ, ◌+◌, List, [], ◌∷◌, Bool, true, false, ◌&&◌, not, Option, Some, None, refl, sym, ap, ◌∙◌, if◌then◌else◌, find}
 use Rattle.std.specs.List.{enumerate_from, position_from, slice_get}
 use Rattle.std.specs.Option.{option_and_then, option_map_or}
-use Rattle.std.proofs.lemmas.Bool.{and_from, and_parts, false≢true}
+use Rattle.std.proofs.lemmas.Bool.{false≢true}
 use Rattle.np_lint.proofs.FirstLemmas.{first_at-position}
 use Rattle.np_lint.proofs.NoteLemmas.{notes_as, notes_none}
 use Rattle.np_lint.specs.declared.flags.Flags.{Flags}
@@ -10,7 +10,7 @@ use Rattle.np_lint.specs.declared.rule_ref.Tier.{Tier}
 use Rattle.np_lint.specs.declared.rule_ref.Tier.TheVariants as tier
 use Rattle.np_lint.specs.declared.used_rules.UsedRules.{UsedRules}
 use Rattle.np_lint.specs.steps.Firsts.{Notes, first_at, hands_down, is_pass, names}
-use Rattle.np_lint.specs.steps.Known.{base_place, flag_at, flags_of, is_known, is_met, marks, net_place}
+use Rattle.np_lint.specs.steps.Known.{base_place, flags_of, is_met, marks, net_place}
 use Rattle.np_rules.specs.declared.rule_ids.LayerRules.{LayerRules}
 use Rattle.np_rules.specs.declared.rule_ids.RuleId.{RuleId}
 use Rattle.np_tiers.specs.Entries.{admin_place}
@@ -164,22 +164,3 @@ module _ {S Spot : Type 0} (has : S → Spot → Bool) (in_space : Spot → Bool
         rw kept (notes_none (marks_test tier.Net) old.net (λ spot policy place is. absurd
         (unheard (in_space spot) (hands_down (λ set. has set spot) layer.admin) layer.isolated _ unisolated
         (sym (ap (λ (b : Bool). in_space spot && b) (marks_net (λ set. has set spot) layer rules policy place)) ∙ is))))
-
-  module _ (old new : UsedRules) (noted : (one : Tier) → Notes (marks_test one) (flags_of old one) (flags_of new one)) (one : Tier) (policy place : ℕ) where
-    pub layer_grows : is_known old one policy place ≡ true → is_known new one policy place ≡ true
-    unfolding is_known
-    layer_grows known = (noted one).grows policy place known
-
-    pub layer_finds : (spot : Spot) → in_space spot ≡ true → marks rules one policy place (mark_of (λ set. has set spot) layer) ≡ true → is_known new one policy place ≡ true
-    unfolding is_known
-    layer_finds spot inside named = (noted one).finds spot policy place (and_from (in_space spot) _ inside named)
-
-    pub layer_only : is_known new one policy place ≡ true →
-        (is_known old one policy place ≡ true) ⊎ ((spot : Spot) × (in_space spot ≡ true) × (marks rules one policy place (mark_of (λ set. has set spot) layer) ≡ true))
-    unfolding is_known
-    layer_only known = by ((noted one).only policy place known)
-      where
-        by : (flag_at (flags_of old one) policy place ≡ true) ⊎ ((spot : Spot) × (marks_test one spot policy place ≡ true)) →
-            (flag_at (flags_of old one) policy place ≡ true) ⊎ ((spot : Spot) × (in_space spot ≡ true) × (marks rules one policy place (mark_of (λ set. has set spot) layer) ≡ true))
-        by (inl before) = inl before
-        by (inr found) = let both = and_parts (in_space found.0) _ found.1 in inr (found.0, both.0, both.1)

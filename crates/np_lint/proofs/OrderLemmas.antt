@@ -4,7 +4,8 @@ use Rattle.std.specs.List.{flat_map, range_with_len}
 use Rattle.std.proofs.lemmas.List.Elements.{All-append, All-nil, All-weaker}
 use Rattle.std.proofs.lemmas.List.FromFn.{get_or-map-range_with_len, length-map-range_with_len}
 use Rattle.std.proofs.lemmas.List.Kept.{AllPairs-filter}
-use Rattle.np_addr.proofs.Pairs.{AllPairs-append, AllPairs-nil}
+use Rattle.np_base.proofs.Lists.{AllPairs-append}
+use Rattle.np_addr.proofs.Pairs.{AllPairs-nil}
 use Rattle.np_model.specs.declared.lists.EstateLists.{EstateLists}
 use Rattle.np_lint.proofs.RuleListLemmas.{numbered_all}
 use Rattle.np_lint.specs.Order.{StandsBefore, direction_number, tier_number}

@@ -1,5 +1,5 @@
 -- Of a far end that is out of reach of a side, no rule of a NetworkPolicy or of the baseline decides anything.
-use Rattle.std.proofs.Common.{◌≡◌, ℕ, ◌<◌, List, [], ◌∷◌, Bool, true, false, ◌&&◌, ◌||◌, not, filter, length, slice_get, Option, Some, None, refl, sym, ap, ◌∙◌, arith, if◌then◌else◌}
+use Rattle.std.proofs.Common.{◌≡◌, ℕ, ◌<◌, List, [], ◌∷◌, Bool, true, false, ◌&&◌, ◌||◌, not, filter, length, slice_get, Option, Some, None, refl, sym, ap, ◌∙◌, subst, arith, if◌then◌else◌}
 use Rattle.std.specs.List.{list_any}
 use Rattle.std.specs.Option.{option_map, option_map_or}
 use Rattle.std.proofs.lemmas.Bool.{false≢true, or_parts}
@@ -10,29 +10,32 @@ use Rattle.np_model.specs.Lawful.{IsLawful}
 use Rattle.np_model.specs.declared.lists.EstateLists.{EstateLists}
 use Rattle.np_explain.specs.RightParts.{same_rule}
 use Rattle.np_fold.specs.Workloads.{folding_of}
+use Rattle.np_lint.proofs.FindLemmas.{addresses_listed, pods_listed}
 use Rattle.np_lint.proofs.SearchLemmas.{knows_admin}
+use Rattle.np_lint.proofs.StepLemmas.{kind_at, kind_is, pod_of_kind, searched_as}
 use Rattle.np_lint.specs.Rules.{rule_name}
 use Rattle.np_lint.specs.Used.{base_rule_in, net_rule_in}
 use Rattle.np_lint.specs.declared.kind_pods.KindPod.{KindPod}
 use Rattle.np_lint.specs.declared.rule_ref.Tier.TheVariants as tier
+use Rattle.np_lint.specs.declared.search.Kinds.{Kinds}
 use Rattle.np_lint.specs.declared.search.Search.{Search}
 use Rattle.np_lint.specs.declared.used_rules.UsedRules.{UsedRules}
 use Rattle.np_lint.specs.steps.Kinds.{AreKindPods, is_asked}
 use Rattle.np_lint.specs.steps.Known.{are_known}
-use Rattle.np_lint.specs.steps.Search.{AreRulesOf, IsSearch, IsSearchOf, Knows, KnowsAll, may_tell, ref_of}
+use Rattle.np_lint.specs.steps.Search.{AreKinds, AreRulesOf, IsSearch, IsSearchOf, Knows, KnowsAll, KnowsKind, KnowsSide, Searched, may_tell, ref_of}
 use Rattle.np_model.specs.declared.admin_policy.Action.{Action}
 use Rattle.np_model.specs.declared.admin_policy.Action.TheVariants.{Allow, Deny, Pass}
 use Rattle.np_model.specs.declared.direction.Direction.{Direction}
 use Rattle.np_reach.proofs.MarkLemmas.{may_at-of}
 use Rattle.np_reach.proofs.ReachLemmas.{isolated-out_of_reach, unmatched-out_of_reach}
-use Rattle.np_reach.specs.Reach.{may_at, may_reach, reach_of}
+use Rattle.np_reach.specs.Reach.{may_at, may_reach}
 use Rattle.np_rules.specs.model.AdminTier.{admin_decider, least_by}
 use Rattle.np_rules.specs.model.BaseTier.{base_decider}
 use Rattle.np_rules.specs.Deciders.{action_decides, admin_decides, admin_rule_name, base_decides, decider, isolating_names, lower_decider, net_decider, net_decides, net_precedes}
 use Rattle.np_rules.specs.model.Ends.{Contact, PodEnd, pod}
 use Rattle.np_rules.specs.model.NetTier.{placed_net_matches}
 use Rattle.np_rules.specs.model.Places.{PlacedAdminRule, PlacedNetRule, net_places}
-use Rattle.np_rules.specs.PodSides.{PodSide, near_pod, with_pod}
+use Rattle.np_rules.specs.PodSides.{PodSide, near_pod, side_of, with_pod}
 use Rattle.np_rules.specs.model.Verdict.{pod_at}
 use Rattle.np_rules.specs.declared.decider.Decider.{Decider}
 use Rattle.np_rules.specs.declared.decider.Decider.TheVariants as decides
@@ -114,15 +117,32 @@ first_of lists kinds are kind one at =
     ∙ ap (option_map (first_end lists)) (slice_get-get_or firsts kind 0 within)
     ∙ ap (λ (place : ℕ). Some (pod_at lists place)) (sym (are.each kind one at).pod)
 
--- what a search goes by is right
-pub search_is : (lists : EstateLists) (direction : Direction) (kinds : List KindPod) (reach : List (List Bool)) (near : ℕ) (first : KindPod) (rules : LayerRules) → IsLawful lists →
-    AreKindPods lists kinds → reach ≡ reach_of lists direction (first_ends lists) → slice_get kinds near ≡ Some first →
-    AreRulesOf (record { lists = lists; pod = first.pod; direction = direction }) rules → IsSearchOf (record { lists = lists; pod = first.pod; direction = direction }) kinds reach near rules
-search_is lists direction kinds reach near first rules lawful are is at of_side = record {
-  lawful = lawful;
-  kinds = are;
-  rules = of_side;
-  reach = λ kind far far_at.
-      ap (λ (rows : List (List Bool)). may_at rows near kind) is
-      ∙ may_at-of lists direction (first_ends lists) near kind (pod_at lists first.pod) (pod_at lists far.pod) (first_of lists kinds are near first at) (first_of lists kinds are kind far far_at);
-}
+-- what a search goes by is right, where the side is that of the pod of a kind
+pub search_is : (kinds : Kinds) → AreKinds kinds → (near : ℕ) → near < length kinds.pods.now → (side : PodSide) → side ≡ side_of kinds.estate.now (pod_of_kind kinds.pods.now near).pod kinds.direction →
+    (rules : LayerRules) → AreRulesOf side rules → IsSearchOf kinds.estate.now side kinds.pods.now kinds.reach.now near rules
+search_is kinds are near within side is rules of_side =
+    let lists = kinds.estate.now in
+    let pods = kinds.pods.now in
+    let one = pod_of_kind pods near in
+    let at : slice_get pods near ≡ Some one = kind_at pods near within in
+    subst (λ (s : PodSide). IsSearchOf lists s pods kinds.reach.now near rules) (sym is) (record {
+      estate_is = refl;
+      lawful = are.lawful;
+      kinds = are.pods;
+      rules = subst (λ (s : PodSide). AreRulesOf s rules) is of_side;
+      addresses = addresses_listed lists are.lawful pods are.pods kinds.direction near one at;
+      families = pods_listed lists are.lawful pods are.pods kinds.direction near one at;
+      reach = λ kind far far_at.
+          ap (λ (rows : List (List Bool)). may_at rows near kind) are.reach
+          ∙ may_at-of lists kinds.direction (first_ends lists) near kind (pod_at lists one.pod) (pod_at lists far.pod) (first_of lists pods are.pods near one at)
+          (first_of lists pods are.pods kind far far_at);
+    })
+
+-- what was found at the side of the pod of a kind
+pub searched_side : (lists : EstateLists) (direction : Direction) (kinds : List KindPod) (near : ℕ) (side : PodSide) → side ≡ side_of lists (pod_of_kind kinds near).pod direction →
+    (old new : UsedRules) → Searched side.lists side.direction (KnowsSide side kinds near) old new → Searched lists direction (KnowsKind lists direction kinds near) old new
+searched_side lists direction kinds near side is old new searched =
+    let first = side_of lists (pod_of_kind kinds near).pod direction in
+    searched_as lists direction (KnowsSide first kinds near) (KnowsKind lists direction kinds near) old new
+    (λ known one at. subst (λ (k : KindPod). KnowsSide (side_of lists k.pod direction) kinds near new) (kind_is kinds near one at) known)
+    (subst (λ (s : PodSide). Searched s.lists s.direction (KnowsSide s kinds near) old new) is searched)

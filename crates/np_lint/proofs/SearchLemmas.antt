@@ -1,19 +1,21 @@
 -- What a layer of a side tells of the rules that are used.
-use Rattle.std.proofs.Common.{◌≡◌, ◌⊎◌, ℕ, ◌<◌, List, [], ◌∷◌, Bool, true, false, map, refl, sym, ap, ◌∙◌, inl, inr}
+use Rattle.std.proofs.Common.{◌≡◌, ℕ, ◌<◌, List, [], ◌∷◌, Bool, true, false, map, refl, sym, ap, ◌∙◌, inl, inr}
 use Rattle.std.specs.Option.{option_map_or}
-use Rattle.std.proofs.lemmas.Bool.{and_parts}
+use Rattle.std.proofs.lemmas.Bool.{and_from, and_parts}
 use Rattle.np_model.specs.Lawful.{IsLawful}
 use Rattle.np_explain.specs.Marks.{IsMarkOf, admin_rules, base_rules, mark_decider, net_rules}
 use Rattle.np_explain.specs.RightParts.{same_rule}
 use Rattle.np_explain.proofs.WalkLemmas.{mark_named}
+use Rattle.np_lint.proofs.KnownLemmas.{marks_test}
 use Rattle.np_lint.proofs.NameLemmas.{mark_rule, met_flagged, met_named}
 use Rattle.np_lint.specs.Rules.{rule_count_at, rule_name}
 use Rattle.np_lint.specs.Used.{stands_in}
 use Rattle.np_lint.specs.declared.rule_ref.Tier.{Tier}
 use Rattle.np_lint.specs.declared.rule_ref.Tier.TheVariants as tier
 use Rattle.np_lint.specs.declared.used_rules.UsedRules.{UsedRules}
+use Rattle.np_lint.specs.steps.Firsts.{Notes}
 use Rattle.np_lint.specs.steps.Known.{all_known, are_known, flag_at, flags_of, ids_of, is_known, is_met, marks, place_in}
-use Rattle.np_lint.specs.steps.Search.{AllAreUsed, AreRulesOf, AreUsed, IsSound, Knows, KnowsAll, ref_of, side_decider}
+use Rattle.np_lint.specs.steps.Search.{AllAreUsed, AreRulesOf, AreUsed, IsSound, Knows, KnowsAll, Searched, ref_of, side_decider}
 use Rattle.np_rules.specs.model.Ends.{Contact}
 use Rattle.np_rules.specs.Layers.{IsAdminPart, IsBasePart, IsLayer, IsSetOf, Pairwise, matches_of, tier_action}
 use Rattle.np_rules.specs.model.NetTier.{is_isolated}
@@ -43,24 +45,20 @@ module _ {S Spot : Type 0} (has : S → Spot → Bool) (in_space : Spot → Bool
       let named = mark_named has in_space side (looks_at side) layer lawful is spot inside in
       ap (stands_in side.lists (ref_of side.direction one policy place)) (sym named.0) ∙ stands_marked side lawful rules are (mark_of (λ set. has set spot) layer) named.1 one policy place valid
 
-  -- what the marks of a layer name is used
-  pub layer_sound : (old new : UsedRules) → AllAreUsed in_space side looks_at → IsSound side.lists side.direction old →
-      ((one : Tier) (policy place : ℕ) → is_known new one policy place ≡ true → (is_known old one policy place ≡ true) ⊎
-      ((spot : Spot) × (in_space spot ≡ true) × (marks rules one policy place (mark_of (λ set. has set spot) layer) ≡ true))) →
-      IsSound side.lists side.direction new
-  unfolding IsSound AreUsed
-  layer_sound old new listed sound only one policy place valid known =
-      elim (only one policy place known) [
-        | inl before ↦ sound one policy place valid before
-        | inr found ↦ listed found.0 found.1 one policy place valid (stands_at found.0 found.1 one policy place valid ∙ found.2)
-      ]
-
-  -- whatever stands in what decides is found
-  pub layer_finds : (new : UsedRules) →
-      ((one : Tier) (policy place : ℕ) (spot : Spot) → in_space spot ≡ true → marks rules one policy place (mark_of (λ set. has set spot) layer) ≡ true → is_known new one policy place ≡ true) →
-      KnowsAll in_space side looks_at new
-  unfolding Knows
-  layer_finds new finds spot inside one policy place valid stands = finds one policy place spot inside (sym (stands_at spot inside one policy place valid) ∙ stands)
+  -- what the marks of a layer name is used, and whatever stands in what decides is found
+  pub layer_searched : (old new : UsedRules) → AllAreUsed in_space side looks_at → ((one : Tier) → Notes (marks_test has in_space layer rules one) (flags_of old one) (flags_of new one)) →
+      Searched side.lists side.direction (KnowsAll in_space side looks_at) old new
+  unfolding IsSound AreUsed Knows is_known
+  layer_searched old new listed noted = record {
+    grows = λ one. (noted one).grows;
+    sound = λ sound one policy place valid known. elim ((noted one).only policy place known) [
+      | inl before ↦ sound one policy place valid before
+      | inr found ↦ let both = and_parts (in_space found.0) _ found.1 in
+          listed found.0 both.0 one policy place valid (stands_at found.0 both.0 one policy place valid ∙ both.1)
+    ];
+    finds = λ spot inside one policy place valid stands.
+        (noted one).finds spot policy place (and_from (in_space spot) _ inside (sym (stands_at spot inside one policy place valid) ∙ stands));
+  }
 
 -- ---- what decides anything that a side looks at
 

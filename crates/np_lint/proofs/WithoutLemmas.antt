@@ -5,8 +5,8 @@ use Rattle.std.specs.List.{enumerate_from, flat_map, slice_get}
 use Rattle.std.specs.Option.{option_map, option_map_or}
 use Rattle.std.proofs.lemmas.List.{map-append}
 use Rattle.std.proofs.lemmas.List.Elements.{All-append, All-cons, All-nil, filter-append}
+use Rattle.np_tiers.proofs.Verdicts.{StandsAt, first_stands, rest_stands}
 use Rattle.np_model.specs.Lawful.{HasAscendingPriorities, ascends}
-use Rattle.np_explain.proofs.WalkLemmas.{StandsFrom, stands_first, stands_rest}
 use Rattle.np_lint.specs.Rules.{admin_count, base_count, net_count}
 use Rattle.np_lint.specs.Without.{admin_without, base_without, goes, net_without, without_places}
 use Rattle.np_lint.specs.declared.rule_ref.RuleRef.{RuleRef}
@@ -135,15 +135,15 @@ module _ (rules : List RuleRef) (direction : Direction) (p : PodEnd) where
   abbrev pub IsAdminAt : List AdminPolicy → ℕ × PlacedAdminRule → Type 0
   IsAdminAt all x = (slice_get all x.0 ≡ Some x.1.policy) × (x.1.place < admin_count direction x.1.policy)
 
-  pub admin_are : (all : List AdminPolicy) (n : ℕ) (policies : List AdminPolicy) → StandsFrom all n policies → All (IsAdminAt all) (admin_from n policies)
+  pub admin_are : (all : List AdminPolicy) (n : ℕ) (policies : List AdminPolicy) → StandsAt all n policies → All (IsAdminAt all) (admin_from n policies)
   admin_are all n [] stands = All-nil (IsAdminAt all)
   admin_are all n (policy ∷ policies) stands =
       All-append (IsAdminAt all) (admin_by (n, policy)) (admin_from (n + 1) policies) (one (subject_selects policy.subject p))
-      (admin_are all (n + 1) policies (stands_rest all n policy policies stands))
+      (admin_are all (n + 1) policies (rest_stands all n policy policies stands))
     where
       one : (b : Bool) → All (IsAdminAt all) (if b then map (beside n) (admin_places_of direction policy) else [])
       one true = numbered_in (IsAdminAt all) n (λ e. record { policy = policy; place = e.0; rule = e.1 }) (admin_rules_of direction policy)
-          (λ e below. (stands_first all n policy policies stands, below))
+          (λ e below. (first_stands all n policy policies stands, below))
       one false = All-nil (IsAdminAt all)
 
 -- ---- NetworkPolicies
@@ -218,14 +218,14 @@ module _ (rules : List RuleRef) (direction : Direction) (p : PodEnd) where
   abbrev pub IsNetAt : List NetPolicy → ℕ × PlacedNetRule → Type 0
   IsNetAt all x = (slice_get all x.0 ≡ Some x.1.policy) × (x.1.place < net_count direction x.1.policy)
 
-  pub net_are : (all : List NetPolicy) (n : ℕ) (policies : List NetPolicy) → StandsFrom all n policies → All (IsNetAt all) (net_from n policies)
+  pub net_are : (all : List NetPolicy) (n : ℕ) (policies : List NetPolicy) → StandsAt all n policies → All (IsNetAt all) (net_from n policies)
   net_are all n [] stands = All-nil (IsNetAt all)
   net_are all n (policy ∷ policies) stands =
-      All-append (IsNetAt all) (net_by (n, policy)) (net_from (n + 1) policies) (one (net_selects policy p)) (net_are all (n + 1) policies (stands_rest all n policy policies stands))
+      All-append (IsNetAt all) (net_by (n, policy)) (net_from (n + 1) policies) (one (net_selects policy p)) (net_are all (n + 1) policies (rest_stands all n policy policies stands))
     where
       one : (b : Bool) → All (IsNetAt all) (if b then map (beside n) (net_places_of direction policy) else [])
       one true = numbered_in (IsNetAt all) n (λ e. record { policy = policy; place = e.0; rule = e.1 }) (unwrap_or (net_rules_of direction policy) [])
-          (λ e below. (stands_first all n policy policies stands, below))
+          (λ e below. (first_stands all n policy policies stands, below))
       one false = All-nil (IsNetAt all)
 
   -- the isolation stays

@@ -1,9 +1,10 @@
 //! Pods that stand for their kinds.
-ghost use Rattle.std.specs.Prelude.{IfOk};
-ghost use Rattle.np_lint.specs.steps.Kinds.{AreKindPods, AreKindPodsOf};
+ghost use Rattle.std.specs.Prelude.{◌≡◌, ◌<◌, IfOk, length};
+ghost use Rattle.np_lint.specs.steps.Kinds.{AreKindPods, AreKindPodsOf, pod_kind};
 
 use np_base::NoMemory;
 use np_fold::Folded;
+use np_kinds::first_place;
 use std::alloc::Global;
 
 /// The first pod of the first workload of a kind, and whether the kind has another pod. No rule tells pods of one kind
@@ -30,7 +31,7 @@ fn first_pods(alloc: Global, folded: &Folded) -> Result<Vec<KindPod>, NoMemory>
     let workloads = folded.workloads();
     let mut kinds = Vec::new(alloc);
     for workload in workloads.first_of_kinds() {
-        let pod = workloads.members(*workload)[0];
+        let pod = first_place(folded, *workload);
         kinds.push(KindPod {
             pod,
             is_shared: false,
@@ -44,12 +45,26 @@ fn note_others(folded: &Folded, kinds: &mut [KindPod])
     requires { AreKindPodsOf folded.now 0 kinds.old }
     ensures { AreKindPods folded.now kinds.new }
 {
-    let workloads = folded.workloads();
-    let count = folded.estate().pods().len() as u32;
-    for pod in 0..count {
-        let kind = workloads.kind_of(workloads.workload_of(pod)) as usize;
+    for pod in 0..pod_count(folded) {
+        let kind = kind_of_pod(folded, pod) as usize;
         if kinds[kind].pod != pod {
             kinds[kind].is_shared = true;
         }
     }
+}
+
+// How many pods there are.
+fn pod_count(folded: &Folded) -> u32
+    ensures { result ≡ length folded.now.pods }
+{
+    folded.estate().pods().len() as u32
+}
+
+// The kind of the workload of a pod.
+fn kind_of_pod(folded: &Folded, pod: u32) -> u32
+    requires { pod < length folded.now.pods }
+    ensures { result ≡ pod_kind folded.now pod }
+{
+    let workloads = folded.workloads();
+    workloads.kind_of(workloads.workload_of(pod))
 }

@@ -1,15 +1,14 @@
 //! The search for the rules that are used.
-ghost use Rattle.std.specs.Prelude.{◌≡◌, ◌<◌, ◌≤◌, true, Some, slice_get, length, IfOk, OnOk};
+ghost use Rattle.std.specs.Prelude.{◌≡◌, ◌<◌, ◌≤◌, Some, slice_get, length, IfOk, OnOk};
 ghost use Rattle.std.specs.List.{Contains};
-ghost use Rattle.np_addr.specs.declared.address.Family.{Family as SpecFamily};
-ghost use Rattle.np_conns.specs.Conns.{is_spot};
 ghost use Rattle.np_lint.specs.declared.kind_pods.KindPod.{KindPod as SpecPod};
 ghost use Rattle.np_lint.specs.steps.Kinds.{is_asked};
-ghost use Rattle.np_lint.specs.steps.Search.{AllAreUsed, AreKinds, Finds, Grows, IsSearch, IsSound};
-ghost use Rattle.np_lint.specs.steps.Search.{KnowsAll, KnowsPods, KnowsSide, PodsAreUsed, may_tell};
+ghost use Rattle.np_lint.specs.steps.Search.{AreKinds, Finds, IsSearch, KnowsAll, KnowsFamilies};
+ghost use Rattle.np_lint.specs.steps.Search.{KnowsFar, KnowsKind, KnowsPods, KnowsSide, Searched, may_tell};
+ghost use Rattle.np_model.specs.Families.{families_of};
 ghost use Rattle.np_reach.specs.Reach.{reach_of};
 ghost use Rattle.np_rules.specs.EveryAddress.{is_place};
-ghost use Rattle.np_rules.specs.PodSides.{side_of, with_addresses, with_pod};
+ghost use Rattle.np_rules.specs.PodSides.{with_addresses};
 ghost use Rattle.np_kinds.specs.Kinds.{first_ends};
 
 use crate::kind_pods::{KindPod, kind_pods};
@@ -86,7 +85,7 @@ pub(crate) fn used_rules<L: Ledger>(
     Ok(used)
 }
 
-// Looks for the rules of the pod that stands for a kind, unless all are known.
+// Looks for the rules of the pod that stands for a kind.
 fn search_side<L: Ledger>(
     kinds: &Kinds<'_, '_>,
     near: usize,
@@ -95,27 +94,38 @@ fn search_side<L: Ledger>(
 ) -> Result<(), NoMemory>
     requires kinds { AreKinds kinds.now }
     requires near { near < length kinds.now.pods.now }
-    requires sound { IsSound kinds.now.estate.now kinds.now.direction used.old }
-    ensures sound { OnOk result (IsSound kinds.now.estate.now kinds.now.direction used.new) }
-    ensures grows { OnOk result (Grows used.old used.new) }
-    ensures finds { OnOk result ((one : SpecPod) → slice_get kinds.now.pods.now near ≡ Some one →
-        KnowsSide (side_of kinds.now.estate.now one.pod kinds.now.direction) kinds.now.pods.now near used.new) }
+    ensures searched { OnOk result (Searched kinds.now.estate.now kinds.now.direction
+        (KnowsKind kinds.now.estate.now kinds.now.direction kinds.now.pods.now near) used.old used.new) }
     ensures least { steps.old ≤ steps.new }
 {
     let pod = kinds.pods[near].pod;
     let side = PodRules::of(kinds.alloc, kinds.estate, pod, kinds.direction)?;
     let rules = side.names(kinds.alloc)?;
-    if used.has_all(&rules) {
-        return Ok(());
-    }
     let search = Search {
         kinds: *kinds,
         near,
         side: &side,
         rules: &rules,
     };
-    search_addresses(&search, used, steps)?;
-    search_families(&search, kinds.estate.families(), used, steps)
+    search_ends(&search, used, steps)
+}
+
+// Looks for the rules of a side with all far ends, unless all are known.
+fn search_ends<L: Ledger>(
+    search: &Search<'_, '_, '_>,
+    used: &mut UsedRules,
+    steps: &mut Steps<L>,
+) -> Result<(), NoMemory>
+    requires { IsSearch search.now }
+    ensures searched { OnOk result (Searched search.now.side.now.lists search.now.side.now.direction
+        (KnowsSide search.now.side.now search.now.kinds.pods.now search.now.near) used.old used.new) }
+    ensures least { steps.old ≤ steps.new }
+{
+    if used.has_all(search.rules) {
+        return Ok(());
+    }
+    search_addresses(search, used, steps)?;
+    search_families(search, search.kinds.estate.families(), used, steps)
 }
 
 // Looks for the rules of a side with all addresses as far ends.
@@ -124,19 +134,16 @@ fn search_addresses<L: Ledger>(
     used: &mut UsedRules,
     steps: &mut Steps<L>,
 ) -> Result<(), NoMemory>
-    requires search { IsSearch search.now }
-    requires listed { AllAreUsed is_place search.now.side.now with_addresses }
-    requires sound { IsSound search.now.side.now.lists search.now.side.now.direction used.old }
-    ensures sound { OnOk result (IsSound search.now.side.now.lists search.now.side.now.direction used.new) }
-    ensures grows { OnOk result (Grows used.old used.new) }
-    ensures finds { OnOk result (KnowsAll is_place search.now.side.now with_addresses used.new) }
+    requires { IsSearch search.now }
+    ensures searched { OnOk result (Searched search.now.side.now.lists search.now.side.now.direction
+        (KnowsAll is_place search.now.side.now with_addresses) used.old used.new) }
     ensures least { steps.old ≤ steps.new }
 {
     let layer = search.side.address_layer(search.kinds.alloc, steps)?;
     used.note_layer(search.kinds.alloc, layer, search.rules)
 }
 
-// Looks for the rules of a side with the pods of all kinds as far ends, in packets of some families.
+// Looks for the rules of a side with the pods of all kinds as far ends, in packets of the families of the estate.
 fn search_families<L: Ledger>(
     search: &Search<'_, '_, '_>,
     families: &[Family],
@@ -144,13 +151,9 @@ fn search_families<L: Ledger>(
     steps: &mut Steps<L>,
 ) -> Result<(), NoMemory>
     requires search { IsSearch search.now }
-    requires listed { (family : SpecFamily) → Contains families.now family →
-        PodsAreUsed search.now.side.now search.now.kinds.pods.now search.now.near family }
-    requires sound { IsSound search.now.side.now.lists search.now.side.now.direction used.old }
-    ensures sound { OnOk result (IsSound search.now.side.now.lists search.now.side.now.direction used.new) }
-    ensures grows { OnOk result (Grows used.old used.new) }
-    ensures finds { OnOk result ((family : SpecFamily) → Contains families.now family →
-        KnowsPods search.now.side.now search.now.kinds.pods.now search.now.near family used.new) }
+    requires families { families.now ≡ families_of search.now.side.now.lists.pods }
+    ensures searched { OnOk result (Searched search.now.side.now.lists search.now.side.now.direction
+        (KnowsFamilies search.now.side.now search.now.kinds.pods.now search.now.near) used.old used.new) }
     ensures least { steps.old ≤ steps.new }
 {
     for family in families {
@@ -167,11 +170,9 @@ fn search_pods<L: Ledger>(
     steps: &mut Steps<L>,
 ) -> Result<(), NoMemory>
     requires search { IsSearch search.now }
-    requires listed { PodsAreUsed search.now.side.now search.now.kinds.pods.now search.now.near family }
-    requires sound { IsSound search.now.side.now.lists search.now.side.now.direction used.old }
-    ensures sound { OnOk result (IsSound search.now.side.now.lists search.now.side.now.direction used.new) }
-    ensures grows { OnOk result (Grows used.old used.new) }
-    ensures finds { OnOk result (KnowsPods search.now.side.now search.now.kinds.pods.now search.now.near family used.new) }
+    requires family { Contains (families_of search.now.side.now.lists.pods) family }
+    ensures searched { OnOk result (Searched search.now.side.now.lists search.now.side.now.direction
+        (KnowsPods search.now.side.now search.now.kinds.pods.now search.now.near family) used.old used.new) }
     ensures least { steps.old ≤ steps.new }
 {
     for kind in 0..search.kinds.pods.len() {
@@ -193,12 +194,9 @@ fn search_kind<L: Ledger>(
 ) -> Result<(), NoMemory>
     requires search { IsSearch search.now }
     requires kind { kind < length search.now.kinds.pods.now }
-    requires listed { PodsAreUsed search.now.side.now search.now.kinds.pods.now search.now.near family }
-    requires sound { IsSound search.now.side.now.lists search.now.side.now.direction used.old }
-    ensures sound { OnOk result (IsSound search.now.side.now.lists search.now.side.now.direction used.new) }
-    ensures grows { OnOk result (Grows used.old used.new) }
-    ensures finds { OnOk result ((far : SpecPod) → slice_get search.now.kinds.pods.now kind ≡ Some far →
-        is_asked search.now.near kind far ≡ true → KnowsAll is_spot search.now.side.now (with_pod far.pod family) used.new) }
+    requires family { Contains (families_of search.now.side.now.lists.pods) family }
+    ensures searched { OnOk result (Searched search.now.side.now.lists search.now.side.now.direction
+        (KnowsFar search.now.side.now search.now.kinds.pods.now search.now.near family kind) used.old used.new) }
     ensures least { steps.old ≤ steps.new }
 {
     if !search.may_tell(kind, used) {

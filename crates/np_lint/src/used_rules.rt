@@ -1,7 +1,8 @@
 //! The rules that are known to be used.
-ghost use Rattle.std.specs.Prelude.{◌≡◌, ◌⊎◌, ℕ, true, false, OnOk};
+ghost use Rattle.std.specs.Prelude.{◌≡◌, ◌&&◌, ℕ, false, OnOk};
 ghost use Rattle.np_lint.specs.declared.rule_ref.Tier.{Tier as SpecTier};
-ghost use Rattle.np_lint.specs.steps.Known.{all_known, are_known, is_known, marks};
+ghost use Rattle.np_lint.specs.steps.Firsts.{Notes};
+ghost use Rattle.np_lint.specs.steps.Known.{all_known, are_known, flags_of, is_known, marks};
 ghost use Rattle.np_tiers.specs.Marks.{mark_of};
 
 use crate::first_rules::note_tier;
@@ -63,14 +64,9 @@ impl UsedRules {
         layer: Layer<S>,
         rules: &LayerRules,
     ) -> Result<(), NoMemory>
-        ensures grows { OnOk result ((tier : SpecTier) (policy place : ℕ) →
-            is_known self.old tier policy place ≡ true → is_known self.new tier policy place ≡ true) }
-        ensures finds { OnOk result ((tier : SpecTier) (policy place : ℕ) (spot : S.Spot) → S.in_space spot ≡ true →
-            marks rules.now tier policy place (mark_of (λ set. S.has set spot) layer) ≡ true →
-            is_known self.new tier policy place ≡ true) }
-        ensures only { OnOk result ((tier : SpecTier) (policy place : ℕ) → is_known self.new tier policy place ≡ true →
-            (is_known self.old tier policy place ≡ true) ⊎ ((spot : S.Spot) × (S.in_space spot ≡ true)
-            × (marks rules.now tier policy place (mark_of (λ set. S.has set spot) layer) ≡ true))) }
+        ensures { OnOk result ((tier : SpecTier) → Notes (λ (spot : S.Spot) policy place.
+            S.in_space spot && marks rules.now tier policy place (mark_of (λ set. S.has set spot) layer))
+            (flags_of self.old tier) (flags_of self.new tier)) }
     {
         let Layer {
             admin,

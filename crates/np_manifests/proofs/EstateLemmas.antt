@@ -1,10 +1,11 @@
 -- The estate of the items of a list of policies.
-use Rattle.std.proofs.Common.{◌≡◌, ℕ, zero, suc, ◌+◌, ◌≤◌, List, [], ◌∷◌, Bool, true, false, cond, length, map, find, fold, Option, Some, None, Ok, refl, ap, subst, ◌∙◌, add-zero}
+use Rattle.std.proofs.Common.{◌≡◌, ℕ, zero, suc, ◌+◌, ◌≤◌, List, [], ◌∷◌, Bool, true, false, length, map, fold, Option, Some, None, Ok, refl, ap, subst, ◌∙◌}
 use Rattle.std.specs.List.{filter_map, list_all, range_with_len, slice_get}
 use Rattle.std.specs.Option.{option_and_then, option_map_or}
 use Rattle.std.specs.Prelude.{AllPairs, IsPermutation}
-use Rattle.np_chains.proofs.Walks.{chain_none}
-use Rattle.np_chains.specs.Chains.{owns_itself, places, up}
+use Rattle.np_base.proofs.Lists.{count-none}
+use Rattle.np_chains.specs.Chains.{places, up}
+use Rattle.np_chains.proofs.Owned.{owns_itself-none}
 use Rattle.np_reading.specs.Ends.{pods_from, pods_of}
 use Rattle.np_reading.specs.LeftOut.{count_left_out, is_for, is_left_out, left_out}
 use Rattle.np_reading.specs.Listed.{admin_policies_of, admin_policy, base_policy, baseline_of, first_equal, first_of, ingresses_from, ingresses_of, net_policies_of, net_policy, ranks_of, service}
@@ -12,11 +13,10 @@ use Rattle.np_reading.specs.Listed.{services_of, with_admin, with_rank}
 use Rattle.np_reading.specs.Reading.{estate_of, estate_of_items, notes_of}
 use Rattle.np_model.specs.declared.notes.Notes.{Notes}
 use Rattle.np_reading.proofs.OnceLemmas.{net_policies-once}
+use Rattle.np_reading.proofs.EstateLemmas.{estate_of-read, same-notes}
 use Rattle.np_items.specs.Inputs.{json_of}
-use Rattle.np_items.specs.Items.{items_of}
 use Rattle.np_items.specs.declared.item.Item.{Item}
 use Rattle.np_owners.specs.MadePods.{makes_pod}
-use Rattle.np_owners.specs.Names.{first_repeat}
 use Rattle.np_owners.specs.Owners.{first_in_cycle, owner_place, ups}
 use Rattle.np_model.specs.declared.network_policy.NetPolicy.{NetPolicy}
 use Rattle.np_manifests.specs.Estates.{AreApart, estate_with, net_item, net_items}
@@ -45,12 +45,8 @@ none-up items [] place = refl
 none-up items (one ∷ policies) zero = refl
 none-up items (one ∷ policies) (suc place) = none-up items policies place
 
-none-own : (ups : List (Option ℕ)) → ((place : ℕ) → up ups place ≡ None) → (ks : List ℕ) → find (owns_itself ups) ks ≡ None
-none-own ups none [] = refl
-none-own ups none (k ∷ ks) = rw (chain_none ups (length ups) k (none k)) (none-own ups none ks)
-
 no-cycle : (policies : List NetPolicy) → first_in_cycle (net_items policies) ≡ None
-no-cycle policies = let items = net_items policies in rw (none-own (ups items) (none-up items policies) (places (ups items))) refl
+no-cycle policies = let items = net_items policies in rw (owns_itself-none (ups items) (none-up items policies) (places (ups items))) refl
 
 -- ---- notes
 
@@ -58,10 +54,6 @@ kept : (why : _) (makes : Bool) (policies : List NetPolicy) (place : ℕ) → op
 kept why makes [] place = refl
 kept why makes (one ∷ policies) zero = refl
 kept why makes (one ∷ policies) (suc place) = kept why makes policies place
-
-count-none : (test : ℕ → Bool) → ((k : ℕ) → test k ≡ false) → (total : ℕ) (ks : List ℕ) → fold (λ so_far k. so_far + cond (test k) 1 0) total ks ≡ total
-count-none test none total [] = refl
-count-none test none total (k ∷ ks) = rw (none k, add-zero total) (count-none test none total ks)
 
 none-left_out : (policies : List NetPolicy) (why : _) → count_left_out (net_items policies) why ≡ 0
 none-left_out policies why =
@@ -78,10 +70,6 @@ no-ranks policies = ap (λ found. first_equal (map (λ entry. entry.0) (fold wit
 
 no-baseline : (policies : List NetPolicy) → baseline_of (net_items policies) ≡ None
 no-baseline policies = ap first_of (nothing-given base_policy (λ one. refl) policies)
-
-same-notes : (a b c d : ℕ) → a ≡ 0 → b ≡ 0 → c ≡ 0 → d ≡ 0 → let made : Notes = record { host = a; finished = b; skipped = c; unaddressed = d } in made
-    ≡ record { host = 0; finished = 0; skipped = 0; unaddressed = 0 }
-same-notes a b c d first second third fourth = rw (first, second, third, fourth) refl
 
 no-notes : (policies : List NetPolicy) → notes_of (net_items policies) ≡ record { host = 0; finished = 0; skipped = 0; unaddressed = 0 }
 no-notes policies =
@@ -106,12 +94,7 @@ pub policies-once : (policies : List NetPolicy) → AllPairs AreApart policies �
 policies-once policies apart =
     subst (λ (nets : List NetPolicy). IsPermutation nets (net_policies_of (net_items policies))) (nets-given policies) (net_policies-once (net_items policies) (first_repeat-none policies apart))
 
-estate-read : (texts : List (List ℕ)) (items : List Item) → items_of texts ≡ Ok items → first_repeat items ≡ None → first_equal (ranks_of items) ≡ None → first_in_cycle items ≡ None →
-    estate_of texts ≡ Ok (estate_of_items items)
-unfolding estate_of
-estate-read texts items read apart priorities cycles = rw (read, apart, priorities, cycles) refl
-
 pub estate_of-list : (text : List ℕ) (policies : List NetPolicy) → json_of text ≡ Some (list_data policies) → list_all is_printable policies ≡ true → AllPairs AreApart policies →
     length policies ≤ 20000 → estate_of (text ∷ []) ≡ Ok (estate_with policies)
 estate_of-list text policies parsed all apart few =
-    estate-read (text ∷ []) (net_items policies) (items_of-list text policies parsed all few) (first_repeat-none policies apart) (no-ranks policies) (no-cycle policies) ∙ ap Ok (lists-are policies)
+    estate_of-read (text ∷ []) (net_items policies) (items_of-list text policies parsed all few) (first_repeat-none policies apart) (no-ranks policies) (no-cycle policies) ∙ ap Ok (lists-are policies)

@@ -7,9 +7,7 @@ use Rattle.std.proofs.lemmas.Fmt.{decimal_injective, decimal_is_IsNumeral}
 use Rattle.std.proofs.lemmas.List.{length-map}
 use Rattle.std.proofs.lemmas.List.FromFn.{length-range_with_len}
 use Rattle.std.proofs.lemmas.List.Elements.{recursion_from_All}
-use Rattle.std.proofs.lemmas.List.Folds.{list_all-append}
 use Rattle.std.proofs.lemmas.Option.{same_Some}
-use Rattle.std.specs.Char.{digit_value}
 use Rattle.std.specs.Cmp.Lexicographic.{bytes_decides}
 use Rattle.std.specs.List.{AllByRecursion, list_all, range_with_len, slice_get}
 use Rattle.std.specs.Prelude.{AllPairs}
@@ -19,6 +17,9 @@ use Rattle.np_addr.specs.Blocks.{IsAddressSet}
 use Rattle.np_addr.specs.Prefixes.{prefixes_of}
 use Rattle.np_addr.specs.declared.cidr.Cidr.{Cidr}
 use Rattle.np_base.specs.declared.range.Range.{Range}
+use Rattle.np_base.proofs.Lists.{list_all-both}
+use Rattle.np_base.proofs.Bools.{not_both}
+use Rattle.np_base.proofs.Texts.{digit_range}
 use Rattle.np_classes.proofs.Lists.{All-places}
 use Rattle.np_classes.proofs.Relations.{firsts-le-count}
 use Rattle.np_classes.specs.Classes.{places}
@@ -35,7 +36,7 @@ use Rattle.np_fold.proofs.WorkloadLemmas.{workloads-count}
 use Rattle.np_fold.specs.Keys.{keys_of_estate}
 use Rattle.np_fold.specs.Workloads.{folding_of, pods_alike}
 use Rattle.np_items.specs.Inputs.{json_of}
-use Rattle.np_model.specs.Words.{has_slash, is_name, is_word, is_word_byte, is_key}
+use Rattle.np_model.specs.Words.{has_slash, is_name, is_word, is_word_byte, is_whole_word}
 use Rattle.np_labels.proofs.Distinct.{list_all-distinct}
 use Rattle.np_labels.specs.Labels.{value_of}
 use Rattle.np_labels.specs.WellFormed as labels
@@ -112,19 +113,19 @@ value-word (pair ∷ own) key value well found =
     by true same here rest = let one : Some pair.value ≡ Some value = rw same at found in ap is_word (sym (same_Some pair.value value one)) ∙ here
     by false other here rest = rest (rw other at found)
 
-requirement-well : (own : List Pair) (key : List ℕ) → is_key key ≡ true → is_well_labels own ≡ true →
+requirement-well : (own : List Pair) (key : List ℕ) → is_whole_word key ≡ true → is_well_labels own ≡ true →
     (labels.is_well_requirement (requirement_of_key own key) ≡ true) × (is_worded (requirement_of_key own key) ≡ true)
 requirement-well own key is well = by (value_of own key) refl
   where
     by : (o : Option (List ℕ)) → value_of own key ≡ o → (labels.is_well_requirement (requirement_at key o) ≡ true) × (is_worded (requirement_at key o) ≡ true)
-    by None found = (refl, and_from (is_key key) true is refl)
-    by (Some value) found = (refl, and_from (is_key key) (is_word value && true) is (and_from (is_word value) true (value-word own key value well found) refl))
+    by None found = (refl, and_from (is_whole_word key) true is refl)
+    by (Some value) found = (refl, and_from (is_whole_word key) (is_word value && true) is (and_from (is_word value) true (value-word own key value well found) refl))
 
-requirements-well : (own : List Pair) (keys : List (List ℕ)) → is_well_labels own ≡ true → list_all is_key keys ≡ true →
+requirements-well : (own : List Pair) (keys : List (List ℕ)) → is_well_labels own ≡ true → list_all is_whole_word keys ≡ true →
     (list_all labels.is_well_requirement (map (requirement_of_key own) keys) ≡ true) × (list_all is_worded (map (requirement_of_key own) keys) ≡ true)
 requirements-well own [] well all = (refl, refl)
 requirements-well own (key ∷ keys) well all =
-    let parts = and_parts (is_key key) (list_all is_key keys) all in
+    let parts = and_parts (is_whole_word key) (list_all is_whole_word keys) all in
     let here = requirement-well own key parts.0 well in
     let rest = requirements-well own keys well parts.1 in
     (and_from (labels.is_well_requirement (requirement_of_key own key)) _ here.0 rest.0, and_from (is_worded (requirement_of_key own key)) _ here.1 rest.1)
@@ -134,9 +135,9 @@ named-well name is =
     let some = and_parts (not (length name == 0) && is_word name) (not (has_slash name)) is in
     rw (and_parts (not (length name == 0)) (is_word name) some.0).1 refl
 
-relevant-keys : (lists : EstateLists) → is_well lists ≡ true → list_all is_key (relevant lists) ≡ true
+relevant-keys : (lists : EstateLists) → is_well lists ≡ true → list_all is_whole_word (relevant lists) ≡ true
 unfolding folding_of
-relevant-keys lists well = list_all-distinct is_key (keys_of_estate lists) (estate-keys lists well)
+relevant-keys lists well = list_all-distinct is_whole_word (keys_of_estate lists) (estate-keys lists well)
 
 -- ---- ports
 
@@ -144,15 +145,12 @@ spans-printable : (proto : Proto) (runs : List (Range ℕ)) → AllByRecursion I
 spans-printable proto [] all = refl
 spans-printable proto (run ∷ runs) all = rw (le-leb 1 run.lo all.0.low, le-leb run.lo run.hi all.0.ordered, le-leb run.hi 65535 all.0.high, spans-printable proto runs all.1) refl
 
-all-both : {X : Type 0} (test : X → Bool) (xs ys : List X) → list_all test xs ≡ true → list_all test ys ≡ true → list_all test (xs ++ ys) ≡ true
-all-both test xs ys first second = list_all-append test xs ys ∙ and_from (list_all test xs) (list_all test ys) first second
-
 ports-printable : (conns : Conns) → AreRuns conns → list_all is_printable_port (ports_of conns) ≡ true
 ports-printable conns are =
     let tcp = map (span_of Tcp) conns.tcp in
     let udp = map (span_of Udp) conns.udp in
     let sctp = map (span_of Sctp) conns.sctp in
-    let all = all-both is_printable_port (tcp ++ udp) sctp (all-both is_printable_port tcp udp (spans-printable Tcp conns.tcp are.tcp) (spans-printable Udp conns.udp are.udp))
+    let all = list_all-both is_printable_port (tcp ++ udp) sctp (list_all-both is_printable_port tcp udp (spans-printable Tcp conns.tcp are.tcp) (spans-printable Udp conns.udp are.udp))
     (spans-printable Sctp conns.sctp are.sctp) in
     cond_both (is_whole conns.tcp && is_whole conns.udp && is_whole conns.sctp) [] (spans_of_all conns) (λ ports. list_all is_printable_port ports ≡ true) (λ yes. refl) (λ no. all)
 
@@ -166,7 +164,7 @@ rule-printable peers conns all are =
 
 flat-printable : {X : Type 0} (f : X → List NetRule) (xs : List X) → AllByRecursion (λ x. list_all is_printable_rule (f x) ≡ true) xs → list_all is_printable_rule (flat_map f xs) ≡ true
 flat-printable f [] all = refl
-flat-printable f (x ∷ xs) all = all-both is_printable_rule (f x) (flat_map f xs) all.0 (flat-printable f xs all.1)
+flat-printable f (x ∷ xs) all = list_all-both is_printable_rule (f x) (flat_map f xs) all.0 (flat-printable f xs all.1)
 
 -- ---- rules of addresses
 
@@ -185,7 +183,7 @@ rows-printable : (rows : List AddressRow) → AllByRecursion (λ row. IsWellSpan
 rows-printable [] wells runs = refl
 rows-printable (row ∷ rows) wells runs =
     let peers = blocks-printable (prefixes_of (ranges_of_span row.span)) (prefixes-printable (ranges_of_span row.span) (span-set row.span wells.0)) in
-    all-both is_printable_rule (rule_if (blocks_of_span row.span) row.conns) (rules_of_addresses rows) (rule-printable (blocks_of_span row.span) row.conns peers runs.0)
+    list_all-both is_printable_rule (rule_if (blocks_of_span row.span) row.conns) (rules_of_addresses rows) (rule-printable (blocks_of_span row.span) row.conns peers runs.0)
     (rows-printable rows wells.1 runs.1)
 
 group_rows-printable : (lists : EstateLists) (group : ℕ) (direction : Direction) → list_all is_printable_rule (rules_of_addresses (group_rows lists group direction)) ≡ true
@@ -236,13 +234,10 @@ module _ (lists : EstateLists) (well : is_well lists ≡ true) where
   ingress-printable group =
       let passes : ℕ → Type 0 = λ sender. list_all is_printable_rule (rules_from_group lists group sender) ≡ true in
       let each = recursion_from_All passes (places (group_count lists)) (All-places passes (group_count lists) (from-printable group)) in
-      all-both is_printable_rule (rules_from_groups lists group) (rules_of_addresses (group_rows lists group Ingress)) (flat-printable (rules_from_group lists group) (places (group_count lists)) each)
+      list_all-both is_printable_rule (rules_from_groups lists group) (rules_of_addresses (group_rows lists group Ingress)) (flat-printable (rules_from_group lists group) (places (group_count lists)) each)
       (group_rows-printable lists group Ingress)
 
 -- ---- names
-
-digit_range : (digit : ℕ) → digit_value digit < 10 → (48 ≤ digit) × (digit ≤ 57)
-digit_range digit is = grind arith
 
 digits-word : (digits : List ℕ) → AllDigits 10 digits → (is_word digits ≡ true) × (has_slash digits ≡ false)
 digits-word [] all = (refl, refl)
@@ -290,10 +285,6 @@ other_digits a b below small = by (bytes_eq (decimal a) (decimal b)) refl
     by : (t : Bool) → bytes_eq (decimal a) (decimal b) ≡ t → t ≡ false
     by false is = refl
     by true is = let same = decimal_injective a b (omega arith) small ((bytes_decides (decimal a) (decimal b)).0 is) in absurd (omega arith)
-
-not_both : (a b : Bool) → b ≡ false → not (a && b) ≡ true
-not_both true b is = rw is refl
-not_both false b is = refl
 
 apart : (lists : EstateLists) (a b : ℕ) → a < b → b < 2 ^ 64 → AreApart (flat_policy lists a) (flat_policy lists b)
 unfolding flat_policy

@@ -8,7 +8,7 @@ use Rattle.std.specs.Cmp.Lexicographic.{bytes_decides}
 use Rattle.std.specs.List.{AllByRecursion, list_all, position_from}
 use Rattle.std.specs.Prelude.{AllPairs}
 use Rattle.std.specs.Str.{bytes_eq}
-use Rattle.np_addr.proofs.Pairs.{AllPairs-head, AllPairs-tail}
+use Rattle.np_base.proofs.Lists.{AllPairs-head, AllPairs-tail}
 use Rattle.np_items.specs.Inputs.{items_in, items_by, input_values, json_of}
 use Rattle.np_items.specs.Items.{each_item, items_of, must_be_few}
 use Rattle.np_items.specs.declared.item.Item.{Item}

@@ -8,13 +8,13 @@ use Rattle.np_model.specs.Lawful.{is_well, is_well_pod}
 use Rattle.np_model.specs.declared.lists.EstateLists.{EstateLists}
 use Rattle.np_fold.specs.Keys.{keys_of_admin_peer, keys_of_admin_policy, keys_of_admin_rule, keys_of_baseline, keys_of_estate, keys_of_net_direction, keys_of_net_peer, keys_of_net_policy}
 use Rattle.np_fold.specs.Keys.{keys_of_net_rule, keys_of_optional, keys_of_selector, keys_of_service, keys_of_subject}
-use Rattle.np_model.specs.Words.{is_name, is_word, is_key}
+use Rattle.np_model.specs.Words.{is_name, is_word, is_whole_word}
 use Rattle.np_labels.specs.WellFormed as labels
 use Rattle.np_labels.specs.declared.requirement.Requirement.{Requirement}
 use Rattle.np_labels.specs.declared.selector.Selector.{Selector}
 use Rattle.np_model.specs.WellObjects as objects
 use Rattle.np_model.specs.declared.service.ServiceItem.{ServiceItem}
-use Rattle.np_model.specs.WellPolicies.{if_there, is_well_admin_peer, is_well_admin_policy, is_well_admin_port, is_well_admin_rule, is_well_base_policy, is_well_base_rule, is_well_net_peer}
+use Rattle.np_model.specs.WellPolicies.{is_well_admin_peer, is_well_admin_policy, is_well_admin_port, is_well_admin_rule, is_well_base_policy, is_well_base_rule, is_well_net_peer}
 use Rattle.np_model.specs.WellPolicies.{is_well_net_policy, is_well_net_port, is_well_net_rule, is_well_selector, is_well_subject, is_worded}
 use Rattle.np_model.specs.declared.admin_policy.AdminPeer.{AdminPeer}
 use Rattle.np_model.specs.declared.admin_policy.AdminPeer.TheVariants as admin
@@ -26,14 +26,15 @@ use Rattle.np_model.specs.declared.network_policy.NetPeer.{NetPeer}
 use Rattle.np_model.specs.declared.network_policy.NetPeer.TheVariants as net
 use Rattle.np_model.specs.declared.network_policy.NetPolicy.{NetPolicy}
 use Rattle.np_model.specs.declared.network_policy.NetRule.{NetRule}
+use Rattle.np_model.specs.WellObjects.{option_all}
 
 -- ---- lists of keys
 
 abbrev AreKeys : List (List ℕ) → Type 0
-AreKeys keys = list_all is_key keys ≡ true
+AreKeys keys = list_all is_whole_word keys ≡ true
 
 keys-append : (keys more : List (List ℕ)) → AreKeys keys → AreKeys more → AreKeys (keys ++ more)
-keys-append keys more first second = list_all-append is_key keys more ∙ and_from (list_all is_key keys) (list_all is_key more) first second
+keys-append keys more first second = list_all-append is_whole_word keys more ∙ and_from (list_all is_whole_word keys) (list_all is_whole_word more) first second
 
 keys-flat : {X : Type 0} (test : X → Bool) (f : X → List (List ℕ)) → ((x : X) → test x ≡ true → AreKeys (f x)) → (xs : List X) → list_all test xs ≡ true → AreKeys (flat_map f xs)
 keys-flat test f each [] all = refl
@@ -47,12 +48,12 @@ requirements-keys : (all : List Requirement) → list_all is_worded all ≡ true
 requirements-keys [] words = refl
 requirements-keys (one ∷ all) words =
     let parts = and_parts (is_worded one) (list_all is_worded all) words in
-    and_from (is_key one.key) _ (and_parts (is_key one.key) (list_all is_word one.values) parts.0).0 (requirements-keys all parts.1)
+    and_from (is_whole_word one.key) _ (and_parts (is_whole_word one.key) (list_all is_word one.values) parts.0).0 (requirements-keys all parts.1)
 
 selector-keys : (selector : Selector) → is_well_selector selector ≡ true → AreKeys (keys_of_selector selector)
 selector-keys selector well = requirements-keys selector.requirements (and_parts (labels.is_well_selector selector) (list_all is_worded selector.requirements) well).1
 
-optional-keys : (selector : Option Selector) → if_there is_well_selector selector ≡ true → AreKeys (keys_of_optional selector)
+optional-keys : (selector : Option Selector) → option_all is_well_selector selector ≡ true → AreKeys (keys_of_optional selector)
 optional-keys None well = refl
 optional-keys (Some selector) well = selector-keys selector well
 
@@ -60,21 +61,21 @@ optional-keys (Some selector) well = selector-keys selector well
 
 net_peer-keys : (peer : NetPeer) → is_well_net_peer peer ≡ true → AreKeys (keys_of_net_peer peer)
 net_peer-keys (net.Pods namespaces pods) well =
-    let parts = and_parts (if_there is_well_selector namespaces) (if_there is_well_selector pods) well in
+    let parts = and_parts (option_all is_well_selector namespaces) (option_all is_well_selector pods) well in
     keys-append (keys_of_optional namespaces) (keys_of_optional pods) (optional-keys namespaces parts.0) (optional-keys pods parts.1)
 net_peer-keys (net.Block cidr excepts) well = refl
 
 net_rule-keys : (rule : NetRule) → is_well_net_rule rule ≡ true → AreKeys (keys_of_net_rule rule)
 net_rule-keys rule well = keys-flat is_well_net_peer keys_of_net_peer net_peer-keys rule.peers (and_parts (list_all is_well_net_peer rule.peers) (list_all is_well_net_port rule.ports) well).0
 
-net_direction-keys : (rules : Option (List NetRule)) → if_there (λ all. list_all is_well_net_rule all) rules ≡ true → AreKeys (keys_of_net_direction rules)
+net_direction-keys : (rules : Option (List NetRule)) → option_all (λ all. list_all is_well_net_rule all) rules ≡ true → AreKeys (keys_of_net_direction rules)
 net_direction-keys None well = refl
 net_direction-keys (Some rules) well = keys-flat is_well_net_rule keys_of_net_rule net_rule-keys rules well
 
 net_policy-keys : (policy : NetPolicy) → is_well_net_policy policy ≡ true → AreKeys (keys_of_net_policy policy)
 net_policy-keys policy well =
-    let egress = and_parts _ (if_there (λ all. list_all is_well_net_rule all) policy.egress) well in
-    let ingress = and_parts _ (if_there (λ all. list_all is_well_net_rule all) policy.ingress) egress.0 in
+    let egress = and_parts _ (option_all (λ all. list_all is_well_net_rule all) policy.egress) well in
+    let ingress = and_parts _ (option_all (λ all. list_all is_well_net_rule all) policy.ingress) egress.0 in
     let subject = and_parts (is_name policy.namespace && is_name policy.name) (is_well_selector policy.subject) ingress.0 in
     keys-append (keys_of_selector policy.subject ++ keys_of_net_direction policy.ingress) (keys_of_net_direction policy.egress)
     (keys-append (keys_of_selector policy.subject) (keys_of_net_direction policy.ingress) (selector-keys policy.subject subject.1) (net_direction-keys policy.ingress ingress.1))
@@ -127,8 +128,8 @@ service_requirements-keys : (all : List Requirement) → list_all objects.is_wel
 service_requirements-keys [] well = refl
 service_requirements-keys (one ∷ all) well =
     let parts = and_parts (objects.is_well_requirement one) (list_all objects.is_well_requirement all) well in
-    let words = and_parts (is_key one.key && list_all is_word one.values) (labels.is_well_requirement one) parts.0 in
-    and_from (is_key one.key) _ (and_parts (is_key one.key) (list_all is_word one.values) words.0).0 (service_requirements-keys all parts.1)
+    let words = and_parts (is_whole_word one.key && list_all is_word one.values) (labels.is_well_requirement one) parts.0 in
+    and_from (is_whole_word one.key) _ (and_parts (is_whole_word one.key) (list_all is_word one.values) words.0).0 (service_requirements-keys all parts.1)
 
 service_selector-keys : (selector : Option Selector) → objects.option_all objects.is_well_selector selector ≡ true → AreKeys (keys_of_optional selector)
 service_selector-keys None well = refl
@@ -141,7 +142,7 @@ service-keys service well =
 
 -- ---- the whole
 
-pub estate-keys : (lists : EstateLists) → is_well lists ≡ true → list_all is_key (keys_of_estate lists) ≡ true
+pub estate-keys : (lists : EstateLists) → is_well lists ≡ true → list_all is_whole_word (keys_of_estate lists) ≡ true
 estate-keys lists well =
     let ingresses = and_parts _ (list_all (λ placed. objects.is_well_ingress placed.ingress) lists.ingresses) well in
     let services = and_parts _ (list_all objects.is_well_service lists.services) ingresses.0 in

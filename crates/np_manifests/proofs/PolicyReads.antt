@@ -7,6 +7,7 @@ use Rattle.np_items.specs.Items.{item_of, must_be_no_list}
 use Rattle.np_json.specs.Meta.{namespace, namespaced_name, type_meta}
 use Rattle.np_json.specs.Scalars.{name}
 use Rattle.np_json.specs.Shapes.{must_be_object, refuse_if, required, under}
+use Rattle.np_json.proofs.ReadLemmas.{name-read}
 use Rattle.np_model.specs.Words.{has_slash, is_name, is_word}
 use Rattle.np_policies.specs.NetworkPolicies.{net_policy, net_policy_by, net_rule, net_rules, net_spec, policy_type}
 use Rattle.np_policies.specs.Policies.{policy_by, policy_of}
@@ -29,10 +30,6 @@ not_empty : (s : List ℕ) → is_name s ≡ true → (length s == 0) ≡ false
 not_empty s is =
     let some = and_parts (not (length s == 0) && is_word s) (not (has_slash s)) is in
     not-true (length s == 0) (and_parts (not (length s == 0)) (is_word s) some.0).0
-
-name-read : (s : List ℕ) → is_name s ≡ true → name (string s) ≡ Ok s
-unfolding name refuse_if
-name-read s is = rw is refl
 
 namespace-read : (s : List ℕ) → is_name s ≡ true → namespace (string s) ≡ Ok s
 unfolding namespace refuse_if

@@ -2,7 +2,6 @@
 use Rattle.std.proofs.Common.{◌≡◌, ℕ, ◌+◌, ◌-◌, ◌%◌, ◌^◌, ◌≤◌, List, [], ◌∷◌, true, ◌==◌, nat_le, nat_lt, refl, sym, ◌∙◌, inl, inr, arith, le-leb, leb-true, lt-ltb}
 use Rattle.std.proofs.lemmas.Bool.{and_from, and_parts, cases_Bool, eq-eqb, or_left, or_right}
 use Rattle.std.proofs.lemmas.List.Elements.{recursion_from_All}
-use Rattle.std.proofs.lemmas.Nat.{pow_pos}
 use Rattle.std.specs.List.{AllByRecursion, list_all}
 use Rattle.np_addr.proofs.RightPrefixes.{prefixes_of-right}
 use Rattle.np_addr.specs.Addresses.{IsAddress, IsCidr, cidr_has}
@@ -12,6 +11,7 @@ use Rattle.np_addr.specs.declared.address.Address.{Address}
 use Rattle.np_addr.specs.declared.address.Address.TheVariants as address
 use Rattle.np_addr.specs.declared.cidr.Cidr.{Cidr}
 use Rattle.np_addr.specs.declared.cidr.Cidr.TheVariants.{Four, Six}
+use Rattle.np_addr.proofs.OnePrefixList.{base_is_in}
 use Rattle.np_base.specs.Ranges.{IsAscending, holds, is_within}
 use Rattle.np_base.specs.declared.range.Range.{Range}
 use Rattle.np_model.specs.WellPolicies.{is_well_cidr}
@@ -33,12 +33,6 @@ set-address set (address.Six n) well has = omega (arith, holds-last 0 (2 ^ 128 -
 
 -- ---- blocks
 
--- a block has its first address
-has-base : (block : Cidr) → cidr_has block (base_of block) ≡ true
-has-base (Four base len) = and_from (nat_le base base) (nat_lt base (base + 2 ^ (32 - len))) (le-leb base base (omega arith)) (lt-ltb base (base + 2 ^ (32 - len)) (omega (arith, pow_pos (32 - len))))
-has-base (Six base len) = and_from (nat_le base base) (nat_lt base (base + 2 ^ (128 - len))) (le-leb base base (omega arith))
-    (lt-ltb base (base + 2 ^ (128 - len)) (omega (arith, pow_pos (128 - len))))
-
 block-printable : (block : Cidr) → IsAddress (base_of block) → IsCidr block → is_printable_block block ≡ true
 block-printable (Four base len) within well =
     and_from (nat_lt base (2 ^ 32)) (is_well_cidr (Four base len)) (lt-ltb base (2 ^ 32) within)
@@ -52,7 +46,7 @@ blocks-printable : (set : AddressRanges) (blocks : List Cidr) → IsAddressSet s
     list_all is_printable_block blocks ≡ true
 blocks-printable set [] well all within = refl
 blocks-printable set (block ∷ blocks) well all within =
-    let base = set-address set (base_of block) well (within (base_of block) (or_left (cidr_has block (base_of block)) (some_has blocks (base_of block)) (has-base block))) in
+    let base = set-address set (base_of block) well (within (base_of block) (or_left (cidr_has block (base_of block)) (some_has blocks (base_of block)) (base_is_in block))) in
     and_from (is_printable_block block) (list_all is_printable_block blocks) (block-printable block base all.0)
     (blocks-printable set blocks well all.1 (λ a has. within a (or_right (cidr_has block a) (some_has blocks a) has)))
 

@@ -5,20 +5,21 @@ use Rattle.std.proofs.lemmas.Bool.{and_parts, leb-true}
 use Rattle.std.specs.List.{AllByRecursion, list_all}
 use Rattle.json.proofs.Printed.Utf8.{IsUtf8-are_ascii}
 use Rattle.serde_json.specs.Data.{Data, number, string, unsigned}
+use Rattle.np_json.specs.Members.{list_with}
+use Rattle.np_base.proofs.Each.{All-append}
 use Rattle.np_addr.specs.Blocks.{first_bad_except}
 use Rattle.np_addr.specs.declared.cidr.Cidr.{Cidr}
 use Rattle.np_addr.specs.declared.cidr.Cidr.TheVariants as cidr
-use Rattle.np_conns.proofs.OneText.{all-append}
 use Rattle.np_conns.specs.ConnsText.{proto_name}
 use Rattle.np_conns.specs.declared.proto.Proto.{Proto}
 use Rattle.np_conns.specs.declared.proto.Proto.TheVariants.{Tcp, Udp, Sctp}
-use Rattle.np_model.specs.Words.{is_name, is_word, is_key}
+use Rattle.np_model.specs.Words.{is_name, is_word, is_whole_word}
 use Rattle.np_labels.specs.WellFormed as well
 use Rattle.np_labels.specs.declared.op.Op.{Op}
 use Rattle.np_labels.specs.declared.op.Op.TheVariants.{OneOf, NoneOf, Present, Absent}
 use Rattle.np_labels.specs.declared.requirement.Requirement.{Requirement}
 use Rattle.np_labels.specs.declared.selector.Selector.{Selector}
-use Rattle.np_model.specs.WellPolicies.{if_there, is_well_selector, is_worded}
+use Rattle.np_model.specs.WellPolicies.{is_well_selector, is_worded}
 use Rattle.np_model.specs.declared.direction.Direction.{Direction}
 use Rattle.np_model.specs.declared.direction.Direction.TheVariants.{Ingress, Egress}
 use Rattle.np_model.specs.declared.network_policy.NetPeer.{NetPeer}
@@ -27,8 +28,9 @@ use Rattle.np_model.specs.declared.network_policy.NetPolicy.{NetPolicy}
 use Rattle.np_model.specs.declared.network_policy.NetPort.{NetPort}
 use Rattle.np_model.specs.declared.network_policy.NetPort.TheVariants.{Span, Named}
 use Rattle.np_model.specs.declared.network_policy.NetRule.{NetRule}
+use Rattle.np_model.specs.WellObjects.{option_all}
 use Rattle.np_manifests.specs.Manifests as manifests
-use Rattle.np_manifests.specs.Members.{if_given, if_some, list_with}
+use Rattle.np_manifests.specs.Members.{if_given, if_some}
 use Rattle.np_manifests.specs.Printable.{are_printable_rules, is_printable, is_printable_block, is_printable_peer, is_printable_port, is_printable_rule}
 use Rattle.np_manifests.proofs.ReadableLemmas.{are_names, AllReadable, Entry, IsReadable, deeper, list-readable, number-readable, object-readable, string-readable}
 use Rattle.np_manifests.proofs.RuleReads.{block-well, key-parts}
@@ -38,7 +40,7 @@ use Rattle.np_manifests.proofs.TextLemmas.{block-utf8, name-utf8, word-utf8}
 -- ---- members
 
 entries-append : (most : ℕ) (entries others : List Entry) → AllReadable most entries → AllReadable most others → AllReadable most (entries ++ others)
-entries-append most entries others first second = all-append (λ (entry : Entry). IsReadable most entry.1) entries others first second
+entries-append most entries others first second = All-append (λ (entry : Entry). IsReadable most entry.1) entries others first second
 
 -- a list of what is readable
 mapped-readable : {X : Type 0} (most : ℕ) (test : X → Bool) (f : X → Data) → ((x : X) → test x ≡ true → IsReadable most (f x)) → (xs : List X) → list_all test xs ≡ true →
@@ -50,7 +52,7 @@ some-readable : {X : Type 0} (most : ℕ) (name : List ℕ) (test : X → Bool) 
 some-readable most name test f each [] all = tt
 some-readable most name test f each (x ∷ xs) all = (mapped-readable most test f each (x ∷ xs) all, tt)
 
-given-readable : {X : Type 0} (most : ℕ) (name : List ℕ) (test : X → Bool) (f : X → Data) → ((x : X) → test x ≡ true → IsReadable most (f x)) → (o : Option X) → if_there test o ≡ true →
+given-readable : {X : Type 0} (most : ℕ) (name : List ℕ) (test : X → Bool) (f : X → Data) → ((x : X) → test x ≡ true → IsReadable most (f x)) → (o : Option X) → option_all test o ≡ true →
     AllReadable most (if_given name (option_map f o))
 given-readable most name test f each None is = tt
 given-readable most name test f each (Some x) is = (each x is, tt)
@@ -69,7 +71,7 @@ expression-names of_key of_operator (value ∷ values) = refl
 
 expression-readable : (one : Requirement) → is_worded one ≡ true → IsReadable 2 (manifests.expression one)
 expression-readable one words =
-    let parts = and_parts (is_key one.key) (list_all is_word one.values) words in
+    let parts = and_parts (is_whole_word one.key) (list_all is_word one.values) words in
     let entries : List Entry = (codes "key", string one.key) ∷ (codes "operator", string (manifests.operator one.op)) ∷ if_some (codes "values") (map string one.values) in
     object-readable 1 entries (expression-names (string one.key) (string (manifests.operator one.op)) (map string one.values)) (
       string-readable 1 one.key (word-utf8 one.key (key-parts one.key parts.0).1),
@@ -136,8 +138,8 @@ pods-names (Some namespaces) (Some pods) = refl
 
 peer-readable : (one : NetPeer) → is_printable_peer one ≡ true → IsReadable 5 (manifests.peer one)
 peer-readable (Pods namespaces pods) is =
-    let second = and_parts _ (if_there is_well_selector pods) is in
-    let first = and_parts (is_some namespaces || is_some pods) (if_there is_well_selector namespaces) second.0 in
+    let second = and_parts _ (option_all is_well_selector pods) is in
+    let first = and_parts (is_some namespaces || is_some pods) (option_all is_well_selector namespaces) second.0 in
     object-readable 4 _ (pods-names (option_map manifests.selector namespaces) (option_map manifests.selector pods))
     (entries-append 4 _ _ (given-readable 4 (codes "namespaceSelector") is_well_selector manifests.selector selector-readable namespaces first.1)
     (given-readable 4 (codes "podSelector") is_well_selector manifests.selector selector-readable pods second.1))

@@ -1,5 +1,5 @@
 -- Values whose text is UTF-8, and is read as them.
-use Rattle.std.proofs.Common.{◌≡◌, ℕ, suc, ◌^◌, ◌<◌, ◌≤◌, List, [], ◌∷◌, ◌++◌, Bool, true, false, ◌&&◌, nat_lt, IsUtf8, Option, Some, map, decimal, refl, sym, ap, ◌∙◌, arith, append_assoc, append-nil}
+use Rattle.std.proofs.Common.{◌≡◌, ℕ, suc, ◌^◌, ◌<◌, ◌≤◌, List, [], ◌∷◌, ◌++◌, Bool, true, false, ◌&&◌, IsUtf8, Option, Some, map, decimal, refl, sym, ap, ◌∙◌, arith, append_assoc, append-nil}
 use Rattle.std.proofs.lemmas.Bool.{and_parts}
 use Rattle.std.proofs.lemmas.Fmt.{IsAscii-decimal}
 use Rattle.std.proofs.lemmas.List.{map-append}
@@ -20,13 +20,15 @@ use Rattle.json.proofs.Printed.Utf8.{are_ascii, IsUtf8-are_ascii, IsUtf8-quoted}
 use Rattle.serde_json.specs.Data.{Data, Items, member, number, put, string, unsigned}
 use Rattle.serde_json.specs.Read.{of_items, of_json, of_members, read}
 use Rattle.serde_json.specs.View.{items_of}
-use Rattle.serde_json.specs.Written.{comma_if, compact_text, items_outline, items_text, members_outline, members_text, outline}
+use Rattle.serde_json.specs.Written.{compact_text, items_outline, items_text, members_outline, members_text, outline}
 use Rattle.serde_json.proofs.Numbers.{number_of-decimal}
 use Rattle.serde_json.proofs.Texts.{print-outline}
+use Rattle.np_json.proofs.ReadLemmas.{IsUtf8-comma}
+use Rattle.np_json.specs.Members.{members_with, object_with, list_with}
+use Rattle.np_base.proofs.Texts.{IsUtf8-byte}
 use Rattle.np_items.specs.Inputs.{json_of}
 use Rattle.np_items.proofs.InputLemmas.{json_of-read}
 use Rattle.np_labels.specs.Values.{is_ascending}
-use Rattle.np_manifests.specs.Members.{list_with, members_with, object_with}
 use Rattle.np_manifests.proofs.OrderLemmas.{IsAbove, above-before}
 
 -- a value whose text is UTF-8, whose numbers are written as numbers, which its outline gives, and which nests so deep at
@@ -55,13 +57,6 @@ number-readable most n small = record {
 
 -- ---- lists
 
-one_byte : (x : ℕ) → nat_lt x 128 ≡ true → (text : List ℕ) → IsUtf8 text → IsUtf8 (x ∷ text)
-one_byte x small text utf8 = IsUtf8-append (x ∷ []) text (IsUtf8-are_ascii (x ∷ []) (rw small refl)) utf8
-
-comma : (later : Bool) (text : List ℕ) → IsUtf8 text → IsUtf8 (comma_if later ++ text)
-comma true text utf8 = one_byte 44 refl text utf8
-comma false text utf8 = utf8
-
 -- the same of the items of a list
 record AreReadable (most : ℕ) (items : Items) : Type 0 where
   utf8 : (later : Bool) → IsUtf8 (items_text later items)
@@ -75,7 +70,7 @@ items-readable most (value ∷ values) all =
     let first = all.0 in
     let rest = items-readable most values all.1 in
     record {
-      utf8 = λ later. comma later _ (IsUtf8-append (compact_text value) (items_text true (items_of values)) first.utf8 (rest.utf8 true));
+      utf8 = λ later. IsUtf8-comma later _ (IsUtf8-append (compact_text value) (items_text true (items_of values)) first.utf8 (rest.utf8 true));
       numbers = (first.numbers, rest.numbers);
       given = rw (first.given, rest.given) refl;
       shallow = omega arith;
@@ -84,7 +79,7 @@ items-readable most (value ∷ values) all =
 pub list-readable : (most : ℕ) (values : List Data) → AllByRecursion (IsReadable most) values → IsReadable (suc most) (list_with values)
 list-readable most values all =
     let items = items-readable most values all in
-    record { utf8 = one_byte 91 refl _ (items.utf8 false); numbers = items.numbers; given = rw items.given refl; shallow = omega arith }
+    record { utf8 = IsUtf8-byte 91 refl _ (items.utf8 false); numbers = items.numbers; given = rw items.given refl; shallow = omega arith }
 
 -- ---- objects
 
@@ -130,8 +125,8 @@ members-readable most (entry ∷ entries) names all =
     let first = all.0 in
     let rest = members-readable most entries ascii.1 all.1 in
     record {
-      utf8 = λ later. comma later _ (IsUtf8-append (quoted entry.0) _ (IsUtf8-quoted entry.0 (IsUtf8-are_ascii entry.0 ascii.0))
-          (one_byte 58 refl _ (IsUtf8-append (compact_text entry.1) (members_text true (members_with entries)) first.utf8 (rest.utf8 true))));
+      utf8 = λ later. IsUtf8-comma later _ (IsUtf8-append (quoted entry.0) _ (IsUtf8-quoted entry.0 (IsUtf8-are_ascii entry.0 ascii.0))
+          (IsUtf8-byte 58 refl _ (IsUtf8-append (compact_text entry.1) (members_text true (members_with entries)) first.utf8 (rest.utf8 true))));
       numbers = (first.numbers, rest.numbers);
       given = (first.given, rest.given);
       shallow = omega arith;
@@ -142,7 +137,7 @@ object-readable most entries names all =
     let tests = and_parts (list_all are_ascii (names_of entries)) (is_ascending (names_of entries)) names in
     let members = members-readable most entries tests.0 all in
     record {
-      utf8 = one_byte 123 refl _ (members.utf8 false);
+      utf8 = IsUtf8-byte 123 refl _ (members.utf8 false);
       numbers = members.numbers;
       given = rw (members-given [] entries tests.1 members.given) refl;
       shallow = omega arith;

@@ -12,10 +12,11 @@ use Rattle.np_addr.specs.declared.cidr.Cidr.TheVariants.{Four, Six}
 use Rattle.np_conns.specs.ConnsText.{proto_name}
 use Rattle.np_conns.specs.declared.proto.Proto.{Proto}
 use Rattle.np_conns.specs.declared.proto.Proto.TheVariants.{Tcp, Udp, Sctp}
-use Rattle.np_json.specs.Members.{member_of}
+use Rattle.np_json.specs.Members.{member_of, object_with}
 use Rattle.np_json.specs.Scalars.{port, protocol_name}
 use Rattle.np_json.specs.Shapes.{listed, must_be_object, optional, refuse_if, required, under}
-use Rattle.np_model.specs.Words.{is_word, is_key}
+use Rattle.np_json.proofs.ReadLemmas.{port-read}
+use Rattle.np_model.specs.Words.{is_word, is_whole_word}
 use Rattle.np_labels.specs.declared.selector.Selector.{Selector}
 use Rattle.np_policies.specs.Blocks.{cidr, ip_block}
 use Rattle.np_policies.specs.NetworkPolicies.{net_peer, net_rule}
@@ -30,7 +31,7 @@ use Rattle.np_model.specs.declared.network_policy.NetPort.{NetPort}
 use Rattle.np_model.specs.declared.network_policy.NetPort.TheVariants.{Span, Named}
 use Rattle.np_model.specs.declared.network_policy.NetRule.{NetRule}
 use Rattle.np_manifests.specs.Manifests as manifests
-use Rattle.np_manifests.specs.Members.{if_some, object_with}
+use Rattle.np_manifests.specs.Members.{if_some}
 use Rattle.np_manifests.specs.Printable.{is_printable_block, is_printable_peer, is_printable_port, is_printable_rule}
 use Rattle.np_manifests.proofs.SelectorReads.{selector-read}
 use Rattle.np_manifests.proofs.ShapeLemmas.{all-passed, optional-none, optional-read, required-read, some-read, some_member}
@@ -46,10 +47,6 @@ protocol_name-read Sctp = refl
 protocol-read : (one : Proto) (value : Data) → member_of (codes "protocol") value ≡ Some (string (proto_name one)) → protocol value ≡ Ok one
 unfolding protocol
 protocol-read one value there = rw (optional-read (codes "protocol") protocol_name value (string (proto_name one)) one there (protocol_name-read one)) refl
-
-port-read : (n : ℕ) → 1 ≤ n → n ≤ 65535 → port (number (unsigned n)) ≡ Ok n
-unfolding port
-port-read n least most = rw (lt-ltb n (2 ^ 63) (omega arith), le-leb 1 n least, le-leb n 65535 most) refl
 
 span-read : (of : Proto) (lo hi : ℕ) → 1 ≤ lo → lo ≤ hi → hi ≤ 65535 → net_port (manifests.span of lo hi) ≡ Ok (Span of lo hi)
 unfolding net_port must_be_object refuse_if optional under port_value end_port
@@ -72,7 +69,7 @@ span-read of lo hi least above most = by (lo == hi) refl
           le-leb lo hi above,
         ) refl
 
-pub key-parts : (s : List ℕ) → is_key s ≡ true → ((length s == 0) ≡ false) × (is_word s ≡ true)
+pub key-parts : (s : List ℕ) → is_whole_word s ≡ true → ((length s == 0) ≡ false) × (is_word s ≡ true)
 key-parts s key = let parts = and_parts (not (length s == 0)) (is_word s) key in (not-true (length s == 0) parts.0, parts.1)
 
 port_entry-read : (one : NetPort) → is_printable_port one ≡ true → net_port (manifests.port one) ≡ Ok one

@@ -1,12 +1,12 @@
 -- The connections of rows and of pairs are runs of ports.
 use Rattle.std.proofs.Common.{ℕ, ◌+◌, ◌-◌, ◌^◌, List, [], ◌∷◌, Bool, map, Option, Some, None, lit≤, subst, arith}
 use Rattle.std.specs.List.{AllByRecursion}
+use Rattle.np_base.proofs.Each.{All-append}
 use Rattle.np_addr.specs.declared.address.Family.{Family}
 use Rattle.np_addr.specs.declared.address.Family.TheVariants.{Four, Six}
 use Rattle.np_conns.specs.Conns.{Conns, IsRun}
 use Rattle.np_conns.specs.declared.port_spot.PortSpot.{PortSpot}
 use Rattle.np_conns.specs.declared.proto.Proto.TheVariants.{Tcp, Udp, Sctp}
-use Rattle.np_conns.proofs.OneText.{all-append}
 use Rattle.np_conns.proofs.RunLemmas.{IsRun-from_ascending, runs-ascend}
 use Rattle.np_table.proofs.RangeWalks.{walk-right}
 use Rattle.np_table.specs.Right.{AreRight, Stretch, conns_of, walk}
@@ -39,6 +39,6 @@ rows-runs passes =
     let four = walk (passes Four) 0 (2 ^ 32 - 1) in
     let six = walk (passes Six) 0 (2 ^ 128 - 1) in
     let runs : AddressRow → Type 0 = λ row. AreRuns row.conns in
-    all-append runs (map (address_row four_of) four) (map (address_row six_of) six)
+    All-append runs (map (address_row four_of) four) (map (address_row six_of) six)
     (all-mapped runs (address_row four_of) four (stretches-runs (passes Four) 0 (2 ^ 32 - 1 + 1) None four (walk-right (passes Four) 0 (2 ^ 32 - 1) (lit≤ tt))))
     (all-mapped runs (address_row six_of) six (stretches-runs (passes Six) 0 (2 ^ 128 - 1 + 1) None six (walk-right (passes Six) 0 (2 ^ 128 - 1) (lit≤ tt))))

@@ -7,10 +7,10 @@ use Rattle.std.specs.List.{AllByRecursion, list_all}
 use Rattle.std.specs.Ordering.{nat_cmp}
 use mathlib.Core.Bool.{Bool-set}
 use Rattle.serde_json.specs.Data.{Data, string}
-use Rattle.np_json.specs.Members.{member_of}
+use Rattle.np_json.specs.Members.{member_of, object_with}
 use Rattle.np_json.specs.Scalars.{labels, text, word}
 use Rattle.np_json.specs.Shapes.{listed, must_be_object, refuse_if, required}
-use Rattle.np_model.specs.Words.{is_word, is_key}
+use Rattle.np_model.specs.Words.{is_word, is_whole_word}
 use Rattle.np_labels.specs.Selectors.{requirement_of}
 use Rattle.np_labels.specs.Values.{is_ascending}
 use Rattle.np_labels.specs.WellFormed as well
@@ -21,7 +21,7 @@ use Rattle.np_labels.specs.declared.selector.Selector.{Selector}
 use Rattle.np_policies.specs.Selectors.{expression, fitting, key, op_named, selector}
 use Rattle.np_model.specs.WellPolicies.{is_well_selector, is_worded}
 use Rattle.np_manifests.specs.Manifests as manifests
-use Rattle.np_manifests.specs.Members.{if_some, object_with}
+use Rattle.np_manifests.specs.Members.{if_some}
 use Rattle.np_manifests.proofs.OrderLemmas.{above-before, insert-last}
 use Rattle.np_manifests.proofs.ShapeLemmas.{all-passed, listed-none, optional-none, required-read, some-read, some_member}
 
@@ -47,7 +47,7 @@ word-read : (s : List ℕ) → is_word s ≡ true → word (string s) ≡ Ok s
 unfolding word refuse_if
 word-read s is = rw is refl
 
-key-read : (s : List ℕ) → is_key s ≡ true → key (string s) ≡ Ok s
+key-read : (s : List ℕ) → is_whole_word s ≡ true → key (string s) ≡ Ok s
 unfolding key refuse_if
 key-read s is = rw is refl
 
@@ -66,7 +66,7 @@ expression-read : (one : Requirement) → well.is_well_requirement one ≡ true 
 unfolding expression must_be_object refuse_if
 expression-read one is_well words =
     let fits = and_parts (is_ascending one.values) (well.fits one.op (not (length one.values == 0))) is_well in
-    let parts = and_parts (is_key one.key) (list_all is_word one.values) words in
+    let parts = and_parts (is_whole_word one.key) (list_all is_word one.values) words in
     let value = manifests.expression one in
     let keys : required (codes "key") key value ≡ Ok one.key = required-read (codes "key") key value (string one.key) one.key refl (key-read one.key parts.0) in
     let operators : required (codes "operator") text value ≡ Ok (manifests.operator one.op) = required-read (codes "operator") text value (string (manifests.operator one.op))

@@ -2,9 +2,9 @@
 use Rattle.std.specs.Prelude.{ℕ, List, [], ◌∷◌, ◌++◌, codes, map}
 use Rattle.serde_json.specs.Data.{Data, string}
 use Rattle.serde_json.specs.Written.{compact_text}
+use Rattle.np_json.specs.Members.{object_with, list_with}
 use Rattle.np_model.specs.declared.network_policy.NetPolicy.{NetPolicy}
 use Rattle.np_manifests.specs.Manifests.{policy}
-use Rattle.np_manifests.specs.Members.{list_with, object_with}
 
 -- the text of `serde_json`, without spaces
 unfoldable pub policy_text : NetPolicy → List ℕ

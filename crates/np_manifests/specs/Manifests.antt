@@ -2,6 +2,7 @@
 -- their names.
 use Rattle.std.specs.Prelude.{ℕ, List, [], ◌∷◌, ◌++◌, map, Bool, ◌==◌, if◌then◌else◌, is_some, Option, option_map, codes}
 use Rattle.serde_json.specs.Data.{Data, number, string, unsigned}
+use Rattle.np_json.specs.Members.{object_with, list_with}
 use Rattle.np_addr.specs.AddressText.{cidr_text}
 use Rattle.np_addr.specs.declared.cidr.Cidr.{Cidr}
 use Rattle.np_conns.specs.ConnsText.{proto_name}
@@ -18,7 +19,7 @@ use Rattle.np_model.specs.declared.network_policy.NetPolicy.{NetPolicy}
 use Rattle.np_model.specs.declared.network_policy.NetPort.{NetPort}
 use Rattle.np_model.specs.declared.network_policy.NetPort.TheVariants.{Span, Named}
 use Rattle.np_model.specs.declared.network_policy.NetRule.{NetRule}
-use Rattle.np_manifests.specs.Members.{if_given, if_some, list_with, object_with}
+use Rattle.np_manifests.specs.Members.{if_given, if_some}
 
 -- ---- selectors
 

@@ -5,19 +5,20 @@ use Rattle.std.specs.List.{list_all}
 use Rattle.np_addr.specs.Blocks.{first_bad_except}
 use Rattle.np_addr.specs.declared.cidr.Cidr.{Cidr}
 use Rattle.np_addr.specs.declared.cidr.Cidr.TheVariants.{Four, Six}
-use Rattle.np_model.specs.Words.{is_name, is_key}
-use Rattle.np_model.specs.WellPolicies.{if_there, is_well_cidr, is_well_selector}
+use Rattle.np_model.specs.Words.{is_name, is_whole_word}
+use Rattle.np_model.specs.WellPolicies.{is_well_cidr, is_well_selector}
 use Rattle.np_model.specs.declared.network_policy.NetPeer.{NetPeer}
 use Rattle.np_model.specs.declared.network_policy.NetPeer.TheVariants.{Pods, Block}
 use Rattle.np_model.specs.declared.network_policy.NetPolicy.{NetPolicy}
 use Rattle.np_model.specs.declared.network_policy.NetPort.{NetPort}
 use Rattle.np_model.specs.declared.network_policy.NetPort.TheVariants.{Span, Named}
 use Rattle.np_model.specs.declared.network_policy.NetRule.{NetRule}
+use Rattle.np_model.specs.WellObjects.{option_all}
 
 -- ports from 1 to 65535, of which the last is not below the first, or a name
 abbrev pub is_printable_port : NetPort → Bool
 is_printable_port (Span proto lo hi) = nat_le 1 lo && nat_le lo hi && nat_le hi 65535
-is_printable_port (Named proto name) = is_key name
+is_printable_port (Named proto name) = is_whole_word name
 
 -- a first address of the family, without host bits
 abbrev pub is_printable_block : Cidr → Bool
@@ -26,7 +27,7 @@ is_printable_block (Six base len) = nat_lt base (2 ^ 128) && is_well_cidr (Six b
 
 -- at least one selector, or a block and strict parts of it
 abbrev pub is_printable_peer : NetPeer → Bool
-is_printable_peer (Pods namespaces pods) = (is_some namespaces || is_some pods) && if_there is_well_selector namespaces && if_there is_well_selector pods
+is_printable_peer (Pods namespaces pods) = (is_some namespaces || is_some pods) && option_all is_well_selector namespaces && option_all is_well_selector pods
 is_printable_peer (Block block excepts) = is_printable_block block && list_all is_printable_block excepts && is_none (first_bad_except block excepts)
 
 abbrev pub is_printable_rule : NetRule → Bool
@@ -34,7 +35,7 @@ is_printable_rule rule = list_all is_printable_peer rule.peers && list_all is_pr
 
 -- the rules of a direction that may be missing
 abbrev pub are_printable_rules : Option (List NetRule) → Bool
-are_printable_rules rules = if_there (λ all. list_all is_printable_rule all) rules
+are_printable_rules rules = option_all (λ all. list_all is_printable_rule all) rules
 
 -- Whether the names are names, the selector is well formed, of words, and there is a direction at least, whose rules are
 -- such as well.

@@ -15,13 +15,14 @@ use Rattle.np_json.specs.Shapes.{◌>>◌, must_be_object, optional, refuse_if, 
 use Rattle.np_json.specs.declared.fault.FaultKind.TheVariants.{BadField, BadName}
 use Rattle.np_json.specs.declared.meta.NamespacedName.{NamespacedName}
 use Rattle.np_labels.proofs.PairLists.{value_of-labels_of}
-use Rattle.np_labels.specs.Labels.{labels_of, value_of}
+use Rattle.np_labels.specs.Labels.{labels_of, value_of, pair_of}
 use Rattle.np_labels.specs.declared.pair.Pair.{Pair}
 use Rattle.np_meaning.proofs.Outputs.{optional-output, text_at-required, IsOptional, text-output}
 use Rattle.np_policies.proofs.ReadLemmas.{bind-output, then-output, of_type-output}
-use Rattle.np_objects.specs.Labels.{label_map, pair_of}
-use Rattle.np_meaning.specs.ObjectMeaning.{last_text, named_or_default, text_at, AreLabelsOf}
+use Rattle.np_objects.specs.Labels.{label_map}
+use Rattle.np_meaning.specs.ObjectMeaning.{last_text, text_at, AreLabelsOf}
 use Rattle.np_policies.proofs.MemberReads.{name-output}
+use Rattle.np_policies.specs.PolicyMeaning.{named_or_default}
 
 -- ---- names
 

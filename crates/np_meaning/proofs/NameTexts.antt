@@ -1,16 +1,17 @@
 -- The names of workloads: no two are equal, and each has the name of a pod's owner in it.
-use Rattle.std.proofs.Common.{◌≡◌, ℕ, ◌<◌, ◌≤◌, List, [], ◌++◌, length, get_or, slice_get, All, Some, Less, sym, ap, subst, ◌∙◌, inl, inr, arith}
-use Rattle.std.specs.Cmp.Lexicographic.{nat_list_cmp_total, slice_cmp}
+use Rattle.std.proofs.Common.{◌≡◌, ℕ, ◌<◌, ◌≤◌, List, [], ◌++◌, length, get_or, slice_get, All, Some, Less, sym, ap, subst, inl, inr, arith}
+use Rattle.std.specs.Cmp.Lexicographic.{slice_cmp}
 use Rattle.std.specs.List.Sorted.{IsStrictlySortedBy}
 use Rattle.std.specs.Option.{option_map_or}
-use Rattle.std.specs.Ordering.{nat_cmp, ordering_reverse}
+use Rattle.std.specs.Ordering.{nat_cmp}
 use Rattle.std.proofs.lemmas.Bool.{cases_order}
 use Rattle.std.proofs.lemmas.List.{length-map}
 use Rattle.std.proofs.lemmas.List.Elements.{All-map, All-weaker}
 use Rattle.std.proofs.lemmas.Map.Keys.{Less-from_sorted}
+use Rattle.np_base.proofs.Lists.{slice_get-some}
+use Rattle.np_base.proofs.Orders.{not-before}
 use Rattle.np_classes.proofs.Relations.{firsts-le-count, firsts_within}
 use Rattle.np_fold.specs.Workloads.{Workload, first_pods, folding_of, named_first_pods, owner_name, owner_name_at, owner_names, pods_alike, workload, workload_count, workloads_of}
-use Rattle.np_fold.proofs.AlikeLemmas.{slice_get-some}
 use Rattle.np_fold.proofs.WorkloadLemmas.{workloads-by_name}
 use Rattle.np_report.specs.RowText.{names_of}
 use Rattle.np_model.specs.Lawful.{IsFew}
@@ -20,13 +21,6 @@ use Rattle.np_names.specs.Names.{name_at, suffix, wish_at}
 use Rattle.np_names.specs.declared.named.Named.{Named}
 use Rattle.np_names.proofs.ThingLemmas.{All-all_by_name, IsThing}
 use mathlib.Core.List.{map-map}
-
--- no text comes before itself
-not-before : (text : List ℕ) → slice_cmp nat_cmp text text ≡ Less → ⊥
-not-before text less =
-    let turned : slice_cmp nat_cmp text text ≡ ordering_reverse (slice_cmp nat_cmp text text) = nat_list_cmp_total.antisymm text text in
-    let never = sym less ∙ turned ∙ ap ordering_reverse less in
-    absurd cc
 
 -- of texts that ascend strictly, one at an earlier place is another
 earlier-apart : (texts : List (List ℕ)) (i j : ℕ) → IsStrictlySortedBy (slice_cmp nat_cmp) texts → i < j → j < length texts → get_or texts i [] ≡ get_or texts j [] → ⊥

@@ -1,17 +1,19 @@
 -- What follows from a shape having read an output.
-use Rattle.std.proofs.Common.{◌≡◌, ℕ, ℤ, pos, negsuc, ◌+◌, List, [], ◌∷◌, Bool, true, false, cond, ◌&&◌, nat_le, Option, Some, None, unwrap_or, Ok, Err, refl, ap, subst, ◌∙◌}
+use Rattle.std.proofs.Common.{◌≡◌, ℕ, pos, ◌+◌, List, [], ◌∷◌, Bool, false, Option, Some, None, unwrap_or, Ok, Err, refl, ap, subst}
 use Rattle.serde_json.specs.Data.{Data, object, Items, no_items, item, no_members}
 use Rattle.serde_json.specs.Find.{as_array, as_bool, as_str}
-use Rattle.np_json.specs.Members.{as_whole, member_of}
-use Rattle.np_json.specs.Scalars.{flag, name, port, port_number, text, whole}
-use Rattle.np_json.specs.Shapes.{Read, ◌>>=◌, each_item, given, list_by, listed, optional, read_member, refuse, required, under}
-use Rattle.np_json.specs.declared.fault.FaultKind.TheVariants.{BadPort}
+use Rattle.np_items.specs.Inputs.{values}
+use Rattle.np_json.specs.Members.{member_of}
+use Rattle.np_json.specs.Scalars.{flag, name, port, text}
+use Rattle.np_json.specs.Shapes.{Read, ◌>>=◌, each_item, given, list_by, listed, optional, read_member, required, under}
 use Rattle.np_json.specs.declared.path.Step.TheVariants.{Field, Item}
-use Rattle.np_policies.proofs.ReadLemmas.{bind-output, under-output, of_type-output}
+use Rattle.np_json.proofs.ReadLemmas.{under-output}
+use Rattle.np_policies.proofs.ReadLemmas.{bind-output, of_type-output}
 use Rattle.np_meaning.specs.EachPod.{AreEach}
-use Rattle.np_meaning.specs.ObjectMeaning.{each_of, is_true_at, list_at, number_at, text_at}
+use Rattle.np_meaning.specs.ObjectMeaning.{is_true_at, list_at, number_at, text_at}
 use Rattle.np_policies.specs.PolicyMeaning.{object_at}
 use Rattle.np_policies.proofs.MemberReads.{object_at-output}
+use Rattle.np_policies.proofs.AdminMeant.{port-whole}
 
 -- what a definition of a reading gives
 abbrev pub OutputOf : {A : Type 0} → (Data → Read A) → Type 0
@@ -50,14 +52,14 @@ optional-output shape name value output is = by (member_of name value) output (u
 abbrev pub AreReadOf : {A : Type 0} → (Data → Read A) → List Data → List A → Type 0
 AreReadOf shape = AreEach (λ value output. shape value ≡ Ok output)
 
-each_item-output : {A : Type 0} (shape : Data → Read A) (place : ℕ) (items : Items) (outputs : List A) → each_item shape place items ≡ Ok outputs → AreReadOf shape (each_of items) outputs
+each_item-output : {A : Type 0} (shape : Data → Read A) (place : ℕ) (items : Items) (outputs : List A) → each_item shape place items ≡ Ok outputs → AreReadOf shape (values items) outputs
 each_item-output shape place no_items [] is = tt
 each_item-output shape place no_items (output ∷ outputs) is = cc
 each_item-output shape place (item value items) outputs is =
     let first = bind-output (under (Item place) (shape value)) (λ output. each_item shape (place + 1) items >>= λ more. Ok (output ∷ more)) outputs is in
     let second = bind-output (each_item shape (place + 1) items) (λ more. Ok (first.first ∷ more)) outputs first.after in
     let are : first.first ∷ second.first ≡ outputs = let after = second.after in cc in
-    subst (AreReadOf shape (value ∷ each_of items)) are (under-output (Item place) (shape value) first.first first.here, each_item-output shape (place + 1) items second.first second.here)
+    subst (AreReadOf shape (value ∷ values items)) are (under-output (Item place) (shape value) first.first first.here, each_item-output shape (place + 1) items second.first second.here)
 
 pub listed-output : {A : Type 0} (shape : Data → Read A) (name : List ℕ) (value : Data) (outputs : List A) → listed name shape value ≡ Ok outputs → AreReadOf shape (list_at name value) outputs
 unfolding listed
@@ -90,20 +92,6 @@ each-output shape Has so name value outputs is = AreEach-weaker (λ d output. sh
 pub text-output : (value : Data) (s : List ℕ) → text value ≡ Ok s → as_str value ≡ Some s
 text-output value s is = of_type-output (as_str value) s is
 
-pub port_number-output : (n : ℤ) (m : ℕ) → port_number n ≡ Ok m → n ≡ pos m
-port_number-output (pos n) m is = by (nat_le 1 n && nat_le n 65535) is
-  where
-    by : (b : Bool) → cond b (Ok n) (refuse BadPort) ≡ Ok m → pos n ≡ pos m
-    by true is = let same : n ≡ m = cc in ap pos same
-    by false is = cc
-port_number-output (negsuc n) m is = cc
-
-pub port-output : (value : Data) (n : ℕ) → port value ≡ Ok n → as_whole value ≡ Some (pos n)
-unfolding port
-port-output value n is =
-    let read = bind-output (whole value) port_number n is in
-    of_type-output (as_whole value) read.first read.here ∙ ap Some (port_number-output read.first n read.after)
-
 -- the text of a required member
 pub text_at-required : (shape : Data → Read (List ℕ)) → ((value : Data) (s : List ℕ) → shape value ≡ Ok s → as_str value ≡ Some s) → (name : List ℕ) (value : Data) (s : List ℕ) →
     required name shape value ≡ Ok s → text_at name value ≡ s
@@ -111,7 +99,7 @@ text_at-required shape reads name value s is = rw (reads (object_at name value) 
 
 -- the number of a required member
 pub number_at-required : (name : List ℕ) (value : Data) (n : ℕ) → required name port value ≡ Ok n → number_at name value ≡ Some (pos n)
-number_at-required name value n is = port-output (object_at name value) n (object_at-output port name value n is)
+number_at-required name value n is = port-whole (object_at name value) n (object_at-output port name value n is)
 
 -- the text of a member that may be missing
 pub text_at-optional : (name : List ℕ) (value : Data) (found : Option (List ℕ)) → optional name text value ≡ Ok found → text_at name value ≡ unwrap_or found []

@@ -20,10 +20,9 @@ use Rattle.np_items.specs.declared.item.Item.{Item}
 use Rattle.np_items.specs.declared.item.Item.TheVariants as item
 use Rattle.np_objects.specs.ControllerKinds.{is_controller_kind, kind_name}
 use Rattle.np_objects.specs.declared.controller.ControllerItem.{ControllerItem}
-use Rattle.np_objects.specs.declared.controller.ControllerKind.{ControllerKind}
-use Rattle.np_objects.specs.declared.controller.ControllerKind.TheVariants.{Deployment, ReplicaSet, StatefulSet, DaemonSet, ReplicationController, Job, CronJob}
 use Rattle.np_objects.specs.declared.object.Object.TheVariants as object
 use Rattle.np_objects.specs.declared.owner_ref.OwnerRef.{OwnerRef}
+use Rattle.np_objects.proofs.OwnerLemmas.{is_controller_kind-name}
 use Rattle.np_owners.proofs.PlaceLemmas.{equal_names, same_name-sym}
 use Rattle.np_owners.specs.Names.{is_named, name_of, place_of, same_name}
 use Rattle.np_owners.specs.Owners.{controller_place, owner_of, owner_place, place_in_namespace, ups}
@@ -82,15 +81,6 @@ place_of-named name items apart place one at named =
 
 abbrev controller_name : ControllerItem → ObjectName
 controller_name controller = record { kind = kind_name controller.kind; namespace = controller.namespace; name = controller.name }
-
-kind_name-kind : (kind : ControllerKind) → is_controller_kind (kind_name kind) ≡ true
-kind_name-kind Deployment = refl
-kind_name-kind ReplicaSet = refl
-kind_name-kind StatefulSet = refl
-kind_name-kind DaemonSet = refl
-kind_name-kind ReplicationController = refl
-kind_name-kind Job = refl
-kind_name-kind CronJob = refl
 
 other-kind : (own name : ObjectName) → is_controller_kind own.kind ≡ false → Some own ≡ Some name → is_controller_kind name.kind ≡ true → ⊥
 other-kind own name other same kind =
@@ -171,7 +161,7 @@ module _ (items : List Item) (apart : AllLater AreNamedApart items) where
   reference-place : (above : ℕ) (owner : ControllerItem) → slice_get items above ≡ Some (controller_item owner) → (reference : OwnerRef) (namespace : List ℕ) → IsNamedBy reference namespace owner →
       controller_place items namespace reference ≡ Some above
   reference-place above owner at reference namespace is =
-      let kind : is_controller_kind reference.kind ≡ true = subst (λ (k : List ℕ). is_controller_kind k ≡ true) is.kind (kind_name-kind owner.kind) in
+      let kind : is_controller_kind reference.kind ≡ true = subst (λ (k : List ℕ). is_controller_kind k ≡ true) is.kind (is_controller_kind-name owner.kind) in
       let name : controller_name owner ≡ asked namespace reference =
       ap (λ (k : List ℕ). record { kind = k; namespace = owner.namespace; name = owner.name }) is.kind
       ∙ ap (λ (s : List ℕ). record { kind = reference.kind; namespace = s; name = owner.name }) is.namespace

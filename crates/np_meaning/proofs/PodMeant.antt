@@ -6,6 +6,7 @@ use Rattle.std.specs.List.{filter_map, flat_map, list_any}
 use Rattle.std.specs.Option.{option_flatten}
 use Rattle.std.proofs.lemmas.Bool.Decides.{nat_tests}
 use Rattle.std.proofs.lemmas.List.Folds.{list_any-append}
+use Rattle.std.proofs.Math.Bool.{or_assoc, or-false}
 use Rattle.serde_json.specs.Data.{Data, object, no_members}
 use Rattle.serde_json.specs.Find.{as_str}
 use Rattle.np_addr.specs.AddressGrammar.{address_of}
@@ -184,16 +185,8 @@ same-equal (Six a) (Four b) is = cc
 abbrev is_found : Address → Option Address → Bool
 is_found address found = unwrap_or (option_map (λ other. is_same other address) found) false
 
-or_assoc : (a b c : Bool) → ((a || b) || c) ≡ (a || (b || c))
-or_assoc true b c = refl
-or_assoc false b c = refl
-
-or_no : (b : Bool) → b ≡ (b || false)
-or_no true = refl
-or_no false = refl
-
 kept_with-has : (kept : List Address) (found : Option Address) (address : Address) → has_address (kept_with kept found) address ≡ (has_address kept address || is_found address found)
-kept_with-has kept None address = or_no (has_address kept address)
+kept_with-has kept None address = sym (or-false (has_address kept address))
 kept_with-has kept (Some other) address = by (has_address kept other) refl (is_same other address) refl
   where
     by : (known : Bool) → has_address kept other ≡ known → (same : Bool) → is_same other address ≡ same →
@@ -201,12 +194,12 @@ kept_with-has kept (Some other) address = by (has_address kept other) refl (is_s
     by true known true same =
         let it : has_address kept address ≡ true = ap (has_address kept) (sym (same-equal other address same)) ∙ known in
         rw it refl
-    by true known false same = or_no (has_address kept address)
-    by false known same here = list_any-append (λ one. is_same one address) kept (other ∷ []) ∙ ap (λ b. has_address kept address || b) (sym (or_no (is_same other address)) ∙ here)
+    by true known false same = sym (or-false (has_address kept address))
+    by false known same here = list_any-append (λ one. is_same one address) kept (other ∷ []) ∙ ap (λ b. has_address kept address || b) (or-false (is_same other address) ∙ here)
 
 distinct-has : (kept : List Address) (found : List (Option Address)) (address : Address) →
     has_address (fold kept_with kept found) address ≡ (has_address kept address || list_any (is_found address) found)
-distinct-has kept [] address = or_no (has_address kept address)
+distinct-has kept [] address = sym (or-false (has_address kept address))
 distinct-has kept (one ∷ found) address =
     distinct-has (kept_with kept one) found address
     ∙ ap (λ b. b || list_any (is_found address) found) (kept_with-has kept one address)

@@ -1,9 +1,10 @@
 -- A service that was read is what its members say.
-use Rattle.std.proofs.Common.{◌≡◌, ℕ, ℤ, pos, negsuc, zero, suc, List, [], ◌∷◌, map, Bool, true, false, ◌||◌, Option, Some, None, option_map, unwrap_or, codes, Ok, refl, sym, ap, subst, ◌∙◌, arith}
+use Rattle.std.proofs.Common.{◌≡◌, ℕ, ℤ, pos, negsuc, zero, suc, List, [], ◌∷◌, map, false, Option, Some, None, option_map, unwrap_or, codes, Ok, refl, sym, ap, subst, ◌∙◌, arith}
 use Rattle.std.specs.List.{list_all}
 use Rattle.std.specs.Option.{option_flatten}
 use Rattle.std.specs.Str.{bytes_eq}
 use Rattle.std.proofs.lemmas.Bool.Decides.{nat_tests}
+use Rattle.std.proofs.Math.Bool.{or-false}
 use Rattle.serde_json.specs.Data.{Data, object, Members, no_members, member}
 use Rattle.serde_json.specs.Find.{as_object, as_str}
 use Rattle.np_conns.specs.declared.proto.Proto.TheVariants.{Tcp}
@@ -16,7 +17,7 @@ use Rattle.np_labels.specs.Selectors.{allows, label_requirement, meets_requireme
 use Rattle.np_labels.specs.declared.op.Op.TheVariants.{OneOf}
 use Rattle.np_labels.specs.declared.pair.Pair.{Pair}
 use Rattle.np_meaning.proofs.MetaMeant.{labels-output, namespaced_name-meant, pairs-member}
-use Rattle.np_meaning.proofs.Outputs.{OutputOf, optional-output, each-output, number_at-required, port_number-output, text_at-optional, IsOptional}
+use Rattle.np_meaning.proofs.Outputs.{OutputOf, optional-output, each-output, number_at-required, text_at-optional, IsOptional}
 use Rattle.np_policies.proofs.ReadLemmas.{bind-output, then-output}
 use Rattle.np_meaning.proofs.PodMeant.{port_name-meant, port_name-output, protocol-meant, IsTextOr}
 use Rattle.np_objects.specs.Controllers.{is_zero}
@@ -30,6 +31,7 @@ use Rattle.np_model.specs.declared.service.ServiceItem.{ServiceItem}
 use Rattle.np_model.specs.declared.service.ServicePort.{ServicePort}
 use Rattle.np_policies.specs.PolicyMeaning.{object_at}
 use Rattle.np_policies.proofs.MemberReads.{object_at-output}
+use Rattle.np_policies.proofs.AdminMeant.{port_number-whole}
 
 -- what the spec of a service is read as
 abbrev ServiceSpec : Type 0
@@ -37,16 +39,12 @@ ServiceSpec = OutputOf service_spec
 
 -- ---- selectors
 
-or_false : (b : Bool) → (b || false) ≡ b
-or_false true = refl
-or_false false = refl
-
 entry-met : (own : List Pair) (name s : List ℕ) (value : Data) → as_str value ≡ Some s → meets_requirement (label_requirement (name, s)) own ≡ is_text_of (value_of own name) value
 entry-met own name s value is = by (value_of own name)
   where
     by : (found : Option (List ℕ)) → allows OneOf (s ∷ []) found ≡ is_text_of found value
     by None = refl
-    by (Some other) = rw is (or_false (bytes_eq s other))
+    by (Some other) = rw is (or-false (bytes_eq s other))
 
 entries-met : (own : List Pair) (members : Members) (pairs : List (List ℕ × List ℕ)) → pairs_of_members members ≡ Some pairs →
     list_all (λ one. meets_requirement one own) (map label_requirement pairs) ≡ have_entries own members
@@ -98,7 +96,7 @@ target-output value target n is = by (as_whole value) is
     numbered : (z : ℤ) → by_number z ≡ Ok target → (m : ℕ) × (z ≡ pos m) × (target ≡ Some (Number m))
     numbered z read =
         let number = bind-output (port_number z) (λ number. Ok (Some (Number number))) target read in
-        (number.first, port_number-output z number.first number.here, let after = number.after in cc)
+        (number.first, port_number-whole z number.first number.here, let after = number.after in cc)
 
     by : (found : Option ℤ) → target_by found value ≡ Ok target → unwrap_or target (Number n) ≡ target_at found (unwrap_or (as_str value) []) n
     by (Some (pos zero)) read = let same : target ≡ None = cc in rw same refl

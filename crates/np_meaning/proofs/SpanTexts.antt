@@ -1,11 +1,10 @@
 -- Ranges of addresses are told apart by their texts.
-use Rattle.std.proofs.Common.{◌≡◌, ℕ, ◌-◌, ◌≤◌, ◌==◌, ◌&&◌, ◌||◌, nat_le, Bool, true, false, cond, List, [], ◌∷◌, ◌++◌, get_or, map, All, codes, refl, sym, ap, subst, ◌∙◌, append-nil}
+use Rattle.std.proofs.Common.{◌≡◌, ℕ, ◌≤◌, ◌==◌, ◌&&◌, ◌||◌, nat_le, Bool, true, false, cond, List, [], ◌∷◌, ◌++◌, get_or, map, All, codes, refl, sym, ap, subst, ◌∙◌, append-nil}
 use Rattle.std.proofs.Common.{append_assoc, arith, lit≤}
 use Rattle.std.specs.List.{join_by}
 use Rattle.std.proofs.lemmas.Bool.{and_from, or_left, eqb-true, false≢true, le-leb, leb-true}
 use Rattle.std.proofs.lemmas.List.Elements.{All-head, All-tail}
 use Rattle.std.proofs.lemmas.List.Folds.{list_any_at}
-use Rattle.std.proofs.lemmas.Nat.{pow_pos}
 use Rattle.std.proofs.lemmas.Option.{same_Some}
 use Rattle.np_addr.specs.declared.address.Address.{Address}
 use Rattle.np_addr.specs.declared.address.Address.TheVariants as address
@@ -23,7 +22,7 @@ use Rattle.np_addr.proofs.CanonicalLemmas.{address_text_injective, cidr_of-cidr_
 use Rattle.np_addr.proofs.PieceLemmas.{IsOther, pieces-first, pieces-one}
 use Rattle.np_addr.proofs.PrefixLemmas.{prefixes_of-one_four, prefixes_of-one_six}
 use Rattle.np_addr.proofs.RightPrefixes.{prefixes_of-right}
-use Rattle.np_addr.proofs.SubsetLemmas.{in_block-from}
+use Rattle.np_addr.proofs.OnePrefixList.{base_is_in}
 use Rattle.np_args.specs.declared.report.Report.{Report}
 use Rattle.np_args.specs.declared.report.Report.TheVariants.{One, Two}
 use Rattle.np_base.specs.declared.range.Range.{Range}
@@ -171,10 +170,6 @@ same-addresses (span.Six r) (span.Four s) is_a is_b same = absurd (false≢true 
 abbrev IsPlain : Cidr → Type 0
 IsPlain block = IsAddress (base_of block) × IsCidr block
 
-has-base : (block : Cidr) → cidr_has block (base_of block) ≡ true
-has-base (cidr.Four base len) = in_block-from base (32 - len) base (omega arith) (omega (arith, pow_pos (32 - len)))
-has-base (cidr.Six base len) = in_block-from base (128 - len) base (omega arith) (omega (arith, pow_pos (128 - len)))
-
 module _ (a : AddressSpan) (is : IsSpan a) where
   right : IsRightPrefixList (set_of a) (blocks_of a)
   right = blocks-right a is
@@ -182,7 +177,7 @@ module _ (a : AddressSpan) (is : IsSpan a) where
   pub blocks-plain : All IsPlain (blocks_of a)
   blocks-plain k d within =
       let block = get_or (blocks_of a) k d in
-      (has-fits a is (base_of block) (sym (right.exact (base_of block)) ∙ list_any_at (λ one. cidr_has one (base_of block)) (blocks_of a) k d within (has-base block)), right.well k d within)
+      (has-fits a is (base_of block) (sym (right.exact (base_of block)) ∙ list_any_at (λ one. cidr_has one (base_of block)) (blocks_of a) k d within (base_is_in block)), right.well k d within)
 
   some-block : blocks_of a ≡ [] → ⊥
   some-block none = false≢true (sym (ap (λ (blocks : List Cidr). some_has blocks (first-of a)) none) ∙ right.exact (first-of a) ∙ has-first a is)

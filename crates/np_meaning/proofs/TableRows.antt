@@ -1,38 +1,29 @@
 -- The rows of the table have ends of the estate, and connections of which no two ranges touch.
-use Rattle.std.proofs.Common.{◌≡◌, ℕ, zero, suc, ◌+◌, ◌-◌, ◌^◌, ◌<◌, ◌≤◌, List, [], ◌∷◌, ◌++◌, map, length, Bool, true, false, cond, All, Option, Some, None, subst, arith}
+use Rattle.std.proofs.Common.{ℕ, ◌+◌, ◌-◌, ◌^◌, ◌≤◌, List, [], ◌∷◌, ◌++◌, map, length, Bool, true, false, cond, All, Option, Some, None, subst, arith}
 use Rattle.std.specs.List.{flat_map, range_with_len}
-use Rattle.std.proofs.lemmas.List.{length-map}
 use Rattle.std.proofs.lemmas.List.Elements.{All-append, All-cons, All-map, All-nil, All-weaker}
+use Rattle.np_base.proofs.Lists.{All-numbers}
 use Rattle.np_addr.specs.declared.address.Family.{Family}
 use Rattle.np_addr.specs.declared.address.Family.TheVariants as family
-use Rattle.np_conns.proofs.RunLemmas.{runs-ascend}
 use Rattle.np_conns.specs.Conns.{Conns, IsConns}
 use Rattle.np_conns.specs.declared.port_spot.PortSpot.{PortSpot}
-use Rattle.np_fold.specs.Workloads.{folding_of}
+use Rattle.np_conns.proofs.ConnLemmas.{conns_of-well}
 use Rattle.np_model.specs.declared.direction.Direction.{Direction}
 use Rattle.np_model.specs.declared.direction.Direction.TheVariants.{Ingress, Egress}
 use Rattle.np_model.specs.declared.lists.EstateLists.{EstateLists}
 use Rattle.np_routes.specs.ClusterTable.{ClusterTable, all_ingress_rows, cluster_rows, cluster_table, ingress_key, ingress_row}
+use Rattle.np_routes.proofs.ClusterLemmas.{estate-names}
+use Rattle.np_routes.proofs.StretchLemmas.{right-within}
 use Rattle.np_table.proofs.RangeWalks.{walk-right}
 use Rattle.np_table.specs.Right.{AreRight, Stretch, are_same_conns, conns_of, walk}
 use Rattle.np_table.specs.Rows.{address_row, address_rows, all_address_rows, all_pair_rows, all_rows, four_of, is_nothing, pair_key, pair_rows, row_if, row_of, rows_in, rows_of_addresses}
 use Rattle.np_table.specs.Rows.{rows_of_both, rows_towards, six_of}
 use Rattle.np_kinds.specs.Between.{IsWorkload, number_of_workloads}
-use Rattle.np_table.specs.Table.{Table, estate_table, table_of}
+use Rattle.np_table.specs.Table.{Table, estate_table}
 use Rattle.np_table.specs.declared.rows.AddressRow.{AddressRow}
 use Rattle.np_table.specs.declared.rows.Row.{Row}
 use Rattle.np_table.specs.declared.rows.RowKey.{RowKey}
 use Rattle.np_meaning.specs.EstateRows.{IsEndOf, IsRowOf, IsSpan}
-
--- what holds of all that each number gives
-All-numbers : {X : Type 0} (P : X → Type 0) (f : ℕ → List X) (from count end : ℕ) → from + count ≤ end → ((k : ℕ) → k < end → All P (f k)) → All P (flat_map f (range_with_len from count))
-All-numbers P f from zero end within each = All-nil P
-All-numbers P f from (suc count) end within each =
-    All-append P (f from) (flat_map f (range_with_len (from + 1) count)) (each from (omega (arith, within)))
-    (All-numbers P f (from + 1) count end (omega (arith, within)) each)
-
-conns_of-well : (passes : PortSpot → Bool) → IsConns (conns_of passes)
-conns_of-well passes = record { tcp = runs-ascend _; udp = runs-ascend _; sctp = runs-ascend _ }
 
 -- ---- stretches
 
@@ -41,14 +32,6 @@ record IsStretchOf (high : ℕ) (stretch : Stretch) : Type 0 where
   pub filled : stretch.lo ≤ stretch.hi
   pub within : stretch.hi ≤ high
   pub conns : IsConns stretch.conns
-
-right-within : (passes : ℕ → PortSpot → Bool) (from to : ℕ) (before : Option Conns) (stretches : List Stretch) → AreRight passes from to before stretches → from ≤ to
-right-within passes from to before [] right = omega (arith, right)
-right-within passes from to before (stretch ∷ stretches) right =
-    let rest = right-within passes (stretch.hi + 1) to (Some stretch.conns) stretches right.1 in
-    let start = right.0.start in
-    let filled = right.0.filled in
-    omega (arith, rest, start, filled)
 
 right-stretches : (passes : ℕ → PortSpot → Bool) (from high : ℕ) (before : Option Conns) (stretches : List Stretch) → AreRight passes from (high + 1) before stretches →
     All (IsStretchOf high) stretches
@@ -120,13 +103,9 @@ module _ (lists : EstateLists) where
 
   -- ---- all of them
 
-  names-count : length (estate_table lists).names ≡ number_of_workloads lists
-  unfolding table_of
-  names-count = length-map (folding_of lists).workloads (λ one. one.name)
-
   -- what holds of what each workload gives
   All-workloads : (f : ℕ → List Row) → ((k : ℕ) → IsWorkload lists k → All (IsRowOf lists) (f k)) → All (IsRowOf lists) (flat_map f (range_with_len 0 (length (estate_table lists).names)))
-  All-workloads f each = All-numbers (IsRowOf lists) f 0 (length (estate_table lists).names) (number_of_workloads lists) (omega (arith, names-count)) each
+  All-workloads f each = All-numbers (IsRowOf lists) f 0 (length (estate_table lists).names) (number_of_workloads lists) (omega (arith, estate-names lists)) each
 
   pub all_rows-well : All (IsRowOf lists) (all_rows (estate_table lists))
   unfolding all_pair_rows all_address_rows

@@ -5,7 +5,7 @@ use Rattle.std.specs.Prelude.{⊤}
 use Rattle.std.specs.List.{Contains, list_any, slice_get}
 use Rattle.std.specs.Option.{option_map, option_map_or}
 use Rattle.std.proofs.Math.Bool.{or-true}
-use Rattle.std.proofs.lemmas.Bool.{and_parts, and_from, eqb-true, leb-true, false≢true}
+use Rattle.std.proofs.lemmas.Bool.{and_parts, and_from, eqb-true, leb-true, false≢true, not-true}
 use Rattle.std.proofs.lemmas.List.{length-map}
 use Rattle.std.proofs.lemmas.List.Folds.{Any-from_list_any, list_any_at}
 use Rattle.std.proofs.lemmas.List.FromFn.{get_or-range_with_len, length-range_with_len}
@@ -88,10 +88,6 @@ module _ (items : List Item) (place : ℕ) (controller : ControllerItem) (at : s
       (rw (get_or-range_with_len 0 (length (ups items)) below.0 0 within, zero-add below.0) passes)
 
 -- ---- who stands for a pod
-
-not-true : (b : Bool) → not b ≡ true → b ≡ false
-not-true true is = absurd (false≢true is)
-not-true false is = refl
 
 makes-by : (items : List Item) (place : ℕ) (one : Item) → slice_get items place ≡ Some one → makes_pod items place ≡ ((wants_pods one && is_none (owner_place items one)) && not (has_pods items place))
 makes-by items place one at = rw at refl

@@ -3,8 +3,9 @@
 use Rattle.std.specs.Prelude.{◌≡◌, ℕ, ℤ, pos, negsuc, zero, suc, List, [], ◌∷◌, ◌++◌, filter, map, option_to_list, Bool, true, false, not, ◌&&◌, ◌||◌, if◌then◌else◌, is_some, Option, Some, None, option_map, unwrap_or, codes}
 use Rattle.std.specs.List.{flat_map, list_any}
 use Rattle.std.specs.Str.{bytes_eq}
-use Rattle.serde_json.specs.Data.{Data, Items, no_items, item, Members, no_members, member}
+use Rattle.serde_json.specs.Data.{Data, no_items, Members, no_members, member}
 use Rattle.serde_json.specs.Find.{as_str, as_bool, as_array, as_object}
+use Rattle.np_items.specs.Inputs.{values}
 use Rattle.np_addr.specs.AddressGrammar.{address_of}
 use Rattle.np_addr.specs.declared.address.Address.{Address}
 use Rattle.np_conns.specs.ConnsText.{proto_named}
@@ -27,7 +28,7 @@ use Rattle.np_model.specs.declared.service.PortName.TheVariants.{Number, Named}
 use Rattle.np_model.specs.declared.service.ServiceItem.{ServiceItem}
 use Rattle.np_model.specs.declared.service.ServicePort.{ServicePort}
 use Rattle.np_meaning.specs.EachPod.{AreEach}
-use Rattle.np_policies.specs.PolicyMeaning.{object_at, spec_of}
+use Rattle.np_policies.specs.PolicyMeaning.{object_at, spec_of, named_or_default}
 
 -- ---- members
 
@@ -43,13 +44,9 @@ is_true_at name value = unwrap_or (as_bool (object_at name value)) false
 abbrev pub number_at : List ℕ → Data → Option ℤ
 number_at name value = as_whole (object_at name value)
 
-abbrev pub each_of : Items → List Data
-each_of no_items = []
-each_of (item value items) = value ∷ each_of items
-
 -- the items of a member, and none where it is missing
 abbrev pub list_at : List ℕ → Data → List Data
-list_at name value = each_of (unwrap_or (as_array (object_at name value)) no_items)
+list_at name value = values (unwrap_or (as_array (object_at name value)) no_items)
 
 -- the entries of a member, and none where it is missing
 abbrev pub entries_at : List ℕ → Data → Members
@@ -57,11 +54,6 @@ entries_at name value = unwrap_or (as_object (object_at name value)) no_members
 
 abbrev pub metadata_of : Data → Data
 metadata_of value = object_at (codes "metadata") value
-
--- the namespace that the metadata names, and `default` where that is missing or empty
-abbrev pub named_or_default : List ℕ → List ℕ
-named_or_default [] = codes "default"
-named_or_default (byte ∷ bytes) = byte ∷ bytes
 
 -- the namespace and the name of an object
 abbrev pub IsNamed : Data → List ℕ → List ℕ → Type 0

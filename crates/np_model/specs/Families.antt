@@ -6,6 +6,8 @@ use Rattle.np_addr.specs.declared.address.Address.{Address}
 use Rattle.np_addr.specs.declared.address.Family.{Family}
 use Rattle.np_addr.specs.declared.address.Family.TheVariants.{Four, Six}
 use Rattle.np_model.specs.declared.pod.Pod.{Pod}
+use Rattle.np_model.specs.declared.admin_policy.AdminPeer.{AdminPeer}
+use Rattle.np_model.specs.declared.admin_policy.AdminPeer.TheVariants.{Pods, Networks}
 
 -- whether two families are one
 abbrev pub same_family : Family → Family → Bool
@@ -29,3 +31,8 @@ or_four (family ∷ families) = family ∷ families
 -- the families of which some pod has an address, IPv4 first, and IPv4 alone where no pod has one
 abbrev pub families_of : List Pod → List Family
 families_of pods = or_four (filter (has_family pods) (Four ∷ Six ∷ []))
+
+-- whether a peer lists networks
+abbrev pub is_networks : AdminPeer → Bool
+is_networks (Pods namespaces pods) = false
+is_networks (Networks cidrs) = true

@@ -1,8 +1,8 @@
 -- Objects that have no names and labels but such as reading lets through: words of letters, digits and the marks `-_./:`; names
 -- are not empty and have no `/`.
-use Rattle.std.specs.Prelude.{ℕ, List, length, Bool, true, not, ◌&&◌, ◌==◌, Option, Some, None}
+use Rattle.std.specs.Prelude.{List, Bool, true, ◌&&◌, Option, Some, None}
 use Rattle.std.specs.List.{list_all}
-use Rattle.np_model.specs.Words.{is_label, is_word, is_name}
+use Rattle.np_model.specs.Words.{is_label, is_word, is_name, is_whole_word}
 use Rattle.np_labels.specs.WellFormed as demand
 use Rattle.np_labels.specs.declared.pair.Pair.{Pair}
 use Rattle.np_labels.specs.declared.requirement.Requirement.{Requirement}
@@ -18,10 +18,6 @@ use Rattle.np_model.specs.declared.service.ServicePort.{ServicePort}
 abbrev pub option_all : {A : Type 0} → (A → Bool) → Option A → Bool
 option_all passes None = true
 option_all passes (Some x) = passes x
-
--- a word that is not empty
-abbrev pub is_whole_word : List ℕ → Bool
-is_whole_word s = not (length s == 0) && is_word s
 
 -- a key that is a word and not empty, and a value that is a word
 abbrev pub is_well_label : Pair → Bool

@@ -1,10 +1,10 @@
 -- Policies whose parts are all well formed.
-use Rattle.std.specs.Prelude.{◌-◌, ◌%◌, ◌^◌, List, length, Bool, true, false, not, ◌&&◌, ◌==◌, nat_le, is_none, Option, Some, None}
+use Rattle.std.specs.Prelude.{◌-◌, ◌%◌, ◌^◌, List, length, Bool, true, false, not, ◌&&◌, ◌==◌, nat_le, is_none}
 use Rattle.std.specs.List.{list_all}
 use Rattle.np_addr.specs.Blocks.{first_bad_except}
 use Rattle.np_addr.specs.declared.cidr.Cidr.{Cidr}
 use Rattle.np_addr.specs.declared.cidr.Cidr.TheVariants.{Four, Six}
-use Rattle.np_model.specs.Words.{is_name, is_word, is_key}
+use Rattle.np_model.specs.Words.{is_name, is_word, is_whole_word}
 use Rattle.np_labels.specs.WellFormed as labels
 use Rattle.np_labels.specs.declared.requirement.Requirement.{Requirement}
 use Rattle.np_labels.specs.declared.selector.Selector.{Selector}
@@ -24,15 +24,11 @@ use Rattle.np_model.specs.declared.network_policy.NetPolicy.{NetPolicy}
 use Rattle.np_model.specs.declared.network_policy.NetPort.{NetPort}
 use Rattle.np_model.specs.declared.network_policy.NetPort.TheVariants as net_port
 use Rattle.np_model.specs.declared.network_policy.NetRule.{NetRule}
-
--- a test of the value, if there is one
-abbrev pub if_there : {A : Type 0} → (A → Bool) → Option A → Bool
-if_there test None = true
-if_there test (Some x) = test x
+use Rattle.np_model.specs.WellObjects.{option_all}
 
 -- a key, and values that are words
 abbrev pub is_worded : Requirement → Bool
-is_worded one = is_key one.key && list_all is_word one.values
+is_worded one = is_whole_word one.key && list_all is_word one.values
 
 -- requirements that are well formed, of words
 abbrev pub is_well_selector : Selector → Bool
@@ -48,12 +44,12 @@ abbrev pub is_well_block : Cidr → List Cidr → Bool
 is_well_block block excepts = is_well_cidr block && list_all is_well_cidr excepts && is_none (first_bad_except block excepts)
 
 abbrev pub is_well_net_peer : NetPeer → Bool
-is_well_net_peer (net_peer.Pods namespaces pods) = if_there is_well_selector namespaces && if_there is_well_selector pods
+is_well_net_peer (net_peer.Pods namespaces pods) = option_all is_well_selector namespaces && option_all is_well_selector pods
 is_well_net_peer (net_peer.Block block excepts) = is_well_block block excepts
 
 abbrev pub is_well_net_port : NetPort → Bool
 is_well_net_port (net_port.Span proto lo hi) = nat_le lo hi
-is_well_net_port (net_port.Named proto name) = is_key name
+is_well_net_port (net_port.Named proto name) = is_whole_word name
 
 abbrev pub is_well_net_rule : NetRule → Bool
 is_well_net_rule rule = list_all is_well_net_peer rule.peers && list_all is_well_net_port rule.ports
@@ -61,8 +57,8 @@ is_well_net_rule rule = list_all is_well_net_peer rule.peers && list_all is_well
 abbrev pub is_well_net_policy : NetPolicy → Bool
 is_well_net_policy policy =
     is_name policy.namespace && is_name policy.name && is_well_selector policy.subject
-    && if_there (λ rules. list_all is_well_net_rule rules) policy.ingress
-    && if_there (λ rules. list_all is_well_net_rule rules) policy.egress
+    && option_all (λ rules. list_all is_well_net_rule rules) policy.ingress
+    && option_all (λ rules. list_all is_well_net_rule rules) policy.egress
 
 abbrev pub is_well_subject : Subject → Bool
 is_well_subject subject = is_well_selector subject.namespaces && is_well_selector subject.pods
@@ -73,7 +69,7 @@ is_well_admin_peer (admin_peer.Networks cidrs) = list_all is_well_cidr cidrs
 
 abbrev pub is_well_admin_port : AdminPort → Bool
 is_well_admin_port (admin_port.Span proto lo hi) = nat_le lo hi
-is_well_admin_port (admin_port.Named name) = is_key name
+is_well_admin_port (admin_port.Named name) = is_whole_word name
 
 -- peers, at least one, and ports
 abbrev pub is_well_admin_rule : AdminRule → Bool

@@ -1,6 +1,8 @@
 -- Words and names.
-use Rattle.std.specs.Prelude.{ℕ, List, Bool, not, ◌&&◌, ◌||◌, ◌==◌, nat_le, length}
+use Rattle.std.specs.Prelude.{ℕ, List, Bool, not, ◌&&◌, ◌||◌, ◌==◌, nat_le, length, codes}
 use Rattle.std.specs.List.{list_all, list_any}
+use Rattle.np_model.specs.declared.direction.Direction.{Direction}
+use Rattle.np_model.specs.declared.direction.Direction.TheVariants.{Ingress, Egress}
 
 -- an ASCII letter or digit
 abbrev pub is_letter_or_digit : ℕ → Bool
@@ -28,6 +30,11 @@ is_name text = not (length text == 0) && is_word text && not (has_slash text)
 abbrev pub is_label : List ℕ × List ℕ → Bool
 is_label pair = not (length pair.0 == 0) && is_word pair.0 && is_word pair.1
 
--- a text that may be the key of a label
-abbrev pub is_key : List ℕ → Bool
-is_key s = not (length s == 0) && is_word s
+-- a word that is not empty: what the key of a label may be, or the name of a policy
+abbrev pub is_whole_word : List ℕ → Bool
+is_whole_word s = not (length s == 0) && is_word s
+
+-- the word for a direction, which names the member of a policy that lists its rules too
+abbrev pub direction_text : Direction → List ℕ
+direction_text Ingress = codes "ingress"
+direction_text Egress = codes "egress"

@@ -6,12 +6,13 @@ use Rattle.std.specs.Cmp.{IsTotalOrder, nat_cmp_total, on_total, ranked, then_to
 use Rattle.std.specs.Cmp.Lexicographic.{slice_cmp, nat_list_cmp_total}
 use Rattle.std.specs.List.{AllByRecursion, range_with_len}
 use Rattle.std.specs.List.Sorted.{IsPermutation, IsStrictlySortedBy}
-use Rattle.std.specs.Ordering.{match_ordering, nat_cmp, ordering_reverse, ordering_then}
+use Rattle.std.specs.Ordering.{match_ordering, nat_cmp, ordering_reverse}
 use Rattle.std.proofs.lemmas.List.Elements.{All-from_recursion}
 use Rattle.std.proofs.lemmas.List.FromFn.{length-map-range_with_len, map-range_with_len_more}
 use Rattle.std.proofs.lemmas.List.Sorted.{All-permutation, IsPermutation-append_left, IsPermutation-cons, IsPermutation-middle, IsPermutation-refl, IsPermutation-sym, IsPermutation-trans}
 use Rattle.std.proofs.lemmas.List.Sorted.{length_permutation}
 use Rattle.std.proofs.lemmas.List.Sums.{fold_push}
+use Rattle.np_base.proofs.Orders.{second_ties}
 use Rattle.np_names.specs.Names.{all_by_name, all_in_turn, compare_named, name_at, named, with_name}
 use Rattle.np_names.specs.declared.named.Named.{Named}
 
@@ -63,11 +64,6 @@ in_order-all_by_name wishes = in_order-fold [] (all_in_turn wishes) tt
 -- things of which none is before the other have one place
 places-apart : (a b : Named) → compare_named a b ≡ Equal → a.place ≡ b.place
 places-apart a b same = ranked a.place b.place Equal (sym (second_ties (slice_cmp nat_cmp a.name b.name) (nat_cmp a.place b.place) same))
-  where
-    second_ties : (first second : Ordering) → ordering_then first second ≡ Equal → second ≡ Equal
-    second_ties Less second ties = cc
-    second_ties Equal second ties = ties
-    second_ties Greater second ties = cc
 
 -- all places are below a count
 abbrev ArePlaces : ℕ → List Named → Type 0

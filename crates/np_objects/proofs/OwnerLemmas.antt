@@ -31,7 +31,7 @@ some_kind kind (which ∷ some) is = by (named_by kind which) refl is (some_kind
     by true same any later = (which, (bytes_eq-Decides kind (kind_name which)).0 same)
     by false same any later = later any
 
-is_controller_kind-name : (which : ControllerKind) → is_controller_kind (kind_name which) ≡ true
+pub is_controller_kind-name : (which : ControllerKind) → is_controller_kind (kind_name which) ≡ true
 is_controller_kind-name Deployment = refl
 is_controller_kind-name ReplicaSet = refl
 is_controller_kind-name StatefulSet = refl

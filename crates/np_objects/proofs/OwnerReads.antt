@@ -8,6 +8,7 @@ use Rattle.np_json.specs.declared.fault.FaultKind.TheVariants.{BadField}
 use Rattle.np_json.specs.declared.meta.NamespacedName.{NamespacedName}
 use Rattle.np_json.specs.declared.path.Step.{Step}
 use Rattle.np_json.specs.declared.path.Step.TheVariants.{Field}
+use Rattle.np_json.proofs.ReadLemmas.{under-output}
 use Rattle.np_labels.specs.declared.pair.Pair.{Pair}
 use Rattle.np_objects.specs.Controllers.{controller, controller_item, controller_metadata, controller_spec, no_spec}
 use Rattle.np_objects.specs.Labels.{label_map}
@@ -31,11 +32,6 @@ use Rattle.np_objects.specs.declared.pod_status.PodStatus.{PodStatus}
 
 -- ---- members
 
-under-Ok : {A : Type 0} (step : Step) (read : Read A) (x : A) → under step read ≡ Ok x → read ≡ Ok x
-unfolding under
-under-Ok step (Ok y) x is = is
-under-Ok step (Err flaw) x is = cc
-
 Ok-under : {A : Type 0} (step : Step) (read : Read A) (x : A) → read ≡ Ok x → under step read ≡ Ok x
 unfolding under
 Ok-under step read x is = ap (under step) is
@@ -44,7 +40,7 @@ Ok-under step read x is = ap (under step) is
 required-other : {A B : Type 0} (name : List ℕ) (shape : Data → Read A) (other : Data → Read B) (P : B → Type 0) (value : Data) (x : A) →
     ((found : Data) → shape found ≡ Ok x → (y : B) × (other found ≡ Ok y) × P y) → required name shape value ≡ Ok x → (y : B) × (required name other value ≡ Ok y) × P y
 unfolding required
-required-other {A} {B} name shape other P value x each is = by (member_of name value) (under-Ok (Field name) (read_member (refuse BadField) shape (member_of name value)) x is)
+required-other {A} {B} name shape other P value x each is = by (member_of name value) (under-output (Field name) (read_member (refuse BadField) shape (member_of name value)) x is)
   where
     by : (found : Option Data) → read_member (refuse BadField) shape found ≡ Ok x → (y : B) × (under (Field name) (read_member (refuse BadField) other found) ≡ Ok y) × P y
     by None read = cc

@@ -1,7 +1,7 @@
 -- What the shapes of members read passes a test, if each member that is read does.
-use Rattle.std.proofs.Common.{◌≡◌, ℕ, ◌+◌, List, [], ◌∷◌, Bool, true, false, not, ◌&&◌, Option, Some, None, Ok, Err, codes, unwrap_or, refl, subst}
+use Rattle.std.proofs.Common.{◌≡◌, ℕ, ◌+◌, List, [], ◌∷◌, Bool, true, false, not, Option, Some, None, Ok, Err, codes, unwrap_or, refl, subst}
 use Rattle.std.specs.List.{list_all}
-use Rattle.std.proofs.lemmas.Bool.{and_from}
+use Rattle.std.proofs.lemmas.Bool.{and_from, not-false}
 use Rattle.serde_json.specs.Data.{Data, Items, no_items, item}
 use Rattle.serde_json.specs.Find.{as_array}
 use Rattle.np_json.specs.Members.{member_of}
@@ -12,9 +12,9 @@ use Rattle.np_json.specs.Shapes.{Read, ◌>>=◌, ◌>>◌, each_item, given, li
 use Rattle.np_json.specs.declared.fault.FaultKind.{FaultKind}
 use Rattle.np_json.specs.declared.fault.FaultKind.TheVariants.{BadField, BadName}
 use Rattle.np_json.specs.declared.flaw.Flaw.{Flaw}
-use Rattle.np_json.specs.declared.meta.NamespacedName.{NamespacedName}
 use Rattle.np_json.specs.declared.path.Step.{Step}
 use Rattle.np_json.specs.declared.path.Step.TheVariants.{Item, Field}
+use Rattle.np_json.proofs.ReadLemmas.{is_well_own}
 use Rattle.np_model.specs.WellObjects.{option_all}
 
 -- what is read, if anything is, passes the test
@@ -100,44 +100,37 @@ pub ReadsOnly-listed : {A : Type 0} (p : A → Bool) (name : List ℕ) (shape : 
 unfolding listed
 ReadsOnly-listed p name shape value is = ReadsOnly-under (list_all p) (Field name) _ (listed_by p shape (member_of name value) is)
 
-pub not-broken : (b : Bool) → not b ≡ false → b ≡ true
-not-broken true is = refl
-not-broken false is = cc
-
 pub ReadsOnly-name : (value : Data) → ReadsOnly is_name (name value)
 unfolding name
 ReadsOnly-name value =
     ReadsOnly-after is_name _ _ (λ s.
     ReadsOnly-unless is_name (not (is_name s)) BadName _ (λ kept.
-    ReadsOnly-Ok is_name s (not-broken (is_name s) kept)))
+    ReadsOnly-Ok is_name s (not-false (is_name s) kept)))
 
 pub ReadsOnly-word : (value : Data) → ReadsOnly is_word (word value)
 unfolding word
 ReadsOnly-word value =
     ReadsOnly-after is_word _ _ (λ s.
     ReadsOnly-unless is_word (not (is_word s)) BadField _ (λ kept.
-    ReadsOnly-Ok is_word s (not-broken (is_word s) kept)))
+    ReadsOnly-Ok is_word s (not-false (is_word s) kept)))
 
 pub ReadsOnly-labels : (value : Data) → ReadsOnly (list_all is_label) (labels value)
 unfolding labels
 ReadsOnly-labels value =
     ReadsOnly-after (list_all is_label) _ _ (λ pairs.
     ReadsOnly-unless (list_all is_label) (not (list_all is_label pairs)) BadField _ (λ kept.
-    ReadsOnly-Ok (list_all is_label) pairs (not-broken (list_all is_label pairs) kept)))
+    ReadsOnly-Ok (list_all is_label) pairs (not-false (list_all is_label pairs) kept)))
 
 ReadsOnly-namespace : (value : Data) → ReadsOnly is_name (meta.namespace value)
 unfolding meta.namespace
 ReadsOnly-namespace value =
     ReadsOnly-after is_name _ _ (λ s.
     ReadsOnly-unless is_name (not (is_name (meta.or_default s))) BadName _ (λ kept.
-    ReadsOnly-Ok is_name (meta.or_default s) (not-broken (is_name (meta.or_default s)) kept)))
+    ReadsOnly-Ok is_name (meta.or_default s) (not-false (is_name (meta.or_default s)) kept)))
 
 pub unwrapped : {A : Type 0} (p : A → Bool) (found : Option A) (missing : A) → option_all p found ≡ true → p missing ≡ true → p (unwrap_or found missing) ≡ true
 unwrapped p None missing all is = is
 unwrapped p (Some x) missing all is = all
-
-abbrev pub is_well_own : NamespacedName → Bool
-is_well_own own = is_name own.namespace && is_name own.name
 
 pub ReadsOnly-namespaced_name : (value : Data) → ReadsOnly is_well_own (meta.namespaced_name value)
 unfolding meta.namespaced_name

@@ -14,16 +14,17 @@ use Rattle.np_conns.specs.declared.proto.Proto.{Proto}
 use Rattle.np_conns.specs.declared.proto.Proto.TheVariants.{Tcp}
 use Rattle.np_json.specs.Meta.{namespaced_name}
 use Rattle.np_json.specs.Members.{as_whole}
-use Rattle.np_model.specs.Words.{is_label, is_word, is_name}
+use Rattle.np_model.specs.Words.{is_label, is_word, is_name, is_whole_word}
 use Rattle.np_json.specs.Scalars.{text, name, whole, port, protocol_name, labels}
 use Rattle.np_json.specs.Shapes.{Read, GivesItem, must_be_object, optional, required}
 use Rattle.np_json.specs.declared.fault.ReadFault.{ReadFault}
+use Rattle.np_json.proofs.ReadLemmas.{is_well_own}
 use Rattle.np_labels.specs.Selectors.{label_requirement}
-use Rattle.np_labels.specs.Labels.{with_pair}
+use Rattle.np_labels.specs.Labels.{with_pair, pair_of}
 use Rattle.np_labels.specs.declared.pair.Pair.{Pair}
 use Rattle.np_objects.specs.Controllers.{controller, controller_spec, controller_metadata, replicated_spec, template_spec, job_template, cron_job_spec, no_spec, is_zero}
 use Rattle.np_objects.specs.Ingresses.{ingress}
-use Rattle.np_objects.specs.Labels.{label_map, pair_of}
+use Rattle.np_objects.specs.Labels.{label_map}
 use Rattle.np_objects.specs.Lists.{unless_empty}
 use Rattle.np_objects.specs.Namespaces.{namespace, namespace_metadata}
 use Rattle.np_objects.specs.Objects.{object_of, object_by, object_kind}
@@ -33,7 +34,7 @@ use Rattle.np_objects.specs.Pods.{pod, pod_metadata}
 use Rattle.np_objects.specs.Ports.{port_name, container_port, if_named}
 use Rattle.np_objects.specs.Services.{service, service_spec, service_port, target_port, target_by, by_number, by_name, selector_of, is_text}
 use Rattle.np_objects.specs.Templates.{template, template_metadata}
-use Rattle.np_model.specs.WellObjects.{option_all, is_whole_word, is_well_label, is_well_labels, is_well_requirement, is_well_selector, is_well_port, is_well_ports, is_well_target}
+use Rattle.np_model.specs.WellObjects.{option_all, is_well_label, is_well_labels, is_well_requirement, is_well_selector, is_well_port, is_well_ports, is_well_target}
 use Rattle.np_model.specs.WellObjects.{is_well_service_port, is_well_service, is_well_ingress}
 use Rattle.np_objects.specs.WellFormed.{is_well_owner, is_well_pod, is_well_namespace, is_well_template, is_well_controller, is_well_object, IsWellObject}
 use Rattle.np_objects.specs.declared.controller.ControllerKind.{ControllerKind}
@@ -52,7 +53,7 @@ use Rattle.np_objects.specs.declared.pod_spec.PodSpec.{PodSpec}
 use Rattle.np_model.specs.declared.service.PortName.TheVariants.{Number, Named}
 use Rattle.np_objects.specs.declared.service_spec.ServiceSpec.{ServiceSpec}
 use Rattle.np_objects.proofs.ReadLemmas.{ReadsOnly, ReadsOnly-Ok, ReadsOnly-bind, ReadsOnly-after, ReadsOnly-then, ReadsOnly-required, ReadsOnly-optional, ReadsOnly-listed, ReadsOnly-name}
-use Rattle.np_objects.proofs.ReadLemmas.{ReadsOnly-word, ReadsOnly-labels, ReadsOnly-namespaced_name, is_well_own, unwrapped}
+use Rattle.np_objects.proofs.ReadLemmas.{ReadsOnly-word, ReadsOnly-labels, ReadsOnly-namespaced_name, unwrapped}
 
 -- ---- lists
 

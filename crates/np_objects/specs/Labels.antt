@@ -1,13 +1,10 @@
 -- Maps of labels.
-use Rattle.std.specs.Prelude.{ℕ, List, map, Ok}
+use Rattle.std.specs.Prelude.{List, map, Ok}
 use Rattle.serde_json.specs.Data.{Data}
 use Rattle.np_json.specs.Scalars.{labels}
 use Rattle.np_json.specs.Shapes.{Read, ◌>>=◌}
-use Rattle.np_labels.specs.Labels.{labels_of}
+use Rattle.np_labels.specs.Labels.{labels_of, pair_of}
 use Rattle.np_labels.specs.declared.pair.Pair.{Pair}
-
-abbrev pub pair_of : List ℕ × List ℕ → Pair
-pair_of entry = record { key = entry.0; value = entry.1 }
 
 -- an object from texts to texts, each a label
 unfoldable pub label_map : Data → Read (List Pair)

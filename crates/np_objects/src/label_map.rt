@@ -1,6 +1,6 @@
 //! Maps of labels.
+ghost use Rattle.np_labels.specs.Labels.{pair_of};
 ghost use Rattle.std.specs.Prelude.{◌≡◌, [], IfOk, map};
-ghost use Rattle.np_objects.specs.Labels.{pair_of};
 
 use np_base::{NoMemory, Seq, Text};
 use np_json::{LabelMap, Shape, ShapeFault};

@@ -1,5 +1,5 @@
 -- Where names stand in a list of items.
-use Rattle.std.proofs.Common.{◌≡◌, ℕ, ◌+◌, List, [], ◌∷◌, ◌++◌, length, Bool, true, false, cond, Option, Some, None, refl, sym, ap, subst, ◌∙◌, arith, add-zero, zero-add}
+use Rattle.std.proofs.Common.{◌≡◌, ℕ, List, [], ◌∷◌, ◌++◌, length, Bool, true, false, cond, Some, None, refl, sym, ap, subst, ◌∙◌, zero-add}
 use Rattle.std.specs.Cmp.{first_so, second_so, tied_then}
 use Rattle.std.specs.Cmp.Lexicographic.{slice_cmp, bytes_decides, nat_list_eq_equiv}
 use Rattle.std.specs.List.{position_from}
@@ -7,6 +7,8 @@ use Rattle.std.specs.Option.{option_or}
 use Rattle.std.specs.Ordering.{nat_cmp, is_eq, ordering_then}
 use Rattle.std.proofs.lemmas.Iterator.Adapters.{position_from-zero}
 use Rattle.std.proofs.lemmas.Map.Text.{is_eq-slice_cmp}
+use Rattle.np_base.proofs.Lists.{position_from-push}
+use Rattle.np_base.proofs.Options.{option_or-none}
 use Rattle.np_items.specs.declared.item.Item.{Item}
 use Rattle.np_owners.specs.Names.{name_of, same_name, is_named, place_of, compare_names, noted_place, HoldsPlaces}
 use Rattle.np_owners.specs.declared.object_name.ObjectName.{ObjectName}
@@ -39,19 +41,6 @@ equal_names a b same =
 
 -- ---- places
 
--- a search goes on behind what it has searched
-position_from-push : {X : Type 0} (t : X → Bool) (i : ℕ) (xs : List X) (x : X) → position_from t i (xs ++ x ∷ []) ≡ option_or (position_from t i xs) (cond (t x) (Some (i + length xs)) None)
-position_from-push t i [] x = rw add-zero refl
-position_from-push t i (y ∷ ys) x = by (t y) (position_from-push t (i + 1) ys x)
-  where
-    same : i + 1 + length ys ≡ i + length (y ∷ ys)
-    same = omega arith
-
-    by : (b : Bool) → position_from t (i + 1) (ys ++ x ∷ []) ≡ option_or (position_from t (i + 1) ys) (cond (t x) (Some (i + 1 + length ys)) None) →
-        cond b (Some i) (position_from t (i + 1) (ys ++ x ∷ [])) ≡ option_or (cond b (Some i) (position_from t (i + 1) ys)) (cond (t x) (Some (i + length (y ∷ ys))) None)
-    by true behind = refl
-    by false behind = behind ∙ ap (λ n. option_or (position_from t (i + 1) ys) (cond (t x) (Some n) None)) same
-
 -- one more item
 pub place_of-push : (items : List Item) (one : Item) (name : ObjectName) → place_of (items ++ one ∷ []) name ≡ option_or (place_of items name) (cond (is_named name one) (Some (length items)) None)
 place_of-push items one name =
@@ -60,14 +49,10 @@ place_of-push items one name =
     ∙ ap (λ n. option_or (position_from test 0 items) (cond (test one) (Some n) None)) (zero-add (length items))
     ∙ ap (λ o. option_or o (cond (test one) (Some (length items)) None)) (sym (position_from-zero test items))
 
-or_none : {X : Type 0} (o : Option X) → option_or o None ≡ o
-or_none None = refl
-or_none (Some x) = refl
-
 -- an item without a name leaves the places as they are
 pub HoldsPlaces-unnamed : (earlier : List Item) (one : Item) (entries : List (ObjectName × ℕ)) → name_of one ≡ None → HoldsPlaces earlier entries → HoldsPlaces (earlier ++ one ∷ []) entries
 HoldsPlaces-unnamed earlier one entries unnamed places name =
-    places name ∙ sym (place_of-push earlier one name ∙ rw unnamed (or_none (place_of earlier name)))
+    places name ∙ sym (place_of-push earlier one name ∙ rw unnamed (option_or-none (place_of earlier name)))
 
 -- and one of a new name has its own place
 pub HoldsPlaces-named : (earlier : List Item) (one : Item) (name : ObjectName) (before after : List (ObjectName × ℕ)) (place : ℕ) → length earlier ≡ place → name_of one ≡ Some name →
@@ -85,4 +70,4 @@ HoldsPlaces-named earlier one name before after place at named free noted places
         let absent = sym (places other) ∙ subst (λ (n : ObjectName). noted_place before n ≡ None) (equal_names name other same) free in
         sym (place_of-push earlier one other ∙ rw (absent, is_named-other, same) refl)
     by false apart =
-        places other ∙ sym (place_of-push earlier one other ∙ rw (is_named-other, apart) (or_none (place_of earlier other)))
+        places other ∙ sym (place_of-push earlier one other ∙ rw (is_named-other, apart) (option_or-none (place_of earlier other)))

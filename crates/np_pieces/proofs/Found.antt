@@ -1,7 +1,7 @@
 -- Pieces found in a list.
 use Rattle.std.proofs.Common.{◌≡◌, ℕ, ◌+◌, ◌<◌, ◌≤◌, List, [], ◌∷◌, Option, Some, None, is_some, Bool, true, zero, suc, length, get_or, drop, sym, ◌∙◌, ap, arith}
 use Rattle.std.proofs.lemmas.Bool.{true≢false}
-use Rattle.np_sets.proofs.Gaps.{drop-ended}
+use Rattle.np_base.proofs.Lists.{drop-ended}
 use Rattle.np_pieces.specs.declared.piece.At.{At}
 use Rattle.np_pieces.specs.declared.piece.Piece.{Piece}
 use Rattle.np_pieces.specs.Laws.{value_at-some}

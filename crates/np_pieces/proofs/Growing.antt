@@ -1,6 +1,7 @@
 -- Lists of pieces that grow at the end.
 use Rattle.std.proofs.Common.{◌≡◌, ◌≢◌, ℕ, ◌+◌, ◌<◌, ◌≤◌, List, [], ◌∷◌, ◌++◌, Option, Some, None, Bool, true, false, not, cond, refl, sym, ◌∙◌, ap, arith}
-use Rattle.std.proofs.lemmas.Bool.{le-leb, true≢false, false≢true}
+use Rattle.std.proofs.lemmas.Bool.{le-leb}
+use Rattle.np_base.proofs.Bools.{not_itself}
 use Rattle.np_pieces.specs.declared.piece.Piece.{Piece}
 use Rattle.np_pieces.specs.Pieces.{is_in, value_at, ArePieces}
 use Rattle.np_pieces.specs.Steps.{IsWith}
@@ -100,10 +101,6 @@ IsWith-widened number_of IsWell pieces front last next is same filled well from 
       before = λ n below. rw is (value_at-widened number_of front last next.hi n (omega (arith, ends.1)) (omega arith));
       within = λ n above below. widened_within number_of IsWell from (number_of next.lo) front last next.hi n parts above (omega arith) ∙ ap (λ value. Some value) same;
     }
-
-not_itself : (x : Bool) → x ≡ not x → ⊥
-not_itself true same = true≢false same
-not_itself false same = false≢true same
 
 -- sets that a spot tells apart are not equal
 pub differs_by_spot : {S T : Type 0} (has : S → T → Bool) (a b : S) (spot : T) → has a spot ≡ not (has b spot) → a ≢ b

@@ -1,6 +1,7 @@
 -- Laws of lists of pieces.
 use Rattle.std.proofs.Common.{◌≡◌, ℕ, ◌+◌, ◌<◌, ◌≤◌, List, [], ◌∷◌, Option, Some, None, IsSome, Bool, true, false, ◌&&◌, if◌then◌else◌, refl, sym, subst, ◌∙◌, ap, arith, inl, inr}
 use Rattle.std.proofs.lemmas.Bool.{and_from, cases_order, cases_lt, le-leb, false≢true}
+use Rattle.np_base.proofs.Options.{some_is}
 use Rattle.np_sets.specs.Space.{is_between}
 use Rattle.np_pieces.specs.declared.piece.At.{At}
 use Rattle.np_pieces.specs.declared.piece.Piece.{Piece}
@@ -40,9 +41,6 @@ has_spot-in_space number_of IsWell has in_space low high members pieces place co
     let n = number_of place.point in
     in_space_of IsWell has in_space (is_between low high n) (value_at number_of pieces n) place.spot (λ value is. (IsWell-value_at number_of IsWell low (high + 1) None pieces n value covers is, is_between-value_at number_of IsWell low high pieces n value covers is)) members held
 
-same_value : {S : Type 0} (a b : S) → Some a ≡ Some b → a ≡ b
-same_value a b same = cc
-
 -- of two lists with the same values, the first piece of one does not end before that of the other
 no_earlier_end : {P S : Type 0} (number_of : P → ℕ) (IsWell : S → Type 0) (from to : ℕ) (a : Piece P S) (a_rest : List (Piece P S)) (b : Piece P S) (b_rest : List (Piece P S)) → from ≤ number_of a.hi → number_of b.lo ≡ from → a.value ≡ b.value → ArePieces number_of IsWell (number_of a.hi + 1) to (Some a.value) a_rest → ArePieces number_of IsWell (number_of b.hi + 1) to (Some b.value) b_rest → ((n : ℕ) → from ≤ n → n < to → value_at number_of (a ∷ a_rest) n ≡ value_at number_of (b ∷ b_rest) n) → number_of a.hi < number_of b.hi → ⊥
 no_earlier_end number_of IsWell from to a [] b b_rest filled start same in_a in_b alike earlier =
@@ -73,7 +71,7 @@ same_values_same_pieces {P} {S} number_of IsWell low to one from before before' 
     let b_ends = ArePieces-ordered number_of IsWell (number_of b.hi + 1) to (Some b.value) b_rest in_b.1 in
     let a_first = value_at-first number_of a a_rest from (omega (arith, in_a.0.start)) in_a.0.filled in
     let b_first = value_at-first number_of b b_rest from (omega (arith, in_b.0.start)) in_b.0.filled in
-    let same : a.value ≡ b.value = same_value _ _ (sym a_first ∙ alike from (omega arith) (omega (arith, in_a.0.filled)) ∙ b_first) in
+    let same : a.value ≡ b.value = some_is _ _ (sym a_first ∙ alike from (omega arith) (omega (arith, in_a.0.filled)) ∙ b_first) in
     let flipped : (n : ℕ) → from ≤ n → n < to → value_at number_of (b ∷ b_rest) n ≡ value_at number_of (a ∷ a_rest) n = λ n up down. sym (alike n up down) in
     let end : number_of a.hi ≡ number_of b.hi = elim (cases_order (number_of a.hi) (number_of b.hi)) [
       | inl equal ↦ equal

@@ -3,6 +3,7 @@ use Rattle.std.proofs.Common.{◌≡◌, ℕ, ℤ, pos, negsuc, ◌+◌, List, [
 use Rattle.std.proofs.Common.{ap, subst, ◌∙◌}
 use Rattle.std.specs.Cmp.Lexicographic.{bytes_decides}
 use Rattle.std.specs.Str.{bytes_eq}
+use Rattle.std.proofs.lemmas.Bool.{not-false}
 use Rattle.serde_json.specs.Data.{Data}
 use Rattle.serde_json.specs.Find.{as_str}
 use Rattle.np_json.specs.Members.{as_whole, member_of}
@@ -15,7 +16,7 @@ use Rattle.np_policies.proofs.MemberReads.{object_at-output, found-output, requi
 use Rattle.np_policies.proofs.PeersMeaning.{blocks_of-each_item, not_there}
 use Rattle.np_policies.proofs.PortsMeaning.{protocol-output}
 use Rattle.np_policies.proofs.ReadLemmas.{bind-output, then-output, required-output, listed-output, of_type-output, or_refuse-output, text_at-output}
-use Rattle.np_policies.proofs.WellLemmas.{not_false, unbroken-output, unbroken_member-output}
+use Rattle.np_policies.proofs.WellLemmas.{unbroken-output, unbroken_member-output}
 use Rattle.np_policies.specs.AdminMeaning.{action_text, ArePodsBy, ArePodsOf, IsAdminPolicyOf, IsAdminPort, IsAdminSpec, IsBasePolicyOf, IsEgressPeer, IsEgressRule, IsIngressPeer, IsIngressRule}
 use Rattle.np_policies.specs.AdminMeaning.{IsPortBy, IsSpanOf}
 use Rattle.np_policies.specs.AdminPolicies.{action, action_named, admin_peer, admin_peers, admin_policy, admin_rule, admin_rules, admin_spec, all_pods, base_name, base_policy, base_spec}
@@ -98,7 +99,7 @@ third_alone false true one = cc
 third_alone false false one = (refl, refl)
 
 unbroken_shape : {B : Type 0} (fits : Bool) (rest : Read B) (output : B) → (refuse_if (not fits) PeerShape >> rest) ≡ Ok output → fits ≡ true
-unbroken_shape fits rest output is = not_false fits (unbroken-output (not fits) PeerShape rest output is)
+unbroken_shape fits rest output is = not-false fits (unbroken-output (not fits) PeerShape rest output is)
 
 subject-output : (value : Data) (read : Subject) → subject value ≡ Ok read → ArePodsOf value read.namespaces read.pods
 unfolding subject
@@ -146,7 +147,7 @@ egress_peer-output value read is =
 
 -- ---- ports
 
-port_number-whole : (n : ℤ) (m : ℕ) → port_number n ≡ Ok m → n ≡ pos m
+pub port_number-whole : (n : ℤ) (m : ℕ) → port_number n ≡ Ok m → n ≡ pos m
 port_number-whole (pos n) m is = by (nat_le 1 n && nat_le n 65535) is
   where
     by : (b : Bool) → cond b (Ok n) (refuse BadPort) ≡ Ok m → pos n ≡ pos m
@@ -154,7 +155,7 @@ port_number-whole (pos n) m is = by (nat_le 1 n && nat_le n 65535) is
     by false is = cc
 port_number-whole (negsuc n) m is = cc
 
-port-whole : (value : Data) (n : ℕ) → port value ≡ Ok n → as_whole value ≡ Some (pos n)
+pub port-whole : (value : Data) (n : ℕ) → port value ≡ Ok n → as_whole value ≡ Some (pos n)
 unfolding port
 port-whole value n is =
     let read = bind-output (whole value) port_number n is in
@@ -218,7 +219,7 @@ unfolding admin_port
 admin_port-output value read is =
     let past = then-output (must_be_object value) _ read is in
     let fits = has_one_of (codes "portNumber" ∷ codes "portRange" ∷ codes "namedPort" ∷ []) value in
-    let one = not_false fits (unbroken-output (not fits) BadPort (admin_port_member value) read past) in
+    let one = not-false fits (unbroken-output (not fits) BadPort (admin_port_member value) read past) in
     let shaped = then-output (refuse_if (not fits) BadPort) (admin_port_member value) read past in
     port_by value read (member_of (codes "portNumber") value) (member_of (codes "portRange") value) (member_of (codes "namedPort") value) refl refl refl one shaped
 
@@ -322,7 +323,7 @@ base_name-output : (value : Data) (s : List ℕ) → base_name value ≡ Ok s �
 unfolding base_name
 base_name-output value s is =
     let read = bind-output (object_name value) (λ s. refuse_member_if (codes "name") (not (bytes_eq s (codes "default"))) BaselineName >> Ok s) s is in
-    let is_default = not_false (bytes_eq read.first (codes "default"))
+    let is_default = not-false (bytes_eq read.first (codes "default"))
     (unbroken_member-output (codes "name") (not (bytes_eq read.first (codes "default"))) BaselineName (Ok read.first) s read.after) in
     object_name-output value read.first read.here ∙ (bytes_decides read.first (codes "default")).0 is_default
 

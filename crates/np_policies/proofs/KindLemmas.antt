@@ -1,22 +1,20 @@
 -- Objects that are no policies.
-use Rattle.std.proofs.Common.{◌≡◌, ℕ, List, Bool, true, false, ◌&&◌, cond, None, codes, Ok, refl, ap}
+use Rattle.std.proofs.Common.{◌≡◌, ℕ, List, Bool, true, false, cond, None, codes, Ok, refl, ap}
 use Rattle.std.specs.Cmp.Lexicographic.{bytes_decides}
 use Rattle.std.specs.Str.{bytes_eq}
+use Rattle.std.proofs.Math.Bool.{and-false}
 use Rattle.serde_json.specs.Data.{Data}
 use Rattle.np_json.specs.Meta.{type_meta}
 use Rattle.np_json.specs.Shapes.{refuse}
 use Rattle.np_json.specs.declared.fault.FaultKind.TheVariants.{ForeignPolicy}
 use Rattle.np_json.specs.declared.meta.TypeMeta.{TypeMeta}
 use Rattle.np_json.specs.declared.path.Step.TheVariants.{Field}
-use Rattle.np_policies.proofs.ReadLemmas.{bind-output, under-output}
+use Rattle.np_json.proofs.ReadLemmas.{under-output}
+use Rattle.np_policies.proofs.ReadLemmas.{bind-output}
 use Rattle.np_policies.specs.AdminPolicies.{admin_policy, base_policy}
 use Rattle.np_policies.specs.NetworkPolicies.{net_policy}
 use Rattle.np_policies.specs.Policies.{is_network_policy, is_of, policy_kind, policy_by, policy_of}
 use Rattle.np_policies.specs.declared.policy_shape.PolicyKind.TheVariants.{Net, Admin, Base, Foreign, NoPolicy}
-
-both_false : (b : Bool) → (b && false) ≡ false
-both_false true = refl
-both_false false = refl
 
 -- an object whose kind is no network policy is of no kind that is one
 not_of : (version kind : List ℕ) (meta : TypeMeta) → is_network_policy kind ≡ true → is_network_policy meta.kind ≡ false → is_of version kind meta ≡ false
@@ -27,7 +25,7 @@ not_of version kind meta ends is = by (bytes_eq meta.kind kind) refl
         let kinds : meta.kind ≡ kind = (bytes_decides meta.kind kind).0 same in
         let tests = ap is_network_policy kinds in
         cc
-    by false other = rw other (both_false (bytes_eq meta.api_version version))
+    by false other = rw other (and-false (bytes_eq meta.api_version version))
 
 pub no_policy : (value : Data) (meta : TypeMeta) → type_meta value ≡ Ok meta → is_network_policy meta.kind ≡ false → policy_of value ≡ Ok None
 unfolding policy_of policy_by

@@ -10,7 +10,8 @@ use Rattle.np_json.specs.Shapes.{must_be_object, refuse, required}
 use Rattle.np_json.specs.declared.fault.FaultKind.TheVariants.{ForeignPolicy}
 use Rattle.np_json.specs.declared.meta.TypeMeta.{TypeMeta}
 use Rattle.np_json.specs.declared.path.Step.TheVariants.{Field}
-use Rattle.np_policies.proofs.ReadLemmas.{bind-output, then-output, under-output, of_type-output, text_at-output}
+use Rattle.np_json.proofs.ReadLemmas.{under-output}
+use Rattle.np_policies.proofs.ReadLemmas.{bind-output, then-output, of_type-output, text_at-output}
 use Rattle.np_policies.specs.AdminPolicies.{admin_policy, base_policy}
 use Rattle.np_policies.specs.NetworkPolicies.{net_policy}
 use Rattle.np_policies.specs.Policies.{is_network_policy, is_of, policy_kind, policy_by, policy_of}

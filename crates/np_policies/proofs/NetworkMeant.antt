@@ -8,14 +8,14 @@ use Rattle.np_json.specs.Members.{member_of}
 use Rattle.np_json.specs.Meta.{namespace, namespaced_name, or_default}
 use Rattle.np_json.specs.Scalars.{name, text}
 use Rattle.np_json.specs.Shapes.{◌>>◌, listed, must_be_object, optional, refuse_if, required}
-use Rattle.np_model.specs.Words.{is_name}
+use Rattle.np_model.specs.Words.{is_name, direction_text}
 use Rattle.np_json.specs.declared.fault.FaultKind.TheVariants.{BadName}
 use Rattle.np_json.specs.declared.meta.NamespacedName.{NamespacedName}
 use Rattle.np_policies.proofs.KindReads.{net-read}
 use Rattle.np_policies.proofs.MemberReads.{name-output, object_at-output, AreEach-listed}
 use Rattle.np_policies.proofs.ReadLemmas.{bind-output, then-output, optional-output, of_type-output, text_at-output, IsOptional}
 use Rattle.np_policies.proofs.TypesMeaning.{types-meant}
-use Rattle.np_policies.specs.NetworkPolicies.{empty_spec, net_peer, net_policy, net_policy_by, net_rule, net_rules, net_spec, peers_member, rules_member}
+use Rattle.np_policies.specs.NetworkPolicies.{empty_spec, net_peer, net_policy, net_policy_by, net_rule, net_rules, net_spec, peers_member}
 use Rattle.np_policies.specs.Policies.{policy_of}
 use Rattle.np_policies.specs.PolicyMeaning.{named_or_default, namespace_in, object_at, spec_of, AreEach, IsNetPolicyOf, IsNetRule}
 use Rattle.np_policies.specs.Ports.{net_port}
@@ -79,12 +79,12 @@ net_rule-output direction value read is =
     )
 
 net_rules-output : (direction : Direction) (spec : Data) (rules : List NetRule) → net_rules direction spec ≡ Ok rules →
-    AreEach (IsNetRule (peers_member direction)) (items_at (rules_member direction) spec) rules
+    AreEach (IsNetRule (peers_member direction)) (items_at (direction_text direction) spec) rules
 unfolding net_rules
-net_rules-output direction spec rules is = AreEach-listed (net_rule direction) (IsNetRule (peers_member direction)) (net_rule-output direction) (rules_member direction) spec rules is
+net_rules-output direction spec rules is = AreEach-listed (net_rule direction) (IsNetRule (peers_member direction)) (net_rule-output direction) (direction_text direction) spec rules is
 
 if_there : (direction : Direction) (spec : Data) (rules : Option (List NetRule)) → IfSome rules (λ found. net_rules direction spec ≡ Ok found) →
-    IfSome rules (λ found. AreEach (IsNetRule (peers_member direction)) (items_at (rules_member direction) spec) found)
+    IfSome rules (λ found. AreEach (IsNetRule (peers_member direction)) (items_at (direction_text direction) spec) found)
 if_there direction spec None is = tt
 if_there direction spec (Some rules) is = net_rules-output direction spec rules is
 

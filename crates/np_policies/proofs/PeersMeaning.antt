@@ -1,5 +1,6 @@
 -- A peer that was read is what its members say.
-use Rattle.std.proofs.Common.{◌≡◌, ℕ, ◌+◌, List, [], ◌∷◌, map, Bool, true, false, ◌||◌, is_some, Option, Some, None, option_and_then, unwrap_or, codes, Ok, refl, sym, ap, subst}
+use Rattle.std.proofs.Common.{◌≡◌, ℕ, ◌+◌, List, [], ◌∷◌, map, true, false, ◌||◌, is_some, Option, Some, None, option_and_then, unwrap_or, codes, Ok, refl, sym, ap, subst}
+use Rattle.std.proofs.lemmas.Bool.{not-false, or_parts}
 use Rattle.serde_json.specs.Data.{Data, Items, no_items, item}
 use Rattle.serde_json.specs.Find.{as_str}
 use Rattle.np_addr.specs.AddressGrammar.{cidr_of}
@@ -11,7 +12,7 @@ use Rattle.np_json.specs.Shapes.{Read, ◌>>◌, each_item, has_member, listed, 
 use Rattle.np_json.specs.declared.fault.FaultKind.TheVariants.{BadCidr, PeerShape}
 use Rattle.np_labels.specs.declared.selector.Selector.{Selector}
 use Rattle.np_policies.proofs.ReadLemmas.{bind-output, then-output, optional-output, required-output, listed-output, each_item-output, of_type-output, or_refuse-output, IsOptional}
-use Rattle.np_policies.proofs.WellLemmas.{not_false, unbroken-output}
+use Rattle.np_policies.proofs.WellLemmas.{unbroken-output}
 use Rattle.np_policies.specs.Blocks.{cidr, ip_block, refuse_except}
 use Rattle.np_policies.specs.NetworkPolicies.{is_misshapen, net_peer, net_peer_by}
 use Rattle.np_policies.specs.PolicyMeaning.{blocks_of, IsBlockOf, IsReadOf}
@@ -32,10 +33,6 @@ is_some-optional shape member (Some output) is = ap is_some is.there
 pub not_there : (member : Option Data) → is_some member ≡ false → member ≡ None
 not_there None is = refl
 not_there (Some found) is = cc
-
-neither : (a b : Bool) → (a || b) ≡ false → (a ≡ false) × (b ≡ false)
-neither true b is = cc
-neither false b is = (refl, is)
 
 -- what the members of a peer of pods are
 pub record IsPodsOf (value : Data) (namespaces pods : Option Selector) : Type 0 where
@@ -90,7 +87,7 @@ pods_by value own spaces (Some block) namespaces pods shaped own_is spaces_is th
 pods_by value own spaces None namespaces pods shaped own_is spaces_is none made =
     let first : spaces ≡ namespaces = cc in
     let second : own ≡ pods = cc in
-    let some = not_false (has_member (codes "podSelector") value || has_member (codes "namespaceSelector") value) (rw none at shaped) in
+    let some = not-false (has_member (codes "podSelector") value || has_member (codes "namespaceSelector") value) (rw none at shaped) in
     rw (← first, ← second) (record {
       own = IsReadOf-optional selector (member_of (codes "podSelector") value) own own_is;
       spaces = IsReadOf-optional selector (member_of (codes "namespaceSelector") value) spaces spaces_is;
@@ -104,7 +101,7 @@ addresses_by value own spaces None base excepts shaped there made = cc
 addresses_by value own spaces (Some block) base excepts shaped there made =
     let first : block.cidr ≡ base = cc in
     let second : block.excepts ≡ excepts = cc in
-    let none = neither (has_member (codes "podSelector") value) (has_member (codes "namespaceSelector") value) (rw there.there at shaped) in
+    let none = or_parts (has_member (codes "podSelector") value) (has_member (codes "namespaceSelector") value) (rw there.there at shaped) in
     rw (← first, ← second) (record {
       is = subst (λ (found : Option Data). IsBlockOf found block.cidr block.excepts) (sym there.there) (ip_block-output there.found block there.read);
       no_pods = not_there (member_of (codes "podSelector") value) none.0;

@@ -9,8 +9,8 @@ use Rattle.np_json.specs.Shapes.{Read, ◌>>=◌, ◌>>◌, each_item, given, li
 use Rattle.np_model.specs.Words.{is_word}
 use Rattle.np_json.specs.declared.fault.FaultKind.{FaultKind}
 use Rattle.np_json.specs.declared.fault.FaultKind.TheVariants.{BadField}
-use Rattle.np_json.specs.declared.path.Step.{Step}
 use Rattle.np_json.specs.declared.path.Step.TheVariants.{Field, Item}
+use Rattle.np_json.proofs.ReadLemmas.{under-output}
 use Rattle.np_policies.specs.SelectorMeaning.{all_items, any_item, items_at, text_at}
 
 -- what a line gave, and that the lines after it gave the output
@@ -26,12 +26,6 @@ bind-output (Err flaw) rest output is = cc
 pub then-output : {A B : Type 0} (read : Read A) (rest : Read B) (output : B) → (read >> rest) ≡ Ok output → rest ≡ Ok output
 then-output (Ok first) rest output is = is
 then-output (Err flaw) rest output is = cc
-
--- what is read under a step was read
-pub under-output : {A : Type 0} (step : Step) (read : Read A) (output : A) → under step read ≡ Ok output → read ≡ Ok output
-unfolding under
-under-output step (Ok other) output is = is
-under-output step (Err flaw) output is = cc
 
 -- a member that is there, and that the shape read it as the output
 pub record IsMemberRead {A : Type 0} (shape : Data → Read A) (member : Option Data) (output : A) : Type 0 where

@@ -1,13 +1,14 @@
 -- What a selector that was read asks of labels.
-use Rattle.std.proofs.Common.{◌≡◌, ℕ, List, [], ◌∷◌, ◌++◌, length, map, Bool, true, false, not, cond, ◌||◌, ◌==◌, Option, Some, None, option_and_then, option_map, unwrap_or, is_some, is_none, codes}
+use Rattle.std.proofs.Common.{◌≡◌, ℕ, List, [], ◌∷◌, ◌++◌, length, map, Bool, true, false, not, cond, ◌==◌, Option, Some, None, option_and_then, option_map, unwrap_or, is_some, is_none, codes}
 use Rattle.std.proofs.Common.{Ok, refl, ap, ◌∙◌}
 use Rattle.std.proofs.lemmas.List.Folds.{list_all-append}
 use Rattle.std.specs.List.{list_all}
 use Rattle.std.specs.Str.{bytes_eq}
+use Rattle.std.proofs.Math.Bool.{or-false}
 use Rattle.serde_json.specs.Data.{Data, Members, no_members, member}
 use Rattle.serde_json.specs.Find.{as_str, as_object}
 use Rattle.np_json.specs.Members.{as_pairs, member_of, pairs_of_members}
-use Rattle.np_model.specs.Words.{is_label, is_key}
+use Rattle.np_model.specs.Words.{is_label, is_whole_word}
 use Rattle.np_json.specs.Scalars.{labels, of_type, text, word}
 use Rattle.np_json.specs.Shapes.{◌>>◌, listed, must_be_object, optional, refuse, refuse_if, required}
 use Rattle.np_json.specs.declared.fault.FaultKind.TheVariants.{BadField, BadSelector}
@@ -25,10 +26,6 @@ use Rattle.np_policies.proofs.ReadLemmas.{bind-output, then-output, optional-out
 use Rattle.np_policies.specs.SelectorMeaning.{any_item, has_entries, has_text, is_among, is_text, items_at, meets_expression, meets_members, meets_operator}
 use Rattle.np_policies.specs.Selectors.{expression, fitting, has_other, key, op_named, selector}
 
-or_false : (b : Bool) → (b || false) ≡ b
-or_false true = refl
-or_false false = refl
-
 -- ---- labels
 
 one_label : (own : List Pair) (name s : List ℕ) (value : Data) → as_str value ≡ Some s → meets_requirement (label_requirement (name, s)) own ≡ has_text (value_of own name) value
@@ -36,7 +33,7 @@ one_label own name s value is = by (value_of own name)
   where
     by : (found : Option (List ℕ)) → allows OneOf (s ∷ []) found ≡ has_text found value
     by None = refl
-    by (Some other) = rw is (or_false (bytes_eq s other))
+    by (Some other) = rw is (or-false (bytes_eq s other))
 
 all_labels : (own : List Pair) (members : Members) (pairs : List (List ℕ × List ℕ)) → pairs_of_members members ≡ Some pairs →
     list_all (λ one. meets_requirement one own) (map label_requirement pairs) ≡ has_entries own members
@@ -82,8 +79,8 @@ member_met own there (Some pairs) is = rw is.there (entries_met own is.found pai
 key-output : (value : Data) (s : List ℕ) → key value ≡ Ok s → as_str value ≡ Some s
 unfolding key
 key-output value s is =
-    let read = bind-output (text value) (λ s. refuse_if (not (is_key s)) BadField >> Ok s) s is in
-    let same : Ok read.first ≡ Ok s = then-output (refuse_if (not (is_key read.first)) BadField) (Ok read.first) s read.after in
+    let read = bind-output (text value) (λ s. refuse_if (not (is_whole_word s)) BadField >> Ok s) s is in
+    let same : Ok read.first ≡ Ok s = then-output (refuse_if (not (is_whole_word read.first)) BadField) (Ok read.first) s read.after in
     let first : read.first ≡ s = cc in
     of_type-output (as_str value) read.first read.here ∙ ap Some first
 

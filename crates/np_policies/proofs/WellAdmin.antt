@@ -2,17 +2,18 @@
 use Rattle.std.proofs.Common.{◌≡◌, ℕ, ℤ, pos, negsuc, List, [], ◌∷◌, length, Bool, true, false, not, cond, ◌&&◌, ◌==◌, nat_le, Some, None, codes, Ok, refl}
 use Rattle.std.specs.List.{list_all}
 use Rattle.std.specs.Str.{bytes_eq}
+use Rattle.std.proofs.lemmas.Bool.{and_from}
 use Rattle.serde_json.specs.Data.{Data}
 use Rattle.np_json.specs.Scalars as scalars
 use Rattle.np_json.specs.Shapes.{◌>>=◌, ◌>>◌, has_member, has_one_of, listed, must_be_object, or_refuse, refuse, refuse_if, refuse_member_if, required}
-use Rattle.np_model.specs.Words.{is_name}
+use Rattle.np_model.specs.Words.{is_name, direction_text}
 use Rattle.np_json.specs.declared.fault.FaultKind.TheVariants.{BadAction, BadPriority, DomainPeer, EmptyPeers, NodePeer, PeerShape}
 use Rattle.np_policies.proofs.ReadLemmas.{bind-output, then-output, or_refuse-output}
-use Rattle.np_policies.proofs.WellLemmas.{both, unbroken_member-output, listed-well, required-well, selector-well, cidr_text-well, admin_port-well}
+use Rattle.np_policies.proofs.WellLemmas.{unbroken_member-output, listed-well, required-well, selector-well, cidr_text-well, admin_port-well}
 use Rattle.np_policies.specs.AdminPolicies.{action, action_named, admin_peer, admin_peers, admin_policy, admin_rule, admin_rules, admin_spec, all_pods, base_name, base_policy, base_spec}
 use Rattle.np_policies.specs.AdminPolicies.{egress_member, egress_peer, ingress_peer, namespace_selector, networks, object_name, pods_member, priority, priority_number, some_pods, subject}
 use Rattle.np_policies.specs.Blocks.{cidr}
-use Rattle.np_policies.specs.NetworkPolicies.{peers_member, rules_member}
+use Rattle.np_policies.specs.NetworkPolicies.{peers_member}
 use Rattle.np_policies.specs.Ports.{admin_port}
 use Rattle.np_policies.specs.Selectors.{everything, selector}
 use Rattle.np_model.specs.WellPolicies.{is_decision, is_well_admin_peer, is_well_admin_policy, is_well_admin_port, is_well_admin_rule, is_well_base_policy, is_well_cidr, is_well_selector}
@@ -39,7 +40,7 @@ unfolding all_pods
 all_pods-well value read is =
     let spaces = bind-output (selector value) (λ spaces. Ok (record { namespaces = spaces; pods = everything })) read is in
     let made : record { namespaces = spaces.first; pods = everything } ≡ read = let after = spaces.after in cc in
-    rw (← made) (both (is_well_selector spaces.first) true (selector-well value spaces.first spaces.here) refl)
+    rw (← made) (and_from (is_well_selector spaces.first) true (selector-well value spaces.first spaces.here) refl)
 
 some_pods-well : (value : Data) (read : Subject) → some_pods value ≡ Ok read → is_well_subject read ≡ true
 unfolding some_pods namespace_selector
@@ -50,7 +51,7 @@ some_pods-well value read is =
     let made : record { namespaces = spaces.first; pods = pods.first } ≡ read = let after = pods.after in cc in
     let first = required-well selector is_well_selector selector-well (codes "namespaceSelector") value spaces.first spaces.here in
     let second = required-well selector is_well_selector selector-well (codes "podSelector") value pods.first pods.here in
-    rw (← made) (both (is_well_selector spaces.first) (is_well_selector pods.first) first second)
+    rw (← made) (and_from (is_well_selector spaces.first) (is_well_selector pods.first) first second)
 
 pods_member-well : (value : Data) (read : Subject) → pods_member value ≡ Ok read → is_well_subject read ≡ true
 pods_member-well value read is = by (has_member (codes "namespaces") value) is
@@ -159,7 +160,7 @@ admin_rule-well which direction value read is =
 
 admin_rules-well : (which : Tier) (direction : Direction) (value : Data) (read : List AdminRule) → admin_rules which direction value ≡ Ok read → list_all (is_well_rule which) read ≡ true
 unfolding admin_rules
-admin_rules-well which direction value read is = listed-well (admin_rule which direction) (is_well_rule which) (admin_rule-well which direction) (rules_member direction) value read is
+admin_rules-well which direction value read is = listed-well (admin_rule which direction) (is_well_rule which) (admin_rule-well which direction) (direction_text direction) value read is
 
 -- ---- admin policies
 

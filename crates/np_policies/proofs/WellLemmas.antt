@@ -4,6 +4,7 @@ use Rattle.std.proofs.Common.{Ok, refl, ◌∙◌, arith}
 use Rattle.std.proofs.lemmas.Bool.Decides.{nat_tests}
 use Rattle.std.proofs.lemmas.List.Folds.{list_all-append}
 use Rattle.std.specs.List.{list_all}
+use Rattle.std.proofs.lemmas.Bool.{not-false, and_from}
 use Rattle.serde_json.specs.Data.{Data, Items, no_items, item}
 use Rattle.serde_json.specs.Find.{as_object}
 use Rattle.np_addr.specs.Addresses.{IsCidr}
@@ -12,7 +13,7 @@ use Rattle.np_addr.specs.declared.cidr.Cidr.{Cidr}
 use Rattle.np_addr.specs.declared.cidr.Cidr.TheVariants.{Four, Six}
 use Rattle.np_conns.specs.declared.proto.Proto.{Proto}
 use Rattle.np_json.specs.Members.{as_pairs, as_whole}
-use Rattle.np_model.specs.Words.{is_label, is_word, is_key}
+use Rattle.np_model.specs.Words.{is_label, is_word, is_whole_word}
 use Rattle.np_json.specs.Scalars.{labels, of_type, port, port_number, text, word}
 use Rattle.np_json.specs.Shapes.{Read, ◌>>◌, has_member, has_one_of, listed, must_be_object, optional, refuse, refuse_if, refuse_member_if, required, under}
 use Rattle.np_json.specs.declared.fault.FaultKind.{FaultKind}
@@ -31,18 +32,16 @@ use Rattle.np_policies.specs.Ports.{admin_port, admin_port_member, end_port, may
 use Rattle.np_policies.specs.Ports.{protocol}
 use Rattle.np_policies.specs.SelectorMeaning.{all_items, items_at}
 use Rattle.np_policies.specs.Selectors.{expression, fitting, has_other, key, op_named, selector}
-use Rattle.np_model.specs.WellPolicies.{if_there, is_well_admin_port, is_well_block, is_well_cidr, is_well_net_port, is_well_selector, is_worded}
+use Rattle.np_model.specs.WellPolicies.{is_well_admin_port, is_well_block, is_well_cidr, is_well_net_port, is_well_selector, is_worded}
 use Rattle.np_model.specs.declared.admin_policy.AdminPort.{AdminPort}
 use Rattle.np_model.specs.declared.admin_policy.AdminPort.TheVariants as admin
 use Rattle.np_policies.specs.declared.ip_block_shape.IpBlock.{IpBlock}
 use Rattle.np_policies.specs.declared.net_port_shape.PortValue.{PortValue}
 use Rattle.np_policies.specs.declared.net_port_shape.PortValue.TheVariants.{Number, Name}
 use Rattle.np_model.specs.declared.network_policy.NetPort.{NetPort}
+use Rattle.np_model.specs.WellObjects.{option_all}
 
 -- ---- tests
-
-pub both : (a b : Bool) → a ≡ true → b ≡ true → (a && b) ≡ true
-both a b left right = rw (left, right) refl
 
 left_of : (a b : Bool) → (a && b) ≡ true → a ≡ true
 left_of true b is = refl
@@ -51,10 +50,6 @@ left_of false b is = cc
 right_of : (a b : Bool) → (a && b) ≡ true → b ≡ true
 right_of true b is = is
 right_of false b is = cc
-
-pub not_false : (b : Bool) → not b ≡ false → b ≡ true
-not_false true is = refl
-not_false false is = cc
 
 -- a rule before what was read is not broken
 pub unbroken-output : {B : Type 0} (broken : Bool) (kind : FaultKind) (rest : Read B) (output : B) → (refuse_if broken kind >> rest) ≡ Ok output → broken ≡ false
@@ -81,7 +76,7 @@ module _ {A : Type 0} (shape : Data → Read A) (test : A → Bool) (well : (val
       let read = required-output shape name value output is in
       well read.found output read.read
 
-  pub optional-well : (name : List ℕ) (value : Data) (output : Option A) → optional name shape value ≡ Ok output → if_there test output ≡ true
+  pub optional-well : (name : List ℕ) (value : Data) (output : Option A) → optional name shape value ≡ Ok output → option_all test output ≡ true
   optional-well name value None is = refl
   optional-well name value (Some output) is =
       let read = optional-output shape name value (Some output) is in
@@ -89,12 +84,12 @@ module _ {A : Type 0} (shape : Data → Read A) (test : A → Bool) (well : (val
 
 -- ---- selectors
 
-key-well : (value : Data) (s : List ℕ) → key value ≡ Ok s → is_key s ≡ true
+key-well : (value : Data) (s : List ℕ) → key value ≡ Ok s → is_whole_word s ≡ true
 unfolding key
 key-well value s is =
-    let read = bind-output (text value) (λ s. refuse_if (not (is_key s)) BadField >> Ok s) s is in
-    let test = not_false (is_key read.first) (unbroken-output (not (is_key read.first)) BadField (Ok read.first) s read.after) in
-    let end : Ok read.first ≡ Ok s = then-output (refuse_if (not (is_key read.first)) BadField) (Ok read.first) s read.after in
+    let read = bind-output (text value) (λ s. refuse_if (not (is_whole_word s)) BadField >> Ok s) s is in
+    let test = not-false (is_whole_word read.first) (unbroken-output (not (is_whole_word read.first)) BadField (Ok read.first) s read.after) in
+    let end : Ok read.first ≡ Ok s = then-output (refuse_if (not (is_whole_word read.first)) BadField) (Ok read.first) s read.after in
     let same : read.first ≡ s = cc in
     rw (← same) test
 
@@ -102,7 +97,7 @@ word-well : (value : Data) (s : List ℕ) → word value ≡ Ok s → is_word s 
 unfolding word
 word-well value s is =
     let read = bind-output (text value) (λ s. refuse_if (not (is_word s)) BadField >> Ok s) s is in
-    let test = not_false (is_word read.first) (unbroken-output (not (is_word read.first)) BadField (Ok read.first) s read.after) in
+    let test = not-false (is_word read.first) (unbroken-output (not (is_word read.first)) BadField (Ok read.first) s read.after) in
     let end : Ok read.first ≡ Ok s = then-output (refuse_if (not (is_word read.first)) BadField) (Ok read.first) s read.after in
     let same : read.first ≡ s = cc in
     rw (← same) test
@@ -129,29 +124,29 @@ expression-well value read is =
     let op = bind-output (fitting (op_named operator.first) (not (length values.first == 0))) (λ op. Ok (requirement_of name.first op values.first)) read values.after in
     let made : requirement_of name.first op.first values.first ≡ read = cc in
     let some = fits-output (op_named operator.first) (not (length values.first == 0)) op.first op.here in
-    let first = required-well key is_key key-well (codes "key") value name.first name.here in
+    let first = required-well key is_whole_word key-well (codes "key") value name.first name.here in
     let words = list_all-distinct is_word values.first (listed-well word is_word word-well (codes "values") value values.first values.here) in
     rw (← made) (rw (distinct-ascends values.first, is_empty-distinct values.first, some, first, words) refl)
 
 label-well : (pair : List ℕ × List ℕ) → is_label pair ≡ true → is_well_one (label_requirement pair) ≡ true
-label-well pair is = rw (left_of (is_key pair.0) (is_word pair.1) is, right_of (is_key pair.0) (is_word pair.1) is) refl
+label-well pair is = rw (left_of (is_whole_word pair.0) (is_word pair.1) is, right_of (is_whole_word pair.0) (is_word pair.1) is) refl
 
 each_label-well : (pairs : List (List ℕ × List ℕ)) → list_all is_label pairs ≡ true → list_all is_well_one (map label_requirement pairs) ≡ true
 each_label-well [] is = refl
 each_label-well (pair ∷ pairs) is =
-    both (is_well_one (label_requirement pair)) (list_all is_well_one (map label_requirement pairs))
+    and_from (is_well_one (label_requirement pair)) (list_all is_well_one (map label_requirement pairs))
     (label-well pair (left_of (is_label pair) (list_all is_label pairs) is)) (each_label-well pairs (right_of (is_label pair) (list_all is_label pairs) is))
 
 labels-well : (value : Data) (pairs : List (List ℕ × List ℕ)) → labels value ≡ Ok pairs → list_all is_label pairs ≡ true
 unfolding labels
 labels-well value pairs is =
     let read = bind-output (of_type (as_pairs value)) (λ pairs. refuse_if (not (list_all is_label pairs)) BadField >> Ok pairs) pairs is in
-    let test = not_false (list_all is_label read.first) (unbroken-output (not (list_all is_label read.first)) BadField (Ok read.first) pairs read.after) in
+    let test = not-false (list_all is_label read.first) (unbroken-output (not (list_all is_label read.first)) BadField (Ok read.first) pairs read.after) in
     let end : Ok read.first ≡ Ok pairs = then-output (refuse_if (not (list_all is_label read.first)) BadField) (Ok read.first) pairs read.after in
     let same : read.first ≡ pairs = cc in
     rw (← same) test
 
-or_none-well : (pairs : Option (List (List ℕ × List ℕ))) → if_there (λ found. list_all is_label found) pairs ≡ true → list_all is_well_one (map label_requirement (unwrap_or pairs [])) ≡ true
+or_none-well : (pairs : Option (List (List ℕ × List ℕ))) → option_all (λ found. list_all is_label found) pairs ≡ true → list_all is_well_one (map label_requirement (unwrap_or pairs [])) ≡ true
 or_none-well None is = refl
 or_none-well (Some pairs) is = each_label-well pairs is
 
@@ -161,10 +156,10 @@ two_tests [] is = refl
 two_tests (one ∷ ones) is =
     let here = left_of (is_well_one one) (list_all is_well_one ones) is in
     let more = two_tests ones (right_of (is_well_one one) (list_all is_well_one ones) is) in
-    both (is_well_requirement one && list_all is_well_requirement ones) (is_worded one && list_all is_worded ones)
-    (both (is_well_requirement one) (list_all is_well_requirement ones) (left_of (is_well_requirement one) (is_worded one) here)
+    and_from (is_well_requirement one && list_all is_well_requirement ones) (is_worded one && list_all is_worded ones)
+    (and_from (is_well_requirement one) (list_all is_well_requirement ones) (left_of (is_well_requirement one) (is_worded one) here)
     (left_of (list_all is_well_requirement ones) (list_all is_worded ones) more))
-    (both (is_worded one) (list_all is_worded ones) (right_of (is_well_requirement one) (is_worded one) here) (right_of (list_all is_well_requirement ones) (list_all is_worded ones) more))
+    (and_from (is_worded one) (list_all is_worded ones) (right_of (is_well_requirement one) (is_worded one) here) (right_of (list_all is_well_requirement ones) (list_all is_worded ones) more))
 
 -- selectors have well formed requirements, of words
 pub selector-well : (value : Data) (read : Selector) → selector value ≡ Ok read → is_well_selector read ≡ true
@@ -225,13 +220,13 @@ ip_block-well value read is =
 
 -- ---- ports
 
-port_name-well : (value : Data) (s : List ℕ) → port_name value ≡ Ok s → is_key s ≡ true
+port_name-well : (value : Data) (s : List ℕ) → port_name value ≡ Ok s → is_whole_word s ≡ true
 unfolding port_name
 port_name-well value s is =
     let read = bind-output (text value) (λ s. refuse_if (length s == 0) BadPort >> (refuse_if (not (is_word s)) BadField >> Ok s)) s is in
     let filled = unbroken-output (length read.first == 0) BadPort _ s read.after in
     let more = then-output (refuse_if (length read.first == 0) BadPort) (refuse_if (not (is_word read.first)) BadField >> Ok read.first) s read.after in
-    let test = not_false (is_word read.first) (unbroken-output (not (is_word read.first)) BadField (Ok read.first) s more) in
+    let test = not-false (is_word read.first) (unbroken-output (not (is_word read.first)) BadField (Ok read.first) s more) in
     let end : Ok read.first ≡ Ok s = then-output (refuse_if (not (is_word read.first)) BadField) (Ok read.first) s more in
     let same : read.first ≡ s = cc in
     rw (← same) (rw (filled, test) refl)
@@ -239,7 +234,7 @@ port_name-well value s is =
 -- a name is a word that is not empty
 abbrev is_well_value : PortValue → Bool
 is_well_value (Number number) = true
-is_well_value (Name name) = is_key name
+is_well_value (Name name) = is_whole_word name
 
 port_value-well : (value : Data) (read : PortValue) → port_value value ≡ Ok read → is_well_value read ≡ true
 unfolding port_value
@@ -259,7 +254,7 @@ end_port-well : (first : Option ℕ) (value : Data) (last : ℕ) → end_port fi
 unfolding end_port
 end_port-well first value last is =
     let read = bind-output (port value) (λ last. refuse_if (not (may_end first last)) BadPort >> Ok last) last is in
-    let test = not_false (may_end first read.first) (unbroken-output (not (may_end first read.first)) BadPort (Ok read.first) last read.after) in
+    let test = not-false (may_end first read.first) (unbroken-output (not (may_end first read.first)) BadPort (Ok read.first) last read.after) in
     let end : Ok read.first ≡ Ok last = then-output (refuse_if (not (may_end first read.first)) BadPort) (Ok read.first) last read.after in
     let same : read.first ≡ last = cc in
     rw (← same) test
@@ -267,7 +262,7 @@ end_port-well first value last is =
 at_most_itself : (n : ℕ) → nat_le n n ≡ true
 at_most_itself n = grind (arith, nat_tests)
 
-spans-well : (proto : Proto) (value : Option PortValue) (last : Option ℕ) → if_there is_well_value value ≡ true → if_there (may_end (number_of value)) last ≡ true →
+spans-well : (proto : Proto) (value : Option PortValue) (last : Option ℕ) → option_all is_well_value value ≡ true → option_all (may_end (number_of value)) last ≡ true →
     is_well_net_port (net_port_by proto value last) ≡ true
 spans-well proto None last well ends = refl
 spans-well proto (Some (Number first)) None well ends = at_most_itself first

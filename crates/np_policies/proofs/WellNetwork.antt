@@ -1,22 +1,24 @@
 -- What is read by the shapes of NetworkPolicies is well formed.
 use Rattle.std.proofs.Common.{◌≡◌, ℕ, List, Bool, true, false, not, ◌&&◌, Option, Some, None, unwrap_or, codes, Ok, refl}
 use Rattle.std.specs.List.{list_all}
+use Rattle.std.proofs.lemmas.Bool.{not-false, and_from}
 use Rattle.serde_json.specs.Data.{Data}
 use Rattle.np_json.specs.Meta.{namespace, namespaced_name, or_default}
 use Rattle.np_json.specs.Scalars as scalars
 use Rattle.np_json.specs.Shapes.{◌>>◌, listed, must_be_object, optional, refuse_if, required}
-use Rattle.np_model.specs.Words.{is_name}
+use Rattle.np_model.specs.Words.{is_name, direction_text}
 use Rattle.np_json.specs.declared.fault.FaultKind.TheVariants.{BadName, PeerShape}
 use Rattle.np_json.specs.declared.meta.NamespacedName.{NamespacedName}
+use Rattle.np_json.proofs.ReadLemmas.{is_well_own}
 use Rattle.np_labels.specs.declared.selector.Selector.{Selector}
 use Rattle.np_policies.proofs.ReadLemmas.{bind-output, then-output}
-use Rattle.np_policies.proofs.WellLemmas.{both, not_false, unbroken-output, listed-well, required-well, optional-well, selector-well, ip_block-well, net_port-well}
+use Rattle.np_policies.proofs.WellLemmas.{unbroken-output, listed-well, required-well, optional-well, selector-well, ip_block-well, net_port-well}
 use Rattle.np_policies.specs.Blocks.{ip_block}
 use Rattle.np_policies.specs.NetworkPolicies.{empty_spec, has_direction, is_misshapen, net_peer, net_peer_by, net_policy, net_policy_by, net_rule, net_rules, net_spec, peers_member, policy_type}
-use Rattle.np_policies.specs.NetworkPolicies.{rules_if, rules_member}
+use Rattle.np_policies.specs.NetworkPolicies.{rules_if}
 use Rattle.np_policies.specs.Ports.{net_port}
 use Rattle.np_policies.specs.Selectors.{everything, selector}
-use Rattle.np_model.specs.WellPolicies.{if_there, is_well_block, is_well_net_peer, is_well_net_policy, is_well_net_port, is_well_net_rule, is_well_selector}
+use Rattle.np_model.specs.WellPolicies.{is_well_block, is_well_net_peer, is_well_net_policy, is_well_net_port, is_well_net_rule, is_well_selector}
 use Rattle.np_model.specs.declared.direction.Direction.{Direction}
 use Rattle.np_model.specs.declared.direction.Direction.TheVariants.{Ingress, Egress}
 use Rattle.np_policies.specs.declared.ip_block_shape.IpBlock.{IpBlock}
@@ -24,6 +26,7 @@ use Rattle.np_policies.specs.declared.net_policy_shape.NetSpec.{NetSpec}
 use Rattle.np_model.specs.declared.network_policy.NetPeer.{NetPeer}
 use Rattle.np_model.specs.declared.network_policy.NetPolicy.{NetPolicy}
 use Rattle.np_model.specs.declared.network_policy.NetRule.{NetRule}
+use Rattle.np_model.specs.WellObjects.{option_all}
 
 -- ---- names
 
@@ -31,7 +34,7 @@ pub name-well : (value : Data) (s : List ℕ) → scalars.name value ≡ Ok s �
 unfolding scalars.name
 name-well value s is =
     let read = bind-output (scalars.text value) (λ s. refuse_if (not (is_name s)) BadName >> Ok s) s is in
-    let test = not_false (is_name read.first) (unbroken-output (not (is_name read.first)) BadName (Ok read.first) s read.after) in
+    let test = not-false (is_name read.first) (unbroken-output (not (is_name read.first)) BadName (Ok read.first) s read.after) in
     let end : Ok read.first ≡ Ok s = then-output (refuse_if (not (is_name read.first)) BadName) (Ok read.first) s read.after in
     let same : read.first ≡ s = cc in
     rw (← same) test
@@ -41,19 +44,16 @@ unfolding namespace
 namespace-well value s is =
     let read = bind-output (scalars.text value) (λ s. refuse_if (not (is_name (or_default s))) BadName >> Ok (or_default s)) s is in
     let made = or_default read.first in
-    let test = not_false (is_name made) (unbroken-output (not (is_name made)) BadName (Ok made) s read.after) in
+    let test = not-false (is_name made) (unbroken-output (not (is_name made)) BadName (Ok made) s read.after) in
     let end : Ok made ≡ Ok s = then-output (refuse_if (not (is_name made)) BadName) (Ok made) s read.after in
     let same : made ≡ s = cc in
     rw (← same) test
 
-default-well : (found : Option (List ℕ)) → if_there is_name found ≡ true → is_name (unwrap_or found (codes "default")) ≡ true
+default-well : (found : Option (List ℕ)) → option_all is_name found ≡ true → is_name (unwrap_or found (codes "default")) ≡ true
 default-well None is = refl
 default-well (Some s) is = is
 
-abbrev is_well_name : NamespacedName → Bool
-is_well_name meta = is_name meta.namespace && is_name meta.name
-
-namespaced_name-well : (value : Data) (read : NamespacedName) → namespaced_name value ≡ Ok read → is_well_name read ≡ true
+namespaced_name-well : (value : Data) (read : NamespacedName) → namespaced_name value ≡ Ok read → is_well_own read ≡ true
 unfolding namespaced_name
 namespaced_name-well value read is =
     let past = then-output (must_be_object value) _ read is in
@@ -62,13 +62,13 @@ namespaced_name-well value read is =
     let made : record { namespace = unwrap_or space.first (codes "default"); name = name.first } ≡ read = let after = space.after in cc in
     let first = required-well scalars.name is_name name-well (codes "name") value name.first name.here in
     let second = default-well space.first (optional-well namespace is_name namespace-well (codes "namespace") value space.first space.here) in
-    rw (← made) (both (is_name (unwrap_or space.first (codes "default"))) (is_name name.first) second first)
+    rw (← made) (and_from (is_name (unwrap_or space.first (codes "default"))) (is_name name.first) second first)
 
 -- ---- NetworkPolicies
 
-peer_by-well : (pods namespaces : Option Selector) (block : Option IpBlock) → if_there is_well_selector pods ≡ true → if_there is_well_selector namespaces ≡ true →
-    if_there (λ one. is_well_block one.cidr one.excepts) block ≡ true → is_well_net_peer (net_peer_by pods namespaces block) ≡ true
-peer_by-well pods namespaces None own spaces is = both (if_there is_well_selector namespaces) (if_there is_well_selector pods) spaces own
+peer_by-well : (pods namespaces : Option Selector) (block : Option IpBlock) → option_all is_well_selector pods ≡ true → option_all is_well_selector namespaces ≡ true →
+    option_all (λ one. is_well_block one.cidr one.excepts) block ≡ true → is_well_net_peer (net_peer_by pods namespaces block) ≡ true
+peer_by-well pods namespaces None own spaces is = and_from (option_all is_well_selector namespaces) (option_all is_well_selector pods) spaces own
 peer_by-well pods namespaces (Some block) own spaces is = is
 
 net_peer-well : (value : Data) (read : NetPeer) → net_peer value ≡ Ok read → is_well_net_peer read ≡ true
@@ -94,16 +94,16 @@ net_rule-well direction value read is =
     let made : record { peers = peers.first; ports = ports.first } ≡ read = let after = ports.after in cc in
     let first = listed-well net_peer is_well_net_peer net_peer-well (peers_member direction) value peers.first peers.here in
     let second = listed-well net_port is_well_net_port net_port-well (codes "ports") value ports.first ports.here in
-    rw (← made) (both (list_all is_well_net_peer peers.first) (list_all is_well_net_port ports.first) first second)
+    rw (← made) (and_from (list_all is_well_net_peer peers.first) (list_all is_well_net_port ports.first) first second)
 
 net_rules-well : (direction : Direction) (value : Data) (read : List NetRule) → net_rules direction value ≡ Ok read → list_all is_well_net_rule read ≡ true
 unfolding net_rules
-net_rules-well direction value read is = listed-well (net_rule direction) is_well_net_rule (net_rule-well direction) (rules_member direction) value read is
+net_rules-well direction value read is = listed-well (net_rule direction) is_well_net_rule (net_rule-well direction) (direction_text direction) value read is
 
 abbrev is_well_spec : NetSpec → Bool
 is_well_spec spec = is_well_selector spec.subject && list_all is_well_net_rule spec.ingress && list_all is_well_net_rule spec.egress
 
-everything-well : (found : Option Selector) → if_there is_well_selector found ≡ true → is_well_selector (unwrap_or found everything) ≡ true
+everything-well : (found : Option Selector) → option_all is_well_selector found ≡ true → is_well_selector (unwrap_or found everything) ≡ true
 everything-well None is = refl
 everything-well (Some one) is = is
 
@@ -120,15 +120,15 @@ net_spec-well value read is =
     let first = everything-well pods.first (optional-well selector is_well_selector selector-well (codes "podSelector") value pods.first pods.here) in
     rw (← made) (rw (first, net_rules-well Ingress value ingress.first ingress.here, net_rules-well Egress value egress.first egress.here) refl)
 
-spec_or_empty-well : (found : Option NetSpec) → if_there is_well_spec found ≡ true → is_well_spec (unwrap_or found empty_spec) ≡ true
+spec_or_empty-well : (found : Option NetSpec) → option_all is_well_spec found ≡ true → is_well_spec (unwrap_or found empty_spec) ≡ true
 spec_or_empty-well None is = refl
 spec_or_empty-well (Some spec) is = is
 
-rules_if-well : (has : Bool) (rules : List NetRule) → list_all is_well_net_rule rules ≡ true → if_there (λ found. list_all is_well_net_rule found) (rules_if has rules) ≡ true
+rules_if-well : (has : Bool) (rules : List NetRule) → list_all is_well_net_rule rules ≡ true → option_all (λ found. list_all is_well_net_rule found) (rules_if has rules) ≡ true
 rules_if-well true rules is = is
 rules_if-well false rules is = refl
 
-policy_by-well : (meta : NamespacedName) (spec : NetSpec) → is_well_name meta ≡ true → is_well_spec spec ≡ true → is_well_net_policy (net_policy_by meta spec) ≡ true
+policy_by-well : (meta : NamespacedName) (spec : NetSpec) → is_well_own meta ≡ true → is_well_spec spec ≡ true → is_well_net_policy (net_policy_by meta spec) ≡ true
 unfolding net_policy_by
 policy_by-well meta spec named well =
     by (is_well_selector spec.subject) (list_all is_well_net_rule spec.ingress) (list_all is_well_net_rule spec.egress) refl refl refl well
@@ -148,6 +148,6 @@ net_policy-well value read is =
     let meta = bind-output (required (codes "metadata") namespaced_name value) _ read is in
     let spec = bind-output (optional (codes "spec") net_spec value) (λ spec. Ok (net_policy_by meta.first (unwrap_or spec empty_spec))) read meta.after in
     let made : net_policy_by meta.first (unwrap_or spec.first empty_spec) ≡ read = let after = spec.after in cc in
-    let first = required-well namespaced_name is_well_name namespaced_name-well (codes "metadata") value meta.first meta.here in
+    let first = required-well namespaced_name is_well_own namespaced_name-well (codes "metadata") value meta.first meta.here in
     let second = spec_or_empty-well spec.first (optional-well net_spec is_well_spec net_spec-well (codes "spec") value spec.first spec.here) in
     rw (← made) (policy_by-well meta.first (unwrap_or spec.first empty_spec) first second)

@@ -1,16 +1,17 @@
 -- What is read of any policy is well formed.
 use Rattle.std.proofs.Common.{◌≡◌, ℕ, true, Option, Some, None, codes, Result, Ok, Err, IfOk, refl}
 use Rattle.serde_json.specs.Data.{Data}
+use Rattle.np_model.specs.WellObjects.{option_all}
 use Rattle.np_json.specs.Meta.{type_meta}
 use Rattle.np_json.specs.Shapes.{GivesItem, refuse}
 use Rattle.np_json.specs.declared.fault.FaultKind.TheVariants.{ForeignPolicy}
 use Rattle.np_json.specs.declared.fault.ReadFault.{ReadFault}
 use Rattle.np_json.specs.declared.path.Step.TheVariants.{Field}
-use Rattle.np_policies.proofs.ReadLemmas.{bind-output, under-output}
+use Rattle.np_json.proofs.ReadLemmas.{under-output}
+use Rattle.np_policies.proofs.ReadLemmas.{bind-output}
 use Rattle.np_policies.specs.AdminPolicies.{admin_policy, base_policy}
 use Rattle.np_policies.specs.NetworkPolicies.{net_policy}
 use Rattle.np_policies.specs.Policies.{policy_kind, policy_by, policy_of}
-use Rattle.np_model.specs.WellPolicies.{if_there}
 use Rattle.np_policies.specs.WellFormed.{is_well_policy}
 use Rattle.np_policies.specs.declared.policy.Policy.{Policy}
 use Rattle.np_policies.specs.declared.policy.Policy.TheVariants as policy
@@ -46,7 +47,7 @@ policy-well value read is =
     by_kind-well (policy_kind meta.first) value read meta.after
 
 -- what is given of an item, if it is a policy, is well formed
-pub item-well : (number : ℕ) (result : Result (Option Policy) ReadFault) (value : Data) → GivesItem number result (policy_of value) → IfOk result (λ read. if_there is_well_policy read ≡ true)
+pub item-well : (number : ℕ) (result : Result (Option Policy) ReadFault) (value : Data) → GivesItem number result (policy_of value) → IfOk result (λ read. option_all is_well_policy read ≡ true)
 item-well number (Ok None) value gives = refl
 item-well number (Ok (Some read)) value gives = policy-well value read gives
 item-well number (Err fault) value gives = tt

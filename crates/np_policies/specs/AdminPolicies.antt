@@ -9,7 +9,7 @@ use Rattle.np_json.specs.Shapes.{Read, ◌>>=◌, ◌>>◌, has_member, has_one_
 use Rattle.np_json.specs.declared.fault.FaultKind.TheVariants.{BadAction, BadPriority, BaselineName, DomainPeer, EmptyPeers, NodePeer, PeerShape}
 use Rattle.np_labels.specs.declared.selector.Selector.{Selector}
 use Rattle.np_policies.specs.Blocks.{cidr}
-use Rattle.np_policies.specs.NetworkPolicies.{peers_member, rules_member}
+use Rattle.np_policies.specs.NetworkPolicies.{peers_member}
 use Rattle.np_policies.specs.Ports.{admin_port}
 use Rattle.np_policies.specs.Selectors.{selector, everything}
 use Rattle.np_model.specs.declared.admin_policy.Action.{Action}
@@ -25,6 +25,7 @@ use Rattle.np_policies.specs.declared.admin_rule_shape.Tier.{Tier}
 use Rattle.np_policies.specs.declared.admin_rule_shape.Tier.TheVariants.{Admin, Baseline}
 use Rattle.np_model.specs.declared.direction.Direction.{Direction}
 use Rattle.np_model.specs.declared.direction.Direction.TheVariants.{Ingress, Egress}
+use Rattle.np_model.specs.Words.{direction_text}
 
 -- `namespaces` of a subject or peer: all pods of the namespaces that it selects
 unfoldable pub all_pods : Data → Read Subject
@@ -102,7 +103,7 @@ admin_rule tier direction value = must_be_object value >> do
 
 -- the rules of a direction
 unfoldable pub admin_rules : Tier → Direction → Data → Read (List AdminRule)
-admin_rules tier direction value = listed (rules_member direction) (admin_rule tier direction) value
+admin_rules tier direction value = listed (direction_text direction) (admin_rule tier direction) value
 
 -- a priority from 0 to 1000, else BadPriority
 abbrev pub priority_number : ℤ → Read ℕ

@@ -21,16 +21,12 @@ use Rattle.np_model.specs.declared.network_policy.NetPeer.{NetPeer}
 use Rattle.np_model.specs.declared.network_policy.NetPeer.TheVariants.{Pods, Block}
 use Rattle.np_model.specs.declared.network_policy.NetPolicy.{NetPolicy}
 use Rattle.np_model.specs.declared.network_policy.NetRule.{NetRule}
+use Rattle.np_model.specs.Words.{direction_text}
 
 -- the member of a rule that lists the other ends
 abbrev pub peers_member : Direction → List ℕ
 peers_member Ingress = codes "from"
 peers_member Egress = codes "to"
-
--- the member of a spec that lists the rules
-abbrev pub rules_member : Direction → List ℕ
-rules_member Ingress = codes "ingress"
-rules_member Egress = codes "egress"
 
 -- whether the peer has none of its three members, or `ipBlock` with another
 abbrev pub is_misshapen : Data → Bool
@@ -56,7 +52,7 @@ net_rule direction value = must_be_object value >> do
 
 -- the rules of a direction
 unfoldable pub net_rules : Direction → Data → Read (List NetRule)
-net_rules direction value = listed (rules_member direction) (net_rule direction) value
+net_rules direction value = listed (direction_text direction) (net_rule direction) value
 
 abbrev pub direction_named : List ℕ → Option Direction
 direction_named s = lookup (bytes_eq s) ((codes "Ingress", Ingress) ∷ (codes "Egress", Egress) ∷ [])

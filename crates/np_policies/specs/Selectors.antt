@@ -7,7 +7,7 @@ use Rattle.serde_json.specs.Find.{as_object}
 use Rattle.np_json.specs.Members.{unless_null}
 use Rattle.np_json.specs.Scalars.{text, word, labels}
 use Rattle.np_json.specs.Shapes.{Read, ◌>>=◌, ◌>>◌, listed, must_be_object, optional, passing, refuse, refuse_if, required}
-use Rattle.np_model.specs.Words.{is_key}
+use Rattle.np_model.specs.Words.{is_whole_word}
 use Rattle.np_json.specs.declared.fault.FaultKind.TheVariants.{BadField, BadSelector}
 use Rattle.np_labels.specs.Selectors.{label_requirement, requirement_of}
 use Rattle.np_labels.specs.WellFormed.{fits}
@@ -18,7 +18,7 @@ use Rattle.np_labels.specs.declared.selector.Selector.{Selector}
 
 -- the key of an expression: a word that is not empty, else BadField
 unfoldable pub key : Data → Read (List ℕ)
-key value = passing is_key BadField (text value)
+key value = passing is_whole_word BadField (text value)
 
 -- what an operator asks
 abbrev pub op_named : List ℕ → Option Op

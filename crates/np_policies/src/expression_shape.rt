@@ -2,7 +2,7 @@
 ghost use Rattle.std.specs.Prelude.{◌≡◌};
 ghost use Rattle.np_json.specs.Shapes.{Gives};
 ghost use Rattle.np_labels.specs.WellFormed as labels;
-ghost use Rattle.np_model.specs.Words.{is_key};
+ghost use Rattle.np_model.specs.Words.{is_whole_word};
 ghost use Rattle.np_policies.specs.Selectors as shapes;
 
 use np_base::Text;
@@ -57,7 +57,7 @@ impl Shape for Key {
 }
 
 fn is_key(text: &str) -> bool
-    ensures { result ≡ is_key text.now }
+    ensures { result ≡ is_whole_word text.now }
 {
     !text.is_empty() && is_word(text)
 }

@@ -3,6 +3,7 @@ ghost use Rattle.std.specs.Prelude.{◌≡◌};
 ghost use Rattle.serde_json.specs.View.{view};
 ghost use Rattle.np_json.specs.Shapes.{Gives};
 ghost use Rattle.np_policies.specs.NetworkPolicies as shapes;
+ghost use Rattle.np_model.specs.Words.{direction_text};
 
 use crate::net_peer_shape::NetPeerShape;
 use crate::net_port_shape::NetPortShape;
@@ -62,7 +63,7 @@ pub(crate) fn peers_member(direction: Direction) -> &'static str
 
 /// The member of a spec that lists the rules.
 pub(crate) fn rules_member(direction: Direction) -> &'static str
-    ensures { result.now ≡ shapes.rules_member direction }
+    ensures { result.now ≡ direction_text direction }
 {
     match direction {
         Direction::Ingress => "ingress",

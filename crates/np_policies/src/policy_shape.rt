@@ -1,10 +1,10 @@
 //! Which policy an object is, and what it is read as.
+ghost use Rattle.np_model.specs.WellObjects.{option_all};
 ghost use Rattle.std.specs.Prelude.{◌≡◌, true, IfOk};
 ghost use Rattle.serde_json.specs.View.{view};
 ghost use Rattle.np_json.specs.Shapes.{Gives, GivesItem};
 ghost use Rattle.np_policies.specs.Policies as shapes;
 ghost use Rattle.np_policies.specs.Policies.{policy_of};
-ghost use Rattle.np_model.specs.WellPolicies.{if_there};
 ghost use Rattle.np_policies.specs.WellFormed.{is_well_policy};
 
 use crate::admin_policy_shape::{AdminPolicyShape, BasePolicyShape};
@@ -23,7 +23,7 @@ use std::alloc::Global;
 /// [`laws::policies_are_well_formed`](crate::laws::policies_are_well_formed) tells.
 pub fn read_policy(alloc: Global, item: u64, value: &Value) -> Result<Option<Policy>, ReadFault>
     ensures shape { GivesItem item result (policy_of (view value.now)) }
-    ensures well { IfOk result (λ read. if_there is_well_policy read ≡ true) }
+    ensures well { IfOk result (λ read. option_all is_well_policy read ≡ true) }
 {
     read_item(alloc, item, value, &PolicyShape)
 }

@@ -1,7 +1,7 @@
 -- A side allows nothing with a far end that is out of its reach.
-use Rattle.std.proofs.Common.{◌≡◌, ℕ, List, [], ◌∷◌, Bool, true, false, ◌&&◌, ◌||◌, not, filter, unwrap_or, Option, Some, None, refl, sym, ap, ◌∙◌, inl, inr, if◌then◌else◌}
+use Rattle.std.proofs.Common.{◌≡◌, ℕ, List, [], ◌∷◌, Bool, true, false, ◌&&◌, ◌||◌, filter, unwrap_or, Option, Some, None, refl, ap, ◌∙◌, inl, inr, if◌then◌else◌}
 use Rattle.std.specs.List.{list_any}
-use Rattle.std.proofs.lemmas.Bool.{and_left, or_parts, or_from}
+use Rattle.std.proofs.lemmas.Bool.{and_left, or_parts, or_from, not-false}
 use Rattle.std.proofs.lemmas.List.Folds.{list_any-append}
 use Rattle.np_addr.specs.declared.address.Family.{Family}
 use Rattle.np_addr.specs.declared.address.Family.TheVariants.{Four, Six}
@@ -134,15 +134,11 @@ admin_says_quiet (Some found) below silent none = action_quiet found.rule.action
 
 -- ---- all tiers
 
-not_false : (b : Bool) → not b ≡ false → b ≡ true
-not_false true is = refl
-not_false false is = sym is
-
 -- a pod that a far end is out of reach of is isolated
 pub isolated-out_of_reach : (lists : EstateLists) (direction : Direction) (near : PodEnd) (far : End) → may_reach lists direction near far ≡ false →
     is_isolated lists.net_policies direction near ≡ true
 unfolding may_reach
-isolated-out_of_reach lists direction near far none = not_false _ (or_parts _ _ none).0
+isolated-out_of_reach lists direction near far none = not-false _ (or_parts _ _ none).0
 
 -- and no rule of a NetworkPolicy matches
 pub unmatched-out_of_reach : (lists : EstateLists) (direction : Direction) (near : PodEnd) (contact : Contact) → may_reach lists direction near contact.far ≡ false →

@@ -1,14 +1,15 @@
 -- Marks of pods by their places.
-use Rattle.std.proofs.Common.{◌≡◌, ℕ, zero, suc, ◌+◌, ◌-◌, ◌<◌, ◌≤◌, List, [], ◌∷◌, ◌++◌, Bool, true, false, ◌&&◌, ◌||◌, map, length, replicate, take, get_or, slice_get, unwrap_or, Option, Some}
+use Rattle.std.proofs.Common.{◌≡◌, ℕ, zero, suc, ◌+◌, ◌-◌, ◌<◌, ◌≤◌, List, [], ◌∷◌, ◌++◌, Bool, true, false, ◌&&◌, ◌||◌, map, length, replicate, get_or, slice_get, unwrap_or, Option, Some}
 use Rattle.std.proofs.Common.{arith, refl, sym, ap, subst, inl, inr, ◌∙◌, if◌then◌else◌}
 use Rattle.std.specs.Prelude.{All}
 use Rattle.std.specs.List.{list_any, range_with_len}
 use Rattle.std.specs.Option.{option_map}
 use Rattle.std.proofs.lemmas.Bool.{cases_lt, le-ltb, lt-ltb}
-use Rattle.std.proofs.lemmas.List.{get_or-replicate, length-append, length-map, take_more}
+use Rattle.std.proofs.lemmas.List.{get_or-replicate, length-append, length-map}
 use Rattle.std.proofs.lemmas.List.Elements.{All-push}
 use Rattle.std.proofs.lemmas.List.Folds.{list_any-append}
 use Rattle.std.proofs.lemmas.Option.{slice_get-map, slice_get_past, slice_get_within, unwrap_or-slice_get}
+use Rattle.std.proofs.Math.Bool.{or-false, or_assoc}
 use Rattle.np_reach.specs.Marks.{AreWithin, IsSpoken, marks_at, speaks_at}
 use Rattle.np_reach.specs.Reach.{has_place}
 use Rattle.np_reach.specs.declared.spoken.Marks.{Marks}
@@ -61,19 +62,12 @@ within_more [] count more up within k d low = absurd (omega (arith, low))
 within_more (marks ∷ far) count more up within zero d low = omega (arith, up, within zero d low)
 within_more (marks ∷ far) count more up within (suc k) d low = within_more far count more up (λ n e below. within (suc n) e (omega (arith, below))) k d (omega (arith, low))
 
-or_false : (b : Bool) → (b || false) ≡ b
-or_false true = refl
-or_false false = refl
-
 -- ---- one stretch more
 
 pub nothing_spoken : {X : Type 0} (speaks : X → Bool) → IsSpoken speaks [] []
 nothing_spoken speaks = record { within = λ k d low. absurd (omega (arith, low)); say = λ place x at. absurd (omega (arith, slice_get_within [] place x at)) }
 
 module _ {X : Type 0} (speaks : X → Bool) (front pods : List X) (far : List Marks) (is : IsSpoken speaks front far) where
-  whole : length (front ++ pods) ≡ length front + length pods
-  whole = length-append front pods
-
   -- what is said of a pod in front
   say_front : (place : ℕ) (x : X) → slice_get (front ++ pods) place ≡ Some x → place < length front → speaks_at far place ≡ speaks x
   say_front place x at low = is.say place x (sym (in_front front pods place low) ∙ at)
@@ -81,7 +75,7 @@ module _ {X : Type 0} (speaks : X → Bool) (front pods : List X) (far : List Ma
   -- where they are not spoken of
   pub silent_more : ((k : ℕ) (x : X) → slice_get pods k ≡ Some x → speaks x ≡ false) → IsSpoken speaks (front ++ pods) far
   silent_more silent = record {
-    within = within_more far (length front) (length (front ++ pods)) (omega (arith, whole)) is.within;
+    within = within_more far (length front) (length (front ++ pods)) (omega (arith, length-append front pods)) is.within;
     say = λ place x at. elim (cases_lt place (length front)) [
       | inl low ↦ say_front place x at low
       | inr up ↦
@@ -95,8 +89,8 @@ module _ {X : Type 0} (speaks : X → Bool) (front pods : List X) (far : List Ma
   pub marked_more : (from : ℕ) (marks : List Bool) → from ≡ length front → marks ≡ map speaks pods → IsSpoken speaks (front ++ pods) (far ++ from_on from marks ∷ [])
   marked_more from marks from_is made = record {
     within = All-push (λ (m : Marks). m.from + length m.pods ≤ length (front ++ pods)) far (from_on from marks)
-        (within_more far (length front) (length (front ++ pods)) (omega (arith, whole)) is.within)
-        (let last : from + length marks ≤ length (front ++ pods) = omega (arith, whole, from_is, ap length made, length-map pods speaks) in last);
+        (within_more far (length front) (length (front ++ pods)) (omega (arith, length-append front pods)) is.within)
+        (let last : from + length marks ≤ length (front ++ pods) = omega (arith, length-append front pods, from_is, ap length made, length-map pods speaks) in last);
     say = λ place x at.
         list_any-append (λ m. marks_at m place) far (from_on from marks ∷ [])
         ∙ elim (cases_lt place (length front)) [
@@ -112,10 +106,10 @@ module _ {X : Type 0} (speaks : X → Bool) (front pods : List X) (far : List Ma
   }
     where
       or_none : (a b c : Bool) → a ≡ c → b ≡ false → (a || (b || false)) ≡ c
-      or_none a b c is none = rw (is, none) (or_false c)
+      or_none a b c is none = rw (is, none) (or-false c)
 
       none_or : (a b c : Bool) → a ≡ false → b ≡ c → (a || (b || false)) ≡ c
-      none_or a b c none is = rw (none, is) (or_false c)
+      none_or a b c none is = rw (none, is) (or-false c)
 
       mark_at : (xs : List X) (k : ℕ) (x : X) → slice_get xs k ≡ Some x → has_place (map speaks xs) k ≡ speaks x
       mark_at xs k x at = ap (λ (found : Option Bool). unwrap_or found false) (slice_get-map speaks xs k ∙ ap (option_map speaks) at)
@@ -138,28 +132,16 @@ pub twice_marked : (filled first second : List Bool) (start : Bool) (count place
 twice_marked filled first second start count place by_net by_admin is low one other =
     other ∙ ap (λ (b : Bool). b || by_admin) (one ∙ ap (λ (b : Bool). b || by_net)
     (ap (λ (all : List Bool). has_place all place) is ∙ unwrap_or-slice_get (replicate count start) place false ∙ get_or-replicate count place start false low))
-    ∙ assoc start by_net by_admin
-  where
-    assoc : (a b c : Bool) → ((a || b) || c) ≡ (a || (b || c))
-    assoc true b c = refl
-    assoc false b c = refl
-
--- one policy more, which is picked or is not
-pub policy_chosen : {O : Type 0} (test : O → Bool) (policies : List O) (i : ℕ) (one : O) (so_far new : Bool) → i < length policies → one ≡ get_or policies i one →
-    so_far ≡ list_any test (take i policies) → new ≡ (so_far || test one) → new ≡ list_any test (take (i + 1) policies)
-policy_chosen {O} test policies i one so_far new within at before is =
-    is ∙ ap (λ (b : Bool). b || test one) before
-    ∙ ap (λ (b : Bool). list_any test (take i policies) || b) (sym (or_false (test one)))
-    ∙ sym (ap (list_any test) (take_more policies i one within ∙ ap (λ (last : O). take i policies ++ last ∷ []) (sym at)) ∙ list_any-append test (take i policies) (one ∷ []))
+    ∙ or_assoc start by_net by_admin
 
 -- where it is picked, what it speaks of stands last
 pub last_chosen : {C : Type 0} (says : C → Bool) (chosen new : List C) (far : C) (picked : Bool) → new ≡ chosen ++ far ∷ [] → picked ≡ true →
     list_any says new ≡ (list_any says chosen || (picked && says far))
 last_chosen says chosen new far picked pushed is =
-    ap (list_any says) pushed ∙ list_any-append says chosen (far ∷ []) ∙ ap (λ (b : Bool). list_any says chosen || b) (or_false (says far) ∙ ap (λ (b : Bool). b && says far) (sym is))
+    ap (list_any says) pushed ∙ list_any-append says chosen (far ∷ []) ∙ ap (λ (b : Bool). list_any says chosen || b) (or-false (says far) ∙ ap (λ (b : Bool). b && says far) (sym is))
 
 pub none_chosen : (so_far picked speaks : Bool) → picked ≡ false → so_far ≡ (so_far || (picked && speaks))
-none_chosen so_far picked speaks is = rw is (sym (or_false so_far))
+none_chosen so_far picked speaks is = rw is (sym (or-false so_far))
 
 -- what policies speak of is of so many pods
 pub all_within : {X O : Type 0} (far_of : O → List Marks) (speaks : O → X → Bool) (xs ys : List X) (made : List O) → xs ≡ ys → All (λ one. IsSpoken (speaks one) xs (far_of one)) made →

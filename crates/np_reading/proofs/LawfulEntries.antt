@@ -9,7 +9,8 @@ use Rattle.std.specs.Map.{keys_of, values_of}
 use Rattle.std.specs.Ordering.{match_ordering, ordering_reverse}
 use Rattle.std.proofs.lemmas.List.{get_or-map, length-map}
 use Rattle.std.proofs.lemmas.Map.Keys.{Less-from_sorted}
-use Rattle.np_reading.proofs.LawfulLists.{AllLater, all_weaker}
+use Rattle.np_base.proofs.Each.{All-weaker}
+use Rattle.np_reading.proofs.LawfulLists.{AllLater}
 
 -- ---- one entry more
 
@@ -51,7 +52,7 @@ module _ {K X : Type 0} (R : K → K → Ordering) where
 -- what is below a key is below all that the key is below
 pub below-trans : {K : Type 0} {R : K → K → Ordering} → IsTotalOrder R → (low k : K) (ks : List K) → R low k ≡ Less → AllByRecursion (λ other. R k other ≡ Less) ks →
     AllByRecursion (λ other. R low other ≡ Less) ks
-below-trans {K} {R} order low k ks below = all_weaker (λ other. R k other ≡ Less) (λ other. R low other ≡ Less) (λ other above. order.trans low k other below above) ks
+below-trans {K} {R} order low k ks below = All-weaker (λ other. R k other ≡ Less) (λ other. R low other ≡ Less) (λ other above. order.trans low k other below above) ks
 
 module _ {K X : Type 0} {R : K → K → Ordering} (order : IsTotalOrder R) where
   below-insert_entry : (low : K) (entries : List (K × X)) (k : K) (x : X) → AllByRecursion (λ other. R low other ≡ Less) (keys_of entries) → R low k ≡ Less →

@@ -1,5 +1,5 @@
 -- What is so of each element of a list, and of each two of them.
-use Rattle.std.proofs.Common.{◌≡◌, ◌≤◌, List, [], ◌∷◌, ◌++◌, length, filter, map, Bool, true, false, cond, Option, Some, None, refl, arith}
+use Rattle.std.proofs.Common.{◌≡◌, ◌≤◌, List, [], ◌∷◌, length, filter, map, Bool, true, false, cond, Option, Some, None, refl, arith}
 use Rattle.std.specs.Prelude.{AllPairs, ⊤}
 use Rattle.std.specs.List.{AllByRecursion, filter_map, cons_option, list_all}
 use Rattle.std.proofs.lemmas.Bool.{and_from}
@@ -15,16 +15,6 @@ AllLater R (x ∷ xs) = AllByRecursion (R x) xs × AllLater R xs
 pub AllPairs-from_later : {X : Type 0} (R : X → X → Type 0) (xs : List X) → AllLater R xs → AllPairs R xs
 AllPairs-from_later R [] all = λ i j d before below. absurd (omega (arith, below))
 AllPairs-from_later R (x ∷ xs) all = AllPairs-cons R x xs (All-from_recursion (R x) xs all.0) (AllPairs-from_later R xs all.1)
-
--- what is so of each element, and what follows from it
-pub all_weaker : {X : Type 0} (P Q : X → Type 0) → ((x : X) → P x → Q x) → (xs : List X) → AllByRecursion P xs → AllByRecursion Q xs
-all_weaker P Q one [] all = tt
-all_weaker P Q one (x ∷ xs) all = (one x all.0, all_weaker P Q one xs all.1)
-
--- all elements of two lists together are all those of each
-pub all_front : {X : Type 0} (P : X → Type 0) (xs ys : List X) → AllByRecursion P (xs ++ ys) → AllByRecursion P xs × AllByRecursion P ys
-all_front P [] ys all = (tt, all)
-all_front P (x ∷ xs) ys all = let rest = all_front P xs ys all.1 in ((all.0, rest.0), rest.1)
 
 -- all elements pass a test
 pub list_all-from_all : {X : Type 0} (p : X → Bool) (xs : List X) → AllByRecursion (λ x. p x ≡ true) xs → list_all p xs ≡ true

@@ -3,7 +3,8 @@ use Rattle.std.proofs.Common.{◌≡◌, ℕ, ◌+◌, List, [], ◌∷◌, ◌+
 use Rattle.std.specs.List.{AllByRecursion, position_from}
 use Rattle.std.specs.Option.{option_and_then, option_or}
 use Rattle.std.proofs.lemmas.Iterator.Adapters.{position_from-zero}
-use Rattle.np_reading.proofs.LawfulLists.{AllLater, all_weaker, all_front}
+use Rattle.np_base.proofs.Each.{All-weaker, All-parts}
+use Rattle.np_reading.proofs.LawfulLists.{AllLater}
 use Rattle.np_items.specs.declared.item.Item.{Item}
 use Rattle.np_owners.proofs.PlaceLemmas.{same_name-sym}
 use Rattle.np_owners.specs.Names.{name_of, same_name, is_named, place_of, repeated, repeat_after, first_repeat}
@@ -42,7 +43,7 @@ apart_from_earlier earlier one nothing = by (name_of one) refl nothing
 
     by : (o : Option ObjectName) → name_of one ≡ o → option_and_then (λ name. option_and_then numbers (place_of earlier name)) o ≡ None → AllByRecursion (λ before. AreNamedApart before one) earlier
     by None is nothing = unnamed is earlier
-    by (Some name) is nothing = all_weaker (λ before. is_named name before ≡ false) (λ before. AreNamedApart before one)
+    by (Some name) is nothing = All-weaker (λ before. is_named name before ≡ false) (λ before. AreNamedApart before one)
         (λ before other x y x_is y_is. apart before other x y x_is y_is) earlier (none_named earlier name (free (place_of earlier name) nothing))
       where
         apart : (before : Item) → is_named name before ≡ false → AreNamedApart before one
@@ -65,12 +66,12 @@ apart_after earlier [] nothing = (tt, tt)
 apart_after earlier (one ∷ items) nothing =
     let parts = neither (repeated earlier one) (repeat_after (earlier ++ one ∷ []) items) nothing in
     let rest = apart_after (earlier ++ one ∷ []) items parts.1 in (
-      (apart_from_earlier earlier one parts.0, all_weaker (IsApartFrom (earlier ++ one ∷ [])) (IsApartFrom earlier) (λ other all. (split other all).0) items rest.0),
-      (all_weaker (IsApartFrom (earlier ++ one ∷ [])) (AreNamedApart one) (λ other all. (split other all).1.0) items rest.0, rest.1),
+      (apart_from_earlier earlier one parts.0, All-weaker (IsApartFrom (earlier ++ one ∷ [])) (IsApartFrom earlier) (λ other all. (split other all).0) items rest.0),
+      (All-weaker (IsApartFrom (earlier ++ one ∷ [])) (AreNamedApart one) (λ other all. (split other all).1.0) items rest.0, rest.1),
     )
   where
     split : (other : Item) → IsApartFrom (earlier ++ one ∷ []) other → IsApartFrom earlier other × IsApartFrom (one ∷ []) other
-    split other all = all_front (λ before. AreNamedApart before other) earlier (one ∷ []) all
+    split other all = All-parts (λ before. AreNamedApart before other) earlier (one ∷ []) all
 
 -- where no name is repeated, all items are apart
 pub items_apart : (items : List Item) → first_repeat items ≡ None → AllLater AreNamedApart items

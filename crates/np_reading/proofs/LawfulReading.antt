@@ -4,8 +4,9 @@ use Rattle.std.specs.Prelude.{All, ⊤}
 use Rattle.std.specs.List.{AllByRecursion}
 use Rattle.std.proofs.lemmas.Bool.{lt-ltb}
 use Rattle.std.proofs.lemmas.List.Elements.{All-from_recursion}
+use Rattle.np_base.proofs.Each.{All-weaker}
 use Rattle.np_reading.proofs.LawfulApart.{admin_policies-apart, pods-apart, services-apart}
-use Rattle.np_reading.proofs.LawfulLists.{AllLater, AllPairs-from_later, all_weaker, length-filter_map-le}
+use Rattle.np_reading.proofs.LawfulLists.{AllLater, AllPairs-from_later, length-filter_map-le}
 use Rattle.np_reading.proofs.LawfulNamespaces.{AgreeOnNamespace-from_labels, HasNamespaceLabels, SaysItsNamespace-from_labels}
 use Rattle.np_reading.proofs.LawfulPods.{all-pods_from, length-pods_from-le}
 use Rattle.np_reading.proofs.LawfulPolicies.{admin_policies-ascend, length-admin_policies-le, length-net_policies-le, net_policies-ascend}
@@ -33,7 +34,7 @@ length-ingresses_from-le number (one ∷ items) = by (ingress one) (length-ingre
 ingresses_from-above : (number : ℕ) (items : List Item) → AllByRecursion (λ found. number ≤ found.item) (ingresses_from number items)
 ingresses_from-above number [] = tt
 ingresses_from-above number (one ∷ items) =
-    by (ingress one) (all_weaker (λ found. number + 1 ≤ found.item) (λ found. number ≤ found.item) (λ found above. omega (arith, above)) (ingresses_from (number + 1) items)
+    by (ingress one) (All-weaker (λ found. number + 1 ≤ found.item) (λ found. number ≤ found.item) (λ found above. omega (arith, above)) (ingresses_from (number + 1) items)
     (ingresses_from-above (number + 1) items))
   where
     by : (o : Option IngressItem) → AllByRecursion (λ found. number ≤ found.item) (ingresses_from (number + 1) items) →
@@ -48,7 +49,7 @@ ingresses_from-ascend number (one ∷ items) = by (ingress one) (ingresses_from-
     by : (o : Option IngressItem) → AllLater IsEarlierItem (ingresses_from (number + 1) items) → AllLater IsEarlierItem (placed number o ++ ingresses_from (number + 1) items)
     by None rest = rest
     by (Some found) rest = (
-      all_weaker (λ later. number + 1 ≤ later.item) (IsEarlierItem (record { item = number; ingress = found })) (λ later above. lt-ltb number later.item (omega (arith, above)))
+      All-weaker (λ later. number + 1 ≤ later.item) (IsEarlierItem (record { item = number; ingress = found })) (λ later above. lt-ltb number later.item (omega (arith, above)))
           (ingresses_from (number + 1) items) (ingresses_from-above (number + 1) items),
       rest,
     )

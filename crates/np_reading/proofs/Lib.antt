@@ -1,5 +1,6 @@
 pub mod CountLemmas
 pub mod EndLemmas
+pub mod EstateLemmas
 pub mod GatherLemmas
 pub mod KeptEntries
 pub mod KnownLemmas

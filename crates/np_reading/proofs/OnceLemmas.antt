@@ -8,9 +8,10 @@ use Rattle.std.specs.Str.{bytes_eq}
 use Rattle.std.proofs.lemmas.List.{map-id}
 use Rattle.std.proofs.lemmas.List.Elements.{All-from_recursion}
 use Rattle.std.proofs.lemmas.Option.{none-some, same_Some}
+use Rattle.np_base.proofs.Each.{All-weaker}
 use Rattle.np_reading.proofs.KeptEntries.{values-kept}
 use Rattle.np_reading.proofs.LawfulApart.{are_apart-from_items, name_of_admin}
-use Rattle.np_reading.proofs.LawfulLists.{AllLater, AllPairs-from_later, all_weaker, later-filter_map, later-map}
+use Rattle.np_reading.proofs.LawfulLists.{AllLater, AllPairs-from_later, later-filter_map, later-map}
 use Rattle.np_reading.proofs.LawfulNames.{AreNamedApart, items_apart}
 use Rattle.np_reading.proofs.LawfulPolicies.{compare_names-exact, nat_cmp-exact}
 use Rattle.np_reading.proofs.PriorityLemmas.{priorities-apart}
@@ -126,7 +127,7 @@ IsOfItem number items one = (number ≤ one.item) × (option_and_then ingress (s
 ingresses-numbered : (number : ℕ) (items : List Item) → AllByRecursion (IsOfItem number items) (ingresses_from number items)
 ingresses-numbered number [] = tt
 ingresses-numbered number (one ∷ items) =
-    by (ingress one) refl (all_weaker (IsOfItem (number + 1) items) (IsOfItem number (one ∷ items)) further (ingresses_from (number + 1) items) (ingresses-numbered (number + 1) items))
+    by (ingress one) refl (All-weaker (IsOfItem (number + 1) items) (IsOfItem number (one ∷ items)) further (ingresses_from (number + 1) items) (ingresses-numbered (number + 1) items))
   where
     further : (found : PlacedIngress) → IsOfItem (number + 1) items found → IsOfItem number (one ∷ items) found
     further found of =
@@ -152,5 +153,5 @@ each_once texts items lists read is =
       services = refl;
       ingresses = ingresses-once 1 items;
       ingresses_numbered = All-from_recursion (IsOfItsItem items) (ingresses_of items)
-          (all_weaker (IsOfItem 1 items) (IsOfItsItem items) (λ found of. of.1) (ingresses_of items) (ingresses-numbered 1 items));
+          (All-weaker (IsOfItem 1 items) (IsOfItsItem items) (λ found of. of.1) (ingresses_of items) (ingresses-numbered 1 items));
     })

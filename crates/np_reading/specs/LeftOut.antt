@@ -11,11 +11,10 @@ use Rattle.np_items.specs.declared.item.Item.TheVariants as item
 use Rattle.np_objects.specs.declared.object.Object.TheVariants as object
 use Rattle.np_objects.specs.declared.pod_item.PodItem.{PodItem}
 use Rattle.np_owners.specs.MadePods.{makes_pod}
-use Rattle.np_model.specs.declared.admin_policy.AdminPeer.{AdminPeer}
-use Rattle.np_model.specs.declared.admin_policy.AdminPeer.TheVariants.{Pods, Networks}
 use Rattle.np_model.specs.declared.admin_policy.AdminPolicy.{AdminPolicy}
 use Rattle.np_model.specs.declared.admin_policy.AdminRule.{AdminRule}
 use Rattle.np_model.specs.declared.admin_policy.BasePolicy.{BasePolicy}
+use Rattle.np_model.specs.Families.{is_networks}
 
 abbrev pub if_counts : Bool → LeftOut → Option LeftOut
 if_counts counts why = if counts then Some why else None
@@ -46,10 +45,6 @@ abbrev pub count_left_out : List Item → LeftOut → ℕ
 count_left_out items why = count_by (is_left_out items why) (range_with_len 0 (length items))
 
 -- ---- pods that no peer of networks matches
-
-abbrev pub is_networks : AdminPeer → Bool
-is_networks (Pods namespaces pods) = false
-is_networks (Networks cidrs) = true
 
 abbrev pub rule_lists_networks : AdminRule → Bool
 rule_lists_networks rule = list_any is_networks rule.peers

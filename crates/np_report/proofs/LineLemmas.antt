@@ -1,5 +1,6 @@
 -- The bytes of several rows, and what comes behind them.
-use Rattle.std.proofs.Common.{◌≡◌, ℕ, List, [], ◌∷◌, ◌++◌, Bool, true, false, ◌||◌, append_assoc, refl, ap, subst, sym, ◌∙◌}
+use Rattle.std.proofs.Common.{◌≡◌, ℕ, List, [], ◌∷◌, ◌++◌, Bool, true, false, ◌||◌, append_assoc, ap, subst, sym, ◌∙◌}
+use Rattle.std.proofs.Math.Bool.{or-false, or-true}
 use Rattle.np_report.specs.Forms.{Form, lines_of, text_to_come}
 use Rattle.np_report.specs.declared.row.RowText.{RowText}
 
@@ -11,19 +12,11 @@ is_some_row (row ∷ rows) = true
 -- what is to come of some rows and of others is the lines of the ones and what is to come of the others
 pub text_to_come-rows : (form : Form) (came : Bool) (rows more : List RowText)
     → text_to_come form came (rows ++ more) ≡ lines_of form came rows ++ text_to_come form (came || is_some_row rows) more
-text_to_come-rows form came [] more = ap (λ (b : Bool). text_to_come form b more) (sym (or_false came))
-  where
-    or_false : (b : Bool) → (b || false) ≡ b
-    or_false true = refl
-    or_false false = refl
+text_to_come-rows form came [] more = ap (λ (b : Bool). text_to_come form b more) (sym (or-false came))
 text_to_come-rows form came (row ∷ rows) more =
     ap (λ (rest : List ℕ). form.row came row ++ rest) (text_to_come-rows form true rows more)
     ∙ sym (append_assoc (form.row came row) (lines_of form true rows) (text_to_come form true more))
-    ∙ ap (λ (b : Bool). (form.row came row ++ lines_of form true rows) ++ text_to_come form b more) (sym (or_true came))
-  where
-    or_true : (b : Bool) → (b || true) ≡ true
-    or_true true = refl
-    or_true false = refl
+    ∙ ap (λ (b : Bool). (form.row came row ++ lines_of form true rows) ++ text_to_come form b more) (sym (or-true came))
 
 -- the lines so far and those of the others are those of all
 pub lines-next : (form : Form) (came : Bool) (row : RowText) (rows : List RowText) (so_far line whole : List ℕ) → line ≡ form.row came row

@@ -3,8 +3,8 @@ use Rattle.std.proofs.Common.{◌≡◌, ℕ, zero, suc, ◌+◌, ◌-◌, ◌^�
 use Rattle.std.specs.List.{flat_map, range_with_len}
 use Rattle.np_addr.specs.declared.address.Family.{Family}
 use Rattle.np_addr.specs.declared.address.Family.TheVariants.{Four, Six}
+use Rattle.np_model.proofs.FamilyLemmas.{same_family-itself}
 use Rattle.np_conns.specs.Conns.{Conns}
-use Rattle.np_model.specs.Families.{same_family}
 use Rattle.np_model.specs.declared.direction.Direction.{Direction}
 use Rattle.np_model.specs.declared.direction.Direction.TheVariants.{Egress, Ingress}
 use Rattle.np_report.specs.TableText.{AreSameTables, SayTheSame, is_shown, list_text, shown, texts_of}
@@ -31,10 +31,6 @@ flat_map-agrees {Y} f g from (suc count) same =
     ∙ ap (λ (ys : List Y). g from ++ ys) (flat_map-agrees f g (from + 1) count (λ n above below. same n (omega arith) (omega arith)))
 
 -- ---- pairs
-
-same_family-itself : (family : Family) → same_family family family ≡ true
-same_family-itself Four = refl
-same_family-itself Six = refl
 
 rows_of_both-agrees : (key : RowKey) (four four' six six' : Conns) → four ≡ four' → six ≡ six' → rows_of_both key four six ≡ rows_of_both key four' six'
 rows_of_both-agrees key four four' six six' fours sixes = ap (λ (conns : Conns). rows_of_both key conns six) fours ∙ ap (λ (conns : Conns). rows_of_both key four' conns) sixes

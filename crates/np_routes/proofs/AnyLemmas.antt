@@ -1,34 +1,15 @@
 -- Lists of which some item passes, and tests.
 use Prim.Native.Nat.{zero}
-use Rattle.std.proofs.Common.{◌≡◌, ◌<◌, ℕ, List, [], ◌∷◌, Bool, true, false, ◌&&◌, ◌||◌, ◌==◌, ◌+◌, length, get_or, suc, take, arith, refl, sym, ap, ◌∙◌}
+use Rattle.std.proofs.Common.{◌≡◌, ◌<◌, ℕ, List, [], ◌∷◌, Bool, true, false, ◌&&◌, ◌||◌, length, get_or, suc, arith, refl, sym, ap, ◌∙◌}
 use Rattle.std.proofs.Math.ListN.{set}
-use Rattle.std.proofs.lemmas.Bool.{eq-eqb, eqb-true}
-use Rattle.std.proofs.lemmas.List.Folds.{list_any_more}
 use Rattle.std.specs.Cmp.Lexicographic.{bytes_decides}
 use Rattle.std.specs.List.{list_any}
 use Rattle.std.specs.Str.{bytes_eq}
+use Rattle.std.proofs.Math.Bool.{or_assoc}
+use Rattle.std.specs.Cmp.{both_ways}
+use Rattle.np_base.proofs.Bools.{or-last}
 
 -- ---- tests
-
-pub or_false : (a : Bool) → (a || false) ≡ a
-or_false true = refl
-or_false false = refl
-
-pub and_false : (a : Bool) → (a && false) ≡ false
-and_false true = refl
-and_false false = refl
-
-pub or-assoc : (a b c : Bool) → ((a || b) || c) ≡ (a || (b || c))
-or-assoc true b c = refl
-or-assoc false b c = refl
-
--- the last of three tests may stand before the second
-pub or-last : (a b c : Bool) → ((a || b) || c) ≡ ((a || c) || b)
-or-last true b c = refl
-or-last false true true = refl
-or-last false true false = refl
-or-last false false true = refl
-or-last false false false = refl
 
 pub or-swap : (a b c d : Bool) → ((a || b) || (c || d)) ≡ ((a || c) || (b || d))
 or-swap true b c d = refl
@@ -49,16 +30,8 @@ pub or-nothing : (before none : Bool) → none ≡ false → before ≡ (before 
 or-nothing true none is = refl
 or-nothing false none is = sym is
 
-bool-iff : (a b : Bool) → (a ≡ true → b ≡ true) → (b ≡ true → a ≡ true) → a ≡ b
-bool-iff true b to from = sym (to refl)
-bool-iff false true to from = from refl
-bool-iff false false to from = refl
-
-pub nat-swap : (a b : ℕ) → (a == b) ≡ (b == a)
-nat-swap a b = bool-iff (a == b) (b == a) (λ h. eq-eqb b a (sym (eqb-true a b h))) (λ h. eq-eqb a b (sym (eqb-true b a h)))
-
 pub bytes-swap : (a b : List ℕ) → bytes_eq a b ≡ bytes_eq b a
-bytes-swap a b = bool-iff (bytes_eq a b) (bytes_eq b a) (λ h. (bytes_decides b a).1 (sym ((bytes_decides a b).0 h))) (λ h. (bytes_decides a b).1 (sym ((bytes_decides b a).0 h)))
+bytes-swap a b = both_ways (bytes_eq a b) (bytes_eq b a) (λ h. (bytes_decides b a).1 (sym ((bytes_decides a b).0 h))) (λ h. (bytes_decides a b).1 (sym ((bytes_decides b a).0 h)))
 
 -- ---- lists
 
@@ -83,10 +56,4 @@ list_any-set f [] i x y more within is passes = absurd (omega (arith, within))
 list_any-set {X} f (z ∷ zs) zero x y more within is passes =
     ap (λ (b : Bool). b || list_any f zs) (passes ∙ ap (λ (one : X). f one || more) is) ∙ or-last (f z) more (list_any f zs)
 list_any-set f (z ∷ zs) (suc i) x y more within is passes =
-    ap (λ (b : Bool). f z || b) (list_any-set f zs i x y more (omega (arith, within)) is passes) ∙ sym (or-assoc (f z) (list_any f zs) more)
-
--- the items so far and one more
-pub any-next : {X : Type 0} (f : X → Bool) (xs : List X) (i : ℕ) (x : X) (before after : Bool) → i < length xs → x ≡ get_or xs i x → before ≡ list_any f (take i xs) → after ≡ (before || f x) →
-    after ≡ list_any f (take (i + 1) xs)
-any-next {X} f xs i x before after within is held put =
-    put ∙ ap (λ (b : Bool). b || f x) held ∙ ap (λ (one : X). list_any f (take i xs) || f one) is ∙ sym (list_any_more f xs i x within)
+    ap (λ (b : Bool). f z || b) (list_any-set f zs i x y more (omega (arith, within)) is passes) ∙ sym (or_assoc (f z) (list_any f zs) more)

@@ -4,14 +4,15 @@ use Rattle.std.proofs.Common.{◌≡◌, ◌<◌, ℕ, List, [], ◌∷◌, Bool
 use Rattle.std.proofs.Math.Seq.{map-set_same}
 use Rattle.std.proofs.lemmas.List.{length-map, map-append, take_more}
 use Rattle.std.proofs.lemmas.List.Folds.{list_any-append}
-use Rattle.std.proofs.lemmas.Option.{slice_get-get_or}
+use Rattle.std.proofs.lemmas.Option.{slice_get-get_or, none-some}
 use Rattle.std.specs.List.{list_any, slice_get}
 use Rattle.std.specs.Option.{option_map}
+use Rattle.std.proofs.Math.Bool.{and-false}
 use Rattle.np_conns.specs.Conns.{same_proto}
 use Rattle.np_conns.specs.declared.proto.Proto.TheVariants.{Tcp}
 use Rattle.np_model.specs.declared.service.PortName.{PortName}
 use Rattle.np_model.specs.declared.service.ServiceItem.{ServiceItem}
-use Rattle.np_routes.proofs.AnyLemmas.{and-or, and_false, list_any-none, list_any-or, list_any-set}
+use Rattle.np_routes.proofs.AnyLemmas.{and-or, list_any-none, list_any-or, list_any-set}
 use Rattle.np_routes.proofs.PortSetLemmas.{own-added, own-none}
 use Rattle.np_routes.proofs.TargetLemmas.{through-served, through-unserved}
 use Rattle.np_routes.specs.Routes.{leads_to, routes_through}
@@ -50,16 +51,13 @@ module _ (p : PodEnd) (number : ℕ) where
   asked-none asked none =
       ap (λ (b : Bool). serves asked.service.now p && b) (list_any-none (asked_port_leads asked p number) asked.service.now.ports (λ port.
       ap (λ (b : Bool). (same_proto port.proto Tcp && b) && is_target asked.service.now port p number) (own-none asked.ports port none) ∙ ap
-      (λ (b : Bool). b && is_target asked.service.now port p number) (and_false (same_proto port.proto Tcp))))
-      ∙ and_false (serves asked.service.now p)
+      (λ (b : Bool). b && is_target asked.service.now port p number) (and-false (same_proto port.proto Tcp))))
+      ∙ and-false (serves asked.service.now p)
 
   -- ---- one of many
 
   get-service : (asked : List AskedService) (i : ℕ) (one : AskedService) → slice_get asked i ≡ Some one → slice_get (services_of asked) i ≡ Some one.service.now
-  get-service [] i one is = absurd (none≢some is)
-    where
-      none≢some : {X : Type 0} {x : X} → None ≡ Some x → ⊥
-      none≢some is = cc
+  get-service [] i one is = absurd (none-some one is)
   get-service (first ∷ rest) zero one is = ap (option_map (λ (a : AskedService). a.service.now)) is
   get-service (first ∷ rest) (suc i) one is = get-service rest i one is
 

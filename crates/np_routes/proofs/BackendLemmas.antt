@@ -5,6 +5,7 @@ use Rattle.std.specs.Cmp.Lexicographic.{bytes_decides}
 use Rattle.std.specs.List.{list_any}
 use Rattle.std.specs.Str.{bytes_eq}
 use Rattle.std.proofs.lemmas.Bool.{and_parts}
+use Rattle.std.proofs.lemmas.Option.{none-some}
 use Rattle.np_model.specs.declared.lists.EstateLists.{EstateLists}
 use Rattle.np_model.specs.declared.placed_ingress.PlacedIngress.{PlacedIngress}
 use Rattle.np_model.specs.declared.ingress.Backend.{Backend}
@@ -20,10 +21,7 @@ use Rattle.np_rules.specs.model.Ends.{PodEnd}
 
 -- what is found passes
 find-passes : {X : Type 0} (test : X → Bool) (xs : List X) (x : X) → find test xs ≡ Some x → test x ≡ true
-find-passes test [] x is = absurd (none≢some is)
-  where
-    none≢some : {X : Type 0} {x : X} → None ≡ Some x → ⊥
-    none≢some is = cc
+find-passes test [] x is = absurd (none-some x is)
 find-passes {X} test (y ∷ ys) x is = by (test y) refl (find-passes test ys x) is
   where
     by : (here : Bool) → test y ≡ here → (find test ys ≡ Some x → test x ≡ true) → (if here then Some y else find test ys) ≡ Some x → test x ≡ true

@@ -1,10 +1,11 @@
 -- The rows of a cluster, and what they say.
-use Rattle.std.proofs.Common.{◌≡◌, ◌≢◌, ◌<◌, ◌≤◌, ℕ, List, [], ◌∷◌, ◌++◌, Bool, true, false, ◌&&◌, ◌||◌, Option, None, flat_map, length, append-nil, eq-eqb, arith, refl, sym, ap, subst, ◌∙◌}
+use Rattle.std.proofs.Common.{◌≡◌, ◌≢◌, ◌<◌, ◌≤◌, ℕ, List, [], ◌∷◌, ◌++◌, Bool, true, false, ◌&&◌, Option, None, flat_map, length, append-nil, eq-eqb, arith, refl, sym, ap, subst, ◌∙◌}
 use Rattle.std.proofs.Common.{if◌then◌else◌}
 use Rattle.std.specs.Prelude.{filter}
 use Rattle.std.proofs.lemmas.Bool.{and_parts, eqb-true, false≢true, ne_eqb}
 use Rattle.std.proofs.lemmas.List.{length-map}
 use Rattle.std.proofs.lemmas.List.Elements.{All-weaker, filter-append, filter_passes}
+use Rattle.std.proofs.Math.Bool.{or-false}
 use Rattle.np_addr.specs.declared.address.Family.{Family}
 use Rattle.np_base.specs.Ranges.{holds}
 use Rattle.np_base.specs.declared.range.Range.{Range}
@@ -25,7 +26,7 @@ use Rattle.np_table.specs.Right.{conns_of}
 use Rattle.np_table.specs.Rows.{address_rows, all_address_rows, all_pair_rows, all_rows, is_none, is_nothing, pair_key, pair_rows, row_if, row_of, rows_towards, workloads}
 use Rattle.np_table.specs.Said.{allows_in, is_between, is_of_address, is_workload, rows_between, rows_of_address}
 use Rattle.np_kinds.specs.Between.{IsWorkload, number_of_workloads}
-use Rattle.np_table.specs.Table.{Table, table_of}
+use Rattle.np_table.specs.Table.{Table, table_of, estate_table}
 use Rattle.np_table.specs.declared.rows.Row.{Row}
 use Rattle.np_table.specs.declared.rows.RowEnd.{RowEnd}
 use Rattle.np_table.specs.declared.rows.RowEnd.TheVariants.{Controller, Span, Work}
@@ -155,16 +156,12 @@ has_spot-nothing conns spot nothing =
       | Sctp ↦ holds-none conns.sctp spot.port both.1
     ]
 
-or_false : (b : Bool) → (b || false) ≡ b
-or_false true = refl
-or_false false = refl
-
 row_if-says : (key : RowKey) (conns : Conns) (family : Family) (spot : PortSpot) → allows_in (row_if key None conns) family spot ≡ has_spot conns spot
 row_if-says key conns family spot = by (is_nothing conns) refl
   where
     by : (nothing : Bool) → is_nothing conns ≡ nothing → allows_in (if nothing then [] else record { key = key; family = None; conns = conns } ∷ []) family spot ≡ has_spot conns spot
     by true is = sym (has_spot-nothing conns spot is)
-    by false is = or_false (has_spot conns spot)
+    by false is = or-false (has_spot conns spot)
 
 row_if-one : (key : RowKey) (conns : Conns) → length (row_if key None conns) ≤ 1
 row_if-one key conns = by (is_nothing conns)
@@ -178,7 +175,7 @@ ingress_row-says : (cluster : ClusterTable) (workload : ℕ) (family : Family) (
 unfolding ingress_row
 ingress_row-says cluster workload family spot is = row_if-says (ingress_key workload) (conns_of (cluster.ingresses workload)) family spot ∙ has_spot-conns_of (cluster.ingresses workload) spot is
 
-ingress_row-one : (cluster : ClusterTable) (workload : ℕ) → length (ingress_row cluster workload) ≤ 1
+pub ingress_row-one : (cluster : ClusterTable) (workload : ℕ) → length (ingress_row cluster workload) ≤ 1
 unfolding ingress_row
 ingress_row-one cluster workload = row_if-one (ingress_key workload) (conns_of (cluster.ingresses workload))
 
@@ -235,12 +232,12 @@ filter-swap p q (row ∷ rows) = by (p row) (q row) refl refl (filter-swap p q r
     by false true is is' rest = rw is rest
     by false false is is' rest = rest
 
-controller-end : (end : RowEnd) → is_ingress_controller end ≡ true → end ≡ Controller
+pub controller-end : (end : RowEnd) → is_ingress_controller end ≡ true → end ≡ Controller
 controller-end Controller is = refl
 controller-end (Work other) is = absurd (false≢true is)
 controller-end (Span addresses) is = absurd (false≢true is)
 
-workload-end : (number : ℕ) (end : RowEnd) → is_workload number end ≡ true → end ≡ Work number
+pub workload-end : (number : ℕ) (end : RowEnd) → is_workload number end ≡ true → end ≡ Work number
 workload-end number (Work other) is = ap (λ (n : ℕ). Work n) (eqb-true other number is)
 workload-end number (Span addresses) is = absurd (false≢true is)
 workload-end number Controller is = absurd (false≢true is)
@@ -260,3 +257,8 @@ rows_from_controller-kept workload keep rows =
     ∙ filter-by (λ (row : Row). keep row.key) (keep (ingress_key workload)) (rows_from_controller workload rows)
     (All-weaker (λ (row : Row). is_from_controller workload row ≡ true) (λ (row : Row). keep row.key ≡ keep (ingress_key workload))
     (λ row is. ap keep (from_controller-key workload row is)) (rows_from_controller workload rows) (filter_passes (is_from_controller workload) rows))
+
+-- the table of an estate has a name for each workload
+pub estate-names : (lists : EstateLists) → length (estate_table lists).names ≡ number_of_workloads lists
+unfolding table_of
+estate-names lists = length-map (folding_of lists).workloads (λ one. one.name)

@@ -5,6 +5,7 @@ use Rattle.std.specs.Prelude.{filter}
 use Rattle.std.specs.List.{AllByRecursion, find, list_any}
 use Rattle.std.specs.Option.{option_map_or}
 use Rattle.std.specs.Str.{bytes_eq}
+use Rattle.np_base.proofs.Each.{All-parts, All-append}
 use Rattle.np_addr.specs.declared.address.Family.TheVariants.{Four}
 use Rattle.np_conns.specs.Conns.{same_proto}
 use Rattle.np_conns.specs.declared.port_spot.PortSpot.{PortSpot}
@@ -18,8 +19,11 @@ use Rattle.np_fold.proofs.WorkloadLemmas.{one_workload}
 use Rattle.np_fold.specs.Alike.{IsSameKind}
 use Rattle.np_fold.specs.Keys.{keys_of_admin_policy, keys_of_baseline, keys_of_estate, keys_of_net_policy, keys_of_optional, keys_of_service}
 use Rattle.np_fold.specs.Workloads.{number_of}
+use Rattle.np_fold.proofs.SelectorLemmas.{selector-agree}
 use Rattle.np_labels.specs.Selectors.{meets_selector}
 use Rattle.np_labels.specs.declared.selector.Selector.{Selector}
+use Rattle.np_labels.specs.Labels.{AgreeOn}
+use Rattle.np_labels.proofs.Agreed.{All-from_listed}
 use Rattle.np_model.specs.declared.ingress.Backend.{Backend}
 use Rattle.np_model.specs.declared.ingress.Backend.TheVariants as backend
 use Rattle.np_model.specs.declared.named_port.NamedPort.{NamedPort}
@@ -36,8 +40,7 @@ use Rattle.np_rules.specs.Deciders.{decider_allows}
 use Rattle.np_rules.specs.model.Ends.{Contact, End, PodEnd, contact, pod, pod_end, stranger_end}
 use Rattle.np_rules.specs.model.PortEntries.{is_named}
 use Rattle.np_rules.specs.model.Verdict.{no_pod, pod_at}
-use Rattle.np_rules.proofs.EachItem.{All-append, All-each, All-flat, All-parts, list_any-same}
-use Rattle.np_kinds.proofs.KindSelectors.{AgreeOn, All-from_listed, selector-same}
+use Rattle.np_rules.proofs.EachItem.{All-each, All-flat, list_any-same}
 use Rattle.np_kinds.proofs.KindVerdicts.{SameKindEnd-ends, got-same, packet-same}
 use Rattle.np_kinds.proofs.PairLemmas.{pod_there}
 use Rattle.np_kinds.specs.Ends.{AreOneKind}
@@ -74,7 +77,7 @@ module _ (lists : EstateLists) (p q : PodEnd) (alike : AreServedAlike lists.serv
   selected-same : (selector : Option Selector) → AllByRecursion (AgreeOn p.labels q.labels) (keys_of_optional selector) →
       option_map_or (λ asked. meets_selector asked p.labels) selector false ≡ option_map_or (λ asked. meets_selector asked q.labels) selector false
   selected-same None agree = refl
-  selected-same (Some selector) agree = selector-same p.labels q.labels selector agree
+  selected-same (Some selector) agree = selector-agree p.labels q.labels selector agree
 
   -- a service serves both, or neither
   serves-same : (service : ServiceItem) → AllByRecursion (AgreeOn p.labels q.labels) (keys_of_service service) → serves service p ≡ serves service q

@@ -8,4 +8,5 @@ pub mod PortSetLemmas
 pub mod ReachedLemmas
 pub mod RouteLemmas
 pub mod ServiceLemmas
+pub mod StretchLemmas
 pub mod TargetLemmas

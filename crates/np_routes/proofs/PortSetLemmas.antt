@@ -8,12 +8,14 @@ use Rattle.std.specs.Ordering.{is_eq, nat_cmp}
 use Rattle.std.specs.Prelude.{cond}
 use Rattle.std.specs.Str.{bytes_eq}
 use Rattle.std.proofs.lemmas.Map.Text.{is_eq-slice_cmp}
+use Rattle.std.proofs.Math.Bool.{or-false}
+use Rattle.np_base.proofs.Bools.{or-last, or-leftwards, eq-swap}
 use Rattle.np_conns.specs.Conns.{same_proto}
 use Rattle.np_conns.specs.declared.proto.Proto.TheVariants.{Tcp}
 use Rattle.np_model.specs.declared.service.PortName.{PortName}
 use Rattle.np_model.specs.declared.service.PortName.TheVariants.{Number, Named}
 use Rattle.np_model.specs.declared.service.ServicePort.{ServicePort}
-use Rattle.np_routes.proofs.AnyLemmas.{bytes-swap, list_any-none, list_any-or, list_any-same, nat-swap, or-last, or-swap, or_false}
+use Rattle.np_routes.proofs.AnyLemmas.{bytes-swap, list_any-none, list_any-or, list_any-same, or-swap}
 use Rattle.np_routes.specs.Services.{is_named_by, is_pod_port}
 use Rattle.np_routes.specs.declared.port_set.PortSet.{PortSet}
 use Rattle.np_routes.specs.steps.PortSets.{at_pod, has_own, has_port, has_text, held_at, is_named_in, is_same_port}
@@ -38,7 +40,7 @@ or-here false false = refl
 pub name-added : (numbers : BTreeSet ℕ) (before after : BTreeSet (Bor (List ℕ))) (name : Bor (List ℕ)) →
     ((q : Bor (List ℕ)) → contains compare_texts after q ≡ cond (is_eq (compare_texts name q)) true (contains compare_texts before q))
     → (other : PortName) → has_port (record { numbers = numbers; names = after }) other ≡ (has_port (record { numbers = numbers; names = before }) other || is_same_port (Named name.now) other)
-name-added numbers before after name updates (Number other) = sym (or_false (contains nat_cmp numbers other))
+name-added numbers before after name updates (Number other) = sym (or-false (contains nat_cmp numbers other))
 name-added numbers before after name updates (Named other) =
     updates (lent other)
     ∙ ap (λ (here : Bool). cond here true (has_text before other)) (is_eq-slice_cmp name.now other)
@@ -70,30 +72,26 @@ number-own before middle port none number (Named other) = number (Named other) �
 pub name-own : (before middle after : PortName → Bool) (port : ServicePort) (name : List ℕ) → port.name ≡ Some name →
     ((other : PortName) → middle other ≡ (before other || is_same_port (Number port.port) other)) → ((other : PortName) → after other ≡ (middle other || is_same_port (Named name) other))
     → (other : PortName) → after other ≡ (before other || is_named_by other port)
-name-own before middle after port name is number named (Number other) = named (Number other) ∙ or_false (middle (Number other)) ∙ number (Number other)
+name-own before middle after port name is number named (Number other) = named (Number other) ∙ or-false (middle (Number other)) ∙ number (Number other)
 name-own before middle after port name is number named (Named other) =
     named (Named other)
-    ∙ ap (λ (b : Bool). b || bytes_eq name other) (number (Named other) ∙ or_false (before (Named other)))
+    ∙ ap (λ (b : Bool). b || bytes_eq name other) (number (Named other) ∙ or-false (before (Named other)))
     ∙ ap (λ (own : Option (List ℕ)). before (Named other) || option_map_or (λ text. bytes_eq text other) own false) (sym is)
 
 -- they are held after one more is where they were, or are named by it
 own-held : (before after : PortName → Bool) (named : PortName) (number : ℕ) (name : Option (List ℕ)) → ((other : PortName) → after other ≡ (before other || is_same_port named other))
     → held_own after number name ≡ (held_own before number name || named_own named number name)
 own-held before after (Number named) number None added =
-    ap (λ (b : Bool). b || false) (added (Number number) ∙ ap (λ (b : Bool). before (Number number) || b) (nat-swap named number)) ∙ or-last (before (Number number)) (number == named) false
+    ap (λ (b : Bool). b || false) (added (Number number) ∙ ap (λ (b : Bool). before (Number number) || b) (eq-swap named number)) ∙ or-last (before (Number number)) (number == named) false
 own-held before after (Number named) number (Some own) added =
-    ap (λ (b : Bool). b || after (Named own)) (added (Number number) ∙ ap (λ (b : Bool). before (Number number) || b) (nat-swap named number))
-    ∙ ap (λ (b : Bool). (before (Number number) || (number == named)) || b) (added (Named own) ∙ or_false (before (Named own)))
+    ap (λ (b : Bool). b || after (Named own)) (added (Number number) ∙ ap (λ (b : Bool). before (Number number) || b) (eq-swap named number))
+    ∙ ap (λ (b : Bool). (before (Number number) || (number == named)) || b) (added (Named own) ∙ or-false (before (Named own)))
     ∙ or-last (before (Number number)) (number == named) (before (Named own))
 own-held before after (Named named) number None added = ap (λ (b : Bool). b || false) (added (Number number))
 own-held before after (Named named) number (Some own) added =
-    ap (λ (b : Bool). b || after (Named own)) (added (Number number) ∙ or_false (before (Number number)))
+    ap (λ (b : Bool). b || after (Named own)) (added (Number number) ∙ or-false (before (Number number)))
     ∙ ap (λ (b : Bool). before (Number number) || b) (added (Named own) ∙ ap (λ (b : Bool). before (Named own) || b) (bytes-swap named own))
-    ∙ assoc (before (Number number)) (before (Named own)) (bytes_eq own named)
-  where
-    assoc : (a b c : Bool) → (a || (b || c)) ≡ ((a || b) || c)
-    assoc true b c = refl
-    assoc false b c = refl
+    ∙ or-leftwards (before (Number number)) (before (Named own)) (bytes_eq own named)
 
 named-own : (named : PortName) (port : ServicePort) → named_own named port.port port.name ≡ is_named_by named port
 named-own (Number named) port = refl
@@ -137,7 +135,7 @@ at_pod-joined before other after p number is = held-or (has_port before) (has_po
 
 -- one alone leads where it names a port of the pod
 held-one : (named : PortName) (p : PodEnd) (number : ℕ) → held_at (is_same_port named) p number ≡ is_pod_port named p number
-held-one (Number own) p number = ap (λ (b : Bool). (own == number) || b) (list_any-none (is_named_in (is_same_port (Number own)) number) p.ports (λ port. refl)) ∙ or_false (own == number)
+held-one (Number own) p number = ap (λ (b : Bool). (own == number) || b) (list_any-none (is_named_in (is_same_port (Number own)) number) p.ports (λ port. refl)) ∙ or-false (own == number)
 held-one (Named name) p number =
     list_any-same (is_named_in (is_same_port (Named name)) number) (λ port. bytes_eq port.name name && (same_proto Tcp port.proto && (number == port.number))) p.ports
     (λ port. ap (λ (b : Bool). b && (same_proto Tcp port.proto && (number == port.number))) (bytes-swap name port.name))

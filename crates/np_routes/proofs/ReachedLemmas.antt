@@ -6,6 +6,7 @@ use Rattle.std.specs.Option.{option_eq}
 use Rattle.std.proofs.Math.Nat.{mul-le-mul_right}
 use Rattle.std.proofs.lemmas.List.{get_or_default}
 use Rattle.std.proofs.lemmas.List.Folds.{list_any-append, list_any_more}
+use Rattle.std.proofs.Math.Bool.{or-false}
 use Rattle.np_addr.specs.declared.address.Family.{Family}
 use Rattle.np_addr.specs.declared.address.Family.TheVariants.{Four, Six}
 use Rattle.np_conns.specs.Conns.{Conns, IsConns, has_spot, is_spot}
@@ -55,12 +56,8 @@ sets-next passes families i d sets more set spot within pushed made is before =
     let item = get_or_default families i d family within in
     joins-next (λ (one : Family). passes one spot) families i family (list_any (λ one. has_spot one spot) sets) (has_spot set spot) (list_any (λ one. has_spot one spot) more) within item
     (ap (list_any (λ one. has_spot one spot)) pushed ∙ list_any-append (λ one. has_spot one spot) sets (set ∷ []) ∙ ap (λ (b : Bool). list_any (λ one. has_spot one spot) sets || b)
-    (or_false (has_spot set spot)))
+    (or-false (has_spot set spot)))
     before (ap (λ (conns : Conns). has_spot conns spot) made ∙ has_spot-conns_of (passes family) spot is)
-  where
-    or_false : (b : Bool) → (b || false) ≡ b
-    or_false true = refl
-    or_false false = refl
 
 -- ---- rules that are looked at
 

@@ -14,6 +14,7 @@ use Rattle.std.proofs.lemmas.Option.{slice_get-get_or}
 use Rattle.np_model.specs.declared.service.ServiceItem.{ServiceItem}
 use Rattle.np_routes.specs.Services.{is_service, service_named}
 use Rattle.np_routes.specs.steps.ServicesByName.{IsPlaceOf, place_at}
+use Rattle.np_routes.proofs.PortSetLemmas.{lent}
 
 -- the order of two keys
 abbrev pub compare_keys : Bor (List ℕ) × Bor (List ℕ) → Bor (List ℕ) × Bor (List ℕ) → Ordering
@@ -31,9 +32,6 @@ names-equal namespace name namespace' name' =
     is_eq-then (slice_cmp nat_cmp namespace namespace') (slice_cmp nat_cmp name name')
     ∙ ap (λ (b : Bool). b && is_eq (slice_cmp nat_cmp name name')) (is_eq-slice_cmp namespace namespace')
     ∙ ap (λ (b : Bool). bytes_eq namespace namespace' && b) (is_eq-slice_cmp name name')
-
-abbrev lent : List ℕ → Bor (List ℕ)
-lent text = record { ref_ptr = (0, 0); now = text }
 
 -- ---- one service more
 

@@ -6,6 +6,8 @@ use Rattle.std.specs.Prelude.{not}
 use Rattle.std.specs.Str.{bytes_eq}
 use Rattle.std.proofs.lemmas.Bool.{false≢true}
 use Rattle.std.proofs.lemmas.List.Folds.{list_any-append, list_any_more}
+use Rattle.std.proofs.Math.Bool.{or-false, and-false, or_assoc}
+use Rattle.np_base.proofs.Bools.{eq-swap}
 use Rattle.np_conns.specs.Conns.{same_proto}
 use Rattle.np_conns.specs.declared.proto.Proto.{Proto}
 use Rattle.np_conns.specs.declared.proto.Proto.TheVariants.{Tcp, Udp, Sctp}
@@ -15,7 +17,6 @@ use Rattle.np_model.specs.declared.service.PortName.{PortName}
 use Rattle.np_model.specs.declared.service.PortName.TheVariants.{Number, Named}
 use Rattle.np_model.specs.declared.service.ServiceItem.{ServiceItem}
 use Rattle.np_model.specs.declared.service.ServicePort.{ServicePort}
-use Rattle.np_routes.proofs.AnyLemmas.{and_false, nat-swap, or-assoc, or_false}
 use Rattle.np_routes.proofs.PortSetLemmas.{at_pod-joined}
 use Rattle.np_routes.proofs.RouteLemmas.{through-ports}
 use Rattle.np_routes.specs.Routes.{leads_to, routes_through}
@@ -40,11 +41,8 @@ module _ (p : PodEnd) (number : ℕ) (named : PortName) (service : ServiceItem) 
 
   none-leads : (ports : List ServicePort) → some_leads false p number named service ports ≡ false
   none-leads [] = refl
-  none-leads (port ∷ ports) = ap (λ (b : Bool). (is_backend_port named port && false) || b) (none-leads ports) ∙ nothing (is_backend_port named port)
-    where
-      nothing : (b : Bool) → ((b && false) || false) ≡ false
-      nothing true = refl
-      nothing false = refl
+  none-leads (port ∷ ports) = ap (λ (b : Bool). (is_backend_port named port && false) || b) (none-leads ports)
+      ∙ or-false (is_backend_port named port && false) ∙ and-false (is_backend_port named port)
 
   -- and else there are none
   pub through-unserved : serves service p ≡ false → list_any (leads_to p number) (routes_through named (Some service)) ≡ false
@@ -54,7 +52,7 @@ module _ (p : PodEnd) (number : ℕ) (named : PortName) (service : ServiceItem) 
 
 pub serves-outside : (service : ServiceItem) (p : PodEnd) → bytes_eq service.namespace p.namespace ≡ false → serves service p ≡ false
 serves-outside service p is =
-    ap (λ (b : Bool). not service.external && (b && option_map_or (λ selector. meets_selector selector p.labels) service.selector false)) is ∙ and_false (not service.external)
+    ap (λ (b : Bool). not service.external && (b && option_map_or (λ selector. meets_selector selector p.labels) service.selector false)) is ∙ and-false (not service.external)
 
 -- the services of a namespace lead where they did, and where the one that is put there leads
 pub service-added : (before after : List ServiceTargets) (one : ServiceTargets) (asked : AskedService) (p : PodEnd) (number : ℕ) →
@@ -68,7 +66,7 @@ service-added before after one asked p number put same leads =
   where
     by : (here : Bool) → bytes_eq asked.service.now.namespace p.namespace ≡ here → list_any (target_leads p number) (if here then one ∷ [] else []) ≡ asked_leads p number asked
     by true is =
-        or_false (target_leads p number one)
+        or-false (target_leads p number one)
         ∙ ap (λ (service : ServiceItem). serves service p && at_pod one.targets p number) same
         ∙ ap (λ (b : Bool). serves asked.service.now p && b) leads
     by false is = sym (ap (λ (b : Bool). b && list_any (asked_port_leads asked p number) asked.service.now.ports) (serves-outside asked.service.now p is))
@@ -83,7 +81,7 @@ targets-served before other after service p number served joined =
 pub targets-unserved : (before other : PortSet) (service : ServiceItem) (p : PodEnd) (number : ℕ) → serves service p ≡ false →
     at_pod before p number ≡ (at_pod before p number || (serves service p && at_pod other p number))
 targets-unserved before other service p number unserved =
-    sym (or_false (at_pod before p number)) ∙ ap (λ (b : Bool). at_pod before p number || (b && at_pod other p number)) (sym unserved)
+    sym (or-false (at_pod before p number)) ∙ ap (λ (b : Bool). at_pod before p number || (b && at_pod other p number)) (sym unserved)
 
 -- a port leads to the port of its own number where the service is headless
 pub target-headless : (before : PortSet) (service : ServiceItem) (port : ServicePort) (p : PodEnd) (number : ℕ) → service.headless ≡ true →
@@ -122,17 +120,17 @@ module _ (old middle : PortName → Bool) (ports : List NamedPort) (i : ℕ) (po
       let asked = ap (λ (b : Bool). middle (Named port.name) && (b && (number == port.number))) tcp ∙ ap (λ (b : Bool). b && (number == port.number)) has in
       added (Number number)
       ∙ ap (λ (b : Bool). b || (port.number == number)) held
-      ∙ ap (λ (b : Bool). (old (Number number) || list_any (is_named_in old number) (take i ports)) || b) (nat-swap port.number number ∙ sym asked ∙ named-asked)
-      ∙ or-assoc (old (Number number)) (list_any (is_named_in old number) (take i ports)) (is_named_in old number port)
+      ∙ ap (λ (b : Bool). (old (Number number) || list_any (is_named_in old number) (take i ports)) || b) (eq-swap port.number number ∙ sym asked ∙ named-asked)
+      ∙ or_assoc (old (Number number)) (list_any (is_named_in old number) (take i ports)) (is_named_in old number port)
       ∙ one-more
 
   -- it is not one
   pub named-other : (same_proto port.proto Tcp && middle (Named port.name)) ≡ false → middle (Number number) ≡ (old (Number number) || list_any (is_named_in old number) (take (i + 1) ports))
   named-other other =
       held
-      ∙ sym (or_false (old (Number number) || list_any (is_named_in old number) (take i ports)))
+      ∙ sym (or-false (old (Number number) || list_any (is_named_in old number) (take i ports)))
       ∙ ap (λ (b : Bool). (old (Number number) || list_any (is_named_in old number) (take i ports)) || b) (sym (by (same_proto port.proto Tcp) (middle (Named port.name)) other) ∙ named-asked)
-      ∙ or-assoc (old (Number number)) (list_any (is_named_in old number) (take i ports)) (is_named_in old number port)
+      ∙ or_assoc (old (Number number)) (list_any (is_named_in old number) (take i ports)) (is_named_in old number port)
       ∙ one-more
     where
       by : (tcp has : Bool) → (tcp && has) ≡ false → (has && (tcp && (number == port.number))) ≡ false
@@ -153,4 +151,4 @@ port-asked asked port p number before after tcp own put =
 pub port-other : (asked : AskedService) (port : ServicePort) (p : PodEnd) (number : ℕ) (before : Bool) → (same_proto port.proto Tcp && has_own asked.ports port) ≡ false →
     before ≡ (before || asked_port_leads asked p number port)
 port-other asked port p number before other =
-    sym (or_false before) ∙ ap (λ (b : Bool). before || (b && is_target asked.service.now port p number)) (sym other)
+    sym (or-false before) ∙ ap (λ (b : Bool). before || (b && is_target asked.service.now port p number)) (sym other)

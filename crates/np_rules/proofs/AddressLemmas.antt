@@ -7,10 +7,12 @@ use Rattle.np_addr.specs.Addresses.{IsAddress}
 use Rattle.np_addr.specs.Blocks.{AddressRanges, set_has}
 use Rattle.np_addr.specs.declared.address.Address.{Address}
 use Rattle.np_addr.specs.declared.address.Address.TheVariants.{Four, Six}
+use Rattle.np_addr.proofs.BlockLemmas.{ranges_have}
 use Rattle.np_base.specs.Beside.{by_side}
 use Rattle.np_base.specs.Ranges.{holds}
 use Rattle.np_base.specs.declared.beside.Which.{Which}
 use Rattle.np_base.specs.declared.beside.Which.TheVariants.{First, Second}
+use Rattle.np_base.proofs.Lists.{list_any-agrees}
 use Rattle.np_conns.specs.Conns.{Conns, has_spot, is_spot}
 use Rattle.np_conns.specs.declared.port_spot.PortSpot.{PortSpot}
 use Rattle.np_pieces.specs.Pieces as pieces
@@ -27,10 +29,6 @@ use Rattle.np_rules.specs.model.Peers.{net_peer_matches}
 use Rattle.np_rules.specs.model.PortEntries.{admin_entry_matches, net_entry_matches}
 use Rattle.np_rules.specs.model.Rules.{admin_rule_matches, net_rule_matches, none_or_any}
 use Rattle.np_sets.specs.Space.{is_between}
-
--- the spots of both families
-abbrev pub ranges_have : AddressRanges → Which ℕ ℕ → Bool
-ranges_have set = by_side (λ n. holds (λ a. a) set.first n) (λ n. holds (λ a. a) set.second n)
 
 -- an address is in the joined set where it is in either
 pub set_has-join : (set more made : AddressRanges) → ((spot : Which ℕ ℕ) → ranges_have made spot ≡ (ranges_have set spot || ranges_have more spot)) → (a : Address) →
@@ -73,31 +71,24 @@ pub set_has-everything : (made : AddressRanges) → ((spot : Which ℕ ℕ) → 
 set_has-everything made all (Four n) below = all (First n) ∙ between n (2 ^ 32 - 1) (omega arith)
 set_has-everything made all (Six n) below = all (Second n) ∙ between n (2 ^ 128 - 1) (omega arith)
 
+below : (last n : ℕ) → is_between 0 last n ≡ true → n < last + 1
+below last n is = grind (arith, nat_tests)
+
 -- ---- what a rule matches at an address
 
 -- a place of the space has an address and a port
 pub place_parts : (place : AddressSpot) → is_place place ≡ true → IsAddress (address_of place) × (is_spot (spot_of place) ≡ true)
 place_parts (First place) within = (below (2 ^ 32 - 1) place.point (and_parts _ _ within).0, (and_parts _ _ within).1)
-  where
-    below : (last n : ℕ) → is_between 0 last n ≡ true → n < last + 1
-    below last n is = grind (arith, nat_tests)
 place_parts (Second place) within = (below (2 ^ 128 - 1) place.point (and_parts _ _ within).0, (and_parts _ _ within).1)
-  where
-    below : (last n : ℕ) → is_between 0 last n ≡ true → n < last + 1
-    below last n is = grind (arith, nat_tests)
 
 -- a namespace changes nothing for an address
 net_peer_anywhere : (namespace : List ℕ) (peer : NetPeer) (a : Address) → net_peer_has peer a ≡ net_peer_matches namespace peer (address a)
 net_peer_anywhere namespace (net.Pods namespaces pods) a = refl
 net_peer_anywhere namespace (net.Block cidr excepts) a = refl
 
-list_any-same : {X : Type 0} (f g : X → Bool) → ((x : X) → f x ≡ g x) → (xs : List X) → list_any f xs ≡ list_any g xs
-list_any-same f g same [] = refl
-list_any-same f g same (x ∷ xs) = ap (λ b. b || list_any f xs) (same x) ∙ ap (λ b. g x || b) (list_any-same f g same xs)
-
-none_or_any-same : {X : Type 0} (f g : X → Bool) → ((x : X) → f x ≡ g x) → (xs : List X) → none_or_any f xs ≡ none_or_any g xs
+pub none_or_any-same : {X : Type 0} (f g : X → Bool) → ((x : X) → f x ≡ g x) → (xs : List X) → none_or_any f xs ≡ none_or_any g xs
 none_or_any-same f g same [] = refl
-none_or_any-same f g same (x ∷ xs) = list_any-same f g same (x ∷ xs)
+none_or_any-same f g same (x ∷ xs) = list_any-agrees f g same (x ∷ xs)
 
 -- what a rule of a NetworkPolicy matches at a place: its addresses, with the spots of its port entries
 pub net_at_place : (namespace : List ℕ) (rule : NetRule) (direction : Direction) (near : End) (addresses : AddressRanges) (conns : Conns) →

@@ -6,18 +6,19 @@ use Rattle.std.specs.Option.{option_map, option_or}
 use Rattle.std.proofs.lemmas.Bool.Decides.{nat_tests}
 use Rattle.std.proofs.lemmas.Bool.{and_parts, ltb-true}
 use Rattle.std.proofs.Math.Seq.{take-length}
+use Rattle.np_base.proofs.Each.{All-weaker, All-append}
+use Rattle.np_base.proofs.Options.{option_map-or}
 use Rattle.np_model.specs.Lawful.{ascends, HasAscendingPriorities}
 use Rattle.np_model.specs.declared.admin_policy.Action.{Action}
 use Rattle.np_model.specs.declared.admin_policy.AdminPolicy.{AdminPolicy}
 use Rattle.np_model.specs.declared.admin_policy.AdminRule.{AdminRule}
 use Rattle.np_model.specs.declared.direction.Direction.{Direction}
-use Rattle.np_rules.proofs.EachItem.{All-append, All-weaker}
 use Rattle.np_rules.specs.model.AdminTier.{least_by, sooner, admin_precedes, admin_decider}
 use Rattle.np_rules.specs.model.Ends.{Contact, PodEnd}
 use Rattle.np_rules.specs.model.Places.{PlacedAdminRule, admin_places, admin_places_of, admin_rules_of}
 use Rattle.np_rules.specs.model.Rules.{admin_rule_matches}
 use Rattle.np_rules.specs.model.Selection.{subject_selects}
-use Rattle.np_rules.proofs.PlacesLemmas.{find-next, find-numbered, option_map-or, if_both, counted, length-numbered}
+use Rattle.np_rules.proofs.PlacesLemmas.{find-next, find-numbered, if_both, counted, length-numbered}
 
 -- ---- lists in order
 

@@ -1,6 +1,7 @@
 -- Networks and the addresses of a pod: address by address, and block by block.
 use Rattle.std.proofs.Common.{◌≡◌, List, [], ◌∷◌, Bool, true, false, ◌&&◌, ◌||◌, refl, sym, ap, ◌∙◌, arith}
 use Rattle.std.specs.List.{list_any}
+use Rattle.std.proofs.Math.Bool.{or-false, and-false}
 use Rattle.np_addr.specs.Addresses.{cidr_has}
 use Rattle.np_addr.specs.declared.address.Address.{Address}
 use Rattle.np_addr.specs.declared.address.Address.TheVariants as at
@@ -8,9 +9,9 @@ use Rattle.np_addr.specs.declared.address.Family.{Family}
 use Rattle.np_addr.specs.declared.address.Family.TheVariants as of
 use Rattle.np_addr.specs.declared.cidr.Cidr.{Cidr}
 use Rattle.np_addr.specs.declared.cidr.Cidr.TheVariants as block
+use Rattle.np_addr.specs.Prefixes.{some_has}
 use Rattle.np_model.specs.Families.{is_of, same_family}
 use Rattle.np_rules.specs.BlockFamilies.{is_block_of, some_inside}
-use Rattle.np_rules.specs.model.Peers.{in_some}
 
 and_false : (x y : Bool) → (x && false) ≡ (y && false)
 and_false true true = refl
@@ -45,18 +46,14 @@ inside_none family (cidr ∷ cidrs) = by (is_block_of family cidr) (inside_none 
     by false rest = rest
 
 inside_more : (family : Family) (a : Address) (addresses : List Address) (cidrs : List Cidr) →
-    ((is_of family a && in_some cidrs a) || some_inside family cidrs addresses) ≡ some_inside family cidrs (a ∷ addresses)
-inside_more family a addresses [] = by (is_of family a)
-  where
-    by : (b : Bool) → ((b && false) || false) ≡ false
-    by true = refl
-    by false = refl
+    ((is_of family a && some_has cidrs a) || some_inside family cidrs addresses) ≡ some_inside family cidrs (a ∷ addresses)
+inside_more family a addresses [] = or-false (is_of family a && false) ∙ and-false (is_of family a)
 inside_more family a addresses (cidr ∷ cidrs) =
-    shared (is_of family a) (cidr_has cidr a) (in_some cidrs a) (is_block_of family cidr) (list_any (cidr_has cidr) addresses) (some_inside family cidrs addresses) (block_family family cidr a)
+    shared (is_of family a) (cidr_has cidr a) (some_has cidrs a) (is_block_of family cidr) (list_any (cidr_has cidr) addresses) (some_inside family cidrs addresses) (block_family family cidr a)
     ∙ ap (λ b. (is_block_of family cidr && (cidr_has cidr a || list_any (cidr_has cidr) addresses)) || b) (inside_more family a addresses cidrs)
 
 -- address by address, and block by block
-pub by_blocks : (family : Family) (cidrs : List Cidr) (addresses : List Address) → list_any (λ a. is_of family a && in_some cidrs a) addresses ≡ some_inside family cidrs addresses
+pub by_blocks : (family : Family) (cidrs : List Cidr) (addresses : List Address) → list_any (λ a. is_of family a && some_has cidrs a) addresses ≡ some_inside family cidrs addresses
 by_blocks family cidrs [] = sym (inside_none family cidrs)
 by_blocks family cidrs (a ∷ addresses) =
-    ap (λ b. (is_of family a && in_some cidrs a) || b) (by_blocks family cidrs addresses) ∙ inside_more family a addresses cidrs
+    ap (λ b. (is_of family a && some_has cidrs a) || b) (by_blocks family cidrs addresses) ∙ inside_more family a addresses cidrs

@@ -2,11 +2,12 @@
 use Rattle.std.proofs.Common.{◌≡◌, ◌≢◌, ℕ, List, [], ◌∷◌, Bool, true, false, ◌&&◌, ◌||◌, ◌==◌, nat_lt, filter, Option, Some, None, is_some, refl, sym, ◌∙◌, subst, arith, inl, inr, if◌then◌else◌}
 use Rattle.std.specs.List.{AllByRecursion, list_any}
 use Rattle.std.proofs.lemmas.Bool.Decides.{nat_tests}
+use Rattle.np_base.proofs.Each.{All-weaker}
+use Rattle.np_base.proofs.Options.{some_is}
 use Rattle.np_model.specs.declared.lists.EstateLists.{EstateLists}
 use Rattle.np_model.specs.declared.admin_policy.Action.{Action}
 use Rattle.np_model.specs.declared.admin_policy.Action.TheVariants.{Allow, Deny, Pass}
 use Rattle.np_model.specs.declared.direction.Direction.{Direction}
-use Rattle.np_rules.proofs.EachItem.{All-weaker}
 use Rattle.np_rules.specs.model.AdminTier.{admin_decider, admin_precedes, least_by, sooner}
 use Rattle.np_rules.specs.model.BaseTier.{base_decider}
 use Rattle.np_rules.specs.Deciders.{action_decides, admin_decides, admin_rule_name, base_decides, decider, decider_allows, isolating_names, lower_decider, net_decider, net_decides, net_precedes}
@@ -76,9 +77,6 @@ none_sooner precedes item items is = cc
 pub none_is_empty : {X : Type 0} (precedes : X → X → Bool) (items : List X) → least_by precedes items ≡ None → items ≡ []
 none_is_empty precedes [] none = refl
 none_is_empty precedes (item ∷ items) none = absurd (none_sooner precedes item items none)
-
-some_is : {X : Type 0} (a b : X) → Some a ≡ Some b → a ≡ b
-some_is a b same = cc
 
 pub least_is_among : {X : Type 0} (precedes : X → X → Bool) (items : List X) (least : X) → least_by precedes items ≡ Some least → IsAmong least items
 least_is_among precedes [] least is = absurd (nothing is)

@@ -1,6 +1,7 @@
 -- Lists whose items pass alike, and facts of lists that are joined.
-use Rattle.std.proofs.Common.{◌≡◌, ℕ, ◌+◌, List, [], ◌∷◌, ◌++◌, Bool, true, false, ◌&&◌, ◌||◌, map, filter, Some, refl, ap, ◌∙◌, if◌then◌else◌}
+use Rattle.std.proofs.Common.{◌≡◌, ℕ, ◌+◌, List, [], ◌∷◌, ◌++◌, Bool, ◌&&◌, ◌||◌, map, filter, Some, refl, ap, ◌∙◌, if◌then◌else◌}
 use Rattle.std.specs.List.{AllByRecursion, enumerate_from, find, flat_map, list_all, list_any}
+use Rattle.np_base.proofs.Each.{All-parts}
 use Rattle.np_rules.specs.model.Rules.{none_or_any}
 
 -- ---- tests that agree on the items
@@ -33,26 +34,12 @@ pub All-each : {X : Type 0} (P : X → Type 0) → ((x : X) → P x) → (xs : L
 All-each P each [] = tt
 All-each P each (x ∷ xs) = (each x, All-each P each xs)
 
-pub All-weaker : {X : Type 0} (P Q : X → Type 0) → ((x : X) → P x → Q x) → (xs : List X) → AllByRecursion P xs → AllByRecursion Q xs
-All-weaker P Q weaker [] all = tt
-All-weaker P Q weaker (x ∷ xs) all = (weaker x all.0, All-weaker P Q weaker xs all.1)
-
-pub All-parts : {X : Type 0} (P : X → Type 0) (xs ys : List X) → AllByRecursion P (xs ++ ys) → AllByRecursion P xs × AllByRecursion P ys
-All-parts P [] ys all = (tt, all)
-All-parts P (x ∷ xs) ys all =
-    let parts = All-parts P xs ys all.1 in
-    ((all.0, parts.0), parts.1)
-
 -- the parts of three lists that are joined
 pub All-three : {X : Type 0} (P : X → Type 0) (xs ys zs : List X) → AllByRecursion P (xs ++ ys ++ zs) → AllByRecursion P xs × (AllByRecursion P ys × AllByRecursion P zs)
 All-three P xs ys zs all =
     let last = All-parts P (xs ++ ys) zs all in
     let first = All-parts P xs ys last.0 in
     (first.0, (first.1, last.1))
-
-pub All-append : {X : Type 0} (P : X → Type 0) (xs ys : List X) → AllByRecursion P xs → AllByRecursion P ys → AllByRecursion P (xs ++ ys)
-All-append P [] ys left right = right
-All-append P (x ∷ xs) ys left right = (left.0, All-append P xs ys left.1 right)
 
 pub All-flat : {X Y : Type 0} (P : Y → Type 0) (f : X → List Y) (xs : List X) → AllByRecursion P (flat_map f xs) → AllByRecursion (λ x. AllByRecursion P (f x)) xs
 All-flat P f [] all = tt
@@ -63,10 +50,6 @@ All-flat P f (x ∷ xs) all =
 pub All-both : {X : Type 0} (P Q : X → Type 0) (xs : List X) → AllByRecursion P xs → AllByRecursion Q xs → AllByRecursion (λ x. P x × Q x) xs
 All-both P Q [] left right = tt
 All-both P Q (x ∷ xs) left right = ((left.0, right.0), All-both P Q xs left.1 right.1)
-
-pub All-if : {X : Type 0} (P : X → Type 0) (b : Bool) (xs : List X) → AllByRecursion P xs → AllByRecursion P (if b then xs else [])
-All-if P true xs all = all
-All-if P false xs all = tt
 
 pub All-numbered : {X Y : Type 0} (P : X → Type 0) (Q : Y → Type 0) (make : ℕ × X → Y) → ((numbered : ℕ × X) → P numbered.1 → Q (make numbered)) → (n : ℕ) (xs : List X) → AllByRecursion P xs →
     AllByRecursion Q (map make (enumerate_from n xs))

@@ -3,6 +3,7 @@ use Rattle.std.proofs.Common.{◌≡◌, ℕ, ◌+◌, List, [], ◌∷◌, Bool
 use Rattle.std.specs.List.{AllByRecursion, enumerate_from, list_any}
 use Rattle.std.specs.Option.{option_map_or}
 use Rattle.std.proofs.lemmas.Bool.{or_parts}
+use Rattle.np_base.proofs.Each.{All-weaker, All-append, All-if}
 use Rattle.np_addr.specs.declared.address.Family.{Family}
 use Rattle.np_model.specs.declared.lists.EstateLists.{EstateLists}
 use Rattle.np_model.specs.declared.admin_policy.AdminPeer.{AdminPeer}
@@ -12,11 +13,12 @@ use Rattle.np_model.specs.declared.admin_policy.AdminRule.{AdminRule}
 use Rattle.np_model.specs.declared.admin_policy.BasePolicy.{BasePolicy}
 use Rattle.np_model.specs.declared.direction.Direction.{Direction}
 use Rattle.np_model.specs.declared.direction.Direction.TheVariants.{Ingress, Egress}
-use Rattle.np_rules.proofs.EachItem.{All-append, All-weaker, filter-same, find-same}
+use Rattle.np_model.specs.Families.{is_networks}
+use Rattle.np_rules.proofs.EachItem.{filter-same, find-same}
 use Rattle.np_rules.specs.model.AdminTier.{admin_decider, admin_precedes, least_by}
 use Rattle.np_rules.specs.model.BaseTier.{base_decider}
 use Rattle.np_rules.specs.model.Ends.{Contact, End, Packet, PodEnd, pod, address, contact_of}
-use Rattle.np_rules.specs.Laws.{has_networks, is_networks, rules_list_networks}
+use Rattle.np_rules.specs.Laws.{has_networks, rules_list_networks}
 use Rattle.np_rules.specs.model.NetTier.{is_isolated, permits}
 use Rattle.np_rules.specs.model.Peers.{admin_peer_matches}
 use Rattle.np_rules.specs.model.Places.{admin_places, admin_places_of, admin_rules_of, base_places, base_rules_of}
@@ -65,10 +67,6 @@ numbered_all : {Y : Type 0} (make : ℕ × AdminRule → Y) (rule_of : Y → Adm
 numbered_all make rule_of same n [] all = tt
 numbered_all make rule_of same n (rule ∷ rules) all = (ap (λ r. list_any is_networks r.peers) (same (n, rule)) ∙ all.0, numbered_all make rule_of same (n + 1) rules all.1)
 
-if_all : {X : Type 0} (P : X → Type 0) (b : Bool) (xs : List X) → AllByRecursion P xs → AllByRecursion P (if b then xs else [])
-if_all P true xs all = all
-if_all P false xs all = tt
-
 -- a policy whose rules list no networks, direction by direction
 abbrev lists_networks : AdminPolicy → Bool
 lists_networks policy = rules_list_networks policy.ingress || rules_list_networks policy.egress
@@ -90,13 +88,13 @@ admin_plain (policy ∷ policies) direction p plain =
     let here = numbered_all (λ numbered. record { policy = policy; place = numbered.0; rule = numbered.1 }) (λ placed. placed.rule) (λ numbered. refl) 0 (admin_rules_of direction policy)
     (all_plain (admin_rules_of direction policy) (of_direction direction policy parts.0)) in
     All-append (λ placed. IsPlain placed.rule) (if subject_selects policy.subject p then admin_places_of direction policy else []) (admin_places policies direction p)
-    (if_all (λ placed. IsPlain placed.rule) (subject_selects policy.subject p) (admin_places_of direction policy) here) (admin_plain policies direction p parts.1)
+    (All-if (λ placed. IsPlain placed.rule) (subject_selects policy.subject p) (admin_places_of direction policy) here) (admin_plain policies direction p parts.1)
 
 base_plain : (baseline : Option BasePolicy) (direction : Direction) (p : PodEnd) →
     option_map_or (λ policy. rules_list_networks policy.ingress || rules_list_networks policy.egress) baseline false ≡ false →
     AllByRecursion (λ placed. IsPlain placed.rule) (base_places baseline direction p)
 base_plain None direction p plain = tt
-base_plain (Some policy) direction p plain = if_all (λ placed. IsPlain placed.rule) (subject_selects policy.subject p)
+base_plain (Some policy) direction p plain = All-if (λ placed. IsPlain placed.rule) (subject_selects policy.subject p)
     (map (λ numbered. record { place = numbered.0; rule = numbered.1 }) (enumerate_from 0 (base_rules_of direction policy)))
     (numbered_all (λ numbered. record { place = numbered.0; rule = numbered.1 }) (λ placed. placed.rule) (λ numbered. refl) 0 (base_rules_of direction policy)
     (all_plain (base_rules_of direction policy) (of_base direction policy plain)))

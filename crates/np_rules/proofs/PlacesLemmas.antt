@@ -1,8 +1,8 @@
 -- Rules with their policies and places.
-use Rattle.std.proofs.Common.{◌≡◌, ℕ, ◌+◌, ◌<◌, ◌≤◌, List, [], ◌∷◌, ◌++◌, Bool, true, false, ◌||◌, length, take, get_or, map, Option, Some, None, refl, sym, ap, ◌∙◌, arith, if◌then◌else◌}
+use Rattle.std.proofs.Common.{◌≡◌, ℕ, ◌+◌, ◌<◌, ◌≤◌, List, [], ◌∷◌, ◌++◌, Bool, true, false, ◌||◌, length, take, get_or, map, Some, refl, sym, ap, ◌∙◌, arith, if◌then◌else◌}
 use Rattle.std.specs.List.{enumerate_from, flat_map, list_any, find}
 use Rattle.std.specs.Option.{option_map, option_or}
-use Rattle.std.proofs.lemmas.List.{take_more}
+use Rattle.std.proofs.lemmas.List.{take_more, length-append}
 use Rattle.std.proofs.lemmas.Grind.{flat_map-append}
 use Rattle.std.proofs.lemmas.List.Folds.{list_any-append, find-append, length-flat_map-take}
 
@@ -16,14 +16,10 @@ flat_map-next {X} f xs i x within is =
     let item : X → List X = λ y. take i xs ++ y ∷ [] in
     ap (flat_map f) (take_more xs i x within ∙ ap item (sym is)) ∙ flat_map-append f (take i xs) (x ∷ []) ∙ ap (λ ys. flat_map f (take i xs) ++ ys) (append_nil (f x))
 
-length-append' : {X : Type 0} (xs ys : List X) → length (xs ++ ys) ≡ length xs + length ys
-length-append' [] ys = omega arith
-length-append' (x ∷ xs) ys = omega (arith, length-append' xs ys)
-
 -- so many items of one item more
 pub length-next : {X Y : Type 0} (f : X → List Y) (xs : List X) (i : ℕ) (x : X) → i < length xs → x ≡ get_or xs i x →
     length (flat_map f (take (i + 1) xs)) ≡ length (flat_map f (take i xs)) + length (f x)
-length-next f xs i x within is = ap length (flat_map-next f xs i x within is) ∙ length-append' (flat_map f (take i xs)) (f x)
+length-next f xs i x within is = ap length (flat_map-next f xs i x within is) ∙ length-append (flat_map f (take i xs)) (f x)
 
 -- whether some item of one item more passes
 pub list_any-next : {X Y : Type 0} (test : Y → Bool) (f : X → List Y) (xs : List X) (i : ℕ) (x : X) → i < length xs → x ≡ get_or xs i x →
@@ -61,11 +57,6 @@ find-numbered {X} {Y} {Z} make test placed_test seen placed_seen same sees n (x 
         option_map placed_seen (if b then Some (make (n, x)) else find placed_test (map make (enumerate_from (n + 1) xs))) ≡ option_map seen (if b then Some x else find test xs)
     go true rest = ap {A = Z} Some (sees (n, x))
     go false rest = rest
-
--- what is seen of a choice is the choice of what is seen
-pub option_map-or : {X Z : Type 0} (seen : X → Z) (a b : Option X) → option_map seen (option_or a b) ≡ option_or (option_map seen a) (option_map seen b)
-option_map-or seen None b = refl
-option_map-or seen (Some x) b = refl
 
 -- the same two lists, or none
 pub if_both : {X Y : Type 0} (P : List X → List Y → Type 0) (b : Bool) (xs : List X) (ys : List Y) → P xs ys → P [] [] → P (if b then xs else []) (if b then ys else [])

@@ -155,7 +155,7 @@ pub keeps_as : {kept side : PodSide} {admin : List (PolicyRules AdminRule)} {net
 keeps_as {kept} {side} {admin} {net} {base} keeps same = subst (λ (s : PodSide). KeepsPolicies s admin net base) same keeps
 
 -- an admin rule in its place
-abbrev placed_admin : AdminPolicy → ℕ × AdminRule → PlacedAdminRule
+abbrev pub placed_admin : AdminPolicy → ℕ × AdminRule → PlacedAdminRule
 placed_admin policy numbered = record { policy = policy; place = numbered.0; rule = numbered.1 }
 
 module _ {side : PodSide} {admin : List (PolicyRules AdminRule)} {net : List (PolicyRules NetRule)} {base : List AdminRule} (keeps : KeepsPolicies side admin net base) where

@@ -1,7 +1,8 @@
 -- What the rules that are kept for strangers say of one.
-use Rattle.std.proofs.Common.{◌≡◌, ℕ, ◌+◌, ◌<◌, List, [], ◌∷◌, ◌++◌, Bool, true, false, ◌&&◌, ◌||◌, find, get_or, length, map, take, refl, sym, ap, ◌∙◌, subst}
+use Rattle.std.proofs.Common.{◌≡◌, ℕ, ◌+◌, ◌<◌, List, [], ◌∷◌, ◌++◌, Bool, true, ◌&&◌, ◌||◌, find, get_or, length, map, take, refl, sym, ap, ◌∙◌, subst}
 use Rattle.std.specs.List.{AllByRecursion, list_any}
 use Rattle.std.proofs.lemmas.List.{map-append, take_more}
+use Rattle.std.proofs.Math.Bool.{or-false}
 use Rattle.np_addr.specs.declared.address.Address.{Address}
 use Rattle.np_addr.specs.declared.address.Address.TheVariants.{Six}
 use Rattle.np_conns.specs.Conns.{Conns, has_spot, is_spot}
@@ -26,18 +27,11 @@ use Rattle.np_rules.specs.StrangerRules.{ArePermitted, HasPorts, HavePorts, IsNe
 use Rattle.np_rules.specs.declared.stranger.Stranger.{Stranger}
 use Rattle.np_rules.specs.declared.stranger_rules.RuleConns.{RuleConns}
 use Rattle.np_rules.specs.model.Sides.{admin_says, base_says}
+use Rattle.np_rules.proofs.AddressLemmas.{none_or_any-same}
 use Rattle.np_tiers.specs.Walk.{admin_allows, base_allows}
 use Rattle.np_tiers.specs.declared.layer.Layer.{Layer}
 
 -- ---- the sets of the rules
-
-any_same : {X : Type 0} (f g : X → Bool) → ((x : X) → f x ≡ g x) → (xs : List X) → list_any f xs ≡ list_any g xs
-any_same f g same [] = refl
-any_same f g same (x ∷ xs) = ap (λ b. b || list_any f xs) (same x) ∙ ap (λ b. g x || b) (any_same f g same xs)
-
-none_or_any_same : {X : Type 0} (f g : X → Bool) → ((x : X) → f x ≡ g x) → (xs : List X) → none_or_any f xs ≡ none_or_any g xs
-none_or_any_same f g same [] = refl
-none_or_any_same f g same (x ∷ xs) = any_same f g same (x ∷ xs)
 
 -- a stranger has no named ports, as an address has none
 entry_same : (direction : Direction) (near : End) (s : Stranger) (a : Address) (spot : PortSpot) (entry : NetPort) → net_entry_matches entry
@@ -50,7 +44,7 @@ entry_same Egress near s a spot (net.Named proto name) = refl
 ports_same : (direction : Direction) (near : End) (s : Stranger) (a : Address) (spot : PortSpot) (entries : List NetPort) → none_or_any
     (λ entry. net_entry_matches entry (destination_of direction near (address a)) spot) entries ≡ none_or_any
     (λ entry. net_entry_matches entry (destination_of direction near (pod (stranger_end s))) spot) entries
-ports_same direction near s a spot entries = none_or_any_same (λ entry. net_entry_matches entry (destination_of direction near (address a)) spot)
+ports_same direction near s a spot entries = none_or_any-same (λ entry. net_entry_matches entry (destination_of direction near (address a)) spot)
     (λ entry. net_entry_matches entry (destination_of direction near (pod (stranger_end s))) spot) (entry_same direction near s a spot) entries
 
 -- so a set of what the entries of a rule match at addresses is one of what they match at strangers
@@ -78,10 +72,6 @@ all-push P (y ∷ xs) x all here = (all.0, all-push P xs x all.1 here)
 any-map : {X Y : Type 0} (f : Y → Bool) (g : X → Y) (xs : List X) → list_any f (map g xs) ≡ list_any (λ x. f (g x)) xs
 any-map f g [] = refl
 any-map f g (x ∷ xs) = ap (λ b. f (g x) || b) (any-map f g xs)
-
-or_none : (b : Bool) → (b || false) ≡ b
-or_none true = refl
-or_none false = refl
 
 -- the kept rules match what they match as rules
 kept_same : (side : PodSide) (s : Stranger) (namespace : List ℕ) (spot : PortSpot) → is_spot spot ≡ true → (kept : List RuleConns) → HavePorts side kept → list_any
@@ -126,7 +116,7 @@ says_of_stranger side s admin isolated net base at permitted made is_at keeps ar
     contacts = with_stranger s side
 
     net_says : list_any (λ set. has_spot set spot) made.net ≡ list_any (placed_net_matches (contacts spot)) (net_places side.lists.net_policies side.direction (near_pod side))
-    net_says = ap (list_any (λ set. has_spot set spot)) is_net ∙ or_none (has_spot permitted spot) ∙ are_permitted spot within
+    net_says = ap (list_any (λ set. has_spot set spot)) is_net ∙ or-false (has_spot permitted spot) ∙ are_permitted spot within
 
     base_is : base_allows (find (λ part. has_spot part.set spot) made.base) ≡ base_says
         (find (λ placed. admin_rule_matches placed.rule (contacts spot)) (base_places side.lists.baseline side.direction (near_pod side)))

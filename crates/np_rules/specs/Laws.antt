@@ -1,15 +1,14 @@
 -- The words of the laws.
-use Rattle.std.specs.Prelude.{◌≡◌, ◌⊎◌, List, [], ◌∷◌, ◌++◌, Bool, true, false, ◌||◌}
+use Rattle.std.specs.Prelude.{◌≡◌, ◌⊎◌, List, [], ◌∷◌, ◌++◌, Bool, false, ◌||◌}
 use Rattle.std.specs.List.{list_any}
 use Rattle.std.specs.Option.{option_map, option_map_or}
 use Rattle.np_model.specs.declared.lists.EstateLists.{EstateLists}
-use Rattle.np_model.specs.declared.admin_policy.AdminPeer.{AdminPeer}
-use Rattle.np_model.specs.declared.admin_policy.AdminPeer.TheVariants.{Pods, Networks}
 use Rattle.np_model.specs.declared.admin_policy.AdminRule.{AdminRule}
 use Rattle.np_model.specs.declared.direction.Direction.{Direction}
 use Rattle.np_model.specs.declared.direction.Direction.TheVariants.{Ingress, Egress}
 use Rattle.np_model.specs.declared.network_policy.NetPolicy.{NetPolicy}
 use Rattle.np_model.specs.declared.network_policy.NetRule.{NetRule}
+use Rattle.np_model.specs.Families.{is_networks}
 
 -- the item is one of the list
 abbrev pub IsAmong : {X : Type 0} → X → List X → Type 0
@@ -26,10 +25,6 @@ with_rule Ingress rule policy = record policy { ingress = option_map (λ rules. 
 with_rule Egress rule policy = record policy { egress = option_map (λ rules. rules ++ rule ∷ []) policy.egress }
 
 -- ---- networks
-
-abbrev pub is_networks : AdminPeer → Bool
-is_networks (Pods namespaces pods) = false
-is_networks (Networks cidrs) = true
 
 -- whether some peer of some rule lists networks
 abbrev pub rules_list_networks : List AdminRule → Bool

@@ -2,12 +2,6 @@
 use Rattle.std.specs.Prelude.{ℕ, List, ◌++◌, Bool, true, false, codes, decimal}
 use Rattle.np_conns.specs.ConnsText.{proto_name}
 use Rattle.np_conns.specs.declared.port_spot.PortSpot.{PortSpot}
-use Rattle.np_model.specs.declared.direction.Direction.{Direction}
-use Rattle.np_model.specs.declared.direction.Direction.TheVariants.{Ingress, Egress}
-
-abbrev pub direction_text : Direction → List ℕ
-direction_text Ingress = codes "ingress"
-direction_text Egress = codes "egress"
 
 abbrev pub verdict_text : Bool → List ℕ
 verdict_text true = codes "Allow"

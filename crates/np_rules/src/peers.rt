@@ -9,6 +9,7 @@ ghost use Rattle.np_rules.specs.BlockFamilies.{is_block_of, some_inside};
 ghost use Rattle.np_rules.specs.model.Peers as spec;
 ghost use Rattle.np_rules.specs.model.Rules.{none_or_any};
 ghost use Rattle.np_rules.specs.Views.{pod_view, end_view};
+ghost use Rattle.np_addr.specs.Prefixes.{some_has};
 
 use crate::views::{EndView, PodView};
 use np_addr::{Address, Addresses, Cidr, Family, cidr_has};
@@ -72,7 +73,7 @@ fn block_has(cidr: &Cidr, excepts: &[Cidr], address: &Address) -> bool
 
 // Whether an address is in some of the blocks.
 fn in_some(cidrs: &[Cidr], address: &Address) -> bool
-    ensures { result ≡ spec.in_some cidrs.now address.now }
+    ensures { result ≡ some_has cidrs.now address.now }
 {
     cidrs.iter().any(|cidr| cidr_has(cidr, *address))
 }
@@ -103,7 +104,7 @@ fn admin_peer_matches(peer: &AdminPeer, far: &EndView<'_>, family: Family) -> bo
 
 // Whether some of the addresses is of the family and in some of the blocks. Without a list there is none.
 fn some_address_in(cidrs: &[Cidr], addresses: Option<&Addresses>, family: Family) -> bool
-    ensures { result ≡ list_any (λ a. is_of family a && spec.in_some cidrs.now a) (unwrap_or (option_copied addresses.entry) []) }
+    ensures { result ≡ list_any (λ a. is_of family a && some_has cidrs.now a) (unwrap_or (option_copied addresses.entry) []) }
 {
     match addresses {
         Some(addresses) => some_inside(cidrs, addresses, family),

@@ -1,6 +1,7 @@
 //! What directions and verdicts are called in reports.
 ghost use Rattle.std.specs.Prelude.{◌≡◌, IfOk, string_bytes};
 ghost use Rattle.np_rules.specs.Texts as spec;
+ghost use Rattle.np_model.specs.Words.{direction_text};
 
 use np_base::NoMemory;
 use np_conns::PortSpot;
@@ -9,7 +10,7 @@ use std::alloc::Global;
 
 /// `ingress` or `egress`, as the rules of a policy are listed.
 pub fn direction_text(direction: Direction) -> &'static str
-    ensures { result.now ≡ spec.direction_text direction }
+    ensures { result.now ≡ direction_text direction }
 {
     match direction {
         Direction::Ingress => "ingress",

@@ -1,16 +1,19 @@
 -- No two objects of the sample have one name.
-use Rattle.std.proofs.Common.{◌≡◌, ℕ, ◌+◌, ◌^◌, ◌<◌, ◌≤◌, List, [], ◌∷◌, ◌++◌, Bool, true, false, ◌&&◌, not, cond, Option, Some, None, decimal, refl, ◌∙◌, arith}
+use Rattle.std.proofs.Common.{◌≡◌, ℕ, ◌+◌, ◌^◌, ◌<◌, ◌≤◌, List, [], ◌∷◌, ◌++◌, Bool, true, false, not, cond, Option, Some, None, decimal, refl, ◌∙◌, arith}
 use Rattle.std.proofs.lemmas.Fmt.{decimal_injective}
 use Rattle.std.proofs.lemmas.Iterator.Adapters.{position_from-zero}
 use Rattle.std.proofs.lemmas.Slice.Eq.{bytes_eq-Decides}
 use Rattle.std.specs.List.{AllByRecursion, position_from}
 use Rattle.std.specs.Option.{option_map_or}
 use Rattle.std.specs.Str.{bytes_eq}
+use Rattle.np_reading.proofs.LawfulLists.{AllLater}
+use Rattle.np_base.proofs.Each.{All-append}
+use Rattle.np_base.proofs.Bools.{not_both}
 use Rattle.np_items.specs.declared.item.Item.{Item}
 use Rattle.np_owners.specs.Names.{first_repeat, is_named, name_of, place_of, repeat_after, repeated}
 use Rattle.np_owners.specs.declared.object_name.ObjectName.{ObjectName}
 use Rattle.np_sample.specs.Objects.{namespace_count}
-use Rattle.np_sample.proofs.ListLemmas.{all-append, AllLater, later-four}
+use Rattle.np_sample.proofs.ListLemmas.{later-four}
 use Rattle.np_sample.proofs.Items.{admin_policy_item, namespace_item, net_policy_item, pod_item, sample_items}
 
 -- ---- lists without repeats
@@ -53,7 +56,7 @@ none_repeated earlier (one ∷ items) before later =
     more : (rest : List Item) → AllByRecursion (λ other. AllByRecursion (λ e. IsApart e other) earlier) rest → AllByRecursion (IsApart one) rest →
         AllByRecursion (λ other. AllByRecursion (λ e. IsApart e other) (earlier ++ one ∷ [])) rest
     more [] all next = tt
-    more (other ∷ rest) all next = (all-append (λ e. IsApart e other) earlier (one ∷ []) all.0 (next.0, tt), more rest all.1 next.1)
+    more (other ∷ rest) all next = (All-append (λ e. IsApart e other) earlier (one ∷ []) all.0 (next.0, tt), more rest all.1 next.1)
 
 no_earlier : (items : List Item) → AllByRecursion (λ one. AllByRecursion (λ before. IsApart before one) []) items
 no_earlier [] = tt
@@ -67,10 +70,6 @@ other_digits a b below small = by (bytes_eq (decimal b) (decimal a)) refl
     by : (t : Bool) → bytes_eq (decimal b) (decimal a) ≡ t → t ≡ false
     by false is = refl
     by true is = let same = decimal_injective b a small (omega arith) ((bytes_eq-Decides (decimal b) (decimal a)).0 is) in absurd (omega arith)
-
-not_both : (a b : Bool) → b ≡ false → not (a && b) ≡ true
-not_both true b is = rw is refl
-not_both false b is = refl
 
 namespaces_apart : (a b : ℕ) → a < b → b < namespace_count → IsApart (namespace_item a) (namespace_item b)
 namespaces_apart a b below within = rw (other_digits a b below (omega arith)) refl

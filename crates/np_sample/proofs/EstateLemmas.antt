@@ -1,11 +1,12 @@
 -- The estate of the items of the sample.
-use Rattle.std.proofs.Common.{◌≡◌, ℕ, zero, suc, ◌+◌, List, [], ◌∷◌, ◌++◌, length, map, find, fold, Bool, false, cond, Option, Some, None, refl, sym, ap, ◌∙◌, arith, append_assoc, add-zero}
+use Rattle.std.proofs.Common.{◌≡◌, ℕ, zero, suc, ◌+◌, List, [], ◌∷◌, ◌++◌, length, map, Bool, false, Option, Some, None, refl, sym, ap, ◌∙◌, arith, append_assoc}
 use Rattle.std.proofs.Common.{length-append}
 use Rattle.std.specs.List.{AllByRecursion, cons_option, filter_map, range_with_len, slice_get}
 use Rattle.std.specs.Option.{option_and_then, option_map_or, option_to_list}
 use Rattle.std.proofs.lemmas.List.Elements.{filter_map-append}
-use Rattle.np_chains.proofs.Walks.{chain_none}
-use Rattle.np_chains.specs.Chains.{owns_itself, places, up}
+use Rattle.np_base.proofs.Lists.{count-none}
+use Rattle.np_chains.specs.Chains.{places, up}
+use Rattle.np_chains.proofs.Owned.{owns_itself-none}
 use Rattle.np_reading.specs.Ends.{listed_pod, pod_at_item, pods_from, context}
 use Rattle.np_reading.specs.LeftOut.{count_left_out, is_for, is_left_out, left_out}
 use Rattle.np_reading.specs.Namespaces.{labels_in, listed_labels, name_label, namespace_name}
@@ -51,10 +52,6 @@ none_in [] all place = refl
 none_in (o ∷ ups) all zero = all.0
 none_in (o ∷ ups) all (suc place) = none_in ups all.1 place
 
-not_found : (ups : List (Option ℕ)) → ((place : ℕ) → up ups place ≡ None) → (ks : List ℕ) → find (owns_itself ups) ks ≡ None
-not_found ups none [] = refl
-not_found ups none (k ∷ ks) = rw (chain_none ups (length ups) k (none k)) (not_found ups none ks)
-
 nothing_then : (o : Option ObjectName) → option_and_then {U = ℕ} (λ name. None) o ≡ None
 nothing_then None = refl
 nothing_then (Some name) = refl
@@ -65,7 +62,7 @@ no_owners items (one ∷ rest) all =
     (ap (λ owner. option_and_then (place_in_namespace items owner) (name_of one)) all.0 ∙ nothing_then (name_of one), no_owners items rest all.1)
 
 pub first_in_cycle-none : (items : List Item) → AllByRecursion (λ one. owner_of one ≡ None) items → first_in_cycle items ≡ None
-first_in_cycle-none items all = rw (not_found (ups items) (none_in (ups items) (no_owners items items all)) (places (ups items))) refl
+first_in_cycle-none items all = rw (owns_itself-none (ups items) (none_in (ups items) (no_owners items items all)) (places (ups items))) refl
 
 -- ---- what is left out
 
@@ -74,10 +71,6 @@ passes_none : {L : Type 0} (is : L → Bool) (left : Item → Option L) (items :
 passes_none is left [] all place = refl
 passes_none is left (one ∷ items) all zero = rw all.0 refl
 passes_none is left (one ∷ items) all (suc place) = passes_none is left items all.1 place
-
-count_none : (test : ℕ → Bool) → ((k : ℕ) → test k ≡ false) → (total : ℕ) (ks : List ℕ) → fold (λ so_far k. so_far + cond (test k) 1 0) total ks ≡ total
-count_none test none total [] = refl
-count_none test none total (k ∷ ks) = rw (none k, add-zero total) (count_none test none total ks)
 
 abbrev pub IsKept : Item → Type 0
 IsKept one = (makes : Bool) → left_out makes one ≡ None
@@ -88,7 +81,7 @@ kept_by makes (one ∷ items) all = (all.0 makes, kept_by makes items all.1)
 
 pub count_left_out-none : (items : List Item) (why : _) → AllByRecursion IsKept items → count_left_out items why ≡ 0
 count_left_out-none items why all =
-    count_none (is_left_out items why) (λ k. passes_none (is_for why) (left_out (makes_pod items k)) items (kept_by (makes_pod items k) items all) k) 0 (range_with_len 0 (length items))
+    count-none (is_left_out items why) (λ k. passes_none (is_for why) (left_out (makes_pod items k)) items (kept_by (makes_pod items k) items all) k) 0 (range_with_len 0 (length items))
 
 -- ---- pods
 

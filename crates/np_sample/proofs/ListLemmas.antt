@@ -1,13 +1,9 @@
 -- Lists that are made from numbers in a row: what holds of each of their elements, of each and those after it, and of
 -- those at one place in two lists.
 use Rattle.std.proofs.Common.{ℕ, zero, suc, ◌+◌, ◌<◌, ◌≤◌, List, [], ◌∷◌, ◌++◌, map, arith}
-use Rattle.std.specs.Prelude.{⊤}
 use Rattle.std.specs.List.{AllByRecursion, AllZip, range_with_len}
-
--- each element stands so to those after it
-abbrev pub AllLater : {X : Type 0} → (X → X → Type 0) → List X → Type 0
-AllLater R [] = ⊤
-AllLater R (x ∷ xs) = AllByRecursion (R x) xs × AllLater R xs
+use Rattle.np_reading.proofs.LawfulLists.{AllLater}
+use Rattle.np_base.proofs.Each.{All-append}
 
 -- each element of a list stands so to those of another
 abbrev AllAcross : {X : Type 0} → (X → X → Type 0) → List X → List X → Type 0
@@ -15,13 +11,9 @@ AllAcross R xs ys = AllByRecursion (λ x. AllByRecursion (R x) ys) xs
 
 -- ---- one list behind another
 
-pub all-append : {X : Type 0} (P : X → Type 0) (xs ys : List X) → AllByRecursion P xs → AllByRecursion P ys → AllByRecursion P (xs ++ ys)
-all-append P [] ys front rest = rest
-all-append P (x ∷ xs) ys front rest = (front.0, all-append P xs ys front.1 rest)
-
 later-append : {X : Type 0} (R : X → X → Type 0) (xs ys : List X) → AllLater R xs → AllLater R ys → AllAcross R xs ys → AllLater R (xs ++ ys)
 later-append R [] ys front rest across = rest
-later-append R (x ∷ xs) ys front rest across = (all-append (R x) xs ys front.0 across.0, later-append R xs ys front.1 rest across.1)
+later-append R (x ∷ xs) ys front rest across = (All-append (R x) xs ys front.0 across.0, later-append R xs ys front.1 rest across.1)
 
 zip-append : {X Y : Type 0} (R : X → Y → Type 0) (xs xs' : List X) (ys ys' : List Y) → AllZip R xs ys → AllZip R xs' ys' → AllZip R (xs ++ xs') (ys ++ ys')
 zip-append R [] xs' [] ys' front rest = rest
@@ -65,8 +57,8 @@ four_kinds f g h last n = row f 5 ++ row g n ++ row h 5 ++ last ∷ []
 pub all-four : {X : Type 0} (P : X → Type 0) (f g h : ℕ → X) (last : X) (n : ℕ) → ((i : ℕ) → i < 5 → P (f i)) → ((i : ℕ) → i < n → P (g i)) → ((i : ℕ) → i < 5 → P (h i)) → P last →
     AllByRecursion P (four_kinds f g h last n)
 all-four P f g h last n first second third fourth =
-    all-append P (row f 5 ++ row g n ++ row h 5) (last ∷ [])
-    (all-append P (row f 5 ++ row g n) (row h 5) (all-append P (row f 5) (row g n) (all-row P f 5 first) (all-row P g n second)) (all-row P h 5 third))
+    All-append P (row f 5 ++ row g n ++ row h 5) (last ∷ [])
+    (All-append P (row f 5 ++ row g n) (row h 5) (All-append P (row f 5) (row g n) (all-row P f 5 first) (all-row P g n second)) (all-row P h 5 third))
     (fourth, tt)
 
 pub zip-four : {X Y : Type 0} (R : X → Y → Type 0) (f g h : ℕ → X) (last : X) (f' g' h' : ℕ → Y) (last' : Y) (n : ℕ) → ((i : ℕ) → i < 5 → R (f i) (f' i)) → ((i : ℕ) → i < n → R (g i) (g' i)) →
@@ -88,8 +80,8 @@ later-four R f g h last n first second third across behind =
     (later-append R (row f 5 ++ row g n) (row h 5)
     (later-append R (row f 5) (row g n) (later-from R f 0 5 5 (omega arith) first) (later-from R g 0 n n (omega arith) second) (across-rows R f g 5 n (λ i j. (across i j).0)))
     (later-from R h 0 5 5 (omega arith) third)
-    (all-append (λ x. AllByRecursion (R x) (row h 5)) (row f 5) (row g n) (across-rows R f h 5 5 (λ i j. (across i j).1)) (across-rows R g h n 5 (λ i j. (across i j).2))))
+    (All-append (λ x. AllByRecursion (R x) (row h 5)) (row f 5) (row g n) (across-rows R f h 5 5 (λ i j. (across i j).1)) (across-rows R g h n 5 (λ i j. (across i j).2))))
     (tt, tt)
-    (all-append (λ x. AllByRecursion (R x) (last ∷ [])) (row f 5 ++ row g n) (row h 5)
-    (all-append (λ x. AllByRecursion (R x) (last ∷ [])) (row f 5) (row g n) (across-last R f last 5 (λ i. (behind i).0)) (across-last R g last n (λ i. (behind i).1)))
+    (All-append (λ x. AllByRecursion (R x) (last ∷ [])) (row f 5 ++ row g n) (row h 5)
+    (All-append (λ x. AllByRecursion (R x) (last ∷ [])) (row f 5) (row g n) (across-last R f last 5 (λ i. (behind i).0)) (across-last R g last n (λ i. (behind i).1)))
     (across-last R h last 5 (λ i. (behind i).2)))

@@ -19,8 +19,10 @@ use Rattle.json.proofs.Printed.Utf8.{are_ascii, IsUtf8-are_ascii, IsUtf8-quoted,
 use Rattle.serde_json.specs.Data.{Num, unsigned, negative, float, Data, null, boolean, number, string, array, object, Items, no_items, item, Members, no_members, member}
 use Rattle.serde_json.specs.Read.{of_json, of_items, read}
 use Rattle.serde_json.specs.View.{items_of}
-use Rattle.serde_json.specs.Written.{comma_if, compact_text, items_outline, items_text, members_outline, members_text, outline}
+use Rattle.serde_json.specs.Written.{compact_text, items_outline, items_text, members_outline, members_text, outline}
 use Rattle.serde_json.proofs.Texts.{print-outline}
+use Rattle.np_json.proofs.ReadLemmas.{IsUtf8-comma}
+use Rattle.np_base.proofs.Texts.{IsUtf8-byte}
 
 -- a whole number that is not negative and fits 64 bits
 abbrev pub is_plain_number : Num → Bool
@@ -54,15 +56,8 @@ all_plain_items (value ∷ values) all = rw all.0 (all_plain_items values all.1)
 
 -- ---- UTF-8
 
-one_byte : (x : ℕ) → nat_lt x 128 ≡ true → (s : List ℕ) → IsUtf8 s → IsUtf8 (x ∷ s)
-one_byte x small s utf8 = IsUtf8-append (x ∷ []) s (IsUtf8-are_ascii (x ∷ []) (rw small refl)) utf8
-
 number_utf8 : (n : ℕ) → nat_lt n (2 ^ 64) ≡ true → IsUtf8 (decimal n)
 number_utf8 n small = IsUtf8-from_ascii (decimal n) (IsAscii-decimal n (ltb-true n (2 ^ 64) small))
-
-comma : (later : Bool) (s : List ℕ) → IsUtf8 s → IsUtf8 (comma_if later ++ s)
-comma true s utf8 = one_byte 44 refl s utf8
-comma false s utf8 = utf8
 
 mutual
   pub IsUtf8-compact_text : (d : Data) → is_plain d ≡ true → IsUtf8 (compact_text d)
@@ -72,22 +67,22 @@ mutual
   IsUtf8-compact_text (number (negative z)) plain = cc
   IsUtf8-compact_text (number (float x)) plain = cc
   IsUtf8-compact_text (string s) plain = IsUtf8-quoted s (IsUtf8-are_ascii s plain)
-  IsUtf8-compact_text (array ds) plain = one_byte 91 refl _ (IsUtf8-items_text false ds plain)
-  IsUtf8-compact_text (object ms) plain = one_byte 123 refl _ (IsUtf8-members_text false ms plain)
+  IsUtf8-compact_text (array ds) plain = IsUtf8-byte 91 refl _ (IsUtf8-items_text false ds plain)
+  IsUtf8-compact_text (object ms) plain = IsUtf8-byte 123 refl _ (IsUtf8-members_text false ms plain)
 
   IsUtf8-items_text : (later : Bool) (ds : Items) → are_plain_items ds ≡ true → IsUtf8 (items_text later ds)
   IsUtf8-items_text later no_items plain = IsUtf8-are_ascii _ refl
   IsUtf8-items_text later (item d ds) plain =
       let parts = and_parts (is_plain d) (are_plain_items ds) plain in
-      comma later _ (IsUtf8-append (compact_text d) (items_text true ds) (IsUtf8-compact_text d parts.0) (IsUtf8-items_text true ds parts.1))
+      IsUtf8-comma later _ (IsUtf8-append (compact_text d) (items_text true ds) (IsUtf8-compact_text d parts.0) (IsUtf8-items_text true ds parts.1))
 
   IsUtf8-members_text : (later : Bool) (ms : Members) → are_plain_members ms ≡ true → IsUtf8 (members_text later ms)
   IsUtf8-members_text later no_members plain = IsUtf8-are_ascii _ refl
   IsUtf8-members_text later (member k d ms) plain =
       let parts = and_parts (are_ascii k) (is_plain d && are_plain_members ms) plain in
       let rest = and_parts (is_plain d) (are_plain_members ms) parts.1 in
-      comma later _ (IsUtf8-append (quoted k) _ (IsUtf8-quoted k (IsUtf8-are_ascii k parts.0))
-      (one_byte 58 refl _ (IsUtf8-append (compact_text d) (members_text true ms) (IsUtf8-compact_text d rest.0) (IsUtf8-members_text true ms rest.1))))
+      IsUtf8-comma later _ (IsUtf8-append (quoted k) _ (IsUtf8-quoted k (IsUtf8-are_ascii k parts.0))
+      (IsUtf8-byte 58 refl _ (IsUtf8-append (compact_text d) (members_text true ms) (IsUtf8-compact_text d rest.0) (IsUtf8-members_text true ms rest.1))))
 
 -- ---- numbers
 

@@ -14,7 +14,8 @@ use Rattle.np_fold.specs.Workloads.{folding_of, workload_count, workloads_of}
 use Rattle.np_fold.proofs.WorkloadLemmas.{workloads-count}
 use Rattle.np_model.specs.declared.direction.Direction.{Direction}
 use Rattle.np_model.specs.declared.direction.Direction.TheVariants.{Ingress, Egress}
-use Rattle.np_routes.specs.ClusterTable.{ClusterTable, all_ingress_rows, cluster_rows, cluster_table, ingress_key, ingress_row}
+use Rattle.np_routes.specs.ClusterTable.{ClusterTable, all_ingress_rows, cluster_rows, cluster_table, ingress_row}
+use Rattle.np_routes.proofs.ClusterLemmas.{ingress_row-one}
 use Rattle.np_rules.specs.model.Verdict.{pod_at}
 use Rattle.np_table.proofs.RangeOneList.{right-walk}
 use Rattle.np_table.proofs.RangeSets.{conns_of-agrees}
@@ -69,13 +70,9 @@ length-all_pair_rows table few =
           (λ source. omega (arith, few, count, length-flat_map-le (pair_rows table source) 2 (length-pair_rows table source) (workloads table))) (workloads table),
     )
 
-length-ingress_row : (cluster : ClusterTable) (workload : ℕ) → length (ingress_row cluster workload) ≤ 1
-unfolding ingress_row
-length-ingress_row cluster workload = length-row_if (ingress_key workload) None (conns_of (cluster.ingresses workload))
-
 length-all_ingress_rows : (cluster : ClusterTable) → length (all_ingress_rows cluster) ≤ length cluster.table.names
 unfolding all_ingress_rows
-length-all_ingress_rows cluster = omega (arith, length-flat_map-le (ingress_row cluster) 1 (length-ingress_row cluster) (workloads cluster.table), length-range_with_len 0 (length cluster.table.names))
+length-all_ingress_rows cluster = omega (arith, length-flat_map-le (ingress_row cluster) 1 (ingress_row-one cluster) (workloads cluster.table), length-range_with_len 0 (length cluster.table.names))
 
 -- ---- rows of addresses
 

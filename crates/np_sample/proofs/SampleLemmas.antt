@@ -8,14 +8,13 @@ use Rattle.np_reading.specs.Listed.{service, services_of, with_admin, with_net, 
 use Rattle.np_reading.specs.Ends.{pods_of}
 use Rattle.np_reading.specs.Namespaces.{labels_in}
 use Rattle.np_reading.specs.Reading.{estate_of, estate_of_items, notes_of}
+use Rattle.np_reading.proofs.EstateLemmas.{estate_of-read, same-notes}
 use Rattle.np_model.specs.declared.notes.Notes.{Notes}
 use Rattle.np_model.specs.declared.placed_ingress.PlacedIngress.{PlacedIngress}
 use Rattle.np_model.specs.declared.pod.Pod.{Pod}
-use Rattle.np_items.specs.Items.{items_of}
 use Rattle.np_items.specs.declared.item.Item.{Item}
 use Rattle.np_model.specs.declared.service.ServiceItem.{ServiceItem}
-use Rattle.np_owners.specs.Names.{first_repeat}
-use Rattle.np_owners.specs.Owners.{first_in_cycle, owner_of}
+use Rattle.np_owners.specs.Owners.{owner_of}
 use Rattle.np_model.specs.declared.admin_policy.AdminPolicy.{AdminPolicy}
 use Rattle.np_model.specs.declared.admin_policy.BasePolicy.{BasePolicy}
 use Rattle.np_model.specs.declared.network_policy.NetPolicy.{NetPolicy}
@@ -68,13 +67,9 @@ first_equal-sample n = ap (λ found. first_equal (map (λ entry. entry.0) (fold 
 
 -- ---- notes
 
-same_notes : (a b c d : ℕ) → a ≡ 0 → b ≡ 0 → c ≡ 0 → d ≡ 0 → let made : Notes = record { host = a; finished = b; skipped = c; unaddressed = d } in made
-    ≡ record { host = 0; finished = 0; skipped = 0; unaddressed = 0 }
-same_notes a b c d first second third fourth = rw (first, second, third, fourth) refl
-
 notes_of-kept : (items : List Item) → AllByRecursion IsKept items → list_networks (admin_policies_of items) (baseline_of items) ≡ false →
     notes_of items ≡ record { host = 0; finished = 0; skipped = 0; unaddressed = 0 }
-notes_of-kept items all none = same_notes _ _ _ _ (search (count_left_out-none, all)) (search (count_left_out-none, all)) (search (count_left_out-none, all)) (rw none refl)
+notes_of-kept items all none = same-notes _ _ _ _ (search (count_left_out-none, all)) (search (count_left_out-none, all)) (search (count_left_out-none, all)) (rw none refl)
 
 -- ---- the whole
 
@@ -94,11 +89,6 @@ estate_of_items-sample n =
     (nothing_given service items (all-items (λ one. service one ≡ None) n (λ j. refl) (λ i. refl) (λ j. refl) refl))
     (no_ingresses 1 items (all-items (λ one. ingress one ≡ None) n (λ j. refl) (λ i. refl) (λ j. refl) refl))
     (notes_of-kept items kept (rw (admin_policies_of-sample n, baseline) refl))
-
-estate_of-read : (texts : List (List ℕ)) (items : List Item) → items_of texts ≡ Ok items → first_repeat items ≡ None → first_equal (ranks_of items) ≡ None → first_in_cycle items ≡ None →
-    estate_of texts ≡ Ok (estate_of_items items)
-unfolding estate_of
-estate_of-read texts items read apart priorities cycles = rw (read, apart, priorities, cycles) refl
 
 pub estate_of-sample : (n : ℕ) → n ≤ 1000 → estate_of (sample_text n ∷ []) ≡ Ok (sample_estate n)
 estate_of-sample n few =

@@ -1,14 +1,10 @@
 -- What shapes read of texts and numbers that are as they ask.
-use Rattle.std.proofs.Common.{◌≡◌, ◌≢◌, ℕ, suc, ◌^◌, ◌≤◌, List, [], ◌∷◌, length, true, Ok, refl, arith, le-leb, lt-ltb, ne_eqb}
-use Rattle.serde_json.specs.Data.{number, object, string, unsigned, member, no_members}
+use Rattle.std.proofs.Common.{◌≡◌, ◌≢◌, ℕ, suc, List, [], ◌∷◌, length, true, Ok, refl, arith, ne_eqb}
+use Rattle.serde_json.specs.Data.{object, string, member, no_members}
 use Rattle.np_json.specs.Meta.{namespace}
 use Rattle.np_model.specs.Words.{is_label, is_name}
-use Rattle.np_json.specs.Scalars.{labels, name, port}
+use Rattle.np_json.specs.Scalars.{labels}
 use Rattle.np_json.specs.Shapes.{refuse_if}
-
-pub name-of : (s : List ℕ) → is_name s ≡ true → name (string s) ≡ Ok s
-unfolding name refuse_if
-name-of s is = rw is refl
 
 pub namespace-of : (c : ℕ) (s : List ℕ) → is_name (c ∷ s) ≡ true → namespace (string (c ∷ s)) ≡ Ok (c ∷ s)
 unfolding namespace refuse_if
@@ -20,7 +16,3 @@ namespace-of c s is =
 pub labels-of : (key value : List ℕ) → is_label (key, value) ≡ true → labels (object (member key (string value) no_members)) ≡ Ok ((key, value) ∷ [])
 unfolding labels refuse_if
 labels-of key value is = rw is refl
-
-pub port-of : (n : ℕ) → 1 ≤ n → n ≤ 65535 → port (number (unsigned n)) ≡ Ok n
-unfolding port
-port-of n least most = rw (lt-ltb n (2 ^ 63) (omega arith), le-leb 1 n least, le-leb n 65535 most) refl

@@ -1,21 +1,9 @@
 -- The objects of the sample cluster, as JSON. The members of each stand in the order of their names.
 use Rattle.std.specs.Prelude.{ℕ, ◌+◌, ◌%◌, List, [], ◌∷◌, ◌++◌, codes, decimal}
-use Rattle.serde_json.specs.Data.{Data, Members, no_members, member, array, number, object, string, unsigned}
-use Rattle.serde_json.specs.View.{items_of}
+use Rattle.serde_json.specs.Data.{Data, number, string, unsigned}
+use Rattle.np_json.specs.Members.{object_with, list_with}
 
 -- ---- JSON in short
-
-abbrev pub members_with : List (List ℕ × Data) → Members
-members_with [] = no_members
-members_with (entry ∷ entries) = member entry.0 entry.1 (members_with entries)
-
--- an object of these members
-abbrev pub object_with : List (List ℕ × Data) → Data
-object_with entries = object (members_with entries)
-
--- a list of these values
-abbrev pub list_with : List Data → Data
-list_with values = array (items_of values)
 
 -- an object of the API
 abbrev pub api_object : List ℕ → List ℕ → Data → Data → Data

@@ -1,7 +1,5 @@
 -- The numbers that a list of ranges misses.
-use Rattle.std.proofs.Common.{◌≡◌, ℕ, ◌+◌, ◌-◌, ◌<◌, ◌≤◌, List, [], ◌∷◌, ◌++◌, Bool, false, not, ◌||◌, ◌&&◌, nat_le, nat_lt, arith, sym, ap, ◌∙◌, length, get_or, drop}
-use Rattle.std.proofs.lemmas.List.{at_drop_more}
-use Rattle.std.proofs.lemmas.Grind.{common_steps}
+use Rattle.std.proofs.Common.{◌≡◌, ℕ, ◌+◌, ◌-◌, ◌<◌, List, [], ◌∷◌, ◌++◌, Bool, false, not, ◌||◌, ◌&&◌, nat_le, nat_lt, arith}
 use Rattle.std.proofs.lemmas.Bool.Decides.{nat_tests}
 use Rattle.np_base.specs.Ranges.{is_within, holds, IsAscending}
 use Rattle.np_base.specs.declared.range.Range.{Range}
@@ -44,11 +42,3 @@ misses-end number_of from last lo hi ranges range rest n taken is_lo is_hi ascen
 pub holds-last_gap : {P : Type 0} (number_of : P → ℕ) (ranges : List (Range P)) (range : Range P) (from last n : ℕ) → number_of range.lo ≡ from → number_of range.hi ≡ last →
     holds number_of (ranges ++ range ∷ []) n ≡ (holds number_of ranges n || misses number_of from last [] n)
 holds-last_gap number_of ranges range from last n first ends = rw (holds-push number_of ranges range n, first, ends) grind (arith, nat_tests)
-
--- the item at an index begins what is left from there
-pub drop-item : {A : Type 0} (items : List A) (index : ℕ) (item : A) → index < length items → item ≡ get_or items index item → drop index items ≡ item ∷ drop (index + 1) items
-drop-item items index item within is = at_drop_more (λ rest. rest) items index item within ∙ ap (λ first. first ∷ drop (index + 1) items) (sym is)
-
--- past the end nothing is left
-pub drop-ended : {A : Type 0} (items : List A) (index : ℕ) → length items ≤ index → drop index items ≡ []
-drop-ended items index past = grind (arith, common_steps)

@@ -5,7 +5,7 @@ use Rattle.std.specs.List.Sorted.{IsNonDecreasingBy}
 use Rattle.std.proofs.lemmas.List.Sorted.{IsNonDecreasingBy-drop}
 use Rattle.np_base.specs.Ranges.{is_within, holds}
 use Rattle.np_base.specs.declared.range.Range.{Range}
-use Rattle.np_sets.proofs.Members.{or_assoc}
+use Rattle.np_base.proofs.Bools.{or-leftwards}
 
 -- none has a number below `from`, and they ascend, equal ones beside each other
 abbrev pub AscendFrom : {P : Type 0} → (P → ℕ) → ℕ → List P → Type 0
@@ -31,7 +31,7 @@ pub members-more : {P : Type 0} (number_of : P → ℕ) (made made' : List (Rang
     ((holds number_of made' n || is_within number_of grown n) || list_any (λ point. number_of point == n) others)
     ≡ ((holds number_of made n || is_within number_of growing n) || list_any (λ point. number_of point == n) (next ∷ others))
 members-more number_of made made' growing grown next others n adds = rw (adds, is_within-alone number_of next n)
-    (sym (or_assoc (holds number_of made n || is_within number_of growing n) (number_of next == n) (list_any (λ point. number_of point == n) others)))
+    (sym (or-leftwards (holds number_of made n || is_within number_of growing n) (number_of next == n) (list_any (λ point. number_of point == n) others)))
 
 -- where none is left, none has a number
 pub none-left : {P : Type 0} (p : P → Bool) (points : List P) → length points ≡ 0 → list_any p points ≡ false

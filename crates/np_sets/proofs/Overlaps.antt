@@ -3,6 +3,7 @@ use Rattle.std.proofs.Common.{◌≡◌, ℕ, ◌+◌, ◌≤◌, List, [], ◌�
 use Rattle.std.specs.Prelude.{IfSome, option_to_list, ◌⊎◌}
 use Rattle.std.proofs.lemmas.Bool.{and_parts, both_ways}
 use Rattle.std.proofs.lemmas.Bool.Decides.{nat_tests}
+use Rattle.std.proofs.Math.Bool.{or-false}
 use Rattle.np_base.specs.Ranges.{is_within, holds, IsAscending}
 use Rattle.np_base.specs.declared.range.Range.{Range}
 use Rattle.np_base.proofs.Ranges.{holds-before, is_within-inside, IsAscending-earlier}
@@ -10,7 +11,7 @@ use Rattle.np_sets.specs.Growing.{IsAscendingUpTo}
 use Rattle.np_sets.specs.Laws.{holds-from, within-end}
 use Rattle.np_sets.specs.Steps.{IsShared, IsOverlap}
 use Rattle.np_sets.proofs.Growing.{IsAscendingUpTo-push, IsAscending-from_up_to}
-use Rattle.np_sets.proofs.Members.{holds-push, or_false}
+use Rattle.np_sets.proofs.Members.{holds-push}
 
 -- the shared range has what both ranges have
 holds-shared : {P : Type 0} (number_of : P → ℕ) (left right : Range P) (range : Option (Range P)) (n : ℕ) → IsShared number_of left right range →
@@ -102,7 +103,7 @@ IsMadeTo-push number_of low high left right None left_rest right_rest made made_
     record {
       ascends = rw same ascends;
       past = λ n held. rw same (past n (rw (overlap.members n) held));
-      members = λ n. rw same (sym (or_false (holds number_of made n)));
+      members = λ n. rw same (sym (or-false (holds number_of made n)));
     }
 IsMadeTo-push number_of low high left right (Some range) left_rest right_rest made made_after overlap ascends past adds =
     let shared = overlap.filled in
@@ -113,5 +114,5 @@ IsMadeTo-push number_of low high left right (Some range) left_rest right_rest ma
     record {
       ascends = IsAscending-from_up_to number_of low high (number_of range.hi + 2) made_after (follows (number_of range.hi + 2) (omega arith));
       past = λ n held. follows n (overlap.past n held);
-      members = λ n. rw (adds, holds-push number_of made range n, or_false (is_within number_of range n));
+      members = λ n. rw (adds, holds-push number_of made range n, or-false (is_within number_of range n));
     }

@@ -3,8 +3,8 @@ use Rattle.std.proofs.Common.{◌≡◌, ℕ, ◌+◌, ◌≤◌, List, [], ◌�
 use Rattle.np_base.specs.Ranges.{is_within, holds, IsAscending}
 use Rattle.np_base.specs.declared.range.Range.{Range}
 use Rattle.np_base.proofs.Ranges.{IsAscending-earlier}
+use Rattle.np_base.proofs.Bools.{or-leftwards}
 use Rattle.np_sets.specs.Steps.{IsEarlier}
-use Rattle.np_sets.proofs.Members.{or_assoc}
 
 -- the first of the ranges, if there is one, does not begin before the number
 abbrev pub BeginsFrom : {P : Type 0} → (P → ℕ) → ℕ → List (Range P) → Type 0
@@ -34,7 +34,7 @@ pub IsEarlier-left : {P : Type 0} (number_of : P → ℕ) (left right : List (Ra
     IsEarlier number_of left right range rest right
 IsEarlier-left number_of left right range rest taken begins = record {
   shorter = rw taken (omega arith);
-  members = λ n. rw taken (sym (or_assoc (is_within number_of range n) (holds number_of rest n) (holds number_of right n)));
+  members = λ n. rw taken (sym (or-leftwards (is_within number_of range n) (holds number_of rest n) (holds number_of right n)));
   first = λ from last in_left in_right.
       let parts = rw taken at in_left in
       record {

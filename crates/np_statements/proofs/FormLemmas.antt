@@ -16,6 +16,7 @@ use Rattle.std.proofs.lemmas.Map.Keys.{Less-from_sorted}
 use Rattle.std.proofs.lemmas.Map.Text.{is_eq-slice_cmp}
 use Rattle.std.proofs.lemmas.Option.{slice_get-get_or}
 use Rattle.std.proofs.lemmas.Slice.Eq.{bytes_eq-Decides}
+use Rattle.np_base.proofs.Lists.{slice_get-some}
 use Rattle.np_addr.specs.Addresses.{IsAddress, cidr_has}
 use Rattle.np_addr.specs.Blocks.{set_has}
 use Rattle.np_addr.specs.declared.address.Address.{Address}
@@ -30,7 +31,6 @@ use Rattle.np_classes.proofs.Relations.{firsts-le-count}
 use Rattle.np_model.specs.Lawful.{IsLawful}
 use Rattle.np_model.specs.declared.lists.EstateLists.{EstateLists}
 use Rattle.np_model.specs.declared.pod.Pod.{Pod}
-use Rattle.np_fold.proofs.AlikeLemmas.{slice_get-some}
 use Rattle.np_fold.proofs.WorkloadLemmas.{number-in_workloads, one_workload, workloads-by_name}
 use Rattle.np_fold.specs.Workloads.{Workload, folding_of, name_of, number_named, number_of, pods_alike, workload_count, workloads_of}
 use Rattle.np_statements.proofs.AddressSetLemmas.{has-addresses_in, has-every_address}

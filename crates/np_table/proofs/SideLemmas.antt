@@ -28,9 +28,10 @@ use Rattle.np_table.specs.Table.{estate_table, table_of}
 use Rattle.np_table.specs.ToCome.{most_rules}
 use Rattle.np_table.specs.declared.pair_sets.PairEnds.{PairEnds}
 use Rattle.std.proofs.Common.{◌≢◌, Contains}
+use Rattle.std.proofs.lemmas.Bool.{and_right}
 use Rattle.np_fold.specs.Workloads.{members_of}
 use Rattle.np_kinds.proofs.PairLemmas.{between-members}
-use Rattle.np_kinds.proofs.ReachLemmas.{and_false, between-is}
+use Rattle.np_kinds.proofs.ReachLemmas.{between-is}
 use Rattle.np_kinds.proofs.SideLemmas.{kind_side-address, kind_side-count, kind_sides-pass}
 use Rattle.np_kinds.specs.Kinds.{kind_side}
 use Rattle.np_table.proofs.SetLemmas.{has_spot-conns_of}
@@ -58,7 +59,7 @@ pub received-pass : (sender receiver : PodSide) (family : Family) (received : Co
     received ≡ conns_of (between_pods sender.lists sender.pod receiver.pod family)
 received-pass sender receiver family received ends well members none =
     conns_of-set received (between_pods sender.lists sender.pod receiver.pod family) well (λ spot is.
-    none spot ∙ sym (between-sides sender receiver family spot ends ∙ and_false (side_allows_pod sender receiver.pod family spot) (side_allows_pod receiver sender.pod family spot)
+    none spot ∙ sym (between-sides sender receiver family spot ends ∙ and_right (side_allows_pod sender receiver.pod family spot) (side_allows_pod receiver sender.pod family spot)
     (sym (members spot is) ∙ none spot)))
 
 -- and else what both allow

@@ -1,8 +1,8 @@
 -- Lists of marked sets, one after another.
-use Rattle.std.proofs.Common.{◌≡◌, ◌≢◌, ◌-◌, Bool, true, List, ◌++◌, length, All, AllPairs, refl, ap, ◌∙◌, inl, inr, append_assoc, map, filter, arith}
-use Rattle.std.proofs.lemmas.List.{map-append, length-append, get_or_append_left, get_or-append_right}
+use Rattle.std.proofs.Common.{◌≡◌, ◌≢◌, Bool, true, List, ◌++◌, ap, ◌∙◌, append_assoc, map, filter}
+use Rattle.std.proofs.lemmas.List.{map-append}
 use Rattle.std.proofs.lemmas.List.Elements.{All-append, All-weaker, filter-append}
-use Rattle.std.proofs.lemmas.Bool.{cases_lt}
+use Rattle.np_base.proofs.Lists.{AllPairs-append}
 use Rattle.np_tiers.specs.Entries.{mark_if, AreEntries, IsCarving}
 use Rattle.np_tiers.specs.Marks.{marks_at}
 use Rattle.np_tiers.specs.declared.mark.Mark.{Mark}
@@ -13,20 +13,6 @@ marks_at-append {S} at xs ys =
     let mark : Marked S → Mark = λ entry. entry.mark in
     let has_it : Marked S → Bool = λ entry. at entry.set in
     ap (map mark) (filter-append has_it xs ys) ∙ map-append mark (filter has_it xs) (filter has_it ys)
-
--- pairs within either list, and across
-pub AllPairs-append : {X : Type 0} (R : X → X → Type 0) (P Q : X → Type 0) → ((x y : X) → P x → Q y → R x y) → (xs ys : List X) → AllPairs R xs → AllPairs R ys → All P xs → All Q ys →
-    AllPairs R (xs ++ ys)
-AllPairs-append {X} R P Q across xs ys in_xs in_ys of_xs of_ys i j d before inside =
-    let total = length-append xs ys in
-    elim (cases_lt j (length xs)) [
-      | inl left ↦ rw (get_or_append_left xs ys d i (omega arith), get_or_append_left xs ys d j left) (in_xs i j d before left)
-      | inr right ↦ elim (cases_lt i (length xs)) [
-        | inl first ↦ rw (get_or_append_left xs ys d i first, get_or-append_right xs ys (length xs) j d refl right) (across _ _ (of_xs i d first) (of_ys (j - length xs) d (omega arith)))
-        | inr second ↦ rw (get_or-append_right xs ys (length xs) i d refl second, get_or-append_right xs ys (length xs) j d refl right)
-            (in_ys (i - length xs) (j - length xs) d (omega arith) (omega arith))
-      ]
-    ]
 
 module _ {S Spot : Type 0} (has : S → Spot → Bool) (IsWell : S → Type 0) where
   -- entries of two kinds whose marks differ

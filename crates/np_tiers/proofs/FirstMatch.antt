@@ -1,6 +1,7 @@
 -- A loop that goes down a list and carves out the spots that each item is the first to have.
 use Rattle.std.proofs.Common.{◌≡◌, ℕ, ◌+◌, ◌<◌, ◌≤◌, Bool, true, false, not, ◌&&◌, if◌then◌else◌, Option, Some, None, List, [], ◌∷◌, ◌++◌, length, get_or, drop, refl, sym, ap, ◌∙◌}
-use Rattle.std.proofs.lemmas.List.{drop_more, drop_all}
+use Rattle.std.proofs.lemmas.List.{drop_all}
+use Rattle.np_base.proofs.Lists.{drop-item}
 use Rattle.np_tiers.specs.Entries.{mark_if, IsCarving}
 use Rattle.np_tiers.specs.declared.mark.Mark.{Mark}
 use Rattle.np_tiers.specs.declared.mark.Marked.{Marked}
@@ -13,10 +14,6 @@ step_at : (left here hit left' : Bool) (found rest whole : Mark) → hit ≡ (le
 step_at false here hit left' found rest whole is_hit is_left is_whole = rw (is_hit, is_left) refl
 step_at true true hit left' found rest whole is_hit is_left is_whole = rw (is_hit, is_left, is_whole) refl
 step_at true false hit left' found rest whole is_hit is_left is_whole = rw (is_hit, is_left, is_whole) refl
-
--- what is left of a list, by the item that is read at its head
-drop_read : {X : Type 0} (xs : List X) (i : ℕ) (x : X) → i < length xs → x ≡ get_or xs i x → drop i xs ≡ x ∷ drop (i + 1) xs
-drop_read {X} xs i x inside read = drop_more xs i x inside ∙ ap (λ (first : X). first ∷ drop (i + 1) xs) (sym read)
 
 -- how a tier names what decides a spot
 pub record Tier (S X : Type 0) : Type 0 where
@@ -52,7 +49,7 @@ module _ {S Spot X : Type 0} (has : S → Spot → Bool) (IsWell : S → Type 0)
       let at : S → Bool = λ set. has set spot in
       step_at (has left spot) (has (tier.set_of item) spot) (has hit spot) (has left' spot) (tier.mark_at at place item) (tier.mark_from at (place + 1) (drop (place + 1) items))
       (tier.mark_from at place (drop place items)) (is_hit spot) (is_left spot)
-      (ap (tier.mark_from at place) (drop_read items place item inside read) ∙ tier.first_decides at place item (drop (place + 1) items)))
+      (ap (tier.mark_from at place) (drop-item items place item inside read) ∙ tier.first_decides at place item (drop (place + 1) items)))
 
   -- after the last item, where the end of the walk decides the spots that are left
   pub carved_all : (Last Whole : Mark → Type 0) (place : ℕ) → ((m : Mark) → Kind m → Whole m) → ((m : Mark) → Last m → Whole m × (tier.place_of m ≡ None)) → (left : S) (begun last : List (Marked S)) →

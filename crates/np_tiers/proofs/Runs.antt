@@ -1,14 +1,11 @@
 -- The run of a list of parts, by the runs of its two halves.
-use Rattle.std.proofs.Common.{◌≡◌, Bool, Option, Some, None, is_some, List, ◌++◌, find, refl, sym, ap, ◌∙◌, true, false, not}
+use Rattle.std.proofs.Common.{◌≡◌, Bool, Option, is_some, List, ◌++◌, find, sym, ap, ◌∙◌, true, false, not}
 use Rattle.std.proofs.lemmas.List.Folds.{find-append}
 use Rattle.std.specs.Option.{option_map, option_or}
+use Rattle.np_base.proofs.Options.{option_map-or}
 use Rattle.np_tiers.specs.Runs.{first_action, first_allows, IsRun}
 use Rattle.np_tiers.specs.declared.layer.Action.{Action}
 use Rattle.np_tiers.specs.declared.run.Run.{Run}
-
-map_either : {A B : Type 0} (f : A → B) (a b : Option A) → option_map f (option_or a b) ≡ option_or (option_map f a) (option_map f b)
-map_either f None b = refl
-map_either f (Some x) b = refl
 
 pub run_of_halves : {S P Spot : Type 0} (has : S → Spot → Bool) (set_of : P → S) (action_of : P → Action) (parts front back : List P) (run : Run S) → front ++ back ≡ parts →
     IsRun has (λ spot. option_or (first_action set_of action_of (λ set. has set spot) front) (first_action set_of action_of (λ set. has set spot) back)) run →
@@ -16,7 +13,7 @@ pub run_of_halves : {S P Spot : Type 0} (has : S → Spot → Bool) (set_of : P 
 run_of_halves {S} {P} {Spot} has set_of action_of parts front back run split halves =
     let first : Spot → List P → Option Action = λ spot. first_action set_of action_of (λ set. has set spot) in
     let either : (spot : Spot) → option_or (first spot front) (first spot back) ≡ first spot parts =
-    λ spot. sym (ap (option_map action_of) (find-append (λ part. has (set_of part) spot) front back) ∙ map_either action_of (find (λ part. has (set_of part) spot) front)
+    λ spot. sym (ap (option_map action_of) (find-append (λ part. has (set_of part) spot) front back) ∙ option_map-or action_of (find (λ part. has (set_of part) spot) front)
     (find (λ part. has (set_of part) spot) back)) ∙ ap (first spot) split in
     record {
       allowed = λ spot. halves.allowed spot ∙ ap (λ (first : Option Action). first_allows first false) (either spot);

@@ -3,6 +3,7 @@ use Rattle.std.proofs.Common.{◌≡◌, ℕ, suc, ◌+◌, Bool, true, false, �
 use Rattle.std.proofs.lemmas.Bool.{cases_Bool}
 use Rattle.std.specs.List.{list_any, slice_get, position_from}
 use Rattle.std.specs.Option.{option_map_or}
+use Rattle.std.proofs.Math.Bool.{or-false}
 use Rattle.np_tiers.specs.Walk.{action_allows, admin_allows, base_allows, lower_allows, walk_allows}
 use Rattle.np_tiers.specs.Marks.{base_mark, net_mark, lower_mark, action_mark, mark_of, mark_allows, marks_at}
 use Rattle.np_tiers.specs.declared.layer.Action.{Action}
@@ -15,21 +16,17 @@ use Rattle.np_tiers.proofs.FirstMatch.{Tier}
 use Rattle.np_tiers.proofs.Tiers.{net_tier, base_tier, admin_tier}
 
 -- `rest` is what stands from `place` on in the list
-abbrev StandsAt : {X : Type 0} → List X → ℕ → List X → Type 0
+abbrev pub StandsAt : {X : Type 0} → List X → ℕ → List X → Type 0
 StandsAt items place rest = (k : ℕ) → slice_get items (place + k) ≡ slice_get rest k
 
-first_stands : {X : Type 0} (items : List X) (place : ℕ) (x : X) (xs : List X) → StandsAt items place (x ∷ xs) → slice_get items place ≡ Some x
+pub first_stands : {X : Type 0} (items : List X) (place : ℕ) (x : X) (xs : List X) → StandsAt items place (x ∷ xs) → slice_get items place ≡ Some x
 first_stands items place x xs stands = ap (slice_get items) (omega arith) ∙ stands 0
 
-rest_stands : {X : Type 0} (items : List X) (place : ℕ) (x : X) (xs : List X) → StandsAt items place (x ∷ xs) → StandsAt items (place + 1) xs
+pub rest_stands : {X : Type 0} (items : List X) (place : ℕ) (x : X) (xs : List X) → StandsAt items place (x ∷ xs) → StandsAt items (place + 1) xs
 rest_stands items place x xs stands k = ap (slice_get items) (omega arith) ∙ stands (suc k)
 
-whole_stands : {X : Type 0} (items : List X) → StandsAt items 0 items
+pub whole_stands : {X : Type 0} (items : List X) → StandsAt items 0 items
 whole_stands items k = ap (slice_get items) (omega arith)
-
-or_false : (b : Bool) → (b || false) ≡ b
-or_false true = refl
-or_false false = refl
 
 or_choice : (b x : Bool) → (if b then true else x) ≡ (b || x)
 or_choice true x = refl
@@ -85,4 +82,4 @@ module _ {S : Type 0} (at : S → Bool) (layer : Layer S) where
 
   pub union_says : (entries : List (Marked S)) → marks_at at entries ≡ mark_of at layer ∷ [] → walk_allows at layer ≡ list_any (λ entry. at entry.set && mark_allows layer entry.mark) entries
   union_says entries marks =
-      sym (any_by_marks entries ∙ ap (list_any (mark_allows layer)) marks ∙ or_false (mark_allows layer (mark_of at layer)) ∙ mark_says)
+      sym (any_by_marks entries ∙ ap (list_any (mark_allows layer)) marks ∙ or-false (mark_allows layer (mark_of at layer)) ∙ mark_says)

@@ -8,13 +8,13 @@ use Rattle.np_command_explain.specs.declared.report.Shown.{Shown}
 use Rattle.np_conns.specs.Conns.{has_spot}
 use Rattle.np_conns.specs.ConnsText.{conns_text}
 use Rattle.np_model.specs.declared.lists.EstateLists.{EstateLists}
-use Rattle.np_rules.specs.Texts.{direction_text}
 use Rattle.np_explain.specs.Sides.{are_one_pod}
 use Rattle.np_explain.specs.declared.explanation.Explanation.{Explanation}
 use Rattle.np_explain.specs.declared.part.Part.{Part}
 use Rattle.np_fold.specs.Workloads.{Folding, members_of}
 use Rattle.np_model.specs.declared.direction.Direction.{Direction}
 use Rattle.np_model.specs.declared.direction.Direction.TheVariants.{Ingress, Egress}
+use Rattle.np_model.specs.Words.{direction_text}
 use Rattle.np_report.specs.RowText.{family_suffix}
 use Rattle.np_rules.specs.model.Verdict.{IsEndOf}
 use Rattle.np_kinds.specs.Between.{IsWorkload}

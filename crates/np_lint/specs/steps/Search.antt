@@ -75,6 +75,37 @@ KnowsAll {Spot} in_space side looks_at used = (spot : Spot) → in_space spot �
 abbrev pub AllAreUsed : {Spot : Type 0} → (Spot → Bool) → PodSide → (PodSide → Spot → Contact) → Type 0
 AllAreUsed {Spot} in_space side looks_at = (spot : Spot) → in_space spot ≡ true → AreUsed side.lists side.direction (side_decider side (looks_at side spot))
 
+-- ---- the side of a kind
+
+-- whatever stands in what decides with a kind as the far end, which is asked for, is known, in packets of a family
+abbrev pub KnowsFar : PodSide → List KindPod → ℕ → Family → ℕ → UsedRules → Type 0
+KnowsFar side kinds near family kind used = (far : KindPod) → slice_get kinds kind ≡ Some far → is_asked near kind far ≡ true → KnowsAll is_spot side (with_pod far.pod family) used
+
+-- with all kinds
+unfoldable pub KnowsPods : PodSide → List KindPod → ℕ → Family → UsedRules → Type 0
+KnowsPods side kinds near family used = (kind : ℕ) → KnowsFar side kinds near family kind used
+
+-- what decides there is used
+unfoldable pub PodsAreUsed : PodSide → List KindPod → ℕ → Family → Type 0
+PodsAreUsed side kinds near family = (kind : ℕ) (far : KindPod) → slice_get kinds kind ≡ Some far → is_asked near kind far ≡ true → AllAreUsed is_spot side (with_pod far.pod family)
+
+-- in each family of the estate
+abbrev pub KnowsFamilies : PodSide → List KindPod → ℕ → UsedRules → Type 0
+KnowsFamilies side kinds near used = (family : Family) → Contains (families_of side.lists.pods) family → KnowsPods side kinds near family used
+
+-- and with all addresses
+pub record KnowsSide (side : PodSide) (kinds : List KindPod) (near : ℕ) (used : UsedRules) : Type 0 where
+  pub addresses : KnowsAll is_place side with_addresses used
+  pub pods : KnowsFamilies side kinds near used
+
+-- so it is for the side of the pod that stands for a kind
+abbrev pub KnowsKind : EstateLists → Direction → List KindPod → ℕ → UsedRules → Type 0
+KnowsKind lists direction kinds near used = (one : KindPod) → slice_get kinds near ≡ Some one → KnowsSide (side_of lists one.pod direction) kinds near used
+
+-- for all kinds
+unfoldable pub KnowsSides : EstateLists → Direction → List KindPod → UsedRules → Type 0
+KnowsSides lists direction kinds used = (near : ℕ) → KnowsKind lists direction kinds near used
+
 -- ---- what a search goes by
 
 -- the pods stand for the kinds of the estate, and it is known what they may let through
@@ -83,39 +114,31 @@ pub record AreKinds (kinds : Kinds) : Type 0 where
   pub pods : AreKindPods kinds.estate.now kinds.pods.now
   pub reach : kinds.reach.now ≡ reach_of kinds.estate.now kinds.direction (first_ends kinds.estate.now)
 
--- seen from the side of one of them, of which these are the rules
-pub record IsSearchOf (side : PodSide) (pods : List KindPod) (marks : List (List Bool)) (near : ℕ) (ids : LayerRules) : Type 0 where
+-- seen from the side of one of them, of which these are the rules; what decides what the side looks at is used
+pub record IsSearchOf (estate : EstateLists) (side : PodSide) (pods : List KindPod) (marks : List (List Bool)) (near : ℕ) (ids : LayerRules) : Type 0 where
+  pub estate_is : estate ≡ side.lists
   pub lawful : IsLawful side.lists
   pub kinds : AreKindPods side.lists pods
   pub rules : AreRulesOf side ids
+  pub addresses : AllAreUsed is_place side with_addresses
+  pub families : (family : Family) → Contains (families_of side.lists.pods) family → PodsAreUsed side pods near family
   pub reach : (kind : ℕ) (far : KindPod) → slice_get pods kind ≡ Some far → may_at marks near kind ≡ may_reach side.lists side.direction (near_pod side) (pod (pod_at side.lists far.pod))
 
 abbrev pub IsSearch : Search → Type 0
-IsSearch search = IsSearchOf search.side.now search.kinds.pods.now search.kinds.reach.now search.near search.rules.now
+IsSearch search = IsSearchOf search.kinds.estate.now search.side.now search.kinds.pods.now search.kinds.reach.now search.near search.rules.now
 
 -- Whether a kind may tell of a rule that is not known: it is asked for, and may be let through, or there are admin
 -- rules that are not known.
 abbrev pub may_tell : Search → UsedRules → ℕ → KindPod → Bool
 may_tell search used kind far = is_asked search.near kind far && (may_at search.kinds.reach.now search.near kind || not (are_known used.admin search.rules.now.admin))
 
--- ---- the side of a kind
+-- ---- what a search finds
 
--- so it is with all kinds as far ends, in packets of a family
-unfoldable pub KnowsPods : PodSide → List KindPod → ℕ → Family → UsedRules → Type 0
-KnowsPods side kinds near family used = (kind : ℕ) (far : KindPod) → slice_get kinds kind ≡ Some far → is_asked near kind far ≡ true → KnowsAll is_spot side (with_pod far.pod family) used
-
--- what decides there is used
-unfoldable pub PodsAreUsed : PodSide → List KindPod → ℕ → Family → Type 0
-PodsAreUsed side kinds near family = (kind : ℕ) (far : KindPod) → slice_get kinds kind ≡ Some far → is_asked near kind far ≡ true → AllAreUsed is_spot side (with_pod far.pod family)
-
--- with all addresses, and with all kinds in each family of the estate
-pub record KnowsSide (side : PodSide) (kinds : List KindPod) (near : ℕ) (used : UsedRules) : Type 0 where
-  pub addresses : KnowsAll is_place side with_addresses used
-  pub pods : (family : Family) → Contains (families_of side.lists.pods) family → KnowsPods side kinds near family used
-
--- so it is for all kinds
-unfoldable pub KnowsSides : EstateLists → Direction → List KindPod → UsedRules → Type 0
-KnowsSides lists direction kinds used = (near : ℕ) (one : KindPod) → slice_get kinds near ≡ Some one → KnowsSide (side_of lists one.pod direction) kinds near used
+-- A step of the search: what was known stays known, nothing more is known than is used, and so it is found.
+pub record Searched (lists : EstateLists) (direction : Direction) (Found : UsedRules → Type 0) (old new : UsedRules) : Type 0 where
+  pub grows : Grows old new
+  pub sound : IsSound lists direction old → IsSound lists direction new
+  pub finds : Found new
 
 -- the rules of the direction that are known are those that are used
 unfoldable pub Finds : EstateLists → Direction → UsedRules → Type 0

@@ -2,11 +2,9 @@
 use Rattle.std.specs.Prelude.{ℕ, List, Bool, false, ◌&&◌, Option, Some, None}
 use Rattle.std.specs.List.{list_any}
 use Rattle.std.specs.Str.{bytes_eq}
-use Rattle.np_addr.specs.Addresses.{cidr_has}
 use Rattle.np_addr.specs.Blocks.{block_has}
-use Rattle.np_addr.specs.declared.address.Address.{Address}
 use Rattle.np_addr.specs.declared.address.Family.{Family}
-use Rattle.np_addr.specs.declared.cidr.Cidr.{Cidr}
+use Rattle.np_addr.specs.Prefixes.{some_has}
 use Rattle.np_model.specs.Families.{is_of}
 use Rattle.np_labels.specs.Selectors.{meets_selector}
 use Rattle.np_labels.specs.declared.selector.Selector.{Selector}
@@ -31,14 +29,10 @@ net_peer_matches namespace (net.Pods namespaces pods) (pod p) = pods_match names
 net_peer_matches namespace (net.Block cidr excepts) (address a) = block_has cidr excepts a
 net_peer_matches namespace peer far = false
 
--- whether an address is in some of the blocks
-abbrev pub in_some : List Cidr → Address → Bool
-in_some cidrs a = list_any (λ cidr. cidr_has cidr a) cidrs
-
 -- A peer of an admin rule, for a packet of a family. Networks stand for the addresses in them, and for the pods of
 -- which some address of that family is in them.
 abbrev pub admin_peer_matches : AdminPeer → End → Family → Bool
 admin_peer_matches (admin.Pods namespaces pods) (pod p) family = meets_selector namespaces p.namespace_labels && meets_selector pods p.labels
 admin_peer_matches (admin.Pods namespaces pods) (address a) family = false
-admin_peer_matches (admin.Networks cidrs) (pod p) family = list_any (λ a. is_of family a && in_some cidrs a) p.addresses
-admin_peer_matches (admin.Networks cidrs) (address a) family = in_some cidrs a
+admin_peer_matches (admin.Networks cidrs) (pod p) family = list_any (λ a. is_of family a && some_has cidrs a) p.addresses
+admin_peer_matches (admin.Networks cidrs) (address a) family = some_has cidrs a

@@ -1,5 +1,5 @@
 use Rattle.std.proofs.Common.{◌≡◌, ◌+◌, drop, arith}
-use Rattle.np_sets.proofs.Gaps.{drop-item, drop-ended}
+use Rattle.np_base.proofs.Lists.{drop-item, drop-ended}
 use Rattle.np_pieces.proofs.Overs.{IsOver-init, IsOver-next, IsOver-end, IsOver-values, IsOver-covers}
 use Rattle.np_pieces.proofs.over.pieces_over.Goals as goal
 

@@ -2,7 +2,8 @@ use Rattle.std.proofs.Common.{◌&&◌, Bor, Bool, List, false, get_or, sym, sub
 use Rattle.std.specs.List.{list_any}
 use Rattle.std.proofs.lemmas.List.{get_or-map}
 use Rattle.std.proofs.lemmas.List.Elements.{All-get_or, All-push}
-use Rattle.np_reach.proofs.SpokenLemmas.{last_chosen, none_chosen, policy_chosen}
+use Rattle.np_base.proofs.Lists.{list_any-next}
+use Rattle.np_reach.proofs.SpokenLemmas.{last_chosen, none_chosen}
 use Rattle.np_reach.proofs.spoken.chosen_of.Goals as goal
 use Rattle.np_reach.proofs.spoken.chosen_of.Goals.{else-own-place, else-own-place-via-else-own-place, else-own-place-via-then-own-place+else-selects, then-own-place+then-selects+in_ok-push}
 use Rattle.np_reach.specs.Marks.{AreWithin, speaks_at}
@@ -16,7 +17,7 @@ loop-place-preserved g c =
     let picked = g.P.Speaker.picks one.policy.now near in
     record {
       chosen = λ place.
-          policy_chosen (λ other. g.P.Speaker.picks other.policy.now near && speaks_at other.far.items place) c.args.policies.now c.loop-place.place one
+          list_any-next (λ other. g.P.Speaker.picks other.policy.now near && speaks_at other.far.items place) c.args.policies.now c.loop-place.place one
           (list_any (λ (far : Bor (List Marks)). speaks_at far.now place) c.loop-place.made.items) _ c.loop-place-test.true c.index-policies-place.is (c.loop-place.invariant.chosen place)
           (elim c.if-own-place.branch [
             | then-own-place+then-selects+in_ok-push w ↦ rw w.made-is (rw (sym w.deref-far.ensures.value)

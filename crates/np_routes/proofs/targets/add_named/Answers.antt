@@ -1,8 +1,8 @@
 use Rattle.std.proofs.Common.{◌≡◌, ◌&&◌, true, false, arith, ◌∙◌}
+use Rattle.std.proofs.Math.Bool.{or-false}
 use Rattle.np_conns.specs.Conns.{same_proto}
 use Rattle.np_conns.specs.declared.proto.Proto.TheVariants.{Tcp}
 use Rattle.np_model.specs.declared.service.PortName.TheVariants.{Named}
-use Rattle.np_routes.proofs.AnyLemmas.{or_false}
 use Rattle.np_routes.proofs.TargetLemmas.{named-added, named-other}
 use Rattle.np_routes.proofs.targets.add_named.Goals as goal
 use Rattle.np_routes.proofs.targets.add_named.Goals.{then-eq+then-has_name+in_ok-add_number, else-eq, else-eq-via-then-eq+else-has_name, else-eq-via-else-eq}
@@ -26,7 +26,7 @@ loop-port-preserved c =
             (c.loop-port.invariant.numbers number) (c.loop-port.invariant.names port.name) other)
       ];
       names = λ name. elim c.if-eq.branch [
-        | then-eq+then-has_name+in_ok-add_number w ↦ rw w.targets-is (w.in_ok-add_number.ensures (Named name) ∙ or_false (before (Named name)) ∙ c.loop-port.invariant.names name)
+        | then-eq+then-has_name+in_ok-add_number w ↦ rw w.targets-is (w.in_ok-add_number.ensures (Named name) ∙ or-false (before (Named name)) ∙ c.loop-port.invariant.names name)
         | else-eq w ↦ rw w.targets-is (c.loop-port.invariant.names name)
       ];
     }

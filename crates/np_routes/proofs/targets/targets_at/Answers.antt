@@ -1,5 +1,5 @@
 use Rattle.std.proofs.Common.{sym, ◌∙◌}
-use Rattle.np_routes.proofs.AnyLemmas.{any-next}
+use Rattle.np_base.proofs.Lists.{list_any-next}
 use Rattle.np_routes.proofs.PortSetLemmas.{at_pod-none}
 use Rattle.np_routes.proofs.TargetLemmas.{targets-served, targets-unserved}
 use Rattle.np_routes.proofs.targets.targets_at.Goals as goal
@@ -15,7 +15,7 @@ pub loop-one-preserved : goal.loop-one-preserved
 loop-one-preserved c number =
     let p = pod_end c.args.pod.now in
     let one = c.one-item.result in
-    any-next (target_leads p number) c.args.services.now c.loop-one.one-index one (at_pod c.loop-one.made p number) (at_pod c.if-serves.made p number) c.loop-one-test.true c.one-item.is
+    list_any-next (target_leads p number) c.args.services.now c.loop-one.one-index one (at_pod c.loop-one.made p number) (at_pod c.if-serves.made p number) c.loop-one-test.true c.one-item.is
     (c.loop-one.invariant number)
     (elim c.if-serves.branch [
       | then-serves+in_ok-add_all w ↦ rw w.made-is (targets-served c.loop-one.made one.targets w.add_all.new.self one.service.now p number

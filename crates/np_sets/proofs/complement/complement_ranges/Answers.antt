@@ -1,6 +1,7 @@
 use Rattle.std.proofs.Common.{◌+◌, arith, ◌∙◌}
 use Rattle.np_base.proofs.Ranges.{IsAscending-earlier}
-use Rattle.np_sets.proofs.Gaps.{misses-rest, misses-end, holds-last_gap, drop-item, drop-ended}
+use Rattle.np_base.proofs.Lists.{drop-item, drop-ended}
+use Rattle.np_sets.proofs.Gaps.{misses-rest, misses-end, holds-last_gap}
 use Rattle.np_sets.proofs.Growing.{IsAscendingUpTo-push, IsAscendingUpTo-later, IsAscending-from_up_to}
 use Rattle.np_sets.proofs.Members.{or_moved, or_ended}
 use Rattle.np_sets.proofs.complement.complement_ranges.Goals as goal

@@ -1,8 +1,10 @@
 use Rattle.std.proofs.Common.{sym, ◌∙◌, rules}
+use Rattle.std.proofs.Math.Bool.{or-false}
 use Rattle.np_base.specs.Ranges.{is_within}
 use Rattle.np_base.proofs.Ranges.{IsAscending-earlier}
+use Rattle.np_base.proofs.Bools.{or-leftwards}
 use Rattle.np_sets.proofs.Growing.{IsAscending-from_growing}
-use Rattle.np_sets.proofs.Members.{holds-push, or_assoc, or_false}
+use Rattle.np_sets.proofs.Members.{holds-push}
 use Rattle.np_sets.proofs.join.join_ranges.Goals as goal
 
 pub loop-next-preserved : goal.loop-next-preserved
@@ -16,13 +18,13 @@ loop-next-preserved g c =
       growing = grown.0;
       left_after = IsAscending-earlier g.P.Point.number_of _ _ g.P.Point.HIGH _ grown.1 leads.left_after;
       right_after = IsAscending-earlier g.P.Point.number_of _ _ g.P.Point.HIGH _ grown.1 leads.right_after;
-      members = λ n. rw (c.in_ok-growing.ensures.members n, ← or_assoc _ (is_within g.P.Point.number_of next.range n) _, ← taken.members n) (kept.members n);
+      members = λ n. rw (c.in_ok-growing.ensures.members n, ← or-leftwards _ (is_within g.P.Point.number_of next.range n) _, ← taken.members n) (kept.members n);
     }
 
 pub returns-clause-members : goal.returns-clause-members
 returns-clause-members g c =
     let ended = c.in_default-take_earlier.ensures in
-    λ n. rw (c.in_ok-push.ensures.ok, holds-push g.P.Point.number_of _ _ n) (sym (or_false _) ∙ rw (ended.0, ended.1) at (c.loop-next.invariant.members n))
+    λ n. rw (c.in_ok-push.ensures.ok, holds-push g.P.Point.number_of _ _ n) (sym (or-false _) ∙ rw (ended.0, ended.1) at (c.loop-next.invariant.members n))
 
 pub returns-clause-ascending : goal.returns-clause-ascending
 returns-clause-ascending g c =

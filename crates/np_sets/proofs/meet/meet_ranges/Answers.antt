@@ -1,4 +1,4 @@
-use Rattle.np_sets.proofs.Members.{or_assoc}
+use Rattle.np_base.proofs.Bools.{or-leftwards}
 use Rattle.np_sets.proofs.Overlaps.{past-init, IsMadeTo-push}
 use Rattle.np_sets.proofs.meet.meet_ranges.Goals as goal
 
@@ -23,5 +23,5 @@ loop-step-preserved g c =
       right = step.right_ascends;
       made = made.ascends;
       past = made.past;
-      members = λ n. rw (made.members n, ← or_assoc, ← step.members n) (kept.members n);
+      members = λ n. rw (made.members n, ← or-leftwards, ← step.members n) (kept.members n);
     }

@@ -1,7 +1,8 @@
 use Rattle.std.proofs.Common.{◌∙◌, ◌==◌, sym, rules, arith, refl}
+use Rattle.std.proofs.Math.Bool.{or-false}
 use Rattle.np_sets.proofs.Growing.{IsAscending-from_growing}
 use Rattle.np_sets.proofs.InOrder.{AscendFrom-rest, AscendFrom-lower, is_within-alone, members-more, none-left}
-use Rattle.np_sets.proofs.Members.{holds-push, or_false}
+use Rattle.np_sets.proofs.Members.{holds-push}
 use Rattle.np_sets.proofs.points.point_ranges.Goals as goal
 
 pub loop-next-init : goal.loop-next-init
@@ -32,7 +33,7 @@ grow-requires g c = (search rules, rw c.range_of.ensures.range ((rw c.in-Some-sp
 pub returns-clause-members : goal.returns-clause-members
 returns-clause-members g c =
     λ n. rw (c.in_ok-push.ensures.ok, holds-push g.P.Point.number_of _ _ n)
-    (sym (or_false _) ∙ (rw (none-left (λ point. g.P.Point.number_of point == n) _ c.in_default-split_first.ensures.cases) at (c.loop-next.invariant.members n)))
+    (sym (or-false _) ∙ (rw (none-left (λ point. g.P.Point.number_of point == n) _ c.in_default-split_first.ensures.cases) at (c.loop-next.invariant.members n)))
 
 pub returns-clause-ascending : goal.returns-clause-ascending
 returns-clause-ascending g c =

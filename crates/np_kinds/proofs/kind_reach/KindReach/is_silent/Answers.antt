@@ -1,7 +1,8 @@
 use Rattle.std.proofs.Common.{ℕ, not, slice_index, refl, sym, ap, ◌∙◌}
+use Rattle.std.proofs.lemmas.Bool.{not-true}
 use Rattle.np_fold.specs.Workloads.{Folding, folding_of}
 use Rattle.np_kinds.proofs.KindNumbers.{kind-there}
-use Rattle.np_kinds.proofs.ReachLemmas.{not_true, silent-pair}
+use Rattle.np_kinds.proofs.ReachLemmas.{silent-pair}
 use Rattle.np_kinds.proofs.kind_reach.KindReach.is_silent.Goals as goal
 use Rattle.np_kinds.specs.Kinds.{may_pass}
 
@@ -22,4 +23,4 @@ pub returns-clause-silent : goal.returns-clause-silent
 returns-clause-silent c = λ told family spot.
     silent-pair c.args.folded.now c.workloads-workloads.result.now c.args.self.now c.args.source c.args.destination c.kind_of-near.result c.kind_of-far.result family spot
     c.workloads-workloads.ensures.value c.requires.reach c.workloads-workloads.ensures.lawful c.requires.source c.requires.destination c.kind_of-near.ensures c.kind_of-far.ensures
-    (sym c.may_pass.ensures ∙ not_true c.may_pass.result told)
+    (sym c.may_pass.ensures ∙ not-true c.may_pass.result told)

@@ -1,71 +1,23 @@
 use Rattle.std.proofs.Common.{refl}
 use Rattle.std.proofs.lemmas.Result.{IfOk-weaker}
-use Rattle.np_lint.proofs.KnownLemmas.{isolated_noted, layer_finds, layer_grows, layer_only, open_noted}
+use Rattle.np_lint.proofs.KnownLemmas.{isolated_noted, open_noted}
 use Rattle.np_lint.proofs.used_rules.UsedRules.note_layer.Goals as goal
 use Rattle.np_lint.specs.declared.used_rules.UsedRules.{UsedRules}
 
-pub returns-then-isolated-clause-grows : goal.returns-then-isolated-clause-grows
-returns-then-isolated-clause-grows g c =
+pub returns-then-isolated : goal.returns-then-isolated
+returns-then-isolated g c =
     let new : UsedRules = record { admin = c.note_tier.new.flags; net = c.note_tier-then-isolated.new.flags; base = c.args.self.now.base } in
     let admin = rw (c.new-none.ensures, c.items.ensures, c.items-2.ensures) at c.in_ok-note_tier.ensures in
     IfOk-weaker c.note_tier-then-isolated.result _ _
-    (λ _ noted.
-    let net = rw (c.items-then-isolated.ensures, c.items-then-isolated-2.ensures) at noted in
-    layer_grows g.S.Cells.has g.S.Cells.in_space c.args.layer c.args.rules.now c.args.self.now new
-    (isolated_noted g.S.Cells.has g.S.Cells.in_space c.args.layer c.args.rules.now c.args.self.now new admin c.if-isolated.true net refl))
+    (λ _ noted. isolated_noted g.S.Cells.has g.S.Cells.in_space c.args.layer c.args.rules.now c.args.self.now new admin c.if-isolated.true
+    (rw (c.items-then-isolated.ensures, c.items-then-isolated-2.ensures) at noted) refl)
     c.note_tier-then-isolated.ensures
 
-pub returns-then-isolated-clause-finds : goal.returns-then-isolated-clause-finds
-returns-then-isolated-clause-finds g c =
-    let new : UsedRules = record { admin = c.note_tier.new.flags; net = c.note_tier-then-isolated.new.flags; base = c.args.self.now.base } in
-    let admin = rw (c.new-none.ensures, c.items.ensures, c.items-2.ensures) at c.in_ok-note_tier.ensures in
-    IfOk-weaker c.note_tier-then-isolated.result _ _
-    (λ _ noted.
-    let net = rw (c.items-then-isolated.ensures, c.items-then-isolated-2.ensures) at noted in
-    layer_finds g.S.Cells.has g.S.Cells.in_space c.args.layer c.args.rules.now c.args.self.now new
-    (isolated_noted g.S.Cells.has g.S.Cells.in_space c.args.layer c.args.rules.now c.args.self.now new admin c.if-isolated.true net refl))
-    c.note_tier-then-isolated.ensures
-
-pub returns-then-isolated-clause-only : goal.returns-then-isolated-clause-only
-returns-then-isolated-clause-only g c =
-    let new : UsedRules = record { admin = c.note_tier.new.flags; net = c.note_tier-then-isolated.new.flags; base = c.args.self.now.base } in
-    let admin = rw (c.new-none.ensures, c.items.ensures, c.items-2.ensures) at c.in_ok-note_tier.ensures in
-    IfOk-weaker c.note_tier-then-isolated.result _ _
-    (λ _ noted.
-    let net = rw (c.items-then-isolated.ensures, c.items-then-isolated-2.ensures) at noted in
-    layer_only g.S.Cells.has g.S.Cells.in_space c.args.layer c.args.rules.now c.args.self.now new
-    (isolated_noted g.S.Cells.has g.S.Cells.in_space c.args.layer c.args.rules.now c.args.self.now new admin c.if-isolated.true net refl))
-    c.note_tier-then-isolated.ensures
-
-pub returns-clause-grows : goal.returns-clause-grows
-returns-clause-grows g c =
+pub returns : goal.returns
+returns g c =
     let new : UsedRules = record { admin = c.note_tier.new.flags; net = c.args.self.now.net; base = c.note_tier-else-isolated.new.flags } in
     let admin = rw (c.new-none.ensures, c.items.ensures, c.items-2.ensures) at c.in_ok-note_tier.ensures in
     IfOk-weaker c.note_tier-else-isolated.result _ _
-    (λ _ noted.
-    let base = rw (c.items-else-isolated.ensures, c.items-else-isolated-2.ensures) at noted in
-    layer_grows g.S.Cells.has g.S.Cells.in_space c.args.layer c.args.rules.now c.args.self.now new
-    (open_noted g.S.Cells.has g.S.Cells.in_space c.args.layer c.args.rules.now c.args.self.now new admin c.if-isolated.false base refl))
-    c.note_tier-else-isolated.ensures
-
-pub returns-clause-finds : goal.returns-clause-finds
-returns-clause-finds g c =
-    let new : UsedRules = record { admin = c.note_tier.new.flags; net = c.args.self.now.net; base = c.note_tier-else-isolated.new.flags } in
-    let admin = rw (c.new-none.ensures, c.items.ensures, c.items-2.ensures) at c.in_ok-note_tier.ensures in
-    IfOk-weaker c.note_tier-else-isolated.result _ _
-    (λ _ noted.
-    let base = rw (c.items-else-isolated.ensures, c.items-else-isolated-2.ensures) at noted in
-    layer_finds g.S.Cells.has g.S.Cells.in_space c.args.layer c.args.rules.now c.args.self.now new
-    (open_noted g.S.Cells.has g.S.Cells.in_space c.args.layer c.args.rules.now c.args.self.now new admin c.if-isolated.false base refl))
-    c.note_tier-else-isolated.ensures
-
-pub returns-clause-only : goal.returns-clause-only
-returns-clause-only g c =
-    let new : UsedRules = record { admin = c.note_tier.new.flags; net = c.args.self.now.net; base = c.note_tier-else-isolated.new.flags } in
-    let admin = rw (c.new-none.ensures, c.items.ensures, c.items-2.ensures) at c.in_ok-note_tier.ensures in
-    IfOk-weaker c.note_tier-else-isolated.result _ _
-    (λ _ noted.
-    let base = rw (c.items-else-isolated.ensures, c.items-else-isolated-2.ensures) at noted in
-    layer_only g.S.Cells.has g.S.Cells.in_space c.args.layer c.args.rules.now c.args.self.now new
-    (open_noted g.S.Cells.has g.S.Cells.in_space c.args.layer c.args.rules.now c.args.self.now new admin c.if-isolated.false base refl))
+    (λ _ noted. open_noted g.S.Cells.has g.S.Cells.in_space c.args.layer c.args.rules.now c.args.self.now new admin c.if-isolated.false
+    (rw (c.items-else-isolated.ensures, c.items-else-isolated-2.ensures) at noted) refl)
     c.note_tier-else-isolated.ensures

@@ -1,7 +1,7 @@
 use Rattle.std.proofs.Common.{◌≡◌, ◌&&◌, true, false, arith}
+use Rattle.np_base.proofs.Lists.{list_any-next}
 use Rattle.np_conns.specs.Conns.{same_proto}
 use Rattle.np_conns.specs.declared.proto.Proto.TheVariants.{Tcp}
-use Rattle.np_routes.proofs.AnyLemmas.{any-next}
 use Rattle.np_routes.proofs.PortSetLemmas.{at_pod-none}
 use Rattle.np_routes.proofs.TargetLemmas.{port-asked, port-other}
 use Rattle.np_routes.proofs.service_targets.ServiceTargets.of.Goals as goal
@@ -17,7 +17,7 @@ loop-port-preserved c p number =
     let asked = c.args.asked.now in
     let port = c.port-item.result in
     let before = at_pod c.loop-port.targets p number in
-    any-next (asked_port_leads asked p number) c.items-port-items.result.now c.loop-port.port-index port before (at_pod c.if-eq.targets p number) c.loop-port-test.true c.port-item.is
+    list_any-next (asked_port_leads asked p number) c.items-port-items.result.now c.loop-port.port-index port before (at_pod c.if-eq.targets p number) c.loop-port-test.true c.port-item.is
     (c.loop-port.invariant p number)
     (elim c.if-eq.branch [
       | then-eq+then-has_own+in_ok-add_target w ↦

@@ -1,0 +1,34 @@
+-- What a reader answered, and what that says of the value.
+use Rattle.std.proofs.Common.{ℕ, List, ◌++◌, Bool, true, false, IsUtf8, refl, ◌≡◌, Ok, Err, ◌^◌, ◌≤◌, arith, le-leb, lt-ltb, ◌&&◌}
+use Rattle.serde_json.specs.Written.{comma_if}
+use Rattle.serde_json.specs.Data.{string, number, unsigned}
+use Rattle.np_model.specs.Words.{is_name}
+use Rattle.np_json.specs.Shapes.{Read, under, refuse_if}
+use Rattle.np_json.specs.declared.path.Step.{Step}
+use Rattle.np_json.specs.Scalars.{name, port}
+use Rattle.np_json.specs.declared.meta.NamespacedName.{NamespacedName}
+use Rattle.np_base.proofs.Texts.{IsUtf8-byte}
+
+pub IsUtf8-comma : (later : Bool) (s : List ℕ) → IsUtf8 s → IsUtf8 (comma_if later ++ s)
+IsUtf8-comma true s utf8 = IsUtf8-byte 44 refl s utf8
+IsUtf8-comma false s utf8 = utf8
+
+-- what is read under a step was read
+pub under-output : {A : Type 0} (step : Step) (read : Read A) (output : A) → under step read ≡ Ok output → read ≡ Ok output
+unfolding under
+under-output step (Ok other) output is = is
+under-output step (Err flaw) output is = cc
+
+-- a name is read of its text
+pub name-read : (s : List ℕ) → is_name s ≡ true → name (string s) ≡ Ok s
+unfolding name refuse_if
+name-read s is = rw is refl
+
+-- a port is read of its number
+pub port-read : (n : ℕ) → 1 ≤ n → n ≤ 65535 → port (number (unsigned n)) ≡ Ok n
+unfolding port
+port-read n least most = rw (lt-ltb n (2 ^ 63) (omega arith), le-leb 1 n least, le-leb n 65535 most) refl
+
+-- a name in a namespace, both well formed
+abbrev pub is_well_own : NamespacedName → Bool
+is_well_own own = is_name own.namespace && is_name own.name

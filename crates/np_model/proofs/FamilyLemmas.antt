@@ -1,0 +1,9 @@
+-- Families of addresses.
+use Rattle.std.proofs.Common.{◌≡◌, true, refl}
+use Rattle.np_model.specs.Families.{same_family}
+use Rattle.np_addr.specs.declared.address.Family.{Family}
+use Rattle.np_addr.specs.declared.address.Family.TheVariants.{Four, Six}
+
+pub same_family-itself : (family : Family) → same_family family family ≡ true
+same_family-itself Four = refl
+same_family-itself Six = refl

@@ -1,0 +1,14 @@
+-- Stretches in a right list.
+use Rattle.std.proofs.Common.{ℕ, ◌+◌, ◌≤◌, List, [], ◌∷◌, Bool, Option, Some, arith}
+use Rattle.np_table.specs.Right.{AreRight, Stretch}
+use Rattle.np_conns.specs.Conns.{Conns}
+use Rattle.np_conns.specs.declared.port_spot.PortSpot.{PortSpot}
+
+-- they do not end before they begin
+pub right-within : (passes : ℕ → PortSpot → Bool) (from to : ℕ) (before : Option Conns) (stretches : List Stretch) → AreRight passes from to before stretches → from ≤ to
+right-within passes from to before [] right = omega (arith, right)
+right-within passes from to before (stretch ∷ stretches) right =
+    let rest = right-within passes (stretch.hi + 1) to (Some stretch.conns) stretches right.1 in
+    let start = right.0.start in
+    let filled = right.0.filled in
+    omega (arith, rest, start, filled)
