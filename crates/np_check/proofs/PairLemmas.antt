@@ -7,15 +7,16 @@ use Rattle.std.proofs.Math.Seq.{drop-cons}
 use Rattle.std.proofs.lemmas.List.{drop_all}
 use Rattle.std.proofs.lemmas.Bool.{and_parts, cases_Bool, eqb-true, ne_eqb}
 use Rattle.np_addr.specs.declared.address.Family.{Family}
-use Rattle.np_check.proofs.FirstLemmas.{first_of-append, first_of-map, none_both}
+use Rattle.np_check.proofs.FirstLemmas.{first_of-append, first_of-map, first_of-none, none_both}
+use Rattle.np_check.proofs.NoneLemmas.{no_spots}
 use Rattle.np_check.proofs.SpotLemmas.{breaks-same}
 use Rattle.np_check.specs.Counters.{addresses_of, breaks, complies, counter_at, counter_between, counter_from, counter_in, families_between}
 use Rattle.np_check.specs.Firsts.{first_of, first_of_ports, first_of_proto, first_spot}
 use Rattle.np_check.specs.steps.Pairs.{AreSettled, has_pair, is_deny, kind_of}
 use Rattle.np_check.specs.declared.counterexample.PlaceEnd.TheVariants.{At, Work}
 use Rattle.np_check.specs.declared.question.Ends.{Ends}
-use Rattle.np_check.specs.declared.statement_text.Wanted.{Wanted}
-use Rattle.np_check.specs.declared.statement_text.Wanted.TheVariants.{Allow, Deny}
+use Rattle.np_check.specs.declared.question.Wanted.{Wanted}
+use Rattle.np_check.specs.declared.question.Wanted.TheVariants.{Allow, Deny}
 use Rattle.np_conns.specs.Conns.{Conns, has_spot}
 use Rattle.np_conns.specs.declared.port_spot.PortSpot.{PortSpot}
 use Rattle.np_conns.specs.declared.proto.Proto.{Proto}
@@ -149,24 +150,6 @@ from-work lists wanted conns ends source =
 
 -- ---- workloads between which nothing passes
 
-find_none : {X : Type 0} (test : X → Bool) (xs : List X) → ((x : X) → test x ≡ false) → find test xs ≡ None
-find_none test [] none = refl
-find_none test (x ∷ xs) none = rw (none x) (find_none test xs none)
-
-first_of-none : {X Y : Type 0} (gives : X → Option Y) (xs : List X) → ((x : X) → gives x ≡ None) → first_of gives xs ≡ None
-first_of-none gives [] none = refl
-first_of-none gives (x ∷ xs) none = rw (none x) (first_of-none gives xs none)
-
-first_of_proto-none : (passes : PortSpot → Bool) → ((spot : PortSpot) → passes spot ≡ false) → (proto : Proto) → first_of_proto passes proto ≡ None
-unfolding first_of_ports
-first_of_proto-none passes none proto =
-    let at : ℕ → PortSpot = λ port. record { proto = proto; port = port } in
-    ap (option_map at) (find_none (λ port. passes (at port)) (range_with_len 1 65535) (λ port. none (at port)))
-
-first_spot-none : (passes : PortSpot → Bool) → ((spot : PortSpot) → passes spot ≡ false) → first_spot passes ≡ None
-unfolding first_spot
-first_spot-none passes none = first_of-none (first_of_proto passes) (Tcp ∷ Udp ∷ Sctp ∷ []) (first_of_proto-none passes none)
-
 not_denied : (speaks allowed : Bool) → allowed ≡ false → (speaks && not (complies Deny allowed)) ≡ false
 not_denied true allowed none = rw none refl
 not_denied false allowed none = refl
@@ -178,5 +161,5 @@ unfolding counter_between
 none_denied lists Allow conns a b denies silent = absurd (cc)
 none_denied lists Deny conns a b denies silent =
     sym (first_of-none (counter_in lists Deny conns (Work a) (Work b)) (families_between lists (Work a) (Work b)) (λ family.
-    ap (option_map (counter_at (Work a) (Work b) family)) (first_spot-none (breaks Deny conns (pair_allows lists (folding_of lists) a b family))
-    (λ spot. not_denied (has_spot conns spot) _ (silent family spot)))))
+    ap (option_map (counter_at (Work a) (Work b) family)) (no_spots (breaks Deny conns (pair_allows lists (folding_of lists) a b family))
+    (λ spot is. not_denied (has_spot conns spot) _ (silent family spot)))))
