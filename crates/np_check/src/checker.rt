@@ -83,10 +83,7 @@ impl<'a> Checker<'a> {
     /// IPv4 before IPv6, addresses by number. Between workloads the families are those of the list; no packet is of a
     /// workload of one pod with itself. No address is asked by itself: the rules give what passes with whole ranges of
     /// them.
-    pub fn check(
-        &mut self,
-        statement: &Statement,
-    ) -> Result<Option<Counterexample>, NoMemory>
+    pub fn check(&mut self, statement: &Statement) -> Result<Option<Counterexample>, NoMemory>
         requires sources { All (IsWorkload self.old) statement.now.question.source.works }
         requires destinations { All (IsWorkload self.old) statement.now.question.destination.works }
         ensures counter { IfOk result (λ made. made ≡ counter_of self.old statement.now.question) }

@@ -8,8 +8,8 @@ ghost use Rattle.np_statements.specs.AllPods.{AreSettled, HoldsOfPods};
 
 use crate::ends::any_pod;
 use crate::statement_line::StatementLine;
-use np_base::{Cells, NoMemory};
 use crate::statement_text::{EndForm, StatementText};
+use np_base::{Cells, NoMemory};
 use np_check::{Checker, Question, Statement, Wanted};
 use np_conns::ConnSet;
 use np_fold::Folded;

@@ -6,10 +6,10 @@ ghost use Rattle.np_statements.specs.AskedLines.{IsWellLine};
 ghost use Rattle.np_statements.specs.Lines as spec;
 
 use crate::file_fault::FileFault;
-use crate::statement_line::StatementLine;
-use np_base::{NoMemory, Seq};
 use crate::grammar::read_statement;
+use crate::statement_line::StatementLine;
 use crate::statement_text::{StatementFault, StatementText};
+use np_base::{NoMemory, Seq};
 use std::alloc::Global;
 use std::str::from_utf8;
 

@@ -22,11 +22,7 @@ pub fn broken_text(alloc: Global, folded: &Folded, file: &str) -> Result<String,
 }
 
 // How the first of these lines that does not hold is broken, or that all hold, or which end is not known.
-fn first_text(
-    alloc: Global,
-    folded: &Folded,
-    lines: Seq<StatementLine>,
-) -> Result<String, NoMemory>
+fn first_text(alloc: Global, folded: &Folded, lines: Seq<StatementLine>) -> Result<String, NoMemory>
     requires { All IsWellLine lines }
 {
     match first_broken(alloc, folded, lines) {
