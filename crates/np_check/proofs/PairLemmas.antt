@@ -8,7 +8,7 @@ use Rattle.std.proofs.lemmas.List.{drop_all}
 use Rattle.std.proofs.lemmas.Bool.{and_parts, cases_Bool, eqb-true, ne_eqb}
 use Rattle.np_addr.specs.declared.address.Family.{Family}
 use Rattle.np_check.proofs.FirstLemmas.{first_of-append, first_of-map, first_of-none, none_both}
-use Rattle.np_check.proofs.NoneLemmas.{no_spots}
+use Rattle.np_check.proofs.NoneLemmas.{no_spots, none_all, none_at, none_map}
 use Rattle.np_check.proofs.SpotLemmas.{breaks-same}
 use Rattle.np_check.specs.Counters.{addresses_of, breaks, complies, counter_at, counter_between, counter_from, counter_in, families_between}
 use Rattle.np_check.specs.Firsts.{first_of, first_of_ports, first_of_proto, first_spot}
@@ -84,26 +84,21 @@ between-apart lists wanted conns a b families apart are = rw (apart, are) refl
 
 -- ---- kinds
 
-none_map : {X Y Z : Type 0} (to : X → Y) (to' : X → Z) (found : Option X) → option_map to found ≡ None → option_map to' found ≡ None
-none_map to to' None none = refl
-none_map to to' (Some x) none = cc
-
 none_in-kinds : (lists : EstateLists) (wanted : Wanted) (conns : Conns) (a b a' b' : ℕ) (family : Family) →
     ((spot : PortSpot) → pair_allows lists (folding_of lists) a b family spot ≡ pair_allows lists (folding_of lists) a' b' family spot) →
     counter_in lists wanted conns (Work a) (Work b) family ≡ None → counter_in lists wanted conns (Work a') (Work b') family ≡ None
 none_in-kinds lists wanted conns a b a' b' family same none =
     let spots = breaks-same wanted conns (pair_allows lists (folding_of lists) a b family) (pair_allows lists (folding_of lists) a' b' family) (λ spot is. same spot) in
-    none_map (counter_at (Work a) (Work b) family) (counter_at (Work a') (Work b') family) (first_spot (breaks wanted conns (pair_allows lists (folding_of lists) a' b' family)))
-    (ap (option_map (counter_at (Work a) (Work b) family)) (sym spots) ∙ none)
+    ap (option_map (counter_at (Work a') (Work b') family))
+    (none_map (counter_at (Work a) (Work b) family) (first_spot (breaks wanted conns (pair_allows lists (folding_of lists) a' b' family)))
+    (ap (option_map (counter_at (Work a) (Work b) family)) (sym spots) ∙ none))
 
 none_all-kinds : (lists : EstateLists) (wanted : Wanted) (conns : Conns) (a b a' b' : ℕ) (families : List Family) →
     ((family : Family) (spot : PortSpot) → pair_allows lists (folding_of lists) a b family spot ≡ pair_allows lists (folding_of lists) a' b' family spot) →
     first_of (counter_in lists wanted conns (Work a) (Work b)) families ≡ None → first_of (counter_in lists wanted conns (Work a') (Work b')) families ≡ None
-none_all-kinds lists wanted conns a b a' b' [] same none = refl
-none_all-kinds lists wanted conns a b a' b' (family ∷ families) same none =
-    let both = none_both (counter_in lists wanted conns (Work a) (Work b) family) (first_of (counter_in lists wanted conns (Work a) (Work b)) families) none in
-    ap (λ first. option_or first (first_of (counter_in lists wanted conns (Work a') (Work b')) families)) (none_in-kinds lists wanted conns a b a' b' family (same family) both.0)
-    ∙ none_all-kinds lists wanted conns a b a' b' families same both.1
+none_all-kinds lists wanted conns a b a' b' families same none =
+    none_all (counter_in lists wanted conns (Work a') (Work b')) families
+    (λ family has. none_in-kinds lists wanted conns a b a' b' family (same family) (none_at (counter_in lists wanted conns (Work a) (Work b)) families family none has))
 
 -- where nothing breaks the statement between two workloads, nothing does between two of their kinds
 between-kinds : (lists : EstateLists) (wanted : Wanted) (conns : Conns) (a b a' b' : ℕ) → IsLawful lists → IsWorkload lists a → IsWorkload lists b → IsWorkload lists a' → IsWorkload lists b' →
