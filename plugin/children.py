@@ -148,9 +148,11 @@ def run(words: Sequence[Word], stdin: Optional[IO[bytes]] = None, stdout: Option
     return Ended(wait(child), out or b"", said)
 
 
-def run_to_output(words: Sequence[Word], stdin: Optional[IO[bytes]] = None) -> Ended:
-    """Runs a program whose output is that of the plugin."""
+def run_to_output(words: Sequence[Word], stdin: Optional[IO[bytes]] = None, meanwhile: Optional[Callable[[], None]] = None) -> Ended:
+    """Runs a program whose output is that of the plugin, which may do something meanwhile."""
     child = start(words, stdin=subprocess.DEVNULL if stdin is None else stdin, stderr=subprocess.PIPE)
+    if meanwhile is not None:
+        meanwhile()
     _, said = child.communicate()
     return Ended(wait(child), b"", said)
 
@@ -159,11 +161,16 @@ class Stream:
     """A program whose output is read while it runs, since it is too long to be kept."""
 
     def __init__(self, words: Sequence[Word], stdin: Optional[IO[bytes]] = None) -> None:
-        import tempfile
-        self._errors = tempfile.TemporaryFile()
         self._child = start(words, stdin=subprocess.DEVNULL if stdin is None else stdin, stdout=subprocess.PIPE,
-                            stderr=self._errors)
+                            stderr=subprocess.PIPE)
         self._output = cast(IO[bytes], self._child.stdout)
+        self._said: List[bytes] = []
+        self._listener = threading.Thread(target=self._listen, daemon=True)  # so that neither waits for the other to be read
+        self._listener.start()
+
+    def _listen(self) -> None:
+        with cast(IO[bytes], self._child.stderr) as errors:
+            self._said.append(errors.read())
 
     def found(self, pattern: "re.Pattern[bytes]") -> List[bytes]:
         """What the pattern finds in its lines, each with the line feed before it and without the one behind it.
@@ -182,9 +189,8 @@ class Stream:
         """How it ended, when its output was read."""
         self._output.close()
         status = wait(self._child)
-        self._errors.seek(0)
-        with self._errors:
-            return Ended(status, b"", self._errors.read())
+        self._listener.join()
+        return Ended(status, b"", b"".join(self._said))
 
 
 def is_output_closed() -> bool:

@@ -3,6 +3,7 @@ from __future__ import annotations
 
 import os
 import re
+from contextlib import suppress
 from functools import cached_property
 from pathlib import Path
 from typing import TYPE_CHECKING, List, Optional
@@ -186,7 +187,7 @@ class Question(Command):
         self.refuse_addresses()
         step("asking np")
         with self.list.open("rb") as file:
-            ended = self.program.answer([self.words.command, *self.words.own], stdin=file)
+            ended = self.program.answer([self.words.command, *self.words.own], stdin=file, meanwhile=self._find_caveats)
         if ended.status == 1:
             self._tell_nearest(ended)
             self._tell_foreign(ended)
@@ -199,6 +200,11 @@ class Question(Command):
         if self.words.command in ("explain", "evaluate") and not self.words.takes_addresses_of_pods:
             from plugin.caveats import questions
             questions.refuse_addresses(self.words, self.caveats, self.program)
+
+    def _find_caveats(self) -> None:
+        """Finds the caveats of the list, which np may still refuse: whatever is wrong with it is not said here."""
+        with suppress(Exception):
+            self.caveats.all  # kept there
 
     def tell_caveats(self) -> None:
         """Says which caveats bear on the answer."""

@@ -6,7 +6,7 @@ import re
 from pathlib import Path
 from typing import Any, Iterator, List
 
-from plugin import children, jsontext
+from plugin import children
 from plugin.program import Program
 from plugin.said import Stop, decoded, encoded, stop
 
@@ -48,6 +48,7 @@ def pods(path: Path) -> List[str]:
 
 
 def _objects(path: Path) -> Iterator[Any]:
+    from plugin import jsontext
     try:
         return iter(jsontext.objects(path.read_bytes()))
     except jsontext.NotTaken:

@@ -4,7 +4,7 @@ from __future__ import annotations
 import os
 import sys
 from pathlib import Path
-from typing import IO, List, Optional
+from typing import IO, Callable, List, Optional
 
 from plugin import children, parts
 from plugin.said import Stop, decoded, encoded, relay, stop, write
@@ -41,10 +41,11 @@ class Program:
         except OSError as error:
             stop(3, "%s cannot be run: %s" % (self.name, error.strerror))
 
-    def answer(self, words: List[str], stdin: Optional[IO[bytes]] = None) -> children.Ended:
-        """Runs np with the words, which writes its answer to standard output; repeats what it said."""
+    def answer(self, words: List[str], stdin: Optional[IO[bytes]] = None, meanwhile: Optional[Callable[[], None]] = None) -> children.Ended:
+        """Runs np with the words, which writes its answer to standard output; repeats what it said. `meanwhile` is done while it
+        works."""
         try:
-            ended = children.run_to_output([self.path, *words], stdin)
+            ended = children.run_to_output([self.path, *words], stdin, meanwhile)
         except OSError as error:
             stop(3, "%s cannot be run: %s" % (self.name, error.strerror))
         if ended.status == 3 and children.is_output_closed():

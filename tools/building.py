@@ -63,6 +63,12 @@ def prove(folder: Path, total: int, copy: IO[bytes], environment: Optional[Dict[
     return interrupts.wait(child)
 
 
+def kit() -> str:
+    """What the kit of this machine says that it is."""
+    said = subprocess.run(["rt", "version"], stdin=subprocess.DEVNULL, stdout=subprocess.PIPE, check=True).stdout
+    return said.strip().decode("utf-8", "surrogateescape")
+
+
 def keep_stripped(program: Path, kept: Path) -> bool:
     """Keeps the program at the path `kept` without its symbols, which only a debugger asks for. What is loaded when it runs stays as the
     kit linked it. Returns whether that was done; where not, it is said why."""

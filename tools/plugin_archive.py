@@ -25,6 +25,8 @@ _MAIN = b"""import sys
 if sys.version_info < (3, 9):
     sys.stderr.write("kubectl np: this needs Python 3.9 or later\\n")
     sys.exit(3)
+from plugin import importer
+importer.install()
 from plugin.door import main
 from plugin.ending import run
 run(main)

@@ -5,6 +5,7 @@ tools/program.py current          ends with status 0 where dist/np was built fro
 tools/program.py manifest PATH    prints the manifest of the program PATH, but for its first line, which names the kit
 tools/program.py crates           prints the crates that the program stands on
 tools/program.py build PATH       proves these crates, and builds the program at PATH
+tools/program.py path             prints the path of the program that ./np runs, which is built first where it has to be
 tools/program.py run WORD..       runs the program with these words: ./np calls it where it cannot tell by itself that dist/np is
                                   current
 """
@@ -13,7 +14,7 @@ from __future__ import annotations
 import os
 import sys
 from pathlib import Path
-from typing import List, NoReturn
+from typing import List, NoReturn, Tuple
 
 sys.dont_write_bytecode = True
 
@@ -24,7 +25,7 @@ import sources  # noqa: E402
 # The top of the repository in which this file is reached, which may be through a link to the folder.
 TOP = Path(os.path.abspath(__file__)).parent.parent
 
-_USAGE = "usage: tools/program.py current | manifest PATH | crates | build PATH | run WORD.."
+_USAGE = "usage: tools/program.py current | manifest PATH | crates | build PATH | path | run WORD.."
 
 
 def manifest(top: Path, program: Path) -> str:
@@ -38,11 +39,21 @@ def is_of_sources(top: Path, program: Path, wanted: str) -> bool:
     return program.is_file() and os.access(program, os.X_OK) and manifest(top, program) == wanted
 
 
+def _kept_manifest(top: Path) -> Tuple[str, str]:
+    """The first line of dist/manifest, and the rest of it. Fails with OSError where it cannot be read."""
+    first, _, rest = (top / "dist" / "manifest").read_bytes().decode("utf-8", "surrogateescape").partition("\n")
+    return first, rest
+
+
+def kit(top: Path) -> str:
+    """The kit with which dist/np was built. Fails with OSError where the manifest cannot be read."""
+    return _kept_manifest(top)[0].partition(" ")[2]
+
+
 def is_current(top: Path) -> bool:
-    """Whether dist/np was built from the sources that stand here and is as it was built."""
+    """Whether dist/np was built from the sources that stand here and is as it was built, with whichever kit."""
     try:
-        kept = (top / "dist" / "manifest").read_bytes().decode("utf-8", "surrogateescape")
-        return is_of_sources(top, top / "dist" / "np", kept.partition("\n")[2])
+        return is_of_sources(top, top / "dist" / "np", _kept_manifest(top)[1])
     except OSError:
         return False
 
@@ -86,10 +97,15 @@ def _runs_here() -> bool:
     return sys.platform.startswith("linux") and os.uname().machine == "x86_64"
 
 
+def _program(top: Path) -> Path:
+    """The program that is of these sources: the kept one, or the one that is built here."""
+    is_kept = _runs_here() and _is_current_and_stamped(top)
+    return top / "dist" / "np" if is_kept else _built_here(top)
+
+
 def _run(top: Path, words: List[str]) -> NoReturn:
     """Runs the program in the place of this one."""
-    is_kept = _runs_here() and _is_current_and_stamped(top)
-    program = top / "dist" / "np" if is_kept else _built_here(top)
+    program = _program(top)
     try:
         os.execv(program, [str(program), *words])
     except OSError as error:
@@ -107,6 +123,9 @@ def reason(error: Exception) -> str:
 def _obey(command: str, rest: List[str]) -> int:
     if command == "run":
         _run(TOP, rest)
+    if (command, len(rest)) == ("path", 0):
+        print(_program(TOP))
+        return 0
     if (command, len(rest)) == ("current", 0):
         return 0 if is_current(TOP) else 1
     if (command, len(rest)) == ("crates", 0):

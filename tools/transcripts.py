@@ -20,7 +20,8 @@ A transcript is blocks of lines, which stand apart by empty lines. A block tells
     ! ..        a line that each of them says, on standard error
 
 Standard input and the files stay those of the blocks behind, until one of them has others. Where standard input is empty it cannot be
-read, so that a run that begins it is told. A run stands in a folder that has these files alone.
+read, so that a run that begins it is told. A run stands in a folder that has these files, and a link to the folder examples/ of the
+repository, and nothing else.
 
 A line `=- ..` has no end, and so with `<-`, `>-` and `!-`: `=-` alone makes the file empty. A line `<5 ..` stands for five lines, one for
 each place from 0 on. In its text `#` stands for the place, `%n` for the next one and `%k` for a number of four digits; `%-` and `%+` for
@@ -37,7 +38,8 @@ from dataclasses import dataclass
 from itertools import zip_longest
 from pathlib import Path
 
-TRANSCRIPTS = Path(__file__).resolve().parent.parent / "transcripts"
+TOP = Path(__file__).resolve().parent.parent
+TRANSCRIPTS = TOP / "transcripts"
 TEXT_LINE = re.compile(r"([<=>!]|:\S+)(-|\d*)(?: (.*))?")
 RUN_LINE = re.compile(r"([0-9*])(?: (.*))?")
 WHOLE_FAMILIES = {"0.0.0.0-255.255.255.255": "0.0.0.0/0", "::-ffff:ffff:ffff:ffff:ffff:ffff:ffff:ffff": "::/0"}
@@ -126,6 +128,7 @@ def runs_of(path):
 
 def outcome_of(program, run, room):
     """The status and both outputs of a run in a folder. What cannot be read as standard input is the folder itself."""
+    Path(room, "examples").symlink_to(TOP / "examples")
     for name, text in run.files.items():
         Path(room, name).write_bytes(text.encode())
     command = [program, *run.words]

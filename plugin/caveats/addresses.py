@@ -16,7 +16,7 @@ from plugin.caveats.policies import Block, Policy, Rule
 Network = Union[ipaddress.IPv4Network, ipaddress.IPv6Network]
 
 # RFC 1918, RFC 6598 and RFC 4193: what pods have in nearly all clusters.
-_PRIVATE = [ipaddress.ip_network(text) for text in ("10.0.0.0/8", "172.16.0.0/12", "192.168.0.0/16", "100.64.0.0/10", "fc00::/7")]
+_PRIVATE = ("10.0.0.0/8", "172.16.0.0/12", "192.168.0.0/16", "100.64.0.0/10", "fc00::/7")
 
 
 class Held(NamedTuple):
@@ -125,7 +125,7 @@ def private_ranges(block: Block) -> List[str]:
     """The private ranges of which the block has an address."""
     cidr = network(block.cidr)
     without = [found for found in map(network, block.without) if found is not None]
-    return [str(private) for private in _PRIVATE if cidr is not None and _is_left(cidr, private, without)]
+    return [text for text in _PRIVATE if cidr is not None and _is_left(cidr, ipaddress.ip_network(text), without)]
 
 
 def _is_left(cidr: Network, private: Network, without: List[Network]) -> bool:

@@ -17,6 +17,9 @@ class Port(NamedTuple):
     number: int
 
 
+_NO_PORTS: FrozenSet[Port] = frozenset()
+
+
 class UnknownLabel(NamedTuple):
     """A selector that asks for a label which the cluster sets, with a value that nobody knows before: the object that
     has the selector, the key, and the controllers whose pods get the label, by the names of their workloads."""
@@ -42,7 +45,7 @@ class Beside:
 
     def sidecars(self, item: Dict[str, Any]) -> FrozenSet[Port]:
         """The named ports of the containers of the object's pods that restart among the initContainers."""
-        return self._sidecars.get(_place(item), frozenset())
+        return self._sidecars.get(_place(item), _NO_PORTS) if self._sidecars else _NO_PORTS
 
     def _see_containers(self, item: Dict[str, Any], containers: List[Dict[str, Any]]) -> None:
         ports = ports_of([each for each in containers if each.get("restartPolicy") == "Always"])

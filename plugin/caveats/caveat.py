@@ -1,7 +1,7 @@
 """A caveat, and the connections that it touches."""
 from __future__ import annotations
 
-from typing import FrozenSet, Iterable, NamedTuple, Tuple
+from typing import FrozenSet, Iterable, List, NamedTuple, Tuple
 
 # Who is at an end of connections: names of workloads, and names of namespaces with a stroke behind them for their
 # workloads without pods. An end of a question has beside these the names of the sorts that it belongs to.
@@ -61,3 +61,8 @@ def at_either_end(ends: Iterable[str]) -> Tuple[Pair, ...]:
 def of_direction(is_ingress: bool, ends: Ends, others: Ends) -> Pair:
     """The connections of the ends with others: those that they receive, or those that they send."""
     return Pair(others, ends) if is_ingress else Pair(ends, others)
+
+
+def some(names: List[str]) -> str:
+    """The first names, and how many there are beside them."""
+    return ", ".join(names[:3]) + (" and %d more" % (len(names) - 3) if len(names) > 3 else "")

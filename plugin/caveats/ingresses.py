@@ -6,11 +6,10 @@ from typing import Any, Dict, Iterator, List, NamedTuple, Optional, Set, Tuple
 
 from plugin import values
 from plugin.caveats.beside import Port
-from plugin.caveats.caveat import CONTROLLER, Caveat, Ends, Pair
+from plugin.caveats.caveat import CONTROLLER, Caveat, Ends, Pair, some
 from plugin.caveats.objects import NAME_LABEL, Listed, Pods, Selection
 from plugin.caveats.owners import Item
 from plugin.caveats.policies import Entry, Policy, Rule
-from plugin.caveats.port_names import some
 from plugin.selectors import selector_of_labels
 
 

@@ -147,11 +147,11 @@ class Listed:
 
     def _group(self, item: Item, workload: str, metadata: Item, is_left_out: bool) -> Optional[Pods]:
         """The pods among which a pod is, or None where np leaves it out."""
-        labels = values.labels(metadata.get("labels"))
-        ports = ports_of(values.objects(pod_spec(item).get("containers")))
-        key = (workload, tuple(sorted(labels.items())), ports, self._beside.sidecars(item))
-        pods = Pods(values.namespace_of(item), workload, labels, ports, self._beside.sidecars(item))
-        if is_left_out or pod_spec(item).get("hostNetwork") is True:
+        labels, spec, sidecars = values.labels(metadata.get("labels")), pod_spec(item), self._beside.sidecars(item)
+        ports = ports_of(values.objects(spec.get("containers")))
+        key = (workload, tuple(sorted(labels.items())), ports, sidecars)
+        pods = Pods(values.namespace_of(item), workload, labels, ports, sidecars)
+        if is_left_out or spec.get("hostNetwork") is True:
             self._left_out.setdefault(key, pods)
             return None
         self.workload_of.setdefault("%s/%s" % (pods.namespace, values.name_of(item)), workload)

@@ -15,6 +15,7 @@ CONTROLLERS = frozenset([
 _KINDS = frozenset(kind for _, kind in CONTROLLERS)
 Item = Dict[str, Any]
 _Reference = Tuple[str, str]  # the kind and the name
+_Place = Tuple[str, str, str]  # the namespace, the kind and the name
 
 
 def type_of(item: Item) -> Tuple[str, str]:
@@ -28,14 +29,24 @@ class Owners:
     def __init__(self, items: Iterable[Item]) -> None:
         found = [item for item in items if type_of(item) in CONTROLLERS]
         self._controllers = {(values.namespace_of(item), values.text(item.get("kind")), values.name_of(item)): item for item in found}
-        self._with_pods: Set[Tuple[str, str, str]] = set()
+        self._with_pods: Set[_Place] = set()
+        self._workloads: Dict[_Place, str] = {}  # by the owner of a pod, which many pods have in common
 
     def workload_of(self, pod: Item) -> str:
         """The name of the pod's workload."""
         namespace = values.namespace_of(pod)
-        owner = "Pod", values.name_of(pod)
-        above = _controlling(pod)
-        passed: Set[Tuple[str, str, str]] = set()
+        owner = _controlling(pod)
+        if owner is None:
+            return workload(namespace, "Pod", values.name_of(pod))
+        place = (namespace, *owner)
+        if place not in self._workloads:
+            self._workloads[place] = self._workload_below(namespace, owner)
+        return self._workloads[place]
+
+    def _workload_below(self, namespace: str, owner: _Reference) -> str:
+        """The name of the workload of the pods that have this owner, which has pods with all that own it."""
+        above: Optional[_Reference] = owner
+        passed: Set[_Place] = set()
         while above is not None:
             owner = above
             place = (namespace, *above)

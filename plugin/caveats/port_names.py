@@ -5,7 +5,7 @@ from __future__ import annotations
 from typing import Dict, FrozenSet, Iterator, List, NamedTuple, Tuple
 
 from plugin.caveats.beside import Port
-from plugin.caveats.caveat import ANYONE, Caveat, of_direction
+from plugin.caveats.caveat import ANYONE, Caveat, of_direction, some
 from plugin.caveats.objects import Listed, Pods, Selection
 from plugin.caveats.policies import Entry, Policy, Rule
 from plugin.selectors import EVERYTHING
@@ -74,8 +74,3 @@ def _of_sidecars(policy: Policy, rule: Rule, entry: Entry, sidecars: List[Tuple[
 
 def _text_of(entry: Entry) -> str:
     return "%s (%s)" % (entry.name, entry.protocol) if entry.protocol else entry.name
-
-
-def some(names: List[str]) -> str:
-    """The first names, and how many there are beside them."""
-    return ", ".join(names[:3]) + (" and %d more" % (len(names) - 3) if len(names) > 3 else "")

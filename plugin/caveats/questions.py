@@ -1,17 +1,16 @@
 """Which caveats bear on the answer to a question, and the addresses of pods among its words."""
 from __future__ import annotations
 
-from typing import Dict, Iterable, List, Optional
+from typing import TYPE_CHECKING, Dict, Iterable, List, Optional
 
-from plugin import names, source
 from plugin.caveats.caveat import ANY_POD, ANYONE, CONTROLLER, Caveat, Ends, Pair
-from plugin.caveats.objects import Address
-from plugin.caveats.statements import at_ports, ends_of_workload, names_of_workload, owner_of, ports_of
 from plugin.caveats.whole import Caveats
-from plugin.page.words import shell_word
-from plugin.program import Program
 from plugin.said import stop
-from plugin.words import Words
+
+if TYPE_CHECKING:
+    from plugin.caveats.objects import Address
+    from plugin.program import Program
+    from plugin.words import Words
 
 _ENDS = ("--from", "--to")
 
@@ -46,6 +45,7 @@ def is_of_ingresses(caveat: Caveat) -> bool:
 
 def of_focus(caveats: Iterable[Caveat], focus: str, side: str) -> List[Caveat]:
     """The caveats that touch one workload at this side."""
+    from plugin.caveats.statements import owner_of
     owner = owner_of(focus)
     return [caveat for caveat in caveats if any(_is_about(pair, owner, side) for pair in caveat.touched)]
 
@@ -58,6 +58,7 @@ def _is_about(pair: Pair, owner: str, side: str) -> bool:
 
 def _between(words: Words, caveats: Caveats) -> List[Caveat]:
     """The caveats that touch the two ends of explain and evaluate."""
+    from plugin.caveats.statements import at_ports, ports_of
     source_end, destination = [_end(words, caveats, option(words.own, name)) for name in _ENDS]
     asked = Pair(source_end, destination)
     packet = "%s %s" % (option(words.own, "--protocol"), option(words.own, "--port"))
@@ -69,6 +70,7 @@ def _between(words: Words, caveats: Caveats) -> List[Caveat]:
 def _end(words: Words, caveats: Caveats, word: str) -> Ends:
     if "/" not in word:
         return ANYONE
+    from plugin.caveats.statements import ends_of_workload
     return ends_of_workload(caveats.listed.workload_of.get(word, "") if words.command == "evaluate" else word)
 
 
@@ -92,6 +94,8 @@ def _name_of(words: Words, address: Address, program: Program, caveats: Caveats)
     """What the command takes for the pod."""
     if words.command == "evaluate":
         return address.pod
+    from plugin import names
+    from plugin.caveats.statements import names_of_workload
     try:
         return names_of_workload(address.pods.workload, names.workloads(program, caveats.path))[0]
     except (names.NoNames, IndexError):
@@ -100,6 +104,8 @@ def _name_of(words: Words, address: Address, program: Program, caveats: Caveats)
 
 def _line(words: Words, ends: Dict[str, str]) -> str:
     """The line to type, with these ends in the place of the addresses."""
+    from plugin import source
+    from plugin.page.words import shell_word
     parts: List[str] = []
     for word in words.own:
         name = word.partition("=")[0]

@@ -6,11 +6,10 @@ from typing import Dict, Iterator, List
 
 from plugin import values
 from plugin.caveats.beside import UnknownLabel
-from plugin.caveats.caveat import Caveat, at_either_end, place_of
+from plugin.caveats.caveat import Caveat, at_either_end, place_of, some
 from plugin.caveats.objects import NAME_LABEL, Listed, Selection
 from plugin.caveats.owners import has_owner
 from plugin.caveats.policies import Policy
-from plugin.caveats.port_names import some
 
 
 def find(listed: Listed, policies: List[Policy], unknown_labels: List[UnknownLabel]) -> Iterator[Caveat]:

@@ -5,14 +5,15 @@ import gc
 from contextlib import contextmanager
 from functools import cached_property
 from pathlib import Path
-from typing import Iterator, List
+from typing import TYPE_CHECKING, Iterator, List
 
-from plugin.caveats import ingresses, objects, selecting, unlisted
-from plugin.caveats.addresses import Addresses
-from plugin.caveats.beside import Beside
-from plugin.caveats.caveat import Caveat
-from plugin.caveats.policies import policies
-from plugin.caveats.port_names import PortNames
+from plugin.caveats import objects, selecting, unlisted
+from plugin.caveats.policies import Policy, policies
+
+if TYPE_CHECKING:
+    from plugin.caveats.addresses import Addresses
+    from plugin.caveats.beside import Beside
+    from plugin.caveats.caveat import Caveat
 
 
 @contextmanager
@@ -47,6 +48,7 @@ class Caveats:
     @cached_property
     def addresses(self) -> Addresses:
         """The addresses of the pods."""
+        from plugin.caveats.addresses import Addresses
         return Addresses(self.listed)
 
     @cached_property
@@ -58,7 +60,17 @@ class Caveats:
     def _found(self) -> Iterator[Caveat]:
         found = policies(self.listed)
         yield from selecting.find(self.listed, found)
-        yield from PortNames(self.listed).find(found)
-        yield from self.addresses.find(found)
-        yield from ingresses.Ingresses(self.listed, found).find()
         yield from unlisted.find(self.listed, found, self._beside.unknown_labels)
+        yield from self._of_rare_objects(found)
+
+    def _of_rare_objects(self, found: List[Policy]) -> Iterator[Caveat]:
+        """The caveats of what many lists do not have. What finds them is not loaded where there is none."""
+        rules = [rule for policy in found for rule in policy.rules]
+        if any(entry.name for rule in rules for entry in rule.entries):
+            from plugin.caveats.port_names import PortNames
+            yield from PortNames(self.listed).find(found)
+        if any(peer.block is not None for rule in rules for peer in rule.peers):
+            yield from self.addresses.find(found)
+        if self.listed.of_type("networking.k8s.io/v1", "Ingress"):
+            from plugin.caveats.ingresses import Ingresses
+            yield from Ingresses(self.listed, found).find()
