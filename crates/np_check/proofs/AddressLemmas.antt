@@ -1,15 +1,14 @@
 -- The first packet between a workload and addresses.
-use Rattle.std.proofs.Common.{◌≡◌, ℕ, ◌+◌, ◌^◌, ◌<◌, List, [], ◌∷◌, Bool, true, false, Option, Some, None, get_or, length, option_map, take, refl, sym, ap, ◌∙◌, inl, inr, if◌then◌else◌}
+use Rattle.std.proofs.Common.{◌≡◌, ℕ, ◌+◌, ◌<◌, List, [], ◌∷◌, Option, Some, None, get_or, length, option_map, take, refl, sym, ap, ◌∙◌, inl, inr}
 use Rattle.std.specs.Option.{option_or}
 use Rattle.std.proofs.lemmas.List.{take_more}
 use Rattle.np_addr.specs.Addresses.{family_of}
-use Rattle.np_addr.specs.Blocks.{AddressRanges, set_has}
+use Rattle.np_addr.specs.Blocks.{AddressRanges}
 use Rattle.np_addr.specs.declared.address.Address.{Address}
-use Rattle.np_addr.specs.declared.address.Address.TheVariants.{Four, Six}
 use Rattle.np_addr.specs.declared.address.Family.{Family}
 use Rattle.np_check.proofs.FirstLemmas.{first_of-append, first_of-none, first_of-one, first_of-option_map, first_of-same, from_either}
 use Rattle.np_check.proofs.MergeLemmas.{addresses-ascend, merge}
-use Rattle.np_check.specs.Counters.{addresses_in, addresses_of, breaks, counter_at, counter_between, counter_in, families_between, number_of_address}
+use Rattle.np_check.specs.Counters.{addresses_of, breaks, counter_at, counter_between, counter_in, families_between, number_of_address}
 use Rattle.np_check.specs.Firsts.{first_of, first_spot}
 use Rattle.np_check.specs.steps.Broken.{broken_at, earlier, first_broken_of}
 use Rattle.np_check.specs.declared.addresses.Broken.{Broken}
