@@ -1,8 +1,8 @@
 //! The first line that does not hold.
 ghost use Rattle.std.specs.Prelude.{◌≡◌, All, IfOk, IfSome, false};
-ghost use Rattle.np_check.specs.Counters.{complies};
+ghost use Rattle.np_check.specs.Counters.{complies, counter_of};
 ghost use Rattle.np_statements.specs.Answers.{GivesEnds};
-ghost use Rattle.np_statements.specs.AskedLines.{IsAsked, IsWellLine};
+ghost use Rattle.np_statements.specs.AskedLines.{IsAsked, IsQuestion, IsWellLine};
 ghost use Rattle.np_statements.specs.BrokenLines as spec;
 ghost use Rattle.np_statements.specs.BrokenLines.{HasPlaces};
 
@@ -13,7 +13,7 @@ use crate::end_fault::EndFault;
 use crate::find::{asked_of, unknown_name};
 use crate::statement_line::StatementLine;
 use np_base::{NoMemory, Seq};
-use np_check::{Checker, Statement, Wanted};
+use np_check::{Checker, Counterexample, Question, Statement, Wanted};
 use np_fold::Folded;
 use std::alloc::Global;
 
@@ -58,8 +58,7 @@ fn broken_of(checker: &mut Checker<'_>, asked: AskedLine) -> Result<Option<Broke
 {
     let AskedLine { line, question } = asked;
     let allowed = broken_verdict(question.wanted);
-    let statement = Statement::new(question);
-    let Some(packet) = checker.check(&statement)? else {
+    let Some(packet) = counter_of(checker, question)? else {
         return Ok(None);
     };
     Ok(Some(Broken {
@@ -74,4 +73,17 @@ fn broken_verdict(wanted: Wanted) -> bool
     ensures { complies wanted result ≡ false }
 {
     matches!(wanted, Wanted::Deny)
+}
+
+/// The first packet that does not comply with what is asked.
+pub(crate) fn counter_of(
+    checker: &mut Checker<'_>,
+    question: Question,
+) -> Result<Option<Counterexample>, NoMemory>
+    requires { IsQuestion checker.old question }
+    ensures counter { IfOk result (λ made. made ≡ counter_of checker.old question) }
+    ensures same { checker.new ≡ checker.old }
+{
+    let statement = Statement::new(question);
+    checker.check(&statement)
 }
