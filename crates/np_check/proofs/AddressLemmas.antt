@@ -1,23 +1,21 @@
 -- The first packet between a workload and addresses.
-use Rattle.std.proofs.Common.{◌≡◌, ℕ, ◌+◌, ◌^◌, ◌<◌, List, [], ◌∷◌, Bool, true, false, Option, Some, None, get_or, length, option_map, take, refl, sym, ap, ◌∙◌, inl, inr, if◌then◌else◌}
+use Rattle.std.proofs.Common.{◌≡◌, ℕ, ◌+◌, ◌<◌, List, [], ◌∷◌, Option, Some, None, get_or, length, option_map, take, refl, sym, ap, ◌∙◌, inl, inr}
 use Rattle.std.specs.Option.{option_or}
 use Rattle.std.proofs.lemmas.List.{take_more}
 use Rattle.np_addr.specs.Addresses.{family_of}
-use Rattle.np_addr.specs.Blocks.{AddressRanges, set_has}
+use Rattle.np_addr.specs.Blocks.{AddressRanges}
 use Rattle.np_addr.specs.declared.address.Address.{Address}
-use Rattle.np_addr.specs.declared.address.Address.TheVariants.{Four, Six}
 use Rattle.np_addr.specs.declared.address.Family.{Family}
-use Rattle.np_check.proofs.BrokenLemmas.{addresses_upto, upto-none}
 use Rattle.np_check.proofs.FirstLemmas.{first_of-append, first_of-none, first_of-one, first_of-option_map, first_of-same, from_either}
 use Rattle.np_check.proofs.MergeLemmas.{addresses-ascend, merge}
-use Rattle.np_check.specs.Counters.{addresses_in, addresses_of, breaks, counter_at, counter_between, counter_in, families_between, number_of_address}
+use Rattle.np_check.specs.Counters.{addresses_of, breaks, counter_at, counter_between, counter_in, families_between, number_of_address}
 use Rattle.np_check.specs.Firsts.{first_of, first_spot}
 use Rattle.np_check.specs.steps.Broken.{broken_at, earlier, first_broken_of}
 use Rattle.np_check.specs.declared.addresses.Broken.{Broken}
 use Rattle.np_check.specs.declared.counterexample.Counterexample.{Counterexample}
 use Rattle.np_check.specs.declared.counterexample.PlaceEnd.{PlaceEnd}
 use Rattle.np_check.specs.declared.counterexample.PlaceEnd.TheVariants.{At, Work}
-use Rattle.np_check.specs.declared.statement_text.Wanted.{Wanted}
+use Rattle.np_check.specs.declared.question.Wanted.{Wanted}
 use Rattle.np_conns.specs.Conns.{Conns}
 use Rattle.np_conns.specs.declared.port_spot.PortSpot.{PortSpot}
 use Rattle.np_model.specs.declared.lists.EstateLists.{EstateLists}
@@ -33,25 +31,6 @@ pub table_rows : (lists : EstateLists) (work : ℕ) (direction : Direction) →
     address_rows (estate_table lists) work direction ≡ rows_of_addresses (address_allows lists (folding_of lists) work direction)
 unfolding address_rows table_of
 table_rows lists work direction = refl
-
--- ---- no addresses
-
-none_if : {Y : Type 0} (has : Bool) (gives : Option Y) → has ≡ false → (if has then gives else None) ≡ None
-none_if true gives lacks = cc
-none_if false gives lacks = refl
-
-none_family : {Y : Type 0} (set : AddressRanges) (address : ℕ → Address) (gives : Address → Option Y) (count : ℕ) → ((n : ℕ) → set_has set (address n) ≡ false) →
-    first_of gives (addresses_in set address count) ≡ None
-none_family set address gives count none =
-    addresses_upto set address gives count ∙ upto-none (λ n. if set_has set (address n) then gives (address n) else None) count (λ n. none_if (set_has set (address n)) (gives (address n)) (none n))
-
--- where a set has no address, nothing is found
-pub none_of : {Y : Type 0} (set : AddressRanges) (gives : Address → Option Y) → ((n : ℕ) → set_has set (Four n) ≡ false) → ((n : ℕ) → set_has set (Six n) ≡ false) →
-    None ≡ first_of gives (addresses_of set)
-none_of set gives no_four no_six =
-    sym (first_of-append gives (addresses_in set Four (2 ^ 32)) (addresses_in set Six (2 ^ 128))
-    ∙ ap (λ first. option_or first (first_of gives (addresses_in set Six (2 ^ 128)))) (none_family set Four gives (2 ^ 32) no_four)
-    ∙ none_family set Six gives (2 ^ 128) no_six)
 
 -- ---- packets
 

@@ -17,7 +17,7 @@ use Rattle.np_check.specs.Counters.{addresses_in, breaks}
 use Rattle.np_check.specs.Firsts.{first_of, first_spot}
 use Rattle.np_check.specs.steps.Broken.{broken_at, broken_in, first_broken_of, first_number, with_spot}
 use Rattle.np_check.specs.declared.addresses.Broken.{Broken}
-use Rattle.np_check.specs.declared.statement_text.Wanted.{Wanted}
+use Rattle.np_check.specs.declared.question.Wanted.{Wanted}
 use Rattle.np_conns.specs.Conns.{Conns, has_spot}
 use Rattle.np_conns.specs.declared.port_spot.PortSpot.{PortSpot}
 use Rattle.np_table.proofs.RangeWalks.{walk-right}
@@ -37,10 +37,6 @@ range_same gives gives' low zero same = refl
 range_same gives gives' low (suc count) same =
     ap (λ first. option_or first (first_of gives (range_with_len (low + 1) count))) (same low (omega arith) (omega arith))
     ∙ ap (λ rest. option_or (gives' low) rest) (range_same gives gives' (low + 1) count (λ n above below. same n (omega arith) (omega arith)))
-
-pub upto-none : {Y : Type 0} (gives : ℕ → Option Y) (count : ℕ) → ((n : ℕ) → gives n ≡ None) → upto gives count ≡ None
-unfolding upto
-upto-none gives count none = first_of-none gives (range_with_len 0 count) none
 
 range_below : {Y : Type 0} (gives : ℕ → Option Y) (low count : ℕ) → ((n : ℕ) → low ≤ n → n < low + count → gives n ≡ None) → first_of gives (range_with_len low count) ≡ None
 range_below gives low zero none = refl

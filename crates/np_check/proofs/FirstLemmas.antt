@@ -5,6 +5,7 @@ use Rattle.std.specs.Prelude.{filter}
 use Rattle.std.specs.List.{find, range_with_len}
 use Rattle.std.specs.Option.{option_or}
 use Rattle.std.proofs.lemmas.Bool.{cases_Bool, cases_eq}
+use Rattle.std.proofs.lemmas.Option.{none-some, same_Some}
 use Rattle.std.proofs.lemmas.List.Elements.{All-cons, All-head, All-nil, All-tail}
 use Rattle.np_check.specs.Firsts.{first_of}
 
@@ -61,15 +62,12 @@ first_of-option_map gives to [] = refl
 first_of-option_map gives to (x ∷ xs) = ap (λ rest. option_or (option_map to (gives x)) rest) (first_of-option_map gives to xs) ∙ or_map to (gives x) (first_of gives xs)
 
 -- the first comes from one of the list
-none_some : {Y : Type 0} (y : Y) → None ≡ Some y → ⊥
-none_some y same = cc
-
 pub from_either : {Y : Type 0} (first rest : Option Y) (y : Y) → option_or first rest ≡ Some y → (first ≡ Some y) ⊎ (rest ≡ Some y)
 from_either None rest y same = inr same
 from_either (Some z) rest y same = inl same
 
 pub first_of-from : {X Y : Type 0} (P : X → Type 0) (gives : X → Option Y) (xs : List X) (y : Y) → All P xs → first_of gives xs ≡ Some y → (x : X) × P x × (gives x ≡ Some y)
-first_of-from P gives [] y all found = absurd (none_some y found)
+first_of-from P gives [] y all found = absurd (none-some y found)
 first_of-from P gives (x ∷ xs) y all found =
     elim (from_either (gives x) (first_of gives xs) y found) [
       | inl here ↦ (x, All-head P x xs all, here)
@@ -78,7 +76,7 @@ first_of-from P gives (x ∷ xs) y all found =
 
 pub none_both : {Y : Type 0} (first rest : Option Y) → option_or first rest ≡ None → (first ≡ None) × (rest ≡ None)
 none_both None rest none = (refl, none)
-none_both (Some y) rest none = absurd (none_some y (sym none))
+none_both (Some y) rest none = absurd (none-some y (sym none))
 
 -- where one gives nothing and those behind it neither, nothing is found; and the other way round
 pub none_each : {X Y : Type 0} (gives : X → Option Y) (xs : List X) → first_of gives xs ≡ None → All (λ x. gives x ≡ None) xs
@@ -121,15 +119,12 @@ pub record IsFound (test : ℕ → Bool) (low count k : ℕ) : Type 0 where
   pub passes : test k ≡ true
   pub before : (n : ℕ) → low ≤ n → n < k → test n ≡ false
 
-some_same : (low k : ℕ) → Some low ≡ Some k → low ≡ k
-some_same low k same = cc
-
 pub found-is : (test : ℕ → Bool) (low count k : ℕ) → find test (range_with_len low count) ≡ Some k → IsFound test low count k
-found-is test low zero k found = absurd (none_some k found)
+found-is test low zero k found = absurd (none-some k found)
 found-is test low (suc count) k found =
     elim (cases_Bool (test low)) [
       | inl passes ↦
-          let here : low ≡ k = some_same low k (rw passes at found) in
+          let here : low ≡ k = same_Some low k (rw passes at found) in
           record { above = omega arith; below = omega arith; passes = ap test (sym here) ∙ passes; before = λ n from to. absurd (omega arith) }
       | inr fails ↦
           let rest = found-is test (low + 1) count k (rw fails at found) in
@@ -145,7 +140,7 @@ pub none-found : (test : ℕ → Bool) (low count : ℕ) → find test (range_wi
 none-found test low zero none n from to = absurd (omega arith)
 none-found test low (suc count) none n from to =
     elim (cases_Bool (test low)) [
-      | inl passes ↦ absurd (none_some low (sym (rw passes at none)))
+      | inl passes ↦ absurd (none-some low (sym (rw passes at none)))
       | inr fails ↦ elim (cases_eq low n) [ inl here ↦ ap test (sym here) ∙ fails | inr other ↦ none-found test (low + 1) count (rw fails at none) n (omega arith) (omega arith) ]
     ]
 

@@ -1,29 +1,28 @@
 -- Nothing is found exactly where the statement holds.
-use Rattle.std.proofs.Common.{◌≡◌, ◌≢◌, ℕ, zero, suc, ◌+◌, ◌<◌, ◌≤◌, ◌==◌, ◌&&◌, nat_le, List, [], ◌∷◌, Bool, true, false, Option, Some, None, All, length, map, slice_index, refl, sym, ap, ◌∙◌, inl}
+use Rattle.std.proofs.Common.{◌≡◌, ◌≢◌, ℕ, ◌+◌, ◌<◌, ◌==◌, ◌&&◌, nat_le, List, [], ◌∷◌, Bool, true, false, Option, Some, None, All, Contains, length, slice_index, refl, sym, ap, subst, ◌∙◌, inl}
 use Rattle.std.proofs.Common.{inr, arith, if◌then◌else◌}
-use Rattle.std.specs.Prelude.{filter}
-use Rattle.std.specs.List.{range_with_len, slice_get}
-use Rattle.std.specs.Option.{option_map, option_map_or, option_or}
-use Rattle.std.proofs.lemmas.Bool.{and_from, and_parts, cases_Bool, cases_eq, le-leb, leb-true, eq-eqb}
+use Rattle.std.specs.List.{slice_get}
+use Rattle.std.specs.Option.{option_map, option_map_or}
+use Rattle.std.proofs.lemmas.Bool.{and_parts, cases_Bool, cases_eq, leb-true, eq-eqb}
+use Rattle.std.proofs.lemmas.List.Elements.{All-contains}
 use Rattle.std.proofs.lemmas.Option.{slice_get-map}
 use Rattle.np_addr.specs.Addresses.{family_of}
 use Rattle.np_addr.specs.declared.address.Address.{Address}
 use Rattle.np_addr.specs.declared.address.Family.{Family}
 use Rattle.np_classes.specs.Classes.{members}
-use Rattle.np_check.proofs.FirstLemmas.{first_of-append, first_of-map, first_of-one, none_both}
-use Rattle.np_check.proofs.NoneLemmas.{among_all, both_none, is_whole, no_address, no_addresses, no_spot, no_spots, none_all, none_all_among, none_among, none_at, none_map, not_broken}
-use Rattle.np_check.proofs.PairLemmas.{between-alone, between-apart}
+use Rattle.np_check.proofs.FirstLemmas.{first_of-one, none_both}
+use Rattle.np_check.proofs.NoneLemmas.{both_none, is_whole, no_address, no_addresses, no_spot, no_spots, none_all, none_at, none_map, not_broken}
+use Rattle.np_check.proofs.PairLemmas.{between-alone, between-apart, from-work}
+use Rattle.np_check.proofs.SortedLemmas.{filtered}
 use Rattle.np_check.proofs.WholeLemmas.{of-question}
 use Rattle.np_check.specs.Counters.{addresses_of, breaks, complies, counter_at, counter_between, counter_from, counter_in, counter_of, number_of_address}
 use Rattle.np_check.specs.Firsts.{first_of, first_spot}
 use Rattle.np_check.specs.Holding.{HasAddress, Holds}
-use Rattle.np_check.specs.Numbers.{ascends_from, is_among}
-use Rattle.np_check.specs.declared.counterexample.Counterexample.{Counterexample}
+use Rattle.np_check.specs.Numbers.{ascends_from}
 use Rattle.np_check.specs.declared.counterexample.PlaceEnd.{PlaceEnd}
 use Rattle.np_check.specs.declared.counterexample.PlaceEnd.TheVariants.{At, Work}
-use Rattle.np_check.specs.declared.question.Ends.{Ends}
 use Rattle.np_check.specs.declared.question.Question.{Question}
-use Rattle.np_check.specs.declared.statement_text.Wanted.{Wanted}
+use Rattle.np_check.specs.declared.question.Wanted.{Wanted}
 use Rattle.np_conns.specs.Conns.{Conns, has_spot, is_spot}
 use Rattle.np_conns.specs.declared.port_spot.PortSpot.{PortSpot}
 use Rattle.np_model.specs.Families.{families_of}
@@ -35,18 +34,6 @@ use Rattle.np_model.specs.declared.direction.Direction.TheVariants.{Egress, Ingr
 use Rattle.np_kinds.proofs.MemberLemmas.{destination-member, member-number, members-some, members-within, not-alone, own-member, source-member}
 use Rattle.np_kinds.proofs.PairLemmas.{between_pods-pair_allows, pair_allows-between, with_address-address_allows}
 use Rattle.np_kinds.specs.Between.{IsWorkload, address_allows, destination_pod, is_alone, pair_allows, source_pod}
-
--- ---- from a workload
-
-from_parts : (lists : EstateLists) (wanted : Wanted) (conns : Conns) (ends : Ends) (source : ℕ) →
-    counter_from lists wanted conns ends (Work source) ≡ option_or (first_of (λ (work : ℕ). counter_between lists wanted conns (Work source) (Work work)) ends.works)
-    (first_of (λ (address : Address). counter_between lists wanted conns (Work source) (At address)) (addresses_of ends.block))
-unfolding counter_from
-from_parts lists wanted conns ends source =
-    let gives = counter_between lists wanted conns (Work source) in
-    first_of-append gives (map Work ends.works) (map At (addresses_of ends.block))
-    ∙ ap (λ (first : Option Counterexample). option_or first (first_of gives (map At (addresses_of ends.block)))) (first_of-map gives Work ends.works)
-    ∙ ap (λ (rest : Option Counterexample). option_or (first_of (λ (work : ℕ). gives (Work work)) ends.works) rest) (first_of-map gives At (addresses_of ends.block))
 
 -- ---- between two ends
 
@@ -77,25 +64,25 @@ from_address lists wanted conns b address = first_of-one (counter_in lists wante
 -- ---- where nothing is found the statement holds
 
 record AreNone (lists : EstateLists) (question : Question) : Type 0 where
-  works : (a b : ℕ) → is_among question.source.works a ≡ true → is_among question.destination.works b ≡ true → counter_between lists question.wanted question.conns (Work a) (Work b) ≡ None
-  egress : (a : ℕ) (address : Address) → is_among question.source.works a ≡ true → HasAddress question.destination address →
+  works : (a b : ℕ) → Contains question.source.works a → Contains question.destination.works b → counter_between lists question.wanted question.conns (Work a) (Work b) ≡ None
+  egress : (a : ℕ) (address : Address) → Contains question.source.works a → HasAddress question.destination address →
       counter_between lists question.wanted question.conns (Work a) (At address) ≡ None
-  ingress : (address : Address) (b : ℕ) → HasAddress question.source address → is_among question.destination.works b ≡ true →
+  ingress : (address : Address) (b : ℕ) → HasAddress question.source address → Contains question.destination.works b →
       counter_between lists question.wanted question.conns (At address) (Work b) ≡ None
 
 are_none : (lists : EstateLists) (question : Question) → counter_of lists question ≡ None → AreNone lists question
 are_none lists question none =
     let gives = counter_between lists question.wanted question.conns in
     let all = none_both _ _ (sym (of-question lists question) ∙ none) in
-    let from = λ (a : ℕ) (among : is_among question.source.works a ≡ true).
+    let from = λ (a : ℕ) (among : Contains question.source.works a).
     none_both (first_of (λ (work : ℕ). gives (Work a) (Work work)) question.destination.works) (first_of (λ (address : Address). gives (Work a) (At address)) (addresses_of question.destination.block))
-    (sym (from_parts lists question.wanted question.conns question.destination a) ∙ none_among
+    (sym (from-work lists question.wanted question.conns question.destination a) ∙ none_at
     (λ (source : ℕ). counter_from lists question.wanted question.conns question.destination (Work source)) question.source.works a all.0 among) in
     record {
-      works = λ a b in_source in_destination. none_among (λ (work : ℕ). gives (Work a) (Work work)) question.destination.works b (from a in_source).0 in_destination;
+      works = λ a b in_source in_destination. none_at (λ (work : ℕ). gives (Work a) (Work work)) question.destination.works b (from a in_source).0 in_destination;
       egress = λ a address in_source has. no_address question.destination.block (λ (other : Address). gives (Work a) (At other)) address (from a in_source).1 has.0 has.1;
       ingress = λ address b has in_destination.
-          none_among (λ (work : ℕ). gives (At address) (Work work)) question.destination.works b
+          none_at (λ (work : ℕ). gives (At address) (Work work)) question.destination.works b
           (no_address question.source.block (λ (other : Address). first_of (λ (work : ℕ). gives (At other) (Work work)) question.destination.works) address all.1 has.0 has.1) in_destination;
     }
 
@@ -126,24 +113,8 @@ holds lists question lawful none =
 
 -- ---- two pods that stand for two workloads
 
-lower : (least low : ℕ) (numbers : List ℕ) → low ≤ least → ascends_from least numbers ≡ true → ascends_from low numbers ≡ true
-lower least low [] below ascends = refl
-lower least low (n ∷ numbers) below ascends =
-    let parts = and_parts (nat_le least n) (ascends_from (n + 1) numbers) ascends in
-    let above = leb-true least n parts.0 in
-    and_from (nat_le low n) (ascends_from (n + 1) numbers) (le-leb low n (omega arith)) parts.1
-
 more_than_one : (n : ℕ) → 0 < n → (n == 1) ≡ false → 1 < n
 more_than_one n some other = grind arith
-
--- numbers that are filtered ascend
-filtered : (test : ℕ → Bool) (low count : ℕ) → ascends_from low (filter test (range_with_len low count)) ≡ true
-filtered test low zero = refl
-filtered test low (suc count) =
-    elim (cases_Bool (test low)) [
-      | inl passes ↦ rw passes (and_from (nat_le low low) (ascends_from (low + 1) (filter test (range_with_len (low + 1) count))) (le-leb low low (omega arith)) (filtered test (low + 1) count))
-      | inr fails ↦ rw fails (lower (low + 1) low (filter test (range_with_len (low + 1) count)) (omega arith) (filtered test (low + 1) count))
-    ]
 
 first_second : (numbers : List ℕ) (low : ℕ) → ascends_from low numbers ≡ true → 1 < length numbers → slice_index numbers 0 ≢ slice_index numbers 1
 first_second [] low ascends two = absurd (omega arith)
@@ -195,7 +166,7 @@ found_none lists question lawful sources destinations is =
     let near = λ (a : ℕ) (a_in : IsWorkload lists a). source-member folding a (members-some lists folding a refl a_in) in
     let near_in = λ (a : ℕ) (a_in : IsWorkload lists a). members-within lists folding a (source_pod folding a) refl a_in (near a a_in) in
     let near_of = λ (a : ℕ) (a_in : IsWorkload lists a). member-number lists a (source_pod folding a) (near_in a a_in) (near a a_in) in
-    let works : (a b : ℕ) → IsWorkload lists a → IsWorkload lists b → is_among question.source.works a ≡ true → is_among question.destination.works b ≡ true → gives (Work a) (Work b) ≡ None =
+    let works : (a b : ℕ) → IsWorkload lists a → IsWorkload lists b → Contains question.source.works a → Contains question.destination.works b → gives (Work a) (Work b) ≡ None =
     λ a b a_in b_in in_source in_destination.
     elim (cases_Bool (is_alone folding a b)) [
       | inl alone ↦ sym (between-alone lists question.wanted question.conns a b alone)
@@ -207,33 +178,33 @@ found_none lists question lawful sources destinations is =
           ∙ none_all (counter_in lists question.wanted question.conns (Work a) (Work b)) (families_of lists.pods) (λ family listed.
           all_in question.wanted question.conns (Work a) (Work b) family (pair_allows lists folding a b family) (λ spot is_one has.
           ap (complies question.wanted) (pair_allows-between lists folding a b family spot apart)
-          ∙ is.pods (source_pod folding a) (destination_pod folding a b) family spot (near_in a a_in, ap (is_among question.source.works) (near_of a a_in) ∙ in_source)
-          (far_in, ap (is_among question.destination.works) far_of ∙ in_destination) (stand_apart lists a b a_in b_in apart) listed (is_one, has)))
+          ∙ is.pods (source_pod folding a) (destination_pod folding a b) family spot (near_in a a_in, subst (Contains question.source.works) (sym (near_of a a_in)) in_source)
+          (far_in, subst (Contains question.destination.works) (sym far_of) in_destination) (stand_apart lists a b a_in b_in apart) listed (is_one, has)))
     ] in
-    let egress : (a : ℕ) (address : Address) → IsWorkload lists a → is_among question.source.works a ≡ true → HasAddress question.destination address → gives (Work a) (At address) ≡ None =
+    let egress : (a : ℕ) (address : Address) → IsWorkload lists a → Contains question.source.works a → HasAddress question.destination address → gives (Work a) (At address) ≡ None =
     λ a address a_in in_source has.
     to_address lists question.wanted question.conns a address
     ∙ all_in question.wanted question.conns (Work a) (At address) (family_of address) (address_allows lists folding a Egress (family_of address) (number_of_address address)) (λ spot is_one has_it.
     ap (λ (n : ℕ). complies question.wanted (address_allows lists folding n Egress (family_of address) (number_of_address address) spot)) (sym (near_of a a_in))
     ∙ ap (complies question.wanted) (sym (with_address-address_allows lists (source_pod folding a) Egress (family_of address) (number_of_address address) spot lawful (near_in a a_in)))
-    ∙ is.to_addresses (source_pod folding a) address spot (near_in a a_in, ap (is_among question.source.works) (near_of a a_in) ∙ in_source) has (is_one, has_it)) in
-    let ingress : (address : Address) (b : ℕ) → IsWorkload lists b → HasAddress question.source address → is_among question.destination.works b ≡ true → gives (At address) (Work b) ≡ None =
+    ∙ is.to_addresses (source_pod folding a) address spot (near_in a a_in, subst (Contains question.source.works) (sym (near_of a a_in)) in_source) has (is_one, has_it)) in
+    let ingress : (address : Address) (b : ℕ) → IsWorkload lists b → HasAddress question.source address → Contains question.destination.works b → gives (At address) (Work b) ≡ None =
     λ address b b_in has in_destination.
     from_address lists question.wanted question.conns b address
     ∙ all_in question.wanted question.conns (At address) (Work b) (family_of address) (address_allows lists folding b Ingress (family_of address) (number_of_address address)) (λ spot is_one has_it.
     ap (λ (n : ℕ). complies question.wanted (address_allows lists folding n Ingress (family_of address) (number_of_address address) spot)) (sym (near_of b b_in))
     ∙ ap (complies question.wanted) (sym (with_address-address_allows lists (source_pod folding b) Ingress (family_of address) (number_of_address address) spot lawful (near_in b b_in)))
-    ∙ is.from_addresses address (source_pod folding b) spot has (near_in b b_in, ap (is_among question.destination.works) (near_of b b_in) ∙ in_destination) (is_one, has_it)) in
+    ∙ is.from_addresses address (source_pod folding b) spot has (near_in b b_in, subst (Contains question.destination.works) (sym (near_of b b_in)) in_destination) (is_one, has_it)) in
     of-question lists question
     ∙ both_none _ _
-    (none_all_among (λ (source : ℕ). counter_from lists question.wanted question.conns question.destination (Work source)) question.source.works (λ a in_source.
-    from_parts lists question.wanted question.conns question.destination a
+    (none_all (λ (source : ℕ). counter_from lists question.wanted question.conns question.destination (Work source)) question.source.works (λ a in_source.
+    from-work lists question.wanted question.conns question.destination a
     ∙ both_none _ _
-    (none_all_among (λ (work : ℕ). gives (Work a) (Work work)) question.destination.works
-    (λ b in_destination. works a b (among_all (IsWorkload lists) question.source.works a sources in_source)
-    (among_all (IsWorkload lists) question.destination.works b destinations in_destination) in_source in_destination))
+    (none_all (λ (work : ℕ). gives (Work a) (Work work)) question.destination.works
+    (λ b in_destination. works a b (All-contains (IsWorkload lists) question.source.works a sources in_source)
+    (All-contains (IsWorkload lists) question.destination.works b destinations in_destination) in_source in_destination))
     (no_addresses question.destination.block (λ (address : Address). gives (Work a) (At address))
-    (λ address is_one has. egress a address (among_all (IsWorkload lists) question.source.works a sources in_source) in_source (is_one, has)))))
+    (λ address is_one has. egress a address (All-contains (IsWorkload lists) question.source.works a sources in_source) in_source (is_one, has)))))
     (no_addresses question.source.block (λ (address : Address). first_of (λ (work : ℕ). gives (At address) (Work work)) question.destination.works) (λ address is_one has.
-    none_all_among (λ (work : ℕ). gives (At address) (Work work)) question.destination.works
-    (λ b in_destination. ingress address b (among_all (IsWorkload lists) question.destination.works b destinations in_destination) (is_one, has) in_destination)))
+    none_all (λ (work : ℕ). gives (At address) (Work work)) question.destination.works
+    (λ b in_destination. ingress address b (All-contains (IsWorkload lists) question.destination.works b destinations in_destination) (is_one, has) in_destination)))

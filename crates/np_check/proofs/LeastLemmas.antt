@@ -1,11 +1,11 @@
 -- What is found is the first packet that breaks the statement.
-use Rattle.std.proofs.Common.{◌≡◌, ℕ, ◌≤◌, nat_le, [], ◌∷◌, Bool, true, false, Option, Some, None, option_map, refl, sym, ap, subst, ◌∙◌, inl, inr, arith}
+use Rattle.std.proofs.Common.{◌≡◌, ℕ, ◌≤◌, nat_le, [], ◌∷◌, Bool, true, false, Option, Some, None, Contains, option_map, refl, sym, ap, subst, ◌∙◌, inl, inr, arith}
 use Rattle.std.proofs.lemmas.Bool.{and_from, and_parts, cases_Bool, cases_lt, le-leb, leb-true, true≢false}
 use Rattle.np_addr.specs.declared.address.Family.{Family}
 use Rattle.np_check.proofs.FirstLemmas.{IsFound, found-is}
 use Rattle.np_check.proofs.NoneLemmas.{no_port, no_spot, none_at, none_map}
-use Rattle.np_check.proofs.OrderLemmas.{IsIn, between_sorted, contains_in, found_of, in_contains, in_places, none_of_in, places_are, places_sorted, proto_in, protos_sorted, strict_ends}
-use Rattle.np_check.proofs.OrderLemmas.{strict_families, strict_protos}
+use Rattle.np_check.proofs.OrderLemmas.{between_sorted, found_of, in_places, places_are, places_sorted, proto_in, protos_sorted}
+use Rattle.np_check.proofs.SortedLemmas.{strict_ends, strict_families, strict_protos}
 use Rattle.np_check.specs.Counters.{allows_between, breaks, counter_at, counter_between, counter_from, counter_in, counter_of, families_between, places_of}
 use Rattle.np_check.specs.FirstPacket.{IsBroken, IsFirstBroken}
 use Rattle.np_check.specs.Firsts.{first_of_ports, first_of_proto, first_spot}
@@ -46,13 +46,13 @@ from_none : (lists : EstateLists) (question : Question) (packet : Counterexample
     counter_from lists question.wanted question.conns question.destination packet.source ≡ None → ⊥
 unfolding counter_from
 from_none lists question packet is none =
-    between_none lists question packet is (none_of_in (counter_between lists question.wanted question.conns packet.source) (places_of question.destination) packet.destination none
+    between_none lists question packet is (none_at (counter_between lists question.wanted question.conns packet.source) (places_of question.destination) packet.destination none
     (in_places question.destination packet.destination is.to))
 
 pub nothing_broken : (lists : EstateLists) (question : Question) (packet : Counterexample) → counter_of lists question ≡ None → IsBroken lists question packet → ⊥
 unfolding counter_of
 nothing_broken lists question packet none is =
-    from_none lists question packet is (none_of_in (counter_from lists question.wanted question.conns question.destination) (places_of question.source) packet.source none
+    from_none lists question packet is (none_at (counter_from lists question.wanted question.conns question.destination) (places_of question.source) packet.source none
     (in_places question.source packet.source is.from))
 
 -- ---- the first protocol and port
@@ -137,7 +137,7 @@ first_broken lists question first sources destinations found =
     let own : IsBroken lists question (counter_at s.item d.item f.item spot) = record {
       from = places_are question.source s.item s.one;
       to = places_are question.destination d.item d.one;
-      listed = contains_in (families_between lists s.item d.item) f.item f.one;
+      listed = f.one;
       spot = p.is;
       broken = p.does;
     } in
@@ -149,9 +149,8 @@ first_broken lists question first sources destinations found =
           between_none lists question other broken (ap (λ (end : PlaceEnd). counter_between lists wanted conns end other.destination) same ∙ d.none other.destination
           (in_places question.destination other.destination broken.to) earlier));
       by_family = λ other broken same same'. not_before family_before other.family f.item (λ earlier.
-          let there = in_contains (families_between lists other.source other.destination) other.family broken.listed in
-          let listed = subst (λ (end : PlaceEnd). IsIn other.family (families_between lists s.item end)) same'
-          (subst (λ (end : PlaceEnd). IsIn other.family (families_between lists end other.destination)) same there) in
+          let listed = subst (λ (end : PlaceEnd). Contains (families_between lists s.item end) other.family) same'
+          (subst (λ (end : PlaceEnd). Contains (families_between lists end other.destination) other.family) same broken.listed) in
           in_none lists question other broken
           (ap (λ (end : PlaceEnd). counter_in lists wanted conns end other.destination other.family) same ∙ ap (λ (end : PlaceEnd). counter_in lists wanted conns s.item end other.family) same'
           ∙ f.none other.family listed earlier));

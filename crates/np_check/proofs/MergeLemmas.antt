@@ -1,14 +1,15 @@
 -- The first packet from addresses to several workloads, workload by workload.
-use Rattle.std.proofs.Common.{◌≡◌, ℕ, zero, suc, ◌+◌, ◌^◌, ◌<◌, ◌≤◌, List, [], ◌∷◌, ◌++◌, true, false, Option, Some, None, map, refl, sym, ap, ◌∙◌, inl, inr, arith}
+use Rattle.std.proofs.Common.{◌≡◌, ℕ, zero, suc, ◌+◌, ◌^◌, ◌<◌, ◌≤◌, List, [], ◌∷◌, true, false, Option, Some, None, map, refl, sym, ap, ◌∙◌, inl, inr, arith}
 use Rattle.std.specs.Prelude.{filter}
 use Rattle.std.specs.List.{AllByRecursion, range_with_len}
 use Rattle.std.specs.Option.{option_or}
-use Rattle.std.proofs.lemmas.Bool.{cases_Bool, le-ltb, lt-ltb, ltb-true, true≢false}
-use Rattle.std.proofs.lemmas.Option.{same_Some}
+use Rattle.std.proofs.lemmas.Bool.{cases_Bool, lt-ltb}
+use Rattle.std.proofs.lemmas.Option.{none-some, same_Some}
 use Rattle.np_addr.specs.Blocks.{AddressRanges, set_has}
 use Rattle.np_addr.specs.declared.address.Address.{Address}
 use Rattle.np_addr.specs.declared.address.Address.TheVariants.{Four, Six}
 use Rattle.np_check.proofs.FirstLemmas.{from_either}
+use Rattle.np_check.proofs.SortedLemmas.{SortedBy, address_back, address_itself, sorted_append}
 use Rattle.np_check.specs.Counters.{addresses_in, addresses_of}
 use Rattle.np_check.specs.Firsts.{first_of}
 use Rattle.np_check.specs.Order.{address_before, comes_before}
@@ -22,15 +23,6 @@ use Rattle.np_check.specs.declared.counterexample.PlaceEnd.TheVariants.{At}
 abbrev pub IsBefore : Address → Address → Type 0
 IsBefore one other = address_before one other ≡ true
 
--- each address stands before those behind it
-pub Ascends : List Address → Type 0
-Ascends [] = Unit {0}
-Ascends (x ∷ xs) = AllByRecursion (IsBefore x) xs × Ascends xs
-
-pub Ascends-parts : (x : Address) (xs : List Address) → Ascends (x ∷ xs) → AllByRecursion (IsBefore x) xs × Ascends xs
-unfolding Ascends
-Ascends-parts x xs ascends = ascends
-
 abbrev each_in : AddressRanges → (ℕ → Address) → ℕ → ℕ → List Address
 each_in set address low count = filter (set_has set) (map address (range_with_len low count))
 
@@ -42,8 +34,7 @@ all_in P set address low (suc count) holds =
       | inr lacks ↦ rw lacks (all_in P set address (low + 1) count (λ n above. holds n (omega arith)))
     ]
 
-ascend_in : (set : AddressRanges) (address : ℕ → Address) (low count : ℕ) → ((m n : ℕ) → m < n → IsBefore (address m) (address n)) → Ascends (each_in set address low count)
-unfolding Ascends
+ascend_in : (set : AddressRanges) (address : ℕ → Address) (low count : ℕ) → ((m n : ℕ) → m < n → IsBefore (address m) (address n)) → SortedBy address_before (each_in set address low count)
 ascend_in set address low zero ordered = tt
 ascend_in set address low (suc count) ordered =
     elim (cases_Bool (set_has set (address low))) [
@@ -51,16 +42,7 @@ ascend_in set address low (suc count) ordered =
       | inr lacks ↦ rw lacks (ascend_in set address (low + 1) count ordered)
     ]
 
-all_join : (P : Address → Type 0) (xs ys : List Address) → AllByRecursion P xs → AllByRecursion P ys → AllByRecursion P (xs ++ ys)
-all_join P [] ys in_xs in_ys = in_ys
-all_join P (x ∷ xs) ys in_xs in_ys = (in_xs.0, all_join P xs ys in_xs.1 in_ys)
-
-ascend_join : (xs ys : List Address) → Ascends xs → Ascends ys → AllByRecursion (λ x. AllByRecursion (IsBefore x) ys) xs → Ascends (xs ++ ys)
-unfolding Ascends
-ascend_join [] ys in_xs in_ys across = in_ys
-ascend_join (x ∷ xs) ys in_xs in_ys across = (all_join (IsBefore x) xs ys in_xs.0 across.0, ascend_join xs ys in_xs.1 in_ys across.1)
-
-ascend_family : (set : AddressRanges) (address : ℕ → Address) (count : ℕ) → ((m n : ℕ) → m < n → IsBefore (address m) (address n)) → Ascends (addresses_in set address count)
+ascend_family : (set : AddressRanges) (address : ℕ → Address) (count : ℕ) → ((m n : ℕ) → m < n → IsBefore (address m) (address n)) → SortedBy address_before (addresses_in set address count)
 unfolding addresses_in
 ascend_family set address count ordered = ascend_in set address 0 count ordered
 
@@ -68,35 +50,22 @@ all_family : (P : Address → Type 0) (set : AddressRanges) (address : ℕ → A
 unfolding addresses_in
 all_family P set address count holds = all_in P set address 0 count (λ n above. holds n)
 
-pub addresses-ascend : (set : AddressRanges) → Ascends (addresses_of set)
+pub addresses-ascend : (set : AddressRanges) → SortedBy address_before (addresses_of set)
 addresses-ascend set =
-    ascend_join (addresses_in set Four (2 ^ 32)) (addresses_in set Six (2 ^ 128))
+    sorted_append address_before (addresses_in set Four (2 ^ 32)) (addresses_in set Six (2 ^ 128))
     (ascend_family set Four (2 ^ 32) (λ m n below. lt-ltb m n below))
     (ascend_family set Six (2 ^ 128) (λ m n below. lt-ltb m n below))
     (all_family (λ x. AllByRecursion (IsBefore x) (addresses_in set Six (2 ^ 128))) set Four (2 ^ 32) (λ n. all_family (IsBefore (Four n)) set Six (2 ^ 128) (λ m. refl)))
 
 -- ---- two firsts
 
-before_not : (a b : Address) → IsBefore a b → address_before b a ≡ false
-before_not (Four m) (Four n) before = le-ltb n m (omega (arith, ltb-true m n before))
-before_not (Four m) (Six n) before = refl
-before_not (Six m) (Four n) before = absurd (true≢false (sym before))
-before_not (Six m) (Six n) before = le-ltb n m (omega (arith, ltb-true m n before))
-
-not_itself : (a : Address) → address_before a a ≡ false
-not_itself (Four n) = le-ltb n n (omega arith)
-not_itself (Six n) = le-ltb n n (omega arith)
-
 -- what is found of an address is from it
 abbrev pub IsFrom : (Address → Option Counterexample) → Type 0
 IsFrom gives = (address : Address) (counter : Counterexample) → gives address ≡ Some counter → counter.source ≡ At address
 
-none_some : (counter : Counterexample) → None ≡ Some counter → ⊥
-none_some counter same = cc
-
 from_behind : (gives : Address → Option Counterexample) (x : Address) (xs : List Address) (counter : Counterexample) → IsFrom gives → AllByRecursion (IsBefore x) xs →
     first_of gives xs ≡ Some counter → (y : Address) × IsBefore x y × (counter.source ≡ At y)
-from_behind gives x [] counter from all found = absurd (none_some counter found)
+from_behind gives x [] counter from all found = absurd (none-some counter found)
 from_behind gives x (y ∷ ys) counter from all found =
     elim (from_either (gives y) (first_of gives ys) counter found) [
       | inl here ↦ (y, all.0, from y counter here)
@@ -123,11 +92,11 @@ merge_here : (gives gives' : Address → Option Counterexample) (x : Address) (x
     option_or (option_or one other) (first_of (λ a. option_or (gives a) (gives' a)) xs) ≡ earlier (option_or one (first_of gives xs)) (option_or other (first_of gives' xs))
 merge_here gives gives' x xs (Some counter) (Some found) from from' all is is' rest =
     sym (keep_first x counter (Some found) (from x counter is) (λ other same. ap (λ (c : Counterexample). comes_before c.source (At x)) (sym (same_Some found other same)) ∙ ap
-    (λ (end : PlaceEnd). comes_before end (At x)) (from' x found is') ∙ not_itself x))
+    (λ (end : PlaceEnd). comes_before end (At x)) (from' x found is') ∙ address_itself x))
 merge_here gives gives' x xs (Some counter) None from from' all is is' rest =
     sym (keep_first x counter (first_of gives' xs) (from x counter is) (λ found later.
     let (y, before, source) = from_behind gives' x xs found from' all later in
-    ap (λ (end : PlaceEnd). comes_before end (At x)) source ∙ before_not x y before))
+    ap (λ (end : PlaceEnd). comes_before end (At x)) source ∙ address_back x y before))
 merge_here gives gives' x xs None (Some counter) from from' all is is' rest =
     sym (take_second x counter (first_of gives xs) (from' x counter is') (λ kept later.
     let (y, before, source) = from_behind gives x xs kept from all later in
@@ -135,9 +104,8 @@ merge_here gives gives' x xs None (Some counter) from from' all is is' rest =
 merge_here gives gives' x xs None None from from' all is is' rest = rest
 
 -- the first by one or the other is the earlier of the first by the one and the first by the other
-pub merge : (gives gives' : Address → Option Counterexample) (xs : List Address) → IsFrom gives → IsFrom gives' → Ascends xs →
+pub merge : (gives gives' : Address → Option Counterexample) (xs : List Address) → IsFrom gives → IsFrom gives' → SortedBy address_before xs →
     first_of (λ a. option_or (gives a) (gives' a)) xs ≡ earlier (first_of gives xs) (first_of gives' xs)
-unfolding Ascends
 merge gives gives' [] from from' ascends = refl
 merge gives gives' (x ∷ xs) from from' ascends =
     merge_here gives gives' x xs (gives x) (gives' x) from from' ascends.0 refl refl (merge gives gives' xs from from' ascends.1)

@@ -1,19 +1,19 @@
 -- Where nothing is found, nothing is to be found.
-use Rattle.std.proofs.Common.{◌≡◌, ℕ, suc, ◌+◌, ◌^◌, ◌<◌, ◌≤◌, ◌==◌, ◌||◌, ◌&&◌, not, nat_le, List, [], ◌∷◌, Bool, true, false, Option, Some, None, All, Contains, option_map, refl, sym, ap, subst}
+use Rattle.std.proofs.Common.{◌≡◌, ℕ, ◌+◌, ◌^◌, ◌<◌, ◌≤◌, ◌&&◌, not, nat_le, List, [], ◌∷◌, Bool, true, false, Option, Some, None, Contains, option_map, refl, sym, ap}
 use Rattle.std.proofs.Common.{◌∙◌, inl, inr, arith, if◌then◌else◌}
 use Rattle.std.specs.Option.{option_or}
-use Rattle.std.proofs.lemmas.Bool.{and_from, and_parts, cases_Bool, eq-eqb, eqb-true, le-leb, leb-true, or_left, true≢false}
-use Rattle.std.proofs.lemmas.List.Elements.{All-contains, All-head, All-tail}
+use Rattle.std.proofs.lemmas.Bool.{and_from, and_parts, cases_Bool, le-leb, leb-true, true≢false}
+use Rattle.std.proofs.lemmas.List.Elements.{All-contains}
 use Rattle.np_addr.specs.Addresses.{IsAddress}
 use Rattle.np_addr.specs.Blocks.{AddressRanges, set_has}
 use Rattle.np_addr.specs.declared.address.Address.{Address}
 use Rattle.np_addr.specs.declared.address.Address.TheVariants.{Four, Six}
 use Rattle.np_check.proofs.BrokenLemmas.{addresses_upto, upto-below, upto-each}
 use Rattle.np_check.proofs.FirstLemmas.{find-none, first_of-append, none-found, none_both, none_each}
+use Rattle.np_check.proofs.MemberLemmas.{at_first, further_on}
 use Rattle.np_check.specs.Counters.{addresses_in, addresses_of, breaks, complies}
 use Rattle.np_check.specs.Firsts.{first_of, first_of_ports, first_of_proto, first_spot}
-use Rattle.np_check.specs.Numbers.{is_among}
-use Rattle.np_check.specs.declared.statement_text.Wanted.{Wanted}
+use Rattle.np_check.specs.declared.question.Wanted.{Wanted}
 use Rattle.np_conns.specs.Conns.{Conns, has_spot, is_spot}
 use Rattle.np_conns.specs.declared.port_spot.PortSpot.{PortSpot}
 use Rattle.np_conns.specs.declared.proto.Proto.{Proto}
@@ -30,37 +30,7 @@ both_none first rest no_first no_rest = ap (λ one. option_or one rest) no_first
 pub none_all : {X Y : Type 0} (gives : X → Option Y) (xs : List X) → ((x : X) → Contains xs x → gives x ≡ None) → first_of gives xs ≡ None
 none_all gives [] never = refl
 none_all gives (x ∷ xs) never =
-    both_none (gives x) (first_of gives xs) (never x (0, omega arith, refl)) (none_all gives xs (λ y has. never y (suc has.0, omega (arith, has.1), has.2)))
-
--- ---- of numbers
-
-pub none_among : {Y : Type 0} (gives : ℕ → Option Y) (numbers : List ℕ) (n : ℕ) → first_of gives numbers ≡ None → is_among numbers n ≡ true → gives n ≡ None
-none_among gives [] n none among = cc
-none_among gives (one ∷ numbers) n none among =
-    let both = none_both (gives one) (first_of gives numbers) none in
-    elim (cases_Bool (one == n)) [
-      | inl here ↦ ap gives (sym (eqb-true one n here)) ∙ both.0
-      | inr other ↦ none_among gives numbers n both.1 (rw other at among)
-    ]
-
-pub or_second : (x y : Bool) → y ≡ true → (x || y) ≡ true
-or_second true y second = refl
-or_second false y second = second
-
-pub none_all_among : {Y : Type 0} (gives : ℕ → Option Y) (numbers : List ℕ) → ((n : ℕ) → is_among numbers n ≡ true → gives n ≡ None) → first_of gives numbers ≡ None
-none_all_among gives [] never = refl
-none_all_among gives (one ∷ numbers) never =
-    both_none (gives one) (first_of gives numbers) (never one (or_left (one == one) (is_among numbers one) (eq-eqb one one refl)))
-    (none_all_among gives numbers (λ n among. never n (or_second (one == n) (is_among numbers n) among)))
-
--- what holds of all numbers holds of one that is among them
-pub among_all : (P : ℕ → Type 0) (numbers : List ℕ) (n : ℕ) → All P numbers → is_among numbers n ≡ true → P n
-among_all P [] n all among = absurd (true≢false (sym among))
-among_all P (one ∷ numbers) n all among =
-    elim (cases_Bool (one == n)) [
-      | inl here ↦ subst P (eqb-true one n here) (All-head P one numbers all)
-      | inr other ↦ among_all P numbers n (All-tail P one numbers all) (rw other at among)
-    ]
+    both_none (gives x) (first_of gives xs) (never x (at_first x xs)) (none_all gives xs (λ y has. never y (further_on x xs y has)))
 
 -- ---- of protocols and ports
 
@@ -153,3 +123,12 @@ no_addresses set gives never =
     first_of-append gives (addresses_in set Four (2 ^ 32)) (addresses_in set Six (2 ^ 128))
     ∙ both_none (first_of gives (addresses_in set Four (2 ^ 32))) (first_of gives (addresses_in set Six (2 ^ 128)))
     (none_family set Four gives (2 ^ 32) (λ n below has. never (Four n) below has)) (none_family set Six gives (2 ^ 128) (λ n below has. never (Six n) below has))
+
+-- where a set has no address, nothing is found
+pub none_of : {Y : Type 0} (set : AddressRanges) (gives : Address → Option Y) → ((n : ℕ) → set_has set (Four n) ≡ false) → ((n : ℕ) → set_has set (Six n) ≡ false) →
+    None ≡ first_of gives (addresses_of set)
+none_of set gives no_four no_six = sym (no_addresses set gives (λ address is has. absurd (true≢false (sym has ∙ lacks address))))
+  where
+    lacks : (address : Address) → set_has set address ≡ false
+    lacks (Four n) = no_four n
+    lacks (Six n) = no_six n

@@ -1,25 +1,23 @@
 -- The first packet between two ends.
-use Rattle.std.proofs.Common.{◌≡◌, ℕ, suc, ◌<◌, ◌≤◌, ◌==◌, ◌&&◌, List, [], ◌∷◌, Bool, true, false, Option, Some, None, drop, get_or, length, map, option_map, is_some, not, refl, sym, ap, ◌∙◌}
+use Rattle.std.proofs.Common.{◌≡◌, ℕ, suc, ◌<◌, ◌≤◌, ◌==◌, ◌&&◌, List, Bool, true, false, Option, Some, None, drop, get_or, length, map, option_map, is_some, not, refl, sym, ap, ◌∙◌}
 use Rattle.std.proofs.Common.{inl, inr, if◌then◌else◌}
-use Rattle.std.specs.List.{find, range_with_len}
 use Rattle.std.specs.Option.{option_or}
 use Rattle.std.proofs.Math.Seq.{drop-cons}
 use Rattle.std.proofs.lemmas.List.{drop_all}
 use Rattle.std.proofs.lemmas.Bool.{and_parts, cases_Bool, eqb-true, ne_eqb}
 use Rattle.np_addr.specs.declared.address.Family.{Family}
-use Rattle.np_check.proofs.FirstLemmas.{first_of-append, first_of-map, none_both}
+use Rattle.np_check.proofs.FirstLemmas.{first_of-append, first_of-map, first_of-none}
+use Rattle.np_check.proofs.NoneLemmas.{no_spots, none_all, none_at, none_map}
 use Rattle.np_check.proofs.SpotLemmas.{breaks-same}
 use Rattle.np_check.specs.Counters.{addresses_of, breaks, complies, counter_at, counter_between, counter_from, counter_in, families_between}
-use Rattle.np_check.specs.Firsts.{first_of, first_of_ports, first_of_proto, first_spot}
+use Rattle.np_check.specs.Firsts.{first_of, first_spot}
 use Rattle.np_check.specs.steps.Pairs.{AreSettled, has_pair, is_deny, kind_of}
 use Rattle.np_check.specs.declared.counterexample.PlaceEnd.TheVariants.{At, Work}
 use Rattle.np_check.specs.declared.question.Ends.{Ends}
-use Rattle.np_check.specs.declared.statement_text.Wanted.{Wanted}
-use Rattle.np_check.specs.declared.statement_text.Wanted.TheVariants.{Allow, Deny}
+use Rattle.np_check.specs.declared.question.Wanted.{Wanted}
+use Rattle.np_check.specs.declared.question.Wanted.TheVariants.{Allow, Deny}
 use Rattle.np_conns.specs.Conns.{Conns, has_spot}
 use Rattle.np_conns.specs.declared.port_spot.PortSpot.{PortSpot}
-use Rattle.np_conns.specs.declared.proto.Proto.{Proto}
-use Rattle.np_conns.specs.declared.proto.Proto.TheVariants.{Tcp, Udp, Sctp}
 use Rattle.np_model.specs.Families.{families_of}
 use Rattle.np_model.specs.Lawful.{IsLawful}
 use Rattle.np_model.specs.declared.lists.EstateLists.{EstateLists}
@@ -83,26 +81,21 @@ between-apart lists wanted conns a b families apart are = rw (apart, are) refl
 
 -- ---- kinds
 
-none_map : {X Y Z : Type 0} (to : X → Y) (to' : X → Z) (found : Option X) → option_map to found ≡ None → option_map to' found ≡ None
-none_map to to' None none = refl
-none_map to to' (Some x) none = cc
-
 none_in-kinds : (lists : EstateLists) (wanted : Wanted) (conns : Conns) (a b a' b' : ℕ) (family : Family) →
     ((spot : PortSpot) → pair_allows lists (folding_of lists) a b family spot ≡ pair_allows lists (folding_of lists) a' b' family spot) →
     counter_in lists wanted conns (Work a) (Work b) family ≡ None → counter_in lists wanted conns (Work a') (Work b') family ≡ None
 none_in-kinds lists wanted conns a b a' b' family same none =
     let spots = breaks-same wanted conns (pair_allows lists (folding_of lists) a b family) (pair_allows lists (folding_of lists) a' b' family) (λ spot is. same spot) in
-    none_map (counter_at (Work a) (Work b) family) (counter_at (Work a') (Work b') family) (first_spot (breaks wanted conns (pair_allows lists (folding_of lists) a' b' family)))
-    (ap (option_map (counter_at (Work a) (Work b) family)) (sym spots) ∙ none)
+    ap (option_map (counter_at (Work a') (Work b') family))
+    (none_map (counter_at (Work a) (Work b) family) (first_spot (breaks wanted conns (pair_allows lists (folding_of lists) a' b' family)))
+    (ap (option_map (counter_at (Work a) (Work b) family)) (sym spots) ∙ none))
 
 none_all-kinds : (lists : EstateLists) (wanted : Wanted) (conns : Conns) (a b a' b' : ℕ) (families : List Family) →
     ((family : Family) (spot : PortSpot) → pair_allows lists (folding_of lists) a b family spot ≡ pair_allows lists (folding_of lists) a' b' family spot) →
     first_of (counter_in lists wanted conns (Work a) (Work b)) families ≡ None → first_of (counter_in lists wanted conns (Work a') (Work b')) families ≡ None
-none_all-kinds lists wanted conns a b a' b' [] same none = refl
-none_all-kinds lists wanted conns a b a' b' (family ∷ families) same none =
-    let both = none_both (counter_in lists wanted conns (Work a) (Work b) family) (first_of (counter_in lists wanted conns (Work a) (Work b)) families) none in
-    ap (λ first. option_or first (first_of (counter_in lists wanted conns (Work a') (Work b')) families)) (none_in-kinds lists wanted conns a b a' b' family (same family) both.0)
-    ∙ none_all-kinds lists wanted conns a b a' b' families same both.1
+none_all-kinds lists wanted conns a b a' b' families same none =
+    none_all (counter_in lists wanted conns (Work a') (Work b')) families
+    (λ family has. none_in-kinds lists wanted conns a b a' b' family (same family) (none_at (counter_in lists wanted conns (Work a) (Work b)) families family none has))
 
 -- where nothing breaks the statement between two workloads, nothing does between two of their kinds
 between-kinds : (lists : EstateLists) (wanted : Wanted) (conns : Conns) (a b a' b' : ℕ) → IsLawful lists → IsWorkload lists a → IsWorkload lists b → IsWorkload lists a' → IsWorkload lists b' →
@@ -149,24 +142,6 @@ from-work lists wanted conns ends source =
 
 -- ---- workloads between which nothing passes
 
-find_none : {X : Type 0} (test : X → Bool) (xs : List X) → ((x : X) → test x ≡ false) → find test xs ≡ None
-find_none test [] none = refl
-find_none test (x ∷ xs) none = rw (none x) (find_none test xs none)
-
-first_of-none : {X Y : Type 0} (gives : X → Option Y) (xs : List X) → ((x : X) → gives x ≡ None) → first_of gives xs ≡ None
-first_of-none gives [] none = refl
-first_of-none gives (x ∷ xs) none = rw (none x) (first_of-none gives xs none)
-
-first_of_proto-none : (passes : PortSpot → Bool) → ((spot : PortSpot) → passes spot ≡ false) → (proto : Proto) → first_of_proto passes proto ≡ None
-unfolding first_of_ports
-first_of_proto-none passes none proto =
-    let at : ℕ → PortSpot = λ port. record { proto = proto; port = port } in
-    ap (option_map at) (find_none (λ port. passes (at port)) (range_with_len 1 65535) (λ port. none (at port)))
-
-first_spot-none : (passes : PortSpot → Bool) → ((spot : PortSpot) → passes spot ≡ false) → first_spot passes ≡ None
-unfolding first_spot
-first_spot-none passes none = first_of-none (first_of_proto passes) (Tcp ∷ Udp ∷ Sctp ∷ []) (first_of_proto-none passes none)
-
 not_denied : (speaks allowed : Bool) → allowed ≡ false → (speaks && not (complies Deny allowed)) ≡ false
 not_denied true allowed none = rw none refl
 not_denied false allowed none = refl
@@ -178,5 +153,5 @@ unfolding counter_between
 none_denied lists Allow conns a b denies silent = absurd (cc)
 none_denied lists Deny conns a b denies silent =
     sym (first_of-none (counter_in lists Deny conns (Work a) (Work b)) (families_between lists (Work a) (Work b)) (λ family.
-    ap (option_map (counter_at (Work a) (Work b) family)) (first_spot-none (breaks Deny conns (pair_allows lists (folding_of lists) a b family))
-    (λ spot. not_denied (has_spot conns spot) _ (silent family spot)))))
+    ap (option_map (counter_at (Work a) (Work b) family)) (no_spots (breaks Deny conns (pair_allows lists (folding_of lists) a b family))
+    (λ spot is. not_denied (has_spot conns spot) _ (silent family spot)))))

@@ -3,14 +3,14 @@ use Rattle.std.proofs.Common.{◌≡◌, ℕ, ◌+◌, ◌<◌, ◌≤◌, List,
 use Rattle.std.specs.List.{slice_get}
 use Rattle.std.specs.Option.{option_or}
 use Rattle.std.proofs.lemmas.Bool.{and_from, le-leb, or_left}
-use Rattle.std.proofs.lemmas.Option.{same_Some}
+use Rattle.std.proofs.lemmas.Option.{none-some, same_Some}
 use Rattle.np_base.proofs.Ranges.{holds-before, is_within-inside}
 use Rattle.np_base.specs.Ranges.{IsAscending, holds}
 use Rattle.np_base.specs.declared.range.Range.{Range}
 use Rattle.np_check.proofs.FirstLemmas.{find-at, find-none, find-same, first_of-same}
 use Rattle.np_check.specs.Counters.{breaks, complies}
 use Rattle.np_check.specs.Firsts.{first_of_ports, first_of_proto, first_spot}
-use Rattle.np_check.specs.declared.statement_text.Wanted.{Wanted}
+use Rattle.np_check.specs.declared.question.Wanted.{Wanted}
 use Rattle.np_conns.specs.Conns.{AscendsInPorts, Conns, has_spot, is_spot, ranges_of}
 use Rattle.np_conns.specs.declared.port_spot.PortSpot.{PortSpot}
 use Rattle.np_conns.specs.declared.proto.Proto.{Proto}
@@ -69,17 +69,11 @@ first_of_set set proto ranges are ascends =
 pub first_of_none : (set : Conns) (proto : Proto) (ranges : List (Range ℕ)) → ranges ≡ ranges_of set proto → AscendsInPorts ranges → slice_get ranges 0 ≡ None →
     None ≡ first_of_proto (has_spot set) proto
 first_of_none set proto [] are ascends none = sym (first_of_set set proto [] are ascends)
-first_of_none set proto (range ∷ ranges) are ascends none = absurd (some_none range none)
-  where
-    some_none : (range : Range ℕ) → Some range ≡ None → ⊥
-    some_none range same = cc
+first_of_none set proto (range ∷ ranges) are ascends none = absurd (none-some range (sym none))
 
 pub first_of_some : (set : Conns) (proto : Proto) (ranges : List (Range ℕ)) (first : Range ℕ) → ranges ≡ ranges_of set proto → AscendsInPorts ranges → slice_get ranges 0 ≡ Some first →
     Some (record { proto = proto; port = first.lo }) ≡ first_of_proto (has_spot set) proto
-first_of_some set proto [] first are ascends some = absurd (none_some first some)
-  where
-    none_some : (range : Range ℕ) → None ≡ Some range → ⊥
-    none_some range same = cc
+first_of_some set proto [] first are ascends some = absurd (none-some first some)
 first_of_some set proto (range ∷ ranges) first are ascends some =
     let same : range ≡ first = same_Some range first some in
     ap (λ (r : Range ℕ). Some (record { proto = proto; port = r.lo })) (sym same) ∙ sym (first_of_set set proto (range ∷ ranges) are ascends)

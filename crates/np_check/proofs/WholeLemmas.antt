@@ -9,7 +9,7 @@ use Rattle.np_check.specs.declared.counterexample.Counterexample.{Counterexample
 use Rattle.np_check.specs.declared.counterexample.PlaceEnd.TheVariants.{At, Work}
 use Rattle.np_check.specs.declared.question.Ends.{Ends}
 use Rattle.np_check.specs.declared.question.Question.{Question}
-use Rattle.np_check.specs.declared.statement_text.Wanted.{Wanted}
+use Rattle.np_check.specs.declared.question.Wanted.{Wanted}
 use Rattle.np_conns.specs.Conns.{Conns}
 use Rattle.np_model.specs.declared.lists.EstateLists.{EstateLists}
 

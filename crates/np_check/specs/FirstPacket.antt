@@ -2,7 +2,6 @@
 use Rattle.std.specs.Prelude.{◌≡◌, ◌≤◌, true, false, Contains}
 use Rattle.np_check.specs.Counters.{allows_between, breaks, families_between}
 use Rattle.np_check.specs.Holding.{HasAddress}
-use Rattle.np_check.specs.Numbers.{is_among}
 use Rattle.np_check.specs.Order.{comes_before, family_before, proto_before}
 use Rattle.np_check.specs.declared.counterexample.Counterexample.{Counterexample}
 use Rattle.np_check.specs.declared.counterexample.PlaceEnd.{PlaceEnd}
@@ -14,7 +13,7 @@ use Rattle.np_model.specs.declared.lists.EstateLists.{EstateLists}
 
 -- the end is one of a side
 abbrev pub IsEndOf : Ends → PlaceEnd → Type 0
-IsEndOf ends (Work work) = is_among ends.works work ≡ true
+IsEndOf ends (Work work) = Contains ends.works work
 IsEndOf ends (At address) = HasAddress ends address
 
 -- the statement speaks of the packet, and the packet does not comply

@@ -5,7 +5,6 @@ use Rattle.np_addr.specs.Blocks.{set_has}
 use Rattle.np_addr.specs.declared.address.Address.{Address}
 use Rattle.np_addr.specs.declared.address.Family.{Family}
 use Rattle.np_check.specs.Counters.{complies, number_of_address}
-use Rattle.np_check.specs.Numbers.{is_among}
 use Rattle.np_check.specs.declared.question.Ends.{Ends}
 use Rattle.np_check.specs.declared.question.Question.{Question}
 use Rattle.np_conns.specs.Conns.{has_spot, is_spot}
@@ -20,7 +19,7 @@ use Rattle.np_kinds.specs.Between.{between_pods, with_address}
 
 -- the pod at a place is one of the workloads of a side
 abbrev pub IsOf : EstateLists → ℕ → Ends → Type 0
-IsOf lists p ends = (p < length lists.pods) × (is_among ends.works (number_of lists p) ≡ true)
+IsOf lists p ends = (p < length lists.pods) × Contains ends.works (number_of lists p)
 
 -- the address is one of a side
 abbrev pub HasAddress : Ends → Address → Type 0

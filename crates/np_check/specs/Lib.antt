@@ -1,10 +1,7 @@
 pub mod Counters
-pub mod Faults
 pub mod FirstPacket
 pub mod Firsts
 pub mod Holding
 pub mod Numbers
 pub mod Order
-pub mod StatementGrammar
-pub mod StatementTexts
 pub mod steps

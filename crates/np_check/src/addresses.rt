@@ -1,5 +1,5 @@
 //! Packets between a workload and addresses.
-ghost use Rattle.std.specs.Prelude.{◌≡◌, ◌≤◌, ◌<◌, ℕ, Bool, None, Some, All, IfOk, MatchOption, map, option_map, false, true};
+ghost use Rattle.std.specs.Prelude.{◌≡◌, ◌<◌, ℕ, Bool, None, Some, All, IfOk, MatchOption, map, option_map, false, true};
 ghost use Rattle.np_addr.specs.Addresses.{family_of};
 ghost use Rattle.np_addr.specs.Blocks.{IsAddressSet};
 ghost use Rattle.np_addr.specs.declared.address.Family.{Family};
@@ -20,29 +20,25 @@ use np_addr::{AddrSet, Address, family_of};
 use np_base::{Cells, NoMemory, Point, Range, later};
 use np_conns::PortSpot;
 use np_model::Direction;
-use np_steps::Steps;
 use np_table::{AddressRow, AddressSpan};
-use std::sync::ledger::Ledger;
 
 /// The first packet from a workload to the addresses of a set that breaks a statement.
-pub(crate) fn first_to_addresses<L: Ledger>(
+pub(crate) fn first_to_addresses(
     checker: &mut Checker<'_>,
     asked: &Asked<'_>,
     source: u32,
     block: &AddrSet,
-    steps: &mut Steps<L>,
 ) -> Result<Option<Counterexample>, NoMemory>
     requires { IsWorkload checker.old source }
     ensures counter { IfOk result (λ made. made ≡ first_of
         (λ address. counter_between checker.old asked.now.wanted asked.now.conns.now (Work source) (At address))
         (addresses_of block.now)) }
     ensures same { checker.new ≡ checker.old }
-    ensures least { steps.old ≤ steps.new }
 {
     if block.is_empty() {
         return Ok(None);
     }
-    let rows = checker.address_rows(source, Direction::Egress, steps)?;
+    let rows = checker.address_rows(source, Direction::Egress)?;
     let Some(broken) = first_broken(asked, rows.items(), block)? else {
         return Ok(None);
     };
@@ -56,12 +52,11 @@ pub(crate) fn first_to_addresses<L: Ledger>(
 
 /// The first packet from the addresses of a set to some workloads that breaks a statement: by the address, and then by the
 /// workload. For each workload the first address is found, and of these the first is taken.
-pub(crate) fn first_from_addresses<L: Ledger>(
+pub(crate) fn first_from_addresses(
     checker: &mut Checker<'_>,
     asked: &Asked<'_>,
     block: &AddrSet,
     destinations: &[u32],
-    steps: &mut Steps<L>,
 ) -> Result<Option<Counterexample>, NoMemory>
     requires { All (IsWorkload checker.old) destinations.now }
     ensures counter { IfOk result (λ made. made ≡ first_of
@@ -69,26 +64,24 @@ pub(crate) fn first_from_addresses<L: Ledger>(
         (λ destination. counter_between checker.old asked.now.wanted asked.now.conns.now (At address) (Work destination))
         destinations.now) (addresses_of block.now)) }
     ensures same { checker.new ≡ checker.old }
-    ensures least { steps.old ≤ steps.new }
 {
     let mut first = None;
     if block.is_empty() {
         return Ok(first);
     }
     for destination in destinations {
-        let found = first_from(checker, asked, block, *destination, steps)?;
+        let found = first_from(checker, asked, block, *destination)?;
         first = earlier(first, found);
     }
     Ok(first)
 }
 
 // The first packet from the addresses of a set to a workload that breaks a statement.
-fn first_from<L: Ledger>(
+fn first_from(
     checker: &mut Checker<'_>,
     asked: &Asked<'_>,
     block: &AddrSet,
     destination: u32,
-    steps: &mut Steps<L>,
 ) -> Result<Option<Counterexample>, NoMemory>
     requires destination { IsWorkload checker.old destination }
     requires block { IsAddressSet block.now }
@@ -96,9 +89,8 @@ fn first_from<L: Ledger>(
         (λ address. counter_between checker.old asked.now.wanted asked.now.conns.now (At address) (Work destination))
         (addresses_of block.now)) }
     ensures same { checker.new ≡ checker.old }
-    ensures least { steps.old ≤ steps.new }
 {
-    let rows = checker.address_rows(destination, Direction::Ingress, steps)?;
+    let rows = checker.address_rows(destination, Direction::Ingress)?;
     let Some(broken) = first_broken(asked, rows.items(), block)? else {
         return Ok(None);
     };

@@ -6,7 +6,7 @@ ghost use Rattle.np_check.specs.steps.Pairs.{is_deny};
 ghost use Rattle.np_conns.specs.Conns.{has_spot};
 ghost use Rattle.np_conns.specs.declared.port_spot.PortSpot.{PortSpot};
 
-use crate::statement_text::Wanted;
+use crate::question::Wanted;
 use np_base::{Cells, NoMemory};
 use np_conns::{ConnSet, PortSpot, Proto};
 

@@ -1,5 +1,5 @@
 //! Whether the statements of a cluster hold.
-ghost use Rattle.std.specs.Prelude.{◌≡◌, ◌≤◌, false, true, All, IfOk};
+ghost use Rattle.std.specs.Prelude.{◌≡◌, false, true, All, IfOk};
 ghost use Rattle.np_addr.specs.declared.address.Family.{Family as SpecFamily};
 ghost use Rattle.np_check.specs.Counters.{counter_of};
 ghost use Rattle.np_conns.specs.declared.port_spot.PortSpot.{PortSpot};
@@ -12,6 +12,7 @@ ghost use Rattle.np_table.specs.Table.{estate_table};
 use crate::addresses::first_from_addresses;
 use crate::asked::Asked;
 use crate::checking::first_from_works;
+use crate::counted;
 use crate::counterexample::Counterexample;
 use crate::statement::Statement;
 use np_addr::Family;
@@ -20,11 +21,10 @@ use np_conns::ConnSet;
 use np_fold::Folded;
 use np_kinds::{KindReach, Sides};
 use np_model::Direction;
-use np_steps::Steps;
-use np_table::{AddressRow, address_rows_by_kind, set_by_kinds};
+use np_table::AddressRow;
 use std::alloc::Global;
-use std::marker::Model;
-use std::sync::ledger::Ledger;
+use std::marker::{Brand, Model};
+use std::sync::ledger::Blank;
 
 // From so many pairs a workload on it is worth it to find out first which kinds may send anything to which.
 const PAIRS_PER_WORKLOAD: u64 = 50;
@@ -83,33 +83,25 @@ impl<'a> Checker<'a> {
     /// IPv4 before IPv6, addresses by number. Between workloads the families are those of the list; no packet is of a
     /// workload of one pod with itself. No address is asked by itself: the rules give what passes with whole ranges of
     /// them.
-    pub fn check<L: Ledger>(
-        &mut self,
-        statement: &Statement,
-        steps: &mut Steps<L>,
-    ) -> Result<Option<Counterexample>, NoMemory>
+    pub fn check(&mut self, statement: &Statement) -> Result<Option<Counterexample>, NoMemory>
         requires sources { All (IsWorkload self.old) statement.now.question.source.works }
         requires destinations { All (IsWorkload self.old) statement.now.question.destination.works }
         ensures counter { IfOk result (λ made. made ≡ counter_of self.old statement.now.question) }
         ensures same { self.new ≡ self.old }
-        ensures least { steps.old ≤ steps.new }
     {
-        let alloc = self.alloc;
-        let count = self.folded().workloads().count();
-        let sources = statement.sources(alloc, count)?;
-        let destinations = statement.destinations(alloc, count)?;
-        self.expect(sources.len() as u64, destinations.len() as u64)?;
         let question = &statement.question;
+        let sources = question.source.works.items();
+        let destinations = question.destination.works.items();
+        self.expect(sources.len() as u64, destinations.len() as u64)?;
         let asked = Asked {
             wanted: question.wanted,
             conns: &question.conns,
         };
-        let found = first_from_works(self, &asked, &sources, &question.destination, steps)?;
+        let found = first_from_works(self, &asked, sources, &question.destination)?;
         if found.is_some() {
             return Ok(found);
         }
-        let block = &question.source.block;
-        first_from_addresses(self, &asked, block, &destinations, steps)
+        first_from_addresses(self, &asked, &question.source.block, destinations)
     }
 
     // Counts the pairs of a statement, and finds out which kinds may send anything to which once they are many.
@@ -153,28 +145,26 @@ impl<'a> Checker<'a> {
 
     /// What passes between a workload and each address: from the addresses to it in the direction of ingress, and from it to
     /// them in that of egress.
-    pub(crate) fn address_rows<L: Ledger>(
+    pub(crate) fn address_rows(
         &mut self,
         work: u32,
         direction: Direction,
-        steps: &mut Steps<L>,
     ) -> Result<Seq<AddressRow>, NoMemory>
         requires { IsWorkload self.old work }
         ensures rows { IfOk result (λ made. made ≡ address_rows (estate_table self.old) work direction) }
         ensures same { self.new ≡ self.old }
-        ensures least { steps.old ≤ steps.new }
     {
-        address_rows_by_kind(self.alloc, &mut self.sides, work, direction, steps)
+        let blank = Blank::new(1);
+        counted::address_rows::<Brand>(self.alloc, &mut self.sides, work, direction, blank)
     }
 
     /// The protocols and ports that pass from a workload to another in a family, by the rules of their kinds. It is right of a
     /// workload with itself, too.
-    pub(crate) fn passing<L: Ledger>(
+    pub(crate) fn passing(
         &mut self,
         source: u32,
         destination: u32,
         family: Family,
-        steps: &mut Steps<L>,
     ) -> Result<ConnSet, NoMemory>
         requires source { IsWorkload self.old source }
         requires destination { IsWorkload self.old destination }
@@ -182,15 +172,15 @@ impl<'a> Checker<'a> {
         ensures set { IfOk result (λ made. made
             ≡ conns_of (pair_allows self.old (folding_of self.old) source destination family)) }
         ensures same { self.new ≡ self.old }
-        ensures least { steps.old ≤ steps.new }
     {
-        set_by_kinds(
+        let blank = Blank::new(1);
+        counted::passing::<Brand>(
             self.alloc,
             &mut self.sides,
             source,
             destination,
             family,
-            steps,
+            blank,
         )
     }
 }

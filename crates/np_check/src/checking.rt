@@ -1,5 +1,5 @@
 //! Packets from workloads.
-ghost use Rattle.std.specs.Prelude.{◌≡◌, ◌≤◌, All, IfOk};
+ghost use Rattle.std.specs.Prelude.{◌≡◌, All, IfOk};
 ghost use Rattle.np_check.specs.Counters.{counter_from};
 ghost use Rattle.np_check.specs.Firsts.{first_of};
 ghost use Rattle.np_check.specs.steps.Pairs.{AreSettled};
@@ -13,28 +13,24 @@ use crate::counterexample::Counterexample;
 use crate::pairs::{Settled, first_to_works};
 use crate::question::Ends;
 use np_base::NoMemory;
-use np_steps::Steps;
 use std::collections::HashSet;
-use std::sync::ledger::Ledger;
 
 /// The first packet from some workloads that breaks a statement, by source.
-pub(crate) fn first_from_works<L: Ledger>(
+pub(crate) fn first_from_works(
     checker: &mut Checker<'_>,
     asked: &Asked<'_>,
     sources: &[u32],
     ends: &Ends,
-    steps: &mut Steps<L>,
 ) -> Result<Option<Counterexample>, NoMemory>
     requires sources { All (IsWorkload checker.old) sources.now }
     requires destinations { All (IsWorkload checker.old) ends.now.works }
     ensures counter { IfOk result (λ made. made ≡ first_of
         (λ source. counter_from checker.old asked.now.wanted asked.now.conns.now ends.now (Work source)) sources.now) }
     ensures same { checker.new ≡ checker.old }
-    ensures least { steps.old ≤ steps.new }
 {
     let mut settled = HashSet::new(checker.alloc());
     for source in sources {
-        let found = first_from_work(checker, asked, *source, ends, &mut settled, steps)?;
+        let found = first_from_work(checker, asked, *source, ends, &mut settled)?;
         if found.is_some() {
             return Ok(found);
         }
@@ -43,13 +39,12 @@ pub(crate) fn first_from_works<L: Ledger>(
 }
 
 // The first packet from a workload that breaks a statement, by destination.
-fn first_from_work<L: Ledger>(
+fn first_from_work(
     checker: &mut Checker<'_>,
     asked: &Asked<'_>,
     source: u32,
     ends: &Ends,
     settled: &mut Settled,
-    steps: &mut Steps<L>,
 ) -> Result<Option<Counterexample>, NoMemory>
     requires source { IsWorkload checker.old source }
     requires destinations { All (IsWorkload checker.old) ends.now.works }
@@ -58,12 +53,11 @@ fn first_from_work<L: Ledger>(
         made ≡ counter_from checker.old asked.now.wanted asked.now.conns.now ends.now (Work source)) }
     ensures same { checker.new ≡ checker.old }
     ensures settled { AreSettled checker.new asked.now.wanted asked.now.conns.now settled.new.keys }
-    ensures least { steps.old ≤ steps.new }
 {
     let destinations = ends.works.items();
-    let found = first_to_works(checker, asked, source, destinations, settled, steps)?;
+    let found = first_to_works(checker, asked, source, destinations, settled)?;
     if found.is_some() {
         return Ok(found);
     }
-    first_to_addresses(checker, asked, source, &ends.block, steps)
+    first_to_addresses(checker, asked, source, &ends.block)
 }

@@ -1,28 +1,14 @@
 //! What follows from the definitions. Each law is the contract of a call that does nothing.
-ghost use Rattle.std.specs.Prelude.{◌≡◌, ◌↔◌, ℕ, List, None, Some, All, true};
+ghost use Rattle.std.specs.Prelude.{◌≡◌, ◌↔◌, None, Some, All, true};
 ghost use Rattle.np_check.specs.Counters.{counter_of};
 ghost use Rattle.np_check.specs.FirstPacket.{IsBroken, IsFirstBroken};
 ghost use Rattle.np_check.specs.Holding.{Holds};
 ghost use Rattle.np_check.specs.Numbers.{is_ascending};
-ghost use Rattle.np_check.specs.StatementGrammar.{IsStatementText};
-ghost use Rattle.np_check.specs.StatementTexts.{IsWellStatement, statement_text};
 ghost use Rattle.np_check.specs.declared.counterexample.Counterexample.{Counterexample};
 ghost use Rattle.np_check.specs.declared.question.Question.{Question};
-ghost use Rattle.np_check.specs.declared.statement_text.StatementText.{StatementText};
 ghost use Rattle.np_model.specs.Lawful.{IsLawful};
 ghost use Rattle.np_model.specs.declared.lists.EstateLists.{EstateLists};
 ghost use Rattle.np_kinds.specs.Between.{IsWorkload};
-
-/// A line is the text of one statement at most.
-pub fn one_statement_of_a_line()
-    ensures { (line : List ℕ) (statement other : StatementText) →
-        IsStatementText line statement → IsStatementText line other → statement ≡ other }
-{}
-
-/// The text of a statement is read as that statement.
-pub fn text_of_a_statement_reads_again()
-    ensures { (statement : StatementText) → IsWellStatement statement → IsStatementText (statement_text statement) statement }
-{}
 
 /// `check` finds nothing exactly where the statement holds: where every packet that it speaks of complies, between every
 /// two different pods of its workloads, and between every pod of them and every address of its blocks.

@@ -1,5 +1,5 @@
 //! Packets between workloads.
-ghost use Rattle.std.specs.Prelude.{◌≡◌, ◌≤◌, ◌<◌, false, All, IfOk, length};
+ghost use Rattle.std.specs.Prelude.{◌≡◌, ◌<◌, false, All, IfOk, length};
 ghost use Rattle.np_check.specs.Counters.{counter_between, counter_in};
 ghost use Rattle.np_check.specs.Firsts.{first_of};
 ghost use Rattle.np_check.specs.steps.Pairs.{AreSettled};
@@ -13,9 +13,7 @@ use crate::counterexample::{Counterexample, PlaceEnd};
 use np_addr::Family;
 use np_base::NoMemory;
 use np_fold::Workloads;
-use np_steps::Steps;
 use std::collections::HashSet;
-use std::sync::ledger::Ledger;
 
 /// The kinds of workloads between which no packet breaks a statement, as far as they are known: pairs of the kind of a
 /// source and that of a destination.
@@ -23,13 +21,12 @@ pub(crate) type Settled = HashSet<(u32, u32)>;
 
 /// The first packet from a workload to some others that breaks a statement. What is found of two workloads holds of all of
 /// their kinds, so it is asked once for two kinds.
-pub(crate) fn first_to_works<L: Ledger>(
+pub(crate) fn first_to_works(
     checker: &mut Checker<'_>,
     asked: &Asked<'_>,
     source: u32,
     destinations: &[u32],
     settled: &mut Settled,
-    steps: &mut Steps<L>,
 ) -> Result<Option<Counterexample>, NoMemory>
     requires source { IsWorkload checker.old source }
     requires destinations { All (IsWorkload checker.old) destinations.now }
@@ -39,10 +36,9 @@ pub(crate) fn first_to_works<L: Ledger>(
         destinations.now) }
     ensures same { checker.new ≡ checker.old }
     ensures settled { AreSettled checker.new asked.now.wanted asked.now.conns.now settled.new.keys }
-    ensures least { steps.old ≤ steps.new }
 {
     for destination in destinations {
-        let found = first_to_work(checker, asked, source, *destination, settled, steps)?;
+        let found = first_to_work(checker, asked, source, *destination, settled)?;
         if found.is_some() {
             return Ok(found);
         }
@@ -52,13 +48,12 @@ pub(crate) fn first_to_works<L: Ledger>(
 
 // The first packet from a workload to another that breaks a statement, unless it is known that there is none: what passes
 // not at all breaks no statement that denies, and is not kept.
-fn first_to_work<L: Ledger>(
+fn first_to_work(
     checker: &mut Checker<'_>,
     asked: &Asked<'_>,
     source: u32,
     destination: u32,
     settled: &mut Settled,
-    steps: &mut Steps<L>,
 ) -> Result<Option<Counterexample>, NoMemory>
     requires source { IsWorkload checker.old source }
     requires destination { IsWorkload checker.old destination }
@@ -67,7 +62,6 @@ fn first_to_work<L: Ledger>(
         ≡ counter_between checker.old asked.now.wanted asked.now.conns.now (Work source) (Work destination)) }
     ensures same { checker.new ≡ checker.old }
     ensures settled { AreSettled checker.new asked.now.wanted asked.now.conns.now settled.new.keys }
-    ensures least { steps.old ≤ steps.new }
 {
     let denied = asked.denies();
     if denied && checker.is_silent(source, destination) {
@@ -78,7 +72,7 @@ fn first_to_work<L: Ledger>(
     if settled.contains(&kinds) {
         return Ok(None);
     }
-    let found = first_between(checker, asked, source, destination, steps)?;
+    let found = first_between(checker, asked, source, destination)?;
     if found.is_none() && source != destination {
         settled.insert(kinds)?;
     }
@@ -86,26 +80,24 @@ fn first_to_work<L: Ledger>(
 }
 
 // The first packet from a workload to another that breaks a statement, by family.
-fn first_between<L: Ledger>(
+fn first_between(
     checker: &mut Checker<'_>,
     asked: &Asked<'_>,
     source: u32,
     destination: u32,
-    steps: &mut Steps<L>,
 ) -> Result<Option<Counterexample>, NoMemory>
     requires source { IsWorkload checker.old source }
     requires destination { IsWorkload checker.old destination }
     ensures counter { IfOk result (λ made. made
         ≡ counter_between checker.old asked.now.wanted asked.now.conns.now (Work source) (Work destination)) }
     ensures same { checker.new ≡ checker.old }
-    ensures least { steps.old ≤ steps.new }
 {
     let folded = checker.folded();
     if is_alone(folded.workloads(), source, destination) {
         return Ok(None);
     }
     for family in folded.estate().families() {
-        let found = first_in(checker, asked, source, destination, *family, steps)?;
+        let found = first_in(checker, asked, source, destination, *family)?;
         if found.is_some() {
             return Ok(found);
         }
@@ -122,13 +114,12 @@ fn is_alone(workloads: &Workloads, source: u32, destination: u32) -> bool
 }
 
 // The first packet of a family from a workload to another that breaks a statement.
-fn first_in<L: Ledger>(
+fn first_in(
     checker: &mut Checker<'_>,
     asked: &Asked<'_>,
     source: u32,
     destination: u32,
     family: Family,
-    steps: &mut Steps<L>,
 ) -> Result<Option<Counterexample>, NoMemory>
     requires source { IsWorkload checker.old source }
     requires destination { IsWorkload checker.old destination }
@@ -136,9 +127,8 @@ fn first_in<L: Ledger>(
     ensures counter { IfOk result (λ made. made
         ≡ counter_in checker.old asked.now.wanted asked.now.conns.now (Work source) (Work destination) family) }
     ensures same { checker.new ≡ checker.old }
-    ensures least { steps.old ≤ steps.new }
 {
-    let passes = checker.passing(source, destination, family, steps)?;
+    let passes = checker.passing(source, destination, family)?;
     let Some(spot) = asked.first_broken(&passes)? else {
         return Ok(None);
     };

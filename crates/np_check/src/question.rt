@@ -1,9 +1,15 @@
 //! What a statement asks.
 
-use crate::statement_text::Wanted;
 use np_addr::AddrSet;
 use np_base::Seq;
 use np_conns::ConnSet;
+
+/// What a statement asks for: that all of its packets are allowed, or that all are denied.
+#[derive(Clone, Copy, PartialEq, Eq)]
+pub enum Wanted {
+    Allow,
+    Deny,
+}
 
 /// The ends on one side of a statement: workloads, by their numbers, and addresses.
 #[derive(Drop)]

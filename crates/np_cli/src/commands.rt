@@ -91,7 +91,7 @@ pub(crate) fn reply<O: Sink, L: Ledger>(
             evaluate(alloc, folded, &PacketWords { from, to, spot }, out, steps)?;
         }
         Job::Unused { .. } => unused(alloc, folded, out, steps)?,
-        Job::Check { .. } => return check_file(alloc, statement_of(texts), folded, out, steps),
+        Job::Check { .. } => return check_file(alloc, statement_of(texts), folded, out),
         Job::Flatten { .. } => flatten_in(alloc, folded, out, steps)?,
         Job::Sample { .. } => count_rows(alloc, folded, out, steps)?,
     }

@@ -1,17 +1,16 @@
 -- The packet that is found breaks the statement of its line, as the line names its ends.
-use Rattle.std.proofs.Common.{◌≡◌, ℕ, List, true, not, Ok, sym, ap, subst}
+use Rattle.std.proofs.Common.{◌≡◌, List, not, Contains, Ok, sym, ap, subst}
 use Rattle.std.proofs.lemmas.Bool.{and_from, and_parts, not-true}
-use Rattle.np_check.proofs.NoneLemmas.{among_all}
+use Rattle.std.proofs.lemmas.List.Elements.{All-contains}
 use Rattle.np_check.specs.Counters.{allows_between, complies}
 use Rattle.np_check.specs.FirstPacket.{IsBroken, IsEndOf, IsFirstBroken}
-use Rattle.np_check.specs.Numbers.{is_among}
 use Rattle.np_check.specs.declared.counterexample.Counterexample.{Counterexample}
 use Rattle.np_check.specs.declared.counterexample.PlaceEnd.{PlaceEnd}
 use Rattle.np_check.specs.declared.counterexample.PlaceEnd.TheVariants.{At, Work}
 use Rattle.np_check.specs.declared.question.Ends.{Ends}
 use Rattle.np_check.specs.declared.question.Question.{Question}
-use Rattle.np_check.specs.declared.statement_text.EndForm.{EndForm}
-use Rattle.np_check.specs.declared.statement_text.StatementText.{StatementText}
+use Rattle.np_statements.specs.declared.statement_text.EndForm.{EndForm}
+use Rattle.np_statements.specs.declared.statement_text.StatementText.{StatementText}
 use Rattle.np_command_check.proofs.KnownLemmas.{pod-of}
 use Rattle.np_command_check.specs.FirstBroken.{Breaks, BreaksFirst, IsFirstBrokenLine, NamesPlace}
 use Rattle.np_conns.specs.Conns.{has_spot}
@@ -33,16 +32,16 @@ use Rattle.np_kinds.specs.Between.{IsWorkload, source_pod}
 -- an end of a side is named by its form
 place-named : (lists : EstateLists) (form : EndForm) (ends : Ends) (place : PlaceEnd) → IsLawful lists → ends_of lists form ≡ Ok ends → IsEndOf ends place → NamesPlace lists form place
 place-named lists form ends (Work work) lawful found is =
-    let one : IsWorkload lists work = among_all (IsWorkload lists) ends.works work (ends_of-are lists form ends found).works is in
+    let one : IsWorkload lists work = All-contains (IsWorkload lists) ends.works work (ends_of-are lists form ends found).works is in
     let place = source_pod (folding_of lists) work in
     let pod = pod-of lists work one in
-    (place, (pod.within, (names-pods lists form ends place lawful found pod.within).0 (subst (λ (n : ℕ). is_among ends.works n ≡ true) (sym pod.number) is)), pod.number)
+    (place, (pod.within, (names-pods lists form ends place lawful found pod.within).0 (subst (Contains ends.works) (sym pod.number) is)), pod.number)
 place-named lists form ends (At address) lawful found is = (is.0, (names-addresses lists form ends address found is.0).0 is.1)
 
 -- and what the form names is an end of the side
 named-place : (lists : EstateLists) (form : EndForm) (ends : Ends) (place : PlaceEnd) → IsLawful lists → ends_of lists form ≡ Ok ends → NamesPlace lists form place → IsEndOf ends place
 named-place lists form ends (Work work) lawful found (place, named, number) =
-    subst (λ (n : ℕ). is_among ends.works n ≡ true) number ((names-pods lists form ends place lawful found named.0).1 named.1)
+    subst (Contains ends.works) number ((names-pods lists form ends place lawful found named.0).1 named.1)
 named-place lists form ends (At address) lawful found named = (named.0, (names-addresses lists form ends address found named.0).1 named.1)
 
 -- ---- packets

@@ -11,9 +11,9 @@ use Rattle.std.proofs.lemmas.List.Kept.{AllPairs-cons}
 use Rattle.std.proofs.lemmas.List.Splits.{slice_split-cons_no, slice_split-cons_yes}
 use Rattle.std.proofs.lemmas.Option.{none-some, same_Some}
 use Rattle.std.proofs.lemmas.Str.{IsUtf8-from_is_utf8, is_utf8-from_IsUtf8}
-use Rattle.np_check.specs.declared.statement_text.StatementText.{StatementText}
+use Rattle.np_statements.specs.declared.statement_text.StatementText.{StatementText}
 use Rattle.np_command_check.specs.FileLines.{AreLinesOf, IsFirstBad, IsTextOf, StandsInFile}
-use Rattle.np_statements.proofs.CountedLemmas.{counted_read, counted_refused}
+use Rattle.np_statements.proofs.CountedLemmas.{counted_read, counted_refused, feeds-end}
 use Rattle.np_statements.proofs.CutLemmas.{if_some}
 use Rattle.np_statements.proofs.GrammarLemmas.{read-is, read-text}
 use Rattle.np_statements.proofs.StepLemmas.{same_ok, then-ok}
@@ -68,15 +68,6 @@ front-part (byte ∷ line) after plain ends = by (is_feed byte) refl plain (λ r
     by false is plain rest =
         ap (λ (parts : List (List ℕ)). slice_get parts 0) (slice_split-cons_no is_feed byte (line ++ after) is)
         ∙ onto_first-first byte (slice_split is_feed (line ++ after)) line (rest (rw is at plain))
-
-feeds-end : (front : List ℕ) → line_feeds (front ++ 10 ∷ []) ≡ line_feeds front + 1
-feeds-end [] = refl
-feeds-end (byte ∷ front) = by (is_feed byte) (feeds-end front)
-  where
-    by : (feed : Bool) → line_feeds (front ++ 10 ∷ []) ≡ line_feeds front + 1 →
-        (if feed then line_feeds (front ++ 10 ∷ []) + 1 else line_feeds (front ++ 10 ∷ [])) ≡ (if feed then line_feeds front + 1 else line_feeds front) + 1
-    by true rest = omega (arith, rest)
-    by false rest = rest
 
 -- behind the first byte a beginning is none, and the byte was a line feed, or it ends with one
 begins-behind : (byte : ℕ) (before : List ℕ) → Begins (byte ∷ before) → ((byte ≡ 10) × (before ≡ [])) ⊎ ((front : List ℕ) × (before ≡ front ++ 10 ∷ []))

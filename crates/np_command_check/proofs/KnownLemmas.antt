@@ -1,18 +1,15 @@
 -- Which ends of statements are found.
-use Rattle.std.proofs.Common.{◌≡◌, ℕ, ◌<◌, ◌==◌, List, [], ◌∷◌, true, false, Option, Some, None, Result, Ok, Err, All, length, refl, sym, ap, ◌∙◌}
-use Rattle.std.proofs.lemmas.Bool.{eq-eqb, or_left}
+use Rattle.std.proofs.Common.{◌≡◌, ℕ, ◌<◌, List, [], ◌∷◌, Option, Some, None, Result, Ok, Err, All, Contains, length, refl, sym, ap, subst, ◌∙◌, arith}
 use Rattle.std.proofs.lemmas.List.Elements.{All-cons, All-nil}
-use Rattle.np_check.specs.Numbers.{is_among}
 use Rattle.np_check.specs.declared.question.Ends.{Ends}
-use Rattle.np_check.specs.declared.statement_text.EndForm.{EndForm}
-use Rattle.np_check.specs.declared.statement_text.EndForm.TheVariants.{Addresses, Block, Namespace, Pods, Work}
+use Rattle.np_statements.specs.declared.statement_text.EndForm.{EndForm}
+use Rattle.np_statements.specs.declared.statement_text.EndForm.TheVariants.{Addresses, Block, Namespace, Pods, Work}
 use Rattle.np_command_check.specs.KnownEnds.{IsFirstUnknown, IsKnown, forms_of}
-use Rattle.np_fold.proofs.WorkloadLemmas.{number-in_workloads}
 use Rattle.np_fold.specs.Workloads.{folding_of, number_named, number_of}
 use Rattle.np_model.specs.Lawful.{IsLawful}
 use Rattle.np_model.specs.declared.lists.EstateLists.{EstateLists}
 use Rattle.np_statements.proofs.EndLemmas.{named-within}
-use Rattle.np_statements.proofs.FormLemmas.{names-pods, unknown-named}
+use Rattle.np_statements.proofs.FormLemmas.{names-pods, number-within, unknown-named}
 use Rattle.np_statements.proofs.FoundLemmas.{asked-by, found-by}
 use Rattle.np_statements.proofs.StepLemmas.{same_ok}
 use Rattle.np_statements.specs.Ends.{ends_of, named_alone, works_alone}
@@ -24,10 +21,6 @@ use Rattle.np_kinds.proofs.MemberLemmas.{member-number, members-some, members-wi
 use Rattle.np_kinds.specs.Between.{IsWorkload, source_pod}
 
 -- ---- pods of workloads
-
-number-within : (lists : EstateLists) (place : ℕ) → place < length lists.pods → IsWorkload lists (number_of lists place)
-unfolding folding_of
-number-within lists place within = number-in_workloads lists place within
 
 -- the first pod of a workload is one of the estate, and of the workload
 pub record IsPodOf (lists : EstateLists) (work place : ℕ) : Type 0 where
@@ -58,8 +51,7 @@ known-form lists (Work name) ends lawful is = of (number_named (folding_of lists
         let place = source_pod (folding_of lists) work in
         let pod = pod-of lists work (named-within lists name work found) in
         let same : works_alone (work ∷ []) ≡ ends = same_ok (works_alone (work ∷ [])) ends alone in
-        let among : is_among ends.works (number_of lists place) ≡ true = ap (λ (one : Ends). is_among one.works (number_of lists place)) (sym same)
-        ∙ or_left (work == number_of lists place) false (eq-eqb work (number_of lists place) (sym pod.number)) in
+        let among : Contains ends.works (number_of lists place) = subst (λ (one : Ends). Contains one.works (number_of lists place)) same (0, omega arith, sym pod.number) in
         (place, (pod.within, (names-pods lists (Work name) ends place lawful is pod.within).0 among))
 
 -- one whose ends are not is the name of no workload

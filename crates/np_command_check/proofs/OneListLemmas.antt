@@ -4,10 +4,10 @@ use Rattle.std.specs.List.{slice_get}
 use Rattle.std.proofs.lemmas.List.Elements.{All-contains}
 use Rattle.std.proofs.lemmas.Option.{same_Some}
 use Rattle.np_addr.proofs.SameLists.{same_elements_same_lists}
-use Rattle.np_check.proofs.OneStatement.{one_statement}
-use Rattle.np_check.specs.StatementGrammar.{IsStatementText, wanted_text}
-use Rattle.np_check.specs.declared.statement_text.Wanted.{Wanted}
-use Rattle.np_check.specs.declared.statement_text.Wanted.TheVariants.{Allow, Deny}
+use Rattle.np_statements.proofs.OneStatement.{one_statement}
+use Rattle.np_statements.specs.StatementGrammar.{IsStatementText, wanted_text}
+use Rattle.np_check.specs.declared.question.Wanted.{Wanted}
+use Rattle.np_check.specs.declared.question.Wanted.TheVariants.{Allow, Deny}
 use Rattle.np_command_check.proofs.FileLemmas.{part-of}
 use Rattle.np_command_check.specs.FileLines.{AreLinesOf, StandsInFile}
 use Rattle.np_statements.specs.CountedLines.{IsLineOf}

@@ -1,8 +1,8 @@
 -- What a statement file says, line by line.
 use Rattle.std.specs.Prelude.{ℕ, ◌≡◌, ◌≢◌, ◌<◌, List, [], All, AllPairs, Contains}
 use Rattle.std.specs.Str.{IsUtf8}
-use Rattle.np_check.specs.StatementGrammar.{IsStatementText}
-use Rattle.np_check.specs.declared.statement_text.StatementText.{StatementText}
+use Rattle.np_statements.specs.StatementGrammar.{IsStatementText}
+use Rattle.np_statements.specs.declared.statement_text.StatementText.{StatementText}
 use Rattle.np_statements.specs.CountedLines.{IsLineOf}
 use Rattle.np_statements.specs.declared.statement_line.StatementLine.{StatementLine}
 

@@ -1,7 +1,7 @@
 -- Which ends that statements name are there.
 use Rattle.std.specs.Prelude.{ℕ, ◌≡◌, List, [], ◌∷◌, ◌++◌, All, flat_map}
-use Rattle.np_check.specs.declared.statement_text.EndForm.{EndForm}
-use Rattle.np_check.specs.declared.statement_text.EndForm.TheVariants.{Work}
+use Rattle.np_statements.specs.declared.statement_text.EndForm.{EndForm}
+use Rattle.np_statements.specs.declared.statement_text.EndForm.TheVariants.{Work}
 use Rattle.np_model.specs.declared.lists.EstateLists.{EstateLists}
 use Rattle.np_statements.specs.Holding.{IsNamedPod}
 use Rattle.np_statements.specs.declared.statement_line.StatementLine.{StatementLine}

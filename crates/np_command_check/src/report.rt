@@ -1,5 +1,5 @@
 //! `check`: whether the statements of a file hold.
-ghost use Rattle.std.specs.Prelude.{◌≡◌, ◌≤◌, IfOk, IfSome, string_bytes};
+ghost use Rattle.std.specs.Prelude.{◌≡◌, IfOk, IfSome, string_bytes};
 ghost use Rattle.np_command.specs.Prints.{Wrote, without_value};
 ghost use Rattle.np_command.specs.Sinks.{sunk};
 ghost use Rattle.np_command_check.specs.Failures as failures;
@@ -11,34 +11,30 @@ use np_command::{Failure, Fault};
 use np_fold::Folded;
 use np_io::{Sink, write_whole};
 use np_statements::{Broken, EndFault, FileFault, first_broken, print_broken, read_statements};
-use np_steps::Steps;
 use std::alloc::Global;
-use std::sync::ledger::Ledger;
 
 /// Writes what is found of the statements of a file with these bytes: that all hold, or the first line whose statement does
 /// not, with the first packet that breaks it. Answers whether all hold. `BadStatement` comes exactly where a line is no
 /// statement, with the first such line, and `UnknownEnd` exactly where all are and one names a workload that is not there, with
 /// the first such name. Both come before any statement is checked.
 #[tactic(auto, using(crate::proofs::FoundLemmas::reply_found, crate::proofs::FoundLemmas::reply_unknown, crate::proofs::FoundLemmas::hold_found), unfolding(crate::specs::Report::check_reply, crate::specs::Report::all_hold, crate::specs::Report::asked_in))]
-pub fn check_file<O: Sink, L: Ledger>(
+pub fn check_file<O: Sink>(
     alloc: Global,
     bytes: &[u8],
     folded: &Folded,
     out: &mut O,
-    steps: &mut Steps<L>,
 ) -> Result<bool, Failure>
     ensures wrote { Wrote (sunk O.taken O.faults out.old out.new)
         (spec.check_reply bytes.now folded.now)
         (without_value result) }
     ensures holds { IfOk result (λ holds. holds ≡ spec.all_hold bytes.now folded.now) }
-    ensures least { steps.old ≤ steps.new }
 {
     let statements = match read_statements(alloc, bytes) {
         Ok(statements) => statements,
         Err(fault) => return Err(file_failure(fault)),
     };
     let count = statements.items().len();
-    let broken = match first_broken(alloc, folded, statements, steps) {
+    let broken = match first_broken(alloc, folded, statements) {
         Ok(broken) => broken,
         Err(fault) => return Err(end_failure(fault)),
     };

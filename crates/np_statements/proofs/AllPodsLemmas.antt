@@ -1,18 +1,17 @@
 -- Statements of any pod and any pod, asked at once.
 use Rattle.std.proofs.Common.{◌≡◌, ℕ, ◌+◌, ◌<◌, ◌&&◌, not, List, [], ◌∷◌, Bool, true, Option, Some, None, Ok, option_map, All, get_or, length, refl, sym, ap, ◌∙◌, inl, inr}
 use Rattle.std.specs.List.{list_any}
-use Rattle.std.proofs.lemmas.Bool.{and_from, and_parts, cases_Bool, or_left}
+use Rattle.std.proofs.lemmas.Bool.{and_from, and_parts, cases_Bool, or_left, or_right}
 use Rattle.std.proofs.lemmas.List.Elements.{All-cons, All-nil}
 use Rattle.np_check.proofs.LeastLemmas.{first_broken, nothing_broken}
-use Rattle.np_check.proofs.NoneLemmas.{or_second}
 use Rattle.np_check.specs.Counters.{allows_between, complies, counter_of}
 use Rattle.np_check.specs.FirstPacket.{IsBroken}
 use Rattle.np_check.specs.declared.counterexample.Counterexample.{Counterexample}
 use Rattle.np_check.specs.declared.question.Question.{Question}
-use Rattle.np_check.specs.declared.statement_text.EndForm.{EndForm}
-use Rattle.np_check.specs.declared.statement_text.EndForm.TheVariants.{Pods, Addresses, Namespace, Work, Block}
-use Rattle.np_check.specs.declared.statement_text.Wanted.{Wanted}
-use Rattle.np_check.specs.declared.statement_text.Wanted.TheVariants.{Allow, Deny}
+use Rattle.np_statements.specs.declared.statement_text.EndForm.{EndForm}
+use Rattle.np_statements.specs.declared.statement_text.EndForm.TheVariants.{Pods, Addresses, Namespace, Work, Block}
+use Rattle.np_check.specs.declared.question.Wanted.{Wanted}
+use Rattle.np_check.specs.declared.question.Wanted.TheVariants.{Allow, Deny}
 use Rattle.np_conns.specs.Conns.{Conns, has_spot}
 use Rattle.np_conns.specs.declared.port_spot.PortSpot.{PortSpot}
 use Rattle.np_model.specs.declared.lists.EstateLists.{EstateLists}
@@ -101,7 +100,7 @@ each_holds lists wanted all [] none within = All-nil (HoldsOfPods lists wanted)
 each_holds lists wanted all (line ∷ lines) none within =
     All-cons (HoldsOfPods lists wanted) line lines
     (one_holds lists wanted all line none (λ spot asks. within spot (or_left (asks_at wanted spot line) (list_any (λ one. asks_at wanted spot one) lines) asks)))
-    (each_holds lists wanted all lines none (λ spot any. within spot (or_second (asks_at wanted spot line) (list_any (λ one. asks_at wanted spot one) lines) any)))
+    (each_holds lists wanted all lines none (λ spot any. within spot (or_right (asks_at wanted spot line) (list_any (λ one. asks_at wanted spot one) lines) any)))
 
 -- where nothing breaks what all of them ask, each holds
 pub hold-together : (lists : EstateLists) (wanted : Wanted) (all : Conns) (lines : List StatementLine) → counter_of lists (question_of_pods lists wanted all) ≡ None →

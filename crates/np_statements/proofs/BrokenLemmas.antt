@@ -7,7 +7,7 @@ use Rattle.std.proofs.lemmas.Option.{none-some, same_Some}
 use Rattle.np_check.proofs.FirstLemmas.{none_each}
 use Rattle.np_check.proofs.HoldLemmas.{found_none, holds}
 use Rattle.np_check.proofs.LeastLemmas.{first_broken as first_packet}
-use Rattle.np_check.proofs.NoneLemmas.{among_all, none_all, none_map}
+use Rattle.np_check.proofs.NoneLemmas.{none_all, none_map}
 use Rattle.np_check.specs.Counters.{complies, counter_of}
 use Rattle.np_check.specs.FirstPacket.{IsEndOf}
 use Rattle.np_check.specs.Firsts.{first_of}
@@ -17,8 +17,8 @@ use Rattle.np_check.specs.declared.counterexample.PlaceEnd.{PlaceEnd}
 use Rattle.np_check.specs.declared.counterexample.PlaceEnd.TheVariants.{At, Work}
 use Rattle.np_check.specs.declared.question.Ends.{Ends}
 use Rattle.np_check.specs.declared.question.Question.{Question}
-use Rattle.np_check.specs.declared.statement_text.Wanted.{Wanted}
-use Rattle.np_check.specs.declared.statement_text.Wanted.TheVariants.{Allow, Deny}
+use Rattle.np_check.specs.declared.question.Wanted.{Wanted}
+use Rattle.np_check.specs.declared.question.Wanted.TheVariants.{Allow, Deny}
 use Rattle.np_conns.specs.Conns.{has_spot}
 use Rattle.np_model.specs.Lawful.{IsLawful}
 use Rattle.np_model.specs.declared.lists.EstateLists.{EstateLists}
@@ -64,7 +64,7 @@ broken-is lists asked packet allowed is found does =
 
 -- the ends of the packet are workloads or addresses
 place-is : (lists : EstateLists) (ends : Ends) (place : PlaceEnd) → All (IsWorkload lists) ends.works → IsEndOf ends place → IsPlace lists place
-place-is lists ends (Work work) works is = among_all (IsWorkload lists) ends.works work works is
+place-is lists ends (Work work) works is = All-contains (IsWorkload lists) ends.works work works is
 place-is lists ends (At address) works is = tt
 
 pub packet-places : (lists : EstateLists) (question : Question) (packet : Counterexample) → IsQuestion lists question → counter_of lists question ≡ Some packet →

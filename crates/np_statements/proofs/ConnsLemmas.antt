@@ -9,6 +9,7 @@ use Rattle.np_base.specs.Ranges.{IsAscending}
 use Rattle.np_base.proofs.Ranges.{IsAscending-earlier}
 use Rattle.np_base.specs.declared.range.Range.{Range}
 use Rattle.np_base.proofs.Each.{All-weaker, All-parts, All-append}
+use Rattle.np_check.proofs.SortedLemmas.{each_map}
 use Rattle.np_conns.proofs.ConnLemmas.{spans_of-has_spot}
 use Rattle.np_conns.proofs.OneText.{conns_text-injective}
 use Rattle.np_conns.specs.Conns.{AscendsInPorts, Conns, IsConns, has_spot}
@@ -19,10 +20,6 @@ use Rattle.np_statements.specs.ReadConns.{all_conns, all_runs, choices, conns_re
 use Rattle.np_rules.proofs.EachItem.{All-flat}
 
 -- ---- lists
-
-each-map : {X Y : Type 0} (P : Y → Type 0) (f : X → Y) (xs : List X) → AllByRecursion (λ x. P (f x)) xs → AllByRecursion P (map f xs)
-each-map P f [] all = tt
-each-map P f (x ∷ xs) all = (all.0, each-map P f xs all.1)
 
 map-each : {X Y : Type 0} (P : Y → Type 0) (f : X → Y) (xs : List X) → AllByRecursion P (map f xs) → AllByRecursion (λ x. P (f x)) xs
 map-each P f [] all = tt
@@ -81,7 +78,7 @@ choices-ascend first (suc count) last sum =
     All-append (IsAscending (λ p. p) first last) (choices (first + 1) count) (map (onto_runs first) (choices (first + 1) count))
     (All-weaker (IsAscending (λ p. p) (first + 1) last) (IsAscending (λ p. p) first last) (λ ranges. IsAscending-earlier (λ p. p) (first + 1) first last ranges (omega arith))
     (choices (first + 1) count) above)
-    (each-map (IsAscending (λ p. p) first last) (onto_runs first) (choices (first + 1) count)
+    (each_map (IsAscending (λ p. p) first last) (onto_runs first) (choices (first + 1) count)
     (All-weaker (IsAscending (λ p. p) (first + 1) last) (λ ranges. IsAscending (λ p. p) first last (onto_runs first ranges)) (λ ranges. onto_runs-ascends first last ranges (omega arith))
     (choices (first + 1) count) above))
 
@@ -101,7 +98,7 @@ unfolding all_conns
 all_conns-well =
     each-flat IsConns _ all_runs (All-weaker AscendsInPorts _ (λ tcp tcp_well.
     each-flat IsConns _ all_runs (All-weaker AscendsInPorts _ (λ udp udp_well.
-    each-map IsConns _ all_runs (All-weaker AscendsInPorts _ (λ sctp sctp_well. record { tcp = tcp_well; udp = udp_well; sctp = sctp_well }) all_runs all_runs-ascend))
+    each_map IsConns _ all_runs (All-weaker AscendsInPorts _ (λ sctp sctp_well. record { tcp = tcp_well; udp = udp_well; sctp = sctp_well }) all_runs all_runs-ascend))
     all_runs all_runs-ascend)) all_runs all_runs-ascend)
 
 -- what holds of all holds of every set

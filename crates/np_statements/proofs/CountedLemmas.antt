@@ -5,8 +5,9 @@ use Rattle.std.specs.Prelude.{All}
 use Rattle.std.specs.List.{onto_first, slice_get, slice_split}
 use Rattle.std.proofs.lemmas.Bool.{eqb-true}
 use Rattle.std.proofs.lemmas.List.Elements.{All-cons, All-nil, All-weaker}
+use Rattle.std.proofs.lemmas.Option.{same_Some}
 use Rattle.std.proofs.lemmas.List.Splits.{length-slice_split, slice_split-cons_no, slice_split-cons_yes}
-use Rattle.np_check.specs.declared.statement_text.StatementText.{StatementText}
+use Rattle.np_statements.specs.declared.statement_text.StatementText.{StatementText}
 use Rattle.np_statements.specs.CountedLines.{IsLineOf, line_feeds}
 use Rattle.np_statements.specs.Lines.{at_line, line_read, lines_of, lines_read, statement_of, statements_of}
 use Rattle.np_statements.specs.Steps.{◌>>=◌}
@@ -14,6 +15,16 @@ use Rattle.np_statements.specs.declared.statement_line.StatementLine.{StatementL
 
 abbrev is_feed : ℕ → Bool
 is_feed byte = byte == 10
+
+-- a line feed at the end is one more
+pub feeds-end : (front : List ℕ) → line_feeds (front ++ 10 ∷ []) ≡ line_feeds front + 1
+feeds-end [] = refl
+feeds-end (byte ∷ front) = by (is_feed byte) (feeds-end front)
+  where
+    by : (feed : Bool) → line_feeds (front ++ 10 ∷ []) ≡ line_feeds front + 1 →
+        (if feed then line_feeds (front ++ 10 ∷ []) + 1 else line_feeds (front ++ 10 ∷ [])) ≡ (if feed then line_feeds front + 1 else line_feeds front) + 1
+    by true rest = omega (arith, rest)
+    by false rest = rest
 
 -- ---- parts
 
@@ -55,17 +66,8 @@ first_longer byte bytes part is at =
       counted = refl;
     }
   where
-    feeds : (front : List ℕ) → line_feeds (front ++ 10 ∷ []) ≡ line_feeds front + 1
-    feeds [] = refl
-    feeds (b ∷ front) = by (is_feed b) (feeds front)
-      where
-        by : (t : Bool) → line_feeds (front ++ 10 ∷ []) ≡ line_feeds front + 1 →
-            (if t then line_feeds (front ++ 10 ∷ []) + 1 else line_feeds (front ++ 10 ∷ [])) ≡ (if t then line_feeds front + 1 else line_feeds front) + 1
-        by true rest = omega (arith, rest)
-        by false rest = rest
-
     never : (before front : List ℕ) → before ≡ front ++ 10 ∷ [] → line_feeds before ≡ 0 → ⊥
-    never before front same zero_is = let more = ap line_feeds same ∙ feeds front in omega (arith, more, zero_is)
+    never before front same zero_is = let more = ap line_feeds same ∙ feeds-end front in omega (arith, more, zero_is)
 
 later_kept : (byte : ℕ) (bytes : List ℕ) (k : ℕ) (part : List ℕ) → is_feed byte ≡ false → IsPart bytes (suc k) part → IsPart (byte ∷ bytes) (suc k) part
 later_kept byte bytes k part is at = record {
@@ -81,12 +83,9 @@ later_kept byte bytes k part is at = record {
   counted = rw is at.counted;
 }
 
-some_is : {X : Type 0} (a b : X) → Some a ≡ Some b → a ≡ b
-some_is a b same = cc
-
 part_at : (bytes : List ℕ) (k : ℕ) (part : List ℕ) → slice_get (slice_split is_feed bytes) k ≡ Some part → IsPart bytes k part
 part_at [] zero part at =
-    subst (IsPart [] 0) (some_is [] part at) (record { before = []; after = []; spelled = refl; begins = inl (refl, refl); ends = inl refl; plain = refl; counted = refl })
+    subst (IsPart [] 0) (same_Some [] part at) (record { before = []; after = []; spelled = refl; begins = inl (refl, refl); ends = inl refl; plain = refl; counted = refl })
 part_at [] (suc k) part at = absurd (cc)
 part_at (byte ∷ bytes) k part at = go (is_feed byte) refl k at (part_at bytes)
   where
@@ -96,7 +95,7 @@ part_at (byte ∷ bytes) k part at = go (is_feed byte) refl k at (part_at bytes)
     go : (b : Bool) → is_feed byte ≡ b → (n : ℕ) → slice_get (slice_split is_feed (byte ∷ bytes)) n ≡ Some part → ((m : ℕ) (p : List ℕ) → slice_get parts m ≡ Some p → IsPart bytes m p) →
         IsPart (byte ∷ bytes) n part
     go true is zero found rest =
-        subst (IsPart (byte ∷ bytes) 0) (some_is [] part (sym (ap (λ (ps : List (List ℕ)). slice_get ps 0) (slice_split-cons_yes is_feed byte bytes is)) ∙ found))
+        subst (IsPart (byte ∷ bytes) 0) (same_Some [] part (sym (ap (λ (ps : List (List ℕ)). slice_get ps 0) (slice_split-cons_yes is_feed byte bytes is)) ∙ found))
         (record { before = []; after = byte ∷ bytes; spelled = refl; begins = inl (refl, refl); ends = inr (bytes, ap (λ (b : ℕ). b ∷ bytes) (eqb-true byte 10 is)); plain = refl; counted = refl })
     go true is (suc n) found rest = fed byte bytes n part is (rest n part (sym (ap (λ (ps : List (List ℕ)). slice_get ps (suc n)) (slice_split-cons_yes is_feed byte bytes is)) ∙ found))
     go false is n found rest = longer parts refl n (sym (ap (λ (ps : List (List ℕ)). slice_get ps n) (slice_split-cons_no is_feed byte bytes is)) ∙ found) rest
@@ -104,7 +103,7 @@ part_at (byte ∷ bytes) k part at = go (is_feed byte) refl k at (part_at bytes)
         longer : (ps : List (List ℕ)) → parts ≡ ps → (m : ℕ) → slice_get (onto_first byte ps) m ≡ Some part → ((l : ℕ) (p : List ℕ) → slice_get ps l ≡ Some p → IsPart bytes l p) →
             IsPart (byte ∷ bytes) m part
         longer [] same m there each = let some = length-slice_split is_feed bytes in let none = ap length same in absurd (omega (arith, some, none))
-        longer (first ∷ others) same zero there each = subst (IsPart (byte ∷ bytes) 0) (some_is (byte ∷ first) part there) (first_longer byte bytes first is (each 0 first refl))
+        longer (first ∷ others) same zero there each = subst (IsPart (byte ∷ bytes) 0) (same_Some (byte ∷ first) part there) (first_longer byte bytes first is (each 0 first refl))
         longer (first ∷ others) same (suc m) there each = later_kept byte bytes m part is (each (suc m) part there)
 
 -- the part at a place is the line of the number after it

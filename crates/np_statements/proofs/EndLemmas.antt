@@ -1,22 +1,23 @@
 -- The workloads of a form.
-use Rattle.std.proofs.Common.{◌≡◌, ℕ, zero, suc, ◌+◌, ◌<◌, ◌≤◌, nat_le, List, [], ◌∷◌, ◌++◌, Bool, true, false, Option, Some, None, Ok, All, length, get_or, slice_get, slice_index, refl, sym, ap}
+use Rattle.std.proofs.Common.{◌≡◌, ℕ, zero, suc, ◌+◌, ◌<◌, nat_le, List, [], ◌∷◌, ◌++◌, Bool, true, false, Option, Some, None, Ok, All, length, get_or, slice_get, slice_index, refl, sym, ap}
 use Rattle.std.proofs.Common.{subst, ◌∙◌, arith, append-nil, zero-add}
 use Rattle.std.specs.Prelude.{filter}
 use Rattle.std.specs.List.{range_with_len}
 use Rattle.std.specs.Option.{option_map_or}
 use Rattle.std.specs.Str.{bytes_eq}
-use Rattle.std.proofs.lemmas.Bool.{and_from, and_parts, cond_both, le-leb, leb-true, true≢false}
+use Rattle.std.proofs.lemmas.Bool.{and_from, le-leb, true≢false}
 use Rattle.std.proofs.lemmas.List.Elements.{All-cons, All-filter, All-nil, All-weaker, filter-append}
 use Rattle.std.proofs.lemmas.List.Quantifiers.{position-Some}
 use Rattle.std.proofs.lemmas.Option.{slice_get_read}
 use Rattle.np_addr.specs.Blocks.{AddressRanges}
 use Rattle.np_addr.specs.declared.cidr.Cidr.{Cidr}
 use Rattle.np_check.proofs.FirstLemmas.{range-append}
-use Rattle.np_check.specs.Numbers.{HasNoAddress, ascends_from, is_ascending}
-use Rattle.np_check.specs.StatementGrammar.{is_address_form}
+use Rattle.np_check.proofs.SortedLemmas.{filtered}
+use Rattle.np_check.specs.Numbers.{HasNoAddress, is_ascending}
+use Rattle.np_statements.specs.StatementGrammar.{is_address_form}
 use Rattle.np_check.specs.declared.question.Ends.{Ends}
-use Rattle.np_check.specs.declared.statement_text.EndForm.{EndForm}
-use Rattle.np_check.specs.declared.statement_text.EndForm.TheVariants.{Pods, Addresses, Namespace, Work, Block}
+use Rattle.np_statements.specs.declared.statement_text.EndForm.{EndForm}
+use Rattle.np_statements.specs.declared.statement_text.EndForm.TheVariants.{Pods, Addresses, Namespace, Work, Block}
 use Rattle.np_model.specs.declared.lists.EstateLists.{EstateLists}
 use Rattle.np_model.specs.declared.pod.Pod.{Pod}
 use Rattle.np_fold.specs.Workloads.{Workload, folding_of, members_of, number_named}
@@ -57,21 +58,6 @@ pub record AreEnds (lists : EstateLists) (form : EndForm) (ends : Ends) : Type 0
   pub ascend : is_ascending ends.works ≡ true
   pub alone : is_address_form form ≡ false → HasNoAddress ends.block
 
-ascends-earlier : (least greater : ℕ) (numbers : List ℕ) → least ≤ greater → ascends_from greater numbers ≡ true → ascends_from least numbers ≡ true
-ascends-earlier least greater [] before ascends = refl
-ascends-earlier least greater (n ∷ numbers) before ascends =
-    let parts = and_parts (nat_le greater n) (ascends_from (n + 1) numbers) ascends in
-    and_from (nat_le least n) (ascends_from (n + 1) numbers) (le-leb least n (omega (arith, leb-true greater n parts.0))) parts.1
-
--- numbers that pass a test, from one on, ascend and are below the end
-filter-ascends : (test : ℕ → Bool) (low count : ℕ) → ascends_from low (filter test (range_with_len low count)) ≡ true
-filter-ascends test low zero = refl
-filter-ascends test low (suc count) =
-    let rest = filter-ascends test (low + 1) count in
-    cond_both (test low) (low ∷ filter test (range_with_len (low + 1) count)) (filter test (range_with_len (low + 1) count)) (λ numbers. ascends_from low numbers ≡ true)
-    (λ _. and_from (nat_le low low) (ascends_from (low + 1) (filter test (range_with_len (low + 1) count))) (le-leb low low (omega arith)) rest)
-    (λ _. ascends-earlier low (low + 1) (filter test (range_with_len (low + 1) count)) (omega arith) rest)
-
 filter-below : (test : ℕ → Bool) (low count : ℕ) → All (λ n. n < low + count) (filter test (range_with_len low count))
 filter-below test low count = All-filter test (λ n. n < low + count) (range_with_len low count) (range-below low count)
   where
@@ -90,7 +76,7 @@ are-works lists form test =
     let count = number_of_workloads lists in
     record {
       works = All-weaker (λ n. n < 0 + count) (IsWorkload lists) (λ n below. omega arith) (filter test (range_with_len 0 count)) (filter-below test 0 count);
-      ascend = filter-ascends test 0 count;
+      ascend = filtered test 0 count;
       alone = λ _. (refl, refl);
     }
 

@@ -1,15 +1,15 @@
 -- The pods and the addresses that a form names are those of its ends.
-use Rattle.std.proofs.Common.{◌≡◌, ◌≢◌, ℕ, zero, suc, ◌+◌, ◌^◌, ◌<◌, ◌≤◌, ◌==◌, ◌||◌, ◌↔◌, List, [], ◌∷◌, Bool, true, false, Option, Some, None, Ok, Err, length, map, get_or, slice_get, refl, sym, ap}
+use Rattle.std.proofs.Common.{◌≡◌, ◌≢◌, ℕ, ◌^◌, ◌<◌, ◌↔◌, List, [], ◌∷◌, Bool, true, false, Option, Some, None, Ok, Err, length, map, get_or, slice_get, refl, sym, ap}
 use Rattle.std.proofs.Common.{subst, ◌∙◌, inl, inr, arith}
-use Rattle.std.specs.Prelude.{IsSomeAnd, filter}
+use Rattle.std.specs.Prelude.{Contains, IsSomeAnd, filter}
 use Rattle.std.specs.Cmp.Lexicographic.{slice_cmp}
-use Rattle.std.specs.List.{range_with_len}
 use Rattle.std.specs.List.Sorted.{IsStrictlySortedBy}
 use Rattle.std.specs.Option.{option_map_or}
 use Rattle.std.specs.Ordering.{is_eq, nat_cmp}
 use Rattle.std.specs.Str.{bytes_eq}
-use Rattle.std.proofs.lemmas.Bool.{cases_Bool, cases_eq, cases_order, eq-eqb, eqb-true, ne_eqb, or_left, true≢false}
+use Rattle.std.proofs.lemmas.Bool.{cases_order, true≢false}
 use Rattle.std.proofs.lemmas.List.{get_or-map, length-map}
+use Rattle.std.proofs.lemmas.List.Elements.{All-contains, filter_passes}
 use Rattle.std.proofs.lemmas.List.Folds.{list_any_at}
 use Rattle.std.proofs.lemmas.List.Quantifiers.{position-Some}
 use Rattle.std.proofs.lemmas.Map.Keys.{Less-from_sorted}
@@ -18,14 +18,13 @@ use Rattle.std.proofs.lemmas.Option.{slice_get-get_or}
 use Rattle.std.proofs.lemmas.Slice.Eq.{bytes_eq-Decides}
 use Rattle.np_base.proofs.Lists.{slice_get-some}
 use Rattle.np_addr.specs.Addresses.{IsAddress, cidr_has}
-use Rattle.np_addr.specs.Blocks.{set_has}
+use Rattle.np_addr.specs.Blocks.{AddressRanges, set_has}
 use Rattle.np_addr.specs.declared.address.Address.{Address}
 use Rattle.np_addr.specs.declared.address.Address.TheVariants as address
-use Rattle.np_check.proofs.NoneLemmas.{or_second}
-use Rattle.np_check.specs.Numbers.{is_among}
+use Rattle.np_check.proofs.MemberLemmas.{first_or_later, in_filter, in_range, nothing}
 use Rattle.np_check.specs.declared.question.Ends.{Ends}
-use Rattle.np_check.specs.declared.statement_text.EndForm.{EndForm}
-use Rattle.np_check.specs.declared.statement_text.EndForm.TheVariants.{Pods, Addresses, Namespace, Work, Block}
+use Rattle.np_statements.specs.declared.statement_text.EndForm.{EndForm}
+use Rattle.np_statements.specs.declared.statement_text.EndForm.TheVariants.{Pods, Addresses, Namespace, Work, Block}
 use Rattle.np_classes.proofs.Lists.{no_position}
 use Rattle.np_classes.proofs.Relations.{firsts-le-count}
 use Rattle.np_model.specs.Lawful.{IsLawful}
@@ -41,49 +40,18 @@ use Rattle.np_statements.specs.NamedEnds.{NamesAddress, NamesPod}
 use Rattle.np_kinds.proofs.MemberLemmas.{member-number, members-some, members-within, source-member}
 use Rattle.np_kinds.specs.Between.{IsWorkload, number_of_workloads, source_pod}
 
--- ---- numbers
-
--- no number below the first is among those that pass
-none_below : (test : ℕ → Bool) (low count n : ℕ) → n < low → is_among (filter test (range_with_len low count)) n ≡ false
-none_below test low zero n below = refl
-none_below test low (suc count) n below =
-    let rest = none_below test (low + 1) count n (omega arith) in
-    elim (cases_Bool (test low)) [
-      | inl passes ↦ rw passes (rw (ne_eqb low n (λ same. omega arith)) rest)
-      | inr fails ↦ rw fails rest
-    ]
-
--- a number is among those that pass exactly where it passes
-among-filter : (test : ℕ → Bool) (low count n : ℕ) → low ≤ n → n < low + count → is_among (filter test (range_with_len low count)) n ≡ test n
-among-filter test low zero n above below = absurd (omega arith)
-among-filter test low (suc count) n above below =
-    elim (cases_eq low n) [
-      | inl here ↦ elim (cases_Bool (test low)) [
-        | inl passes ↦ rw passes (or_left (low == n) _ (eq-eqb low n here) ∙ sym (sym (ap test here) ∙ passes))
-        | inr fails ↦ rw fails (none_below test (low + 1) count n (omega arith) ∙ sym (sym (ap test here) ∙ fails))
-      ]
-      | inr apart ↦ elim (cases_Bool (test low)) [
-        | inl passes ↦ rw passes (rw (ne_eqb low n apart) (among-filter test (low + 1) count n (omega arith) (omega arith)))
-        | inr fails ↦ rw fails (among-filter test (low + 1) count n (omega arith) (omega arith))
-      ]
-    ]
-
-among-range : (low count n : ℕ) → low ≤ n → n < low + count → is_among (range_with_len low count) n ≡ true
-among-range low zero n above below = absurd (omega arith)
-among-range low (suc count) n above below =
-    elim (cases_eq low n) [
-      | inl here ↦ or_left (low == n) _ (eq-eqb low n here)
-      | inr apart ↦ or_second (low == n) _ (among-range (low + 1) count n (omega arith) (omega arith))
-    ]
-
 -- ---- workloads
 
 workloads-are : (lists : EstateLists) → (folding_of lists).workloads ≡ workloads_of lists
 unfolding folding_of
 workloads-are lists = refl
 
-number-within : (lists : EstateLists) (place : ℕ) → place < length lists.pods → IsWorkload lists (number_of lists place)
-number-within lists place within = omega (arith, number-in_workloads lists place within, ap length (workloads-are lists))
+pub number-within : (lists : EstateLists) (place : ℕ) → place < length lists.pods → IsWorkload lists (number_of lists place)
+unfolding folding_of
+number-within lists place within = number-in_workloads lists place within
+
+in-all_works : (lists : EstateLists) (place : ℕ) → place < length lists.pods → Contains (all_works lists) (number_of lists place)
+in-all_works lists place within = in_range 0 (number_of_workloads lists) (number_of lists place) (omega arith) (omega (arith, number-within lists place within))
 
 -- a workload is of the namespace of each of its pods
 namespace-told : (lists : EstateLists) (name : List ℕ) (place : ℕ) (pod : Pod) → place < length lists.pods → slice_get lists.pods place ≡ Some pod →
@@ -147,49 +115,47 @@ one-named lists name work other lawful is within has =
 
 -- ---- pods
 
-only-among : (work n : ℕ) → is_among (work ∷ []) n ≡ (work == n)
-only-among work n = of (work == n)
-  where
-    of : (same : Bool) → (same || false) ≡ same
-    of true = refl
-    of false = refl
-
-works-of : (ends other : Ends) (n : ℕ) → other ≡ ends → is_among ends.works n ≡ is_among other.works n
-works-of ends other n same = ap (λ (one : Ends). is_among one.works n) (sym same)
-
 iff-by : (a b : Bool) (P : Type 0) → a ≡ b → ((b ≡ true) ↔ P) → (a ≡ true) ↔ P
 iff-by a b P same (to, from) = (λ yes. to (sym same ∙ yes), λ p. same ∙ from p)
 
+-- what the ends that are found have
+of-ends : (ends other : Ends) (n : ℕ) (P : Type 0) → other ≡ ends → (Contains other.works n ↔ P) → Contains ends.works n ↔ P
+of-ends ends other n P same has = subst (λ (one : Ends). Contains one.works n ↔ P) same has
+
+no-pods : (ends : Ends) (block : AddressRanges) (n : ℕ) → addresses_alone block ≡ ends → Contains ends.works n ↔ ⊥
+no-pods ends block n same = of-ends ends (addresses_alone block) n ⊥ same (nothing n, λ named. absurd named)
+
 pub names-pods : (lists : EstateLists) (form : EndForm) (ends : Ends) (place : ℕ) → IsLawful lists → ends_of lists form ≡ Ok ends → place < length lists.pods →
-    (is_among ends.works (number_of lists place) ≡ true) ↔ NamesPod lists form place
+    Contains ends.works (number_of lists place) ↔ NamesPod lists form place
 unfolding ends_of
 names-pods lists Pods ends place lawful is within =
-    iff-by _ true (Unit {0}) (works-of ends (works_alone (all_works lists)) (number_of lists place) (same_ok (works_alone (all_works lists)) ends is) ∙ among-range 0 (number_of_workloads lists)
-    (number_of lists place) (omega arith) (omega (arith, number-within lists place within)))
-    (λ yes. tt, λ named. refl)
-names-pods lists Addresses ends place lawful is within =
-    iff-by _ false ⊥ (works-of ends (addresses_alone every_address) (number_of lists place) (same_ok (addresses_alone every_address) ends is)) (λ yes. true≢false (sym yes), λ named. absurd named)
+    of-ends ends (works_alone (all_works lists)) (number_of lists place) (Unit {0}) (same_ok (works_alone (all_works lists)) ends is) (λ has. tt, λ named. in-all_works lists place within)
+names-pods lists Addresses ends place lawful is within = no-pods ends every_address (number_of lists place) (same_ok (addresses_alone every_address) ends is)
 names-pods lists (Namespace name) ends place lawful is within =
     let (pod, at) = slice_get-some lists.pods place within in
-    let told = namespace-told lists name place pod within at in
-    iff-by _ (bytes_eq pod.namespace name) (IsSomeAnd (slice_get lists.pods place) (λ one. one.namespace ≡ name))
-    (works-of ends (works_alone (filter (is_in_namespace lists name) (all_works lists))) (number_of lists place) (same_ok (works_alone (filter (is_in_namespace lists name) (all_works lists))) ends is)
-    ∙ among-filter (is_in_namespace lists name) 0 (number_of_workloads lists) (number_of lists place) (omega arith) (omega (arith, number-within lists place within)) ∙ told)
-    (rw at ((bytes_eq-Decides pod.namespace name).0, (bytes_eq-Decides pod.namespace name).1))
+    let number = number_of lists place in
+    let test = is_in_namespace lists name in
+    let works = filter test (all_works lists) in
+    let told : test number ≡ bytes_eq pod.namespace name = namespace-told lists name place pod within at in
+    let named : (bytes_eq pod.namespace name ≡ true) ↔ IsSomeAnd (slice_get lists.pods place) (λ one. one.namespace ≡ name) =
+    rw at ((bytes_eq-Decides pod.namespace name).0, (bytes_eq-Decides pod.namespace name).1) in
+    of-ends ends (works_alone works) number (IsSomeAnd (slice_get lists.pods place) (λ one. one.namespace ≡ name)) (same_ok (works_alone works) ends is) (
+      λ has. named.0 (sym told ∙ All-contains (λ (n : ℕ). test n ≡ true) works number (filter_passes test (all_works lists)) has),
+      λ is_named. in_filter test (all_works lists) number (in-all_works lists place within) (told ∙ named.1 is_named),
+    )
 names-pods lists (Work name) ends place lawful is within = of (number_named (folding_of lists) name) refl is
   where
-    of : (found : Option ℕ) → number_named (folding_of lists) name ≡ found → named_alone name found ≡ Ok ends →
-        (is_among ends.works (number_of lists place) ≡ true) ↔ (name_of (folding_of lists) (number_of lists place) ≡ name)
+    of : (found : Option ℕ) → number_named (folding_of lists) name ≡ found → named_alone name found ≡ Ok ends → Contains ends.works (number_of lists place) ↔ (name_of (folding_of lists) (number_of lists place) ≡ name)
     of None none is = cc
     of (Some work) found is =
-        iff-by _ (work == number_of lists place) (name_of (folding_of lists) (number_of lists place) ≡ name)
-        (works-of ends (works_alone (work ∷ [])) (number_of lists place) (same_ok (works_alone (work ∷ [])) ends is) ∙ only-among work (number_of lists place)) (
-          λ same. ap (name_of (folding_of lists)) (sym (eqb-true work (number_of lists place) same)) ∙ named-has lists name work found,
-          λ has. eq-eqb work (number_of lists place) (one-named lists name work (number_of lists place) lawful found (number-within lists place within) has),
+        of-ends ends (works_alone (work ∷ [])) (number_of lists place) (name_of (folding_of lists) (number_of lists place) ≡ name) (same_ok (works_alone (work ∷ [])) ends is) (
+          λ has. elim (first_or_later work [] (number_of lists place) has) [
+            | inl same ↦ ap (name_of (folding_of lists)) same ∙ named-has lists name work found
+            | inr none ↦ absurd (nothing (number_of lists place) none)
+          ],
+          λ has. (0, omega arith, one-named lists name work (number_of lists place) lawful found (number-within lists place within) has),
         )
-names-pods lists (Block cidr) ends place lawful is within =
-    iff-by _ false ⊥ (works-of ends (addresses_alone (addresses_in cidr)) (number_of lists place) (same_ok (addresses_alone (addresses_in cidr)) ends is))
-    (λ yes. true≢false (sym yes), λ named. absurd named)
+names-pods lists (Block cidr) ends place lawful is within = no-pods ends (addresses_in cidr) (number_of lists place) (same_ok (addresses_alone (addresses_in cidr)) ends is)
 
 -- ---- addresses
 

@@ -7,7 +7,7 @@ use Rattle.std.specs.Prelude.{IsOk}
 use Rattle.std.proofs.lemmas.Bool.{and_cases, false≢true}
 use Rattle.std.proofs.lemmas.List.{at_drop_more, drop_all}
 use Rattle.std.proofs.lemmas.List.Elements.{All-cons, All-get_or, All-head, All-nil, All-same, All-tail}
-use Rattle.np_check.specs.StatementGrammar.{is_address_form}
+use Rattle.np_statements.specs.StatementGrammar.{is_address_form}
 use Rattle.np_check.specs.declared.question.Ends.{Ends}
 use Rattle.np_model.specs.declared.lists.EstateLists.{EstateLists}
 use Rattle.np_statements.proofs.EndLemmas.{ends_of-are}

@@ -1,7 +1,6 @@
 pub mod AddressSetLemmas
 pub mod AllPodsLemmas
 pub mod AmongLemmas
-pub mod AscendLemmas
 pub mod BrokenLemmas
 pub mod ConnsLemmas
 pub mod CountedLemmas
@@ -11,4 +10,7 @@ pub mod FormLemmas
 pub mod FoundLemmas
 pub mod GrammarLemmas
 pub mod LineLemmas
+pub mod OneStatement
+pub mod SideLemmas
 pub mod StepLemmas
+pub mod TextLemmas

@@ -13,10 +13,10 @@ use Rattle.np_addr.specs.AddressGrammar.{block_of}
 use Rattle.np_addr.specs.Addresses.{IsCidr, family_of, width_of}
 use Rattle.np_addr.specs.declared.address.Address.{Address}
 use Rattle.np_addr.specs.declared.address.Address.TheVariants.{Four, Six}
-use Rattle.np_check.specs.StatementGrammar.{IsEndText, IsStatementText}
-use Rattle.np_check.specs.declared.statement_text.EndForm.{EndForm}
-use Rattle.np_check.specs.declared.statement_text.EndForm.TheVariants.{Pods, Addresses, Namespace, Work, Block}
-use Rattle.np_check.specs.declared.statement_text.StatementText.{StatementText}
+use Rattle.np_statements.specs.StatementGrammar.{IsEndText, IsStatementText}
+use Rattle.np_statements.specs.declared.statement_text.EndForm.{EndForm}
+use Rattle.np_statements.specs.declared.statement_text.EndForm.TheVariants.{Pods, Addresses, Namespace, Work, Block}
+use Rattle.np_statements.specs.declared.statement_text.StatementText.{StatementText}
 use Rattle.np_statements.proofs.CutLemmas.{if_some}
 use Rattle.np_statements.proofs.GrammarLemmas.{read-is, read-text}
 use Rattle.np_statements.proofs.StepLemmas.{after, after-none, same_ok, then-ok}

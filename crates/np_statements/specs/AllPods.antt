@@ -2,11 +2,11 @@
 use Rattle.std.specs.Prelude.{◌≡◌, List, Bool, true, false, ◌&&◌, ◌||◌, All, None}
 use Rattle.np_check.specs.Counters.{counter_of}
 use Rattle.np_check.specs.declared.question.Question.{Question}
-use Rattle.np_check.specs.declared.statement_text.EndForm.{EndForm}
-use Rattle.np_check.specs.declared.statement_text.EndForm.TheVariants.{Pods, Addresses, Namespace, Work, Block}
-use Rattle.np_check.specs.declared.statement_text.StatementText.{StatementText}
-use Rattle.np_check.specs.declared.statement_text.Wanted.{Wanted}
-use Rattle.np_check.specs.declared.statement_text.Wanted.TheVariants.{Allow, Deny}
+use Rattle.np_statements.specs.declared.statement_text.EndForm.{EndForm}
+use Rattle.np_statements.specs.declared.statement_text.EndForm.TheVariants.{Pods, Addresses, Namespace, Work, Block}
+use Rattle.np_statements.specs.declared.statement_text.StatementText.{StatementText}
+use Rattle.np_check.specs.declared.question.Wanted.{Wanted}
+use Rattle.np_check.specs.declared.question.Wanted.TheVariants.{Allow, Deny}
 use Rattle.np_conns.specs.Conns.{Conns, has_spot}
 use Rattle.np_conns.specs.declared.port_spot.PortSpot.{PortSpot}
 use Rattle.np_model.specs.declared.lists.EstateLists.{EstateLists}

@@ -7,8 +7,8 @@ use Rattle.np_addr.specs.Blocks.{AddressRanges}
 use Rattle.np_addr.specs.declared.cidr.Cidr.{Cidr}
 use Rattle.np_addr.specs.declared.cidr.Cidr.TheVariants.{Four, Six}
 use Rattle.np_check.specs.declared.question.Ends.{Ends}
-use Rattle.np_check.specs.declared.statement_text.EndForm.{EndForm}
-use Rattle.np_check.specs.declared.statement_text.EndForm.TheVariants.{Pods, Addresses, Namespace, Work, Block}
+use Rattle.np_statements.specs.declared.statement_text.EndForm.{EndForm}
+use Rattle.np_statements.specs.declared.statement_text.EndForm.TheVariants.{Pods, Addresses, Namespace, Work, Block}
 use Rattle.np_model.specs.declared.lists.EstateLists.{EstateLists}
 use Rattle.np_fold.specs.Workloads.{folding_of, number_named}
 use Rattle.np_kinds.specs.Between.{number_of_workloads, source_pod}

@@ -4,8 +4,8 @@ use Rattle.np_addr.specs.Addresses.{IsAddress, family_of}
 use Rattle.np_addr.specs.declared.address.Address.{Address}
 use Rattle.np_addr.specs.declared.address.Family.{Family}
 use Rattle.np_check.specs.Counters.{complies, number_of_address}
-use Rattle.np_check.specs.declared.statement_text.EndForm.{EndForm}
-use Rattle.np_check.specs.declared.statement_text.StatementText.{StatementText}
+use Rattle.np_statements.specs.declared.statement_text.EndForm.{EndForm}
+use Rattle.np_statements.specs.declared.statement_text.StatementText.{StatementText}
 use Rattle.np_conns.specs.Conns.{has_spot, is_spot}
 use Rattle.np_conns.specs.declared.port_spot.PortSpot.{PortSpot}
 use Rattle.np_model.specs.Families.{families_of}

@@ -14,4 +14,7 @@ pub mod Lines
 pub mod NamedEnds
 pub mod ReadConns
 pub mod ReadStatement
+pub mod Sides
+pub mod StatementGrammar
+pub mod StatementTexts
 pub mod Steps

@@ -1,5 +1,5 @@
 //! The first line that does not hold.
-ghost use Rattle.std.specs.Prelude.{◌≡◌, ◌≤◌, All, IfOk, IfSome, false};
+ghost use Rattle.std.specs.Prelude.{◌≡◌, All, IfOk, IfSome, false};
 ghost use Rattle.np_check.specs.Counters.{complies, counter_of};
 ghost use Rattle.np_statements.specs.Answers.{GivesEnds};
 ghost use Rattle.np_statements.specs.AskedLines.{IsAsked, IsQuestion, IsWellLine};
@@ -7,46 +7,41 @@ ghost use Rattle.np_statements.specs.BrokenLines as spec;
 ghost use Rattle.np_statements.specs.BrokenLines.{HasPlaces};
 
 use crate::all_pods::CheckedKinds;
-use crate::ascending::Ascending;
 use crate::asked_line::AskedLine;
 use crate::broken::Broken;
 use crate::end_fault::EndFault;
 use crate::find::{asked_of, unknown_name};
 use crate::statement_line::StatementLine;
 use np_base::{NoMemory, Seq};
-use np_check::{Checker, Counterexample, IsDestination, IsSource, Question, Statement, Wanted};
+use np_check::{Checker, Counterexample, Question, Statement, Wanted};
 use np_fold::Folded;
-use np_steps::Steps;
 use std::alloc::Global;
-use std::sync::ledger::Ledger;
 
 /// The first line whose statement does not hold, with the first packet that does not comply, in the order of `check`. `None`
 /// exactly where all hold. `UnknownEnd` comes exactly where a statement names a workload that is not there, with the first such
 /// name by lines, in a line that of the source first; no line is checked then. The ends of a line are kept while it is checked, and
 /// the rules of workloads that were asked for are kept for the lines behind it. Statements of any pod and any pod are asked at once
 /// first, and by themselves only where that finds one that does not hold.
-pub fn first_broken<L: Ledger>(
+pub fn first_broken(
     alloc: Global,
     folded: &Folded,
     statements: Seq<StatementLine>,
-    steps: &mut Steps<L>,
 ) -> Result<Option<Broken>, EndFault>
     requires { All IsWellLine statements }
     ensures first { GivesEnds result (spec.broken_among folded.now statements) }
     ensures places { IfOk result (λ made. IfSome made (HasPlaces folded.now)) }
-    ensures least { steps.old ≤ steps.new }
 {
     if let Some(name) = unknown_name(folded, statements.items()) {
         return Err(EndFault::UnknownEnd { name: name.copy()? });
     }
     let mut checker = Checker::new(alloc, folded);
-    let settled = CheckedKinds::of(alloc, folded, &mut checker, statements.items(), steps)?;
+    let settled = CheckedKinds::of(alloc, folded, &mut checker, statements.items())?;
     for line in statements.into_vec() {
         if settled.has(&line.statement) {
             continue;
         }
         let asked = asked_of(alloc, folded, line)?;
-        let found = broken_of(alloc, &mut checker, asked, steps)?;
+        let found = broken_of(&mut checker, asked)?;
         if found.is_some() {
             return Ok(found);
         }
@@ -55,21 +50,15 @@ pub fn first_broken<L: Ledger>(
 }
 
 // How a line is broken, if it is.
-fn broken_of<L: Ledger>(
-    alloc: Global,
-    checker: &mut Checker<'_>,
-    asked: AskedLine,
-    steps: &mut Steps<L>,
-) -> Result<Option<Broken>, NoMemory>
+fn broken_of(checker: &mut Checker<'_>, asked: AskedLine) -> Result<Option<Broken>, NoMemory>
     requires { IsAsked checker.old asked }
     ensures broken { IfOk result (λ made. made ≡ spec.broken_of checker.old asked) }
     ensures places { IfOk result (λ made. IfSome made (HasPlaces checker.old)) }
     ensures same { checker.new ≡ checker.old }
-    ensures least { steps.old ≤ steps.new }
 {
     let AskedLine { line, question } = asked;
     let allowed = broken_verdict(question.wanted);
-    let Some(packet) = counter_of(alloc, checker, question, steps)? else {
+    let Some(packet) = counter_of(checker, question)? else {
         return Ok(None);
     };
     Ok(Some(Broken {
@@ -86,28 +75,15 @@ fn broken_verdict(wanted: Wanted) -> bool
     matches!(wanted, Wanted::Deny)
 }
 
-/// The first packet that does not comply. The closures that `check` asks which workloads a statement speaks of are made here.
-pub(crate) fn counter_of<L: Ledger>(
-    alloc: Global,
+/// The first packet that does not comply with what is asked.
+pub(crate) fn counter_of(
     checker: &mut Checker<'_>,
     question: Question,
-    steps: &mut Steps<L>,
 ) -> Result<Option<Counterexample>, NoMemory>
     requires { IsQuestion checker.old question }
     ensures counter { IfOk result (λ made. made ≡ counter_of checker.old question) }
     ensures same { checker.new ≡ checker.old }
-    ensures least { steps.old ≤ steps.new }
 {
-    let Question {
-        wanted,
-        source,
-        destination,
-        conns,
-    } = question;
-    let sources = Ascending::of(alloc, source.works.items())?;
-    let destinations = Ascending::of(alloc, destination.works.items())?;
-    let from: IsSource = Box::new(alloc, move |work: u32| sources.has(work))?;
-    let to: IsDestination = Box::new(alloc, move |work: u32| destinations.has(work))?;
-    let statement = Statement::new(wanted, source, destination, conns, from, to);
-    checker.check(&statement, steps)
+    let statement = Statement::new(question);
+    checker.check(&statement)
 }

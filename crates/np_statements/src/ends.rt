@@ -8,9 +8,10 @@ ghost use Rattle.np_statements.specs.Ends as spec;
 ghost use Rattle.np_kinds.specs.Between.{IsWorkload};
 
 use crate::end_fault::EndFault;
+use crate::statement_text::EndForm;
 use np_addr::{AddrSet, cidr_set};
 use np_base::{Cells, NoMemory, Seq, Text};
-use np_check::{EndForm, Ends};
+use np_check::Ends;
 use np_fold::Folded;
 use std::alloc::Global;
 

@@ -9,8 +9,9 @@ use crate::asked_line::AskedLine;
 use crate::end_fault::EndFault;
 use crate::ends::ends_of;
 use crate::statement_line::StatementLine;
+use crate::statement_text::{EndForm, StatementText};
 use np_base::Text;
-use np_check::{EndForm, Question, StatementText};
+use np_check::Question;
 use np_fold::Folded;
 use std::alloc::Global;
 

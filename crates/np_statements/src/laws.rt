@@ -1,15 +1,14 @@
 //! What follows from the definitions. Each law is the contract of a call that does nothing.
-ghost use Rattle.std.specs.Prelude.{◌≡◌, ◌≢◌, ◌<◌, ◌↔◌, ℕ, List, [], None, Some, Ok, Err, All, length, true};
+ghost use Rattle.std.specs.Prelude.{◌≡◌, ◌≢◌, ◌<◌, ◌↔◌, ℕ, List, [], None, Some, Ok, Err, All, Contains, length, true};
 ghost use Rattle.np_addr.specs.Addresses.{IsAddress};
 ghost use Rattle.np_addr.specs.Blocks.{set_has};
 ghost use Rattle.np_addr.specs.declared.address.Address.{Address};
 ghost use Rattle.np_check.specs.Holding.{Holds};
-ghost use Rattle.np_check.specs.Numbers.{is_among};
-ghost use Rattle.np_check.specs.StatementGrammar.{IsStatementText};
+ghost use Rattle.np_statements.specs.StatementGrammar.{IsStatementText};
 ghost use Rattle.np_check.specs.declared.question.Ends.{Ends};
-ghost use Rattle.np_check.specs.declared.statement_text.EndForm.{EndForm};
-ghost use Rattle.np_check.specs.declared.statement_text.EndForm.TheVariants.{Work};
-ghost use Rattle.np_check.specs.declared.statement_text.StatementText.{StatementText};
+ghost use Rattle.np_statements.specs.declared.statement_text.EndForm.{EndForm};
+ghost use Rattle.np_statements.specs.declared.statement_text.EndForm.TheVariants.{Work};
+ghost use Rattle.np_statements.specs.declared.statement_text.StatementText.{StatementText};
 ghost use Rattle.np_model.specs.Lawful.{IsLawful};
 ghost use Rattle.np_model.specs.declared.lists.EstateLists.{EstateLists};
 ghost use Rattle.np_fold.specs.Workloads.{folding_of, name_of, number_of};
@@ -22,6 +21,7 @@ ghost use Rattle.np_statements.specs.CountedLines.{IsLineOf};
 ghost use Rattle.np_statements.specs.Lines.{statement_of, statements_of};
 ghost use Rattle.np_statements.specs.NamedEnds.{NamesAddress, NamesPod};
 ghost use Rattle.np_statements.specs.ReadStatement.{statement_read};
+ghost use Rattle.np_statements.specs.StatementTexts.{IsWellStatement, statement_text};
 ghost use Rattle.np_statements.specs.declared.asked_line.AskedLine.{AskedLine};
 ghost use Rattle.np_statements.specs.declared.broken.Broken.{Broken};
 ghost use Rattle.np_statements.specs.declared.statement_line.StatementLine.{StatementLine};
@@ -33,11 +33,22 @@ pub fn lines_are_read_by_the_grammar()
         (statement_read line ≡ Some statement) ↔ IsStatementText line statement }
 {}
 
+/// A line is the text of one statement at most.
+pub fn one_statement_of_a_line()
+    ensures { (line : List ℕ) (statement other : StatementText) →
+        IsStatementText line statement → IsStatementText line other → statement ≡ other }
+{}
+
+/// The text of a statement is read as that statement.
+pub fn text_of_a_statement_reads_again()
+    ensures { (statement : StatementText) → IsWellStatement statement → IsStatementText (statement_text statement) statement }
+{}
+
 /// The workloads of a form are those of the pods that it names, and its addresses are those that it names.
 pub fn ends_are_those_of_their_forms()
     ensures pods { (lists : EstateLists) (form : EndForm) (ends : Ends) (place : ℕ) → IsLawful lists →
         ends_of lists form ≡ Ok ends → place < length lists.pods →
-        (is_among ends.works (number_of lists place) ≡ true) ↔ NamesPod lists form place }
+        Contains ends.works (number_of lists place) ↔ NamesPod lists form place }
     ensures addresses { (lists : EstateLists) (form : EndForm) (ends : Ends) (address : Address) →
         ends_of lists form ≡ Ok ends → IsAddress address →
         (set_has ends.block address ≡ true) ↔ NamesAddress form address }

@@ -1,14 +1,15 @@
 //! Reading a file of statements.
 ghost use Rattle.std.specs.Prelude.{◌≡◌, ◌++◌, All, IfOk, IsErrOf, None, Some, map, option_to_list};
-ghost use Rattle.np_check.specs.declared.statement_text.StatementFault.TheVariants.{BadStatement};
+ghost use Rattle.np_statements.specs.declared.statement_text.StatementFault.TheVariants.{BadStatement};
 ghost use Rattle.np_statements.specs.Answers.{GivesLines};
 ghost use Rattle.np_statements.specs.AskedLines.{IsWellLine};
 ghost use Rattle.np_statements.specs.Lines as spec;
 
 use crate::file_fault::FileFault;
+use crate::grammar::read_statement;
 use crate::statement_line::StatementLine;
+use crate::statement_text::{StatementFault, StatementText};
 use np_base::{NoMemory, Seq};
-use np_check::{StatementFault, StatementText, read_statement};
 use std::alloc::Global;
 use std::str::from_utf8;
 

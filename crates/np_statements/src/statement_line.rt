@@ -1,6 +1,6 @@
 //! A line of a file that holds a statement.
 
-use np_check::StatementText;
+use crate::statement_text::StatementText;
 
 /// A statement at its line of a file, by the line's number from 1.
 #[derive(Drop)]

@@ -5,37 +5,27 @@ ghost use Rattle.np_statements.specs.BrokenLines.{HasPlaces};
 
 use crate::asked::{Question, expect_answer};
 use np_base::{NoMemory, Seq};
-use np_check::{EndForm, Wanted, read_statement};
+use np_check::Wanted;
 use np_conns::print_conns;
 use np_fold::Folded;
-use np_statements::{Broken, StatementLine, first_broken, print_broken, read_statements};
-use np_steps::Steps;
+use np_statements::{
+    Broken, EndForm, StatementLine, first_broken, print_broken, read_statement, read_statements,
+};
 use std::alloc::Global;
-use std::sync::ledger::Ledger;
 
 /// How the first line of a file that does not hold is broken, or that all hold, or why the file is refused.
-pub fn broken_text<L: Ledger>(
-    alloc: Global,
-    folded: &Folded,
-    file: &str,
-    steps: &mut Steps<L>,
-) -> Result<String, NoMemory> {
+pub fn broken_text(alloc: Global, folded: &Folded, file: &str) -> Result<String, NoMemory> {
     match read_statements(alloc, file.as_bytes()) {
-        Ok(lines) => first_text(alloc, folded, lines, steps),
+        Ok(lines) => first_text(alloc, folded, lines),
         Err(fault) => Ok(format!(in alloc; "{fault}")?),
     }
 }
 
 // How the first of these lines that does not hold is broken, or that all hold, or which end is not known.
-fn first_text<L: Ledger>(
-    alloc: Global,
-    folded: &Folded,
-    lines: Seq<StatementLine>,
-    steps: &mut Steps<L>,
-) -> Result<String, NoMemory>
+fn first_text(alloc: Global, folded: &Folded, lines: Seq<StatementLine>) -> Result<String, NoMemory>
     requires { All IsWellLine lines }
 {
-    match first_broken(alloc, folded, lines, steps) {
+    match first_broken(alloc, folded, lines) {
         Ok(Some(broken)) => line_text(alloc, folded, &broken),
         Ok(None) => Ok(String::from_str(alloc, "all hold")?),
         Err(fault) => Ok(format!(in alloc; "{fault}")?),

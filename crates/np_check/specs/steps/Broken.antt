@@ -11,7 +11,7 @@ use Rattle.np_check.specs.Firsts.{first_of, first_spot}
 use Rattle.np_check.specs.Order.{comes_before}
 use Rattle.np_check.specs.declared.addresses.Broken.{Broken}
 use Rattle.np_check.specs.declared.counterexample.Counterexample.{Counterexample}
-use Rattle.np_check.specs.declared.statement_text.Wanted.{Wanted}
+use Rattle.np_check.specs.declared.question.Wanted.{Wanted}
 use Rattle.np_conns.specs.Conns.{Conns, has_spot}
 use Rattle.np_conns.specs.declared.port_spot.PortSpot.{PortSpot}
 use Rattle.np_table.specs.declared.rows.AddressRow.{AddressRow}

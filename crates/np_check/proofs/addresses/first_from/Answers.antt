@@ -9,14 +9,14 @@ use Rattle.np_kinds.specs.Between.{address_allows}
 use Rattle.np_check.proofs.addresses.first_from.Goals as goal
 
 pub returns-in_default-clause-counter : goal.returns-in_default-clause-counter
-returns-in_default-clause-counter g c =
+returns-in_default-clause-counter c =
     let rows = c.items.ensures ∙ c.in_ok-rows.ensures.rows ∙ table_rows c.args.checker.now c.args.destination Ingress in
     let found = c.in_ok-broken.ensures (address_allows c.args.checker.now (folding_of c.args.checker.now) c.args.destination Ingress) rows in
     ap (option_map (counter_to c.args.destination)) (sym c.in_default.is)
     ∙ all_to c.args.checker.now c.args.asked.now.wanted c.args.asked.now.conns.now c.args.destination c.args.block.now c.in_ok-broken.field-0 found
 
 pub returns-clause-counter : goal.returns-clause-counter
-returns-clause-counter g c =
+returns-clause-counter c =
     let rows = c.items.ensures ∙ c.in_ok-rows.ensures.rows ∙ table_rows c.args.checker.now c.args.destination Ingress in
     let found = c.in_ok-broken.ensures (address_allows c.args.checker.now (folding_of c.args.checker.now) c.args.destination Ingress) rows in
     ap (λ (family : Family). Some (counter_at (At c.in-Some.broken.address) (Work c.args.destination) family c.in-Some.broken.spot)) c.family_of.ensures

@@ -1,37 +1,37 @@
-use Rattle.std.proofs.Common.{ℕ, List, get_or, refl, sym, ap, subst, ◌∙◌, arith}
+use Rattle.std.proofs.Common.{ℕ, List, get_or, refl, sym, ap, subst, ◌∙◌}
 use Rattle.np_model.specs.declared.lists.EstateLists.{EstateLists}
 use Rattle.np_kinds.specs.Between.{IsWorkload}
 use Rattle.std.proofs.lemmas.List.{take_all}
 use Rattle.np_addr.specs.declared.address.Address.{Address}
 use Rattle.np_base.specs.declared.beside.Which.TheVariants.{First, Second}
-use Rattle.np_check.proofs.AddressLemmas.{no_works, none_of, one_work_more}
+use Rattle.np_check.proofs.AddressLemmas.{no_works, one_work_more}
+use Rattle.np_check.proofs.NoneLemmas.{none_of}
 use Rattle.np_check.specs.Counters.{addresses_of, counter_between}
 use Rattle.np_check.specs.Firsts.{first_of}
 use Rattle.np_check.specs.declared.counterexample.PlaceEnd.TheVariants.{At, Work}
 use Rattle.np_check.proofs.addresses.first_from_addresses.Goals as goal
 
 pub returns-then-is_empty-clause-counter : goal.returns-then-is_empty-clause-counter
-returns-then-is_empty-clause-counter g c =
+returns-then-is_empty-clause-counter c =
     none_of c.args.block.now (λ address. first_of (λ (work : ℕ). counter_between c.args.checker.now c.args.asked.now.wanted c.args.asked.now.conns.now (At address) (Work work))
     c.args.destinations.now) (λ n. c.if-is_empty.ensures.answer (First n)) (λ n. c.if-is_empty.ensures.answer (Second n))
 
 pub loop-destination-init : goal.loop-destination-init
-loop-destination-init g c = record {
+loop-destination-init c = record {
   first = no_works c.args.checker.now c.args.asked.now.wanted c.args.asked.now.conns.now c.args.block.now;
   same = refl;
-  least = omega arith;
 }
 
 pub first_from-requires-clause-destination : goal.first_from-requires-clause-destination
-first_from-requires-clause-destination g c =
+first_from-requires-clause-destination c =
     subst (λ (lists : EstateLists). IsWorkload lists (get_or c.args.destinations.now c.loop-destination.destination-index 0)) (sym c.loop-destination.invariant.same)
     (c.requires c.loop-destination.destination-index 0 c.loop-destination-test.true)
 
 pub returns-in_err-found-clause-same : goal.returns-in_err-found-clause-same
-returns-in_err-found-clause-same g c = c.first_from.ensures.same ∙ c.loop-destination.invariant.same
+returns-in_err-found-clause-same c = c.first_from.ensures.same ∙ c.loop-destination.invariant.same
 
 pub loop-destination-preserved : goal.loop-destination-preserved
-loop-destination-preserved g c =
+loop-destination-preserved c =
     let first_to = λ (lists : EstateLists). first_of (λ address. counter_between lists c.args.asked.now.wanted c.args.asked.now.conns.now (At address)
     (Work (get_or c.args.destinations.now c.loop-destination.destination-index 0))) (addresses_of c.args.block.now) in
     let found = c.in_ok-found.ensures.counter ∙ ap first_to c.loop-destination.invariant.same in
@@ -40,15 +40,14 @@ loop-destination-preserved g c =
           ∙ one_work_more c.args.checker.now c.args.asked.now.wanted c.args.asked.now.conns.now c.args.block.now c.args.destinations.now
           c.loop-destination.destination-index c.loop-destination.first c.in_ok-found.found c.loop-destination-test.true c.loop-destination.invariant.first found;
       same = c.in_ok-found.ensures.same ∙ c.loop-destination.invariant.same;
-      least = omega (arith, c.loop-destination.invariant.least, c.first_from.ensures.least);
     }
 
 pub returns-clause-counter : goal.returns-clause-counter
-returns-clause-counter g c =
+returns-clause-counter c =
     c.loop-destination.invariant.first
     ∙ ap (λ (works : List ℕ). first_of (λ (address : Address). first_of
     (λ (work : ℕ). counter_between c.args.checker.now c.args.asked.now.wanted c.args.asked.now.conns.now (At address) (Work work)) works) (addresses_of c.args.block.now))
     (take_all c.loop-destination.destination-index c.args.destinations.now c.loop-destination-test.false)
 
 pub returns-clause-same : goal.returns-clause-same
-returns-clause-same g c = c.loop-destination.invariant.same
+returns-clause-same c = c.loop-destination.invariant.same

@@ -1,4 +1,4 @@
-use Rattle.std.proofs.Common.{◌≡◌, ◌≤◌, take}
+use Rattle.std.proofs.Common.{◌≡◌, take}
 use Rattle.np_check.specs.Counters.{addresses_of, counter_between}
 use Rattle.np_check.specs.Firsts.{first_of}
 use Rattle.np_check.specs.declared.counterexample.PlaceEnd.TheVariants.{At, Work}
@@ -6,9 +6,8 @@ use Rattle.np_check.proofs.addresses.first_from_addresses.Given as goal
 
 -- what is kept is the first to the workloads so far
 abbrev pub invariant-loop-destination : goal.invariant-loop-destination
-invariant-loop-destination g l = record {
+invariant-loop-destination l = record {
   first : l.first ≡ first_of (λ address. first_of (λ destination. counter_between l.initial.checker l.asked.wanted l.asked.conns.now (At address) (Work destination))
       (take l.destination-index l.destinations)) (addresses_of l.block);
   same : l.checker ≡ l.initial.checker;
-  least : l.initial.steps ≤ l.steps;
 }

@@ -10,7 +10,7 @@ use Rattle.np_model.specs.declared.lists.EstateLists.{EstateLists}
 use Rattle.np_check.proofs.checking.first_from_work.Goals as goal
 
 pub returns-then-is_some-clause-counter : goal.returns-then-is_some-clause-counter
-returns-then-is_some-clause-counter g c =
+returns-then-is_some-clause-counter c =
     let to_works = c.in_ok-found.ensures.counter
     ∙ ap (first_of (λ destination. counter_between c.args.checker.now c.args.asked.now.wanted c.args.asked.now.conns.now (Work c.args.source) (Work destination))) c.items-destinations.ensures in
     let rest = first_of (λ address. counter_between c.args.checker.now c.args.asked.now.wanted c.args.asked.now.conns.now (Work c.args.source) (At address)) (addresses_of c.args.ends.now.block) in
@@ -19,7 +19,7 @@ returns-then-is_some-clause-counter g c =
     ∙ sym (from-work c.args.checker.now c.args.asked.now.wanted c.args.asked.now.conns.now c.args.ends.now c.args.source)
 
 pub returns-clause-counter : goal.returns-clause-counter
-returns-clause-counter g c =
+returns-clause-counter c =
     let to_works = c.in_ok-found.ensures.counter
     ∙ ap (first_of (λ destination. counter_between c.args.checker.now c.args.asked.now.wanted c.args.asked.now.conns.now (Work c.args.source) (Work destination))) c.items-destinations.ensures in
     let to_addresses = λ (lists : EstateLists). first_of (λ address. counter_between lists c.args.asked.now.wanted c.args.asked.now.conns.now (Work c.args.source) (At address))

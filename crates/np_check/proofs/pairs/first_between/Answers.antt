@@ -10,13 +10,13 @@ use Rattle.np_kinds.specs.Between.{is_alone}
 use Rattle.np_check.proofs.pairs.first_between.Goals as goal
 
 pub returns-then-is_alone-clause-counter : goal.returns-then-is_alone-clause-counter
-returns-then-is_alone-clause-counter g c =
+returns-then-is_alone-clause-counter c =
     let folding : c.workloads.result.now ≡ folding_of c.args.checker.now = c.workloads.ensures.value ∙ ap folding_of c.folded-folded.ensures in
     between-alone c.args.checker.now c.args.asked.now.wanted c.args.asked.now.conns.now c.args.source c.args.destination
     (ap (λ (f : Folding). is_alone f c.args.source c.args.destination) (sym folding) ∙ sym c.is_alone.ensures ∙ c.if-is_alone.true)
 
 pub returns-then-is_some-clause-counter : goal.returns-then-is_some-clause-counter
-returns-then-is_some-clause-counter g c =
+returns-then-is_some-clause-counter c =
     let folding : c.workloads.result.now ≡ folding_of c.args.checker.now = c.workloads.ensures.value ∙ ap folding_of c.folded-folded.ensures in
     let apart : is_alone (folding_of c.args.checker.now) c.args.source c.args.destination ≡ false = ap (λ (f : Folding). is_alone f c.args.source c.args.destination)
     (sym folding) ∙ sym c.is_alone.ensures ∙ c.if-is_alone.false in
@@ -29,7 +29,7 @@ returns-then-is_some-clause-counter g c =
     ∙ between-apart c.args.checker.now c.args.asked.now.wanted c.args.asked.now.conns.now c.args.source c.args.destination c.families-family-items.result.now apart families
 
 pub returns-clause-counter : goal.returns-clause-counter
-returns-clause-counter g c =
+returns-clause-counter c =
     let folding : c.workloads.result.now ≡ folding_of c.args.checker.now = c.workloads.ensures.value ∙ ap folding_of c.folded-folded.ensures in
     let apart : is_alone (folding_of c.args.checker.now) c.args.source c.args.destination ≡ false = ap (λ (f : Folding). is_alone f c.args.source c.args.destination)
     (sym folding) ∙ sym c.is_alone.ensures ∙ c.if-is_alone.false in

@@ -5,13 +5,13 @@ use Rattle.np_check.specs.declared.counterexample.PlaceEnd.TheVariants.{Work}
 use Rattle.np_check.proofs.pairs.first_in.Goals as goal
 
 pub returns-in_default-clause-counter : goal.returns-in_default-clause-counter
-returns-in_default-clause-counter g c =
+returns-in_default-clause-counter c =
     ap (option_map (counter_at (Work c.args.source) (Work c.args.destination) c.args.family)) (sym c.in_default.is)
     ∙ in_family c.args.checker.now c.args.asked.now.wanted c.args.asked.now.conns.now c.in_ok-passes.passes c.args.source c.args.destination c.args.family c.in_ok-spot.field-0
     c.in_ok-passes.ensures.set c.in_ok-spot.ensures
 
 pub returns-clause-counter : goal.returns-clause-counter
-returns-clause-counter g c =
+returns-clause-counter c =
     ap (option_map (counter_at (Work c.args.source) (Work c.args.destination) c.args.family)) (sym c.in-Some.is)
     ∙ in_family c.args.checker.now c.args.asked.now.wanted c.args.asked.now.conns.now c.in_ok-passes.passes c.args.source c.args.destination c.args.family c.in_ok-spot.field-0
     c.in_ok-passes.ensures.set c.in_ok-spot.ensures

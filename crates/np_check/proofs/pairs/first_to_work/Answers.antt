@@ -10,17 +10,17 @@ use Rattle.np_check.proofs.pairs.first_to_work.Goals as goal
 use Rattle.np_check.proofs.pairs.first_to_work.Goals.{then-is_none+then-source-destination+in_ok-insert, else-is_none}
 
 pub kind_of-requires : goal.kind_of-requires
-kind_of-requires g c =
+kind_of-requires c =
     let folding : c.workloads-workloads.result.now ≡ folding_of c.args.checker.now = c.workloads-workloads.ensures.value ∙ ap folding_of c.folded.ensures in
     rw folding (kind-there c.args.checker.now (folding_of c.args.checker.now) c.args.source refl c.requires.source)
 
 pub kind_of-requires-2 : goal.kind_of-requires-2
-kind_of-requires-2 g c =
+kind_of-requires-2 c =
     let folding : c.workloads-workloads.result.now ≡ folding_of c.args.checker.now = c.workloads-workloads.ensures.value ∙ ap folding_of c.folded.ensures in
     rw folding (kind-there c.args.checker.now (folding_of c.args.checker.now) c.args.destination refl c.requires.destination)
 
 pub returns-then-contains-clause-counter : goal.returns-then-contains-clause-counter
-returns-then-contains-clause-counter g c =
+returns-then-contains-clause-counter c =
     let folding : c.workloads-workloads.result.now ≡ folding_of c.args.checker.now = c.workloads-workloads.ensures.value ∙ ap folding_of c.folded.ensures in
     let sends : c.kind_of.result ≡ kind_of c.args.checker.now c.args.source = c.kind_of.ensures ∙ ap (λ (f : Folding). slice_index f.kinds c.args.source) folding in
     let receives : c.kind_of-2.result ≡ kind_of c.args.checker.now c.args.destination = c.kind_of-2.ensures ∙ ap (λ (f : Folding). slice_index f.kinds c.args.destination) folding in
@@ -30,7 +30,7 @@ returns-then-contains-clause-counter g c =
     ∙ ap (λ (j : ℕ). has_pair c.args.settled.now.keys c.kind_of.result j) (sym receives) ∙ has))
 
 pub returns-clause-settled : goal.returns-clause-settled
-returns-clause-settled g c =
+returns-clause-settled c =
     let folding : c.workloads-workloads.result.now ≡ folding_of c.args.checker.now = c.workloads-workloads.ensures.value ∙ ap folding_of c.folded.ensures in
     let lawful : IsLawful c.args.checker.now = subst IsLawful c.folded.ensures c.workloads-workloads.ensures.lawful in
     let sends : c.kind_of.result ≡ kind_of c.args.checker.now c.args.source = c.kind_of.ensures ∙ ap (λ (f : Folding). slice_index f.kinds c.args.source) folding in
@@ -51,6 +51,6 @@ returns-clause-settled g c =
     ]
 
 pub returns-then-is_silent-clause-counter : goal.returns-then-is_silent-clause-counter
-returns-then-is_silent-clause-counter g c =
+returns-then-is_silent-clause-counter c =
     none_denied c.args.checker.now c.args.asked.now.wanted c.args.asked.now.conns.now c.args.source c.args.destination
     (sym c.denies-denied.ensures ∙ c.if-denied.true) (c.is_silent.ensures c.if-is_silent.true)

@@ -1,4 +1,4 @@
-use Rattle.std.proofs.Common.{◌≡◌, ◌≤◌, drop}
+use Rattle.std.proofs.Common.{◌≡◌, drop}
 use Rattle.np_check.specs.Counters.{counter_between}
 use Rattle.np_check.specs.Firsts.{first_of}
 use Rattle.np_check.specs.steps.Pairs.{AreSettled}
@@ -7,10 +7,9 @@ use Rattle.np_check.proofs.pairs.first_to_works.Given as goal
 
 -- the first to those that are left is the first to all
 abbrev pub invariant-loop-destination : goal.invariant-loop-destination
-invariant-loop-destination g l = record {
+invariant-loop-destination l = record {
   left : first_of (λ destination. counter_between l.initial.checker l.asked.wanted l.asked.conns.now (Work l.source) (Work destination)) (drop l.destination-index l.destinations)
       ≡ first_of (λ destination. counter_between l.initial.checker l.asked.wanted l.asked.conns.now (Work l.source) (Work destination)) l.destinations;
   same : l.checker ≡ l.initial.checker;
   settled : AreSettled l.checker l.asked.wanted l.asked.conns.now l.settled.keys;
-  least : l.initial.steps ≤ l.steps;
 }

@@ -14,12 +14,12 @@ use Rattle.np_statements.specs.FoundEnds.{ends_found}
 use Rattle.np_statements.proofs.checking.first_broken.Goals as goal
 
 pub returns-in-Some-clause-first : goal.returns-in-Some-clause-first
-returns-in-Some-clause-first g c =
+returns-in-Some-clause-first c =
     let unknown : ends_found c.args.folded.now c.args.statements ≡ Err c.in-Some.name.now = rw c.items.ensures at c.in-Some.ensures in
     name_unknown c.args.folded.now c.args.statements c.in-Some.name.now unknown ∙ ap Err (sym c.in_ok-copy.ensures)
 
 pub loop-line-preserved-then-has : goal.loop-line-preserved-then-has
-loop-line-preserved-then-has g c =
+loop-line-preserved-then-has c =
     let turn = YieldsList-turn (YieldsList-from_vec c.args.statements (c.into_iter-line-iterator.ensures.into_iter_gives.0 ∙ c.into_vec-line-items.ensures)
     (c.into_iter-line-iterator.ensures.into_iter_gives.1 ∙ c.into_vec-line-items.result.ok.0 ∙ ap length c.into_vec-line-items.ensures)) c.loop-line.yielded c.loop-line.line-iterator
     c.loop-line.yielded_by c.next.result c.next.new.self c.in-Some-line.line c.in-Some-line.is c.next.ensures.steps in
@@ -27,18 +27,17 @@ loop-line-preserved-then-has g c =
       left = settled-left c.args.folded.now c.in_ok-settled.settled c.args.statements _ _ c.in-Some-line.line turn c.loop-line.invariant.left (rw c.items-2.ensures at c.in_ok-settled.ensures.settled)
           (sym c.has.ensures ∙ c.if-has.true) (length_push c.loop-line.yielded c.in-Some-line.line);
       same = c.loop-line.invariant.same;
-      least = c.loop-line.invariant.least;
     }
 
 pub asked_of-requires : goal.asked_of-requires
-asked_of-requires g c =
+asked_of-requires c =
     let turn = YieldsList-turn (YieldsList-from_vec c.args.statements (c.into_iter-line-iterator.ensures.into_iter_gives.0 ∙ c.into_vec-line-items.ensures)
     (c.into_iter-line-iterator.ensures.into_iter_gives.1 ∙ c.into_vec-line-items.result.ok.0 ∙ ap length c.into_vec-line-items.ensures)) c.loop-line.yielded c.loop-line.line-iterator
     c.loop-line.yielded_by c.next.result c.next.new.self c.in-Some-line.line c.in-Some-line.is c.next.ensures.steps in
     at_turn IsWellLine c.args.statements _ c.in-Some-line.line turn c.requires
 
 pub returns-in_err-asked-clause-first : goal.returns-in_err-asked-clause-first
-returns-in_err-asked-clause-first g c =
+returns-in_err-asked-clause-first c =
     let turn = YieldsList-turn (YieldsList-from_vec c.args.statements (c.into_iter-line-iterator.ensures.into_iter_gives.0 ∙ c.into_vec-line-items.ensures)
     (c.into_iter-line-iterator.ensures.into_iter_gives.1 ∙ c.into_vec-line-items.result.ok.0 ∙ ap length c.into_vec-line-items.ensures)) c.loop-line.yielded c.loop-line.line-iterator
     c.loop-line.yielded_by c.next.result c.next.new.self c.in-Some-line.line c.in-Some-line.is c.next.ensures.steps in
@@ -46,7 +45,7 @@ returns-in_err-asked-clause-first g c =
     rw (answer.1, answer.2) (line_unknown c.args.folded.now c.args.statements _ c.in-Some-line.line c.in_err-asked.field-0.0 turn c.loop-line.invariant.left c.in_err-asked.ensures)
 
 pub broken_of-requires : goal.broken_of-requires
-broken_of-requires g c =
+broken_of-requires c =
     let turn = YieldsList-turn (YieldsList-from_vec c.args.statements (c.into_iter-line-iterator.ensures.into_iter_gives.0 ∙ c.into_vec-line-items.ensures)
     (c.into_iter-line-iterator.ensures.into_iter_gives.1 ∙ c.into_vec-line-items.result.ok.0 ∙ ap length c.into_vec-line-items.ensures)) c.loop-line.yielded c.loop-line.line-iterator
     c.loop-line.yielded_by c.next.result c.next.new.self c.in-Some-line.line c.in-Some-line.is c.next.ensures.steps in
@@ -54,7 +53,7 @@ broken_of-requires g c =
     (known-line c.args.folded.now c.in-Some-line.line c.in_ok-asked.asked (at_turn IsWellLine c.args.statements _ c.in-Some-line.line turn c.requires) c.in_ok-asked.ensures)
 
 pub returns-then-is_some-clause-first : goal.returns-then-is_some-clause-first
-returns-then-is_some-clause-first g c =
+returns-then-is_some-clause-first c =
     let turn = YieldsList-turn (YieldsList-from_vec c.args.statements (c.into_iter-line-iterator.ensures.into_iter_gives.0 ∙ c.into_vec-line-items.ensures)
     (c.into_iter-line-iterator.ensures.into_iter_gives.1 ∙ c.into_vec-line-items.result.ok.0 ∙ ap length c.into_vec-line-items.ensures)) c.loop-line.yielded c.loop-line.line-iterator
     c.loop-line.yielded_by c.next.result c.next.new.self c.in-Some-line.line c.in-Some-line.is c.next.ensures.steps in
@@ -64,10 +63,10 @@ returns-then-is_some-clause-first g c =
     (sym c.is_some.ensures ∙ c.if-is_some.true)
 
 pub returns-then-is_some-clause-places : goal.returns-then-is_some-clause-places
-returns-then-is_some-clause-places g c = subst (λ (lists : EstateLists). IfSome c.in_ok-found.found (HasPlaces lists)) c.loop-line.invariant.same c.in_ok-found.ensures.places
+returns-then-is_some-clause-places c = subst (λ (lists : EstateLists). IfSome c.in_ok-found.found (HasPlaces lists)) c.loop-line.invariant.same c.in_ok-found.ensures.places
 
 pub loop-line-preserved : goal.loop-line-preserved
-loop-line-preserved g c =
+loop-line-preserved c =
     let turn = YieldsList-turn (YieldsList-from_vec c.args.statements (c.into_iter-line-iterator.ensures.into_iter_gives.0 ∙ c.into_vec-line-items.ensures)
     (c.into_iter-line-iterator.ensures.into_iter_gives.1 ∙ c.into_vec-line-items.result.ok.0 ∙ ap length c.into_vec-line-items.ensures)) c.loop-line.yielded c.loop-line.line-iterator
     c.loop-line.yielded_by c.next.result c.next.new.self c.in-Some-line.line c.in-Some-line.is c.next.ensures.steps in
@@ -76,11 +75,10 @@ loop-line-preserved g c =
       left = one_left c.args.folded.now c.args.statements _ _ c.in-Some-line.line c.in_ok-asked.asked c.in_ok-found.found turn c.loop-line.invariant.left c.in_ok-asked.ensures broken
           (sym c.is_some.ensures ∙ c.if-is_some.false) (length_push c.loop-line.yielded c.in-Some-line.line);
       same = c.in_ok-found.ensures.same ∙ c.loop-line.invariant.same;
-      least = omega (arith, c.loop-line.invariant.least, c.broken_of.ensures.least);
     }
 
 pub returns-clause-first : goal.returns-clause-first
-returns-clause-first g c =
+returns-clause-first c =
     let end = YieldsList-end (YieldsList-from_vec c.args.statements (c.into_iter-line-iterator.ensures.into_iter_gives.0 ∙ c.into_vec-line-items.ensures)
     (c.into_iter-line-iterator.ensures.into_iter_gives.1 ∙ c.into_vec-line-items.result.ok.0 ∙ ap length c.into_vec-line-items.ensures)) c.loop-line.yielded c.loop-line.line-iterator
     c.loop-line.yielded_by c.next.result c.next.new.self c.in-None.is c.next.ensures.steps in

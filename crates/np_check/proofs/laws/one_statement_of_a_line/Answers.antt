@@ -1,5 +1,0 @@
-use Rattle.np_check.proofs.OneStatement.{one_statement}
-use Rattle.np_check.proofs.laws.one_statement_of_a_line.Goals as goal
-
-pub returns : goal.returns
-returns c = one_statement

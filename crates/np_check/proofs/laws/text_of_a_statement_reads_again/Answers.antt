@@ -1,5 +1,0 @@
-use Rattle.np_check.proofs.OneStatement.{text_reads}
-use Rattle.np_check.proofs.laws.text_of_a_statement_reads_again.Goals as goal
-
-pub returns : goal.returns
-returns c = text_reads
