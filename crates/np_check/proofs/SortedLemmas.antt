@@ -13,7 +13,7 @@ use Rattle.np_check.specs.declared.counterexample.PlaceEnd.{PlaceEnd}
 use Rattle.np_check.specs.declared.counterexample.PlaceEnd.TheVariants.{At, Work}
 use Rattle.np_conns.specs.declared.proto.Proto.{Proto}
 use Rattle.np_conns.specs.declared.proto.Proto.TheVariants.{Tcp, Udp, Sctp}
-use Rattle.np_rules.proofs.EachItem.{All-append, All-weaker}
+use Rattle.np_base.proofs.Each.{All-append, All-weaker}
 
 -- ---- lists
 
