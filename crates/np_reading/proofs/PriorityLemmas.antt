@@ -13,7 +13,6 @@ use Rattle.std.proofs.lemmas.Map.Made.{AllPairs-from_IsDistinct}
 use Rattle.std.proofs.lemmas.Map.Text.{is_eq-slice_cmp}
 use Rattle.std.proofs.lemmas.Option.{none-some}
 use Rattle.std.proofs.lemmas.Simd.{map-map}
-use Rattle.std.proofs.lemmas.Map.Lookups.{both_Equal}
 use Rattle.np_reading.specs.Listed.{compare_ranks, first_equal, rank_of, with_rank}
 use Rattle.np_reading.specs.declared.priorities.Rank.{Rank}
 use Rattle.np_model.specs.declared.admin_policy.AdminPolicy.{AdminPolicy}
@@ -27,6 +26,12 @@ ranks admins = map (λ entry. entry.0) (fold with_rank [] admins)
 
 compare_ranks-total : IsTotalOrder compare_ranks
 compare_ranks-total = then_total (on_total (λ rank. rank.priority) nat_cmp_total) (on_total (λ rank. rank.name) nat_list_cmp_total)
+
+-- an order that is no tie by the first
+both_Equal : (first second : Ordering) → ordering_then first second ≡ Equal → (first ≡ Equal) × (second ≡ Equal)
+both_Equal Equal second is = (refl, is)
+both_Equal Less second is = cc
+both_Equal Greater second is = cc
 
 rank : ℕ → List ℕ → Rank
 rank priority name = record { priority = priority; name = name }
