@@ -2,11 +2,9 @@
 use Rattle.std.proofs.Common.{◌≡◌, ℕ, ◌+◌, ◌-◌, ◌%◌, ◌^◌, ◌≤◌, false, ◌&&◌, nat_le, nat_lt, refl, ap, ◌∙◌, arith}
 use Rattle.std.proofs.lemmas.Bool.{and_left, lt-leb, false≢true}
 use Rattle.std.proofs.lemmas.Nat.{pow_pos}
-use Rattle.np_addr.specs.declared.address.Address.{Address}
+use Rattle.np_addr.specs.Types.{Address, Cidr, Family}
 use Rattle.np_addr.specs.declared.address.Address.TheVariants as address
-use Rattle.np_addr.specs.declared.address.Family.{Family}
 use Rattle.np_addr.specs.declared.address.Family.TheVariants as family
-use Rattle.np_addr.specs.declared.cidr.Cidr.{Cidr}
 use Rattle.np_addr.specs.declared.cidr.Cidr.TheVariants as cidr
 use Rattle.np_addr.specs.Addresses.{width_of, IsCidr, cidr_has}
 use Rattle.np_addr.specs.Prefixes.{block_at, LiesIn, AreDisjoint, StandsBefore}

@@ -12,12 +12,9 @@ use Rattle.std.specs.List.{list_any}
 use Rattle.std.proofs.Math.Bool.{or-false}
 use Rattle.np_base.specs.Beside.{by_side}
 use Rattle.np_base.specs.Ranges.{holds}
-use Rattle.np_base.specs.declared.range.Range.{Range}
+use Rattle.np_addr.specs.Types.{Address, Cidr, Four, Range, Six}
 use Rattle.np_base.specs.declared.beside.Which.{Which}
 use Rattle.np_base.specs.declared.beside.Which.TheVariants.{First, Second}
-use Rattle.np_addr.specs.declared.address.Address.{Address}
-use Rattle.np_addr.specs.declared.address.Address.TheVariants.{Four, Six}
-use Rattle.np_addr.specs.declared.cidr.Cidr.{Cidr}
 use Rattle.np_addr.specs.declared.cidr.Cidr.TheVariants as cidr
 use Rattle.np_addr.specs.Addresses.{cidr_has}
 use Rattle.np_addr.specs.AddressGrammar.{cleared}

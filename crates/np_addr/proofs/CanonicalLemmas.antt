@@ -10,9 +10,7 @@ use Rattle.std.proofs.lemmas.Option.{same_Some}
 use Rattle.std.specs.Fmt.{digits, digits_onto, digit_glyph}
 use Rattle.std.specs.List.{AllByRecursion}
 use Rattle.std.specs.Net.Text.{longest_zero_run}
-use Rattle.np_addr.specs.declared.address.Address.{Address}
-use Rattle.np_addr.specs.declared.address.Address.TheVariants.{Four, Six}
-use Rattle.np_addr.specs.declared.cidr.Cidr.{Cidr}
+use Rattle.np_addr.specs.Types.{Address, Cidr, Four, Six}
 use Rattle.np_addr.specs.declared.cidr.Cidr.TheVariants as cidr
 use Rattle.np_addr.specs.AddressGrammar.{address_of, cleared, cidr_of}
 use Rattle.np_addr.specs.AddressText.{low_groups, group_text, groups_text, shortened_text, ipv4_text, address_text, cidr_text}

@@ -1,6 +1,6 @@
 -- The text of a block.
 use Rattle.std.proofs.Common.{◌≡◌, ℕ, List, ◌∷◌, Option, Some, None, inl, inr, refl, sym, lit≤}
-use Rattle.np_addr.specs.declared.address.Address.{Address}
+use Rattle.np_addr.specs.Types.{Address}
 use Rattle.np_addr.specs.Addresses.{family_of, width_of}
 use Rattle.np_addr.specs.AddressGrammar.{address_of, length_of, block_of, block_between, block_of_pieces}
 use Rattle.np_addr.specs.Pieces.{pieces}

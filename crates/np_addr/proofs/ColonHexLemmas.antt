@@ -1,6 +1,5 @@
 -- The text of an IPv6 address is read to its groups, and no other text is.
-use Rattle.std.proofs.Common.{◌≡◌, ℕ, ◌-◌, ◌<◌, Bool, true, false, cond, List, [], ◌∷◌, ◌++◌, length, replicate, codes, Option, Some, None, option_map, All, refl, sym, ap, ◌∙◌, inl, inr, append-nil}
-use Rattle.std.proofs.Common.{append_assoc, arith, lit≤}
+use Rattle.std.proofs.Common.{◌≡◌, ℕ, ◌-◌, ◌<◌, Bool, true, false, cond, List, [], ◌∷◌, ◌++◌, length, replicate, codes, Option, Some, None, option_map, All, refl, sym, ap, ◌∙◌, inl, inr, append-nil, append_assoc, arith, lit≤}
 use Rattle.std.proofs.lemmas.Bool.{eqb-true, eq-eqb, lt-ltb, ltb-true}
 use Rattle.std.proofs.lemmas.List.Elements.{All-head}
 use Rattle.std.proofs.lemmas.List.Splits.{join_with_byte-slice_split}

@@ -7,9 +7,7 @@ use Rattle.std.proofs.lemmas.List.Splits.{join_with_byte-slice_split}
 use Rattle.std.proofs.lemmas.Option.{none-some, same_Some, option_and_then_some}
 use Rattle.std.specs.List.{join_with_byte}
 use Rattle.std.specs.Option.{option_or}
-use Rattle.np_addr.specs.declared.address.Address.{Address}
-use Rattle.np_addr.specs.declared.address.Address.TheVariants.{Four, Six}
-use Rattle.np_addr.specs.declared.cidr.Cidr.{Cidr}
+use Rattle.np_addr.specs.Types.{Address, Cidr, Four, Six}
 use Rattle.np_addr.specs.Addresses.{family_of, width_of}
 use Rattle.np_addr.specs.AddressGrammar.{address_of, length_of, block_between, block_of_pieces, cidr_of}
 use Rattle.np_addr.specs.Ipv4Grammar.{ipv4_of}

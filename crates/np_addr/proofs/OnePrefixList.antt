@@ -1,6 +1,5 @@
 -- One list is right for a set, and none with its addresses is shorter.
-use Rattle.std.proofs.Common.{◌≡◌, ℕ, ◌+◌, ◌-◌, ◌^◌, ◌<◌, ◌≤◌, Bool, true, false, not, List, [], ◌∷◌, length, get_or, All, AllPairs, Any, Contains, filter, sym, ap, ◌∙◌}
-use Rattle.std.proofs.Common.{inl, inr, arith}
+use Rattle.std.proofs.Common.{◌≡◌, ℕ, ◌+◌, ◌-◌, ◌^◌, ◌<◌, ◌≤◌, Bool, true, false, not, List, [], ◌∷◌, length, get_or, All, AllPairs, Any, Contains, filter, sym, ap, ◌∙◌, inl, inr, arith}
 use Rattle.std.proofs.lemmas.Bool.{cases_Bool, cases_order, or_cases, or_left, or_right, false_from_ne_true, both_ways, false≢true}
 use Rattle.std.proofs.lemmas.List.{get_or_default}
 use Rattle.std.proofs.lemmas.List.Elements.{All-head, All-tail, All-filter}
@@ -9,9 +8,8 @@ use Rattle.std.proofs.lemmas.List.Sums.{length-filter, count_by-le-length}
 use Rattle.std.proofs.lemmas.Nat.{pow_pos, pow_below}
 use Rattle.std.specs.List.{list_any}
 use Rattle.np_base.proofs.Lists.{AllPairs-head, AllPairs-tail}
-use Rattle.np_addr.specs.declared.address.Address.{Address}
+use Rattle.np_addr.specs.Types.{Address, Cidr}
 use Rattle.np_addr.specs.declared.address.Address.TheVariants as address
-use Rattle.np_addr.specs.declared.cidr.Cidr.{Cidr}
 use Rattle.np_addr.specs.declared.cidr.Cidr.TheVariants as cidr
 use Rattle.np_addr.specs.Addresses.{IsCidr, cidr_has}
 use Rattle.np_addr.specs.Blocks.{AddressRanges, set_has, base_of}

@@ -3,10 +3,8 @@ use Rattle.std.proofs.Common.{◌≡◌, ℕ, zero, suc, ◌+◌, ◌-◌, ◌*�
 use Rattle.std.proofs.Math.Nat.{pow-suc}
 use Rattle.std.proofs.lemmas.Bool.{and_parts, and_from, leb-true, le-leb, cond_both, cond-true, cond-false, false_from_ne_true, both_ways}
 use Rattle.std.proofs.lemmas.Nat.{pow_pos}
-use Rattle.np_base.specs.declared.range.Range.{Range}
-use Rattle.np_addr.specs.declared.address.Family.{Family}
+use Rattle.np_addr.specs.Types.{Cidr, Family, Range}
 use Rattle.np_addr.specs.declared.address.Family.TheVariants as family
-use Rattle.np_addr.specs.declared.cidr.Cidr.{Cidr}
 use Rattle.np_addr.specs.Addresses.{width_of}
 use Rattle.np_addr.specs.Prefixes.{block_at, is_inside, blocks_in, range_prefixes, prefixes_of}
 

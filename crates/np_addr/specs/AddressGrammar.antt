@@ -1,9 +1,8 @@
 -- The texts of addresses, and of blocks of them, each with its value.
 use Rattle.std.specs.Prelude.{ℕ, ◌-◌, ◌*◌, ◌/◌, ◌^◌, ◌&&◌, ◌||◌, ◌==◌, nat_lt, List, [], ◌∷◌, length, slice_index, Option, Some, None, option_map, if◌then◌else◌}
 use Rattle.std.specs.Option.{option_or}
-use Rattle.np_addr.specs.declared.address.Address.{Address}
+use Rattle.np_addr.specs.Types.{Address, Cidr}
 use Rattle.np_addr.specs.declared.address.Address.TheVariants as address
-use Rattle.np_addr.specs.declared.cidr.Cidr.{Cidr}
 use Rattle.np_addr.specs.declared.cidr.Cidr.TheVariants as cidr
 use Rattle.np_addr.specs.Addresses.{family_of, width_of}
 use Rattle.np_addr.specs.Numeral.{numeral_of}

@@ -4,9 +4,7 @@ use Rattle.std.specs.Fmt.{digits}
 use Rattle.std.specs.Int.{w32, to_be_bytes}
 use Rattle.std.specs.List.{join_by}
 use Rattle.std.specs.Net.Text.{longest_zero_run}
-use Rattle.np_addr.specs.declared.address.Address.{Address}
-use Rattle.np_addr.specs.declared.address.Address.TheVariants.{Four, Six}
-use Rattle.np_addr.specs.declared.cidr.Cidr.{Cidr}
+use Rattle.np_addr.specs.Types.{Address, Cidr, Four, Six}
 use Rattle.np_addr.specs.Blocks.{base_of, bits_of}
 
 -- an IPv4 address: its bytes in decimal without leading zeros, the highest first, with a dot between each two

@@ -2,11 +2,9 @@
 use Rattle.std.specs.Prelude.{ℕ, ◌-◌, ◌^◌, Bool, ◌&&◌, not, nat_lt, List, Option, position}
 use Rattle.std.specs.List.{list_any}
 use Rattle.np_base.specs.declared.beside.Beside.{Beside}
-use Rattle.np_base.specs.declared.range.Range.{Range}
+use Rattle.np_addr.specs.Types.{Address, Cidr, Range}
 use Rattle.np_base.specs.Ranges.{holds, IsAscending}
-use Rattle.np_addr.specs.declared.address.Address.{Address}
 use Rattle.np_addr.specs.declared.address.Address.TheVariants as address
-use Rattle.np_addr.specs.declared.cidr.Cidr.{Cidr}
 use Rattle.np_addr.specs.declared.cidr.Cidr.TheVariants as cidr
 use Rattle.np_addr.specs.Addresses.{cidr_has}
 

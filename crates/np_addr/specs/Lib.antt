@@ -13,5 +13,6 @@ pub mod Pieces
 pub mod Prefixes
 pub mod Steps
 pub mod TextForms
+pub mod Types
 pub use Rattle.np_base.specs.Beside
 pub use Rattle.np_base.specs.Ranges

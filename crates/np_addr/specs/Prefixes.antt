@@ -1,11 +1,8 @@
 -- The right list of blocks of a set of addresses.
 use Rattle.std.specs.Prelude.{◌≡◌, ℕ, zero, suc, ◌+◌, ◌-◌, ◌^◌, ◌<◌, Bool, true, false, ◌&&◌, nat_le, List, [], ◌∷◌, ◌++◌, All, AllPairs, Any, flat_map, if◌then◌else◌}
 use Rattle.std.specs.List.{list_any}
-use Rattle.np_base.specs.declared.range.Range.{Range}
-use Rattle.np_addr.specs.declared.address.Address.{Address}
-use Rattle.np_addr.specs.declared.address.Family.{Family}
+use Rattle.np_addr.specs.Types.{Address, Cidr, Family, Range}
 use Rattle.np_addr.specs.declared.address.Family.TheVariants as family
-use Rattle.np_addr.specs.declared.cidr.Cidr.{Cidr}
 use Rattle.np_addr.specs.declared.cidr.Cidr.TheVariants as cidr
 use Rattle.np_addr.specs.Addresses.{width_of, IsCidr, cidr_has}
 use Rattle.np_addr.specs.Blocks.{AddressRanges, set_has}

@@ -1,6 +1,5 @@
 -- What clap's contract says of the words of a simple command, and of what it finds of them.
-use Rattle.std.proofs.Common.{◌≡◌, ◌∙◌, ap, ap₂, Bor, List, [], ◌∷◌, Bool, true, false, MatchOption, Option, Some, None, codes, map, option_and_then, option_map, refl, unwrap_or, true≢false, inl, inr}
-use Rattle.std.proofs.Common.{sym, if◌then◌else◌}
+use Rattle.std.proofs.Common.{◌≡◌, ◌∙◌, ap, ap₂, Bor, List, [], ◌∷◌, Bool, true, false, MatchOption, Option, Some, None, codes, map, option_and_then, option_map, refl, unwrap_or, true≢false, inl, inr, sym, if◌then◌else◌}
 use Rattle.clap.proofs.WalkLemmas.{both, first_value-rows, raw_values-rows}
 use Rattle.clap.specs.Built.{AddsArg}
 use Rattle.clap.specs.Faults.{fault_of, is_free_app, is_simple_and_free}
@@ -17,8 +16,7 @@ use Rattle.clap.specs.declared.parser.matches.Found.{Found}
 use Rattle.np_args.specs.Arguments.{are_files, asked_of, checked_files, files_in, is_none, value_in}
 use Rattle.np_args.specs.Faults.{fault_of_kind}
 use Rattle.np_args.specs.Values.{Text}
-use Rattle.np_args.specs.declared.words_fault.WordsFault.{WordsFault}
-use Rattle.np_args.specs.declared.words_fault.WordsFault.TheVariants.{Usage, NoMemory}
+use Rattle.np_args.specs.Types.{NoMemory, Usage, WordsFault}
 
 -- ---- commands
 

@@ -15,8 +15,7 @@ use Rattle.np_args.specs.CheckWords.{check_command, check_job, check_of}
 use Rattle.np_args.specs.CommandLines.{job_of}
 use Rattle.np_args.specs.Laws.{is_plain, or_standard_input}
 use Rattle.np_args.specs.Values.{Text}
-use Rattle.np_args.specs.declared.job.Job.{Job}
-use Rattle.np_args.specs.declared.job.Job.TheVariants.{Check as CheckJob}
+use Rattle.np_args.specs.Types.{Check as CheckJob, Job}
 
 -- the statement file and the files, where each is there
 abbrev pub checked_of : Option (List Text) → Option Text → Option Job

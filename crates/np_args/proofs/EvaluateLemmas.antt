@@ -3,13 +3,10 @@ use Rattle.std.proofs.Common.{◌≡◌, ◌∙◌, ℕ, ap, List, Option, Some,
 use Rattle.clap.specs.Walk.{Row}
 use Rattle.np_addr.specs.Steps.{◌>>=◌}
 use Rattle.np_conns.specs.ConnsText.{proto_named}
-use Rattle.np_conns.specs.declared.proto.Proto.{Proto}
+use Rattle.np_args.specs.Types.{EndWord, Evaluate as EvaluateJob, Job, Proto}
 use Rattle.np_args.specs.Arguments.{files_in, value_in}
 use Rattle.np_args.specs.EvaluateWords.{evaluate_of}
 use Rattle.np_args.specs.Values.{Text, end_of, port_of}
-use Rattle.np_args.specs.declared.end_word.EndWord.{EndWord}
-use Rattle.np_args.specs.declared.job.Job.{Job}
-use Rattle.np_args.specs.declared.job.Job.TheVariants.{Evaluate as EvaluateJob}
 
 -- the packet of these values, where each is there
 abbrev pub packet_of : Option Proto → Option ℕ → Option (List Text) → Option EndWord → Option EndWord → Option Job

@@ -7,9 +7,7 @@ use Rattle.np_args.specs.Arguments.{files_in, value_in}
 use Rattle.np_args.specs.CommandLines.{job_of}
 use Rattle.np_args.specs.ExplainWords.{explain_job, explain_of}
 use Rattle.np_args.specs.Values.{Text, end_of}
-use Rattle.np_args.specs.declared.end_word.EndWord.{EndWord}
-use Rattle.np_args.specs.declared.job.Job.{Job}
-use Rattle.np_args.specs.declared.job.Job.TheVariants.{Explain as ExplainJob}
+use Rattle.np_args.specs.Types.{EndWord, Explain as ExplainJob, Job}
 
 -- the ends of these values, where each is there
 abbrev ends_of : Option (List Text) → Option EndWord → Option EndWord → Option Job

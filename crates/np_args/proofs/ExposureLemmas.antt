@@ -7,10 +7,7 @@ use Rattle.np_args.specs.Arguments.{files_in, value_in}
 use Rattle.np_args.specs.CommandLines.{job_of}
 use Rattle.np_args.specs.ExposureWords.{exposure_job, exposure_of}
 use Rattle.np_args.specs.Values.{Text, format_of}
-use Rattle.np_args.specs.declared.format.Format.{Format}
-use Rattle.np_args.specs.declared.format.Format.TheVariants.{Plain}
-use Rattle.np_args.specs.declared.job.Job.{Job}
-use Rattle.np_args.specs.declared.job.Job.TheVariants.{Exposure as ExposureJob}
+use Rattle.np_args.specs.Types.{Exposure as ExposureJob, Format, Job, Plain}
 
 -- the workloads of these values, where each is there
 abbrev shown_of : Option Format → Option (List Text) → Option Text → Option Job

@@ -11,8 +11,7 @@ use Rattle.np_args.specs.CommandLines.{job_of}
 use Rattle.np_args.specs.FileWords.{files_command, files_of, flatten_job, unused_job}
 use Rattle.np_args.specs.Laws.{is_plain, or_standard_input}
 use Rattle.np_args.specs.Values.{Text}
-use Rattle.np_args.specs.declared.job.Job.{Job}
-use Rattle.np_args.specs.declared.job.Job.TheVariants.{Flatten as FlattenJob, Unused as UnusedJob}
+use Rattle.np_args.specs.Types.{Flatten as FlattenJob, Job, Unused as UnusedJob}
 
 -- ---- words
 

@@ -8,11 +8,7 @@ use Rattle.np_args.proofs.FileLemmas.{TakesFiles}
 use Rattle.np_args.specs.Arguments.{files_in, value_in}
 use Rattle.np_args.specs.ListWords.{list_command, list_of}
 use Rattle.np_args.specs.Values.{Text, format_of, report_of, side_of}
-use Rattle.np_args.specs.declared.focus_side.FocusSide.{FocusSide}
-use Rattle.np_args.specs.declared.format.Format.{Format}
-use Rattle.np_args.specs.declared.job.Job.{Job}
-use Rattle.np_args.specs.declared.job.Job.TheVariants.{List as ListJob}
-use Rattle.np_args.specs.declared.report.Report.{Report}
+use Rattle.np_args.specs.Types.{FocusSide, Format, Job, List as ListJob, Report}
 
 -- the command as clap builds it, and its arguments
 abbrev pub shape : Shape

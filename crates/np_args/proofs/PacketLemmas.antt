@@ -2,13 +2,11 @@
 use Rattle.std.proofs.Common.{◌≡◌, ◌∙◌, ◌++◌, ℕ, [], ◌∷◌, Option, Some, ap, codes, refl}
 use Rattle.clap.proofs.OnLiterals.{clap_on_literals}
 use Rattle.np_conns.specs.ConnsText.{proto_named}
-use Rattle.np_conns.specs.declared.proto.Proto.{Proto}
+use Rattle.np_args.specs.Types.{EndWord, Evaluate as EvaluateJob, Proto}
 use Rattle.np_args.proofs.EvaluateLemmas.{packet_of}
 use Rattle.np_args.specs.CommandLines.{job_of}
 use Rattle.np_args.specs.EvaluateWords.{evaluate_job}
 use Rattle.np_args.specs.Values.{Text, end_of, port_of}
-use Rattle.np_args.specs.declared.end_word.EndWord.{EndWord}
-use Rattle.np_args.specs.declared.job.Job.TheVariants.{Evaluate as EvaluateJob}
 
 -- the four options, and no file
 asked_packet : (from to proto port : Text)

@@ -7,7 +7,7 @@ use Rattle.np_args.specs.CommandLines.{job_of}
 use Rattle.np_args.specs.Laws.{is_plain}
 use Rattle.np_args.specs.SampleWords.{sample_job}
 use Rattle.np_args.specs.Values.{Text, count_of}
-use Rattle.np_args.specs.declared.job.Job.TheVariants.{Sample as SampleJob}
+use Rattle.np_args.specs.Types.{Sample as SampleJob}
 
 -- ---- words
 

@@ -15,9 +15,7 @@ use Rattle.np_args.specs.CommandLines.{job_of}
 use Rattle.np_args.specs.Laws.{is_plain, or_standard_input, text_table}
 use Rattle.np_args.specs.ListWords.{list_command, list_job, list_of}
 use Rattle.np_args.specs.Values.{Text, report_of}
-use Rattle.np_args.specs.declared.job.Job.{Job}
-use Rattle.np_args.specs.declared.report.Report.{Report}
-use Rattle.np_args.specs.declared.report.Report.TheVariants.{Two}
+use Rattle.np_args.specs.Types.{Job, Report, Two}
 
 -- ---- words of `list`
 

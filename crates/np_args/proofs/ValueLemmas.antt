@@ -15,7 +15,7 @@ use Rattle.std.specs.Str.Parse.{AllDigits, ParsesUnsigned, digits_value}
 use Rattle.std.specs.Str.Pattern.{FindsChar}
 use Rattle.np_addr.specs.AddressGrammar.{address_of}
 use Rattle.np_args.specs.Values.{Text, end_of, number_to, port_of}
-use Rattle.np_args.specs.declared.end_word.EndWord.TheVariants.{At, Named}
+use Rattle.np_args.specs.Types.{At, Named}
 
 -- ---- ends
 

@@ -5,8 +5,7 @@ use Rattle.clap.specs.Walk.{Row, first_of}
 use Rattle.np_addr.specs.Steps.{◌>>=◌}
 use Rattle.np_args.specs.Arguments.{are_files, asked_of, command_of, file_rule, files_in, required_rule}
 use Rattle.np_args.specs.Values.{Text}
-use Rattle.np_args.specs.declared.job.Job.{Job}
-use Rattle.np_args.specs.declared.job.Job.TheVariants.{Check as CheckJob}
+use Rattle.np_args.specs.Types.{Check as CheckJob, Job}
 
 -- `check --statement FILE [FILE]...`
 abbrev pub check_command : App

@@ -11,7 +11,7 @@ use Rattle.np_args.specs.FileWords.{flatten_job, unused_job}
 use Rattle.np_args.specs.ListWords.{list_job}
 use Rattle.np_args.specs.SampleWords.{sample_job}
 use Rattle.np_args.specs.Values.{Text}
-use Rattle.np_args.specs.declared.job.Job.{Job}
+use Rattle.np_args.specs.Types.{Job}
 
 -- what the words of each command ask for, by its name
 abbrev pub jobs : List (Text × (List Text → Option Job))

@@ -6,8 +6,7 @@ use Rattle.np_addr.specs.Steps.{◌>>=◌}
 use Rattle.np_conns.specs.ConnsText.{proto_named}
 use Rattle.np_args.specs.Arguments.{asked_of, command_of, file_rule, files_in, required_rule, value_in}
 use Rattle.np_args.specs.Values.{Text, end_of, port_of}
-use Rattle.np_args.specs.declared.job.Job.{Job}
-use Rattle.np_args.specs.declared.job.Job.TheVariants.{Evaluate as EvaluateJob}
+use Rattle.np_args.specs.Types.{Evaluate as EvaluateJob, Job}
 
 -- `evaluate --from END --to END --protocol P --port N [FILE]...`
 abbrev pub evaluate_command : App

@@ -5,8 +5,7 @@ use Rattle.clap.specs.Walk.{Row}
 use Rattle.np_addr.specs.Steps.{◌>>=◌}
 use Rattle.np_args.specs.Arguments.{asked_of, command_of, file_rule, files_in, required_rule, value_in}
 use Rattle.np_args.specs.Values.{Text, end_of}
-use Rattle.np_args.specs.declared.job.Job.{Job}
-use Rattle.np_args.specs.declared.job.Job.TheVariants.{Explain as ExplainJob}
+use Rattle.np_args.specs.Types.{Explain as ExplainJob, Job}
 
 -- `explain --from END --to END [FILE]...`
 abbrev pub explain_command : App

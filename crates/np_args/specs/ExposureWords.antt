@@ -5,8 +5,7 @@ use Rattle.clap.specs.Walk.{Row, first_of}
 use Rattle.np_addr.specs.Steps.{◌>>=◌}
 use Rattle.np_args.specs.Arguments.{asked_of, command_of, default_rule, file_rule, files_in, option_rule, value_in}
 use Rattle.np_args.specs.Values.{Text, format_of}
-use Rattle.np_args.specs.declared.job.Job.{Job}
-use Rattle.np_args.specs.declared.job.Job.TheVariants.{Exposure as ExposureJob}
+use Rattle.np_args.specs.Types.{Exposure as ExposureJob, Job}
 
 -- `exposure [--workload NAME] [--format text|csv|json] [FILE]...`
 abbrev pub exposure_command : App

@@ -1,8 +1,7 @@
 -- Which fault an error of a command line is.
 use Rattle.clap.specs.declared.error.kind.ErrorKind.{ErrorKind}
 use Rattle.clap.specs.declared.error.kind.ErrorKind.TheVariants.{OutOfMemory}
-use Rattle.np_args.specs.declared.words_fault.WordsFault.{WordsFault}
-use Rattle.np_args.specs.declared.words_fault.WordsFault.TheVariants.{Usage, NoMemory}
+use Rattle.np_args.specs.Types.{NoMemory, Usage, WordsFault}
 
 abbrev pub fault_of_kind : ErrorKind → WordsFault
 fault_of_kind OutOfMemory = NoMemory

@@ -4,8 +4,7 @@ use Rattle.clap.specs.Simple.{App}
 use Rattle.clap.specs.Walk.{Row}
 use Rattle.np_args.specs.Arguments.{asked_of, command_of, file_rule, files_in}
 use Rattle.np_args.specs.Values.{Text}
-use Rattle.np_args.specs.declared.job.Job.{Job}
-use Rattle.np_args.specs.declared.job.Job.TheVariants.{Flatten as FlattenJob, Unused as UnusedJob}
+use Rattle.np_args.specs.Types.{Flatten as FlattenJob, Job, Unused as UnusedJob}
 
 -- `NAME [FILE]...`
 abbrev pub files_command : Text → App

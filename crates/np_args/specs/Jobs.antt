@@ -1,7 +1,6 @@
 -- What holds of every job that words ask for.
 use Rattle.std.specs.Prelude.{◌≤◌}
-use Rattle.np_args.specs.declared.job.Job.{Job}
-use Rattle.np_args.specs.declared.job.Job.TheVariants.{Sample}
+use Rattle.np_args.specs.Types.{Job, Sample}
 
 -- a sample has from 1 to 1000 pods
 abbrev pub IsWell : Job → Type 0

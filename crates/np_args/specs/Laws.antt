@@ -4,11 +4,7 @@ use Rattle.std.specs.List.{list_any}
 use Rattle.std.specs.Str.{bytes_eq}
 use Rattle.np_args.specs.Arguments.{is_none}
 use Rattle.np_args.specs.Values.{Text}
-use Rattle.np_args.specs.declared.focus_side.FocusSide.TheVariants.{Either}
-use Rattle.np_args.specs.declared.format.Format.TheVariants.{Plain}
-use Rattle.np_args.specs.declared.job.Job.{Job}
-use Rattle.np_args.specs.declared.job.Job.TheVariants.{List as ListJob}
-use Rattle.np_args.specs.declared.report.Report.{Report}
+use Rattle.np_args.specs.Types.{Either, Job, List as ListJob, Plain, Report}
 
 -- whether a word is no option: it does not begin with a hyphen (45), or is the hyphen alone
 abbrev pub is_plain : Text → Bool

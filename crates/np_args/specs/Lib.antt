@@ -10,4 +10,5 @@ pub mod Jobs
 pub mod Laws
 pub mod ListWords
 pub mod SampleWords
+pub mod Types
 pub mod Values

@@ -5,8 +5,7 @@ use Rattle.clap.specs.Walk.{Row, first_of}
 use Rattle.np_addr.specs.Steps.{◌>>=◌}
 use Rattle.np_args.specs.Arguments.{asked_of, command_of, default_rule, file_rule, files_in, option_rule, value_in}
 use Rattle.np_args.specs.Values.{Text, format_of, report_of, side_of}
-use Rattle.np_args.specs.declared.job.Job.{Job}
-use Rattle.np_args.specs.declared.job.Job.TheVariants.{List as ListJob}
+use Rattle.np_args.specs.Types.{Job, List as ListJob}
 
 -- `list [--format text|csv|json] [--report 1|2] [--controller NAME] [--focus NAME] [--side either|from|to] [FILE]...`
 abbrev pub list_command : App

@@ -5,8 +5,7 @@ use Rattle.clap.specs.Walk.{Row}
 use Rattle.clap.specs.declared.builder.action.ArgAction.TheVariants.{Set}
 use Rattle.np_args.specs.Arguments.{asked_of, command_of, value_in}
 use Rattle.np_args.specs.Values.{Text, count_of}
-use Rattle.np_args.specs.declared.job.Job.{Job}
-use Rattle.np_args.specs.declared.job.Job.TheVariants.{Sample as SampleJob}
+use Rattle.np_args.specs.Types.{Job, Sample as SampleJob}
 
 -- `sample N`: one word, which must be given
 abbrev pub sample_command : App

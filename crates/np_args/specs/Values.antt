@@ -6,14 +6,7 @@ use Rattle.std.specs.Map.{lookup}
 use Rattle.std.specs.Str.{bytes_eq}
 use Rattle.std.specs.Str.Parse.{digits_value}
 use Rattle.np_addr.specs.AddressGrammar.{address_of}
-use Rattle.np_args.specs.declared.end_word.EndWord.{EndWord}
-use Rattle.np_args.specs.declared.end_word.EndWord.TheVariants.{At, Named}
-use Rattle.np_args.specs.declared.focus_side.FocusSide.{FocusSide}
-use Rattle.np_args.specs.declared.focus_side.FocusSide.TheVariants.{Either, Source, Destination}
-use Rattle.np_args.specs.declared.format.Format.{Format}
-use Rattle.np_args.specs.declared.format.Format.TheVariants.{Plain, Csv, Json}
-use Rattle.np_args.specs.declared.report.Report.{Report}
-use Rattle.np_args.specs.declared.report.Report.TheVariants.{One, Two}
+use Rattle.np_args.specs.Types.{At, Csv, Destination, Either, EndWord, FocusSide, Format, Json, Named, One, Plain, Report, Source, Two}
 
 abbrev pub Text : Type 0
 Text = List ℕ

@@ -4,24 +4,15 @@ use Rattle.std.specs.Option.{option_or}
 use Rattle.std.proofs.lemmas.List.{take_more}
 use Rattle.np_addr.specs.Addresses.{family_of}
 use Rattle.np_addr.specs.Blocks.{AddressRanges}
-use Rattle.np_addr.specs.declared.address.Address.{Address}
-use Rattle.np_addr.specs.declared.address.Family.{Family}
+use Rattle.np_check.specs.Types.{Address, At, Broken, Counterexample, Egress, EstateLists, Family, Ingress, PlaceEnd, PortSpot, Wanted, Work}
 use Rattle.np_check.proofs.FirstLemmas.{first_of-append, first_of-none, first_of-one, first_of-option_map, first_of-same, from_either}
 use Rattle.np_check.proofs.MergeLemmas.{addresses-ascend, merge}
 use Rattle.np_check.specs.Counters.{addresses_of, breaks, counter_at, counter_between, counter_in, families_between, number_of_address}
 use Rattle.np_check.specs.Firsts.{first_of, first_spot}
 use Rattle.np_check.specs.steps.Broken.{broken_at, earlier, first_broken_of}
-use Rattle.np_check.specs.declared.addresses.Broken.{Broken}
-use Rattle.np_check.specs.declared.counterexample.Counterexample.{Counterexample}
-use Rattle.np_check.specs.declared.counterexample.PlaceEnd.{PlaceEnd}
-use Rattle.np_check.specs.declared.counterexample.PlaceEnd.TheVariants.{At, Work}
-use Rattle.np_check.specs.declared.question.Wanted.{Wanted}
 use Rattle.np_conns.specs.Conns.{Conns}
-use Rattle.np_conns.specs.declared.port_spot.PortSpot.{PortSpot}
-use Rattle.np_model.specs.declared.lists.EstateLists.{EstateLists}
 use Rattle.np_fold.specs.Workloads.{folding_of}
 use Rattle.np_model.specs.declared.direction.Direction.{Direction}
-use Rattle.np_model.specs.declared.direction.Direction.TheVariants.{Egress, Ingress}
 use Rattle.np_table.specs.Rows.{address_rows, rows_of_addresses}
 use Rattle.np_kinds.specs.Between.{address_allows}
 use Rattle.np_table.specs.Table.{estate_table, table_of}

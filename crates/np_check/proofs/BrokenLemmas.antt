@@ -4,22 +4,16 @@ use Rattle.std.specs.List.{find, range_with_len}
 use Rattle.std.specs.Option.{option_or}
 use Rattle.std.proofs.lemmas.Bool.{cases_Bool, cases_eq}
 use Rattle.np_addr.specs.Blocks.{AddressRanges, IsAddressSet, set_has}
-use Rattle.np_addr.specs.declared.address.Address.{Address}
-use Rattle.np_addr.specs.declared.address.Address.TheVariants.{Four, Six}
-use Rattle.np_addr.specs.declared.address.Family.{Family}
+use Rattle.np_check.specs.Types.{Address, Broken, Family, Four, PortSpot, Range, Six, Wanted}
 use Rattle.np_addr.specs.declared.address.Family.TheVariants as family
 use Rattle.np_base.specs.Ranges.{IsAscending, holds}
-use Rattle.np_base.specs.declared.range.Range.{Range}
 use Rattle.np_check.proofs.FirstLemmas.{first_of-append, first_of-filter, first_of-map, first_of-none, none_both, range-append}
 use Rattle.np_check.proofs.RangeLemmas.{first_number-is}
 use Rattle.np_check.proofs.SpotLemmas.{breaks-same}
 use Rattle.np_check.specs.Counters.{addresses_in, breaks}
 use Rattle.np_check.specs.Firsts.{first_of, first_spot}
 use Rattle.np_check.specs.steps.Broken.{broken_at, broken_in, first_broken_of, first_number, with_spot}
-use Rattle.np_check.specs.declared.addresses.Broken.{Broken}
-use Rattle.np_check.specs.declared.question.Wanted.{Wanted}
 use Rattle.np_conns.specs.Conns.{Conns, has_spot}
-use Rattle.np_conns.specs.declared.port_spot.PortSpot.{PortSpot}
 use Rattle.np_table.proofs.RangeWalks.{walk-right}
 use Rattle.np_table.proofs.SetLemmas.{has_spot-conns_of}
 use Rattle.np_table.specs.Right.{AreRight, Stretch, walk}

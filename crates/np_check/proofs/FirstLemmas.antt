@@ -1,6 +1,5 @@
 -- The first of a list.
-use Rattle.std.proofs.Common.{◌≡◌, ℕ, zero, suc, ◌+◌, ◌<◌, ◌≤◌, List, [], ◌∷◌, ◌++◌, Bool, true, false, Option, Some, None, All, map, option_map, refl, sym, ap, ◌∙◌, inl, inr, arith, ◌⊎◌, add-zero}
-use Rattle.std.proofs.Common.{zero-add, if◌then◌else◌}
+use Rattle.std.proofs.Common.{◌≡◌, ℕ, zero, suc, ◌+◌, ◌<◌, ◌≤◌, List, [], ◌∷◌, ◌++◌, Bool, true, false, Option, Some, None, All, map, option_map, refl, sym, ap, ◌∙◌, inl, inr, arith, ◌⊎◌, add-zero, zero-add, if◌then◌else◌}
 use Rattle.std.specs.Prelude.{filter}
 use Rattle.std.specs.List.{find, range_with_len}
 use Rattle.std.specs.Option.{option_or}

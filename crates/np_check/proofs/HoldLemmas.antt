@@ -1,14 +1,12 @@
 -- Nothing is found exactly where the statement holds.
-use Rattle.std.proofs.Common.{◌≡◌, ◌≢◌, ℕ, ◌+◌, ◌<◌, ◌==◌, ◌&&◌, nat_le, List, [], ◌∷◌, Bool, true, false, Option, Some, None, All, Contains, length, slice_index, refl, sym, ap, subst, ◌∙◌, inl}
-use Rattle.std.proofs.Common.{inr, arith, if◌then◌else◌}
+use Rattle.std.proofs.Common.{◌≡◌, ◌≢◌, ℕ, ◌+◌, ◌<◌, ◌==◌, ◌&&◌, nat_le, List, [], ◌∷◌, Bool, true, false, Option, Some, None, All, Contains, length, slice_index, refl, sym, ap, subst, ◌∙◌, inl, inr, arith, if◌then◌else◌}
 use Rattle.std.specs.List.{slice_get}
 use Rattle.std.specs.Option.{option_map, option_map_or}
 use Rattle.std.proofs.lemmas.Bool.{and_parts, cases_Bool, cases_eq, leb-true, eq-eqb}
 use Rattle.std.proofs.lemmas.List.Elements.{All-contains}
 use Rattle.std.proofs.lemmas.Option.{slice_get-map}
 use Rattle.np_addr.specs.Addresses.{family_of}
-use Rattle.np_addr.specs.declared.address.Address.{Address}
-use Rattle.np_addr.specs.declared.address.Family.{Family}
+use Rattle.np_check.specs.Types.{Address, At, Egress, EstateLists, Family, Ingress, PlaceEnd, PortSpot, Question, Wanted, Work}
 use Rattle.np_classes.specs.Classes.{members}
 use Rattle.np_check.proofs.FirstLemmas.{first_of-one, none_both}
 use Rattle.np_check.proofs.NoneLemmas.{both_none, is_whole, no_address, no_addresses, no_spot, no_spots, none_all, none_at, none_map, not_broken}
@@ -19,18 +17,11 @@ use Rattle.np_check.specs.Counters.{addresses_of, breaks, complies, counter_at, 
 use Rattle.np_check.specs.Firsts.{first_of, first_spot}
 use Rattle.np_check.specs.Holding.{HasAddress, Holds}
 use Rattle.np_check.specs.Numbers.{ascends_from}
-use Rattle.np_check.specs.declared.counterexample.PlaceEnd.{PlaceEnd}
-use Rattle.np_check.specs.declared.counterexample.PlaceEnd.TheVariants.{At, Work}
-use Rattle.np_check.specs.declared.question.Question.{Question}
-use Rattle.np_check.specs.declared.question.Wanted.{Wanted}
 use Rattle.np_conns.specs.Conns.{Conns, has_spot, is_spot}
-use Rattle.np_conns.specs.declared.port_spot.PortSpot.{PortSpot}
 use Rattle.np_model.specs.Families.{families_of}
 use Rattle.np_model.specs.Lawful.{IsLawful}
-use Rattle.np_model.specs.declared.lists.EstateLists.{EstateLists}
 use Rattle.np_fold.specs.Workloads.{Workload, folding_of, first_of as first_named, members_of, named_first_pods, number_of, pods_alike, workload, workloads_of}
 use Rattle.np_names.specs.declared.named.Named.{Named}
-use Rattle.np_model.specs.declared.direction.Direction.TheVariants.{Egress, Ingress}
 use Rattle.np_kinds.proofs.MemberLemmas.{destination-member, member-number, members-some, members-within, not-alone, own-member, source-member}
 use Rattle.np_kinds.proofs.PairLemmas.{between_pods-pair_allows, pair_allows-between, with_address-address_allows}
 use Rattle.np_kinds.specs.Between.{IsWorkload, address_allows, destination_pod, is_alone, pair_allows, source_pod}

@@ -1,7 +1,7 @@
 -- What is found is the first packet that breaks the statement.
 use Rattle.std.proofs.Common.{◌≡◌, ℕ, ◌≤◌, nat_le, [], ◌∷◌, Bool, true, false, Option, Some, None, Contains, option_map, refl, sym, ap, subst, ◌∙◌, inl, inr, arith}
 use Rattle.std.proofs.lemmas.Bool.{and_from, and_parts, cases_Bool, cases_lt, le-leb, leb-true, true≢false}
-use Rattle.np_addr.specs.declared.address.Family.{Family}
+use Rattle.np_check.specs.Types.{Counterexample, EstateLists, Family, PlaceEnd, PortSpot, Proto, Question, Sctp, Tcp, Udp}
 use Rattle.np_check.proofs.FirstLemmas.{IsFound, found-is}
 use Rattle.np_check.proofs.NoneLemmas.{no_port, no_spot, none_at, none_map}
 use Rattle.np_check.proofs.OrderLemmas.{between_sorted, found_of, in_places, places_are, places_sorted, proto_in, protos_sorted}
@@ -11,14 +11,7 @@ use Rattle.np_check.specs.FirstPacket.{IsBroken, IsFirstBroken}
 use Rattle.np_check.specs.Firsts.{first_of_ports, first_of_proto, first_spot}
 use Rattle.np_check.specs.Numbers.{is_ascending}
 use Rattle.np_check.specs.Order.{comes_before, family_before, proto_before}
-use Rattle.np_check.specs.declared.counterexample.Counterexample.{Counterexample}
-use Rattle.np_check.specs.declared.counterexample.PlaceEnd.{PlaceEnd}
-use Rattle.np_check.specs.declared.question.Question.{Question}
 use Rattle.np_conns.specs.Conns.{is_spot}
-use Rattle.np_conns.specs.declared.port_spot.PortSpot.{PortSpot}
-use Rattle.np_conns.specs.declared.proto.Proto.{Proto}
-use Rattle.np_conns.specs.declared.proto.Proto.TheVariants.{Tcp, Udp, Sctp}
-use Rattle.np_model.specs.declared.lists.EstateLists.{EstateLists}
 
 -- ---- where nothing is found no packet is broken
 

@@ -6,17 +6,13 @@ use Rattle.std.specs.Option.{option_or}
 use Rattle.std.proofs.lemmas.Bool.{cases_Bool, lt-ltb}
 use Rattle.std.proofs.lemmas.Option.{none-some, same_Some}
 use Rattle.np_addr.specs.Blocks.{AddressRanges, set_has}
-use Rattle.np_addr.specs.declared.address.Address.{Address}
-use Rattle.np_addr.specs.declared.address.Address.TheVariants.{Four, Six}
+use Rattle.np_check.specs.Types.{Address, At, Counterexample, Four, PlaceEnd, Six}
 use Rattle.np_check.proofs.FirstLemmas.{from_either}
 use Rattle.np_check.proofs.SortedLemmas.{SortedBy, address_back, address_itself, sorted_append}
 use Rattle.np_check.specs.Counters.{addresses_in, addresses_of}
 use Rattle.np_check.specs.Firsts.{first_of}
 use Rattle.np_check.specs.Order.{address_before, comes_before}
 use Rattle.np_check.specs.steps.Broken.{earlier}
-use Rattle.np_check.specs.declared.counterexample.Counterexample.{Counterexample}
-use Rattle.np_check.specs.declared.counterexample.PlaceEnd.{PlaceEnd}
-use Rattle.np_check.specs.declared.counterexample.PlaceEnd.TheVariants.{At}
 
 -- ---- addresses in their order
 

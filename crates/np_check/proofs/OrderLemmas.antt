@@ -8,9 +8,7 @@ use Rattle.std.proofs.lemmas.List.Elements.{All-contains, All-from_recursion, Co
 use Rattle.std.proofs.lemmas.Option.{none-some}
 use Rattle.np_addr.specs.Addresses.{IsAddress}
 use Rattle.np_addr.specs.Blocks.{AddressRanges, set_has}
-use Rattle.np_addr.specs.declared.address.Address.{Address}
-use Rattle.np_addr.specs.declared.address.Address.TheVariants.{Four, Six}
-use Rattle.np_addr.specs.declared.address.Family.{Family}
+use Rattle.np_check.specs.Types.{Address, At, Ends, EstateLists, Family, Four, PlaceEnd, Proto, Sctp, Six, Tcp, Udp, Work}
 use Rattle.np_addr.specs.declared.address.Family.TheVariants as family
 use Rattle.np_check.proofs.MemberLemmas.{at_first, first_or_later, from_filter, from_map, from_range, further_on, in_filter, in_map, in_range}
 use Rattle.np_check.proofs.MergeLemmas.{addresses-ascend}
@@ -20,13 +18,7 @@ use Rattle.np_check.specs.FirstPacket.{IsEndOf}
 use Rattle.np_check.specs.Firsts.{first_of}
 use Rattle.np_check.specs.Numbers.{is_ascending}
 use Rattle.np_check.specs.Order.{address_before, comes_before, family_before, proto_before}
-use Rattle.np_check.specs.declared.counterexample.PlaceEnd.{PlaceEnd}
-use Rattle.np_check.specs.declared.counterexample.PlaceEnd.TheVariants.{At, Work}
-use Rattle.np_check.specs.declared.question.Ends.{Ends}
-use Rattle.np_conns.specs.declared.proto.Proto.{Proto}
-use Rattle.np_conns.specs.declared.proto.Proto.TheVariants.{Tcp, Udp, Sctp}
 use Rattle.np_model.specs.Families.{families_of, has_family, or_four}
-use Rattle.np_model.specs.declared.lists.EstateLists.{EstateLists}
 use Rattle.np_model.specs.declared.pod.Pod.{Pod}
 use Rattle.np_fold.specs.Workloads.{folding_of}
 use Rattle.np_kinds.specs.Between.{is_alone}

@@ -1,17 +1,11 @@
 -- The first packet of all, by workloads and by addresses as sources.
 use Rattle.std.proofs.Common.{◌≡◌, ℕ, Option, None, map, refl, ap, ◌∙◌}
 use Rattle.std.specs.Option.{option_or}
-use Rattle.np_addr.specs.declared.address.Address.{Address}
+use Rattle.np_check.specs.Types.{Address, At, Counterexample, Ends, EstateLists, Question, Wanted, Work}
 use Rattle.np_check.proofs.FirstLemmas.{first_of-append, first_of-map, first_of-none, first_of-same, or_none}
 use Rattle.np_check.specs.Counters.{addresses_of, counter_between, counter_from, counter_of}
 use Rattle.np_check.specs.Firsts.{first_of}
-use Rattle.np_check.specs.declared.counterexample.Counterexample.{Counterexample}
-use Rattle.np_check.specs.declared.counterexample.PlaceEnd.TheVariants.{At, Work}
-use Rattle.np_check.specs.declared.question.Ends.{Ends}
-use Rattle.np_check.specs.declared.question.Question.{Question}
-use Rattle.np_check.specs.declared.question.Wanted.{Wanted}
 use Rattle.np_conns.specs.Conns.{Conns}
-use Rattle.np_model.specs.declared.lists.EstateLists.{EstateLists}
 
 -- no packet of two addresses is spoken of
 between_addresses : (lists : EstateLists) (wanted : Wanted) (conns : Conns) (address other : Address) → counter_between lists wanted conns (At address) (At other) ≡ None

@@ -3,13 +3,8 @@ use Rattle.std.specs.Prelude.{◌≡◌, ◌≤◌, true, false, Contains}
 use Rattle.np_check.specs.Counters.{allows_between, breaks, families_between}
 use Rattle.np_check.specs.Holding.{HasAddress}
 use Rattle.np_check.specs.Order.{comes_before, family_before, proto_before}
-use Rattle.np_check.specs.declared.counterexample.Counterexample.{Counterexample}
-use Rattle.np_check.specs.declared.counterexample.PlaceEnd.{PlaceEnd}
-use Rattle.np_check.specs.declared.counterexample.PlaceEnd.TheVariants.{At, Work}
-use Rattle.np_check.specs.declared.question.Ends.{Ends}
-use Rattle.np_check.specs.declared.question.Question.{Question}
+use Rattle.np_check.specs.Types.{At, Counterexample, Ends, EstateLists, PlaceEnd, Question, Work}
 use Rattle.np_conns.specs.Conns.{is_spot}
-use Rattle.np_model.specs.declared.lists.EstateLists.{EstateLists}
 
 -- the end is one of a side
 abbrev pub IsEndOf : Ends → PlaceEnd → Type 0

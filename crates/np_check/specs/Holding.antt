@@ -2,17 +2,11 @@
 use Rattle.std.specs.Prelude.{◌≡◌, ◌≢◌, ◌<◌, ℕ, true, Contains, length}
 use Rattle.np_addr.specs.Addresses.{IsAddress, family_of}
 use Rattle.np_addr.specs.Blocks.{set_has}
-use Rattle.np_addr.specs.declared.address.Address.{Address}
-use Rattle.np_addr.specs.declared.address.Family.{Family}
+use Rattle.np_check.specs.Types.{Address, Egress, Ends, EstateLists, Family, Ingress, PortSpot, Question}
 use Rattle.np_check.specs.Counters.{complies, number_of_address}
-use Rattle.np_check.specs.declared.question.Ends.{Ends}
-use Rattle.np_check.specs.declared.question.Question.{Question}
 use Rattle.np_conns.specs.Conns.{has_spot, is_spot}
-use Rattle.np_conns.specs.declared.port_spot.PortSpot.{PortSpot}
 use Rattle.np_model.specs.Families.{families_of}
-use Rattle.np_model.specs.declared.lists.EstateLists.{EstateLists}
 use Rattle.np_fold.specs.Workloads.{number_of}
-use Rattle.np_model.specs.declared.direction.Direction.TheVariants.{Egress, Ingress}
 use Rattle.np_rules.specs.model.Ends.{pod}
 use Rattle.np_rules.specs.model.Verdict.{pod_at}
 use Rattle.np_kinds.specs.Between.{between_pods, with_address}

@@ -4,4 +4,5 @@ pub mod Firsts
 pub mod Holding
 pub mod Numbers
 pub mod Order
+pub mod Types
 pub mod steps

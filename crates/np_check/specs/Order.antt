@@ -1,13 +1,8 @@
 -- The order of packets by their ends, families, protocols and ports.
 use Rattle.std.specs.Prelude.{Bool, true, false, nat_lt}
-use Rattle.np_addr.specs.declared.address.Address.{Address}
+use Rattle.np_check.specs.Types.{Address, At, Family, PlaceEnd, Proto, Sctp, Tcp, Udp, Work}
 use Rattle.np_addr.specs.declared.address.Address.TheVariants as address
-use Rattle.np_addr.specs.declared.address.Family.{Family}
 use Rattle.np_addr.specs.declared.address.Family.TheVariants as family
-use Rattle.np_check.specs.declared.counterexample.PlaceEnd.{PlaceEnd}
-use Rattle.np_check.specs.declared.counterexample.PlaceEnd.TheVariants.{At, Work}
-use Rattle.np_conns.specs.declared.proto.Proto.{Proto}
-use Rattle.np_conns.specs.declared.proto.Proto.TheVariants.{Tcp, Udp, Sctp}
 
 -- IPv4 before IPv6, and each family's by their numbers
 abbrev pub address_before : Address → Address → Bool

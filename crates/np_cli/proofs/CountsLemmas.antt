@@ -5,7 +5,7 @@ use Rattle.np_cli.specs.Runs.{ran}
 use Rattle.np_command.specs.Sinks.{SinkTrace}
 use Rattle.np_frame.specs.Sources.{AreTold, SourceTrace}
 use Rattle.np_frame.specs.Words.{names_of, objects_of}
-use Rattle.np_args.specs.declared.job.Job.{Job}
+use Rattle.np_cli.specs.Types.{Job}
 
 -- no rule was looked at
 RoseAtMost-still : (most : Option ℕ) (steps : ℕ) → RoseAtMost most steps steps

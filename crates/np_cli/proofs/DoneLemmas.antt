@@ -9,17 +9,9 @@ use Rattle.np_cli.specs.Causes.{Cause}
 use Rattle.np_cli.specs.Runs.{Run, KnowsBytes}
 use Rattle.np_command.specs.Sinks.{SinkTrace, TookWhole}
 use Rattle.np_cli.specs.Statuses.{status_of}
-use Rattle.np_command.specs.declared.failure.Failure.{Failure}
-use Rattle.np_command.specs.declared.failure.Failure.TheVariants.{Usage, TooLarge, Refused, CannotRead, CannotWrite, NoMemory}
-use Rattle.np_command.specs.declared.fault.Fault.{Fault}
-use Rattle.np_frame.specs.declared.notes.ReportNotes.{ReportNotes}
-use Rattle.np_cli.specs.declared.outcome.Ending.{Ending}
-use Rattle.np_cli.specs.declared.outcome.Ending.TheVariants.{Done, Violated}
-use Rattle.np_command.specs.declared.status.Status.{Status}
+use Rattle.np_cli.specs.Types.{CannotRead, CannotWrite, Done, Ending, EstateLists, Failure, Fault, Job, NoMemory, Refused, ReportNotes, Status, TooLarge, Usage, Violated}
 use Rattle.np_command.specs.declared.status.Status.TheVariants as status
 use Rattle.np_model.specs.Lawful.{IsLawful}
-use Rattle.np_model.specs.declared.lists.EstateLists.{EstateLists}
-use Rattle.np_args.specs.declared.job.Job.{Job}
 
 -- the bytes are those of a lawful estate, the job's reply on it is no fault, the sink took its text, and the report ends so
 pub record IsWritten (out : SinkTrace) (job : Job) (texts : List (List ℕ)) (ends : Ending) : Type 0 where

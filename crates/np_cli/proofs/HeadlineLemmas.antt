@@ -1,7 +1,6 @@
 -- What reports say, from what was written of them.
 use Rattle.std.proofs.Common.{◌≡◌, ℕ, List, Bool, true, false, Option, Some, None, Result, Ok, Err, refl, sym, subst, ◌∙◌}
-use Rattle.np_args.specs.declared.job.Job.{Job}
-use Rattle.np_args.specs.declared.job.Job.TheVariants.{Check, Evaluate, Explain, Exposure, Flatten, List as ListJob, Sample, Unused}
+use Rattle.np_cli.specs.Types.{CannotRead, CannotWrite, Check, Done, Ending, EstateLists, Evaluate, Explain, Exposure, Failure, Fault, Flatten, Job, List as ListJob, NoMemory, Refused, ReportNotes, Sample, Status, TooLarge, Unused, Usage, Violated}
 use Rattle.np_cli.proofs.DoneLemmas.{written-told}
 use Rattle.np_frame.specs.Words.{objects_of}
 use Rattle.np_cli.specs.Answers.{ending, ends_so, holds, reply, report_notes}
@@ -10,16 +9,9 @@ use Rattle.np_cli.specs.Outcomes.{RefusesFor, Says}
 use Rattle.np_cli.specs.Promises.{SaysOfInputs}
 use Rattle.np_cli.specs.Runs.{Run}
 use Rattle.np_cli.specs.Statuses.{ending_status, status_of}
-use Rattle.np_frame.specs.declared.notes.ReportNotes.{ReportNotes}
-use Rattle.np_cli.specs.declared.outcome.Ending.{Ending}
-use Rattle.np_cli.specs.declared.outcome.Ending.TheVariants.{Done, Violated}
 use Rattle.np_command.specs.Prints.{fault_in, text_in}
 use Rattle.np_command.specs.Sinks.{SinkTrace, TookWhole}
 use Rattle.np_command.specs.Statuses.{failure_status}
-use Rattle.np_command.specs.declared.failure.Failure.{Failure}
-use Rattle.np_command.specs.declared.failure.Failure.TheVariants.{Usage, TooLarge, Refused, CannotRead, CannotWrite, NoMemory}
-use Rattle.np_command.specs.declared.fault.Fault.{Fault}
-use Rattle.np_command.specs.declared.status.Status.{Status}
 use Rattle.np_command_check.proofs.PromiseLemmas.{promised-broken, promised-held, refused as check_refused}
 use Rattle.np_command_check.specs.Report.{all_hold, statement_bytes}
 use Rattle.np_command_evaluate.proofs.PromiseLemmas.{promised as evaluate_promised, refused as evaluate_refused}
@@ -29,7 +21,6 @@ use Rattle.np_command_flatten.proofs.PromiseLemmas.{promised as flatten_promised
 use Rattle.np_command_list.proofs.PromiseLemmas.{promised as list_promised, refused as list_refused}
 use Rattle.np_command_unused.proofs.PromiseLemmas.{promised as unused_promised}
 use Rattle.np_model.specs.Lawful.{IsLawful}
-use Rattle.np_model.specs.declared.lists.EstateLists.{EstateLists}
 
 -- ---- what a report says
 

@@ -4,8 +4,7 @@ use Rattle.std.specs.Io.KnownBytes.{append_known}
 use Rattle.std.specs.Prelude.{◌⊎◌}
 use Rattle.np_io.specs.Taken.{TookFront, TookLess}
 use Rattle.np_io.proofs.TakenLemmas.{append_known-nil}
-use Rattle.np_args.specs.declared.job.Job.{Job}
-use Rattle.np_args.specs.declared.job.Job.TheVariants.{Check, Evaluate, Explain, Exposure, Flatten, List as ListJob, Sample, Unused}
+use Rattle.np_cli.specs.Types.{CannotRead, CannotWrite, Check, Done, Ending, EstateLists, Evaluate, Explain, Exposure, Failure, Fault, Flatten, Job, List as ListJob, NoMemory, Refused, Sample, TooLarge, Unused, Usage, Violated}
 use Rattle.np_cli.proofs.HeadlineLemmas.{refuses-for, says-of}
 use Rattle.np_cli.proofs.RunsLemmas.{output-fits}
 use Rattle.np_cli.specs.Answers.{ending, ending_in, ending_of, ends_so, holds, output, refusal, reply, reply_in, report_notes, text_of}
@@ -14,18 +13,12 @@ use Rattle.np_cli.specs.Outcomes.{HaveFault, IsReportOn, Leaves, NotesLeftOut, R
 use Rattle.np_cli.specs.Runs.{Run}
 use Rattle.np_frame.specs.Sources.{is_too_large}
 use Rattle.np_frame.specs.Words.{inputs_of, object_texts, objects_of}
-use Rattle.np_cli.specs.declared.outcome.Ending.{Ending}
-use Rattle.np_cli.specs.declared.outcome.Ending.TheVariants.{Done, Violated}
 use Rattle.np_command.proofs.InputLemmas.{read-small}
 use Rattle.np_command.specs.Inputs.{lists_of}
 use Rattle.np_command.specs.Prints.{fault_in, text_in}
 use Rattle.np_command.specs.Sinks.{SinkTrace}
-use Rattle.np_command.specs.declared.failure.Failure.{Failure}
-use Rattle.np_command.specs.declared.failure.Failure.TheVariants.{Usage, TooLarge, Refused, CannotRead, CannotWrite, NoMemory}
-use Rattle.np_command.specs.declared.fault.Fault.{Fault}
 use Rattle.np_manifests.proofs.LawfulReads.{estate-lawful}
 use Rattle.np_model.specs.Lawful.{IsLawful}
-use Rattle.np_model.specs.declared.lists.EstateLists.{EstateLists}
 use Rattle.np_reading.specs.Reading.{estate_of}
 
 -- ---- what is read is lawful

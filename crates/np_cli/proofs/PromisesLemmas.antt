@@ -18,13 +18,7 @@ use Rattle.np_frame.specs.Sources.{FailedAt, SourceTrace}
 use Rattle.np_cli.specs.Statuses.{ending_status, status_of}
 use Rattle.np_frame.specs.Words.{names_asked}
 use Rattle.np_frame.proofs.SourcesLemmas.{Contains-middle}
-use Rattle.np_command.specs.declared.fault.Fault.{Fault}
-use Rattle.np_args.specs.declared.job.Job.{Job}
-use Rattle.np_command.specs.declared.failure.Failure.{Failure}
-use Rattle.np_command.specs.declared.failure.Failure.TheVariants.{Usage, TooLarge, Refused, CannotRead, CannotWrite, NoMemory}
-use Rattle.np_cli.specs.declared.outcome.Ending.{Ending}
-use Rattle.np_cli.specs.declared.outcome.Ending.TheVariants.{Done, Violated}
-use Rattle.np_command.specs.declared.status.Status.{Status}
+use Rattle.np_cli.specs.Types.{CannotRead, CannotWrite, Done, Ending, Failure, Fault, Job, NoMemory, Refused, Status, TooLarge, Usage, Violated}
 use Rattle.np_command.specs.declared.status.Status.TheVariants as status
 
 still_or_rose : (old new : ℕ) → IsStill old new → Rose old new → ⊥

@@ -15,13 +15,9 @@ use Rattle.np_command.specs.Sinks.{SinkTrace, IsKept, TookWhole}
 use Rattle.np_frame.specs.Sources.{AreTold, BeganFront, FailedAt, IsUntouched, OverLimit, ReadOnce, SourceTrace, Unread, is_too_large, total_size}
 use Rattle.np_frame.specs.declared.sources.TheConstants.{SIZE_LIMIT}
 use Rattle.np_frame.specs.Words.{names_asked, names_of, objects_of}
-use Rattle.np_args.specs.declared.job.Job.{Job}
-use Rattle.np_command.specs.declared.failure.Failure.{Failure}
-use Rattle.np_command.specs.declared.failure.Failure.TheVariants.{Usage, TooLarge, Refused, CannotRead, CannotWrite, NoMemory}
-use Rattle.np_command.specs.declared.fault.Fault.{Fault}
+use Rattle.np_cli.specs.Types.{CannotRead, CannotWrite, Ending, Failure, Fault, Job, NoMemory, Refused, TooLarge, Usage}
 use Rattle.np_frame.specs.declared.sources.SourceFault.{SourceFault}
 use Rattle.np_frame.specs.declared.sources.SourceFault.TheVariants as unread
-use Rattle.np_cli.specs.declared.outcome.Ending.{Ending}
 use Rattle.np_args.specs.declared.words_fault.WordsFault.{WordsFault}
 use Rattle.np_args.specs.declared.words_fault.WordsFault.TheVariants as words
 use Rattle.np_command.proofs.SinkLemmas.{TookLess-kept}

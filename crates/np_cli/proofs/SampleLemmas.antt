@@ -13,20 +13,13 @@ use Rattle.np_frame.specs.Sources.{AreTold}
 use Rattle.np_cli.specs.Statuses.{status_of}
 use Rattle.np_frame.specs.Words.{names_asked, objects_of}
 use Rattle.np_command_sample.specs.Report.{HasFewRows}
-use Rattle.np_command.specs.declared.failure.Failure.{Failure}
-use Rattle.np_command.specs.declared.failure.Failure.TheVariants.{Usage, TooLarge, Refused, CannotRead, CannotWrite, NoMemory}
-use Rattle.np_cli.specs.declared.outcome.Ending.{Ending}
-use Rattle.np_cli.specs.declared.outcome.Ending.TheVariants.{Done, Violated}
-use Rattle.np_command.specs.declared.status.Status.{Status}
+use Rattle.np_cli.specs.Types.{CannotRead, CannotWrite, Done, Ending, EstateLists, Failure, Job, NoMemory, Refused, Sample as SampleJob, Status, TooLarge, Usage, Violated}
 use Rattle.np_command.specs.declared.status.Status.TheVariants as status
 use Rattle.np_sample.proofs.RowCountLemmas.{length-rows-sample}
 use Rattle.np_sample.specs.Estate.{sample_estate}
 use Rattle.np_sample.specs.Sample.{sample_text}
-use Rattle.np_model.specs.declared.lists.EstateLists.{EstateLists}
-use Rattle.np_args.specs.declared.job.Job.{Job}
 use Rattle.np_args.specs.Jobs.{IsWell}
 use Rattle.np_args.specs.declared.job.Job.TheVariants as jobs
-use Rattle.np_args.specs.declared.job.Job.TheVariants.{Sample as SampleJob}
 use Rattle.np_command_sample.proofs.PromiseLemmas.{lists_of-sample, one_estate, promised}
 
 -- ---- counting

@@ -1,11 +1,10 @@
 -- What a job prints for its inputs, or why it refuses them.
 use Rattle.std.specs.Prelude.{ℕ, List, [], Bool, true, false, Option, Some, None, Result, Ok, Err, if◌then◌else◌}
 use Rattle.np_model.specs.Lawful.{IsLawful}
-use Rattle.np_model.specs.declared.lists.EstateLists.{EstateLists}
+use Rattle.np_cli.specs.Types.{Check, Done, Ending, EstateLists, Evaluate, Explain, Exposure, Fault, Flatten, Job, List as ListJob, ReportNotes, Sample, Unused, Violated}
 use Rattle.np_frame.specs.Sources.{is_too_large}
 use Rattle.np_frame.specs.Words.{objects_of}
-use Rattle.np_command_check.specs.Report.{statement_bytes}
-use Rattle.np_command_check.specs.Report.{all_hold, check_reply}
+use Rattle.np_command_check.specs.Report.{statement_bytes, all_hold, check_reply}
 use Rattle.np_command_evaluate.specs.Report.{evaluate_reply}
 use Rattle.np_command_explain.specs.Report.{explain_reply}
 use Rattle.np_command_exposure.specs.Report.{exposure_reply}
@@ -13,13 +12,7 @@ use Rattle.np_command_flatten.specs.Report.{flatten_reply}
 use Rattle.np_command_list.specs.Report.{list_reply}
 use Rattle.np_command_sample.specs.Report.{HasFewRows, sample_summary}
 use Rattle.np_command_unused.specs.Report.{unused_text}
-use Rattle.np_command.specs.declared.fault.Fault.{Fault}
-use Rattle.np_frame.specs.declared.notes.ReportNotes.{ReportNotes}
-use Rattle.np_cli.specs.declared.outcome.Ending.{Ending}
-use Rattle.np_cli.specs.declared.outcome.Ending.TheVariants.{Done, Violated}
 use Rattle.np_routes.specs.RouteNotes.{notes_of_routes}
-use Rattle.np_args.specs.declared.job.Job.{Job}
-use Rattle.np_args.specs.declared.job.Job.TheVariants.{Check, Evaluate, Explain, Exposure, Flatten, List as ListJob, Sample, Unused}
 use Rattle.np_command.specs.Prints.{fault_in, text_in}
 
 -- ---- what is printed

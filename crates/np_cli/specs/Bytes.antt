@@ -10,11 +10,8 @@ use Rattle.np_command.specs.Sinks.{SinkTrace, IsKept, TookWhole, Said}
 use Rattle.np_frame.specs.Sources.{is_too_large}
 use Rattle.np_cli.specs.Statuses.{ending_status}
 use Rattle.np_command.specs.declared.failure.Failure.TheVariants as failure
-use Rattle.np_command.specs.declared.fault.Fault.{Fault}
-use Rattle.np_command.specs.declared.status.Status.{Status}
+use Rattle.np_cli.specs.Types.{Fault, Job, Sample as SampleJob, Status}
 use Rattle.np_command.specs.declared.status.Status.TheVariants as status
-use Rattle.np_args.specs.declared.job.Job.{Job}
-use Rattle.np_args.specs.declared.job.Job.TheVariants.{Sample as SampleJob}
 
 -- Accepted inputs that the source tells, with no failing call, are answered with the whole text, with the status of how it
 -- ends and with what is then said, or for want of memory.

@@ -9,12 +9,7 @@ use Rattle.np_command.specs.Sinks.{SinkTrace, IsKept, TookWhole, Said}
 use Rattle.np_frame.specs.Sources.{BeganFront, ReadOnce, is_too_large}
 use Rattle.np_cli.specs.Statuses.{status_of}
 use Rattle.np_frame.specs.Words.{names_asked, names_of, objects_of}
-use Rattle.np_command.specs.declared.failure.Failure.{Failure}
-use Rattle.np_command.specs.declared.failure.Failure.TheVariants.{Usage, CannotRead, TooLarge, Refused, CannotWrite, NoMemory}
-use Rattle.np_command.specs.declared.fault.Fault.{Fault}
-use Rattle.np_cli.specs.declared.outcome.Ending.{Ending}
-use Rattle.np_command.specs.declared.status.Status.{Status}
-use Rattle.np_args.specs.declared.job.Job.{Job}
+use Rattle.np_cli.specs.Types.{CannotRead, CannotWrite, Ending, Failure, Fault, Job, NoMemory, Refused, Status, TooLarge, Usage}
 
 -- the inputs are not too large, and have no fault
 pub record IsAccepted (job : Job) (texts : List (List ℕ)) : Type 0 where

@@ -2,10 +2,7 @@
 use Rattle.std.specs.Prelude.{◌≡◌, ℕ, ◌+◌, ◌≤◌, List, Option, Some, None, Result, Ok, Err}
 use Rattle.np_frame.specs.Words.{objects_of}
 use Rattle.np_cli.specs.Runs.{Run, KnowsBytes}
-use Rattle.np_command.specs.declared.fault.Fault.{Fault}
-use Rattle.np_args.specs.declared.job.Job.{Job}
-use Rattle.np_args.specs.declared.job.Job.TheVariants.{Check, Evaluate, Explain, Exposure, Flatten, List as ListJob, Sample, Unused}
-use Rattle.np_model.specs.declared.lists.EstateLists.{EstateLists}
+use Rattle.np_cli.specs.Types.{Check, EstateLists, Evaluate, Explain, Exposure, Fault, Flatten, Job, List as ListJob, Sample, Unused}
 use Rattle.np_command.specs.TableSteps.{list_steps}
 
 -- for a job on what its inputs say: for the two that make all rows of a table; no number is stated for the others

@@ -8,3 +8,4 @@ pub mod Prints
 pub mod Promises
 pub mod Runs
 pub mod Statuses
+pub mod Types

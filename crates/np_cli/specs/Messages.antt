@@ -1,8 +1,6 @@
 -- What is said of a run on the error sink.
 use Rattle.std.specs.Prelude.{ℕ, List, [], Result, Ok, Err}
-use Rattle.np_command.specs.declared.failure.Failure.{Failure}
-use Rattle.np_cli.specs.declared.outcome.Ending.{Ending}
-use Rattle.np_cli.specs.declared.outcome.Ending.TheVariants.{Done, Violated}
+use Rattle.np_cli.specs.Types.{Done, Ending, Failure, Violated}
 use Rattle.np_frame.specs.NoteTexts.{notes_text}
 use Rattle.np_command.specs.Messages.{failure_text}
 

@@ -18,15 +18,7 @@ use Rattle.np_command_exposure.specs.Promise.{ExposesAll, RefusesExposure}
 use Rattle.np_command_flatten.specs.Promise.{FlattensAll, RefusesFlatten}
 use Rattle.np_command_list.specs.Promise.{RefusesList, SaysAll}
 use Rattle.np_command_unused.specs.Promise.{ListsUnused}
-use Rattle.np_model.specs.declared.lists.EstateLists.{EstateLists}
-use Rattle.np_command.specs.declared.failure.Failure.{Failure}
-use Rattle.np_command.specs.declared.failure.Failure.TheVariants.{Usage, CannotRead, TooLarge, Refused, CannotWrite, NoMemory}
-use Rattle.np_command.specs.declared.fault.Fault.{Fault}
-use Rattle.np_cli.specs.declared.outcome.Ending.{Ending}
-use Rattle.np_cli.specs.declared.outcome.Ending.TheVariants.{Done, Violated}
-use Rattle.np_command.specs.declared.status.Status.{Status}
-use Rattle.np_args.specs.declared.job.Job.{Job}
-use Rattle.np_args.specs.declared.job.Job.TheVariants.{Check, Evaluate, Explain, Exposure, Flatten, List as ListJob, Sample, Unused}
+use Rattle.np_cli.specs.Types.{CannotRead, CannotWrite, Check, Done, Ending, EstateLists, Evaluate, Explain, Exposure, Failure, Fault, Flatten, Job, List as ListJob, NoMemory, Refused, Sample, Status, TooLarge, Unused, Usage, Violated}
 
 -- ---- what a report says, and why there is none
 

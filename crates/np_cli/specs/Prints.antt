@@ -3,9 +3,7 @@ use Rattle.std.specs.Prelude.{◌≡◌, ℕ, List, Result, Ok, Err}
 use Rattle.np_frame.specs.Words.{objects_of}
 use Rattle.np_cli.specs.Answers.{IsLawfulIn, ending_in, reply_in}
 use Rattle.np_command.specs.Sinks.{SinkTrace}
-use Rattle.np_command.specs.declared.failure.Failure.{Failure}
-use Rattle.np_cli.specs.declared.outcome.Ending.{Ending}
-use Rattle.np_args.specs.declared.job.Job.{Job}
+use Rattle.np_cli.specs.Types.{Ending, Failure, Job}
 use Rattle.np_command.specs.Prints.{Wrote, WroteAll}
 
 -- the reply of a job by the bytes that it read, and how its report ends

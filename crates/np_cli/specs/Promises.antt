@@ -9,11 +9,9 @@ use Rattle.np_frame.specs.Sources.{BeganFront, is_too_large}
 use Rattle.np_cli.specs.Statuses.{ending_status}
 use Rattle.np_frame.specs.Words.{names_asked}
 use Rattle.np_command.specs.declared.failure.Failure.TheVariants as failure
-use Rattle.np_cli.specs.declared.outcome.Ending.{Ending}
+use Rattle.np_cli.specs.Types.{Ending, Job, Status}
 use Rattle.np_frame.specs.declared.sources.TheConstants.{SIZE_LIMIT}
-use Rattle.np_command.specs.declared.status.Status.{Status}
 use Rattle.np_command.specs.declared.status.Status.TheVariants as status
-use Rattle.np_args.specs.declared.job.Job.{Job}
 
 -- a count did not rise, and does not stand at its end
 pub record IsStill (old new : ℕ) : Type 0 where

@@ -3,7 +3,7 @@ use Rattle.std.specs.Prelude.{◌≡◌, ℕ, List, Option, None, is_some, true}
 use Rattle.np_frame.specs.Sources.{SourceTrace, AreTold, FailedAt, IsUntouched, OverLimit}
 use Rattle.np_frame.specs.Words.{names_asked}
 use Rattle.np_command.specs.Sinks.{SinkTrace, IsKept}
-use Rattle.np_args.specs.declared.job.Job.{Job}
+use Rattle.np_cli.specs.Types.{Job}
 
 -- a run: what the words ask for, and what it did to the source and to the sink of the report
 pub record Run : Type 0 where

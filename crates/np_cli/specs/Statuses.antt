@@ -1,9 +1,7 @@
 -- The status of each outcome.
 use Rattle.std.specs.Prelude.{Result, Ok, Err}
-use Rattle.np_command.specs.declared.failure.Failure.{Failure}
-use Rattle.np_cli.specs.declared.outcome.Ending.{Ending}
+use Rattle.np_cli.specs.Types.{Ending, Failure, Status}
 use Rattle.np_cli.specs.declared.outcome.Ending.TheVariants as ending
-use Rattle.np_command.specs.declared.status.Status.{Status}
 use Rattle.np_command.specs.declared.status.Status.TheVariants as status
 use Rattle.np_command.specs.Statuses.{failure_status}
 

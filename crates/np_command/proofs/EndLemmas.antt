@@ -3,8 +3,7 @@ use Rattle.std.proofs.Common.{◌≡◌, ℕ, List, [], Some, ◌<◌, length, g
 use Rattle.std.proofs.lemmas.List.Quantifiers.{position-Some}
 use Rattle.std.specs.Str.{bytes_eq}
 use Rattle.std.proofs.lemmas.Slice.Eq.{bytes_eq-Decides}
-use Rattle.np_command.specs.declared.fault.Fault.{Fault}
-use Rattle.np_model.specs.declared.lists.EstateLists.{EstateLists}
+use Rattle.np_command.specs.Types.{EstateLists, Fault}
 use Rattle.np_fold.specs.Workloads.{Workload, folding_of, number_named, workloads_of}
 use Rattle.np_kinds.specs.Between.{IsWorkload}
 

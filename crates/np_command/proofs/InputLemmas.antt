@@ -2,10 +2,9 @@
 use Rattle.std.proofs.Common.{◌≡◌, Bool, true, false, Result, Ok, Err, refl}
 use Rattle.std.specs.Prelude.{nat_le}
 use Rattle.np_command.specs.Inputs.{small_estate, small_reading}
-use Rattle.np_command.specs.declared.fault.Fault.{Fault}
+use Rattle.np_command.specs.Types.{EstateLists, Fault}
 use Rattle.np_fold.specs.Workloads.{workload_count}
 use Rattle.np_fold.specs.declared.workloads.TheConstants.{MOST_WORKLOADS}
-use Rattle.np_model.specs.declared.lists.EstateLists.{EstateLists}
 use Rattle.np_reading.specs.Readings.{Reading}
 
 abbrev Reads : EstateLists → EstateLists → Type 0

@@ -2,7 +2,7 @@
 use Rattle.std.proofs.Common.{◌≡◌, ℕ, ◌+◌, ◌*◌, ◌≤◌, length, arith, refl, sym, subst, [], ◌∷◌, List, Option, None, Some}
 use Rattle.std.proofs.Math.Nat.{mul-le-mul_left, mul-le-mul_right}
 use Rattle.np_command.specs.TableSteps.{list_steps}
-use Rattle.np_model.specs.declared.lists.EstateLists.{EstateLists}
+use Rattle.np_command.specs.Types.{EstateLists}
 use Rattle.np_classes.specs.Classes.{firsts}
 use Rattle.np_fold.proofs.WorkloadLemmas.{workloads-count}
 use Rattle.np_fold.specs.Workloads.{Folding, folding_of, kinds_alike, workload_count}

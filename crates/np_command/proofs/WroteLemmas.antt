@@ -1,16 +1,12 @@
 -- What was written of a reply.
 use Rattle.std.proofs.Common.{◌≡◌, ℕ, List, Result, Ok, Err, ap, subst, sym, ◌∙◌}
 use Rattle.np_command.proofs.SinkLemmas.{TookLess-kept}
-use Rattle.np_command.specs.Prints.{text_in}
+use Rattle.np_command.specs.Prints.{text_in, Wrote}
 use Rattle.np_command.specs.Failures.{write_failure}
 use Rattle.np_command.specs.Inputs.{Refuses}
-use Rattle.np_command.specs.Prints.{Wrote}
 use Rattle.np_command.specs.Sinks.{IsKept, SinkTrace}
 use Rattle.np_command.specs.Written.{Writes}
-use Rattle.np_command.specs.declared.failure.Failure.{Failure}
-use Rattle.np_command.specs.declared.failure.Failure.TheVariants.{Usage, CannotRead, TooLarge, Refused, CannotWrite, NoMemory}
-use Rattle.np_command.specs.declared.fault.Fault.{Fault}
-use Rattle.np_command.specs.declared.write_fault.WriteFault.{WriteFault}
+use Rattle.np_command.specs.Types.{CannotRead, CannotWrite, Failure, Fault, NoMemory, Refused, TooLarge, Usage, WriteFault}
 use Rattle.np_command.specs.declared.write_fault.WriteFault.TheVariants as unwritten
 use Rattle.np_io.specs.Taken.{TookLess}
 

@@ -3,10 +3,8 @@ use Rattle.std.specs.Prelude.{ℕ, List, [], ◌∷◌, Option, Some, None, Resu
 use Rattle.np_addr.specs.Addresses.{family_of}
 use Rattle.np_addr.specs.AddressText.{address_text}
 use Rattle.np_addr.specs.declared.address.Family.{Family}
-use Rattle.np_command.specs.declared.fault.Fault.{Fault}
-use Rattle.np_command.specs.declared.fault.Fault.TheVariants.{UnknownEnd}
+use Rattle.np_command.specs.Types.{EstateLists, Fault, UnknownEnd}
 use Rattle.np_model.specs.Families.{families_of}
-use Rattle.np_model.specs.declared.lists.EstateLists.{EstateLists}
 use Rattle.np_rules.specs.declared.packet.End.{End}
 use Rattle.np_rules.specs.declared.packet.End.TheVariants as end
 use Rattle.np_args.specs.declared.end_word.EndWord.{EndWord}

@@ -1,12 +1,9 @@
 -- The failures of a run, by what failed.
-use Rattle.np_command.specs.declared.failure.Failure.{Failure}
-use Rattle.np_command.specs.declared.failure.Failure.TheVariants.{Usage, Refused, CannotWrite, NoMemory}
-use Rattle.np_command.specs.declared.fault.Fault.TheVariants.{Inputs, TooManyWorkloads}
+use Rattle.np_command.specs.Types.{CannotWrite, Failure, Inputs, NoMemory, Refused, TooManyWorkloads, Usage, WriteFault}
 use Rattle.np_fold.specs.declared.fold_fault.FoldFault.{FoldFault}
 use Rattle.np_fold.specs.declared.fold_fault.FoldFault.TheVariants as fold
 use Rattle.np_reading.specs.declared.refusal.Refusal.{Refusal}
 use Rattle.np_reading.specs.declared.refusal.Refusal.TheVariants as why
-use Rattle.np_command.specs.declared.write_fault.WriteFault.{WriteFault}
 use Rattle.np_command.specs.declared.write_fault.WriteFault.TheVariants as write
 use Rattle.np_args.specs.declared.words_fault.WordsFault.{WordsFault}
 use Rattle.np_args.specs.declared.words_fault.WordsFault.TheVariants as words

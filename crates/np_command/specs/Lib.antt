@@ -6,5 +6,6 @@ pub mod Prints
 pub mod Sinks
 pub mod Statuses
 pub mod TableSteps
+pub mod Types
 pub mod Written
 pub mod steps

@@ -2,10 +2,7 @@
 use Rattle.std.specs.Prelude.{ℕ, List, ◌++◌, codes, decimal}
 use Rattle.np_model.specs.Words.{direction_text}
 use Rattle.np_reading.specs.Refusals.{refusal_text}
-use Rattle.np_command.specs.declared.failure.Failure.{Failure}
-use Rattle.np_command.specs.declared.failure.Failure.TheVariants.{Usage, CannotRead, TooLarge, Refused, CannotWrite, NoMemory}
-use Rattle.np_command.specs.declared.fault.Fault.{Fault}
-use Rattle.np_command.specs.declared.fault.Fault.TheVariants.{Alike, BadStatement, Inputs, SameEnd, Split, TooManyPatterns, TooManyWorkloads, UnknownEnd}
+use Rattle.np_command.specs.Types.{Alike, BadStatement, CannotRead, CannotWrite, Failure, Fault, Inputs, NoMemory, Refused, SameEnd, Split, TooLarge, TooManyPatterns, TooManyWorkloads, UnknownEnd, Usage}
 
 abbrev pub fault_text : Fault → List ℕ
 fault_text (Inputs refusal) = refusal_text refusal

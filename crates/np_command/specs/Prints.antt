@@ -3,9 +3,7 @@ use Rattle.std.specs.Prelude.{◌≡◌, ℕ, List, [], Option, Some, None, Resu
 use Rattle.np_io.specs.Counts.{Rose}
 use Rattle.np_io.specs.Taken.{TookFront, TookLess}
 use Rattle.np_command.specs.Sinks.{SinkTrace, IsKept, TookWhole}
-use Rattle.np_command.specs.declared.failure.Failure.{Failure}
-use Rattle.np_command.specs.declared.failure.Failure.TheVariants.{Usage, CannotRead, TooLarge, Refused, CannotWrite, NoMemory}
-use Rattle.np_command.specs.declared.fault.Fault.{Fault}
+use Rattle.np_command.specs.Types.{CannotRead, CannotWrite, Failure, Fault, NoMemory, Refused, TooLarge, Usage}
 
 -- the fault of a reply, if it is one
 abbrev pub fault_in : Result (List ℕ) Fault → Option Fault

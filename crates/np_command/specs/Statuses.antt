@@ -1,7 +1,6 @@
 -- The statuses of failures, and their codes.
 use Rattle.std.specs.Prelude.{ℕ}
-use Rattle.np_command.specs.declared.failure.Failure.{Failure}
-use Rattle.np_command.specs.declared.failure.Failure.TheVariants.{Usage, CannotRead, TooLarge, Refused, CannotWrite, NoMemory}
+use Rattle.np_command.specs.Types.{CannotRead, CannotWrite, Failure, NoMemory, Refused, TooLarge, Usage}
 use Rattle.np_command.specs.declared.status.Status.{Status}
 use Rattle.np_command.specs.declared.status.Status.TheVariants as status
 

@@ -3,8 +3,8 @@ use Rattle.std.specs.Prelude.{ℕ, List, Result, Ok, Err, ⊤}
 use Rattle.np_io.specs.Counts.{Rose}
 use Rattle.np_io.specs.Taken.{TookFront, TookLess}
 use Rattle.np_command.specs.Sinks.{SinkTrace, TookWhole}
-use Rattle.np_command.specs.declared.write_fault.WriteFault.{WriteFault}
-use Rattle.np_command.specs.declared.write_fault.WriteFault.TheVariants.{SinkFailed, NoMemory}
+use Rattle.np_command.specs.Types.{SinkFailed, WriteFault}
+use Rattle.np_command.specs.declared.write_fault.WriteFault.TheVariants.{NoMemory}
 
 -- The bytes were taken whole, or a front of them where the count of faults rose, or for want of memory less than all of them.
 abbrev pub Writes : SinkTrace → List ℕ → Result ⊤ WriteFault → Type 0

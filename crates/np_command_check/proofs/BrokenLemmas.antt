@@ -4,27 +4,18 @@ use Rattle.std.proofs.lemmas.Bool.{and_from, and_parts, not-true}
 use Rattle.std.proofs.lemmas.List.Elements.{All-contains}
 use Rattle.np_check.specs.Counters.{allows_between, complies}
 use Rattle.np_check.specs.FirstPacket.{IsBroken, IsEndOf, IsFirstBroken}
-use Rattle.np_check.specs.declared.counterexample.Counterexample.{Counterexample}
-use Rattle.np_check.specs.declared.counterexample.PlaceEnd.{PlaceEnd}
-use Rattle.np_check.specs.declared.counterexample.PlaceEnd.TheVariants.{At, Work}
-use Rattle.np_check.specs.declared.question.Ends.{Ends}
+use Rattle.np_command_check.specs.Types.{AskedLine, At, Broken, Counterexample, EndForm, Ends, EstateLists, PlaceEnd, StatementLine, StatementText, Work}
 use Rattle.np_check.specs.declared.question.Question.{Question}
-use Rattle.np_statements.specs.declared.statement_text.EndForm.{EndForm}
-use Rattle.np_statements.specs.declared.statement_text.StatementText.{StatementText}
 use Rattle.np_command_check.proofs.KnownLemmas.{pod-of}
 use Rattle.np_command_check.specs.FirstBroken.{Breaks, BreaksFirst, IsFirstBrokenLine, NamesPlace}
 use Rattle.np_conns.specs.Conns.{has_spot}
 use Rattle.np_fold.specs.Workloads.{folding_of}
 use Rattle.np_model.specs.Lawful.{IsLawful}
-use Rattle.np_model.specs.declared.lists.EstateLists.{EstateLists}
 use Rattle.np_statements.proofs.EndLemmas.{ends_of-are}
 use Rattle.np_statements.proofs.FormLemmas.{names-addresses, names-pods}
 use Rattle.np_statements.proofs.FoundLemmas.{asked-by}
 use Rattle.np_statements.specs.Ends.{ends_of}
 use Rattle.np_statements.specs.FirstBrokenLine.{IsFirstBrokenLine as IsFoundLine}
-use Rattle.np_statements.specs.declared.asked_line.AskedLine.{AskedLine}
-use Rattle.np_statements.specs.declared.broken.Broken.{Broken}
-use Rattle.np_statements.specs.declared.statement_line.StatementLine.{StatementLine}
 use Rattle.np_kinds.specs.Between.{IsWorkload, source_pod}
 
 -- ---- ends

@@ -1,6 +1,5 @@
 -- The statements that are read of a file are those of its lines.
-use Rattle.std.proofs.Common.{◌≡◌, ◌≢◌, ◌⊎◌, ℕ, zero, suc, ◌+◌, ◌<◌, ◌≤◌, ◌==◌, List, [], ◌∷◌, ◌++◌, Bool}
-use Rattle.std.proofs.Common.{true, false, Option, Some, None, Result, Ok, Err, if◌then◌else◌, option_to_list, arith, refl, sym, ap, subst}
+use Rattle.std.proofs.Common.{◌≡◌, ◌≢◌, ◌⊎◌, ℕ, zero, suc, ◌+◌, ◌<◌, ◌≤◌, ◌==◌, List, [], ◌∷◌, ◌++◌, Bool, true, false, Option, Some, None, Result, Ok, Err, if◌then◌else◌, option_to_list, arith, refl, sym, ap, subst}
 use Rattle.std.proofs.Common.{◌∙◌, inl, inr}
 use Rattle.std.specs.Prelude.{All, AllPairs, Contains}
 use Rattle.std.specs.List.{onto_first, slice_get, slice_split}
@@ -11,7 +10,7 @@ use Rattle.std.proofs.lemmas.List.Kept.{AllPairs-cons}
 use Rattle.std.proofs.lemmas.List.Splits.{slice_split-cons_no, slice_split-cons_yes}
 use Rattle.std.proofs.lemmas.Option.{none-some, same_Some}
 use Rattle.std.proofs.lemmas.Str.{IsUtf8-from_is_utf8, is_utf8-from_IsUtf8}
-use Rattle.np_statements.specs.declared.statement_text.StatementText.{StatementText}
+use Rattle.np_command_check.specs.Types.{StatementLine, StatementText}
 use Rattle.np_command_check.specs.FileLines.{AreLinesOf, IsFirstBad, IsTextOf, StandsInFile}
 use Rattle.np_statements.proofs.CountedLemmas.{counted_read, counted_refused, feeds-end}
 use Rattle.np_statements.proofs.CutLemmas.{if_some}
@@ -21,7 +20,6 @@ use Rattle.np_statements.specs.CountedLines.{IsLineOf, line_feeds}
 use Rattle.np_statements.specs.Lines.{at_line, line_read, lines_of, lines_read, statement_of, statements_of}
 use Rattle.np_statements.specs.ReadStatement.{statement_read}
 use Rattle.np_statements.specs.Steps.{◌>>=◌}
-use Rattle.np_statements.specs.declared.statement_line.StatementLine.{StatementLine}
 
 -- ---- texts of statements
 

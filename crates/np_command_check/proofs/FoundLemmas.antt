@@ -2,23 +2,17 @@
 use Rattle.std.proofs.Common.{◌≡◌, ℕ, List, Option, Result, Ok, Err, length, ap, ◌∙◌}
 use Rattle.std.specs.Prelude.{is_none}
 use Rattle.np_command.proofs.SinkLemmas.{TookLess-kept}
-use Rattle.np_command.specs.Prints.{text_in}
+use Rattle.np_command.specs.Prints.{text_in, Wrote}
 use Rattle.np_command_check.specs.Failures.{end_failure}
-use Rattle.np_command.specs.Prints.{Wrote}
 use Rattle.np_command.specs.Sinks.{IsKept, SinkTrace}
 use Rattle.np_command_check.specs.Report.{all_hold, asked_in, asked_of, check_reply, finding, finding_of, hold_in, line_fault, name_fault}
-use Rattle.np_command.specs.declared.fault.Fault.TheVariants.{UnknownEnd}
-use Rattle.np_model.specs.declared.lists.EstateLists.{EstateLists}
+use Rattle.np_command_check.specs.Types.{AskedLine, Broken, EndFault, EstateLists, StatementLine, UnknownEnd}
 use Rattle.np_statements.proofs.AmongLemmas.{among-found, among-unknown}
 use Rattle.np_statements.specs.Answers.{GivesEnds}
 use Rattle.np_statements.specs.BrokenLines.{broken_among, first_broken}
 use Rattle.np_statements.specs.FoundEnds.{ends_found}
 use Rattle.np_statements.specs.Lines.{statements_of}
-use Rattle.np_statements.specs.declared.asked_line.AskedLine.{AskedLine}
-use Rattle.np_statements.specs.declared.broken.Broken.{Broken}
-use Rattle.np_statements.specs.declared.end_fault.EndFault.{EndFault}
 use Rattle.np_statements.specs.declared.end_fault.EndFault.TheVariants as end
-use Rattle.np_statements.specs.declared.statement_line.StatementLine.{StatementLine}
 
 -- what is asked, where all lines are statements
 asked-by : (bytes : List ℕ) (lists : EstateLists) (lines : List StatementLine) (found : Result (List AskedLine) (List ℕ)) → statements_of bytes ≡ Ok lines → ends_found lists lines ≡ found →

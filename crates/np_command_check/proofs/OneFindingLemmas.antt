@@ -2,18 +2,15 @@
 use Rattle.std.proofs.Common.{◌≡◌, ℕ, List, [], ◌∷◌, ◌++◌, All, refl, sym, ap, subst, ◌∙◌, arith}
 use Rattle.std.proofs.lemmas.List.Elements.{All-contains, All-head, All-tail, Contains-append_right}
 use Rattle.np_check.specs.Counters.{allows_between}
-use Rattle.np_check.specs.declared.counterexample.Counterexample.{Counterexample}
+use Rattle.np_command_check.specs.Types.{Broken, Counterexample, EstateLists, StatementLine}
 use Rattle.np_command.specs.Sinks.{SinkTrace}
 use Rattle.np_command_check.proofs.OneListLemmas.{one-list}
 use Rattle.np_command_check.proofs.OnePacketLemmas.{one-packet}
 use Rattle.np_command_check.specs.FirstBroken.{BreaksFirst, IsFirstBrokenLine}
 use Rattle.np_command_check.specs.Promise.{ChecksAll, FindsBroken, IsAskedOf}
 use Rattle.np_command_check.specs.Report.{statement_bytes}
-use Rattle.np_model.specs.declared.lists.EstateLists.{EstateLists}
 use Rattle.np_statements.specs.BrokenText.{broken_text}
 use Rattle.np_statements.specs.Holding.{LineHolds}
-use Rattle.np_statements.specs.declared.broken.Broken.{Broken}
-use Rattle.np_statements.specs.declared.statement_line.StatementLine.{StatementLine}
 
 -- ---- the first statement that does not hold
 

@@ -12,7 +12,7 @@ use Rattle.np_command_check.proofs.FileLemmas.{part-of}
 use Rattle.np_command_check.specs.FileLines.{AreLinesOf, StandsInFile}
 use Rattle.np_statements.specs.CountedLines.{IsLineOf}
 use Rattle.np_statements.specs.Lines.{lines_of}
-use Rattle.np_statements.specs.declared.statement_line.StatementLine.{StatementLine}
+use Rattle.np_command_check.specs.Types.{StatementLine}
 
 -- ---- the order of statements
 

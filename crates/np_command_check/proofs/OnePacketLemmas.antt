@@ -6,14 +6,10 @@ use Rattle.np_addr.specs.declared.address.Address.TheVariants as address
 use Rattle.np_addr.specs.declared.address.Family.{Family}
 use Rattle.np_addr.specs.declared.address.Family.TheVariants.{Four, Six}
 use Rattle.np_check.specs.Order.{address_before, comes_before, family_before, proto_before}
-use Rattle.np_check.specs.declared.counterexample.Counterexample.{Counterexample}
-use Rattle.np_check.specs.declared.counterexample.PlaceEnd.{PlaceEnd}
-use Rattle.np_check.specs.declared.counterexample.PlaceEnd.TheVariants.{At, Work}
-use Rattle.np_statements.specs.declared.statement_text.StatementText.{StatementText}
+use Rattle.np_command_check.specs.Types.{At, Counterexample, EstateLists, PlaceEnd, StatementText, Work}
 use Rattle.np_command_check.specs.FirstBroken.{BreaksFirst}
 use Rattle.np_conns.specs.declared.proto.Proto.{Proto}
 use Rattle.np_conns.specs.declared.proto.Proto.TheVariants.{Tcp, Udp, Sctp}
-use Rattle.np_model.specs.declared.lists.EstateLists.{EstateLists}
 
 -- ---- of two things that are not one, one comes before the other
 

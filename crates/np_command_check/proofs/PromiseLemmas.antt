@@ -5,8 +5,7 @@ use Rattle.std.proofs.lemmas.Option.{none-some, same_Some}
 use Rattle.np_command.specs.Inputs.{lists_of}
 use Rattle.np_command.specs.Prints.{fault_in, text_in}
 use Rattle.np_command.specs.Sinks.{SinkTrace, TookWhole}
-use Rattle.np_command.specs.declared.fault.Fault.{Fault}
-use Rattle.np_command.specs.declared.fault.Fault.TheVariants.{BadStatement, UnknownEnd}
+use Rattle.np_command_check.specs.Types.{AskedLine, BadStatement, Broken, EstateLists, Fault, StatementLine, UnknownEnd}
 use Rattle.np_command_check.proofs.BrokenLemmas.{first-line}
 use Rattle.np_command_check.proofs.FileLemmas.{first-bad, lines-of}
 use Rattle.np_command_check.proofs.KnownLemmas.{first-unknown, forms-known}
@@ -14,7 +13,6 @@ use Rattle.np_command_check.specs.FirstBroken.{IsFirstBrokenLine}
 use Rattle.np_command_check.specs.Promise.{ChecksAll, FindsBroken, IsAskedOf, RefusesCheck}
 use Rattle.np_command_check.specs.Report.{all_hold, asked_in, asked_of, check_reply, finding_of, hold_in, line_fault, name_fault, statement_bytes}
 use Rattle.np_model.specs.Lawful.{IsLawful}
-use Rattle.np_model.specs.declared.lists.EstateLists.{EstateLists}
 use Rattle.np_statements.proofs.BrokenLemmas.{first-is, nothing-broken}
 use Rattle.np_statements.proofs.FoundLemmas.{length-found}
 use Rattle.np_statements.proofs.LineLemmas.{statements-well}
@@ -22,9 +20,6 @@ use Rattle.np_statements.specs.AskedLines.{IsWellLine}
 use Rattle.np_statements.specs.BrokenLines.{first_broken}
 use Rattle.np_statements.specs.FoundEnds.{ends_found}
 use Rattle.np_statements.specs.Lines.{statements_of}
-use Rattle.np_statements.specs.declared.asked_line.AskedLine.{AskedLine}
-use Rattle.np_statements.specs.declared.broken.Broken.{Broken}
-use Rattle.np_statements.specs.declared.statement_line.StatementLine.{StatementLine}
 
 -- ---- what is asked
 

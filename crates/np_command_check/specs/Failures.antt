@@ -1,8 +1,7 @@
 -- The failures of `check`, by the faults of its statements.
 use Rattle.np_command.specs.declared.failure.Failure.{Failure}
 use Rattle.np_command.specs.declared.failure.Failure.TheVariants.{NoMemory, Refused}
-use Rattle.np_command.specs.declared.fault.Fault.TheVariants.{BadStatement, UnknownEnd}
-use Rattle.np_statements.specs.declared.end_fault.EndFault.{EndFault}
+use Rattle.np_command_check.specs.Types.{BadStatement, EndFault, UnknownEnd}
 use Rattle.np_statements.specs.declared.end_fault.EndFault.TheVariants as end
 use Rattle.np_statements.specs.declared.file_fault.FileFault.{FileFault}
 use Rattle.np_statements.specs.declared.file_fault.FileFault.TheVariants as file

@@ -2,16 +2,9 @@
 use Rattle.std.specs.Prelude.{ℕ, ◌≡◌, ◌≤◌, List, ◌∷◌, ◌++◌, false, All, Contains}
 use Rattle.np_check.specs.Counters.{allows_between, complies, families_between}
 use Rattle.np_check.specs.Order.{comes_before, family_before, proto_before}
-use Rattle.np_check.specs.declared.counterexample.Counterexample.{Counterexample}
-use Rattle.np_check.specs.declared.counterexample.PlaceEnd.{PlaceEnd}
-use Rattle.np_check.specs.declared.counterexample.PlaceEnd.TheVariants.{At, Work}
-use Rattle.np_statements.specs.declared.statement_text.EndForm.{EndForm}
-use Rattle.np_statements.specs.declared.statement_text.StatementText.{StatementText}
+use Rattle.np_command_check.specs.Types.{At, Broken, Counterexample, EndForm, EstateLists, PlaceEnd, StatementLine, StatementText, Work}
 use Rattle.np_fold.specs.Workloads.{number_of}
-use Rattle.np_model.specs.declared.lists.EstateLists.{EstateLists}
 use Rattle.np_statements.specs.Holding.{IsAtPort, IsNamedAddress, IsNamedPod, LineHolds}
-use Rattle.np_statements.specs.declared.broken.Broken.{Broken}
-use Rattle.np_statements.specs.declared.statement_line.StatementLine.{StatementLine}
 
 -- the form names an end of a packet: some pod of the workload, or the address
 abbrev pub NamesPlace : EstateLists → EndForm → PlaceEnd → Type 0

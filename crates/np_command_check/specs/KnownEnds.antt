@@ -1,10 +1,8 @@
 -- Which ends that statements name are there.
 use Rattle.std.specs.Prelude.{ℕ, ◌≡◌, List, [], ◌∷◌, ◌++◌, All, flat_map}
-use Rattle.np_statements.specs.declared.statement_text.EndForm.{EndForm}
+use Rattle.np_command_check.specs.Types.{EndForm, EstateLists, StatementLine}
 use Rattle.np_statements.specs.declared.statement_text.EndForm.TheVariants.{Work}
-use Rattle.np_model.specs.declared.lists.EstateLists.{EstateLists}
 use Rattle.np_statements.specs.Holding.{IsNamedPod}
-use Rattle.np_statements.specs.declared.statement_line.StatementLine.{StatementLine}
 
 -- some pod is of the workload that a form names; any other form names what is there
 abbrev pub IsKnown : EstateLists → EndForm → Type 0

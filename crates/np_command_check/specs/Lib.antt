@@ -4,3 +4,4 @@ pub mod FirstBroken
 pub mod KnownEnds
 pub mod Promise
 pub mod Report
+pub mod Types

@@ -2,17 +2,13 @@
 use Rattle.std.specs.Prelude.{◌≡◌, ℕ, List, ◌++◌, All, codes, decimal, drop, length, Ok}
 use Rattle.np_command.specs.Inputs.{lists_of}
 use Rattle.np_command.specs.Sinks.{SinkTrace, TookWhole}
-use Rattle.np_command.specs.declared.fault.Fault.{Fault}
-use Rattle.np_command.specs.declared.fault.Fault.TheVariants.{BadStatement, UnknownEnd}
+use Rattle.np_command_check.specs.Types.{BadStatement, Broken, EstateLists, Fault, StatementLine, UnknownEnd}
 use Rattle.np_command_check.specs.FileLines.{AreLinesOf, IsFirstBad}
 use Rattle.np_command_check.specs.FirstBroken.{IsFirstBrokenLine}
 use Rattle.np_command_check.specs.KnownEnds.{IsFirstUnknown, IsKnown, forms_of}
 use Rattle.np_command_check.specs.Report.{statement_bytes}
-use Rattle.np_model.specs.declared.lists.EstateLists.{EstateLists}
 use Rattle.np_statements.specs.BrokenText.{broken_text}
 use Rattle.np_statements.specs.Holding.{LineHolds}
-use Rattle.np_statements.specs.declared.broken.Broken.{Broken}
-use Rattle.np_statements.specs.declared.statement_line.StatementLine.{StatementLine}
 
 -- The bytes behind those of the statement file are those of an estate, the file has these statements, and all
 -- workloads that they name are there.

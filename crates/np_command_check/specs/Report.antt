@@ -1,15 +1,10 @@
 -- `check`: whether the statements of a file hold.
 use Rattle.std.specs.Prelude.{ℕ, List, ◌++◌, Bool, false, codes, decimal, is_none, length, Option, Some, None, Result, Ok, Err, [], ◌∷◌}
-use Rattle.np_command.specs.declared.fault.Fault.{Fault}
-use Rattle.np_command.specs.declared.fault.Fault.TheVariants.{BadStatement, UnknownEnd}
-use Rattle.np_model.specs.declared.lists.EstateLists.{EstateLists}
+use Rattle.np_command_check.specs.Types.{AskedLine, BadStatement, Broken, EstateLists, Fault, StatementLine, UnknownEnd}
 use Rattle.np_statements.specs.BrokenLines.{first_broken}
 use Rattle.np_statements.specs.BrokenText.{broken_text}
 use Rattle.np_statements.specs.FoundEnds.{ends_found}
 use Rattle.np_statements.specs.Lines.{statements_of}
-use Rattle.np_statements.specs.declared.asked_line.AskedLine.{AskedLine}
-use Rattle.np_statements.specs.declared.broken.Broken.{Broken}
-use Rattle.np_statements.specs.declared.statement_line.StatementLine.{StatementLine}
 
 -- ---- what is asked
 

@@ -2,17 +2,13 @@
 use Rattle.std.proofs.Common.{◌≡◌, ℕ, List, [], ◌∷◌, ◌++◌, Bool, ◌&&◌, ◌==◌, length, take, drop, refl, ap, ◌∙◌, Result, Ok, Err, subst, sym}
 use Rattle.std.specs.Str.{bytes_eq}
 use Rattle.np_base.proofs.Bools.{and-leftwards}
-use Rattle.np_args.specs.declared.end_word.EndWord.{EndWord}
+use Rattle.np_command_evaluate.specs.Types.{End, EndWord, EstateLists, Fault, PortSpot}
 use Rattle.np_command.proofs.WroteLemmas.{Wrote-refused}
 use Rattle.np_command.specs.Inputs.{Refuses}
 use Rattle.np_command.specs.Prints.{Wrote}
 use Rattle.np_command.specs.Sinks.{IsKept, SinkTrace}
 use Rattle.np_command.specs.declared.failure.Failure.{Failure}
-use Rattle.np_command.specs.declared.fault.Fault.{Fault}
 use Rattle.np_command_evaluate.specs.Report.{between, evaluate_reply, known_end}
-use Rattle.np_conns.specs.declared.port_spot.PortSpot.{PortSpot}
-use Rattle.np_model.specs.declared.lists.EstateLists.{EstateLists}
-use Rattle.np_rules.specs.declared.packet.End.{End}
 
 -- a text is another one and a rest where it begins with the one and goes on as the rest
 pub bytes_eq_parts : (word front rest : List ℕ) → bytes_eq word (front ++ rest) ≡ (bytes_eq (take (length front) word) front && bytes_eq (drop (length front) word) rest)

@@ -6,16 +6,10 @@ use Rattle.std.specs.Str.{bytes_eq}
 use Rattle.np_addr.specs.declared.address.Family.{Family}
 use Rattle.np_addr.specs.declared.address.Family.TheVariants.{Four, Six}
 use Rattle.np_command.specs.Ends.{end_text, family_asked, or_unknown}
-use Rattle.np_command.specs.declared.fault.Fault.{Fault}
-use Rattle.np_command.specs.declared.fault.Fault.TheVariants.{SameEnd}
-use Rattle.np_conns.specs.declared.port_spot.PortSpot.{PortSpot}
-use Rattle.np_model.specs.declared.lists.EstateLists.{EstateLists}
-use Rattle.np_model.specs.declared.pod.Pod.{Pod}
+use Rattle.np_command_evaluate.specs.Types.{End, EndWord, EstateLists, Fault, Pod, PortSpot, SameEnd}
 use Rattle.np_report.specs.RowText.{family_suffix}
 use Rattle.np_rules.specs.model.Verdict.{allows, packet_of}
-use Rattle.np_rules.specs.declared.packet.End.{End}
 use Rattle.np_rules.specs.declared.packet.End.TheVariants as end
-use Rattle.np_args.specs.declared.end_word.EndWord.{EndWord}
 use Rattle.np_args.specs.declared.end_word.EndWord.TheVariants as word
 use Rattle.np_rules.specs.Texts.{said_text}
 use Rattle.np_explain.specs.Sides.{are_one_pod}

@@ -1,43 +1,31 @@
 -- What a report of `explain` says.
-use Rattle.std.proofs.Common.{◌≡◌, ◌≢◌, ◌<◌, ℕ, List, [], ◌∷◌, cond, length, get_or, Bool, true, false, ◌==◌, Less, Equal, inr, Contains, Option, None, Some, Result, Ok, Err, if◌then◌else◌}
-use Rattle.std.proofs.Common.{arith, refl, sym, ap, subst, ◌∙◌}
+use Rattle.std.proofs.Common.{◌≡◌, ◌≢◌, ◌<◌, ℕ, List, [], ◌∷◌, cond, length, get_or, Bool, true, false, ◌==◌, Less, Equal, inr, Contains, Option, None, Some, Result, Ok, Err, if◌then◌else◌, arith, refl, sym, ap, subst, ◌∙◌}
 use Rattle.std.proofs.lemmas.Bool.{eq-eqb, false≢true, ne_eqb}
 use Rattle.std.proofs.lemmas.Map.Keys.{Less-from_sorted}
 use Rattle.std.proofs.lemmas.Cmp.{nat_cmp_total}
 use Rattle.std.specs.Cmp.{tied_itself}
 use Rattle.std.specs.Ordering.{nat_cmp}
 use Rattle.np_base.proofs.Lists.{Contains-one}
-use Rattle.np_addr.specs.declared.address.Address.{Address}
-use Rattle.np_addr.specs.declared.address.Family.{Family}
-use Rattle.np_addr.specs.declared.address.Family.TheVariants.{Four, Six}
+use Rattle.np_command_explain.specs.Types.{Address, AskedEnd, At, End, Ends, EndWord, EstateLists, Explanation, Family, Fault, Four, SameEnd, Six, Work}
 use Rattle.np_command.proofs.EndLemmas.{named_workload}
 use Rattle.np_command_explain.proofs.NamedLemmas.{AsksFor, IsOf, named-of}
 use Rattle.np_command_explain.specs.Promise.{AreNamed, Explains, HaveBothFamilies, IsFamilyBetween, IsRightIn, one_for_all, one_for_each}
 use Rattle.np_command.specs.Ends.{family_asked, only_family, or_unknown}
 use Rattle.np_command_explain.specs.Report.{are_one, asked_end, destination_end, ends_between, explanations, in_families, of_both, source_end}
-use Rattle.np_command_explain.specs.declared.report.AskedEnd.{AskedEnd}
-use Rattle.np_command_explain.specs.declared.report.AskedEnd.TheVariants.{At, Work}
-use Rattle.np_command_explain.specs.declared.report.Ends.{Ends}
-use Rattle.np_command.specs.declared.fault.Fault.{Fault}
-use Rattle.np_command.specs.declared.fault.Fault.TheVariants.{SameEnd}
 use Rattle.np_command_explain.specs.steps.Explaining.{AreEnds, HasPods, IsAsked}
 use Rattle.np_model.specs.Families.{families_of, has_family, or_four}
 use Rattle.np_model.specs.Lawful.{IsLawful}
-use Rattle.np_model.specs.declared.lists.EstateLists.{EstateLists}
 use Rattle.np_model.specs.declared.pod.Pod.{Pod}
 use Rattle.np_explain.proofs.ExplanationLemmas.{explanation-right, right-alike, same_sides-Decides, same_sides-right}
 use Rattle.np_explain.specs.Explanations.{IsRightFor, explanation_of, same_sides}
-use Rattle.np_explain.specs.declared.explanation.Explanation.{Explanation}
 use Rattle.np_fold.proofs.WorkloadLemmas.{pods-ascend}
 use Rattle.np_fold.specs.Workloads.{Folding, folding_of, members_of, number_named, number_of}
 use Rattle.np_routes.proofs.KindRoutes.{one_workload-alike}
 use Rattle.np_rules.specs.model.Verdict.{IsEndOf, end_of}
-use Rattle.np_rules.specs.declared.packet.End.{End}
 use Rattle.np_rules.specs.declared.packet.End.TheVariants as end
 use Rattle.np_kinds.proofs.KindVerdicts.{SameKindEnd, SameKindEnd-ends, got-same, sent-same}
 use Rattle.np_kinds.proofs.MemberLemmas.{destination-member, member-number, members-some, members-within, source-member}
 use Rattle.np_kinds.specs.Between.{IsWorkload, destination_pod, is_alone, source_pod}
-use Rattle.np_args.specs.declared.end_word.EndWord.{EndWord}
 use Rattle.np_args.specs.declared.end_word.EndWord.TheVariants as word
 
 -- ---- ends

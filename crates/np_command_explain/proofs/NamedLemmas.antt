@@ -1,6 +1,5 @@
 -- Words that name pods of workloads, and the numbers of these.
-use Rattle.std.proofs.Common.{◌≡◌, ◌<◌, ℕ, List, [], length, map, get_or, Bool, true, false, Less, inl, inr, Contains, Option, None, Some, Ok, Err}
-use Rattle.std.proofs.Common.{arith, eq-eqb, refl, sym, ap, subst, ◌∙◌}
+use Rattle.std.proofs.Common.{◌≡◌, ◌<◌, ℕ, List, [], length, map, get_or, Bool, true, false, Less, inl, inr, Contains, Option, None, Some, Ok, Err, arith, eq-eqb, refl, sym, ap, subst, ◌∙◌}
 use Rattle.std.proofs.lemmas.Bool.{cases_eq, cases_order, false≢true, true≢false}
 use Rattle.std.proofs.lemmas.List.{get_or-map, length-map}
 use Rattle.std.proofs.lemmas.List.Elements.{Contains-get_or}
@@ -14,25 +13,18 @@ use Rattle.std.specs.Option.{option_map_or}
 use Rattle.std.specs.Ordering.{nat_cmp}
 use Rattle.std.specs.Str.{bytes_eq}
 use Rattle.np_base.proofs.Orders.{not-before}
-use Rattle.np_addr.specs.declared.address.Address.{Address}
-use Rattle.np_args.specs.declared.end_word.EndWord.{EndWord}
+use Rattle.np_command_explain.specs.Types.{Address, AskedEnd, At, End, EndWord, EstateLists, Fault, UnknownEnd, Work}
 use Rattle.np_args.specs.declared.end_word.EndWord.TheVariants as word
 use Rattle.np_classes.proofs.Lists.{no_position}
 use Rattle.np_classes.proofs.Relations.{firsts-le-count}
 use Rattle.np_command.proofs.EndLemmas.{named_workload, found-named}
 use Rattle.np_command.specs.Ends.{end_text, or_unknown}
-use Rattle.np_command.specs.declared.fault.Fault.{Fault}
-use Rattle.np_command.specs.declared.fault.Fault.TheVariants.{UnknownEnd}
 use Rattle.np_command_explain.specs.Promise.{IsPodOf, NamesEnd, NamesNone}
 use Rattle.np_command_explain.specs.Report.{are_one, asked_end, destination_end, source_end}
-use Rattle.np_command_explain.specs.declared.report.AskedEnd.{AskedEnd}
-use Rattle.np_command_explain.specs.declared.report.AskedEnd.TheVariants.{At, Work}
 use Rattle.np_explain.specs.Sides.{are_one_pod}
 use Rattle.np_fold.proofs.WorkloadLemmas.{workloads-by_name}
 use Rattle.np_fold.specs.Workloads.{Workload, folding_of, members_of, number_named, number_of, pods_alike, workloads_of}
 use Rattle.np_model.specs.Lawful.{IsLawful}
-use Rattle.np_model.specs.declared.lists.EstateLists.{EstateLists}
-use Rattle.np_rules.specs.declared.packet.End.{End}
 use Rattle.np_rules.specs.declared.packet.End.TheVariants as end
 use Rattle.np_kinds.proofs.MemberLemmas.{destination-member, member-number, members-some, members-within, not-alone, source-member}
 use Rattle.np_kinds.specs.Between.{destination_pod, source_pod}

@@ -1,25 +1,18 @@
 -- Explanations of the same ends have one text.
 use Rattle.std.proofs.Common.{◌≡◌, ℕ, List, [], ◌∷◌, Contains, Option, Some, None, filter, refl, sym, subst, ◌∙◌, arith}
 use Rattle.np_addr.specs.Addresses.{family_of}
-use Rattle.np_addr.specs.declared.address.Family.{Family}
-use Rattle.np_addr.specs.declared.address.Family.TheVariants.{Four, Six}
-use Rattle.np_args.specs.declared.end_word.EndWord.{EndWord}
+use Rattle.np_command_explain.specs.Types.{Egress, End, EndWord, EstateLists, Explanation, Family, Four, Ingress, Shown, Six}
 use Rattle.np_command.specs.Ends.{end_text}
 use Rattle.np_command.specs.Sinks.{SinkTrace}
 use Rattle.np_command_explain.specs.Promise.{AreNamed, Explains, ExplainsAll, HaveSameParts, IsFamilyBetween, one_for_all, one_for_each}
 use Rattle.np_command_explain.specs.Report.{explain_text, shown, shown_text}
-use Rattle.np_command_explain.specs.declared.report.Shown.{Shown}
 use Rattle.np_conns.proofs.ConnLemmas.{conns_text-agrees}
 use Rattle.np_conns.specs.Conns.{has_spot}
 use Rattle.np_conns.specs.ConnsText.{conns_text}
 use Rattle.np_explain.proofs.OneListLemmas.{one_is_right}
 use Rattle.np_explain.specs.Explanations.{IsRightFor}
 use Rattle.np_explain.specs.Sides.{decider_between}
-use Rattle.np_explain.specs.declared.explanation.Explanation.{Explanation}
 use Rattle.np_model.specs.Families.{has_family, or_four}
-use Rattle.np_model.specs.declared.direction.Direction.TheVariants.{Egress, Ingress}
-use Rattle.np_model.specs.declared.lists.EstateLists.{EstateLists}
-use Rattle.np_rules.specs.declared.packet.End.{End}
 use Rattle.np_rules.specs.declared.packet.End.TheVariants as end
 
 -- ---- in one family

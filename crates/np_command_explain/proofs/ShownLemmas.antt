@@ -1,14 +1,10 @@
 -- The text of what decides between two ends, piece by piece.
 use Rattle.std.proofs.Common.{◌≡◌, ℕ, List, [], ◌++◌, flat_map, Option, refl, subst, append_assoc}
-use Rattle.np_addr.specs.declared.address.Family.{Family}
+use Rattle.np_command_explain.specs.Types.{Direction, Egress, Family, Ingress, Part, Shown}
 use Rattle.np_command.proofs.PuttingLemmas.{HasLeft-held}
 use Rattle.np_command.proofs.LeftLemmas.{HasLeft, HasLeft-all}
 use Rattle.np_command_explain.specs.Report.{explain_text, part_line, shown_text, side_text}
-use Rattle.np_command_explain.specs.declared.report.Shown.{Shown}
 use Rattle.np_command_explain.specs.steps.Explaining.{head_line, row_line}
-use Rattle.np_explain.specs.declared.part.Part.{Part}
-use Rattle.np_model.specs.declared.direction.Direction.{Direction}
-use Rattle.np_model.specs.declared.direction.Direction.TheVariants.{Ingress, Egress}
 
 -- at first all of a text is left: that of a side is its first line, and then those of its parts
 side_text-is : (direction : Direction) (name : List ℕ) (mark : Option Family) (parts : List Part)

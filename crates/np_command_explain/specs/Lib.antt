@@ -1,3 +1,4 @@
 pub mod Promise
 pub mod Report
+pub mod Types
 pub mod steps

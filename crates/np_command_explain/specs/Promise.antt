@@ -1,24 +1,16 @@
 -- What a report of `explain` says of the bytes of its inputs, and why there is none.
 use Rattle.std.specs.Prelude.{◌≡◌, ℕ, List, [], ◌∷◌, Some, None, Contains, true, false, Ok}
 use Rattle.np_addr.specs.Addresses.{family_of}
-use Rattle.np_addr.specs.declared.address.Family.{Family}
-use Rattle.np_addr.specs.declared.address.Family.TheVariants.{Four, Six}
-use Rattle.np_args.specs.declared.end_word.EndWord.{EndWord}
+use Rattle.np_command_explain.specs.Types.{End, EndWord, EstateLists, Explanation, Family, Fault, Four, SameEnd, Shown, Six, UnknownEnd}
 use Rattle.np_args.specs.declared.end_word.EndWord.TheVariants as word
 use Rattle.np_command.specs.Ends.{end_text}
 use Rattle.np_command.specs.Inputs.{lists_of}
 use Rattle.np_command.specs.Sinks.{SinkTrace, TookWhole}
-use Rattle.np_command.specs.declared.fault.Fault.{Fault}
-use Rattle.np_command.specs.declared.fault.Fault.TheVariants.{SameEnd, UnknownEnd}
 use Rattle.np_command_explain.specs.Report.{explain_text, shown}
-use Rattle.np_command_explain.specs.declared.report.Shown.{Shown}
 use Rattle.np_explain.specs.Explanations.{IsRightFor}
 use Rattle.np_explain.specs.Sides.{are_one_pod}
-use Rattle.np_explain.specs.declared.explanation.Explanation.{Explanation}
 use Rattle.np_fold.specs.Workloads.{Workload, workloads_of}
 use Rattle.np_model.specs.Families.{families_of}
-use Rattle.np_model.specs.declared.lists.EstateLists.{EstateLists}
-use Rattle.np_rules.specs.declared.packet.End.{End}
 use Rattle.np_rules.specs.declared.packet.End.TheVariants as end
 
 -- ---- the ends

@@ -1,30 +1,16 @@
 -- `explain`: what decides between two ends.
 use Rattle.std.specs.Prelude.{ℕ, List, [], ◌∷◌, ◌++◌, Bool, false, codes, flat_map, Option, Some, None, Result, Ok, Err, if◌then◌else◌}
-use Rattle.np_addr.specs.declared.address.Family.{Family}
-use Rattle.np_addr.specs.declared.address.Family.TheVariants.{Four, Six}
+use Rattle.np_command_explain.specs.Types.{AskedEnd, At, Direction, Egress, End, Ends, EndWord, EstateLists, Explanation, Family, Fault, Four, Ingress, Part, SameEnd, Shown, Six, Work}
 use Rattle.np_command.specs.Ends.{end_text, family_asked, or_unknown}
-use Rattle.np_command_explain.specs.declared.report.AskedEnd.{AskedEnd}
-use Rattle.np_command_explain.specs.declared.report.AskedEnd.TheVariants.{At, Work}
-use Rattle.np_command_explain.specs.declared.report.Ends.{Ends}
-use Rattle.np_command_explain.specs.declared.report.Shown.{Shown}
-use Rattle.np_command.specs.declared.fault.Fault.{Fault}
-use Rattle.np_command.specs.declared.fault.Fault.TheVariants.{SameEnd}
 use Rattle.np_conns.specs.Conns.{has_spot}
 use Rattle.np_conns.specs.ConnsText.{conns_text}
-use Rattle.np_model.specs.declared.lists.EstateLists.{EstateLists}
 pub use Rattle.np_explain.specs.PartLine.{part_line}
 use Rattle.np_explain.specs.Explanations.{explanation_of, same_sides}
-use Rattle.np_explain.specs.declared.explanation.Explanation.{Explanation}
-use Rattle.np_explain.specs.declared.part.Part.{Part}
 use Rattle.np_fold.specs.Workloads.{Folding, folding_of, number_named}
-use Rattle.np_model.specs.declared.direction.Direction.{Direction}
-use Rattle.np_model.specs.declared.direction.Direction.TheVariants.{Ingress, Egress}
 use Rattle.np_model.specs.Words.{direction_text}
 use Rattle.np_report.specs.RowText.{family_suffix}
-use Rattle.np_rules.specs.declared.packet.End.{End}
 use Rattle.np_rules.specs.declared.packet.End.TheVariants as end
 use Rattle.np_kinds.specs.Between.{destination_pod, is_alone, source_pod}
-use Rattle.np_args.specs.declared.end_word.EndWord.{EndWord}
 use Rattle.np_args.specs.declared.end_word.EndWord.TheVariants as word
 
 -- ---- ends

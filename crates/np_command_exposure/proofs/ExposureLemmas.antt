@@ -1,6 +1,5 @@
 -- What a report of `exposure` says, and its rows side by side.
-use Rattle.std.proofs.Common.{◌≡◌, ◌<◌, ◌≤◌, ◌+◌, ℕ, zero, suc, List, [], ◌∷◌, ◌++◌, length, drop, get_or, flat_map, nat_lt, not, ◌==◌, Bool, true, false, ◌||◌, All, Option, None, Some, Ok, arith}
-use Rattle.std.proofs.Common.{refl, sym, ap, subst, ◌∙◌}
+use Rattle.std.proofs.Common.{◌≡◌, ◌<◌, ◌≤◌, ◌+◌, ℕ, zero, suc, List, [], ◌∷◌, ◌++◌, length, drop, get_or, flat_map, nat_lt, not, ◌==◌, Bool, true, false, ◌||◌, All, Option, None, Some, Ok, arith, refl, sym, ap, subst, ◌∙◌}
 use Rattle.std.proofs.Math.Seq.{drop-cons}
 use Rattle.std.proofs.lemmas.Bool.{ne_eqb}
 use Rattle.std.proofs.lemmas.Bool.Decides.{nat_tests}
@@ -10,15 +9,12 @@ use Rattle.std.specs.List.{AllByRecursion, range_with_len}
 use Rattle.np_base.proofs.Lists.{drop-ended}
 use Rattle.np_command.specs.Inputs.{Refuses}
 use Rattle.np_command_exposure.specs.Report.{both_sides, first_fault, nothing_unless, or_later, side_rows, weight_at, weight_fault}
-use Rattle.np_command_exposure.specs.declared.report.ShownSide.{ShownSide}
+use Rattle.np_command_exposure.specs.Types.{EstateLists, Fault, RowText, ShownSide}
 use Rattle.np_command.specs.declared.failure.Failure.{Failure}
 use Rattle.np_command.specs.declared.failure.Failure.TheVariants.{Usage, TooLarge, Refused, CannotRead, CannotWrite, NoMemory}
-use Rattle.np_command.specs.declared.fault.Fault.{Fault}
-use Rattle.np_model.specs.declared.lists.EstateLists.{EstateLists}
 use Rattle.np_exposure.specs.declared.exposures.TheConstants.{MOST_PATTERNS}
 use Rattle.np_report.proofs.LineLemmas.{is_some_row, text_to_come-rows}
 use Rattle.np_report.specs.Forms.{Form, lines_of, text_to_come}
-use Rattle.np_report.specs.declared.row.RowText.{RowText}
 use Rattle.np_kinds.specs.Between.{IsWorkload, number_of_workloads}
 
 -- ---- what is shown

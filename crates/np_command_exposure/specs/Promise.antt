@@ -1,25 +1,17 @@
 -- What a report of `exposure` says of the bytes of its inputs, and why there is none.
 use Rattle.std.specs.Prelude.{◌≡◌, ◌≢◌, ◌<◌, ◌≤◌, ◌-◌, ◌^◌, ℕ, List, [], ◌∷◌, ◌++◌, Contains, flat_map, map, min, slice_index, true, None, Some, Option, Ok}
-use Rattle.np_args.specs.declared.format.Format.{Format}
+use Rattle.np_command_exposure.specs.Types.{Direction, Egress, EstateLists, ExposureRow, Fault, Format, Ingress, RowText, Stranger, TooManyPatterns, UnknownEnd}
 use Rattle.np_command.specs.Inputs.{lists_of}
 use Rattle.np_command.specs.Sinks.{SinkTrace, TookWhole}
-use Rattle.np_command.specs.declared.fault.Fault.{Fault}
-use Rattle.np_command.specs.declared.fault.Fault.TheVariants.{TooManyPatterns, UnknownEnd}
 use Rattle.np_command_exposure.specs.Report.{row_text}
 use Rattle.np_exposure.specs.Mentions.{mentions}
 use Rattle.np_exposure.specs.Right.{FirstRowTells, IsEachFirst}
 use Rattle.np_exposure.specs.Strangers.{is_hypothetical}
 use Rattle.np_exposure.specs.Weight.{weight}
-use Rattle.np_exposure.specs.declared.exposure_row.ExposureRow.{ExposureRow}
 use Rattle.np_exposure.specs.declared.exposures.TheConstants.{MOST_PATTERNS}
 use Rattle.np_fold.specs.Workloads.{Workload, workloads_of}
-use Rattle.np_model.specs.declared.direction.Direction.{Direction}
-use Rattle.np_model.specs.declared.direction.Direction.TheVariants.{Ingress, Egress}
-use Rattle.np_model.specs.declared.lists.EstateLists.{EstateLists}
 use Rattle.np_report.specs.Forms.{report_text}
-use Rattle.np_report.specs.declared.row.RowText.{RowText}
 use Rattle.np_rules.specs.PodSides.{side_of}
-use Rattle.np_rules.specs.declared.stranger.Stranger.{Stranger}
 
 -- ---- what is shown
 

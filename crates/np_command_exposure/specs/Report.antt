@@ -2,26 +2,18 @@
 use Rattle.std.specs.Prelude.{ℕ, ◌-◌, ◌^◌, List, [], ◌∷◌, flat_map, map, min, nat_lt, Option, Some, None, Result, Ok, Err, ⊤, if◌then◌else◌}
 use Rattle.std.specs.List.{range_with_len}
 use Rattle.np_command.specs.Ends.{or_unknown}
-use Rattle.np_command_exposure.specs.declared.report.ShownSide.{ShownSide}
-use Rattle.np_command.specs.declared.fault.Fault.{Fault}
-use Rattle.np_command.specs.declared.fault.Fault.TheVariants.{TooManyPatterns}
+use Rattle.np_command_exposure.specs.Types.{Direction, Egress, EstateLists, ExposureRow, Fault, Format, Ingress, RowText, ShownSide, TooManyPatterns}
 use Rattle.np_conns.specs.Conns.{has_spot}
 use Rattle.np_conns.specs.ConnsText.{conns_text}
-use Rattle.np_model.specs.declared.lists.EstateLists.{EstateLists}
 use Rattle.np_exposure.specs.Mentions.{mentions}
 use Rattle.np_exposure.specs.PeerText.{peer_text}
 use Rattle.np_exposure.specs.Rows.{rows_of}
 use Rattle.np_exposure.specs.Weight.{weight}
-use Rattle.np_exposure.specs.declared.exposure_row.ExposureRow.{ExposureRow}
 use Rattle.np_exposure.specs.declared.exposures.TheConstants.{MOST_PATTERNS}
 use Rattle.np_fold.specs.Workloads.{folding_of, name_of, number_named}
-use Rattle.np_model.specs.declared.direction.Direction.{Direction}
-use Rattle.np_model.specs.declared.direction.Direction.TheVariants.{Ingress, Egress}
 use Rattle.np_report.specs.Forms.{report_text}
-use Rattle.np_report.specs.declared.row.RowText.{RowText}
 use Rattle.np_rules.specs.PodSides.{PodSide, side_of}
 use Rattle.np_kinds.specs.Between.{number_of_workloads, source_pod}
-use Rattle.np_args.specs.declared.format.Format.{Format}
 
 -- ---- what is shown
 

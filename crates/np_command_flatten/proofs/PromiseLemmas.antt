@@ -5,7 +5,7 @@ use Rattle.std.proofs.lemmas.Option.{none-some, same_Some}
 use Rattle.np_command.specs.Inputs.{lists_of}
 use Rattle.np_command.specs.Prints.{fault_in, text_in}
 use Rattle.np_command.specs.Sinks.{SinkTrace, TookWhole}
-use Rattle.np_command.specs.declared.fault.Fault.{Fault}
+use Rattle.np_command_flatten.specs.Types.{Alike, EstateLists, Fault, FlatFault, NetPolicy, NoMemory, Split}
 use Rattle.np_command.proofs.InputLemmas.{read-small}
 use Rattle.np_command_flatten.proofs.RefusedLemmas.{tells-alike, tells-split}
 use Rattle.np_command_flatten.proofs.VerdictLemmas.{address-same, between-same}
@@ -18,15 +18,11 @@ use Rattle.np_manifests.proofs.ListLemmas.{json_of-list_line}
 use Rattle.np_manifests.specs.Estates.{estate_with}
 use Rattle.np_manifests.specs.Lists.{list_line}
 use Rattle.np_model.specs.Lawful.{IsLawful}
-use Rattle.np_model.specs.declared.lists.EstateLists.{EstateLists}
-use Rattle.np_model.specs.declared.network_policy.NetPolicy.{NetPolicy}
 use Rattle.np_reading.specs.Reading.{estate_of}
 use Rattle.np_synth.proofs.FlatVerdicts.{addresses-same, pods-same}
 use Rattle.np_synth.specs.Faults.{fault_by, flat_fault, is_split, is_unlike}
 use Rattle.np_synth.specs.Flat.{flat_policies}
 use Rattle.np_synth.specs.Pairs.{first_pair}
-use Rattle.np_synth.specs.declared.fault.FlatFault.{FlatFault}
-use Rattle.np_synth.specs.declared.fault.FlatFault.TheVariants.{Alike, NoMemory, Split}
 use Rattle.np_kinds.specs.Between.{number_of_workloads}
 
 -- ---- what is said

@@ -1,25 +1,21 @@
 -- What `flatten` refuses, pod by pod.
-use Rattle.std.proofs.Common.{◌≡◌, ◌≢◌, ◌⊎◌, ◌==◌, ℕ, ◌<◌, ◌-◌, ◌^◌, ◌++◌, List, [], ◌∷◌, Bool, true, false, Contains}
-use Rattle.std.proofs.Common.{Option, Some, not, map, length, get_or, eq-eqb, ne_eqb, lit≤, arith, refl, sym, ap, subst, ◌∙◌, inl, inr}
+use Rattle.std.proofs.Common.{◌≡◌, ◌≢◌, ◌⊎◌, ◌==◌, ℕ, ◌<◌, ◌-◌, ◌^◌, ◌++◌, List, [], ◌∷◌, Bool, true, false, Contains, Option, Some, not, map, length, get_or, eq-eqb, ne_eqb, lit≤, arith, refl, sym, ap, subst, ◌∙◌, inl, inr}
 use Rattle.std.specs.List.{list_any}
 use Rattle.std.specs.List.Sorted.{IsStrictlySortedBy}
 use Rattle.std.specs.Option.{option_map_or}
 use Rattle.std.specs.Ordering.{nat_cmp}
 use Rattle.std.proofs.lemmas.Bool.{cases_eq, cases_lt, false_from_ne_true, not-true, true≢false}
 use Rattle.std.proofs.lemmas.Map.Keys.{below_from_sorted}
-use Rattle.np_addr.specs.declared.address.Family.{Family}
+use Rattle.np_command_flatten.specs.Types.{Alike, Direction, EstateLists, Family, PortSpot, Split}
 use Rattle.np_addr.specs.declared.address.Family.TheVariants.{Four, Six}
 use Rattle.np_command.specs.declared.fault.Fault.TheVariants as fault
 use Rattle.np_command_flatten.proofs.FlattenLemmas.{fault-workloads}
 use Rattle.np_command_flatten.specs.Promise.{AreFamiliesAlike, AreTreatedAlike, AreTwoPods, IsListed, RefusesFlatten}
 use Rattle.np_conns.specs.Conns.{is_spot}
-use Rattle.np_conns.specs.declared.port_spot.PortSpot.{PortSpot}
 use Rattle.np_fold.proofs.WorkloadLemmas.{number-in_workloads, one_workload, pods-ascend}
 use Rattle.np_fold.specs.Workloads.{Folding, folding_of, members_of, name_of, number_of}
 use Rattle.np_model.specs.Families.{families_of}
 use Rattle.np_model.specs.Lawful.{IsLawful}
-use Rattle.np_model.specs.declared.direction.Direction.{Direction}
-use Rattle.np_model.specs.declared.lists.EstateLists.{EstateLists}
 use Rattle.np_model.specs.declared.pod.Pod.{Pod}
 use Rattle.np_rules.specs.model.Ends.{pod_end}
 use Rattle.np_rules.specs.model.Verdict.{no_pod, pod_at}
@@ -32,7 +28,6 @@ use Rattle.np_synth.specs.Faults.{family_of_list, first_family, flat_fault, is_d
 use Rattle.np_synth.specs.Groups.{are_together, look_alike, relevant}
 use Rattle.np_synth.specs.Refused.{AreFamiliesAlike as FamiliesPassAlike, AreTreatedAlike as WorkloadsPassAlike, PassTheSame}
 use Rattle.np_synth.specs.steps.Seen.{seen}
-use Rattle.np_synth.specs.declared.fault.FlatFault.TheVariants.{Alike, Split}
 use Rattle.np_kinds.proofs.MemberLemmas.{destination-member, member-number, members-some, members-within, not-alone, own-member, source-member}
 use Rattle.np_kinds.proofs.PairLemmas.{between_pods-pair_allows, pair_allows-alone, pod_there, with_address-address_allows}
 use Rattle.np_table.proofs.RangeOneList.{walk-agrees}

@@ -3,13 +3,9 @@ use Rattle.std.proofs.Common.{◌≡◌, ℕ, List, [], Bool, true, ◌&&◌, if
 use Rattle.std.specs.Prelude.{IsPermutation}
 use Rattle.std.specs.List.{list_any}
 use Rattle.std.proofs.lemmas.List.Sorted.{list_any-IsPermutation}
-use Rattle.np_addr.specs.declared.address.Family.{Family}
+use Rattle.np_command_flatten.specs.Types.{Direction, EstateLists, Family, NetPolicy, PortSpot}
 use Rattle.np_command_flatten.specs.Promise.{with_policies}
-use Rattle.np_conns.specs.declared.port_spot.PortSpot.{PortSpot}
-use Rattle.np_model.specs.declared.direction.Direction.{Direction}
 use Rattle.np_model.specs.declared.direction.Direction.TheVariants.{Egress, Ingress}
-use Rattle.np_model.specs.declared.lists.EstateLists.{EstateLists}
-use Rattle.np_model.specs.declared.network_policy.NetPolicy.{NetPolicy}
 use Rattle.np_rules.specs.model.Ends.{Contact, End, Packet, PodEnd, address, contact_of, pod}
 use Rattle.np_rules.specs.model.NetTier.{is_isolated, isolates, permits, placed_net_matches}
 use Rattle.np_rules.specs.model.Places.{net_places_of}

@@ -1,17 +1,12 @@
 -- What a report of `flatten` says of the bytes of its inputs, and why there is none.
 use Rattle.std.specs.Prelude.{◌≡◌, ◌≢◌, ◌<◌, ℕ, List, [], ◌∷◌, Contains, None, Ok, length, true}
-use Rattle.np_addr.specs.declared.address.Family.{Family}
+use Rattle.np_command_flatten.specs.Types.{Direction, EstateLists, Family, Fault, NetPolicy, PortSpot}
 use Rattle.np_command.specs.Inputs.{lists_of}
 use Rattle.np_command.specs.Sinks.{SinkTrace, TookWhole}
-use Rattle.np_command.specs.declared.fault.Fault.{Fault}
 use Rattle.np_command.specs.declared.fault.Fault.TheVariants.{Alike, Split}
 use Rattle.np_conns.specs.Conns.{is_spot}
-use Rattle.np_conns.specs.declared.port_spot.PortSpot.{PortSpot}
 use Rattle.np_fold.specs.Workloads.{folding_of, name_of, number_of}
 use Rattle.np_model.specs.Families.{families_of}
-use Rattle.np_model.specs.declared.direction.Direction.{Direction}
-use Rattle.np_model.specs.declared.lists.EstateLists.{EstateLists}
-use Rattle.np_model.specs.declared.network_policy.NetPolicy.{NetPolicy}
 use Rattle.np_reading.specs.Reading.{estate_of}
 use Rattle.np_rules.specs.model.Ends.{pod}
 use Rattle.np_rules.specs.model.Verdict.{pod_at}

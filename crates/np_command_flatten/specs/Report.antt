@@ -1,14 +1,11 @@
 -- `flatten`: one tier of NetworkPolicies with the same verdicts.
 use Rattle.std.specs.Prelude.{ℕ, List, [], ◌++◌, ◌==◌, codes, Option, Some, None, Result, Ok, Err, if◌then◌else◌}
-use Rattle.np_command.specs.declared.fault.Fault.{Fault}
+use Rattle.np_command_flatten.specs.Types.{Alike, EstateLists, Fault, FlatFault, NoMemory, Split}
 use Rattle.np_command.specs.declared.fault.Fault.TheVariants as fault
-use Rattle.np_model.specs.declared.lists.EstateLists.{EstateLists}
 use Rattle.np_fold.specs.Workloads.{folding_of, name_of}
 use Rattle.np_manifests.specs.Lists.{list_line, policy_text}
 use Rattle.np_synth.specs.Faults.{flat_fault}
 use Rattle.np_synth.specs.Flat.{flat_policies, flat_policy}
-use Rattle.np_synth.specs.declared.fault.FlatFault.{FlatFault}
-use Rattle.np_synth.specs.declared.fault.FlatFault.TheVariants.{Alike, NoMemory, Split}
 use Rattle.np_kinds.specs.Between.{IsWorkload}
 
 -- the policies of all groups as one line

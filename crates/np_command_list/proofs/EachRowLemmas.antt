@@ -1,7 +1,5 @@
 -- Each row of a cluster is of pods of the estate.
-use Rattle.std.proofs.Common.{◌≡◌, ◌≢◌, ◌<◌, ◌-◌, ◌^◌, ◌==◌, ◌&&◌, ℕ, List, [], ◌∷◌}
-use Rattle.std.proofs.Common.{map, length, slice_index, Bool, true, false, All, Option, None, if◌then◌else◌, arith, refl, sym, ap, ◌∙◌}
-use Rattle.std.proofs.Common.{inl, inr}
+use Rattle.std.proofs.Common.{◌≡◌, ◌≢◌, ◌<◌, ◌-◌, ◌^◌, ◌==◌, ◌&&◌, ℕ, List, [], ◌∷◌, map, length, slice_index, Bool, true, false, All, Option, None, if◌then◌else◌, arith, refl, sym, ap, ◌∙◌, inl, inr}
 use Rattle.std.specs.Prelude.{◌↔◌}
 use Rattle.std.specs.Cmp.{ranked}
 use Rattle.std.specs.List.{flat_map, range_with_len}
@@ -12,17 +10,12 @@ use Rattle.std.proofs.lemmas.Bool.{false_from_ne_true, false≢true}
 use Rattle.std.proofs.lemmas.Bool.Decides.{eqb_tells}
 use Rattle.std.proofs.lemmas.List.Elements.{All-append, All-map, All-weaker}
 use Rattle.np_base.proofs.Lists.{All-numbers}
-use Rattle.np_addr.specs.declared.address.Family.{Family}
-use Rattle.np_addr.specs.declared.address.Family.TheVariants.{Four, Six}
+use Rattle.np_command_list.specs.Types.{AddressRow, Direction, Egress, EstateLists, Family, Four, Ingress, PortSpot, Row, Six}
 use Rattle.np_command_list.proofs.RowPartLemmas.{Agree, IsStretchOf, families-each, row_if-each, walk-stretches}
 use Rattle.np_command_list.specs.EachRow.{IsPodOf, IsRowOf, IsSpanRow, LetSomePass}
-use Rattle.np_conns.specs.declared.port_spot.PortSpot.{PortSpot}
 use Rattle.np_fold.proofs.WorkloadLemmas.{pods-ascend}
 use Rattle.np_fold.specs.Workloads.{folding_of, members_of, number_of}
 use Rattle.np_model.specs.Families.{families_of}
-use Rattle.np_model.specs.declared.direction.Direction.{Direction}
-use Rattle.np_model.specs.declared.direction.Direction.TheVariants.{Egress, Ingress}
-use Rattle.np_model.specs.declared.lists.EstateLists.{EstateLists}
 use Rattle.np_routes.specs.ClusterTable.{all_ingress_rows, cluster_rows, cluster_table, ingress_key, ingress_row}
 use Rattle.np_routes.specs.Controllers.{ingress_allows}
 use Rattle.np_routes.proofs.ClusterLemmas.{estate-names}
@@ -33,8 +26,6 @@ use Rattle.np_table.specs.Right.{Stretch, conns_of, walk}
 use Rattle.np_table.specs.Rows.{address_row, address_rows, all_address_rows, all_pair_rows, all_rows, four_of, pair_key, pair_rows, row_of, rows_of_addresses, rows_towards, six_of}
 use Rattle.np_kinds.specs.Between.{IsWorkload, address_allows, between_pods, destination_pod, is_alone, number_of_workloads, pair_allows, source_pod}
 use Rattle.np_table.specs.Table.{estate_table, table_of}
-use Rattle.np_table.specs.declared.rows.AddressRow.{AddressRow}
-use Rattle.np_table.specs.declared.rows.Row.{Row}
 
 -- the first two of ascending numbers differ
 two-apart : (xs : List ℕ) → IsStrictlySortedBy nat_cmp xs → 1 < length xs → slice_index xs 0 ≢ slice_index xs 1

@@ -1,15 +1,12 @@
 -- What a table is asked for.
 use Rattle.std.proofs.Common.{◌≡◌, ℕ, Option, false, refl}
-use Rattle.np_model.specs.declared.lists.EstateLists.{EstateLists}
+use Rattle.np_command_list.specs.Types.{EstateLists, Format, Query, Report}
 use Rattle.np_fold.specs.Workloads.{folding_of}
 use Rattle.np_report.specs.Forms.{form_of}
 use Rattle.np_report.specs.RowText.{names_of}
 use Rattle.np_report.specs.TableText.{list_text, rows_to_come}
-use Rattle.np_report.specs.declared.query.Query.{Query}
 use Rattle.np_routes.specs.ClusterTable.{cluster_rows, cluster_table}
 use Rattle.np_table.specs.Table.{table_of}
-use Rattle.np_args.specs.declared.format.Format.{Format}
-use Rattle.np_args.specs.declared.report.Report.{Report}
 
 -- the text of the table that is asked for is that of all its rows
 pub list_text_is : (lists : EstateLists) (controller : Option ℕ) (query : Query) (format : Format) (report : Report)

@@ -1,6 +1,5 @@
 -- Workloads by the names that are given.
-use Rattle.std.proofs.Common.{◌≡◌, ◌≤◌, ℕ, List, [], Bool, true, false, Contains, Option, Some, None, Ok}
-use Rattle.std.proofs.Common.{Err, length, map, get_or, slice_get, nat_lt, position, if◌then◌else◌, arith, refl, sym, ap, subst, ◌∙◌}
+use Rattle.std.proofs.Common.{◌≡◌, ◌≤◌, ℕ, List, [], Bool, true, false, Contains, Option, Some, None, Ok, Err, length, map, get_or, slice_get, nat_lt, position, if◌then◌else◌, arith, refl, sym, ap, subst, ◌∙◌}
 use Rattle.std.specs.List.{position_or_len}
 use Rattle.std.specs.Str.{bytes_eq}
 use Rattle.std.proofs.lemmas.Bool.{false≢true, ltb-false}
@@ -9,17 +8,13 @@ use Rattle.std.proofs.lemmas.List.Quantifiers.{position-Some}
 use Rattle.std.proofs.lemmas.List.Sums.{fails_before_first}
 use Rattle.std.proofs.lemmas.Option.{slice_get-get_or}
 use Rattle.std.proofs.lemmas.Slice.Eq.{bytes_eq-Decides}
-use Rattle.np_args.specs.declared.focus_side.FocusSide.{FocusSide}
-use Rattle.np_command.specs.declared.fault.Fault.{Fault}
-use Rattle.np_command.specs.declared.fault.Fault.TheVariants.{UnknownEnd}
+use Rattle.np_command_list.specs.Types.{EstateLists, Fault, FocusSide, Query, UnknownEnd}
 use Rattle.np_command.specs.Ends.{or_unknown}
 use Rattle.np_command.proofs.EndLemmas.{no_workload}
 use Rattle.np_command_list.specs.Promise.{IsNamed, query_for}
 use Rattle.np_command_list.specs.Report.{controller_of, query_of}
 use Rattle.np_fold.specs.Workloads.{Workload, folding_of, number_named}
-use Rattle.np_model.specs.declared.lists.EstateLists.{EstateLists}
 use Rattle.np_report.specs.RowText.{names_of}
-use Rattle.np_report.specs.declared.query.Query.{Query}
 use Rattle.np_report.specs.declared.query.Query.TheVariants.{Work}
 
 abbrev has_name : List ℕ → Workload → Bool

@@ -1,6 +1,5 @@
 -- Lists of rows in order of which each row of the one is told as a row of the other.
-use Rattle.std.proofs.Common.{◌≡◌, ◌<◌, ◌⊎◌, inl, inr, ℕ, zero, suc, List, [], ◌∷◌, map, length, slice_index_or}
-use Rattle.std.proofs.Common.{Bool, true, false, All, AllPairs, Contains, Option, if◌then◌else◌, arith, refl, sym, ap, subst, ◌∙◌}
+use Rattle.std.proofs.Common.{◌≡◌, ◌<◌, ◌⊎◌, inl, inr, ℕ, zero, suc, List, [], ◌∷◌, map, length, slice_index_or, Bool, true, false, All, AllPairs, Contains, Option, if◌then◌else◌, arith, refl, sym, ap, subst, ◌∙◌}
 use Rattle.std.specs.Prelude.{filter}
 use Rattle.std.specs.List.{list_any}
 use Rattle.std.specs.Cmp.{IsTotalOrder, tied_itself}
@@ -10,12 +9,10 @@ use Rattle.std.specs.declared.cmp.Ordering.TheVariants.{Equal, Less}
 use Rattle.std.proofs.lemmas.Bool.{false≢true}
 use Rattle.std.proofs.lemmas.List.Elements.{All-contains, All-contains_itself, All-filter, filter_passes}
 use Rattle.std.proofs.lemmas.List.Folds.{Any-from_list_any, list_any_at}
-use Rattle.np_addr.specs.declared.address.Family.{Family}
+use Rattle.np_command_list.specs.Types.{Family, Row, RowKey}
 use Rattle.np_conns.specs.Conns.{has_spot}
 use Rattle.np_command_list.specs.RowOrder.{ComesBefore, rank_of, row_rank}
 use Rattle.np_table.specs.Said.{AllowSamePorts}
-use Rattle.np_table.specs.declared.rows.Row.{Row}
-use Rattle.np_table.specs.declared.rows.RowKey.{RowKey}
 
 -- ---- what a list has
 

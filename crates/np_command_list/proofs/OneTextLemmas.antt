@@ -1,8 +1,6 @@
 -- Lists of rows that say what passes are told by one text.
 use Rattle.std.proofs.Common.{◌≡◌, ℕ, List, ◌++◌, Contains, Option, refl, ap, ◌∙◌}
-use Rattle.np_addr.specs.declared.address.Family.{Family}
-use Rattle.np_addr.specs.declared.address.Family.TheVariants.{Four, Six}
-use Rattle.np_args.specs.declared.report.Report.{Report}
+use Rattle.np_command_list.specs.Types.{Controller, Egress, EstateLists, Family, Four, Ingress, Query, Report, Row, RowEnd, RowKey, Six, Span, Work}
 use Rattle.np_command_list.proofs.OneListLemmas.{AreAmong, AreToldAlike, told-alike}
 use Rattle.np_command_list.proofs.SameRangesLemmas.{range-among}
 use Rattle.np_command_list.proofs.SameRowsLemmas.{ingress-among, kept-key, pair-among, row-of}
@@ -11,19 +9,12 @@ use Rattle.np_command_list.specs.Promise.{SayWhatPasses}
 use Rattle.np_conns.proofs.ConnLemmas.{conns_text-agrees}
 use Rattle.np_conns.specs.Conns.{has_spot}
 use Rattle.np_conns.specs.ConnsText.{conns_text}
-use Rattle.np_model.specs.declared.direction.Direction.TheVariants.{Egress, Ingress}
-use Rattle.np_model.specs.declared.lists.EstateLists.{EstateLists}
 use Rattle.np_report.specs.RowText.{end_text, family_suffix, row_text}
 use Rattle.np_report.specs.TableText.{texts_of}
-use Rattle.np_report.specs.declared.query.Query.{Query}
 use Rattle.np_report.specs.declared.row.RowText.{RowText}
 use Rattle.np_routes.specs.ClusterTable.{ingress_key}
 use Rattle.np_table.specs.Rows.{key_of, pair_key}
 use Rattle.np_table.specs.declared.rows.AddressSpan.TheVariants as span
-use Rattle.np_table.specs.declared.rows.Row.{Row}
-use Rattle.np_table.specs.declared.rows.RowEnd.{RowEnd}
-use Rattle.np_table.specs.declared.rows.RowEnd.TheVariants.{Controller, Span, Work}
-use Rattle.np_table.specs.declared.rows.RowKey.{RowKey}
 
 module _ (lists : EstateLists) (sender : Option ℕ) (query : Query) (rows others : List Row) (say : SayWhatPasses lists sender query rows) (say' : SayWhatPasses lists sender query others) where
   -- each row of the one list is told as one of the other

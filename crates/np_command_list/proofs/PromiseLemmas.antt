@@ -3,15 +3,11 @@ use Rattle.std.proofs.Common.{◌≡◌, ◌<◌, ◌⊎◌, inl, inr, ℕ, List
 use Rattle.std.proofs.lemmas.Bool.{and_parts, false≢true}
 use Rattle.std.proofs.lemmas.List.Elements.{All-filter, All-head, All-same, filter_passes}
 use Rattle.std.proofs.lemmas.List.Kept.{AllPairs-filter}
-use Rattle.np_addr.specs.declared.address.Family.{Family}
-use Rattle.np_args.specs.declared.focus_side.FocusSide.{FocusSide}
+use Rattle.np_command_list.specs.Types.{AddressSpan, Controller, Direction, Egress, EstateLists, Family, Fault, FocusSide, Format, Ingress, Listing, PortSpot, Query, Report, Row, RowEnd, RowKey, Span, Work}
 use Rattle.np_args.specs.declared.focus_side.FocusSide.TheVariants.{Destination, Either, Source}
-use Rattle.np_args.specs.declared.format.Format.{Format}
-use Rattle.np_args.specs.declared.report.Report.{Report}
 use Rattle.np_command.specs.Inputs.{lists_of}
 use Rattle.np_command.specs.Prints.{fault_in, text_in}
 use Rattle.np_command.specs.Sinks.{SinkTrace, TookWhole}
-use Rattle.np_command.specs.declared.fault.Fault.{Fault}
 use Rattle.np_command_list.proofs.EachRowLemmas.{cluster_rows-are}
 use Rattle.np_command_list.proofs.NamedLemmas.{controller-named, controller-unknown, focus-named, focus-unknown}
 use Rattle.np_command_list.proofs.OrderLemmas.{cluster-ordered}
@@ -19,18 +15,12 @@ use Rattle.np_command_list.specs.EachRow.{IsRowOf}
 use Rattle.np_command_list.specs.Promise.{RefusesList, SayWhatPasses, SaysAddresses, SaysAll, SaysIngresses, SaysPods}
 use Rattle.np_command_list.specs.Report.{controller_of, list_reply, listing, listing_of, listing_text, query_of}
 use Rattle.np_command_list.specs.RowOrder.{ComesBefore}
-use Rattle.np_command_list.specs.declared.report.Listing.{Listing}
-use Rattle.np_conns.specs.declared.port_spot.PortSpot.{PortSpot}
 use Rattle.np_fold.specs.Workloads.{folding_of, number_of}
 use Rattle.np_model.specs.Lawful.{IsLawful}
-use Rattle.np_model.specs.declared.direction.Direction.{Direction}
-use Rattle.np_model.specs.declared.direction.Direction.TheVariants.{Egress, Ingress}
-use Rattle.np_model.specs.declared.lists.EstateLists.{EstateLists}
 use Rattle.np_report.specs.Forms.{report_text}
 use Rattle.np_report.specs.Keeps.{keeps}
 use Rattle.np_report.specs.RowText.{names_of}
 use Rattle.np_report.specs.TableText.{list_text, shown_rows, texts_of}
-use Rattle.np_report.specs.declared.query.Query.{Query}
 use Rattle.np_report.specs.declared.query.Query.TheVariants as query
 use Rattle.np_routes.proofs.ClusterLemmas.{allows_in-workloads, rows_between-cluster, rows_from_controller-kept, rows_of_address-cluster, workload-end}
 use Rattle.np_routes.proofs.ReachedLemmas.{number-workload, reaches-allows}
@@ -43,11 +33,6 @@ use Rattle.np_table.specs.Rows.{all_rows, key_of}
 use Rattle.np_table.specs.Said.{allows_in, is_address, is_of_address, is_workload, rows_between, rows_of_address}
 use Rattle.np_table.specs.Table.{Table, table_of}
 use Rattle.np_kinds.specs.Between.{source_pod}
-use Rattle.np_table.specs.declared.rows.AddressSpan.{AddressSpan}
-use Rattle.np_table.specs.declared.rows.Row.{Row}
-use Rattle.np_table.specs.declared.rows.RowEnd.{RowEnd}
-use Rattle.np_table.specs.declared.rows.RowEnd.TheVariants.{Controller, Span, Work}
-use Rattle.np_table.specs.declared.rows.RowKey.{RowKey}
 
 -- the rows of an estate that a query asks for
 abbrev rows_shown : EstateLists → Option ℕ → Query → List Row

@@ -7,9 +7,7 @@ use Rattle.np_report.specs.Forms.{Form}
 use Rattle.np_report.specs.Keeps.{keeps}
 use Rattle.np_report.specs.RowText.{row_text}
 use Rattle.np_report.specs.TableText.{rows_to_come}
-use Rattle.np_report.specs.declared.query.Query.{Query}
-use Rattle.np_args.specs.declared.report.Report.{Report}
-use Rattle.np_table.specs.declared.rows.Row.{Row}
+use Rattle.np_command_list.specs.Types.{Query, Report, Row}
 
 -- the bytes of the next row, if it is asked for, stand before what is left then
 pub rows_to_come-next : (form : Form) (names : List (List ℕ)) (query : Query) (report : Report) (came : Bool) (row : Row) (rows : List Row) →

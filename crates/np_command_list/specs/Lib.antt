@@ -2,3 +2,4 @@ pub mod EachRow
 pub mod Promise
 pub mod Report
 pub mod RowOrder
+pub mod Types

@@ -1,26 +1,17 @@
 -- What a report of `list` says of the bytes of its inputs: the theorem of the program.
 use Rattle.std.specs.Prelude.{◌≡◌, ◌≢◌, ◌<◌, ◌⊎◌, ℕ, List, length, slice_get, All, AllPairs, Contains, true, ◌&&◌, not, Option, Some, None, Ok}
-use Rattle.np_addr.specs.declared.address.Family.{Family}
-use Rattle.np_args.specs.declared.focus_side.FocusSide.{FocusSide}
-use Rattle.np_args.specs.declared.format.Format.{Format}
-use Rattle.np_args.specs.declared.report.Report.{Report}
+use Rattle.np_command_list.specs.Types.{AddressSpan, Direction, EstateLists, Family, Fault, FocusSide, Format, PortSpot, Query, Report, Row, Span, UnknownEnd}
 use Rattle.np_command.specs.Inputs.{lists_of}
 use Rattle.np_command.specs.Sinks.{SinkTrace, TookWhole}
-use Rattle.np_command.specs.declared.fault.Fault.{Fault}
-use Rattle.np_command.specs.declared.fault.Fault.TheVariants.{UnknownEnd}
 use Rattle.np_command_list.specs.EachRow.{IsRowOf}
 use Rattle.np_command_list.specs.RowOrder.{ComesBefore}
 use Rattle.np_conns.specs.Conns.{is_spot}
-use Rattle.np_conns.specs.declared.port_spot.PortSpot.{PortSpot}
 use Rattle.np_fold.specs.Workloads.{folding_of, number_of}
 use Rattle.np_model.specs.Families.{families_of}
-use Rattle.np_model.specs.declared.direction.Direction.{Direction}
-use Rattle.np_model.specs.declared.lists.EstateLists.{EstateLists}
 use Rattle.np_report.specs.Forms.{report_text}
 use Rattle.np_report.specs.Keeps.{keeps}
 use Rattle.np_report.specs.RowText.{names_of}
 use Rattle.np_report.specs.TableText.{texts_of}
-use Rattle.np_report.specs.declared.query.Query.{Query}
 use Rattle.np_report.specs.declared.query.Query.TheVariants as query
 use Rattle.np_routes.specs.ClusterTable.{ingress_key, rows_from_controller}
 use Rattle.np_routes.specs.Controllers.{ingress_reaches, is_controller, sender_of}
@@ -29,9 +20,6 @@ use Rattle.np_rules.specs.model.Verdict.{pod_at}
 use Rattle.np_table.specs.Rows.{key_of, pair_key}
 use Rattle.np_table.specs.Said.{IsInFamily, OneRowSays, allows_in, rows_between}
 use Rattle.np_kinds.specs.Between.{between_pods, with_address}
-use Rattle.np_table.specs.declared.rows.AddressSpan.{AddressSpan}
-use Rattle.np_table.specs.declared.rows.Row.{Row}
-use Rattle.np_table.specs.declared.rows.RowEnd.TheVariants.{Span}
 
 -- ---- what is asked for
 

@@ -3,13 +3,8 @@ use Rattle.std.specs.Prelude.{◌≡◌, ℕ, List, [], ◌∷◌, Option, Some,
 use Rattle.std.specs.Cmp.Lexicographic.{slice_cmp}
 use Rattle.std.specs.Ordering.{nat_cmp}
 use Rattle.std.specs.declared.cmp.Ordering.TheVariants.{Less}
-use Rattle.np_addr.specs.declared.address.Family.{Family}
-use Rattle.np_addr.specs.declared.address.Family.TheVariants.{Four, Six}
-use Rattle.np_table.specs.declared.rows.AddressSpan.{AddressSpan}
+use Rattle.np_command_list.specs.Types.{AddressSpan, Controller, Family, Four, Row, RowEnd, Six, Span, Work}
 use Rattle.np_table.specs.declared.rows.AddressSpan.TheVariants as span
-use Rattle.np_table.specs.declared.rows.Row.{Row}
-use Rattle.np_table.specs.declared.rows.RowEnd.{RowEnd}
-use Rattle.np_table.specs.declared.rows.RowEnd.TheVariants.{Controller, Span, Work}
 
 -- a row without a mark, then that of IPv4, then that of IPv6
 abbrev pub mark_rank : Option Family → ℕ

@@ -2,13 +2,10 @@
 use Rattle.std.proofs.Common.{◌≡◌, ℕ, List, Bool, true, false, ◌&&◌, not, ◌≤◌, MatchBool, nat_le, sym, ◌∙◌, ap, subst}
 use Rattle.std.proofs.lemmas.Bool.{and_from, and_parts, le-leb, leb-true}
 use Rattle.np_base.specs.Ranges.{holds}
-use Rattle.np_base.specs.declared.range.Range.{Range}
+use Rattle.np_conns.specs.Types.{PortSpot, Proto, Range, Sctp, Tcp, Udp}
 use Rattle.np_conns.specs.Conns.{Conns, ranges_of, is_spot, has_spot, AscendsInPorts, IsConns}
 use Rattle.np_conns.specs.ConnsText.{conns_of, spans_of, text_of_runs, conns_text}
 use Rattle.np_conns.specs.Spots.{ranges_of-ascend, equal_by_ranges}
-use Rattle.np_conns.specs.declared.port_spot.PortSpot.{PortSpot}
-use Rattle.np_conns.specs.declared.proto.Proto.{Proto}
-use Rattle.np_conns.specs.declared.proto.Proto.TheVariants.{Tcp, Udp, Sctp}
 use Rattle.np_conns.proofs.RunLemmas.{runs-agree, runs-ascend, runs-hold, runs-holds}
 
 -- sets with equal ranges of each protocol are equal, and a spot of one protocol tells two sets apart

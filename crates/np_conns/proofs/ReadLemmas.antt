@@ -1,17 +1,14 @@
 -- Reading piece by piece what was printed piece by piece.
-use Rattle.std.proofs.Common.{◌≡◌, ℕ, zero, suc, ◌+◌, ◌<◌, ◌≤◌, List, [], ◌∷◌, ◌++◌, Bool, true, ◌||◌, eqb, length, get_or, take, drop, map, codes, Option, Some, None, unwrap_or, MatchOption, inl}
-use Rattle.std.proofs.Common.{inr, ◌⊎◌, sym, ◌∙◌, ap, arith}
+use Rattle.std.proofs.Common.{◌≡◌, ℕ, zero, suc, ◌+◌, ◌<◌, ◌≤◌, List, [], ◌∷◌, ◌++◌, Bool, true, ◌||◌, eqb, length, get_or, take, drop, map, codes, Option, Some, None, unwrap_or, MatchOption, inl, inr, ◌⊎◌, sym, ◌∙◌, ap, arith}
 use Rattle.std.proofs.lemmas.Bool.{false≢true}
 use Rattle.std.proofs.lemmas.List.{get_or-map, length-map, take_all, take_more}
 use Rattle.std.proofs.lemmas.List.Folds.{list_any_more}
 use Rattle.std.specs.Borrow.{Bor}
 use Rattle.std.specs.List.{slice_split, join_by, list_any, AllByRecursion}
-use Rattle.np_base.specs.declared.range.Range.{Range}
+use Rattle.np_conns.specs.Types.{Proto, Range, Sctp, Tcp, Udp}
 use Rattle.np_conns.specs.Conns.{IsRun}
 use Rattle.np_conns.specs.ConnsText.{run_text, part_text}
 use Rattle.np_conns.specs.Reading.{Part, IsPart, runs_of_part, text_of_part}
-use Rattle.np_conns.specs.declared.proto.Proto.{Proto}
-use Rattle.np_conns.specs.declared.proto.Proto.TheVariants.{Tcp, Udp, Sctp}
 use Rattle.np_conns.proofs.OneText.{runs_text-cut, part_text-lacks}
 use Rattle.np_conns.proofs.SplitLemmas.{lacks, slice_split-join_by}
 

@@ -1,7 +1,7 @@
 -- The runs of a test: the one ascending list of ranges of the ports that pass.
 use Rattle.std.proofs.Common.{◌≡◌, ℕ, zero, suc, ◌+◌, ◌<◌, ◌≤◌, List, [], ◌∷◌, Bool, true, false, ◌&&◌, ◌||◌, eqb, leb, refl, sym, ◌∙◌, ap, arith, inl, inr}
 use Rattle.std.proofs.lemmas.Bool.{and_from, or_left, le-leb, eqb-true, eqb-false, cond_both, cases_lt}
-use Rattle.np_base.specs.declared.range.Range.{Range}
+use Rattle.np_conns.specs.Types.{Range}
 use Rattle.np_base.specs.Ranges.{holds, IsAscending}
 use Rattle.np_base.proofs.Ranges.{is_within-past, holds-before, IsAscending-earlier, same_members_same_ranges}
 use Rattle.std.specs.List.{AllByRecursion}

@@ -9,7 +9,7 @@ use Rattle.std.specs.Borrow.{Bor}
 use Rattle.std.specs.Int.{IsInRange}
 use Rattle.std.specs.List.{slice_split, onto_first, flat_map, join_by, AllByRecursion}
 use Rattle.std.specs.Str.Parse.{AllDigits}
-use Rattle.np_base.specs.declared.range.Range.{Range}
+use Rattle.np_conns.specs.Types.{Range}
 use Rattle.np_conns.specs.Conns.{IsRun}
 use Rattle.np_conns.specs.ConnsText.{run_text}
 

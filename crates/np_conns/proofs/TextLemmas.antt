@@ -1,10 +1,9 @@
 -- The text of connections, as it is printed part by part.
 use Rattle.std.proofs.Common.{◌≡◌, ℕ, List, [], ◌∷◌, ◌++◌, false, ◌&&◌, eqb, length, sym, ◌∙◌, append_assoc, append-nil}
 use Rattle.std.proofs.lemmas.Bool.{cond-false}
-use Rattle.np_base.specs.declared.range.Range.{Range}
+use Rattle.np_conns.specs.Types.{Range, Sctp, Tcp, Udp}
 use Rattle.np_conns.specs.Appended.{with_part}
 use Rattle.np_conns.specs.ConnsText.{part, joined, is_whole, text_of_runs}
-use Rattle.np_conns.specs.declared.proto.Proto.TheVariants.{Tcp, Udp, Sctp}
 
 -- the parts one after another, from none
 abbrev three_parts : List (Range ℕ) → List (Range ℕ) → List (Range ℕ) → List ℕ

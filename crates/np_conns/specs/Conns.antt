@@ -1,10 +1,7 @@
 -- Connection sets: for each protocol the ascending ranges of its ports.
 use Rattle.std.specs.Prelude.{ℕ, ◌≤◌, List, Bool, true, false, ◌&&◌, nat_le}
 use Rattle.np_base.specs.Ranges.{holds, IsAscending}
-use Rattle.np_base.specs.declared.range.Range.{Range}
-use Rattle.np_conns.specs.declared.port_spot.PortSpot.{PortSpot}
-use Rattle.np_conns.specs.declared.proto.Proto.{Proto}
-use Rattle.np_conns.specs.declared.proto.Proto.TheVariants.{Tcp, Udp, Sctp}
+use Rattle.np_conns.specs.Types.{PortSpot, Proto, Range, Sctp, Tcp, Udp}
 
 -- the ranges of ports of each protocol
 pub record Conns : Type 0 where

@@ -5,4 +5,5 @@ pub mod Faults
 pub mod Reading
 pub mod Runs
 pub mod Spots
+pub mod Types
 pub use Rattle.np_base.specs.Ranges

@@ -2,13 +2,9 @@
 use Rattle.std.specs.Prelude.{◌≡◌, ℕ, List, ◌∷◌, Bool, ◌&&◌, Result, MatchResult, codes, ◌⊎◌, ◌++◌}
 use Rattle.std.specs.List.{list_any, AllByRecursion}
 use Rattle.np_base.specs.Ranges.{is_within, holds}
-use Rattle.np_base.specs.declared.range.Range.{Range}
+use Rattle.np_conns.specs.Types.{ConnsFault, NoMemory, PortSpot, Proto, Range}
 use Rattle.np_conns.specs.Conns.{Conns, has_spot, same_proto, IsRun}
 use Rattle.np_conns.specs.ConnsText.{part_text}
-use Rattle.np_conns.specs.declared.conns_fault.ConnsFault.{ConnsFault}
-use Rattle.np_conns.specs.declared.conns_fault.ConnsFault.TheVariants.{NoMemory}
-use Rattle.np_conns.specs.declared.port_spot.PortSpot.{PortSpot}
-use Rattle.np_conns.specs.declared.proto.Proto.{Proto}
 
 -- the answer has exactly the ports that pass, or memory is wanting
 abbrev pub GivesPorts : (ℕ → Bool) → Result (List (Range ℕ)) ConnsFault → Type 0

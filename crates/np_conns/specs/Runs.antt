@@ -1,6 +1,6 @@
 -- The maximal runs of ports that pass a test, found by walking over the ports.
 use Rattle.std.specs.Prelude.{ℕ, zero, suc, ◌+◌, List, [], ◌∷◌, Bool, if◌then◌else◌, ◌==◌}
-use Rattle.np_base.specs.declared.range.Range.{Range}
+use Rattle.np_conns.specs.Types.{Range}
 
 -- a port put before the runs of the ports above it: it lengthens the first run where it touches it, else it is a run of its own
 abbrev pub onto_runs : ℕ → List (Range ℕ) → List (Range ℕ)

@@ -3,9 +3,7 @@ use Rattle.std.proofs.Common.{◌≡◌, true, ap, ◌∙◌, arith}
 use Rattle.np_base.proofs.Ranges.{same_members_same_ranges}
 use Rattle.np_sets.specs.Laws.{holds-between}
 use Rattle.np_conns.specs.Conns.{Conns, ranges_of, is_spot, has_spot, AscendsInPorts, IsConns}
-use Rattle.np_conns.specs.declared.port_spot.PortSpot.{PortSpot}
-use Rattle.np_conns.specs.declared.proto.Proto.{Proto}
-use Rattle.np_conns.specs.declared.proto.Proto.TheVariants.{Tcp, Udp, Sctp}
+use Rattle.np_conns.specs.Types.{PortSpot, Proto, Sctp, Tcp, Udp}
 
 -- the ranges of each protocol ascend
 pub ranges_of-ascend : (conns : Conns) → IsConns conns → (proto : Proto) → AscendsInPorts (ranges_of conns proto)

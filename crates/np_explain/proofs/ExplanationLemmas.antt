@@ -6,15 +6,12 @@ use Rattle.std.specs.Cmp.Lexicographic.{pointwise}
 use Rattle.std.proofs.lemmas.Bool.Decides.{Decides-and, Decides-eqb}
 use Rattle.std.proofs.lemmas.Slice.Eq.{slice_eq-Decides}
 use Rattle.std.proofs.Math.Bool.{or-false, and-true, and-false}
-use Rattle.np_addr.specs.declared.address.Family.{Family}
-use Rattle.np_base.specs.declared.range.Range.{Range}
+use Rattle.np_explain.specs.Types.{Decider, Egress, End, EstateLists, Explanation, Family, Ingress, NoSide, Part, PortSpot, Range}
 use Rattle.np_base.proofs.Bools.{not_itself}
 use Rattle.np_base.specs.Ranges.{are_same_range}
 use Rattle.np_conns.proofs.ConnLemmas.{conns_of-has, conns_of-set}
 use Rattle.np_conns.specs.Conns.{Conns, IsConns, has_spot, is_spot}
 use Rattle.np_conns.specs.ConnsText.{conns_of}
-use Rattle.np_conns.specs.declared.port_spot.PortSpot.{PortSpot}
-use Rattle.np_model.specs.declared.lists.EstateLists.{EstateLists}
 use Rattle.np_explain.proofs.OneListLemmas.{both_say, one_part}
 use Rattle.np_explain.proofs.RightPartsLemmas.{made_are_right}
 use Rattle.np_explain.proofs.SameDecider.{same_decider-Decides}
@@ -22,13 +19,7 @@ use Rattle.np_explain.specs.Explanations.{IsRightFor, explanation_of, passes_bet
 use Rattle.np_explain.specs.Parts.{AreRightParts}
 use Rattle.np_explain.specs.RightParts.{parts_of, same_decider}
 use Rattle.np_explain.specs.Sides.{decider_between, packet_between}
-use Rattle.np_explain.specs.declared.explanation.Explanation.{Explanation}
-use Rattle.np_explain.specs.declared.part.Part.{Part}
-use Rattle.np_model.specs.declared.direction.Direction.TheVariants.{Ingress, Egress}
 use Rattle.np_rules.specs.Deciders.{decider_allows}
-use Rattle.np_rules.specs.declared.decider.Decider.{Decider}
-use Rattle.np_rules.specs.declared.decider.Decider.TheVariants.{NoSide}
-use Rattle.np_rules.specs.declared.packet.End.{End}
 
 -- ---- parts that allow
 

@@ -11,10 +11,8 @@ use Rattle.np_rules.specs.Deciders.{admin_rule_name, base_rule_name, net_rule_na
 use Rattle.np_rules.specs.model.Places.{PlacedAdminRule}
 use Rattle.np_rules.specs.PodSides.{PodSide, near_pod}
 use Rattle.np_rules.specs.model.Sides.{is_allow}
-use Rattle.np_rules.specs.declared.decider.Decider.{Decider}
+use Rattle.np_explain.specs.Types.{Decider, Mark, RuleName}
 use Rattle.np_rules.specs.declared.decider.Decider.TheVariants as decider
-use Rattle.np_rules.specs.declared.decider.RuleName.{RuleName}
-use Rattle.np_tiers.specs.declared.mark.Mark.{Mark}
 use Rattle.np_tiers.specs.declared.mark.Mark.TheVariants as mark
 
 -- ---- the rule of a name

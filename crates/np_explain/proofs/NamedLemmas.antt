@@ -9,11 +9,9 @@ use Rattle.std.proofs.lemmas.List.{length-append}
 use Rattle.std.proofs.lemmas.List.Elements.{All-append, All-cons, All-filter, All-head, All-nil, All-tail, All-weaker}
 use Rattle.std.proofs.lemmas.List.Folds.{list_all-append}
 use Rattle.np_base.proofs.Options.{some_is}
-use Rattle.np_addr.specs.declared.address.Family.{Family}
+use Rattle.np_explain.specs.Types.{Action, AdminPolicy, Allow, BasePolicy, Decider, Deny, Direction, Egress, End as PlacedEnd, EstateLists, Family, Ingress, NetPolicy, Part, Pass, PortSpot, RuleName}
 use Rattle.np_conns.specs.Spots.{has_spot-is_spot}
-use Rattle.np_conns.specs.declared.port_spot.PortSpot.{PortSpot}
 use Rattle.np_model.specs.Lawful.{is_well}
-use Rattle.np_model.specs.declared.lists.EstateLists.{EstateLists}
 use Rattle.np_explain.proofs.OneListLemmas.{among_all}
 use Rattle.np_explain.proofs.PlaceLemmas.{all_flat, all_made}
 use Rattle.np_explain.proofs.RuleLemmas.{if_any}
@@ -22,33 +20,21 @@ use Rattle.np_explain.specs.DeciderText.{decider_text}
 use Rattle.np_explain.specs.Parts.{AreRightParts}
 use Rattle.np_explain.specs.Sides.{decider_between, end_at, packet_between, placed_at}
 use Rattle.np_explain.specs.WellNamed.{is_rule_name, is_well_named}
-use Rattle.np_explain.specs.declared.part.Part.{Part}
 use Rattle.np_model.specs.Words.{has_slash, is_name, is_word, is_word_byte, is_whole_word}
 use Rattle.np_model.specs.WellPolicies.{is_well_admin_policy, is_well_base_policy, is_well_net_policy}
-use Rattle.np_model.specs.declared.admin_policy.Action.{Action}
-use Rattle.np_model.specs.declared.admin_policy.Action.TheVariants.{Allow, Deny, Pass}
-use Rattle.np_model.specs.declared.admin_policy.AdminPolicy.{AdminPolicy}
-use Rattle.np_model.specs.declared.admin_policy.BasePolicy.{BasePolicy}
-use Rattle.np_model.specs.declared.direction.Direction.{Direction}
-use Rattle.np_model.specs.declared.direction.Direction.TheVariants.{Ingress, Egress}
-use Rattle.np_model.specs.declared.network_policy.NetPolicy.{NetPolicy}
 use Rattle.np_model.specs.declared.network_policy.NetRule.{NetRule}
 use Rattle.np_model.specs.WellObjects.{option_all}
 use Rattle.np_rules.proofs.DeciderLemmas.{least_is_among}
 use Rattle.np_rules.proofs.PlacesLemmas.{length-numbered}
 use Rattle.np_rules.specs.model.AdminTier.{admin_decider, admin_precedes, least_by}
 use Rattle.np_rules.specs.model.BaseTier.{base_decider}
-use Rattle.np_rules.specs.Deciders.{action_decides, admin_decides, admin_rule_name, base_decides, base_rule_name, decider, isolating_names, lower_decider, net_decider, net_decides, net_policy_name}
-use Rattle.np_rules.specs.Deciders.{net_precedes, net_rule_name}
+use Rattle.np_rules.specs.Deciders.{action_decides, admin_decides, admin_rule_name, base_decides, base_rule_name, decider, isolating_names, lower_decider, net_decider, net_decides, net_policy_name, net_precedes, net_rule_name}
 use Rattle.np_rules.specs.model.Ends.{Contact, End, PodEnd, address, contact_of, pod}
 use Rattle.np_rules.specs.model.NetTier.{is_isolated, isolates, placed_net_matches}
 use Rattle.np_rules.specs.model.Places.{PlacedAdminRule, PlacedBaseRule, PlacedNetRule, admin_places, admin_rules_of, base_places, base_rules_of, end_rule_count, net_places, net_rules_of, rule_count}
 use Rattle.np_rules.specs.model.Rules.{admin_rule_matches}
 use Rattle.np_rules.specs.model.Selection.{net_selects, subject_selects}
 use Rattle.np_rules.specs.model.Verdict.{end_of}
-use Rattle.np_rules.specs.declared.decider.Decider.{Decider}
-use Rattle.np_rules.specs.declared.decider.RuleName.{RuleName}
-use Rattle.np_rules.specs.declared.packet.End.{End as PlacedEnd}
 use Rattle.np_rules.proofs.PolicyRulesLemmas.{placed_admin}
 
 -- ---- names

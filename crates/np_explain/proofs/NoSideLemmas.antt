@@ -1,20 +1,15 @@
 -- Something decides at each pod.
 use Rattle.std.proofs.Common.{◌≡◌, ◌↔◌, ℕ, List, Bool, true, false, IsTrue, Option, Some, None, refl, sym, ap, ◌∙◌, if◌then◌else◌}
 use Rattle.std.proofs.lemmas.Bool.{false≢true}
-use Rattle.np_model.specs.declared.lists.EstateLists.{EstateLists}
+use Rattle.np_explain.specs.Types.{Action, Allow, Decider, Deny, Direction, EstateLists, Pass, RuleName}
 use Rattle.np_explain.specs.Sides.{is_address}
-use Rattle.np_model.specs.declared.admin_policy.Action.{Action}
-use Rattle.np_model.specs.declared.admin_policy.Action.TheVariants.{Allow, Deny, Pass}
-use Rattle.np_model.specs.declared.direction.Direction.{Direction}
 use Rattle.np_rules.specs.model.AdminTier.{admin_decider}
 use Rattle.np_rules.specs.model.BaseTier.{base_decider}
 use Rattle.np_rules.specs.Deciders.{action_decides, admin_decides, admin_rule_name, base_decides, decider, isolating_names, lower_decider, net_decider, net_decides}
 use Rattle.np_rules.specs.model.Ends.{Contact, End, PodEnd, address, pod}
 use Rattle.np_rules.specs.model.NetTier.{is_isolated}
 use Rattle.np_rules.specs.model.Places.{PlacedAdminRule, PlacedBaseRule, PlacedNetRule}
-use Rattle.np_rules.specs.declared.decider.Decider.{Decider}
 use Rattle.np_rules.specs.declared.decider.Decider.TheVariants as decider
-use Rattle.np_rules.specs.declared.decider.RuleName.{RuleName}
 
 abbrev has_no_side : Decider → Bool
 has_no_side decider.NoSide = true

@@ -5,23 +5,16 @@ use Rattle.std.specs.List.{list_any}
 use Rattle.std.proofs.lemmas.Bool.{false≢true}
 use Rattle.std.proofs.lemmas.List.Elements.{All-head, All-tail}
 use Rattle.np_base.proofs.Lists.{AllPairs-head, AllPairs-tail}
-use Rattle.np_addr.specs.declared.address.Family.{Family}
+use Rattle.np_explain.specs.Types.{Decider, Direction, Egress, End, EstateLists, Family, Ingress, Part, PortSpot}
 use Rattle.np_conns.specs.Conns.{Conns, IsConns, has_spot, is_spot}
 use Rattle.np_conns.specs.Spots.{equal_by_spots, has_spot-is_spot}
-use Rattle.np_conns.specs.declared.port_spot.PortSpot.{PortSpot}
-use Rattle.np_model.specs.declared.lists.EstateLists.{EstateLists}
 use Rattle.np_explain.specs.Parts.{AreRightParts, StartsBefore, some_has}
 use Rattle.np_explain.specs.Sides.{decider_at, decider_between, end_at, packet_between}
-use Rattle.np_explain.specs.declared.part.Part.{Part}
-use Rattle.np_model.specs.declared.direction.Direction.{Direction}
-use Rattle.np_model.specs.declared.direction.Direction.TheVariants.{Ingress, Egress}
 use Rattle.np_rules.proofs.DeciderLemmas.{decider_says}
 use Rattle.np_rules.specs.Deciders.{decider_allows}
 use Rattle.np_rules.specs.model.Ends.{Packet, contact_of}
 use Rattle.np_rules.specs.Laws.{IsAmong}
 use Rattle.np_rules.specs.model.Verdict.{allows, end_allows}
-use Rattle.np_rules.specs.declared.decider.Decider.{Decider}
-use Rattle.np_rules.specs.declared.packet.End.{End}
 
 -- ---- lists in a strict order
 

@@ -12,12 +12,11 @@ use Rattle.std.proofs.lemmas.Option.{slice_get_cases}
 use Rattle.std.proofs.lemmas.Map.Keys.{IsDistinct-IsPermutation, IsDistinct-from_apart, IsStrictlyIncreasing-from_distinct}
 use Rattle.np_conns.specs.Conns.{Conns, IsConns, has_spot, is_spot}
 use Rattle.np_conns.specs.Spots.{has_spot-is_spot}
-use Rattle.np_conns.specs.declared.port_spot.PortSpot.{PortSpot}
+use Rattle.np_explain.specs.Types.{Decider, Layer, Mark, Marked, Part, PortSpot}
 use Rattle.np_model.specs.Lawful.{IsLawful}
 use Rattle.np_explain.specs.Marks.{IsMarkOf, mark_decider, named_part}
 use Rattle.np_explain.specs.Order.{first_number}
 use Rattle.np_explain.specs.Parts.{AreRightParts, StartsBefore, some_has}
-use Rattle.np_explain.specs.declared.part.Part.{Part}
 use Rattle.np_explain.proofs.FirstLemmas.{first_is, numbers_tell}
 use Rattle.np_explain.proofs.MarkLemmas.{marks_told}
 use Rattle.np_explain.proofs.WalkLemmas.{mark_named}
@@ -25,11 +24,7 @@ use Rattle.np_rules.specs.Deciders.{decider}
 use Rattle.np_rules.specs.model.Ends.{Contact, pod}
 use Rattle.np_rules.specs.Layers.{IsLayer}
 use Rattle.np_rules.specs.PodSides.{PodSide, near_pod}
-use Rattle.np_rules.specs.declared.decider.Decider.{Decider}
 use Rattle.np_tiers.specs.Marks.{mark_of, marks_at}
-use Rattle.np_tiers.specs.declared.layer.Layer.{Layer}
-use Rattle.np_tiers.specs.declared.mark.Mark.{Mark}
-use Rattle.np_tiers.specs.declared.mark.Marked.{Marked}
 
 -- ---- what carving gives, as one record
 

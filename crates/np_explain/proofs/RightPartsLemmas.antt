@@ -1,6 +1,5 @@
 -- The parts that are made from what decides each spot are right.
-use Rattle.std.proofs.Common.{◌≡◌, ◌≢◌, ◌↔◌, ℕ, zero, suc, ◌<◌, ◌≤◌, List, [], ◌∷◌, Bool, true, false, not, IsTrue, get_or, map, filter, All, AllPairs, refl, sym, ap, ◌∙◌, arith}
-use Rattle.std.proofs.Common.{if◌then◌else◌}
+use Rattle.std.proofs.Common.{◌≡◌, ◌≢◌, ◌↔◌, ℕ, zero, suc, ◌<◌, ◌≤◌, List, [], ◌∷◌, Bool, true, false, not, IsTrue, get_or, map, filter, All, AllPairs, refl, sym, ap, ◌∙◌, arith, if◌then◌else◌}
 use Rattle.std.proofs.lemmas.Bool.{or_left, or_right}
 use Rattle.std.proofs.lemmas.Bool.Decides.{Decides-not}
 use Rattle.std.proofs.lemmas.List.Elements.{All-cons, All-contains, All-filter, All-map, All-nil, All-weaker, filter_passes}
@@ -10,7 +9,7 @@ use Rattle.np_base.proofs.Lists.{AllPairs-head, AllPairs-tail, Contains-later}
 use Rattle.np_addr.proofs.Pairs.{AllPairs-nil}
 use Rattle.np_conns.specs.Conns.{IsConns, has_spot, is_spot}
 use Rattle.np_conns.specs.Spots.{has_spot-is_spot}
-use Rattle.np_conns.specs.declared.port_spot.PortSpot.{PortSpot}
+use Rattle.np_explain.specs.Types.{Decider, Part, PortSpot}
 use Rattle.np_conns.proofs.ConnLemmas.{conns_of-has, conns_of-well}
 use Rattle.np_explain.proofs.OneListLemmas.{one_is_right}
 use Rattle.np_explain.proofs.PartLemmas.{AllPairs-map}
@@ -18,8 +17,6 @@ use Rattle.np_explain.proofs.SameDecider.{same_decider-Decides}
 use Rattle.np_explain.proofs.SpotLemmas.{IsBefore, all_spots-are_spots, all_spots-ascend, all_spots-has}
 use Rattle.np_explain.specs.Parts.{AreRightParts, StartsBefore, spot_number}
 use Rattle.np_explain.specs.RightParts.{all_spots, each_once, part_of, parts_of, same_decider}
-use Rattle.np_explain.specs.declared.part.Part.{Part}
-use Rattle.np_rules.specs.declared.decider.Decider.{Decider}
 
 -- ---- lists
 

@@ -13,16 +13,12 @@ use Rattle.std.proofs.lemmas.Slice.Eq.{bytes_eq-Decides}
 use Rattle.np_base.proofs.Lists.{AllPairs-head, AllPairs-tail}
 use Rattle.np_addr.proofs.Pairs.{AllPairs-nil}
 use Rattle.np_model.specs.Lawful.{AreNamesApart, StandsBefore, comes_before}
-use Rattle.np_model.specs.declared.admin_policy.AdminPolicy.{AdminPolicy}
-use Rattle.np_model.specs.declared.admin_policy.BasePolicy.{BasePolicy}
-use Rattle.np_model.specs.declared.direction.Direction.{Direction}
-use Rattle.np_model.specs.declared.network_policy.NetPolicy.{NetPolicy}
+use Rattle.np_explain.specs.Types.{AdminPolicy, BasePolicy, Direction, NetPolicy, RuleName}
 use Rattle.np_rules.specs.Deciders.{admin_rule_name, base_rule_name, net_decider, net_precedes, net_rule_name}
 use Rattle.np_rules.specs.model.Ends.{Contact, PodEnd}
 use Rattle.np_rules.specs.model.NetTier.{placed_net_matches}
 use Rattle.np_rules.specs.model.Places.{PlacedAdminRule, PlacedNetRule, admin_places, admin_places_of, admin_rules_of, base_places, base_rules_of, net_places, net_places_of, net_rules_of}
 use Rattle.np_rules.specs.model.Selection.{net_selects, subject_selects}
-use Rattle.np_rules.specs.declared.decider.RuleName.{RuleName}
 use Rattle.np_rules.proofs.AdminTierLemmas.{IsInOrder, least_is_first, places_by as admin_places_by}
 use Rattle.np_rules.proofs.NetTierLemmas.{places_by as net_places_by}
 use Rattle.np_explain.proofs.PlaceLemmas.{all_made, numbered_pairs, pairs_flat}

@@ -10,9 +10,7 @@ use Rattle.std.specs.Cmp.Lexicographic.{pointwise}
 use Rattle.std.specs.Option.{option_eq}
 use Rattle.std.specs.Str.{bytes_eq}
 use Rattle.np_explain.specs.RightParts.{same_decider, same_rule}
-use Rattle.np_rules.specs.declared.decider.Decider.{Decider}
-use Rattle.np_rules.specs.declared.decider.Decider.TheVariants.{NoSide, Admin, Net, Isolated, Base, Free}
-use Rattle.np_rules.specs.declared.decider.RuleName.{RuleName}
+use Rattle.np_explain.specs.Types.{Admin, Base, Decider, Free, Isolated, Net, NoSide, RuleName}
 
 pub same_rule-Decides : (a b : RuleName) → Decides (same_rule a b) (a ≡ b)
 same_rule-Decides a b =

@@ -9,8 +9,7 @@ use Rattle.np_base.proofs.Lists.{slice_get-some}
 use Rattle.np_base.proofs.Options.{some_is}
 use Rattle.np_explain.proofs.PlaceLemmas.{at_place}
 use Rattle.np_explain.specs.Marks.{KeepsNames, admin_rules, base_rules, mark_decider, net_rules, pass_name, policy_name_at}
-use Rattle.np_model.specs.declared.admin_policy.AdminPolicy.{AdminPolicy}
-use Rattle.np_model.specs.declared.network_policy.NetPolicy.{NetPolicy}
+use Rattle.np_explain.specs.Types.{AdminPart, AdminPolicy, Decider, Layer, LayerRules, NetPolicy, RuleName}
 use Rattle.np_rules.specs.Deciders.{admin_rule_name, base_rule_name, isolating_names, net_policy_name, net_rule_name}
 use Rattle.np_rules.specs.LayerRules.{NamesAdmin, NamesBase, NamesNet}
 use Rattle.np_rules.specs.Layers.{Pairwise, tier_action}
@@ -18,14 +17,9 @@ use Rattle.np_rules.specs.model.NetTier.{isolates}
 use Rattle.np_rules.specs.model.Places.{PlacedAdminRule, PlacedBaseRule, PlacedNetRule}
 use Rattle.np_rules.specs.PodSides.{PodSide, near_pod}
 use Rattle.np_rules.specs.model.Sides.{is_allow}
-use Rattle.np_rules.specs.declared.decider.Decider.{Decider}
 use Rattle.np_rules.specs.declared.decider.Decider.TheVariants as decider
-use Rattle.np_rules.specs.declared.decider.RuleName.{RuleName}
-use Rattle.np_rules.specs.declared.rule_ids.LayerRules.{LayerRules}
 use Rattle.np_rules.specs.declared.rule_ids.RuleId.{RuleId}
-use Rattle.np_tiers.specs.declared.layer.AdminPart.{AdminPart}
 use Rattle.np_tiers.specs.declared.layer.BasePart.{BasePart}
-use Rattle.np_tiers.specs.declared.layer.Layer.{Layer}
 use Rattle.np_tiers.specs.declared.mark.Mark.TheVariants as mark
 
 -- ---- related lists

@@ -7,9 +7,7 @@ use Rattle.std.specs.List.{Contains}
 use Rattle.np_base.proofs.Lists.{AllPairs-append}
 use Rattle.np_addr.proofs.Pairs.{AllPairs-nil}
 use Rattle.np_conns.specs.Conns.{is_spot, proto_number}
-use Rattle.np_conns.specs.declared.port_spot.PortSpot.{PortSpot}
-use Rattle.np_conns.specs.declared.proto.Proto.{Proto}
-use Rattle.np_conns.specs.declared.proto.Proto.TheVariants.{Tcp, Udp, Sctp}
+use Rattle.np_explain.specs.Types.{PortSpot, Proto, Sctp, Tcp, Udp}
 use Rattle.np_explain.specs.Parts.{spot_number}
 use Rattle.np_explain.specs.RightParts.{all_spots, spots_from}
 

@@ -12,11 +12,7 @@ use Rattle.np_explain.specs.WellNamed.{has_rule, is_rule_name, is_well_named}
 use Rattle.np_rules.specs.Deciders.{decider_allows}
 use Rattle.np_rules.specs.Texts.{verdict_text}
 use Rattle.np_model.specs.Words.{is_word, is_word_byte, direction_text, is_whole_word}
-use Rattle.np_rules.specs.declared.decider.Decider.{Decider}
-use Rattle.np_rules.specs.declared.decider.Decider.TheVariants.{NoSide, Admin, Net, Isolated, Base, Free}
-use Rattle.np_rules.specs.declared.decider.RuleName.{RuleName}
-use Rattle.np_model.specs.declared.direction.Direction.{Direction}
-use Rattle.np_model.specs.declared.direction.Direction.TheVariants.{Ingress, Egress}
+use Rattle.np_explain.specs.Types.{Admin, Base, Decider, Direction, Egress, Free, Ingress, Isolated, Net, NoSide, RuleName}
 use Rattle.np_model.specs.WellObjects.{option_all}
 use Rattle.np_model.proofs.WordLemmas.{words-cut, decimal-word}
 

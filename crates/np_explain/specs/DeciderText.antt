@@ -2,12 +2,9 @@
 use Rattle.std.specs.Prelude.{ℕ, List, [], ◌++◌, codes, decimal, Option}
 use Rattle.std.specs.List.{join_by}
 use Rattle.std.specs.Option.{option_map_or}
-use Rattle.np_model.specs.declared.direction.Direction.{Direction}
+use Rattle.np_explain.specs.Types.{Admin, Base, Decider, Direction, Free, Isolated, Net, NoSide, RuleName}
 use Rattle.np_model.specs.Words.{direction_text}
 use Rattle.np_rules.specs.Texts.{verdict_text}
-use Rattle.np_rules.specs.declared.decider.Decider.{Decider}
-use Rattle.np_rules.specs.declared.decider.Decider.TheVariants.{NoSide, Admin, Net, Isolated, Base, Free}
-use Rattle.np_rules.specs.declared.decider.RuleName.{RuleName}
 
 -- `name ingress[n]`, where n is the rule's place from 0
 abbrev pub rule_text : Direction → RuleName → List ℕ

@@ -6,4 +6,5 @@ pub mod PartLine
 pub mod Parts
 pub mod RightParts
 pub mod Sides
+pub mod Types
 pub mod WellNamed

@@ -3,8 +3,7 @@ use Rattle.std.specs.Prelude.{◌≡◌, ℕ, ◌<◌, List, [], length, filter,
 use Rattle.std.specs.List.{slice_get}
 use Rattle.std.specs.Option.{option_map, option_map_or}
 use Rattle.np_conns.specs.Conns.{Conns}
-use Rattle.np_explain.specs.declared.part.Part.{Part}
-use Rattle.np_model.specs.declared.network_policy.NetPolicy.{NetPolicy}
+use Rattle.np_explain.specs.Types.{Decider, Layer, LayerRules, Mark, Marked, NetPolicy, Part, RuleName}
 use Rattle.np_rules.specs.Deciders.{admin_rule_name, base_rule_name, isolating_names, net_policy_name, net_rule_name}
 use Rattle.np_rules.specs.LayerRules.{NamesAdmin, NamesBase, NamesNet}
 use Rattle.np_rules.specs.Layers.{Pairwise, tier_action}
@@ -12,14 +11,8 @@ use Rattle.np_rules.specs.model.NetTier.{isolates}
 use Rattle.np_rules.specs.model.Places.{PlacedAdminRule, PlacedBaseRule, PlacedNetRule, admin_places, base_places, net_places}
 use Rattle.np_rules.specs.PodSides.{PodSide, near_pod}
 use Rattle.np_rules.specs.model.Sides.{is_allow}
-use Rattle.np_rules.specs.declared.decider.Decider.{Decider}
 use Rattle.np_rules.specs.declared.decider.Decider.TheVariants as decider
-use Rattle.np_rules.specs.declared.decider.RuleName.{RuleName}
-use Rattle.np_rules.specs.declared.rule_ids.LayerRules.{LayerRules}
-use Rattle.np_tiers.specs.declared.layer.Layer.{Layer}
-use Rattle.np_tiers.specs.declared.mark.Mark.{Mark}
 use Rattle.np_tiers.specs.declared.mark.Mark.TheVariants as mark
-use Rattle.np_tiers.specs.declared.mark.Marked.{Marked}
 
 -- ---- the rules of a side, place by place
 

@@ -1,6 +1,6 @@
 -- The number of the least spot of a set.
 use Rattle.std.specs.Prelude.{ℕ, ◌+◌, List, [], ◌∷◌}
-use Rattle.np_base.specs.declared.range.Range.{Range}
+use Rattle.np_explain.specs.Types.{Range}
 use Rattle.np_conns.specs.Conns.{Conns}
 
 -- that of the first port, where the ports are numbered from `start` on

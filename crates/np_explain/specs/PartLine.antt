@@ -3,8 +3,7 @@ use Rattle.std.specs.Prelude.{ℕ, List, ◌++◌, codes}
 use Rattle.np_conns.specs.Conns.{has_spot}
 use Rattle.np_conns.specs.ConnsText.{conns_text}
 use Rattle.np_explain.specs.DeciderText.{decider_text}
-use Rattle.np_explain.specs.declared.part.Part.{Part}
-use Rattle.np_model.specs.declared.direction.Direction.{Direction}
+use Rattle.np_explain.specs.Types.{Direction, Part}
 
 -- `connections : decider`
 abbrev pub part_line : Direction → Part → List ℕ

@@ -2,9 +2,7 @@
 use Rattle.std.specs.Prelude.{◌≡◌, ◌≢◌, ◌↔◌, ℕ, ◌+◌, ◌*◌, ◌<◌, List, Bool, true, IsTrue, All, AllPairs}
 use Rattle.std.specs.List.{list_any}
 use Rattle.np_conns.specs.Conns.{Conns, IsConns, has_spot, is_spot, proto_number}
-use Rattle.np_conns.specs.declared.port_spot.PortSpot.{PortSpot}
-use Rattle.np_explain.specs.declared.part.Part.{Part}
-use Rattle.np_rules.specs.declared.decider.Decider.{Decider}
+use Rattle.np_explain.specs.Types.{Decider, Part, PortSpot}
 
 -- ---- the order of spots
 

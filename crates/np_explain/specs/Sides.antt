@@ -1,17 +1,11 @@
 -- What decides the packets between two ends, at one side of them.
 use Rattle.std.specs.Prelude.{◌≡◌, Bool, true, false, ◌==◌}
 use Rattle.np_addr.specs.Addresses.{family_of}
-use Rattle.np_addr.specs.declared.address.Family.{Family}
-use Rattle.np_conns.specs.declared.port_spot.PortSpot.{PortSpot}
-use Rattle.np_model.specs.declared.lists.EstateLists.{EstateLists}
-use Rattle.np_model.specs.declared.direction.Direction.{Direction}
-use Rattle.np_model.specs.declared.direction.Direction.TheVariants.{Ingress, Egress}
+use Rattle.np_explain.specs.Types.{Decider, Direction, Egress, End as PlacedEnd, EstateLists, Family, Ingress, PortSpot}
 use Rattle.np_rules.specs.Deciders.{decider}
 use Rattle.np_rules.specs.model.Ends.{Contact, End, Packet, address, contact, contact_of, pod}
 use Rattle.np_rules.specs.PodSides.{PodSide, near_pod}
 use Rattle.np_rules.specs.model.Verdict.{end_of}
-use Rattle.np_rules.specs.declared.decider.Decider.{Decider}
-use Rattle.np_rules.specs.declared.packet.End.{End as PlacedEnd}
 use Rattle.np_rules.specs.declared.packet.End.TheVariants.{Pod, At}
 
 -- ---- two ends

@@ -3,9 +3,7 @@ use Rattle.std.specs.Prelude.{◌^◌, length, Bool, true, false, not, ◌&&◌,
 use Rattle.std.specs.List.{list_all}
 use Rattle.np_model.specs.WellObjects.{option_all}
 use Rattle.np_model.specs.Words.{is_whole_word}
-use Rattle.np_rules.specs.declared.decider.Decider.{Decider}
-use Rattle.np_rules.specs.declared.decider.Decider.TheVariants.{NoSide, Admin, Net, Isolated, Base, Free}
-use Rattle.np_rules.specs.declared.decider.RuleName.{RuleName}
+use Rattle.np_explain.specs.Types.{Admin, Base, Decider, Free, Isolated, Net, NoSide, RuleName}
 
 -- a rule of a policy whose name, or `namespace/name`, is a word and not empty, at a place that 64 bits can say
 abbrev pub is_rule_name : RuleName → Bool

@@ -3,29 +3,17 @@ use Rattle.std.proofs.Common.{◌≡◌, ℕ, List, [], ◌∷◌, ◌++◌, map
 use Rattle.std.specs.List.{AllByRecursion, enumerate_from, flat_map, list_any}
 use Rattle.std.specs.Str.{bytes_eq}
 use Rattle.np_base.proofs.Each.{All-parts}
-use Rattle.np_addr.specs.declared.address.Family.TheVariants.{Four}
+use Rattle.np_exposure.specs.Types.{AdminPolicy, AdminPort, AdminRule, BasePolicy, Direction, Egress, EstateLists, Four, Ingress, NetPolicy, NetPort, NetRule, PortSpot, Stranger}
 use Rattle.np_conns.specs.Conns.{same_proto}
-use Rattle.np_conns.specs.declared.port_spot.PortSpot.{PortSpot}
-use Rattle.np_model.specs.declared.lists.EstateLists.{EstateLists}
 use Rattle.np_exposure.specs.Mentions.{mentions}
 use Rattle.np_exposure.specs.Strangers.{exposes}
-use Rattle.np_fold.specs.Keys.{keys_of_admin_policy, keys_of_admin_rule, keys_of_baseline, keys_of_estate, keys_of_net_direction, keys_of_net_policy, keys_of_selector, keys_of_service}
-use Rattle.np_fold.specs.Keys.{keys_of_subject}
+use Rattle.np_fold.specs.Keys.{keys_of_admin_policy, keys_of_admin_rule, keys_of_baseline, keys_of_estate, keys_of_net_direction, keys_of_net_policy, keys_of_selector, keys_of_service, keys_of_subject}
 use Rattle.np_fold.proofs.SelectorLemmas.{selector-agree}
 use Rattle.np_labels.specs.Labels.{AgreeOn}
 use Rattle.np_labels.specs.Selectors.{meets_selector}
-use Rattle.np_model.specs.declared.admin_policy.AdminPolicy.{AdminPolicy}
-use Rattle.np_model.specs.declared.admin_policy.AdminPort.{AdminPort}
 use Rattle.np_model.specs.declared.admin_policy.AdminPort.TheVariants as admin_port
-use Rattle.np_model.specs.declared.admin_policy.AdminRule.{AdminRule}
-use Rattle.np_model.specs.declared.admin_policy.BasePolicy.{BasePolicy}
 use Rattle.np_model.specs.declared.admin_policy.Subject.{Subject}
-use Rattle.np_model.specs.declared.direction.Direction.{Direction}
-use Rattle.np_model.specs.declared.direction.Direction.TheVariants.{Ingress, Egress}
-use Rattle.np_model.specs.declared.network_policy.NetPolicy.{NetPolicy}
-use Rattle.np_model.specs.declared.network_policy.NetPort.{NetPort}
 use Rattle.np_model.specs.declared.network_policy.NetPort.TheVariants as net_port
-use Rattle.np_model.specs.declared.network_policy.NetRule.{NetRule}
 use Rattle.np_rules.proofs.EachItem.{All-each, filter-same, find-same, list_any-same, none_or_any-same}
 use Rattle.np_rules.specs.model.AdminTier.{admin_decider, admin_precedes, least_by}
 use Rattle.np_rules.specs.model.BaseTier.{base_decider}
@@ -39,7 +27,6 @@ use Rattle.np_rules.specs.model.Rules.{admin_rule_matches, net_rule_matches, non
 use Rattle.np_rules.specs.model.Selection.{net_selects, subject_selects}
 use Rattle.np_rules.specs.model.Sides.{admin_says, base_says, lower_allows, side_allows}
 use Rattle.np_rules.specs.model.Verdict.{pod_at}
-use Rattle.np_rules.specs.declared.stranger.Stranger.{Stranger}
 
 -- Two pods of one namespace, with the same labels of it and the same named ports, that have the same values of the keys
 -- that selectors name.

@@ -15,22 +15,16 @@ use Rattle.np_exposure.specs.Mentions.{each_once, is_same, mentions, same_side, 
 use Rattle.np_exposure.specs.Strangers.{is_hypothetical, labels_at, meets_all}
 use Rattle.np_exposure.specs.Tree.{AreRowsOf}
 use Rattle.np_exposure.specs.Weight.{keys_on, looks_at, values_at}
-use Rattle.np_exposure.specs.declared.exposure_row.ExposureRow.{ExposureRow}
-use Rattle.np_exposure.specs.declared.side.Side.{Side}
-use Rattle.np_exposure.specs.declared.side.Side.TheVariants.{Namespace, Pod}
-use Rattle.np_exposure.specs.declared.sided_requirement.SidedRequirement.{SidedRequirement}
+use Rattle.np_exposure.specs.Types.{Absent, ExposureRow, Namespace, NoneOf, OneOf, Op, Pod, Present, Side, SidedRequirement, Stranger}
 use Rattle.np_exposure.specs.Choices.{Choices, choices_at_first, choices_of, fits, is_name_key, label_at, labels_on, other_than}
 use Rattle.np_exposure.specs.steps.States.{are_at, is_at}
 use Rattle.np_exposure.specs.steps.Walks.{AreWalked}
 use Rattle.np_labels.proofs.Distinct.{is_listed-distinct}
 use Rattle.np_labels.specs.Labels.{value_of}
 use Rattle.np_labels.specs.Selectors.{allows, is_listed}
-use Rattle.np_labels.specs.declared.op.Op.{Op}
-use Rattle.np_labels.specs.declared.op.Op.TheVariants.{OneOf, NoneOf, Present, Absent}
 use Rattle.np_rules.proofs.EachItem.{All-each}
 use Rattle.np_rules.specs.Laws.{IsAmong}
 use Rattle.np_rules.specs.PodSides.{PodSide}
-use Rattle.np_rules.specs.declared.stranger.Stranger.{Stranger}
 
 -- ---- each requirement stands once
 

@@ -7,10 +7,7 @@ use Rattle.np_exposure.proofs.StateLemmas.{alone-step}
 use Rattle.np_exposure.proofs.WalkLemmas.{IsFilled, walked-alone}
 use Rattle.np_exposure.specs.Choices.{Choices, allows_found}
 use Rattle.np_exposure.specs.Weight.{looks_at}
-use Rattle.np_exposure.specs.declared.exposure_row.ExposureRow.{ExposureRow}
-use Rattle.np_exposure.specs.declared.pending.Pending.{Pending}
-use Rattle.np_exposure.specs.declared.sided_requirement.SidedRequirement.{SidedRequirement}
-use Rattle.np_exposure.specs.declared.step.Aside.{Aside}
+use Rattle.np_exposure.specs.Types.{Aside, ExposureRow, Pending, SidedRequirement}
 use Rattle.np_exposure.specs.steps.States.{IsState, are_at, can_be, is_at, is_decided, is_made, suits}
 use Rattle.np_exposure.specs.steps.Walks.{AreWalked, Fills, IsLeaf, IsStepTo, still_asked}
 use Rattle.np_rules.specs.PodSides.{PodSide}

@@ -5,30 +5,15 @@ use Rattle.std.specs.Str.{bytes_eq}
 use Rattle.std.proofs.lemmas.Bool.{false≢true}
 use Rattle.std.proofs.Math.Bool.{or-false}
 use Rattle.np_base.proofs.Each.{All-weaker, All-parts}
-use Rattle.np_addr.specs.declared.address.Family.TheVariants.{Four}
-use Rattle.np_conns.specs.declared.port_spot.PortSpot.{PortSpot}
+use Rattle.np_exposure.specs.Types.{AdminPeer, AdminPort, AdminRule, Direction, Egress, Four, Ingress, Namespace, NetPeer, NetPort, NetRule, OneOf, Pod, PortSpot, Requirement, Selector, Side, SidedRequirement, Stranger}
 use Rattle.np_exposure.specs.Mentions.{mentions, named, of_admin_peer, of_admin_rule, of_net_peer, of_net_rule, of_placed, of_selector}
 use Rattle.np_exposure.specs.Strangers.{exposes, is_hypothetical, labels_at, meets}
-use Rattle.np_exposure.specs.declared.side.Side.{Side}
-use Rattle.np_exposure.specs.declared.side.Side.TheVariants.{Namespace, Pod}
-use Rattle.np_exposure.specs.declared.sided_requirement.SidedRequirement.{SidedRequirement}
 use Rattle.np_labels.specs.Labels.{value_of}
 use Rattle.np_labels.specs.Selectors.{allows, meets_requirement, meets_selector}
-use Rattle.np_labels.specs.declared.op.Op.TheVariants.{OneOf}
-use Rattle.np_labels.specs.declared.requirement.Requirement.{Requirement}
-use Rattle.np_labels.specs.declared.selector.Selector.{Selector}
-use Rattle.np_model.specs.declared.admin_policy.AdminPeer.{AdminPeer}
 use Rattle.np_model.specs.declared.admin_policy.AdminPeer.TheVariants as admin
-use Rattle.np_model.specs.declared.admin_policy.AdminPort.{AdminPort}
 use Rattle.np_model.specs.declared.admin_policy.AdminPort.TheVariants as admin_port
-use Rattle.np_model.specs.declared.admin_policy.AdminRule.{AdminRule}
-use Rattle.np_model.specs.declared.direction.Direction.{Direction}
-use Rattle.np_model.specs.declared.direction.Direction.TheVariants.{Ingress, Egress}
-use Rattle.np_model.specs.declared.network_policy.NetPeer.{NetPeer}
 use Rattle.np_model.specs.declared.network_policy.NetPeer.TheVariants as net
-use Rattle.np_model.specs.declared.network_policy.NetPort.{NetPort}
 use Rattle.np_model.specs.declared.network_policy.NetPort.TheVariants as net_port
-use Rattle.np_model.specs.declared.network_policy.NetRule.{NetRule}
 use Rattle.np_rules.proofs.EachItem.{All-each, All-flat, filter-same, find-same, list_any-same, none_or_any-same}
 use Rattle.np_rules.specs.model.AdminTier.{admin_decider, admin_precedes, least_by}
 use Rattle.np_rules.specs.model.BaseTier.{base_decider}
@@ -40,7 +25,6 @@ use Rattle.np_rules.specs.PodSides.{PodSide, near_pod, with_stranger}
 use Rattle.np_rules.specs.model.PortEntries.{admin_entry_matches, net_entry_matches}
 use Rattle.np_rules.specs.model.Rules.{admin_rule_matches, net_rule_matches, none_or_any}
 use Rattle.np_rules.specs.model.Sides.{admin_says, base_says, lower_allows, side_allows}
-use Rattle.np_rules.specs.declared.stranger.Stranger.{Stranger}
 
 -- names of which both or neither is this one
 names-same : (namespace : List ℕ) (a b : Option (List ℕ)) → is_some a ≡ true → is_some b ≡ true → allows OneOf (namespace ∷ []) a ≡ allows OneOf (namespace ∷ []) b →

@@ -14,15 +14,11 @@ use Rattle.np_exposure.specs.Mentions.{mentions, requirements}
 use Rattle.np_exposure.specs.Strangers.{negated}
 use Rattle.np_exposure.specs.Tree.{AreRows, AreRowsAt, AreRowsOf, IsJoined, IsPossible, always, apart, either, equal, never, with_first}
 use Rattle.np_exposure.specs.Weight.{keys_on, looks_at, patterns_at, patterns_on, product, values_at, weight}
-use Rattle.np_exposure.specs.declared.exposure_row.ExposureRow.{ExposureRow}
-use Rattle.np_exposure.specs.declared.side.Side.{Side}
-use Rattle.np_exposure.specs.declared.side.Side.TheVariants.{Namespace, Pod}
-use Rattle.np_exposure.specs.declared.sided_requirement.SidedRequirement.{SidedRequirement}
+use Rattle.np_exposure.specs.Types.{ExposureRow, Namespace, Pod, Side, SidedRequirement, Stranger}
 use Rattle.np_exposure.specs.Choices.{Choices, choices_at_first, choices_of, is_name_key, label_at, labels_on, other_than}
 use Rattle.np_exposure.specs.steps.States.{is_at, narrowed, suits}
 use Rattle.np_rules.specs.Laws.{IsAmong}
 use Rattle.np_rules.specs.PodSides.{PodSide}
-use Rattle.np_rules.specs.declared.stranger.Stranger.{Stranger}
 
 -- how many patterns the choices have
 abbrev size : List Choices → ℕ

@@ -1,7 +1,6 @@
 -- Rows that wait.
 use Rattle.std.proofs.Common.{List, [], ◌∷◌, ◌++◌, refl, sym, subst}
-use Rattle.np_exposure.specs.declared.exposure_row.ExposureRow.{ExposureRow}
-use Rattle.np_exposure.specs.declared.pending.Pending.{Pending}
+use Rattle.np_exposure.specs.Types.{ExposureRow, Pending}
 use Rattle.np_exposure.specs.steps.Walks.{Fills, IsJoinedBy}
 
 -- the last that waits is filled first

@@ -9,10 +9,7 @@ use Rattle.np_base.proofs.Lists.{list_all-both}
 use Rattle.np_exposure.proofs.SameLemmas.{same_side-refl}
 use Rattle.np_exposure.specs.Mentions.{same_side}
 use Rattle.np_exposure.specs.Weight.{keys_on}
-use Rattle.np_exposure.specs.declared.label.Label.{Label}
-use Rattle.np_exposure.specs.declared.side.Side.{Side}
-use Rattle.np_exposure.specs.declared.side.Side.TheVariants.{Namespace, Pod}
-use Rattle.np_exposure.specs.declared.sided_requirement.SidedRequirement.{SidedRequirement}
+use Rattle.np_exposure.specs.Types.{Label, Namespace, Pod, Side, SidedRequirement}
 use Rattle.np_exposure.specs.Choices.{Choices, choices_at_first, choices_of, has_choice, is_name_key, is_open, label_at, labels_of, labels_on}
 use Rattle.np_exposure.specs.steps.States.{IsState, are_apart, is_apart, is_named_at}
 use Rattle.np_labels.proofs.Ascending.{bytes_eq-below}

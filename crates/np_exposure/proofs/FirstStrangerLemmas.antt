@@ -11,13 +11,10 @@ use Rattle.np_exposure.proofs.WitnessLemmas.{first-among, value_of-append, named
 use Rattle.np_exposure.specs.Choices.{Choices, first_found, first_label, first_stranger, has_choice, is_name_key, is_open, label_if}
 use Rattle.np_exposure.specs.Mentions.{same_side}
 use Rattle.np_exposure.specs.Strangers.{labels_at}
-use Rattle.np_exposure.specs.declared.side.Side.{Side}
-use Rattle.np_exposure.specs.declared.side.Side.TheVariants.{Namespace, Pod}
+use Rattle.np_exposure.specs.Types.{Namespace, Pair, Pod, Side, Stranger}
 use Rattle.np_exposure.specs.steps.States.{IsChosen, IsState, IsWitness, are_apart, is_apart, is_named_at}
 use Rattle.np_labels.specs.Labels.{value_of}
-use Rattle.np_labels.specs.declared.pair.Pair.{Pair}
 use Rattle.np_rules.specs.Laws.{IsAmong}
-use Rattle.np_rules.specs.declared.stranger.Stranger.{Stranger}
 
 -- choices that are apart are not of one side and key
 apart-keys : (a b : Choices) (side : Side) → same_side a.side side ≡ true → same_side b.side side ≡ true → bytes_eq a.key b.key ≡ true → are_apart a b ≡ true → ⊥

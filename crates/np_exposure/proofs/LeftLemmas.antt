@@ -15,8 +15,7 @@ use Rattle.np_exposure.specs.Mentions.{each_once, mentions, requirements}
 use Rattle.np_exposure.specs.Rows.{rows_at, rows_left, rows_of}
 use Rattle.np_exposure.specs.Strangers.{exposes, negated}
 use Rattle.np_exposure.specs.Tree.{AreRowsOf}
-use Rattle.np_exposure.specs.declared.exposure_row.ExposureRow.{ExposureRow}
-use Rattle.np_exposure.specs.declared.sided_requirement.SidedRequirement.{SidedRequirement}
+use Rattle.np_exposure.specs.Types.{ExposureRow, SidedRequirement}
 use Rattle.np_exposure.specs.steps.States.{IsState, can_be, narrowed, narrowed_at, suits}
 use Rattle.np_exposure.specs.steps.Walks.{AreJoinedAt, AreWalked}
 use Rattle.np_rules.specs.PodSides.{PodSide}

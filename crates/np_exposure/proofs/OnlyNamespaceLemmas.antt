@@ -6,8 +6,7 @@ use Rattle.std.proofs.lemmas.Bool.{false≢true}
 use Rattle.np_exposure.specs.steps.OnlyNamespace.{AreOfNamespace}
 use Rattle.np_rules.specs.model.Ends.{pod, stranger_end}
 use Rattle.np_rules.specs.StrangerRules.{kept_reaches}
-use Rattle.np_rules.specs.declared.stranger.Stranger.{Stranger}
-use Rattle.np_rules.specs.declared.stranger_rules.RuleConns.{RuleConns}
+use Rattle.np_exposure.specs.Types.{RuleConns, Stranger}
 
 -- they match no stranger of another namespace
 pub is-elsewhere : (kept : RuleConns) (name own namespace : List ℕ) (s : Stranger) → AreOfNamespace name kept.rule.now.peers → own ≡ (stranger_end s).namespace → bytes_eq name own ≡ false

@@ -13,10 +13,9 @@ use Rattle.np_exposure.proofs.StateLemmas.{apart-narrowed, named-narrowed}
 use Rattle.np_exposure.specs.Choices.{Choices, can_be_assumed, choices_at_first, choices_left, first_stranger, has_choice, is_open}
 use Rattle.np_exposure.specs.Strangers.{negated}
 use Rattle.np_exposure.specs.Tree.{IsPossible}
-use Rattle.np_exposure.specs.declared.sided_requirement.SidedRequirement.{SidedRequirement}
+use Rattle.np_exposure.specs.Types.{SidedRequirement, Stranger}
 use Rattle.np_exposure.specs.steps.States.{IsState, is_apart, is_named_at, narrowed}
 use Rattle.np_rules.specs.Laws.{IsAmong}
-use Rattle.np_rules.specs.declared.stranger.Stranger.{Stranger}
 
 -- ---- a requirement that is mentioned, or the negation of one
 

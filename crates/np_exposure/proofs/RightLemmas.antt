@@ -4,16 +4,13 @@ use Rattle.std.specs.List.{list_any}
 use Rattle.std.proofs.lemmas.Bool.{and_parts, and_from, false≢true, true≢false, not-true, not_from_false}
 use Rattle.np_conns.specs.Conns.{Conns, has_spot, is_spot}
 use Rattle.np_conns.specs.Spots.{equal_by_spots, has_spot-is_spot}
-use Rattle.np_conns.specs.declared.port_spot.PortSpot.{PortSpot}
+use Rattle.np_exposure.specs.Types.{ExposureRow, PortSpot, SidedRequirement, Stranger}
 use Rattle.np_exposure.proofs.StandsLemmas.{meets-negated}
 use Rattle.np_exposure.specs.Mentions.{requirements}
 use Rattle.np_exposure.specs.Right.{FirstRowTells, IsEachFirst, meets_row}
 use Rattle.np_exposure.specs.Strangers.{IsExposure, is_hypothetical, meets, meets_all, negated}
 use Rattle.np_exposure.specs.Tree.{AreRows, AreRowsAt, AreRowsOf, IsAssumed, IsJoined, IsPossible, always, apart, either, equal, never, with_first}
-use Rattle.np_exposure.specs.declared.exposure_row.ExposureRow.{ExposureRow}
-use Rattle.np_exposure.specs.declared.sided_requirement.SidedRequirement.{SidedRequirement}
 use Rattle.np_rules.specs.PodSides.{PodSide}
-use Rattle.np_rules.specs.declared.stranger.Stranger.{Stranger}
 
 -- ---- what is assumed
 

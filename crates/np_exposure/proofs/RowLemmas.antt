@@ -7,14 +7,12 @@ use Rattle.np_base.specs.declared.range.Range.{Range}
 use Rattle.np_base.specs.Ranges.{are_same_range}
 use Rattle.np_conns.specs.Conns.{Conns}
 use Rattle.np_conns.specs.Spots.{equal_by_ranges}
-use Rattle.np_conns.specs.declared.port_spot.PortSpot.{PortSpot}
+use Rattle.np_exposure.specs.Types.{ExposureRow, PortSpot, SidedRequirement}
 use Rattle.np_conns.specs.declared.proto.Proto.TheVariants.{Tcp, Udp, Sctp}
 use Rattle.np_exposure.proofs.SameLemmas.{is_same-equal, is_same-refl}
 use Rattle.np_exposure.specs.Mentions.{is_same}
 use Rattle.np_exposure.specs.Rows.{are_same_conns, are_same_row, are_same_rows, joined}
 use Rattle.np_exposure.specs.Tree.{IsJoined, apart, equal}
-use Rattle.np_exposure.specs.declared.exposure_row.ExposureRow.{ExposureRow}
-use Rattle.np_exposure.specs.declared.sided_requirement.SidedRequirement.{SidedRequirement}
 
 -- ---- equal rows
 

@@ -7,14 +7,8 @@ use Rattle.std.specs.Str.{bytes_eq}
 use lib.Pointwise.{pointwise, pointwise_decides}
 use mathlib.Core.Bool.{Bool-set}
 use Rattle.np_exposure.specs.Mentions.{is_same, same_op, same_side}
-use Rattle.np_exposure.specs.declared.exposure_row.ExposureRow.{ExposureRow}
-use Rattle.np_exposure.specs.declared.side.Side.{Side}
-use Rattle.np_exposure.specs.declared.side.Side.TheVariants.{Namespace, Pod}
-use Rattle.np_exposure.specs.declared.sided_requirement.SidedRequirement.{SidedRequirement}
+use Rattle.np_exposure.specs.Types.{Absent, ExposureRow, Namespace, NoneOf, OneOf, Op, Pod, Present, Requirement, Side, SidedRequirement}
 use Rattle.np_labels.specs.Values.{is_ascending}
-use Rattle.np_labels.specs.declared.op.Op.{Op}
-use Rattle.np_labels.specs.declared.op.Op.TheVariants.{OneOf, NoneOf, Present, Absent}
-use Rattle.np_labels.specs.declared.requirement.Requirement.{Requirement}
 
 -- ---- requirements
 

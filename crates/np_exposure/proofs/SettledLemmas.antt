@@ -10,18 +10,12 @@ use Rattle.std.proofs.lemmas.List.{take_all}
 use Rattle.std.proofs.Math.Bool.{or-false, or_assoc}
 use Rattle.np_base.proofs.Bools.{or-last}
 use Rattle.np_conns.specs.Conns.{has_spot}
-use Rattle.np_conns.specs.declared.port_spot.PortSpot.{PortSpot}
+use Rattle.np_exposure.specs.Types.{Aside, Left, OpenRule, OpenRules, PortSpot, Side, SidedRequirement, Stranger}
 use Rattle.np_exposure.proofs.ListLemmas.{All-at, list_all-at, list_any-at}
 use Rattle.np_exposure.proofs.SameLemmas.{same_side-equal}
 use Rattle.np_exposure.specs.Choices.{Choices}
 use Rattle.np_exposure.specs.Mentions.{same_side}
 use Rattle.np_exposure.specs.Strangers.{labels_at}
-use Rattle.np_exposure.specs.declared.side.Side.{Side}
-use Rattle.np_exposure.specs.declared.open_rules.OpenRule.{OpenRule}
-use Rattle.np_exposure.specs.declared.open_rules.OpenRules.{OpenRules}
-use Rattle.np_exposure.specs.declared.sided_requirement.SidedRequirement.{SidedRequirement}
-use Rattle.np_exposure.specs.declared.step.Aside.{Aside}
-use Rattle.np_exposure.specs.declared.step.Left.{Left}
 use Rattle.np_exposure.specs.steps.Left.{PermitSame}
 use Rattle.np_exposure.specs.steps.Settled.{IsRight, IsSettled, StandForAll, permits, rule_matches}
 use Rattle.np_exposure.specs.steps.States.{IsChosen, IsWitness, narrowed, suits}
@@ -31,7 +25,6 @@ use Rattle.np_rules.specs.model.Ends.{pod, stranger_end}
 use Rattle.np_rules.specs.Laws.{IsAmong}
 use Rattle.np_rules.specs.PodSides.{PodSide, near_pod}
 use Rattle.np_rules.specs.StrangerRules.{kept_reaches}
-use Rattle.np_rules.specs.declared.stranger.Stranger.{Stranger}
 
 -- ---- the choices at a key
 

@@ -13,19 +13,14 @@ use Rattle.np_exposure.specs.Mentions.{mentions, same_side}
 use Rattle.np_exposure.specs.Strangers.{IsExposure, is_hypothetical, labels_at, meets, meets_all, negated}
 use Rattle.np_exposure.specs.Tree.{AreRows, AreRowsAt, HasExposure, IsAssumed, IsPossible, always, either, never}
 use Rattle.np_exposure.specs.Weight.{looks_at}
-use Rattle.np_exposure.specs.declared.exposure_row.ExposureRow.{ExposureRow}
-use Rattle.np_exposure.specs.declared.side.Side.{Side}
-use Rattle.np_exposure.specs.declared.sided_requirement.SidedRequirement.{SidedRequirement}
+use Rattle.np_exposure.specs.Types.{Absent, ExposureRow, NoneOf, OneOf, Op, Present, Side, SidedRequirement, Stranger}
 use Rattle.np_exposure.specs.Choices.{Choices, allows_found, fits}
 use Rattle.np_exposure.specs.steps.States.{IsChosen, IsWitness, as_wanted, can_be, is_at, narrowed, suits}
 use Rattle.np_exposure.specs.steps.Walks.{AreJoinedAt, AreWalked}
 use Rattle.np_labels.specs.Labels.{value_of}
 use Rattle.np_labels.specs.Selectors.{allows, opposite_of}
-use Rattle.np_labels.specs.declared.op.Op.{Op}
-use Rattle.np_labels.specs.declared.op.Op.TheVariants.{OneOf, NoneOf, Present, Absent}
 use Rattle.np_rules.specs.Laws.{IsAmong}
 use Rattle.np_rules.specs.PodSides.{PodSide}
-use Rattle.np_rules.specs.declared.stranger.Stranger.{Stranger}
 
 -- ---- requirements and their negations
 

@@ -1,6 +1,5 @@
 -- States of choices, and what a requirement leaves of them.
-use Rattle.std.proofs.Common.{◌≡◌, ℕ, List, [], ◌∷◌, map, filter, Bool, true, false, not, cond, ◌&&◌, ◌||◌, Option, Some, None, is_some, refl, sym, ap, ◌∙◌, subst, if◌then◌else◌, IfSome, zero, suc}
-use Rattle.std.proofs.Common.{◌<◌, length, get_or, arith}
+use Rattle.std.proofs.Common.{◌≡◌, ℕ, List, [], ◌∷◌, map, filter, Bool, true, false, not, cond, ◌&&◌, ◌||◌, Option, Some, None, is_some, refl, sym, ap, ◌∙◌, subst, if◌then◌else◌, IfSome, zero, suc, ◌<◌, length, get_or, arith}
 use Rattle.std.specs.List.{list_all, list_any}
 use Rattle.std.specs.Str.{bytes_eq}
 use Rattle.std.specs.Cmp.Lexicographic.{bytes_decides}
@@ -8,9 +7,7 @@ use Rattle.std.proofs.lemmas.Bool.{and_parts, and_from, or_parts, false≢true, 
 use Rattle.np_exposure.proofs.SameLemmas.{same_side-equal, same_side-refl}
 use Rattle.np_exposure.specs.Mentions.{same_side}
 use Rattle.np_exposure.specs.Weight.{looks_at}
-use Rattle.np_exposure.specs.declared.side.Side.{Side}
-use Rattle.np_exposure.specs.declared.sided_requirement.SidedRequirement.{SidedRequirement}
-use Rattle.np_exposure.specs.declared.step.Aside.{Aside}
+use Rattle.np_exposure.specs.Types.{Aside, Side, SidedRequirement}
 use Rattle.np_exposure.specs.Choices.{Choices, allows_found, has_choice, is_name_key, is_open}
 use Rattle.np_exposure.specs.steps.States.{IsState, are_apart, as_wanted, can_be, is_apart, is_named_at, narrowed, narrowed_at, suits}
 use Rattle.np_exposure.specs.steps.Walks.{IsFork, IsStepTo}

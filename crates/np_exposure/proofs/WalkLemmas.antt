@@ -3,10 +3,7 @@ use Rattle.std.proofs.Common.{◌≡◌, List, [], ◌∷◌, ◌++◌, Bool, tr
 use Rattle.std.proofs.lemmas.Bool.{false≢true, true≢false}
 use Rattle.np_exposure.proofs.FillLemmas.{Fills-last}
 use Rattle.np_exposure.specs.Tree.{IsJoined}
-use Rattle.np_exposure.specs.declared.exposure_row.ExposureRow.{ExposureRow}
-use Rattle.np_exposure.specs.declared.pending.Pending.{Pending}
-use Rattle.np_exposure.specs.declared.sided_requirement.SidedRequirement.{SidedRequirement}
-use Rattle.np_exposure.specs.declared.step.Aside.{Aside}
+use Rattle.np_exposure.specs.Types.{Aside, ExposureRow, Pending, SidedRequirement}
 use Rattle.np_exposure.specs.Choices.{Choices}
 use Rattle.np_exposure.specs.steps.States.{can_be, narrowed}
 use Rattle.np_exposure.specs.steps.Walks.{AreJoinedAt, AreWalked, Fills, IsJoinedBy, IsLeaf, IsStepTo}

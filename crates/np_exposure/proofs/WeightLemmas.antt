@@ -4,9 +4,7 @@ use Rattle.std.proofs.Math.Nat.{le-mul_of_pos_right, mul-le-mul_left, mul_assoc,
 use Rattle.std.proofs.lemmas.Bool.{cases_lt}
 use Rattle.std.proofs.lemmas.List.{map-append, take_more}
 use Rattle.np_exposure.specs.Weight.{keys_on, patterns_at, patterns_on, product, weight}
-use Rattle.np_exposure.specs.declared.side.Side.{Side}
-use Rattle.np_exposure.specs.declared.side.Side.TheVariants.{Namespace, Pod}
-use Rattle.np_exposure.specs.declared.sided_requirement.SidedRequirement.{SidedRequirement}
+use Rattle.np_exposure.specs.Types.{Namespace, Pod, Side, SidedRequirement}
 
 min_low : (a m : ℕ) → a ≤ m → min a m ≡ a
 min_low a m low = omega arith

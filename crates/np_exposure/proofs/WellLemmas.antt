@@ -9,27 +9,12 @@ use Rattle.np_exposure.specs.Mentions.{is_same, mentions, named, of_admin_peer, 
 use Rattle.np_exposure.specs.PeerText.{are_well}
 use Rattle.np_exposure.specs.Strangers.{negated}
 use Rattle.np_exposure.specs.Tree.{AreRows, AreRowsAt, AreRowsOf, IsJoined, IsPossible, always, apart, either, equal, never, with_first}
-use Rattle.np_exposure.specs.declared.exposure_row.ExposureRow.{ExposureRow}
-use Rattle.np_exposure.specs.declared.side.Side.{Side}
-use Rattle.np_exposure.specs.declared.side.Side.TheVariants.{Namespace, Pod}
-use Rattle.np_exposure.specs.declared.sided_requirement.SidedRequirement.{SidedRequirement}
+use Rattle.np_exposure.specs.Types.{AdminPeer, AdminPolicy, AdminRule, BasePolicy, Direction, Egress, ExposureRow, Ingress, Namespace, NetPeer, NetPolicy, NetRule, Pod, Requirement, Selector, Side, SidedRequirement}
 use Rattle.np_model.specs.Words.{has_slash, is_name, is_word}
 use Rattle.np_labels.specs.WellFormed as labels
-use Rattle.np_labels.specs.declared.requirement.Requirement.{Requirement}
-use Rattle.np_labels.specs.declared.selector.Selector.{Selector}
-use Rattle.np_model.specs.WellPolicies.{is_well_admin_peer, is_well_admin_policy, is_well_admin_rule, is_well_base_policy, is_well_base_rule, is_well_net_peer, is_well_net_policy}
-use Rattle.np_model.specs.WellPolicies.{is_well_net_rule, is_well_selector, is_worded}
-use Rattle.np_model.specs.declared.admin_policy.AdminPeer.{AdminPeer}
+use Rattle.np_model.specs.WellPolicies.{is_well_admin_peer, is_well_admin_policy, is_well_admin_rule, is_well_base_policy, is_well_base_rule, is_well_net_peer, is_well_net_policy, is_well_net_rule, is_well_selector, is_worded}
 use Rattle.np_model.specs.declared.admin_policy.AdminPeer.TheVariants as admin
-use Rattle.np_model.specs.declared.admin_policy.AdminPolicy.{AdminPolicy}
-use Rattle.np_model.specs.declared.admin_policy.AdminRule.{AdminRule}
-use Rattle.np_model.specs.declared.admin_policy.BasePolicy.{BasePolicy}
-use Rattle.np_model.specs.declared.direction.Direction.{Direction}
-use Rattle.np_model.specs.declared.direction.Direction.TheVariants.{Ingress, Egress}
-use Rattle.np_model.specs.declared.network_policy.NetPeer.{NetPeer}
 use Rattle.np_model.specs.declared.network_policy.NetPeer.TheVariants as net
-use Rattle.np_model.specs.declared.network_policy.NetPolicy.{NetPolicy}
-use Rattle.np_model.specs.declared.network_policy.NetRule.{NetRule}
 use Rattle.np_model.specs.WellObjects.{option_all}
 use Rattle.np_rules.specs.model.Ends.{PodEnd}
 use Rattle.np_rules.specs.model.Places.{admin_places, admin_rules_of, base_places, base_rules_of, net_places, net_rules_of}

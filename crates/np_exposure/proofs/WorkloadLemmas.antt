@@ -4,28 +4,23 @@ use Rattle.std.specs.Option.{option_map_or}
 use Rattle.np_labels.specs.Labels.{AgreeOn}
 use Rattle.np_labels.proofs.Agreed.{All-from_listed}
 use Rattle.np_base.proofs.Lists.{slice_get-some}
-use Rattle.np_conns.specs.declared.port_spot.PortSpot.{PortSpot}
+use Rattle.np_exposure.specs.Types.{Direction, EstateLists, ExposureRow, PortSpot, SidedRequirement, Stranger}
 use Rattle.np_conns.proofs.ConnLemmas.{conns_of-agrees}
 use Rattle.np_model.specs.Lawful.{IsLawful}
-use Rattle.np_model.specs.declared.lists.EstateLists.{EstateLists}
 use Rattle.np_model.specs.declared.pod.Pod.{Pod}
 use Rattle.np_exposure.proofs.AlikePodLemmas.{AreAlikePods, exposes-agree, mentions-agree}
 use Rattle.np_exposure.specs.Choices.{can_be_assumed, choices_left, first_stranger}
 use Rattle.np_exposure.specs.Mentions.{each_once, mentions}
 use Rattle.np_exposure.specs.Rows.{row_of, rows_at, rows_left, rows_of}
 use Rattle.np_exposure.specs.Strangers.{exposes, negated}
-use Rattle.np_exposure.specs.declared.exposure_row.ExposureRow.{ExposureRow}
-use Rattle.np_exposure.specs.declared.sided_requirement.SidedRequirement.{SidedRequirement}
 use Rattle.np_fold.proofs.NamespaceLemmas.{labels_agree}
 use Rattle.np_fold.proofs.WorkloadLemmas.{one_workload}
 use Rattle.np_fold.specs.Alike.{IsSameKind}
 use Rattle.np_fold.specs.Keys.{keys_of_estate}
 use Rattle.np_fold.specs.Workloads.{number_of}
-use Rattle.np_model.specs.declared.direction.Direction.{Direction}
 use Rattle.np_rules.specs.model.Ends.{PodEnd, pod_end}
 use Rattle.np_rules.specs.PodSides.{PodSide, side_of}
 use Rattle.np_rules.specs.model.Verdict.{no_pod, pod_at}
-use Rattle.np_rules.specs.declared.stranger.Stranger.{Stranger}
 
 -- ---- sides that mention the same and expose alike
 

@@ -4,13 +4,8 @@ use Rattle.std.specs.List.{list_all, list_any}
 use Rattle.std.specs.Str.{bytes_eq}
 use Rattle.np_exposure.specs.Mentions.{same_side}
 use Rattle.np_exposure.specs.Weight.{keys_on, looks_at, values_at}
-use Rattle.np_exposure.specs.declared.label.Label.{Label}
-use Rattle.np_exposure.specs.declared.side.Side.{Side}
-use Rattle.np_exposure.specs.declared.side.Side.TheVariants.{Namespace, Pod}
-use Rattle.np_exposure.specs.declared.sided_requirement.SidedRequirement.{SidedRequirement}
+use Rattle.np_exposure.specs.Types.{Label, Namespace, Pair, Pod, Side, SidedRequirement, Stranger}
 use Rattle.np_labels.specs.Selectors.{allows}
-use Rattle.np_labels.specs.declared.pair.Pair.{Pair}
-use Rattle.np_rules.specs.declared.stranger.Stranger.{Stranger}
 
 -- what may be found at a key of a side's labels: one of these values, or none
 pub record Choices : Type 0 where

@@ -5,5 +5,6 @@ pub mod Right
 pub mod Rows
 pub mod Strangers
 pub mod Tree
+pub mod Types
 pub mod Weight
 pub mod steps

@@ -1,12 +1,8 @@
 -- The text of the requirements of a row.
 use Rattle.std.specs.Prelude.{ℕ, List, [], ◌∷◌, ◌++◌, Bool, ◌&&◌, codes}
 use Rattle.std.specs.List.{join_by, list_all}
-use Rattle.np_exposure.specs.declared.side.Side.{Side}
-use Rattle.np_exposure.specs.declared.side.Side.TheVariants.{Namespace, Pod}
-use Rattle.np_exposure.specs.declared.sided_requirement.SidedRequirement.{SidedRequirement}
+use Rattle.np_exposure.specs.Types.{Absent, Namespace, NoneOf, OneOf, Op, Pod, Present, Side, SidedRequirement}
 use Rattle.np_labels.specs.WellFormed.{is_well_requirement}
-use Rattle.np_labels.specs.declared.op.Op.{Op}
-use Rattle.np_labels.specs.declared.op.Op.TheVariants.{OneOf, NoneOf, Present, Absent}
 use Rattle.np_model.specs.WellPolicies.{is_worded}
 
 abbrev pub side_text : Side → List ℕ

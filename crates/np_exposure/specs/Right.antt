@@ -1,9 +1,8 @@
 -- What a list of rows is to say of all hypothetical pods.
 use Rattle.std.specs.Prelude.{◌≡◌, List, [], ◌∷◌, find, Bool, Some, not, ◌&&◌, IsTrue}
 use Rattle.np_exposure.specs.Strangers.{IsExposure, meets_all}
-use Rattle.np_exposure.specs.declared.exposure_row.ExposureRow.{ExposureRow}
+use Rattle.np_exposure.specs.Types.{ExposureRow, Stranger}
 use Rattle.np_rules.specs.PodSides.{PodSide}
-use Rattle.np_rules.specs.declared.stranger.Stranger.{Stranger}
 
 -- whether a stranger meets a row
 abbrev pub meets_row : ExposureRow → Stranger → Bool

@@ -9,10 +9,8 @@ use Rattle.np_exposure.specs.Choices.{can_be_assumed, choices_left, first_strang
 use Rattle.np_exposure.specs.Mentions.{is_same, mentions, requirements}
 use Rattle.np_exposure.specs.Strangers.{exposes, negated}
 use Rattle.np_exposure.specs.Tree.{with_first}
-use Rattle.np_exposure.specs.declared.exposure_row.ExposureRow.{ExposureRow}
-use Rattle.np_exposure.specs.declared.sided_requirement.SidedRequirement.{SidedRequirement}
+use Rattle.np_exposure.specs.Types.{ExposureRow, SidedRequirement, Stranger}
 use Rattle.np_rules.specs.PodSides.{PodSide}
-use Rattle.np_rules.specs.declared.stranger.Stranger.{Stranger}
 
 -- ---- whether rows are equal
 

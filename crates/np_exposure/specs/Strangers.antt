@@ -2,16 +2,11 @@
 use Rattle.std.specs.Prelude.{◌≡◌, List, Bool, true, is_some, codes}
 use Rattle.std.specs.List.{list_all}
 use Rattle.np_conns.specs.Conns.{Conns, IsConns, has_spot, is_spot}
-use Rattle.np_conns.specs.declared.port_spot.PortSpot.{PortSpot}
-use Rattle.np_exposure.specs.declared.side.Side.{Side}
-use Rattle.np_exposure.specs.declared.side.Side.TheVariants.{Namespace, Pod}
-use Rattle.np_exposure.specs.declared.sided_requirement.SidedRequirement.{SidedRequirement}
+use Rattle.np_exposure.specs.Types.{Namespace, Pair, Pod, PortSpot, Side, SidedRequirement, Stranger}
 use Rattle.np_labels.specs.Labels.{value_of}
 use Rattle.np_labels.specs.Selectors.{meets_requirement, negation_of}
-use Rattle.np_labels.specs.declared.pair.Pair.{Pair}
 use Rattle.np_rules.specs.PodSides.{PodSide, near_pod, with_stranger}
 use Rattle.np_rules.specs.model.Sides.{side_allows}
-use Rattle.np_rules.specs.declared.stranger.Stranger.{Stranger}
 
 -- Whether the labels of its namespace say the namespace's name. A hypothetical pod is any stranger of which they do.
 abbrev pub is_hypothetical : Stranger → Bool

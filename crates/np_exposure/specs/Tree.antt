@@ -3,10 +3,8 @@ use Rattle.std.specs.Prelude.{◌≡◌, ◌≢◌, List, [], ◌∷◌, ◌++�
 use Rattle.np_conns.specs.Conns.{Conns}
 use Rattle.np_exposure.specs.Mentions.{requirements}
 use Rattle.np_exposure.specs.Strangers.{IsExposure, is_hypothetical, meets_all, negated}
-use Rattle.np_exposure.specs.declared.exposure_row.ExposureRow.{ExposureRow}
-use Rattle.np_exposure.specs.declared.sided_requirement.SidedRequirement.{SidedRequirement}
+use Rattle.np_exposure.specs.Types.{ExposureRow, SidedRequirement, Stranger}
 use Rattle.np_rules.specs.PodSides.{PodSide}
-use Rattle.np_rules.specs.declared.stranger.Stranger.{Stranger}
 
 -- the stranger is a hypothetical pod that meets what is assumed
 abbrev pub IsAssumed : List SidedRequirement → Stranger → Type 0

@@ -5,9 +5,7 @@ use Rattle.np_exposure.specs.Mentions.{same_side}
 use Rattle.np_exposure.specs.declared.exposure_fault.ExposureFault.{ExposureFault}
 use Rattle.np_exposure.specs.declared.exposure_fault.ExposureFault.TheVariants.{TooManyPatterns, NoMemory}
 use Rattle.np_exposure.specs.declared.exposures.TheConstants.{MOST_PATTERNS}
-use Rattle.np_exposure.specs.declared.side.Side.{Side}
-use Rattle.np_exposure.specs.declared.side.Side.TheVariants.{Namespace, Pod}
-use Rattle.np_exposure.specs.declared.sided_requirement.SidedRequirement.{SidedRequirement}
+use Rattle.np_exposure.specs.Types.{Namespace, Pod, Side, SidedRequirement}
 use Rattle.np_labels.specs.Values.{distinct}
 
 -- the keys that are mentioned on a side, in the order of their bytes, each once

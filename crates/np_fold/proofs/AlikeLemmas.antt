@@ -12,9 +12,7 @@ use Rattle.std.proofs.lemmas.Option.{same_Some, slice_get-map}
 use Rattle.np_conns.specs.Conns.{proto_number}
 use Rattle.np_base.proofs.Lists.{slice_get-some}
 use Rattle.np_classes.specs.Classes.{IsAlike, keys_tie, of_both}
-use Rattle.np_addr.specs.declared.cidr.Cidr.{Cidr}
-use Rattle.np_model.specs.declared.lists.EstateLists.{EstateLists}
-use Rattle.np_model.specs.declared.pod.Pod.{Pod}
+use Rattle.np_fold.specs.Types.{Cidr, EstateLists, NamedPort, Owner, Pod, Traits}
 use Rattle.np_fold.specs.Alike.{Alike, IsSameKind, are_alike, are_both_in, are_same_kind, are_same_owner, are_same_port, have_same_value, is_in}
 use Rattle.np_fold.specs.Blocks.{cidrs_of_estate}
 use Rattle.np_fold.specs.Keys.{keys_of_estate}
@@ -22,15 +20,12 @@ use Rattle.np_fold.specs.Order.{compare_traits}
 use Rattle.np_fold.specs.Traits.{traits_of, with_owner}
 use Rattle.np_fold.specs.steps.Folded.{HaveSame, nobody}
 use Rattle.np_fold.specs.Workloads.{first_pod, kinds_alike, pods_alike}
-use Rattle.np_fold.specs.declared.traits.Traits.{Traits}
 use Rattle.np_fold.proofs.BlockLemmas.{agree-from_test, test-from_agree}
 use Rattle.np_fold.proofs.LabelLemmas.{Decides-listed}
 use Rattle.np_fold.proofs.OrderLemmas.{protos, ties-equal}
 use Rattle.np_fold.proofs.TraitLemmas.{traits-alike, traits-same_kind}
 use Rattle.np_labels.specs.Labels.{value_of}
 use Rattle.np_labels.specs.Selectors.{is_listed}
-use Rattle.np_model.specs.declared.named_port.NamedPort.{NamedPort}
-use Rattle.np_model.specs.declared.owner.Owner.{Owner}
 
 -- ---- what a question decides
 

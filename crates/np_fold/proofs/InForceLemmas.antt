@@ -5,22 +5,14 @@ use Rattle.std.specs.List.{flat_map}
 use Rattle.std.specs.Str.{bytes_eq}
 use Rattle.std.proofs.lemmas.Bool.{false≢true, or_cases}
 use Rattle.std.proofs.lemmas.List.Folds.{list_any-append}
-use Rattle.np_model.specs.declared.lists.EstateLists.{EstateLists}
+use Rattle.np_fold.specs.Types.{AdminPeer, AdminRule, BasePolicy, EstateLists, NetPeer, NetPolicy, NetRule, Selector, Subject}
 use Rattle.np_fold.specs.InForce as force
 use Rattle.np_fold.specs.InForce.{IsInForce, IsNamed, IsOfAdmin, IsOfAdminPeer, IsOfAdminRules, IsOfNetDirection, IsOfNetPeer, IsOfNetPolicy, IsOfNetRule}
 use Rattle.np_fold.specs.Keys.{keys_of_admin_peer, keys_of_admin_policy, keys_of_admin_rule, keys_of_baseline, keys_of_estate, keys_of_net_direction, keys_of_net_peer, keys_of_net_policy}
 use Rattle.np_fold.specs.Keys.{keys_of_net_rule, keys_of_optional, keys_of_selector, keys_of_service, keys_of_subject}
 use Rattle.np_labels.specs.Selectors.{is_listed}
-use Rattle.np_labels.specs.declared.selector.Selector.{Selector}
-use Rattle.np_model.specs.declared.admin_policy.AdminPeer.{AdminPeer}
 use Rattle.np_model.specs.declared.admin_policy.AdminPeer.TheVariants as admin
-use Rattle.np_model.specs.declared.admin_policy.AdminRule.{AdminRule}
-use Rattle.np_model.specs.declared.admin_policy.BasePolicy.{BasePolicy}
-use Rattle.np_model.specs.declared.admin_policy.Subject.{Subject}
-use Rattle.np_model.specs.declared.network_policy.NetPeer.{NetPeer}
 use Rattle.np_model.specs.declared.network_policy.NetPeer.TheVariants as net
-use Rattle.np_model.specs.declared.network_policy.NetPolicy.{NetPolicy}
-use Rattle.np_model.specs.declared.network_policy.NetRule.{NetRule}
 
 -- what one of two lists has, or one of the lists that are made of the items of a list
 halves : (key : List ℕ) (xs ys : List (List ℕ)) → is_listed (xs ++ ys) key ≡ true → (is_listed xs key ≡ true) ⊎ (is_listed ys key ≡ true)

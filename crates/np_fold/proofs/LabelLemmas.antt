@@ -15,12 +15,11 @@ use Rattle.std.proofs.lemmas.List.Elements.{filter_more}
 use Rattle.std.proofs.Math.Bool.{or-true}
 use Rattle.np_base.specs.Texts.{compare_texts}
 use Rattle.np_fold.specs.Traits.{label_of}
-use Rattle.np_fold.specs.declared.traits.Label.{Label}
+use Rattle.np_fold.specs.Types.{Label, Pair}
 use Rattle.np_labels.proofs.Ascending.{same_by_values}
 use Rattle.np_labels.specs.Labels.{HasAscendingKeys, keys_of, value_of}
 use Rattle.np_labels.specs.Selectors.{is_listed}
 use Rattle.np_labels.specs.Values.{is_ascending, is_below}
-use Rattle.np_labels.specs.declared.pair.Pair.{Pair}
 
 abbrev label_with : List ℕ → List ℕ → Label
 label_with key value = record { key = key; value = value }

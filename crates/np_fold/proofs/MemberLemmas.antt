@@ -1,6 +1,5 @@
 -- Steps of a folding: workloads by name, with their members.
-use Rattle.std.proofs.Common.{◌≡◌, ◌≢◌, ℕ, zero, suc, ◌+◌, ◌<◌, List, [], ◌∷◌, ◌++◌, map, length, get_or, slice_get, false, nat_lt, if◌then◌else◌, Option, Some, None, Less, Equal, All, refl}
-use Rattle.std.proofs.Common.{sym, ap, subst, ◌∙◌, arith}
+use Rattle.std.proofs.Common.{◌≡◌, ◌≢◌, ℕ, zero, suc, ◌+◌, ◌<◌, List, [], ◌∷◌, ◌++◌, map, length, get_or, slice_get, false, nat_lt, if◌then◌else◌, Option, Some, None, Less, Equal, All, refl, sym, ap, subst, ◌∙◌, arith}
 use Rattle.std.proofs.lemmas.Bool.{false_from_ne_true}
 use Rattle.std.proofs.lemmas.List.{length-map, map-append}
 use Rattle.std.proofs.lemmas.List.Elements.{All-from_recursion, recursion_from_All}
@@ -17,11 +16,10 @@ use Rattle.std.specs.String.{string_bytes, string_eq}
 use Rattle.std.specs.declared.alloc.Global.{Global}
 use Rattle.indexmap.specs.IndexMap.{insert_entry}
 use Rattle.np_classes.specs.Classes.{numbered, places}
-use Rattle.np_model.specs.declared.lists.EstateLists.{EstateLists}
+use Rattle.np_fold.specs.Types.{EstateLists, Named}
 use Rattle.np_fold.specs.steps.Folded.{workload_of, workload_of_pair}
 use Rattle.np_fold.specs.Workloads.{Folding, Workload, named_first_pods, number_named, number_of, workload, workload_of_entry, workloads_of}
 use Rattle.np_fold.proofs.NumberLemmas.{members-by_number}
-use Rattle.np_names.specs.declared.named.Named.{Named}
 
 -- ---- the workload of a name
 

@@ -9,7 +9,7 @@ use Rattle.np_conns.specs.declared.proto.Proto.{Proto}
 use Rattle.np_conns.specs.declared.proto.Proto.TheVariants.{Tcp, Udp, Sctp}
 use Rattle.np_conns.specs.Conns.{proto_number}
 use Rattle.np_fold.specs.Order.{compare_labels, compare_owners, compare_ports, compare_traits, traits_total}
-use Rattle.np_fold.specs.declared.traits.Traits.{Traits}
+use Rattle.np_fold.specs.Types.{Traits}
 
 -- only equal values tie
 abbrev TiesOnlyEqual : {K : Type 0} → (K → K → Ordering) → Type 0

@@ -4,9 +4,8 @@ use Rattle.std.specs.List.{AllByRecursion, list_all}
 use Rattle.np_fold.specs.Keys.{keys_of_selector}
 use Rattle.np_labels.specs.Labels.{AgreeOn}
 use Rattle.np_labels.specs.Selectors.{allows, meets_requirement, meets_selector}
-use Rattle.np_labels.specs.declared.pair.Pair.{Pair}
+use Rattle.np_fold.specs.Types.{Pair, Selector}
 use Rattle.np_labels.specs.declared.requirement.Requirement.{Requirement}
-use Rattle.np_labels.specs.declared.selector.Selector.{Selector}
 
 requirements-agree : (one other : List Pair) (requirements : List Requirement) → AllByRecursion (AgreeOn one other) (map (λ requirement. requirement.key) requirements) →
     list_all (λ requirement. meets_requirement requirement one) requirements ≡ list_all (λ requirement. meets_requirement requirement other) requirements

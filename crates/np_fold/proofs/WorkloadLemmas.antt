@@ -1,6 +1,5 @@
 -- What follows of workloads.
-use Rattle.std.proofs.Common.{◌≡◌, ◌↔◌, ℕ, zero, suc, ◌+◌, ◌^◌, ◌<◌, ◌==◌, List, [], ◌∷◌, map, length, get_or, slice_get, Bool, true, false, cond, Option, Some, None, Less, refl, sym, ap, subst, ◌∙◌}
-use Rattle.std.proofs.Common.{arith}
+use Rattle.std.proofs.Common.{◌≡◌, ◌↔◌, ℕ, zero, suc, ◌+◌, ◌^◌, ◌<◌, ◌==◌, List, [], ◌∷◌, map, length, get_or, slice_get, Bool, true, false, cond, Option, Some, None, Less, refl, sym, ap, subst, ◌∙◌, arith}
 use Rattle.std.specs.Prelude.{All, IsSomeAnd, filter}
 use Rattle.std.specs.Cmp.Lexicographic.{slice_cmp}
 use Rattle.std.specs.List.{AllByRecursion, find, position_or_len, range_with_len}
@@ -19,15 +18,13 @@ use Rattle.np_base.proofs.Lists.{slice_get-some}
 use Rattle.np_classes.specs.Classes.{class_of, firsts, is_first, members, places}
 use Rattle.np_classes.proofs.Lists.{All-places, any_place}
 use Rattle.np_classes.proofs.Relations.{alike_in_class, same_class}
-use Rattle.np_model.specs.declared.lists.EstateLists.{EstateLists}
-use Rattle.np_model.specs.declared.pod.Pod.{Pod}
+use Rattle.np_fold.specs.Types.{EstateLists, Named, Pod}
 use Rattle.np_fold.specs.Alike.{Alike, IsSameKind, are_alike, are_same_kind}
 use Rattle.np_fold.specs.Workloads.{Workload, first_of, first_pod, first_pods, folding_of, has_member, kinds_alike, members_of, named_first_pods, number_of, owner_names, pods_alike, pods_like}
 use Rattle.np_fold.specs.Workloads.{workload, workload_count, workloads_of}
 use Rattle.np_fold.proofs.AlikeLemmas.{alike_decide, alike-is, kinds_decide, kinds-are}
 use Rattle.np_fold.proofs.NumberLemmas.{count-is, first-within, has_member-is, named-number, names-strict, number-is, number-rank, number-within, place-within}
 use Rattle.np_names.specs.Names.{named}
-use Rattle.np_names.specs.declared.named.Named.{Named}
 use mathlib.Core.List.{map-map}
 
 -- ---- lists of places

@@ -6,16 +6,11 @@ use Rattle.std.specs.Option.{option_eq}
 use Rattle.std.specs.Str.{bytes_eq}
 use Rattle.np_conns.specs.Conns.{proto_number}
 use Rattle.np_addr.specs.Addresses.{cidr_has}
-use Rattle.np_addr.specs.declared.address.Address.{Address}
-use Rattle.np_addr.specs.declared.cidr.Cidr.{Cidr}
-use Rattle.np_model.specs.declared.lists.EstateLists.{EstateLists}
-use Rattle.np_model.specs.declared.pod.Pod.{Pod}
+use Rattle.np_fold.specs.Types.{Address, Cidr, EstateLists, NamedPort, Owner, Pod}
 use Rattle.np_fold.specs.Blocks.{cidrs_of_estate}
 use Rattle.np_fold.specs.Keys.{keys_of_estate}
 use Rattle.np_labels.specs.Labels.{value_of}
 use Rattle.np_labels.specs.Selectors.{is_listed}
-use Rattle.np_model.specs.declared.named_port.NamedPort.{NamedPort}
-use Rattle.np_model.specs.declared.owner.Owner.{Owner}
 use mathlib.Core.Bool.{beq}
 
 -- whether some of the addresses is in the block

@@ -1,19 +1,9 @@
 -- The selectors that are in force, whose keys tell pods apart.
 use Rattle.std.specs.Prelude.{◌≡◌, ℕ, List, Option, Some, Contains, true, map}
-use Rattle.np_model.specs.declared.lists.EstateLists.{EstateLists}
+use Rattle.np_fold.specs.Types.{AdminPeer, AdminPolicy, AdminRule, BasePolicy, EstateLists, NetPeer, NetPolicy, NetRule, Selector, ServiceItem, Subject}
 use Rattle.np_labels.specs.Selectors.{is_listed}
-use Rattle.np_labels.specs.declared.selector.Selector.{Selector}
-use Rattle.np_model.specs.declared.service.ServiceItem.{ServiceItem}
-use Rattle.np_model.specs.declared.admin_policy.AdminPeer.{AdminPeer}
 use Rattle.np_model.specs.declared.admin_policy.AdminPeer.TheVariants as admin
-use Rattle.np_model.specs.declared.admin_policy.AdminPolicy.{AdminPolicy}
-use Rattle.np_model.specs.declared.admin_policy.AdminRule.{AdminRule}
-use Rattle.np_model.specs.declared.admin_policy.BasePolicy.{BasePolicy}
-use Rattle.np_model.specs.declared.admin_policy.Subject.{Subject}
-use Rattle.np_model.specs.declared.network_policy.NetPeer.{NetPeer}
 use Rattle.np_model.specs.declared.network_policy.NetPeer.TheVariants as net
-use Rattle.np_model.specs.declared.network_policy.NetPolicy.{NetPolicy}
-use Rattle.np_model.specs.declared.network_policy.NetRule.{NetRule}
 
 -- a peer of a NetworkPolicy has the selector, as its `namespaceSelector` or its `podSelector`
 pub data IsOfNetPeer (selector : Selector) (peer : NetPeer) : Type 0 where

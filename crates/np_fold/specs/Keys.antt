@@ -5,19 +5,9 @@ use Rattle.std.specs.Cmp.Lexicographic.{slice_cmp}
 use Rattle.std.specs.List.{flat_map}
 use Rattle.std.specs.Option.{option_map_or}
 use Rattle.std.specs.Ordering.{nat_cmp}
-use Rattle.np_model.specs.declared.lists.EstateLists.{EstateLists}
-use Rattle.np_labels.specs.declared.selector.Selector.{Selector}
-use Rattle.np_model.specs.declared.service.ServiceItem.{ServiceItem}
-use Rattle.np_model.specs.declared.admin_policy.AdminPeer.{AdminPeer}
+use Rattle.np_fold.specs.Types.{AdminPeer, AdminPolicy, AdminRule, BasePolicy, EstateLists, NetPeer, NetPolicy, NetRule, Selector, ServiceItem, Subject}
 use Rattle.np_model.specs.declared.admin_policy.AdminPeer.TheVariants as admin
-use Rattle.np_model.specs.declared.admin_policy.AdminPolicy.{AdminPolicy}
-use Rattle.np_model.specs.declared.admin_policy.AdminRule.{AdminRule}
-use Rattle.np_model.specs.declared.admin_policy.BasePolicy.{BasePolicy}
-use Rattle.np_model.specs.declared.admin_policy.Subject.{Subject}
-use Rattle.np_model.specs.declared.network_policy.NetPeer.{NetPeer}
 use Rattle.np_model.specs.declared.network_policy.NetPeer.TheVariants as net
-use Rattle.np_model.specs.declared.network_policy.NetPolicy.{NetPolicy}
-use Rattle.np_model.specs.declared.network_policy.NetRule.{NetRule}
 
 -- ---- selectors
 

@@ -5,5 +5,6 @@ pub mod InForce
 pub mod Keys
 pub mod Order
 pub mod Traits
+pub mod Types
 pub mod Workloads
 pub mod steps

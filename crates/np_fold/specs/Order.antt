@@ -5,10 +5,7 @@ use Rattle.std.specs.Ordering.{nat_cmp, on, ordering_then, then_cmp}
 use Rattle.std.specs.declared.cmp.Ordering.{Ordering}
 use Rattle.np_base.specs.Texts.{compare_texts}
 use Rattle.np_conns.specs.Conns.{proto_number}
-use Rattle.np_fold.specs.declared.traits.Label.{Label}
-use Rattle.np_fold.specs.declared.traits.Traits.{Traits}
-use Rattle.np_model.specs.declared.named_port.NamedPort.{NamedPort}
-use Rattle.np_model.specs.declared.owner.Owner.{Owner}
+use Rattle.np_fold.specs.Types.{Label, NamedPort, Owner, Traits}
 
 -- by kind, and then by name
 abbrev pub compare_owners : Owner → Owner → Ordering

@@ -2,15 +2,9 @@
 use Rattle.std.specs.Prelude.{ℕ, List, Option, filter, map}
 use Rattle.std.specs.List.{enumerate_from, filter_map}
 use Rattle.std.specs.Option.{option_map}
-use Rattle.np_addr.specs.declared.address.Address.{Address}
-use Rattle.np_addr.specs.declared.cidr.Cidr.{Cidr}
-use Rattle.np_model.specs.declared.pod.Pod.{Pod}
+use Rattle.np_fold.specs.Types.{Address, Cidr, Label, Owner, Pair, Pod, Traits}
 use Rattle.np_fold.specs.Alike.{is_in}
-use Rattle.np_fold.specs.declared.traits.Label.{Label}
-use Rattle.np_fold.specs.declared.traits.Traits.{Traits}
 use Rattle.np_labels.specs.Labels.{value_of}
-use Rattle.np_labels.specs.declared.pair.Pair.{Pair}
-use Rattle.np_model.specs.declared.owner.Owner.{Owner}
 
 -- the label of a key, where it has a value
 abbrev pub label_of : List Pair → List ℕ → Option Label

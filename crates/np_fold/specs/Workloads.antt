@@ -5,12 +5,10 @@ use Rattle.std.specs.Option.{option_and_then, option_map_or}
 use Rattle.std.specs.Str.{bytes_eq}
 use Rattle.std.specs.declared.alloc.Global.{Global}
 use Rattle.np_classes.specs.Classes.{class_of, firsts, members, of_both, places}
-use Rattle.np_model.specs.declared.lists.EstateLists.{EstateLists}
-use Rattle.np_model.specs.declared.pod.Pod.{Pod}
+use Rattle.np_fold.specs.Types.{EstateLists, Named, Pod}
 use Rattle.np_fold.specs.Alike.{are_alike, are_same_kind}
 use Rattle.np_fold.specs.Keys.{keys_of_estate, with_keys}
 use Rattle.np_names.specs.Names.{all_by_name}
-use Rattle.np_names.specs.declared.named.Named.{Named}
 
 -- ---- what a folding is
 

@@ -4,9 +4,8 @@ use Rattle.serde_json.specs.Written.{comma_if}
 use Rattle.serde_json.specs.Data.{string, number, unsigned}
 use Rattle.np_model.specs.Words.{is_name}
 use Rattle.np_json.specs.Shapes.{Read, under, refuse_if}
-use Rattle.np_json.specs.declared.path.Step.{Step}
+use Rattle.np_json.specs.Types.{NamespacedName, Step}
 use Rattle.np_json.specs.Scalars.{name, port}
-use Rattle.np_json.specs.declared.meta.NamespacedName.{NamespacedName}
 use Rattle.np_base.proofs.Texts.{IsUtf8-byte}
 
 pub IsUtf8-comma : (later : Bool) (s : List ℕ) → IsUtf8 s → IsUtf8 (comma_if later ++ s)

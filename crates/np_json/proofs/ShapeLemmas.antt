@@ -5,12 +5,7 @@ use Rattle.std.proofs.lemmas.List.Elements.{All-head, All-tail}
 use Rattle.serde_json.specs.Data.{Data}
 use Rattle.serde_json.specs.View.{items_of}
 use Rattle.np_json.specs.Shapes.{Read, Gives, IsUnder, under, each_item}
-use Rattle.np_json.specs.declared.fault.FaultKind.{FaultKind}
-use Rattle.np_json.specs.declared.flaw.Flaw.{Flaw}
-use Rattle.np_json.specs.declared.flaw.ShapeFault.{ShapeFault}
-use Rattle.np_json.specs.declared.flaw.ShapeFault.TheVariants.{Bad, NoMemory}
-use Rattle.np_json.specs.declared.path.Step.{Step}
-use Rattle.np_json.specs.declared.path.Step.TheVariants.{Item}
+use Rattle.np_json.specs.Types.{Bad, FaultKind, Flaw, Item, NoMemory, ShapeFault, Step}
 
 same_flaw : (a b : Flaw) → a.path ≡ b.path → a.kind ≡ b.kind → a ≡ b
 same_flaw a b path kind =

@@ -1,12 +1,8 @@
 -- The texts of faults.
 use Rattle.std.specs.Prelude.{ℕ, List, ◌++◌, codes, decimal}
-use Rattle.np_json.specs.declared.fault.FaultKind.{FaultKind}
-use Rattle.np_json.specs.declared.fault.FaultKind.TheVariants.{BadField, BadName, BadSelector, BadPort, BadProtocol, BadCidr, BadExcept, BadAddress, PeerShape, EmptyPeers, NodePeer, DomainPeer, BadPriority, BadAction, BaselineName, ForeignPolicy}
+use Rattle.np_json.specs.Types.{BadAction, BadAddress, BadCidr, BadExcept, BadField, BadName, BadPort, BadPriority, BadProtocol, BadSelector, BaselineName, DomainPeer, EmptyPeers, FaultKind, Flaw, ForeignPolicy, NodePeer, PeerShape, ReadFault, ShapeFault}
 use Rattle.np_json.specs.declared.fault.Fault.{Fault}
-use Rattle.np_json.specs.declared.fault.ReadFault.{ReadFault}
 use Rattle.np_json.specs.declared.fault.ReadFault.TheVariants.{Bad, NoMemory}
-use Rattle.np_json.specs.declared.flaw.Flaw.{Flaw}
-use Rattle.np_json.specs.declared.flaw.ShapeFault.{ShapeFault}
 use Rattle.np_json.specs.declared.flaw.ShapeFault.TheVariants as part
 use Rattle.np_json.specs.Paths.{path_text}
 

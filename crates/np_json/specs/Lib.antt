@@ -7,3 +7,4 @@ pub mod Meta
 pub mod Paths
 pub mod Scalars
 pub mod Shapes
+pub mod Types

@@ -1,8 +1,7 @@
 -- The texts of paths.
 use Rattle.std.specs.Prelude.{ℕ, List, [], ◌∷◌, ◌++◌, codes, decimal}
 use Rattle.std.specs.List.{flat_map}
-use Rattle.np_json.specs.declared.path.Step.{Step}
-use Rattle.np_json.specs.declared.path.Step.TheVariants.{Field, Item}
+use Rattle.np_json.specs.Types.{Field, Item, Step}
 
 -- a step that nothing stands before
 abbrev pub first_text : Step → List ℕ

@@ -8,7 +8,7 @@ use Rattle.np_conns.specs.declared.proto.Proto.{Proto}
 use Rattle.np_json.specs.Members.{as_whole, as_pairs}
 use Rattle.np_json.specs.Shapes.{Read, ◌>>=◌, or_refuse, passing, refuse}
 use Rattle.np_model.specs.Words.{is_word, is_name, is_label}
-use Rattle.np_json.specs.declared.fault.FaultKind.TheVariants.{BadField, BadName, BadPort, BadProtocol}
+use Rattle.np_json.specs.Types.{BadField, BadName, BadPort, BadProtocol}
 
 -- a value of the type that is asked for, else BadField
 abbrev pub of_type : {A : Type 0} → Option A → Read A

@@ -7,15 +7,8 @@ use Rattle.serde_json.specs.Data.{Data, Items, no_items, item}
 use Rattle.serde_json.specs.Find.{as_array, as_object}
 use Rattle.np_base.specs.declared.no_memory.NoMemory as np
 use Rattle.np_json.specs.Members.{member_of}
-use Rattle.np_json.specs.declared.fault.FaultKind.{FaultKind}
-use Rattle.np_json.specs.declared.fault.FaultKind.TheVariants.{BadField}
-use Rattle.np_json.specs.declared.fault.ReadFault.{ReadFault}
+use Rattle.np_json.specs.Types.{Bad, BadField, FaultKind, Field, Flaw, Item, NoMemory, ReadFault, ShapeFault, Step}
 use Rattle.np_json.specs.declared.fault.ReadFault.TheVariants as whole
-use Rattle.np_json.specs.declared.flaw.Flaw.{Flaw}
-use Rattle.np_json.specs.declared.flaw.ShapeFault.{ShapeFault}
-use Rattle.np_json.specs.declared.flaw.ShapeFault.TheVariants.{Bad, NoMemory}
-use Rattle.np_json.specs.declared.path.Step.{Step}
-use Rattle.np_json.specs.declared.path.Step.TheVariants.{Field, Item}
 
 -- A shape takes a value to its output, or to the first flaw.
 abbrev pub Read : Type 0 → Type 0

@@ -1,22 +1,17 @@
 -- The numbers of kinds: each workload has one, and each kind has a first workload.
-use Rattle.std.proofs.Common.{◌≡◌, ◌<◌, ℕ, Some, length, slice_index, arith, sym}
-use Rattle.std.proofs.Common.{ap, subst, ◌∙◌}
+use Rattle.std.proofs.Common.{◌≡◌, ◌<◌, ℕ, Some, length, slice_index, arith, sym, ap, subst, ◌∙◌, slice_get}
 use Rattle.std.proofs.lemmas.List.{length-map}
 use Rattle.std.proofs.lemmas.List.FromFn.{get_or-map-range_with_len, length-range_with_len}
-use Rattle.np_classes.proofs.Relations.{class_within}
-use Rattle.np_classes.specs.Classes.{class_of}
-use Rattle.np_model.specs.declared.lists.EstateLists.{EstateLists}
-use Rattle.np_model.specs.declared.pod.Pod.{Pod}
+use Rattle.np_classes.proofs.Relations.{class_within, first_of, firsts_within, same_class}
+use Rattle.np_classes.specs.Classes.{class_of, firsts}
+use Rattle.np_kinds.specs.Types.{EstateLists, Pod}
 use Rattle.np_fold.proofs.AlikeLemmas.{kinds-are}
 use Rattle.np_fold.proofs.WorkloadLemmas.{first-is, workloads-count}
 use Rattle.np_fold.specs.Workloads.{Folding, first_pod, folding_of, kinds_alike, members_of, workload_count}
 use Rattle.np_kinds.proofs.PairLemmas.{first_there, in_folding, in_workloads, pod_there, source-within}
 use Rattle.np_kinds.specs.Between.{IsWorkload, source_pod}
-use Rattle.std.proofs.Common.{slice_get}
 use Rattle.std.specs.Prelude.{All}
 use Rattle.std.proofs.lemmas.List.Elements.{All-weaker}
-use Rattle.np_classes.proofs.Relations.{first_of, firsts_within, same_class}
-use Rattle.np_classes.specs.Classes.{firsts}
 
 -- the number of a workload's kind is that of its class
 pub kinds-by : (lists : EstateLists) (number : ℕ) → number < length (folding_of lists).workloads →

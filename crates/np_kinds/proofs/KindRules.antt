@@ -2,18 +2,12 @@
 use Rattle.std.proofs.Common.{◌≡◌, ℕ, List, ◌&&◌, ap, ◌∙◌}
 use Rattle.std.specs.List.{AllByRecursion, flat_map, list_any}
 use Rattle.np_base.proofs.Each.{All-weaker}
-use Rattle.np_addr.specs.declared.address.Family.{Family}
-use Rattle.np_conns.specs.declared.port_spot.PortSpot.{PortSpot}
+use Rattle.np_kinds.specs.Types.{AdminPeer, AdminPort, Family, NetPeer, NetPort, NetRule, PortSpot}
 use Rattle.np_fold.specs.Blocks.{cidrs_of_peer, cidrs_of_rule}
 use Rattle.np_fold.specs.Keys.{keys_of_admin_peer, keys_of_admin_rule, keys_of_net_peer, keys_of_net_rule}
 use Rattle.np_rules.proofs.EachItem.{All-both, All-each, All-flat, list_any-same, none_or_any-same}
 use Rattle.np_kinds.proofs.KindPeers.{AgreeAt, AgreeIn, SameEnd, admin_entry-same, admin_peer-same, net_entry-same, net_peer-same}
-use Rattle.np_model.specs.declared.admin_policy.AdminPeer.{AdminPeer}
-use Rattle.np_model.specs.declared.admin_policy.AdminPort.{AdminPort}
 use Rattle.np_model.specs.declared.admin_policy.AdminRule.{AdminRule}
-use Rattle.np_model.specs.declared.network_policy.NetPeer.{NetPeer}
-use Rattle.np_model.specs.declared.network_policy.NetPort.{NetPort}
-use Rattle.np_model.specs.declared.network_policy.NetRule.{NetRule}
 use Rattle.np_rules.specs.model.Ends.{Contact, End}
 use Rattle.np_rules.specs.model.Peers.{admin_peer_matches, net_peer_matches}
 use Rattle.np_rules.specs.model.PortEntries.{admin_entry_matches, net_entry_matches}

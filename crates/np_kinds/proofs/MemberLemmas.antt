@@ -8,10 +8,9 @@ use Rattle.std.proofs.lemmas.Bool.Decides.{eqb_tells}
 use Rattle.std.proofs.lemmas.List.Elements.{All-contains, Contains-get_or}
 use Rattle.std.proofs.lemmas.List.Folds.{Any-from_list_any, list_any_at}
 use Rattle.std.proofs.lemmas.Option.{slice_get-get_or}
-use Rattle.np_model.specs.declared.lists.EstateLists.{EstateLists}
+use Rattle.np_kinds.specs.Types.{EstateLists, Pod}
 use Rattle.np_fold.specs.Workloads.{Folding, Workload, folding_of, has_member, members_of, number_of, workloads_of}
 use Rattle.np_fold.proofs.WorkloadLemmas.{first-is, member-by_number, number-in_workloads, pods-within}
-use Rattle.np_model.specs.declared.pod.Pod.{Pod}
 use Rattle.np_rules.specs.model.Ends.{pod_end}
 use Rattle.np_rules.specs.model.Verdict.{no_pod}
 use Rattle.np_kinds.specs.Between.{destination_pod, is_alone, source_pod}

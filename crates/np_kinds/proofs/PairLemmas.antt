@@ -1,23 +1,17 @@
 -- What passes between workloads is what passes between their pods.
-use Rattle.std.proofs.Common.{◌≡◌, ◌≢◌, ◌<◌, ℕ, List, [], ◌∷◌, Bool, true, false, Option, Some, None, Contains, length, slice_get, slice_index, if◌then◌else◌, refl, sym, ap}
+use Rattle.std.proofs.Common.{◌≡◌, ◌≢◌, ◌<◌, ℕ, List, [], ◌∷◌, Bool, true, false, Option, Some, None, Contains, length, slice_get, slice_index, if◌then◌else◌, refl, sym, ap, subst, ◌∙◌, inl, inr}
 use Rattle.std.specs.Option.{option_map_or}
-use Rattle.std.proofs.Common.{subst, ◌∙◌, inl, inr}
 use Rattle.std.specs.Prelude.{IsSomeAnd}
 use Rattle.np_base.proofs.Lists.{slice_get-some}
-use Rattle.np_addr.specs.declared.address.Family.{Family}
+use Rattle.np_kinds.specs.Types.{Direction, Egress, EstateLists, Family, Ingress, Pod, PortSpot}
 use Rattle.np_classes.specs.Classes.{class_of}
-use Rattle.np_conns.specs.declared.port_spot.PortSpot.{PortSpot}
 use Rattle.np_model.specs.Lawful.{IsLawful}
-use Rattle.np_model.specs.declared.lists.EstateLists.{EstateLists}
-use Rattle.np_model.specs.declared.pod.Pod.{Pod}
 use Rattle.np_fold.proofs.NamespaceLemmas.{labels_agree}
 use Rattle.np_fold.proofs.WorkloadLemmas.{first-is, number-in_workloads, one_kind, one_workload, workloads-count}
 use Rattle.np_fold.specs.Alike.{IsSameKind}
 use Rattle.np_fold.specs.Workloads.{Folding, first_pod, folding_of, kinds_alike, members_of, number_of, workload_count, workloads_of}
 use Rattle.np_kinds.proofs.KindVerdicts.{SameKindEnd-ends, end_rule_count-same, packet-same}
 use Rattle.np_kinds.specs.Ends.{AreOneKind}
-use Rattle.np_model.specs.declared.direction.Direction.{Direction}
-use Rattle.np_model.specs.declared.direction.Direction.TheVariants.{Egress, Ingress}
 use Rattle.np_rules.specs.model.Ends.{End, address, pod, pod_end}
 use Rattle.np_rules.specs.model.Places.{rule_count}
 use Rattle.np_rules.specs.model.Verdict.{no_pod, pod_at}

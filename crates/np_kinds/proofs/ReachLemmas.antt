@@ -1,16 +1,11 @@
 -- Kinds between which nothing may pass.
-use Rattle.std.proofs.Common.{◌≡◌, ℕ, zero, suc, List, [], Bool, true, false, ◌&&◌, Some, map, slice_get, slice_index, refl, sym}
-use Rattle.std.proofs.Common.{ap, ◌∙◌, ◌⊎◌, inl, inr}
+use Rattle.std.proofs.Common.{◌≡◌, ℕ, zero, suc, List, [], Bool, true, false, ◌&&◌, Some, map, slice_get, slice_index, refl, sym, ap, ◌∙◌, ◌⊎◌, inl, inr}
 use Rattle.std.specs.Option.{option_map}
 use Rattle.std.proofs.lemmas.Bool.{and_left, and_right}
 use Rattle.std.proofs.lemmas.Option.{slice_get-map}
-use Rattle.np_addr.specs.declared.address.Family.{Family}
-use Rattle.np_conns.specs.declared.port_spot.PortSpot.{PortSpot}
+use Rattle.np_kinds.specs.Types.{Direction, Egress, EstateLists, Family, Ingress, KindReach, PortSpot}
 use Rattle.np_model.specs.Lawful.{IsLawful}
-use Rattle.np_model.specs.declared.lists.EstateLists.{EstateLists}
 use Rattle.np_fold.specs.Workloads.{Folding, folding_of}
-use Rattle.np_model.specs.declared.direction.Direction.{Direction}
-use Rattle.np_model.specs.declared.direction.Direction.TheVariants.{Egress, Ingress}
 use Rattle.np_reach.proofs.MarkLemmas.{may_at-of}
 use Rattle.np_reach.proofs.ReachLemmas.{out_of_reach}
 use Rattle.np_reach.specs.Reach.{may_at, may_reach, reach_of}
@@ -19,7 +14,6 @@ use Rattle.np_rules.specs.PodSides.{side_of, with_pod}
 use Rattle.np_rules.specs.model.Verdict.{allows}
 use Rattle.np_kinds.specs.Kinds.{IsKindReach, IsReach, first_end, may_pass, side_allows_pod}
 use Rattle.np_kinds.specs.Between.{IsWorkload, between_pods, is_alone, pair_allows, source_pod}
-use Rattle.np_kinds.specs.declared.kind_reach.KindReach.{KindReach}
 use Rattle.np_kinds.proofs.KindNumbers.{first-of_kind, kinds-by}
 use Rattle.np_kinds.proofs.PairLemmas.{pair_allows-alone, pair_allows-firsts}
 

@@ -1,10 +1,8 @@
 -- The side of the pod that stands for a workload's kind gives what that of the workload's own pod does.
-use Rattle.std.proofs.Common.{get_or, ◌≡◌, ◌<◌, ℕ, List, false}
+use Rattle.std.proofs.Common.{get_or, ◌≡◌, ◌<◌, ℕ, List, false, Some, slice_get, slice_index, sym, ap, subst, ◌∙◌}
 use Rattle.std.proofs.lemmas.Option.{same_Some, slice_get-get_or, slice_get_within}
-use Rattle.std.proofs.Common.{Some, slice_get, slice_index, sym, ap, subst, ◌∙◌}
-use Rattle.np_addr.specs.declared.address.Family.{Family}
+use Rattle.np_kinds.specs.Types.{Direction, Egress, EstateLists, Family, Ingress, PortSpot}
 use Rattle.np_classes.specs.Classes.{class_of}
-use Rattle.np_conns.specs.declared.port_spot.PortSpot.{PortSpot}
 use Rattle.np_fold.specs.Workloads.{folding_of, kinds_alike, workload_count}
 use Rattle.np_kinds.proofs.KindNumbers.{first-of_kind, kinds-by}
 use Rattle.np_kinds.proofs.KindVerdicts.{SameKindEnd-ends, end_rule_count-same}
@@ -12,9 +10,6 @@ use Rattle.np_kinds.proofs.PairLemmas.{one_kind-sources, pair_allows-firsts, wit
 use Rattle.np_kinds.specs.Between.{IsWorkload, between_pods, is_alone, pair_allows, source_pod, with_address}
 use Rattle.np_kinds.specs.Kinds.{first_alike, first_side, kind_side}
 use Rattle.np_model.specs.Lawful.{IsLawful}
-use Rattle.np_model.specs.declared.direction.Direction.{Direction}
-use Rattle.np_model.specs.declared.direction.Direction.TheVariants.{Egress, Ingress}
-use Rattle.np_model.specs.declared.lists.EstateLists.{EstateLists}
 use Rattle.np_rules.specs.PodSides.{near_pod, side_rule_count}
 use Rattle.np_rules.specs.model.Ends.{pod}
 use Rattle.np_rules.specs.model.Verdict.{pod_at}

@@ -1,14 +1,9 @@
 -- What passes between pods, between workloads, and between these and addresses.
 use Rattle.std.specs.Prelude.{ℕ, ◌<◌, Bool, ◌&&◌, ◌==◌, not, length, slice_index, if◌then◌else◌}
-use Rattle.np_addr.specs.declared.address.Address.{Address}
+use Rattle.np_kinds.specs.Types.{Address, Direction, Egress, EstateLists, Family, Ingress, PortSpot}
 use Rattle.np_addr.specs.declared.address.Address.TheVariants as address
-use Rattle.np_addr.specs.declared.address.Family.{Family}
 use Rattle.np_addr.specs.declared.address.Family.TheVariants as family
-use Rattle.np_conns.specs.declared.port_spot.PortSpot.{PortSpot}
-use Rattle.np_model.specs.declared.lists.EstateLists.{EstateLists}
 use Rattle.np_fold.specs.Workloads.{Folding, folding_of, members_of}
-use Rattle.np_model.specs.declared.direction.Direction.{Direction}
-use Rattle.np_model.specs.declared.direction.Direction.TheVariants.{Ingress, Egress}
 use Rattle.np_rules.specs.model.Ends.{End, address, pod}
 use Rattle.np_rules.specs.model.Verdict.{allows, pod_at}
 

@@ -1,7 +1,6 @@
 -- Ends of packets that no rule tells apart.
 use Rattle.std.specs.Prelude.{◌≡◌, ◌⊎◌}
-use Rattle.np_model.specs.declared.lists.EstateLists.{EstateLists}
-use Rattle.np_model.specs.declared.pod.Pod.{Pod}
+use Rattle.np_kinds.specs.Types.{EstateLists, Pod}
 use Rattle.np_fold.specs.Alike.{IsSameKind}
 use Rattle.np_rules.specs.model.Ends.{End, pod, pod_end}
 

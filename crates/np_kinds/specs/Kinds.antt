@@ -1,14 +1,9 @@
 -- The pods that stand for kinds of workloads: their sides, and what these let through at all.
 use Rattle.std.specs.Map.{lookup}
 use Rattle.std.specs.Prelude.{nat_eq, true, Option, is_some, ℕ, ◌≡◌, List, Bool, ◌&&◌, false, Some, map, slice_get, slice_index}
-use Rattle.np_addr.specs.declared.address.Family.{Family}
-use Rattle.np_conns.specs.declared.port_spot.PortSpot.{PortSpot}
-use Rattle.np_model.specs.declared.lists.EstateLists.{EstateLists}
+use Rattle.np_kinds.specs.Types.{Direction, Egress, EstateLists, Family, Ingress, KindReach, PortSpot}
 use Rattle.np_fold.specs.Workloads.{folding_of}
 use Rattle.np_kinds.specs.Between.{source_pod}
-use Rattle.np_kinds.specs.declared.kind_reach.KindReach.{KindReach}
-use Rattle.np_model.specs.declared.direction.Direction.{Direction}
-use Rattle.np_model.specs.declared.direction.Direction.TheVariants.{Egress, Ingress}
 use Rattle.np_reach.specs.Reach.{may_at}
 use Rattle.np_rules.specs.model.Ends.{Contact, PodEnd, pod}
 use Rattle.np_rules.specs.PodSides.{PodSide, near_pod, side_of, with_pod}

@@ -1,3 +1,4 @@
 pub mod Between
 pub mod Ends
 pub mod Kinds
+pub mod Types

@@ -14,7 +14,7 @@ use Rattle.np_base.proofs.Orders.{texts-differ}
 use Rattle.np_base.specs.Texts.{compare_texts}
 use Rattle.np_labels.proofs.Ascending.{bytes_eq-below}
 use Rattle.np_labels.specs.Labels.{value_of, keys_of, HasAscendingKeys}
-use Rattle.np_labels.specs.declared.pair.Pair.{Pair}
+use Rattle.np_labels.specs.Types.{Pair}
 
 -- a text that is below all keys is below that of each pair
 below_at : (low : List ℕ) (pairs : List Pair) (i : ℕ) (d : Pair) → AllByRecursion (λ other. compare_texts low other ≡ Less) (keys_of pairs) → i < length pairs → compare_texts low (get_or pairs i d).key ≡ Less

@@ -12,9 +12,7 @@ use Rattle.std.proofs.lemmas.Map.Text.{is_eq-slice_cmp}
 use Rattle.np_labels.specs.Demands.{admits, admits_unless_free, allowed_at}
 use Rattle.np_labels.specs.Labels.{value_of}
 use Rattle.np_labels.specs.Selectors.{allows, meets_requirement}
-use Rattle.np_labels.specs.declared.demand.Demand.{Demand}
-use Rattle.np_labels.specs.declared.pair.Pair.{Pair}
-use Rattle.np_labels.specs.declared.requirement.Requirement.{Requirement}
+use Rattle.np_labels.specs.Types.{Demand, Pair, Requirement}
 
 -- whether labels meet all requirements
 abbrev pub meets_all : List Requirement → List Pair → Bool

@@ -12,7 +12,7 @@ use Rattle.std.proofs.lemmas.List.Sums.{fold-append}
 use Rattle.std.proofs.lemmas.Map.Text.{is_eq-slice_cmp}
 use Rattle.np_base.proofs.Options.{option_or-none}
 use Rattle.np_labels.specs.Labels.{value_of, last_value_of, keys_of, with_pair, labels_of, pair_of}
-use Rattle.np_labels.specs.declared.pair.Pair.{Pair}
+use Rattle.np_labels.specs.Types.{Pair}
 
 -- ---- a pair at the end
 

@@ -13,8 +13,7 @@ use Rattle.np_base.specs.Texts.{compare_texts}
 use Rattle.np_labels.proofs.PairLists.{value_of-push, keys_of-push}
 use Rattle.np_labels.specs.Demands.{admits, admits_unless_free}
 use Rattle.np_labels.specs.Labels.{value_of, keys_of}
-use Rattle.np_labels.specs.declared.demand.Demand.{Demand}
-use Rattle.np_labels.specs.declared.pair.Pair.{Pair}
+use Rattle.np_labels.specs.Types.{Demand, Pair}
 
 -- the demand on a key
 abbrev pub demand_at : List (List ℕ × Demand) → List ℕ → Option Demand

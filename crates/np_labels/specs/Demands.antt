@@ -8,8 +8,7 @@ use Rattle.std.specs.Str.{bytes_eq}
 use Rattle.np_labels.specs.Selectors.{allows}
 use Rattle.np_labels.specs.declared.choice.Choice.{Choice}
 use Rattle.np_labels.specs.declared.choice.Choice.TheVariants.{Clash, LeftOut, Value}
-use Rattle.np_labels.specs.declared.demand.Demand.{Demand}
-use Rattle.np_labels.specs.declared.requirement.Requirement.{Requirement}
+use Rattle.np_labels.specs.Types.{Demand, Requirement}
 use Rattle.np_labels.specs.declared.value_set.ValueSet.{ValueSet}
 use Rattle.np_labels.specs.declared.value_set.ValueSet.TheVariants.{Only, AllBut}
 

@@ -4,7 +4,7 @@ use Rattle.std.specs.Ordering.{nat_cmp, match_ordering}
 use Rattle.std.specs.Cmp.Lexicographic.{slice_cmp}
 use Rattle.std.specs.List.Sorted.{IsStrictlySortedBy}
 use Rattle.std.specs.Str.{bytes_eq}
-use Rattle.np_labels.specs.declared.pair.Pair.{Pair}
+use Rattle.np_labels.specs.Types.{Pair}
 
 -- the value of a key: that of the first pair with it
 abbrev pub value_of : List Pair → List ℕ → Option (List ℕ)

@@ -2,5 +2,6 @@ pub mod Demands
 pub mod DistinctAscends
 pub mod Labels
 pub mod Selectors
+pub mod Types
 pub mod Values
 pub mod WellFormed

@@ -5,11 +5,7 @@ use Rattle.std.specs.Str.{bytes_eq}
 use Rattle.np_labels.specs.DistinctAscends.{distinct-ascends}
 use Rattle.np_labels.specs.Labels.{value_of}
 use Rattle.np_labels.specs.Values.{distinct}
-use Rattle.np_labels.specs.declared.op.Op.{Op}
-use Rattle.np_labels.specs.declared.op.Op.TheVariants.{OneOf, NoneOf, Present, Absent}
-use Rattle.np_labels.specs.declared.pair.Pair.{Pair}
-use Rattle.np_labels.specs.declared.requirement.Requirement.{Requirement}
-use Rattle.np_labels.specs.declared.selector.Selector.{Selector}
+use Rattle.np_labels.specs.Types.{Absent, NoneOf, OneOf, Op, Pair, Present, Requirement, Selector}
 
 -- whether a value is one of the listed ones
 abbrev pub is_listed : List (List ℕ) → List ℕ → Bool

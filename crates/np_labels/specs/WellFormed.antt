@@ -2,10 +2,7 @@
 use Rattle.std.specs.Prelude.{length, Bool, not, ◌&&◌, ◌==◌}
 use Rattle.std.specs.List.{list_all}
 use Rattle.np_labels.specs.Values.{is_ascending}
-use Rattle.np_labels.specs.declared.op.Op.{Op}
-use Rattle.np_labels.specs.declared.op.Op.TheVariants.{OneOf, NoneOf, Present, Absent}
-use Rattle.np_labels.specs.declared.requirement.Requirement.{Requirement}
-use Rattle.np_labels.specs.declared.selector.Selector.{Selector}
+use Rattle.np_labels.specs.Types.{Absent, NoneOf, OneOf, Op, Present, Requirement, Selector}
 
 -- whether an op may stand there with values, or without
 abbrev pub fits : Op → Bool → Bool

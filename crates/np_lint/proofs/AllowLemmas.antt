@@ -2,10 +2,8 @@
 use Rattle.std.proofs.Common.{◌≡◌, ℕ, Bool, true, false, ◌&&◌, ◌==◌, Some, refl, sym, ap, ◌∙◌, subst}
 use Rattle.std.specs.List.{Contains}
 use Rattle.std.proofs.lemmas.Bool.{and_parts, eqb-true, false≢true}
-use Rattle.np_addr.specs.declared.address.Family.{Family}
-use Rattle.np_conns.specs.declared.port_spot.PortSpot.{PortSpot}
+use Rattle.np_lint.specs.Types.{Admin, At, Base, Direction, Egress, End, EstateLists, Family, Ingress, Net, Pod, PortSpot, RuleRef, Tier}
 use Rattle.np_model.specs.Lawful.{IsLawful}
-use Rattle.np_model.specs.declared.lists.EstateLists.{EstateLists}
 use Rattle.np_explain.specs.Sides.{decider_between, packet_between}
 use Rattle.np_lint.proofs.ChangeLemmas.{Stays, side_same}
 use Rattle.np_lint.proofs.LawLemmas.{stands_by_name, unused_is}
@@ -13,16 +11,9 @@ use Rattle.np_lint.proofs.PacketLemmas.{any_gives, is_used_by}
 use Rattle.np_lint.specs.Rules.{rule_name}
 use Rattle.np_lint.specs.Used.{IsListedPacket, rule_in, unused_of}
 use Rattle.np_lint.specs.Without.{goes, same_direction, same_ref, same_tier, without}
-use Rattle.np_lint.specs.declared.rule_ref.RuleRef.{RuleRef}
-use Rattle.np_lint.specs.declared.rule_ref.Tier.{Tier}
-use Rattle.np_lint.specs.declared.rule_ref.Tier.TheVariants.{Admin, Net, Base}
 use Rattle.np_lint.specs.steps.Search.{ref_of}
-use Rattle.np_model.specs.declared.direction.Direction.{Direction}
-use Rattle.np_model.specs.declared.direction.Direction.TheVariants.{Ingress, Egress}
 use Rattle.np_rules.specs.model.Ends.{contact_of}
 use Rattle.np_rules.specs.model.Verdict.{allows, end_allows, end_of, pod_at}
-use Rattle.np_rules.specs.declared.packet.End.{End}
-use Rattle.np_rules.specs.declared.packet.End.TheVariants.{Pod, At}
 
 -- ---- one rule
 

@@ -4,7 +4,7 @@ use Rattle.std.specs.List.{enumerate_from, list_any}
 use Rattle.std.specs.Option.{option_map, option_map_or}
 use Rattle.np_tiers.proofs.Verdicts.{whole_stands}
 use Rattle.np_model.specs.Lawful.{IsLawful}
-use Rattle.np_model.specs.declared.lists.EstateLists.{EstateLists}
+use Rattle.np_lint.specs.Types.{AdminPolicy, AdminRule, BasePolicy, Decider, Direction, EstateLists, NetPolicy, NetRule, RuleName, RuleRef, Tier}
 use Rattle.np_explain.proofs.RuleLemmas.{net_decider_is_first}
 use Rattle.np_lint.proofs.StayLemmas.{any_found, any_map, find_map, first_stays, found_is}
 use Rattle.np_lint.proofs.WithoutLemmas.{IsAdminAt, IsBaseAt, IsNetAt, admin_are, admin_from, admin_left, admin_placed, admin_stays, ascending_left, base_are, base_from, base_left, base_placed}
@@ -12,18 +12,10 @@ use Rattle.np_lint.proofs.WithoutLemmas.{base_stays, isolated_left, net_are, net
 use Rattle.np_lint.specs.Rules.{admin_count, net_count, rule_count_at, rule_name}
 use Rattle.np_lint.specs.Used.{admin_rule_in, base_rule_in, net_rule_in, rule_in}
 use Rattle.np_lint.specs.Without.{admin_without, base_without, goes, net_without, without}
-use Rattle.np_lint.specs.declared.rule_ref.RuleRef.{RuleRef}
-use Rattle.np_lint.specs.declared.rule_ref.Tier.{Tier}
 use Rattle.np_lint.specs.declared.rule_ref.Tier.TheVariants as tier
 use Rattle.np_lint.specs.steps.Search.{ref_of}
 use Rattle.np_model.specs.declared.admin_policy.Action.{Action}
 use Rattle.np_model.specs.declared.admin_policy.Action.TheVariants.{Allow, Deny, Pass}
-use Rattle.np_model.specs.declared.admin_policy.AdminPolicy.{AdminPolicy}
-use Rattle.np_model.specs.declared.admin_policy.AdminRule.{AdminRule}
-use Rattle.np_model.specs.declared.admin_policy.BasePolicy.{BasePolicy}
-use Rattle.np_model.specs.declared.direction.Direction.{Direction}
-use Rattle.np_model.specs.declared.network_policy.NetPolicy.{NetPolicy}
-use Rattle.np_model.specs.declared.network_policy.NetRule.{NetRule}
 use Rattle.np_rules.proofs.AdminTierLemmas.{decider_is_first}
 use Rattle.np_rules.proofs.PairwiseLemmas.{map-map}
 use Rattle.np_rules.specs.model.AdminTier.{admin_decider}
@@ -34,8 +26,6 @@ use Rattle.np_rules.specs.model.NetTier.{is_isolated, permits, placed_net_matche
 use Rattle.np_rules.specs.model.Places.{PlacedAdminRule, PlacedBaseRule, PlacedNetRule, admin_places, base_places, net_places}
 use Rattle.np_rules.specs.model.Rules.{admin_rule_matches, net_rule_matches}
 use Rattle.np_rules.specs.model.Sides.{action_says, admin_says, base_says, is_allow, lower_allows, side_allows}
-use Rattle.np_rules.specs.declared.decider.Decider.{Decider}
-use Rattle.np_rules.specs.declared.decider.RuleName.{RuleName}
 
 -- ---- what rules say
 

@@ -1,6 +1,5 @@
 -- What is found by the sides of all kinds is what is used.
-use Rattle.std.proofs.Common.{◌≡◌, ◌≢◌, ℕ, zero, suc, get_or, ◌+◌, ◌-◌, ◌^◌, ◌<◌, List, [], ◌∷◌, Bool, true, false, ◌||◌, ◌==◌, not, length, slice_get, Some, refl, sym, ap, ◌∙◌, subst, inl, inr}
-use Rattle.std.proofs.Common.{arith}
+use Rattle.std.proofs.Common.{◌≡◌, ◌≢◌, ℕ, zero, suc, get_or, ◌+◌, ◌-◌, ◌^◌, ◌<◌, List, [], ◌∷◌, Bool, true, false, ◌||◌, ◌==◌, not, length, slice_get, Some, refl, sym, ap, ◌∙◌, subst, inl, inr, arith}
 use Rattle.std.specs.Cmp.{both_ways}
 use Rattle.std.specs.List.{Contains}
 use Rattle.std.proofs.lemmas.Bool.{and_from, eqb-false, false≢true, ne_eqb}
@@ -8,33 +7,24 @@ use Rattle.std.proofs.lemmas.Bool.Decides.{eqb_tells, nat_tests}
 use Rattle.std.proofs.lemmas.Option.{same_Some}
 use Rattle.np_addr.specs.Addresses.{IsAddress, family_of}
 use Rattle.np_addr.specs.declared.address.Address.{Address}
-use Rattle.np_addr.specs.declared.address.Address.TheVariants.{Four, Six}
-use Rattle.np_addr.specs.declared.address.Family.{Family}
+use Rattle.np_lint.specs.Types.{At, Direction, End, EstateLists, Family, Four, KindPod, Pod, PortSpot, Six, Tier, UsedRules}
 use Rattle.np_base.specs.declared.beside.Which.TheVariants.{First, Second}
 use Rattle.np_conns.specs.Conns.{is_spot}
-use Rattle.np_conns.specs.declared.port_spot.PortSpot.{PortSpot}
 use Rattle.np_model.specs.Families.{families_of}
 use Rattle.np_model.specs.Lawful.{IsLawful}
-use Rattle.np_model.specs.declared.lists.EstateLists.{EstateLists}
 use Rattle.np_explain.specs.Sides.{are_one_pod, decider_near}
 use Rattle.np_lint.proofs.KindPodLemmas.{StandsFor, kind_pod, own_kind}
 use Rattle.np_lint.proofs.PacketLemmas.{near_used, used_near}
 use Rattle.np_lint.specs.Rules.{rule_count_at}
 use Rattle.np_lint.specs.Used.{IsListed, families_between, is_used, stands_in}
-use Rattle.np_lint.specs.declared.kind_pods.KindPod.{KindPod}
-use Rattle.np_lint.specs.declared.rule_ref.Tier.{Tier}
-use Rattle.np_lint.specs.declared.used_rules.UsedRules.{UsedRules}
 use Rattle.np_lint.specs.steps.Kinds.{AreKindPods, is_asked, pod_kind}
 use Rattle.np_lint.specs.steps.Known.{is_known}
 use Rattle.np_lint.specs.steps.Search.{AllAreUsed, AreUsed, Finds, IsSound, Knows, KnowsPods, KnowsSide, KnowsSides, PodsAreUsed, ref_of}
-use Rattle.np_model.specs.declared.direction.Direction.{Direction}
 use Rattle.np_rules.proofs.AddressLemmas.{place_parts}
 use Rattle.np_rules.specs.model.Ends.{address, pod}
 use Rattle.np_rules.specs.EveryAddress.{AddressSpot, address_of, is_place, spot_of}
 use Rattle.np_rules.specs.PodSides.{side_of, with_addresses}
 use Rattle.np_rules.specs.model.Verdict.{pod_at}
-use Rattle.np_rules.specs.declared.packet.End.{End}
-use Rattle.np_rules.specs.declared.packet.End.TheVariants.{Pod, At}
 use Rattle.np_sets.specs.Space.{is_between}
 
 -- ---- what is asked for is listed

@@ -3,13 +3,9 @@ use Rattle.std.proofs.Common.{◌≡◌, ◌⊎◌, ℕ, zero, suc, ◌+◌, ◌
 use Rattle.std.proofs.Common.{inr, if◌then◌else◌, add-one, arith, find}
 use Rattle.std.specs.List.{list_any, position_from, slice_get}
 use Rattle.std.specs.Option.{option_and_then, option_map, option_map_or, option_or}
-use Rattle.np_lint.specs.declared.rule_spots.RuleSpots.{RuleSpots}
+use Rattle.np_lint.specs.Types.{Action, AdminPart, Allow, Deny, Pass, RuleId, RuleSpots}
 use Rattle.np_lint.specs.steps.Firsts.{first_at, first_rule, hands_down, is_pass}
-use Rattle.np_rules.specs.declared.rule_ids.RuleId.{RuleId}
 use Rattle.np_tiers.specs.Walk.{action_allows, admin_allows}
-use Rattle.np_tiers.specs.declared.layer.Action.{Action}
-use Rattle.np_tiers.specs.declared.layer.Action.TheVariants.{Allow, Deny, Pass}
-use Rattle.np_tiers.specs.declared.layer.AdminPart.{AdminPart}
 
 -- ---- two lists
 

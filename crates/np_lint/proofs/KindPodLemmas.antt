@@ -2,19 +2,14 @@
 use Rattle.std.proofs.Common.{◌≡◌, ℕ, ◌<◌, List, false, length, get_or, slice_index, slice_get, Some, refl, sym, ap, ◌∙◌, subst, arith, inr}
 use Rattle.std.proofs.lemmas.List.FromFn.{get_or-map-range_with_len}
 use Rattle.std.proofs.lemmas.Option.{get_or_from_slice_get, slice_get-get_or, slice_get_within}
-use Rattle.np_addr.specs.declared.address.Family.{Family}
+use Rattle.np_lint.specs.Types.{Direction, Egress, EstateLists, Family, Ingress, KindPod, PortSpot}
 use Rattle.np_classes.proofs.Relations.{class_of_first, first_of, same_class}
 use Rattle.np_classes.specs.Classes.{class_of}
-use Rattle.np_conns.specs.declared.port_spot.PortSpot.{PortSpot}
 use Rattle.np_model.specs.Lawful.{IsLawful}
-use Rattle.np_model.specs.declared.lists.EstateLists.{EstateLists}
 use Rattle.np_fold.proofs.AlikeLemmas.{kinds-are}
 use Rattle.np_fold.proofs.WorkloadLemmas.{number-in_workloads, one_workload}
 use Rattle.np_fold.specs.Workloads.{folding_of, kinds_alike, number_of, workload_count}
-use Rattle.np_lint.specs.declared.kind_pods.KindPod.{KindPod}
 use Rattle.np_lint.specs.steps.Kinds.{AreKindPods, pod_kind}
-use Rattle.np_model.specs.declared.direction.Direction.{Direction}
-use Rattle.np_model.specs.declared.direction.Direction.TheVariants.{Ingress, Egress}
 use Rattle.np_rules.specs.Deciders.{decider}
 use Rattle.np_rules.specs.model.Ends.{End, contact, pod}
 use Rattle.np_rules.specs.model.Verdict.{pod_at}

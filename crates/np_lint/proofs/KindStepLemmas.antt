@@ -5,11 +5,10 @@ use Rattle.std.proofs.lemmas.List.{length-append, length-set}
 use Rattle.std.proofs.lemmas.List.FromFn.{length-map-range_with_len}
 use Rattle.std.proofs.lemmas.Option.{none-some, same_Some, slice_get_past, slice_get_within}
 use Rattle.np_base.proofs.Lists.{slice_get-push_other, slice_get-push_same}
-use Rattle.np_model.specs.declared.lists.EstateLists.{EstateLists}
+use Rattle.np_lint.specs.Types.{EstateLists, KindPod}
 use Rattle.np_fold.specs.Workloads.{folding_of, number_of}
 use Rattle.np_lint.proofs.FlagLemmas.{get-set_other, get-set_same}
 use Rattle.np_lint.proofs.KindPodLemmas.{kind_within, number_is, number_within}
-use Rattle.np_lint.specs.declared.kind_pods.KindPod.{KindPod}
 use Rattle.np_lint.specs.steps.Kinds.{AreKindPods, AreKindPodsOf, IsKindPodOf, pod_kind}
 use Rattle.np_kinds.proofs.KindNumbers.{firsts-workloads, kind-there}
 

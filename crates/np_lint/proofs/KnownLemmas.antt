@@ -5,21 +5,12 @@ use Rattle.std.specs.Option.{option_and_then, option_map_or}
 use Rattle.std.proofs.lemmas.Bool.{false≢true}
 use Rattle.np_lint.proofs.FirstLemmas.{first_at-position}
 use Rattle.np_lint.proofs.NoteLemmas.{notes_as, notes_none}
-use Rattle.np_lint.specs.declared.flags.Flags.{Flags}
-use Rattle.np_lint.specs.declared.rule_ref.Tier.{Tier}
+use Rattle.np_lint.specs.Types.{Action, AdminPart, Allow, Deny, Flags, Layer, LayerRules, Mark, Pass, RuleId, Tier, UsedRules}
 use Rattle.np_lint.specs.declared.rule_ref.Tier.TheVariants as tier
-use Rattle.np_lint.specs.declared.used_rules.UsedRules.{UsedRules}
 use Rattle.np_lint.specs.steps.Firsts.{Notes, first_at, hands_down, is_pass, names}
 use Rattle.np_lint.specs.steps.Known.{base_place, flags_of, is_met, marks, net_place}
-use Rattle.np_rules.specs.declared.rule_ids.LayerRules.{LayerRules}
-use Rattle.np_rules.specs.declared.rule_ids.RuleId.{RuleId}
 use Rattle.np_tiers.specs.Entries.{admin_place}
 use Rattle.np_tiers.specs.Marks.{admin_mark, base_mark, lower_mark, mark_of, net_mark}
-use Rattle.np_tiers.specs.declared.layer.Action.{Action}
-use Rattle.np_tiers.specs.declared.layer.Action.TheVariants.{Allow, Deny, Pass}
-use Rattle.np_tiers.specs.declared.layer.AdminPart.{AdminPart}
-use Rattle.np_tiers.specs.declared.layer.Layer.{Layer}
-use Rattle.np_tiers.specs.declared.mark.Mark.{Mark}
 use Rattle.np_tiers.specs.declared.mark.Mark.TheVariants.{Admin}
 
 -- ---- the places of a mark

@@ -4,9 +4,7 @@ use Rattle.std.specs.List.{Contains}
 use Rattle.std.specs.Option.{option_map_or}
 use Rattle.std.proofs.lemmas.Bool.{false≢true, not-true}
 use Rattle.std.proofs.lemmas.List.Elements.{All-cons, All-contains, All-head, All-nil, All-tail, Contains-append_right}
-use Rattle.np_addr.specs.declared.address.Family.{Family}
-use Rattle.np_conns.specs.declared.port_spot.PortSpot.{PortSpot}
-use Rattle.np_model.specs.declared.lists.EstateLists.{EstateLists}
+use Rattle.np_lint.specs.Types.{End, EstateLists, Family, PortSpot, RuleName, RuleRef}
 use Rattle.np_explain.proofs.SameDecider.{same_rule-Decides}
 use Rattle.np_explain.specs.RightParts.{same_rule}
 use Rattle.np_explain.specs.Sides.{decider_between}
@@ -14,9 +12,6 @@ use Rattle.np_lint.proofs.PacketLemmas.{is_used_by, used_by}
 use Rattle.np_lint.proofs.RuleListLemmas.{rule_is_listed, rules_are_rules}
 use Rattle.np_lint.specs.Rules.{IsRuleOf, all_rules, rule_name}
 use Rattle.np_lint.specs.Used.{IsListedPacket, StandsIn, is_used, rule_in, unused_of}
-use Rattle.np_lint.specs.declared.rule_ref.RuleRef.{RuleRef}
-use Rattle.np_rules.specs.declared.decider.RuleName.{RuleName}
-use Rattle.np_rules.specs.declared.packet.End.{End}
 
 -- ---- lists that are filtered
 

@@ -8,32 +8,23 @@ use Rattle.std.proofs.lemmas.Bool.{and_parts, eqb-true, false≢true}
 use Rattle.std.proofs.lemmas.Option.{slice_get-map}
 use Rattle.std.proofs.lemmas.Slice.Eq.{bytes_eq-Decides}
 use Rattle.np_model.specs.Lawful.{IsLawful}
-use Rattle.np_model.specs.declared.lists.EstateLists.{EstateLists}
+use Rattle.np_lint.specs.Types.{AdminPolicy, Decider, Direction, EstateLists, LayerRules, Mark, NetPolicy, RuleId, RuleName, Tier}
 use Rattle.np_explain.proofs.PlaceLemmas.{at_place}
 use Rattle.np_explain.specs.Marks.{IsMarkOf, admin_rules, base_rules, mark_decider, net_rules, pass_name}
 use Rattle.np_explain.specs.RightParts.{same_rule}
 use Rattle.np_lint.proofs.PolicyLemmas.{one_admin_policy, one_net_policy}
 use Rattle.np_lint.specs.Rules.{admin_count, base_count, net_count, policy_name_at, rule_count_at}
 use Rattle.np_lint.specs.Used.{admin_rule_in, base_rule_in, net_rule_in, rule_in}
-use Rattle.np_lint.specs.declared.rule_ref.Tier.{Tier}
 use Rattle.np_lint.specs.declared.rule_ref.Tier.TheVariants as tier
 use Rattle.np_lint.specs.steps.Known.{ids_of, is_id, is_met, place_in}
 use Rattle.np_lint.specs.steps.Search.{AreRulesOf}
-use Rattle.np_model.specs.declared.admin_policy.AdminPolicy.{AdminPolicy}
-use Rattle.np_model.specs.declared.direction.Direction.{Direction}
-use Rattle.np_model.specs.declared.network_policy.NetPolicy.{NetPolicy}
 use Rattle.np_rules.specs.Deciders.{admin_rule_name, base_rule_name, net_policy_name, net_rule_name}
 use Rattle.np_rules.specs.LayerRules.{NamesAdmin, NamesBase, NamesNet}
 use Rattle.np_rules.specs.Layers.{Pairwise}
 use Rattle.np_rules.specs.model.Places.{PlacedAdminRule, PlacedBaseRule, PlacedNetRule}
 use Rattle.np_rules.specs.PodSides.{PodSide}
 use Rattle.np_rules.specs.model.Sides.{is_allow}
-use Rattle.np_rules.specs.declared.decider.Decider.{Decider}
 use Rattle.np_rules.specs.declared.decider.Decider.TheVariants as decider
-use Rattle.np_rules.specs.declared.decider.RuleName.{RuleName}
-use Rattle.np_rules.specs.declared.rule_ids.LayerRules.{LayerRules}
-use Rattle.np_rules.specs.declared.rule_ids.RuleId.{RuleId}
-use Rattle.np_tiers.specs.declared.mark.Mark.{Mark}
 use Rattle.np_tiers.specs.declared.mark.Mark.TheVariants as mark
 
 -- ---- names at places

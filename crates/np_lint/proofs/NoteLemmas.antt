@@ -1,17 +1,13 @@
 -- What is noted of rules, one after another.
-use Rattle.std.proofs.Common.{◌≡◌, ◌⊎◌, ℕ, ◌<◌, length, get_or, arith, List, [], ◌∷◌, ◌++◌, Bool, true, false, ◌&&◌, ◌||◌, ◌==◌, not, Option, Some, None, is_some, refl, sym, ap, ◌∙◌, inl, inr, subst}
-use Rattle.std.proofs.Common.{if◌then◌else◌}
+use Rattle.std.proofs.Common.{◌≡◌, ◌⊎◌, ℕ, ◌<◌, length, get_or, arith, List, [], ◌∷◌, ◌++◌, Bool, true, false, ◌&&◌, ◌||◌, ◌==◌, not, Option, Some, None, is_some, refl, sym, ap, ◌∙◌, inl, inr, subst, if◌then◌else◌}
 use Rattle.std.specs.List.{list_all, list_any}
 use Rattle.std.specs.Option.{option_or}
 use Rattle.std.proofs.lemmas.Bool.{and_from, and_parts, false≢true, or_cases, or_left, or_right}
 use Rattle.std.proofs.lemmas.Bool.Decides.{eqb_tells}
 use Rattle.np_lint.proofs.FirstLemmas.{any-first_rule, first_rule-append}
-use Rattle.np_lint.specs.declared.flags.Flags.{Flags}
-use Rattle.np_lint.specs.declared.rule_spots.RuleSpots.{RuleSpots}
+use Rattle.np_lint.specs.Types.{AdminPart, Flags, RuleId, RuleSpots}
 use Rattle.np_lint.specs.steps.Firsts.{Notes, first_rule, hands_down, names}
 use Rattle.np_lint.specs.steps.Known.{flag_at}
-use Rattle.np_rules.specs.declared.rule_ids.RuleId.{RuleId}
-use Rattle.np_tiers.specs.declared.layer.AdminPart.{AdminPart}
 
 -- ---- tests
 

@@ -6,16 +6,11 @@ use Rattle.std.proofs.lemmas.List.FromFn.{get_or-map-range_with_len, length-map-
 use Rattle.std.proofs.lemmas.List.Kept.{AllPairs-filter}
 use Rattle.np_base.proofs.Lists.{AllPairs-append}
 use Rattle.np_addr.proofs.Pairs.{AllPairs-nil}
-use Rattle.np_model.specs.declared.lists.EstateLists.{EstateLists}
+use Rattle.np_lint.specs.Types.{Admin, Base, Direction, Egress, EstateLists, Ingress, Net, RuleRef, Tier}
 use Rattle.np_lint.proofs.RuleListLemmas.{numbered_all}
 use Rattle.np_lint.specs.Order.{StandsBefore, direction_number, tier_number}
 use Rattle.np_lint.specs.Rules.{all_rules, policy_count, rule_count_at, rules_from, rules_of_policy, rules_of_tier}
 use Rattle.np_lint.specs.Used.{is_used, unused_of}
-use Rattle.np_lint.specs.declared.rule_ref.RuleRef.{RuleRef}
-use Rattle.np_lint.specs.declared.rule_ref.Tier.{Tier}
-use Rattle.np_lint.specs.declared.rule_ref.Tier.TheVariants.{Admin, Net, Base}
-use Rattle.np_model.specs.declared.direction.Direction.{Direction}
-use Rattle.np_model.specs.declared.direction.Direction.TheVariants.{Ingress, Egress}
 
 -- numbered items, of which each stands before those of greater numbers
 numbered_pairs : {X : Type 0} (R : X → X → Type 0) (f : ℕ → X) (count : ℕ) → ((m n : ℕ) → m < n → R (f m) (f n)) → AllPairs R (map f (range_with_len 0 count))

@@ -1,6 +1,5 @@
 -- Rules are told by the names of their policies and their places.
-use Rattle.std.proofs.Common.{◌≡◌, ◌≢◌, ℕ, zero, suc, ◌<◌, List, [], ◌∷◌, ◌++◌, Bool, true, false, not, ◌==◌, get_or, Some, AllPairs, Ordering, Equal, append_assoc, eq-eqb, refl, sym, ◌∙◌, ap, inl}
-use Rattle.std.proofs.Common.{inr}
+use Rattle.std.proofs.Common.{◌≡◌, ◌≢◌, ℕ, zero, suc, ◌<◌, List, [], ◌∷◌, ◌++◌, Bool, true, false, not, ◌==◌, get_or, Some, AllPairs, Ordering, Equal, append_assoc, eq-eqb, refl, sym, ◌∙◌, ap, inl, inr}
 use Rattle.std.specs.Cmp.Lexicographic.{slice_cmp}
 use Rattle.std.specs.List.{list_all, list_any, slice_get}
 use Rattle.std.specs.Ordering.{nat_cmp}
@@ -9,11 +8,9 @@ use Rattle.std.proofs.lemmas.Cmp.{nat_list_cmp_total, tied_itself}
 use Rattle.std.proofs.lemmas.Option.{get_or_from_slice_get, slice_get_within}
 use Rattle.std.proofs.lemmas.Slice.Eq.{bytes_eq-Decides}
 use Rattle.np_model.specs.Lawful.{AreNamesApart, IsLawful, StandsBefore, comes_before, is_well}
-use Rattle.np_model.specs.declared.lists.EstateLists.{EstateLists}
+use Rattle.np_lint.specs.Types.{AdminPolicy, EstateLists, NetPolicy}
 use Rattle.np_model.specs.Words.{is_name}
 use Rattle.np_model.specs.WellPolicies.{is_well_net_policy}
-use Rattle.np_model.specs.declared.admin_policy.AdminPolicy.{AdminPolicy}
-use Rattle.np_model.specs.declared.network_policy.NetPolicy.{NetPolicy}
 use Rattle.np_rules.specs.Deciders.{net_policy_name}
 
 -- two places of items that pairwise differ are one where the items' names are

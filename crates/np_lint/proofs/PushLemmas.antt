@@ -4,15 +4,8 @@ use Rattle.std.specs.List.{flat_map, range_with_len}
 use Rattle.std.proofs.lemmas.Grind.{flat_map-append}
 use Rattle.std.proofs.lemmas.List.FromFn.{map-range_with_len_more}
 use Rattle.np_classes.proofs.Lists.{places_more}
-use Rattle.np_model.specs.declared.lists.EstateLists.{EstateLists}
+use Rattle.np_lint.specs.Types.{Admin, AdminPolicy, Base, Direction, Egress, EstateLists, Ingress, Net, NetPolicy, RuleRef, Tier}
 use Rattle.np_lint.specs.Rules.{all_rules, rule_count_at, rules_from, rules_of_policy, rules_of_tier}
-use Rattle.np_lint.specs.declared.rule_ref.RuleRef.{RuleRef}
-use Rattle.np_lint.specs.declared.rule_ref.Tier.{Tier}
-use Rattle.np_lint.specs.declared.rule_ref.Tier.TheVariants.{Admin, Net, Base}
-use Rattle.np_model.specs.declared.admin_policy.AdminPolicy.{AdminPolicy}
-use Rattle.np_model.specs.declared.direction.Direction.{Direction}
-use Rattle.np_model.specs.declared.direction.Direction.TheVariants.{Ingress, Egress}
-use Rattle.np_model.specs.declared.network_policy.NetPolicy.{NetPolicy}
 
 -- one rule more
 pub rule_more : (tier : Tier) (policy : ℕ) (direction : Direction) (place : ℕ) (before so_far made : List RuleRef) →

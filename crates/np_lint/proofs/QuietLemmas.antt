@@ -4,10 +4,9 @@ use Rattle.std.specs.List.{list_any}
 use Rattle.std.specs.Option.{option_map, option_map_or}
 use Rattle.std.proofs.lemmas.Bool.{false≢true, or_parts}
 use Rattle.std.proofs.lemmas.Option.{slice_get-get_or, slice_get-map, slice_get_within}
-use Rattle.np_addr.specs.declared.address.Family.{Family}
+use Rattle.np_lint.specs.Types.{Decider, Direction, EstateLists, Family, KindPod, Kinds, LayerRules, RuleName, Search, UsedRules}
 use Rattle.np_conns.specs.Conns.{is_spot}
 use Rattle.np_model.specs.Lawful.{IsLawful}
-use Rattle.np_model.specs.declared.lists.EstateLists.{EstateLists}
 use Rattle.np_explain.specs.RightParts.{same_rule}
 use Rattle.np_fold.specs.Workloads.{folding_of}
 use Rattle.np_lint.proofs.FindLemmas.{addresses_listed, pods_listed}
@@ -15,17 +14,12 @@ use Rattle.np_lint.proofs.SearchLemmas.{knows_admin}
 use Rattle.np_lint.proofs.StepLemmas.{kind_at, kind_is, pod_of_kind, searched_as}
 use Rattle.np_lint.specs.Rules.{rule_name}
 use Rattle.np_lint.specs.Used.{base_rule_in, net_rule_in}
-use Rattle.np_lint.specs.declared.kind_pods.KindPod.{KindPod}
 use Rattle.np_lint.specs.declared.rule_ref.Tier.TheVariants as tier
-use Rattle.np_lint.specs.declared.search.Kinds.{Kinds}
-use Rattle.np_lint.specs.declared.search.Search.{Search}
-use Rattle.np_lint.specs.declared.used_rules.UsedRules.{UsedRules}
 use Rattle.np_lint.specs.steps.Kinds.{AreKindPods, is_asked}
 use Rattle.np_lint.specs.steps.Known.{are_known}
 use Rattle.np_lint.specs.steps.Search.{AreKinds, AreRulesOf, IsSearch, IsSearchOf, Knows, KnowsAll, KnowsKind, KnowsSide, Searched, may_tell, ref_of}
 use Rattle.np_model.specs.declared.admin_policy.Action.{Action}
 use Rattle.np_model.specs.declared.admin_policy.Action.TheVariants.{Allow, Deny, Pass}
-use Rattle.np_model.specs.declared.direction.Direction.{Direction}
 use Rattle.np_reach.proofs.MarkLemmas.{may_at-of}
 use Rattle.np_reach.proofs.ReachLemmas.{isolated-out_of_reach, unmatched-out_of_reach}
 use Rattle.np_reach.specs.Reach.{may_at, may_reach}
@@ -37,10 +31,7 @@ use Rattle.np_rules.specs.model.NetTier.{placed_net_matches}
 use Rattle.np_rules.specs.model.Places.{PlacedAdminRule, PlacedNetRule, net_places}
 use Rattle.np_rules.specs.PodSides.{PodSide, near_pod, side_of, with_pod}
 use Rattle.np_rules.specs.model.Verdict.{pod_at}
-use Rattle.np_rules.specs.declared.decider.Decider.{Decider}
 use Rattle.np_rules.specs.declared.decider.Decider.TheVariants as decides
-use Rattle.np_rules.specs.declared.decider.RuleName.{RuleName}
-use Rattle.np_rules.specs.declared.rule_ids.LayerRules.{LayerRules}
 use Rattle.np_kinds.specs.Kinds.{first_end, first_ends}
 
 -- ---- deciders

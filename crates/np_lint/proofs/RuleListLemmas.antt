@@ -1,6 +1,5 @@
 -- All rules of an estate, and those that are not used.
-use Rattle.std.proofs.Common.{◌≡◌, ℕ, zero, suc, ◌<◌, List, [], ◌∷◌, ◌++◌, Bool, true, false, ◌==◌, not, map, filter, length, get_or, slice_get, Option, Some, None, All, refl, sym, ap, ◌∙◌, subst}
-use Rattle.std.proofs.Common.{arith, if◌then◌else◌}
+use Rattle.std.proofs.Common.{◌≡◌, ℕ, zero, suc, ◌<◌, List, [], ◌∷◌, ◌++◌, Bool, true, false, ◌==◌, not, map, filter, length, get_or, slice_get, Option, Some, None, All, refl, sym, ap, ◌∙◌, subst, arith, if◌then◌else◌}
 use Rattle.std.specs.List.{Contains, flat_map, range_with_len}
 use Rattle.std.specs.Option.{option_map_or}
 use Rattle.std.proofs.lemmas.Bool.{eqb-true}
@@ -8,17 +7,10 @@ use Rattle.std.proofs.lemmas.List.Elements.{All-append, All-nil, Contains-append
 use Rattle.std.proofs.lemmas.List.FromFn.{get_or-map-range_with_len, get_or-range_with_len, length-map-range_with_len, length-range_with_len}
 use Rattle.std.proofs.lemmas.Option.{slice_get_within}
 use Rattle.np_classes.proofs.Lists.{filter_agree_on}
-use Rattle.np_model.specs.declared.lists.EstateLists.{EstateLists}
+use Rattle.np_lint.specs.Types.{Admin, AdminPolicy, Base, Direction, Egress, EstateLists, Ingress, Net, NetPolicy, Tier, UsedRules}
 use Rattle.np_lint.specs.Rules.{IsRuleOf, admin_count, all_rules, base_count, net_count, policy_count, rule_count_at, rules_from, rules_of_policy, rules_of_tier}
 use Rattle.np_lint.specs.Used.{is_used, unused_of}
-use Rattle.np_lint.specs.declared.rule_ref.Tier.{Tier}
-use Rattle.np_lint.specs.declared.rule_ref.Tier.TheVariants.{Admin, Net, Base}
-use Rattle.np_lint.specs.declared.used_rules.UsedRules.{UsedRules}
 use Rattle.np_lint.specs.steps.Search.{Finds, is_known_by}
-use Rattle.np_model.specs.declared.admin_policy.AdminPolicy.{AdminPolicy}
-use Rattle.np_model.specs.declared.direction.Direction.{Direction}
-use Rattle.np_model.specs.declared.direction.Direction.TheVariants.{Ingress, Egress}
-use Rattle.np_model.specs.declared.network_policy.NetPolicy.{NetPolicy}
 
 -- ---- lists
 

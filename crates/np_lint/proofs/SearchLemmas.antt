@@ -10,9 +10,8 @@ use Rattle.np_lint.proofs.KnownLemmas.{marks_test}
 use Rattle.np_lint.proofs.NameLemmas.{mark_rule, met_flagged, met_named}
 use Rattle.np_lint.specs.Rules.{rule_count_at, rule_name}
 use Rattle.np_lint.specs.Used.{stands_in}
-use Rattle.np_lint.specs.declared.rule_ref.Tier.{Tier}
+use Rattle.np_lint.specs.Types.{Layer, LayerRules, Mark, Tier, UsedRules}
 use Rattle.np_lint.specs.declared.rule_ref.Tier.TheVariants as tier
-use Rattle.np_lint.specs.declared.used_rules.UsedRules.{UsedRules}
 use Rattle.np_lint.specs.steps.Firsts.{Notes}
 use Rattle.np_lint.specs.steps.Known.{all_known, are_known, flag_at, flags_of, ids_of, is_known, is_met, marks, place_in}
 use Rattle.np_lint.specs.steps.Search.{AllAreUsed, AreRulesOf, AreUsed, IsSound, Knows, KnowsAll, Searched, ref_of, side_decider}
@@ -22,10 +21,7 @@ use Rattle.np_rules.specs.model.NetTier.{is_isolated}
 use Rattle.np_rules.specs.PodSides.{PodSide, near_pod}
 use Rattle.np_rules.specs.model.Rules.{admin_rule_matches}
 use Rattle.np_rules.specs.model.Sides.{is_allow}
-use Rattle.np_rules.specs.declared.rule_ids.LayerRules.{LayerRules}
 use Rattle.np_tiers.specs.Marks.{mark_of}
-use Rattle.np_tiers.specs.declared.layer.Layer.{Layer}
-use Rattle.np_tiers.specs.declared.mark.Mark.{Mark}
 
 -- ---- marks and rules
 

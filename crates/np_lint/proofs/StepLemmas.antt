@@ -1,21 +1,15 @@
 -- Steps of the search: what was known stays known.
 use Rattle.std.proofs.Common.{◌≡◌, ℕ, ◌+◌, ◌<◌, ◌≤◌, List, Bool, true, false, below_more, length, get_or, slice_get, Some, sym, ◌∙◌, arith}
 use Rattle.std.proofs.lemmas.Option.{get_or_from_slice_get, slice_get-get_or, slice_get_within}
-use Rattle.np_addr.specs.declared.address.Family.{Family}
+use Rattle.np_lint.specs.Types.{Direction, EstateLists, Family, KindPod, LayerRules, Tier, UsedRules}
 use Rattle.np_conns.specs.Conns.{is_spot}
 use Rattle.np_model.specs.Lawful.{IsLawful}
-use Rattle.np_model.specs.declared.lists.EstateLists.{EstateLists}
 use Rattle.np_lint.proofs.SearchLemmas.{knows_side}
-use Rattle.np_lint.specs.declared.kind_pods.KindPod.{KindPod}
-use Rattle.np_lint.specs.declared.rule_ref.Tier.{Tier}
-use Rattle.np_lint.specs.declared.used_rules.UsedRules.{UsedRules}
 use Rattle.np_lint.specs.steps.Known.{all_known, is_known}
 use Rattle.np_lint.specs.steps.Search.{AreRulesOf, Grows, IsSound, Knows, KnowsAll, KnowsFar, KnowsKind, KnowsPods, KnowsSide, Searched}
-use Rattle.np_model.specs.declared.direction.Direction.{Direction}
 use Rattle.np_rules.specs.model.Ends.{Contact}
 use Rattle.np_rules.specs.EveryAddress.{is_place}
 use Rattle.np_rules.specs.PodSides.{PodSide, side_of, with_addresses, with_pod}
-use Rattle.np_rules.specs.declared.rule_ids.LayerRules.{LayerRules}
 
 -- ---- one step after another
 

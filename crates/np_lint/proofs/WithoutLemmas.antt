@@ -1,6 +1,5 @@
 -- The rules of a side, where some are taken out of the estate.
-use Rattle.std.proofs.Common.{◌≡◌, ℕ, ◌+◌, ◌<◌, List, [], ◌∷◌, ◌++◌, Bool, true, false, ◌&&◌, ◌||◌, not, map, filter, is_some, length, Option, Some, None, All, refl, sym, ap, ◌∙◌, arith, unwrap_or}
-use Rattle.std.proofs.Common.{if◌then◌else◌}
+use Rattle.std.proofs.Common.{◌≡◌, ℕ, ◌+◌, ◌<◌, List, [], ◌∷◌, ◌++◌, Bool, true, false, ◌&&◌, ◌||◌, not, map, filter, is_some, length, Option, Some, None, All, refl, sym, ap, ◌∙◌, arith, unwrap_or, if◌then◌else◌}
 use Rattle.std.specs.List.{enumerate_from, flat_map, slice_get}
 use Rattle.std.specs.Option.{option_map, option_map_or}
 use Rattle.std.proofs.lemmas.List.{map-append}
@@ -9,20 +8,11 @@ use Rattle.np_tiers.proofs.Verdicts.{StandsAt, first_stands, rest_stands}
 use Rattle.np_model.specs.Lawful.{HasAscendingPriorities, ascends}
 use Rattle.np_lint.specs.Rules.{admin_count, base_count, net_count}
 use Rattle.np_lint.specs.Without.{admin_without, base_without, goes, net_without, without_places}
-use Rattle.np_lint.specs.declared.rule_ref.RuleRef.{RuleRef}
-use Rattle.np_lint.specs.declared.rule_ref.Tier.TheVariants.{Admin, Net, Base}
-use Rattle.np_model.specs.declared.admin_policy.AdminPolicy.{AdminPolicy}
-use Rattle.np_model.specs.declared.admin_policy.AdminRule.{AdminRule}
-use Rattle.np_model.specs.declared.admin_policy.BasePolicy.{BasePolicy}
-use Rattle.np_model.specs.declared.direction.Direction.{Direction}
-use Rattle.np_model.specs.declared.direction.Direction.TheVariants.{Ingress, Egress}
-use Rattle.np_model.specs.declared.network_policy.NetPolicy.{NetPolicy}
-use Rattle.np_model.specs.declared.network_policy.NetRule.{NetRule}
+use Rattle.np_lint.specs.Types.{Admin, AdminPolicy, AdminRule, Base, BasePolicy, Direction, Egress, Ingress, Net, NetPolicy, NetRule, RuleRef}
 use Rattle.np_rules.proofs.PlacesLemmas.{map-numbered}
 use Rattle.np_rules.specs.model.Ends.{PodEnd}
 use Rattle.np_rules.specs.model.NetTier.{is_isolated, isolates}
-use Rattle.np_rules.specs.model.Places.{PlacedAdminRule, PlacedBaseRule, PlacedNetRule, admin_places, admin_places_of}
-use Rattle.np_rules.specs.model.Places.{admin_rules_of, base_places, base_rules_of, net_places, net_places_of, net_rules_of}
+use Rattle.np_rules.specs.model.Places.{PlacedAdminRule, PlacedBaseRule, PlacedNetRule, admin_places, admin_places_of, admin_rules_of, base_places, base_rules_of, net_places, net_places_of, net_rules_of}
 use Rattle.np_rules.specs.model.Selection.{net_selects, subject_selects}
 
 -- ---- any kind of placed rules

@@ -2,19 +2,10 @@
 use Rattle.std.specs.Prelude.{ℕ, ◌<◌, List, [], ◌++◌, codes, map, length, ◌==◌, unwrap_or, if◌then◌else◌}
 use Rattle.std.specs.List.{flat_map, range_with_len, slice_get}
 use Rattle.std.specs.Option.{option_map_or}
-use Rattle.np_model.specs.declared.lists.EstateLists.{EstateLists}
+use Rattle.np_lint.specs.Types.{Admin, AdminPolicy, Base, BasePolicy, Direction, Egress, EstateLists, Ingress, Net, NetPolicy, RuleName, RuleRef, Tier}
 use Rattle.np_explain.specs.DeciderText as explain
-use Rattle.np_lint.specs.declared.rule_ref.RuleRef.{RuleRef}
-use Rattle.np_lint.specs.declared.rule_ref.Tier.{Tier}
-use Rattle.np_lint.specs.declared.rule_ref.Tier.TheVariants.{Admin, Net, Base}
-use Rattle.np_model.specs.declared.admin_policy.AdminPolicy.{AdminPolicy}
-use Rattle.np_model.specs.declared.admin_policy.BasePolicy.{BasePolicy}
-use Rattle.np_model.specs.declared.direction.Direction.{Direction}
-use Rattle.np_model.specs.declared.direction.Direction.TheVariants.{Ingress, Egress}
-use Rattle.np_model.specs.declared.network_policy.NetPolicy.{NetPolicy}
 use Rattle.np_rules.specs.Deciders.{net_policy_name}
 use Rattle.np_rules.specs.model.Places.{admin_rules_of, base_rules_of, net_rules_of}
-use Rattle.np_rules.specs.declared.decider.RuleName.{RuleName}
 
 -- ---- how many
 

@@ -3,23 +3,14 @@ use Rattle.std.specs.Prelude.{◌≡◌, ℕ, ◌<◌, ◌^◌, List, [], ◌∷
 use Rattle.std.specs.List.{Contains, list_any, range_with_len}
 use Rattle.std.specs.Option.{option_map_or}
 use Rattle.np_addr.specs.Addresses.{IsAddress, family_of}
-use Rattle.np_addr.specs.declared.address.Address.TheVariants.{Four, Six}
-use Rattle.np_addr.specs.declared.address.Family.{Family}
+use Rattle.np_lint.specs.Types.{At, Decider, End, EstateLists, Family, Four, Free, Isolated, NoSide, Pod, PortSpot, RuleName, RuleRef, Six, Tier}
 use Rattle.np_conns.specs.Conns.{is_spot}
-use Rattle.np_conns.specs.declared.port_spot.PortSpot.{PortSpot}
 use Rattle.np_model.specs.Families.{families_of}
-use Rattle.np_model.specs.declared.lists.EstateLists.{EstateLists}
 use Rattle.np_explain.specs.RightParts.{all_spots, same_rule}
 use Rattle.np_explain.specs.Sides.{are_one_pod, decider_between}
 use Rattle.np_lint.specs.Rules.{all_rules, rule_name}
-use Rattle.np_lint.specs.declared.rule_ref.RuleRef.{RuleRef}
-use Rattle.np_lint.specs.declared.rule_ref.Tier.{Tier}
 use Rattle.np_lint.specs.declared.rule_ref.Tier.TheVariants as tier
-use Rattle.np_rules.specs.declared.decider.Decider.{Decider}
-use Rattle.np_rules.specs.declared.decider.Decider.TheVariants.{NoSide, Admin, Net, Isolated, Base, Free}
-use Rattle.np_rules.specs.declared.decider.RuleName.{RuleName}
-use Rattle.np_rules.specs.declared.packet.End.{End}
-use Rattle.np_rules.specs.declared.packet.End.TheVariants.{Pod, At}
+use Rattle.np_rules.specs.declared.decider.Decider.TheVariants.{Admin, Net, Base}
 
 -- ---- rules in deciders
 

@@ -2,15 +2,7 @@
 use Rattle.std.specs.Prelude.{ℕ, List, map, filter, Bool, true, false, ◌&&◌, ◌==◌, not}
 use Rattle.std.specs.List.{enumerate_from, list_any}
 use Rattle.std.specs.Option.{option_map}
-use Rattle.np_model.specs.declared.lists.EstateLists.{EstateLists}
-use Rattle.np_lint.specs.declared.rule_ref.RuleRef.{RuleRef}
-use Rattle.np_lint.specs.declared.rule_ref.Tier.{Tier}
-use Rattle.np_lint.specs.declared.rule_ref.Tier.TheVariants.{Admin, Net, Base}
-use Rattle.np_model.specs.declared.admin_policy.AdminPolicy.{AdminPolicy}
-use Rattle.np_model.specs.declared.admin_policy.BasePolicy.{BasePolicy}
-use Rattle.np_model.specs.declared.direction.Direction.{Direction}
-use Rattle.np_model.specs.declared.direction.Direction.TheVariants.{Ingress, Egress}
-use Rattle.np_model.specs.declared.network_policy.NetPolicy.{NetPolicy}
+use Rattle.np_lint.specs.Types.{Admin, AdminPolicy, Base, BasePolicy, Direction, Egress, EstateLists, Ingress, Net, NetPolicy, RuleRef, Tier}
 
 -- ---- rules in a list
 

@@ -15,10 +15,9 @@ use Rattle.np_model.specs.declared.notes.Notes.{Notes}
 use Rattle.np_reading.proofs.OnceLemmas.{net_policies-once}
 use Rattle.np_reading.proofs.EstateLemmas.{estate_of-read, same-notes}
 use Rattle.np_items.specs.Inputs.{json_of}
-use Rattle.np_items.specs.declared.item.Item.{Item}
+use Rattle.np_manifests.specs.Types.{Item, NetPolicy}
 use Rattle.np_owners.specs.MadePods.{makes_pod}
 use Rattle.np_owners.specs.Owners.{first_in_cycle, owner_place, ups}
-use Rattle.np_model.specs.declared.network_policy.NetPolicy.{NetPolicy}
 use Rattle.np_manifests.specs.Estates.{AreApart, estate_with, net_item, net_items}
 use Rattle.np_manifests.specs.Lists.{list_data}
 use Rattle.np_manifests.specs.Printable.{is_printable}

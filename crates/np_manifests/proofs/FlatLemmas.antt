@@ -15,8 +15,7 @@ use Rattle.std.specs.Str.Parse.{AllDigits}
 use Rattle.std.specs.Str.{bytes_eq}
 use Rattle.np_addr.specs.Blocks.{IsAddressSet}
 use Rattle.np_addr.specs.Prefixes.{prefixes_of}
-use Rattle.np_addr.specs.declared.cidr.Cidr.{Cidr}
-use Rattle.np_base.specs.declared.range.Range.{Range}
+use Rattle.np_manifests.specs.Types.{AddressRow, Block, Cidr, Direction, Egress, EstateLists, Ingress, NetPeer, NetRule, Proto, Range, Sctp, Tcp, Udp}
 use Rattle.np_base.proofs.Lists.{list_all-both}
 use Rattle.np_base.proofs.Bools.{not_both}
 use Rattle.np_base.proofs.Texts.{digit_range}
@@ -25,12 +24,9 @@ use Rattle.np_classes.proofs.Relations.{firsts-le-count}
 use Rattle.np_classes.specs.Classes.{places}
 use Rattle.np_conns.specs.Conns.{Conns, IsRun}
 use Rattle.np_conns.specs.ConnsText.{is_whole}
-use Rattle.np_conns.specs.declared.proto.Proto.{Proto}
-use Rattle.np_conns.specs.declared.proto.Proto.TheVariants.{Tcp, Udp, Sctp}
 use Rattle.np_reading.proofs.LawfulLists.{AllLater, AllPairs-from_later, list_all-from_all}
 use Rattle.np_reading.specs.Reading.{estate_of}
 use Rattle.np_model.specs.Lawful.{IsLawful, is_well, is_well_pod}
-use Rattle.np_model.specs.declared.lists.EstateLists.{EstateLists}
 use Rattle.np_model.specs.declared.pod.Pod.{Pod}
 use Rattle.np_fold.proofs.WorkloadLemmas.{workloads-count}
 use Rattle.np_fold.specs.Keys.{keys_of_estate}
@@ -43,11 +39,6 @@ use Rattle.np_labels.specs.WellFormed as labels
 use Rattle.np_labels.specs.declared.pair.Pair.{Pair}
 use Rattle.np_model.specs.WellObjects.{is_well_label, is_well_labels, is_well_ports}
 use Rattle.np_model.specs.WellPolicies.{is_well_selector, is_worded}
-use Rattle.np_model.specs.declared.direction.Direction.{Direction}
-use Rattle.np_model.specs.declared.direction.Direction.TheVariants.{Ingress, Egress}
-use Rattle.np_model.specs.declared.network_policy.NetPeer.{NetPeer}
-use Rattle.np_model.specs.declared.network_policy.NetPeer.TheVariants.{Block}
-use Rattle.np_model.specs.declared.network_policy.NetRule.{NetRule}
 use Rattle.np_rules.specs.model.Verdict.{no_pod}
 use Rattle.np_synth.proofs.AddressVerdicts.{IsWellSpan, rows-well}
 use Rattle.np_synth.proofs.KindGroups.{in_count}
@@ -63,7 +54,6 @@ use Rattle.np_kinds.specs.Kinds.{first_end}
 use Rattle.np_table.specs.Rows.{address_rows, is_nothing}
 use Rattle.np_table.specs.Table.{estate_table}
 use Rattle.np_kinds.specs.Between.{number_of_workloads, pair_allows, source_pod}
-use Rattle.np_table.specs.declared.rows.AddressRow.{AddressRow}
 use Rattle.np_table.specs.declared.rows.AddressSpan.{AddressSpan}
 use Rattle.np_table.specs.declared.rows.AddressSpan.TheVariants as span
 use Rattle.np_manifests.specs.Estates.{AreApart, estate_with}

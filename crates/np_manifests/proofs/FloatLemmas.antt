@@ -5,16 +5,7 @@ use Rattle.serde_json.specs.Data.{Data, number, string, unsigned}
 use Rattle.serde_json.specs.View.{items_of}
 use Rattle.serde_json.specs.Written.{has_float, items_have_float, members_have_float}
 use Rattle.np_json.specs.Members.{members_with, list_with}
-use Rattle.np_labels.specs.declared.requirement.Requirement.{Requirement}
-use Rattle.np_labels.specs.declared.selector.Selector.{Selector}
-use Rattle.np_model.specs.declared.direction.Direction.{Direction}
-use Rattle.np_model.specs.declared.direction.Direction.TheVariants.{Ingress, Egress}
-use Rattle.np_model.specs.declared.network_policy.NetPeer.{NetPeer}
-use Rattle.np_model.specs.declared.network_policy.NetPeer.TheVariants.{Pods, Block}
-use Rattle.np_model.specs.declared.network_policy.NetPolicy.{NetPolicy}
-use Rattle.np_model.specs.declared.network_policy.NetPort.{NetPort}
-use Rattle.np_model.specs.declared.network_policy.NetPort.TheVariants.{Span, Named}
-use Rattle.np_model.specs.declared.network_policy.NetRule.{NetRule}
+use Rattle.np_manifests.specs.Types.{Block, Direction, Egress, Ingress, Named, NetPeer, NetPolicy, NetPort, NetRule, Pods, Requirement, Selector, Span}
 use Rattle.np_manifests.specs.Manifests as manifests
 use Rattle.np_manifests.specs.Members.{if_given, if_some}
 

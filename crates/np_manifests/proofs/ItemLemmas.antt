@@ -11,11 +11,10 @@ use Rattle.std.specs.Str.{bytes_eq}
 use Rattle.np_base.proofs.Lists.{AllPairs-head, AllPairs-tail}
 use Rattle.np_items.specs.Inputs.{items_in, items_by, input_values, json_of}
 use Rattle.np_items.specs.Items.{each_item, items_of, must_be_few}
-use Rattle.np_items.specs.declared.item.Item.{Item}
+use Rattle.np_manifests.specs.Types.{Item, NetPolicy}
 use Rattle.np_items.proofs.InputLemmas.{values-items_of}
 use Rattle.np_owners.specs.Names.{first_repeat, is_named, place_of, repeat_after, repeated}
 use Rattle.np_owners.specs.declared.object_name.ObjectName.{ObjectName}
-use Rattle.np_model.specs.declared.network_policy.NetPolicy.{NetPolicy}
 use Rattle.np_manifests.specs.Estates.{AreApart, net_item, net_items}
 use Rattle.np_manifests.specs.Lists.{list_data}
 use Rattle.np_manifests.specs.Manifests as manifests

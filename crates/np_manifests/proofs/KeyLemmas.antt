@@ -5,13 +5,11 @@ use Rattle.std.proofs.lemmas.List.Folds.{list_all-append}
 use Rattle.std.specs.List.{list_all}
 use Rattle.std.specs.Option.{option_map_or}
 use Rattle.np_model.specs.Lawful.{is_well, is_well_pod}
-use Rattle.np_model.specs.declared.lists.EstateLists.{EstateLists}
+use Rattle.np_manifests.specs.Types.{EstateLists, NetPeer, NetPolicy, NetRule, Requirement, Selector}
 use Rattle.np_fold.specs.Keys.{keys_of_admin_peer, keys_of_admin_policy, keys_of_admin_rule, keys_of_baseline, keys_of_estate, keys_of_net_direction, keys_of_net_peer, keys_of_net_policy}
 use Rattle.np_fold.specs.Keys.{keys_of_net_rule, keys_of_optional, keys_of_selector, keys_of_service, keys_of_subject}
 use Rattle.np_model.specs.Words.{is_name, is_word, is_whole_word}
 use Rattle.np_labels.specs.WellFormed as labels
-use Rattle.np_labels.specs.declared.requirement.Requirement.{Requirement}
-use Rattle.np_labels.specs.declared.selector.Selector.{Selector}
 use Rattle.np_model.specs.WellObjects as objects
 use Rattle.np_model.specs.declared.service.ServiceItem.{ServiceItem}
 use Rattle.np_model.specs.WellPolicies.{is_well_admin_peer, is_well_admin_policy, is_well_admin_port, is_well_admin_rule, is_well_base_policy, is_well_base_rule, is_well_net_peer}
@@ -22,10 +20,7 @@ use Rattle.np_model.specs.declared.admin_policy.AdminPolicy.{AdminPolicy}
 use Rattle.np_model.specs.declared.admin_policy.AdminRule.{AdminRule}
 use Rattle.np_model.specs.declared.admin_policy.BasePolicy.{BasePolicy}
 use Rattle.np_model.specs.declared.admin_policy.Subject.{Subject}
-use Rattle.np_model.specs.declared.network_policy.NetPeer.{NetPeer}
 use Rattle.np_model.specs.declared.network_policy.NetPeer.TheVariants as net
-use Rattle.np_model.specs.declared.network_policy.NetPolicy.{NetPolicy}
-use Rattle.np_model.specs.declared.network_policy.NetRule.{NetRule}
 use Rattle.np_model.specs.WellObjects.{option_all}
 
 -- ---- lists of keys

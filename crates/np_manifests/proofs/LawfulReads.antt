@@ -7,7 +7,7 @@ use Rattle.std.specs.Prelude.{nat_le}
 use Rattle.serde_json.specs.Data.{Data}
 use Rattle.np_model.specs.Lawful.{IsLawful}
 use Rattle.np_reading.specs.Reading.{estate_of, or_refused}
-use Rattle.np_model.specs.declared.lists.EstateLists.{EstateLists}
+use Rattle.np_manifests.specs.Types.{EstateLists, Item}
 use Rattle.np_reading.proofs.LawfulReading.{estate_of_items-lawful}
 use Rattle.np_reading.proofs.ReadingLemmas.{estate_of-passed}
 use Rattle.np_items.specs.Inputs.{all_values}
@@ -15,7 +15,6 @@ use Rattle.np_items.specs.Items.{each_item, item_of, items_of, must_be_few, must
 use Rattle.np_items.specs.Readings.{Reading}
 use Rattle.np_items.specs.WellFormed.{IsWellItem}
 use Rattle.np_items.specs.declared.fault.ItemsFault.TheVariants.{TooManyItems}
-use Rattle.np_items.specs.declared.item.Item.{Item}
 use Rattle.np_items.specs.declared.item.Item.TheVariants as item
 use Rattle.np_json.specs.Shapes.{Read, ◌>>=◌, ◌>>◌}
 use Rattle.np_objects.proofs.WellLemmas.{object_of-well}

@@ -9,7 +9,7 @@ use Rattle.serde_json.specs.View.{items_of}
 use Rattle.serde_json.specs.Written.{compact_text, items_text}
 use Rattle.np_json.specs.Members.{object_with, list_with}
 use Rattle.np_items.specs.Inputs.{json_of}
-use Rattle.np_model.specs.declared.network_policy.NetPolicy.{NetPolicy}
+use Rattle.np_manifests.specs.Types.{NetPolicy}
 use Rattle.np_manifests.specs.Lists.{list_data, list_line, list_text, policy_text}
 use Rattle.np_manifests.specs.Manifests as manifests
 use Rattle.np_manifests.specs.Printable.{is_printable}

@@ -13,10 +13,7 @@ use Rattle.np_policies.specs.NetworkPolicies.{net_policy, net_policy_by, net_rul
 use Rattle.np_policies.specs.Policies.{policy_by, policy_of}
 use Rattle.np_policies.specs.Selectors.{selector}
 use Rattle.np_model.specs.WellPolicies.{is_well_selector}
-use Rattle.np_model.specs.declared.direction.Direction.{Direction}
-use Rattle.np_model.specs.declared.direction.Direction.TheVariants.{Ingress, Egress}
-use Rattle.np_model.specs.declared.network_policy.NetPolicy.{NetPolicy}
-use Rattle.np_model.specs.declared.network_policy.NetRule.{NetRule}
+use Rattle.np_manifests.specs.Types.{Direction, Egress, Ingress, NetPolicy, NetRule}
 use Rattle.np_manifests.specs.Estates.{net_item}
 use Rattle.np_manifests.specs.Manifests as manifests
 use Rattle.np_manifests.specs.Printable.{are_printable_rules, is_printable, is_printable_rule}

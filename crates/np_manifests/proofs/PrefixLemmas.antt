@@ -7,13 +7,10 @@ use Rattle.np_addr.proofs.RightPrefixes.{prefixes_of-right}
 use Rattle.np_addr.specs.Addresses.{IsAddress, IsCidr, cidr_has}
 use Rattle.np_addr.specs.Blocks.{AddressRanges, IsAddressSet, base_of, set_has}
 use Rattle.np_addr.specs.Prefixes.{prefixes_of, some_has}
-use Rattle.np_addr.specs.declared.address.Address.{Address}
+use Rattle.np_manifests.specs.Types.{Address, Cidr, Four, Range, Six}
 use Rattle.np_addr.specs.declared.address.Address.TheVariants as address
-use Rattle.np_addr.specs.declared.cidr.Cidr.{Cidr}
-use Rattle.np_addr.specs.declared.cidr.Cidr.TheVariants.{Four, Six}
 use Rattle.np_addr.proofs.OnePrefixList.{base_is_in}
 use Rattle.np_base.specs.Ranges.{IsAscending, holds, is_within}
-use Rattle.np_base.specs.declared.range.Range.{Range}
 use Rattle.np_model.specs.WellPolicies.{is_well_cidr}
 use Rattle.np_manifests.specs.Printable.{is_printable_block}
 

@@ -7,29 +7,18 @@ use Rattle.serde_json.specs.Data.{Data, number, string, unsigned}
 use Rattle.np_addr.proofs.CanonicalLemmas.{cidr_of-cidr_text}
 use Rattle.np_addr.specs.Addresses.{IsAddress, IsCidr}
 use Rattle.np_addr.specs.Blocks.{base_of, first_bad_except}
-use Rattle.np_addr.specs.declared.cidr.Cidr.{Cidr}
-use Rattle.np_addr.specs.declared.cidr.Cidr.TheVariants.{Four, Six}
+use Rattle.np_manifests.specs.Types.{Block, Cidr, Direction, Egress, Four, Ingress, Named, NetPeer, NetPort, NetRule, Pods, Proto, Sctp, Selector, Six, Span, Tcp, Udp}
 use Rattle.np_conns.specs.ConnsText.{proto_name}
-use Rattle.np_conns.specs.declared.proto.Proto.{Proto}
-use Rattle.np_conns.specs.declared.proto.Proto.TheVariants.{Tcp, Udp, Sctp}
 use Rattle.np_json.specs.Members.{member_of, object_with}
 use Rattle.np_json.specs.Scalars.{port, protocol_name}
 use Rattle.np_json.specs.Shapes.{listed, must_be_object, optional, refuse_if, required, under}
 use Rattle.np_json.proofs.ReadLemmas.{port-read}
 use Rattle.np_model.specs.Words.{is_word, is_whole_word}
-use Rattle.np_labels.specs.declared.selector.Selector.{Selector}
 use Rattle.np_policies.specs.Blocks.{cidr, ip_block}
 use Rattle.np_policies.specs.NetworkPolicies.{net_peer, net_rule}
 use Rattle.np_policies.specs.Ports.{end_port, net_port, port_name, port_value, protocol}
 use Rattle.np_policies.specs.Selectors.{selector}
 use Rattle.np_model.specs.WellPolicies.{is_well_cidr, is_well_selector}
-use Rattle.np_model.specs.declared.direction.Direction.{Direction}
-use Rattle.np_model.specs.declared.direction.Direction.TheVariants.{Ingress, Egress}
-use Rattle.np_model.specs.declared.network_policy.NetPeer.{NetPeer}
-use Rattle.np_model.specs.declared.network_policy.NetPeer.TheVariants.{Pods, Block}
-use Rattle.np_model.specs.declared.network_policy.NetPort.{NetPort}
-use Rattle.np_model.specs.declared.network_policy.NetPort.TheVariants.{Span, Named}
-use Rattle.np_model.specs.declared.network_policy.NetRule.{NetRule}
 use Rattle.np_manifests.specs.Manifests as manifests
 use Rattle.np_manifests.specs.Members.{if_some}
 use Rattle.np_manifests.specs.Printable.{is_printable_block, is_printable_peer, is_printable_port, is_printable_rule}

@@ -6,12 +6,11 @@ use Rattle.np_addr.specs.declared.address.Family.{Family}
 use Rattle.np_addr.specs.declared.address.Family.TheVariants.{Four, Six}
 use Rattle.np_conns.specs.Conns.{Conns, IsRun}
 use Rattle.np_conns.specs.declared.port_spot.PortSpot.{PortSpot}
-use Rattle.np_conns.specs.declared.proto.Proto.TheVariants.{Tcp, Udp, Sctp}
+use Rattle.np_manifests.specs.Types.{AddressRow, Sctp, Tcp, Udp}
 use Rattle.np_conns.proofs.RunLemmas.{IsRun-from_ascending, runs-ascend}
 use Rattle.np_table.proofs.RangeWalks.{walk-right}
 use Rattle.np_table.specs.Right.{AreRight, Stretch, conns_of, walk}
 use Rattle.np_table.specs.Rows.{address_row, four_of, rows_of_addresses, six_of}
-use Rattle.np_table.specs.declared.rows.AddressRow.{AddressRow}
 use Rattle.np_manifests.proofs.ShapeLemmas.{all-mapped}
 
 -- runs of ports of each protocol

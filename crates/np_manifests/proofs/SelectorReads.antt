@@ -14,10 +14,7 @@ use Rattle.np_model.specs.Words.{is_word, is_whole_word}
 use Rattle.np_labels.specs.Selectors.{requirement_of}
 use Rattle.np_labels.specs.Values.{is_ascending}
 use Rattle.np_labels.specs.WellFormed as well
-use Rattle.np_labels.specs.declared.op.Op.{Op}
-use Rattle.np_labels.specs.declared.op.Op.TheVariants.{OneOf, NoneOf, Present, Absent}
-use Rattle.np_labels.specs.declared.requirement.Requirement.{Requirement}
-use Rattle.np_labels.specs.declared.selector.Selector.{Selector}
+use Rattle.np_manifests.specs.Types.{Absent, NoneOf, OneOf, Op, Present, Requirement, Selector}
 use Rattle.np_policies.specs.Selectors.{expression, fitting, key, op_named, selector}
 use Rattle.np_model.specs.WellPolicies.{is_well_selector, is_worded}
 use Rattle.np_manifests.specs.Manifests as manifests

@@ -1,6 +1,5 @@
 -- The texts of policies are UTF-8: words are ASCII, and so are blocks of addresses.
-use Rattle.std.proofs.Common.{◌≡◌, ℕ, zero, suc, ◌+◌, ◌/◌, ◌%◌, ◌^◌, ◌<◌, ◌≤◌, List, [], ◌∷◌, ◌++◌, true, false, not, ◌&&◌, ◌==◌, nat_lt, flat_map, length, take, drop, IsUtf8, codes, decimal, refl}
-use Rattle.std.proofs.Common.{arith, lit≤}
+use Rattle.std.proofs.Common.{◌≡◌, ℕ, zero, suc, ◌+◌, ◌/◌, ◌%◌, ◌^◌, ◌<◌, ◌≤◌, List, [], ◌∷◌, ◌++◌, true, false, not, ◌&&◌, ◌==◌, nat_lt, flat_map, length, take, drop, IsUtf8, codes, decimal, refl, arith, lit≤}
 use Rattle.std.proofs.lemmas.Bool.{and_parts, cond_both, lt-ltb}
 use Rattle.std.proofs.lemmas.Bool.Decides.{nat_tests}
 use Rattle.std.proofs.lemmas.Fmt.{IsAscii-decimal, digits_is_IsNumeral}
@@ -12,9 +11,8 @@ use Rattle.std.specs.Str.Parse.{AllDigits}
 use Rattle.json.proofs.Printed.Utf8.{are_ascii, IsUtf8-are_ascii}
 use Rattle.np_addr.specs.AddressText.{address_text, cidr_text, group_text, groups_of, groups_text, low_groups, shortened_text}
 use Rattle.np_addr.specs.Blocks.{base_of, bits_of}
-use Rattle.np_addr.specs.declared.address.Address.{Address}
+use Rattle.np_manifests.specs.Types.{Address, Cidr}
 use Rattle.np_addr.specs.declared.address.Address.TheVariants.{Four, Six}
-use Rattle.np_addr.specs.declared.cidr.Cidr.{Cidr}
 use Rattle.np_model.specs.Words.{has_slash, is_name, is_word, is_word_byte}
 
 -- ---- words

@@ -2,10 +2,8 @@
 use Rattle.std.specs.Prelude.{List, [], None, map, IsTrue}
 use Rattle.np_model.specs.Lawful.{are_apart}
 use Rattle.np_reading.specs.Listed.{net_policies_of}
-use Rattle.np_model.specs.declared.lists.EstateLists.{EstateLists}
-use Rattle.np_items.specs.declared.item.Item.{Item}
+use Rattle.np_manifests.specs.Types.{EstateLists, Item, NetPolicy}
 use Rattle.np_items.specs.declared.item.Item.TheVariants as item
-use Rattle.np_model.specs.declared.network_policy.NetPolicy.{NetPolicy}
 use Rattle.np_policies.specs.declared.policy.Policy.TheVariants as policy
 
 -- the item that a policy is

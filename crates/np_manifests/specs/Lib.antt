@@ -3,3 +3,4 @@ pub mod Lists
 pub mod Manifests
 pub mod Members
 pub mod Printable
+pub mod Types

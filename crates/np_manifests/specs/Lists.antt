@@ -3,7 +3,7 @@ use Rattle.std.specs.Prelude.{ℕ, List, [], ◌∷◌, ◌++◌, codes, map}
 use Rattle.serde_json.specs.Data.{Data, string}
 use Rattle.serde_json.specs.Written.{compact_text}
 use Rattle.np_json.specs.Members.{object_with, list_with}
-use Rattle.np_model.specs.declared.network_policy.NetPolicy.{NetPolicy}
+use Rattle.np_manifests.specs.Types.{NetPolicy}
 use Rattle.np_manifests.specs.Manifests.{policy}
 
 -- the text of `serde_json`, without spaces

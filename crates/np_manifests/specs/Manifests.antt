@@ -4,21 +4,8 @@ use Rattle.std.specs.Prelude.{ℕ, List, [], ◌∷◌, ◌++◌, map, Bool, ◌
 use Rattle.serde_json.specs.Data.{Data, number, string, unsigned}
 use Rattle.np_json.specs.Members.{object_with, list_with}
 use Rattle.np_addr.specs.AddressText.{cidr_text}
-use Rattle.np_addr.specs.declared.cidr.Cidr.{Cidr}
+use Rattle.np_manifests.specs.Types.{Absent, Block, Cidr, Direction, Egress, Ingress, Named, NetPeer, NetPolicy, NetPort, NetRule, NoneOf, OneOf, Op, Pods, Present, Proto, Requirement, Selector, Span}
 use Rattle.np_conns.specs.ConnsText.{proto_name}
-use Rattle.np_conns.specs.declared.proto.Proto.{Proto}
-use Rattle.np_labels.specs.declared.op.Op.{Op}
-use Rattle.np_labels.specs.declared.op.Op.TheVariants.{OneOf, NoneOf, Present, Absent}
-use Rattle.np_labels.specs.declared.requirement.Requirement.{Requirement}
-use Rattle.np_labels.specs.declared.selector.Selector.{Selector}
-use Rattle.np_model.specs.declared.direction.Direction.{Direction}
-use Rattle.np_model.specs.declared.direction.Direction.TheVariants.{Ingress, Egress}
-use Rattle.np_model.specs.declared.network_policy.NetPeer.{NetPeer}
-use Rattle.np_model.specs.declared.network_policy.NetPeer.TheVariants.{Pods, Block}
-use Rattle.np_model.specs.declared.network_policy.NetPolicy.{NetPolicy}
-use Rattle.np_model.specs.declared.network_policy.NetPort.{NetPort}
-use Rattle.np_model.specs.declared.network_policy.NetPort.TheVariants.{Span, Named}
-use Rattle.np_model.specs.declared.network_policy.NetRule.{NetRule}
 use Rattle.np_manifests.specs.Members.{if_given, if_some}
 
 -- ---- selectors

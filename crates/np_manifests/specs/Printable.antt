@@ -3,16 +3,9 @@
 use Rattle.std.specs.Prelude.{◌^◌, List, Bool, ◌&&◌, ◌||◌, nat_le, nat_lt, is_none, is_some, Option}
 use Rattle.std.specs.List.{list_all}
 use Rattle.np_addr.specs.Blocks.{first_bad_except}
-use Rattle.np_addr.specs.declared.cidr.Cidr.{Cidr}
-use Rattle.np_addr.specs.declared.cidr.Cidr.TheVariants.{Four, Six}
+use Rattle.np_manifests.specs.Types.{Block, Cidr, Four, Named, NetPeer, NetPolicy, NetPort, NetRule, Pods, Six, Span}
 use Rattle.np_model.specs.Words.{is_name, is_whole_word}
 use Rattle.np_model.specs.WellPolicies.{is_well_cidr, is_well_selector}
-use Rattle.np_model.specs.declared.network_policy.NetPeer.{NetPeer}
-use Rattle.np_model.specs.declared.network_policy.NetPeer.TheVariants.{Pods, Block}
-use Rattle.np_model.specs.declared.network_policy.NetPolicy.{NetPolicy}
-use Rattle.np_model.specs.declared.network_policy.NetPort.{NetPort}
-use Rattle.np_model.specs.declared.network_policy.NetPort.TheVariants.{Span, Named}
-use Rattle.np_model.specs.declared.network_policy.NetRule.{NetRule}
 use Rattle.np_model.specs.WellObjects.{option_all}
 
 -- ports from 1 to 65535, of which the last is not below the first, or a name

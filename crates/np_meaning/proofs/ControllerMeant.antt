@@ -7,7 +7,7 @@ use Rattle.np_json.specs.Members.{as_whole, member_of}
 use Rattle.np_json.specs.Meta.{namespaced_name}
 use Rattle.np_json.specs.Scalars.{whole}
 use Rattle.np_json.specs.Shapes.{Read, must_be_object, optional, required, listed}
-use Rattle.np_labels.specs.declared.pair.Pair.{Pair}
+use Rattle.np_meaning.specs.Types.{ControllerItem, ControllerKind, CronJob, DaemonSet, Deployment, Job, Pair, ReplicaSet, ReplicationController, StatefulSet, Template}
 use Rattle.np_meaning.proofs.MetaMeant.{IsOwn, labels-meant, namespaced_name-meant}
 use Rattle.np_meaning.proofs.Outputs.{OutputOf, IsOptional, optional-output}
 use Rattle.np_meaning.proofs.PodMeant.{pod_spec-meant}
@@ -18,10 +18,6 @@ use Rattle.np_objects.specs.Labels.{label_map}
 use Rattle.np_objects.specs.Owners.{owner_reference}
 use Rattle.np_objects.specs.PodSpecs.{pod_spec}
 use Rattle.np_objects.specs.Templates.{template, template_metadata}
-use Rattle.np_objects.specs.declared.controller.ControllerItem.{ControllerItem}
-use Rattle.np_objects.specs.declared.controller.ControllerKind.{ControllerKind}
-use Rattle.np_objects.specs.declared.controller.ControllerKind.TheVariants.{Deployment, ReplicaSet, StatefulSet, DaemonSet, ReplicationController, Job, CronJob}
-use Rattle.np_objects.specs.declared.controller.Template.{Template}
 use Rattle.np_policies.proofs.ReadLemmas.{bind-output, then-output, of_type-output}
 use Rattle.np_policies.specs.PolicyMeaning.{object_at, spec_of}
 use Rattle.np_policies.proofs.MemberReads.{object_at-output}

@@ -19,27 +19,16 @@ use Rattle.np_meaning.specs.EachPod.{namespace_named, pod, takes_part, templated
 use Rattle.np_reading.specs.Ends.{end_of, is_on_host, made_pod, pod_at_item, pods_from, pods_of, context, context_of}
 use Rattle.np_reading.specs.Namespaces.{labels_in, listed_labels, name_label, namespace_labels, namespace_name}
 use Rattle.np_reading.specs.Reading.{estate_of}
-use Rattle.np_model.specs.declared.lists.EstateLists.{EstateLists}
-use Rattle.np_model.specs.declared.pod.Pod.{Pod}
+use Rattle.np_meaning.specs.Types.{ControllerItem, ControllerKind, CronJob, DaemonSet, Deployment, EstateLists, Item, Job, NamespaceItem, ObjectName, OwnerRef, Pair, Pod, PodItem, ReplicaSet, ReplicationController, StatefulSet, Template}
 use Rattle.np_items.specs.Items.{items_of}
-use Rattle.np_items.specs.declared.item.Item.{Item}
 use Rattle.np_items.specs.declared.item.Item.TheVariants as item
 use Rattle.np_labels.proofs.PairLists.{value_of-labels_of}
 use Rattle.np_labels.specs.Labels.{last_value_of, value_of}
-use Rattle.np_labels.specs.declared.pair.Pair.{Pair}
 use Rattle.np_objects.specs.ControllerKinds.{is_controller_kind, kind_name}
-use Rattle.np_objects.specs.declared.controller.ControllerItem.{ControllerItem}
-use Rattle.np_objects.specs.declared.controller.ControllerKind.{ControllerKind}
-use Rattle.np_objects.specs.declared.controller.ControllerKind.TheVariants.{Deployment, ReplicaSet, StatefulSet, DaemonSet, ReplicationController, Job, CronJob}
-use Rattle.np_objects.specs.declared.controller.Template.{Template}
-use Rattle.np_objects.specs.declared.namespace.NamespaceItem.{NamespaceItem}
 use Rattle.np_objects.specs.declared.object.Object.TheVariants as object
-use Rattle.np_objects.specs.declared.owner_ref.OwnerRef.{OwnerRef}
-use Rattle.np_objects.specs.declared.pod_item.PodItem.{PodItem}
 use Rattle.np_owners.specs.MadePods.{makes_pod}
 use Rattle.np_owners.specs.Names.{is_named, name_of, place_of, same_name}
 use Rattle.np_owners.specs.Owners.{by_name, by_reference, controller_place, last_owner, owner_of, owner_place, place_in_namespace, top_owner, ups}
-use Rattle.np_owners.specs.declared.object_name.ObjectName.{ObjectName}
 use Rattle.np_model.specs.declared.owner.Owner.{Owner}
 use Rattle.np_policies.specs.declared.policy.Policy.TheVariants as policy
 

@@ -7,7 +7,7 @@ use Rattle.np_json.specs.Members.{member_of, text_of, whole_of}
 use Rattle.np_json.specs.Meta.{namespaced_name}
 use Rattle.np_json.specs.Scalars.{port, text}
 use Rattle.np_json.specs.Shapes.{has_one_of, listed, must_be_object, optional, refuse_if, required}
-use Rattle.np_json.specs.declared.fault.FaultKind.TheVariants.{BadField}
+use Rattle.np_meaning.specs.Types.{Backend, BadField, IngressItem, Named, Number, PortName, Resource, Service}
 use Rattle.np_meaning.proofs.MetaMeant.{namespaced_name-meant}
 use Rattle.np_meaning.proofs.Outputs.{optional-output, each-output, number_at-required, text_at-required, IsOptional, text-output}
 use Rattle.np_policies.proofs.ReadLemmas.{bind-output, then-output}
@@ -15,11 +15,6 @@ use Rattle.np_meaning.proofs.PodMeant.{AreEach-append, AreEach-flat_map}
 use Rattle.np_objects.specs.Ingresses.{backend, backend_port, backend_service, http, ingress, ingress_item, ingress_spec, is_named, is_numbered, is_one, number_or_name, path, rule}
 use Rattle.np_meaning.specs.EachPod.{AreEach}
 use Rattle.np_meaning.specs.ObjectMeaning.{backends_in, list_at, text_at, IsBackend, IsBackendPort, IsIngressOf}
-use Rattle.np_model.specs.declared.ingress.Backend.{Backend}
-use Rattle.np_model.specs.declared.ingress.Backend.TheVariants.{Service, Resource}
-use Rattle.np_model.specs.declared.ingress.IngressItem.{IngressItem}
-use Rattle.np_model.specs.declared.service.PortName.{PortName}
-use Rattle.np_model.specs.declared.service.PortName.TheVariants.{Number, Named}
 use Rattle.np_policies.specs.PolicyMeaning.{object_at}
 use Rattle.np_policies.proofs.MemberReads.{object_at-output}
 

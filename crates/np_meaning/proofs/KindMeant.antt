@@ -19,10 +19,7 @@ use Rattle.np_objects.specs.Namespaces.{namespace}
 use Rattle.np_objects.specs.Objects.{kinds_of, object_by, object_of}
 use Rattle.np_objects.specs.Pods.{pod}
 use Rattle.np_objects.specs.Services.{service}
-use Rattle.np_objects.specs.declared.controller.ControllerItem.{ControllerItem}
-use Rattle.np_objects.specs.declared.controller.ControllerKind.{ControllerKind}
-use Rattle.np_objects.specs.declared.controller.ControllerKind.TheVariants.{Deployment, ReplicaSet, StatefulSet, DaemonSet, ReplicationController, Job, CronJob}
-use Rattle.np_objects.specs.declared.object.Object.{Object}
+use Rattle.np_meaning.specs.Types.{ControllerItem, ControllerKind, CronJob, DaemonSet, Deployment, Job, Object, ReplicaSet, ReplicationController, StatefulSet}
 use Rattle.np_objects.specs.declared.object.Object.TheVariants as object
 use Rattle.np_policies.proofs.ReadLemmas.{bind-output, then-output}
 

@@ -1,6 +1,5 @@
 -- Names and labels that were read are what the metadata says.
-use Rattle.std.proofs.Common.{◌≡◌, ℕ, List, [], ◌∷◌, ◌++◌, length, map, reverse, Bool, true, false, cond, not, ◌==◌, is_some, Option, Some, None, option_and_then, option_map, unwrap_or, codes, Ok}
-use Rattle.std.proofs.Common.{refl, sym, ap, subst, ◌∙◌, arith}
+use Rattle.std.proofs.Common.{◌≡◌, ℕ, List, [], ◌∷◌, ◌++◌, length, map, reverse, Bool, true, false, cond, not, ◌==◌, is_some, Option, Some, None, option_and_then, option_map, unwrap_or, codes, Ok, refl, sym, ap, subst, ◌∙◌, arith}
 use Rattle.std.specs.List.{list_all}
 use Rattle.std.specs.Str.{bytes_eq}
 use Rattle.std.proofs.lemmas.Bool.Decides.{nat_tests}
@@ -12,11 +11,10 @@ use Rattle.np_json.specs.Meta as meta
 use Rattle.np_model.specs.Words.{is_label, is_name}
 use Rattle.np_json.specs.Scalars.{labels, name, of_type, text}
 use Rattle.np_json.specs.Shapes.{◌>>◌, must_be_object, optional, refuse_if, required}
-use Rattle.np_json.specs.declared.fault.FaultKind.TheVariants.{BadField, BadName}
+use Rattle.np_meaning.specs.Types.{BadField, BadName, Pair}
 use Rattle.np_json.specs.declared.meta.NamespacedName.{NamespacedName}
 use Rattle.np_labels.proofs.PairLists.{value_of-labels_of}
 use Rattle.np_labels.specs.Labels.{labels_of, value_of, pair_of}
-use Rattle.np_labels.specs.declared.pair.Pair.{Pair}
 use Rattle.np_meaning.proofs.Outputs.{optional-output, text_at-required, IsOptional, text-output}
 use Rattle.np_policies.proofs.ReadLemmas.{bind-output, then-output, of_type-output}
 use Rattle.np_objects.specs.Labels.{label_map}

@@ -15,8 +15,7 @@ use Rattle.np_fold.specs.Workloads.{Workload, first_pods, folding_of, named_firs
 use Rattle.np_fold.proofs.WorkloadLemmas.{workloads-by_name}
 use Rattle.np_report.specs.RowText.{names_of}
 use Rattle.np_model.specs.Lawful.{IsFew}
-use Rattle.np_model.specs.declared.lists.EstateLists.{EstateLists}
-use Rattle.np_model.specs.declared.pod.Pod.{Pod}
+use Rattle.np_meaning.specs.Types.{EstateLists, Pod}
 use Rattle.np_names.specs.Names.{name_at, suffix, wish_at}
 use Rattle.np_names.specs.declared.named.Named.{Named}
 use Rattle.np_names.proofs.ThingLemmas.{All-all_by_name, IsThing}

@@ -1,7 +1,6 @@
 -- Who owns an item: what stands over its place is the controller that its reference names, and the chains of places are chains
 -- of controllers, each of which owns what is below it.
-use Rattle.std.proofs.Common.{◌≡◌, ℕ, zero, suc, ◌+◌, ◌<◌, List, [], ◌∷◌, ◌++◌, length, get_or, Bool, true, false, cond, ◌||◌, nat_eq}
-use Rattle.std.proofs.Common.{Option, Some, None, refl, sym, ap, subst, ◌∙◌, arith, eq-eqb, lt-ltb, append-nil, zero-add}
+use Rattle.std.proofs.Common.{◌≡◌, ℕ, zero, suc, ◌+◌, ◌<◌, List, [], ◌∷◌, ◌++◌, length, get_or, Bool, true, false, cond, ◌||◌, nat_eq, Option, Some, None, refl, sym, ap, subst, ◌∙◌, arith, eq-eqb, lt-ltb, append-nil, zero-add}
 use Rattle.std.specs.Prelude.{codes}
 use Rattle.std.specs.List.{AllByRecursion, Contains, list_any, position_or_len, slice_get}
 use Rattle.std.specs.Option.{option_flatten, option_map_or}
@@ -16,17 +15,14 @@ use Rattle.std.proofs.lemmas.Option.{none-some, option_and_then_some, same_Some,
 use Rattle.np_chains.specs.Chains.{chain, first_cycle, last_of, owners, top, up, IsChains}
 use Rattle.np_chains.proofs.Ends.{up-top}
 use Rattle.np_chains.proofs.Walks.{chain_none}
-use Rattle.np_items.specs.declared.item.Item.{Item}
+use Rattle.np_meaning.specs.Types.{ControllerItem, Item, ObjectName, OwnerRef}
 use Rattle.np_items.specs.declared.item.Item.TheVariants as item
 use Rattle.np_objects.specs.ControllerKinds.{is_controller_kind, kind_name}
-use Rattle.np_objects.specs.declared.controller.ControllerItem.{ControllerItem}
 use Rattle.np_objects.specs.declared.object.Object.TheVariants as object
-use Rattle.np_objects.specs.declared.owner_ref.OwnerRef.{OwnerRef}
 use Rattle.np_objects.proofs.OwnerLemmas.{is_controller_kind-name}
 use Rattle.np_owners.proofs.PlaceLemmas.{equal_names, same_name-sym}
 use Rattle.np_owners.specs.Names.{is_named, name_of, place_of, same_name}
 use Rattle.np_owners.specs.Owners.{controller_place, owner_of, owner_place, place_in_namespace, ups}
-use Rattle.np_owners.specs.declared.object_name.ObjectName.{ObjectName}
 use Rattle.np_policies.specs.declared.policy.Policy.TheVariants as policy
 use Rattle.np_reading.proofs.LawfulLists.{AllLater}
 use Rattle.np_reading.proofs.LawfulNames.{AreNamedApart}

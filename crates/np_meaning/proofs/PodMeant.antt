@@ -1,6 +1,5 @@
 -- A pod and a namespace that were read are what their members say.
-use Rattle.std.proofs.Common.{◌≡◌, ℕ, pos, List, [], ◌∷◌, ◌++◌, length, Bool, true, false, cond, ◌||◌, ◌==◌, fold, Option, Some, None, option_map, unwrap_or, codes, Ok, refl, sym, ap, subst, ◌∙◌}
-use Rattle.std.proofs.Common.{arith}
+use Rattle.std.proofs.Common.{◌≡◌, ℕ, pos, List, [], ◌∷◌, ◌++◌, length, Bool, true, false, cond, ◌||◌, ◌==◌, fold, Option, Some, None, option_map, unwrap_or, codes, Ok, refl, sym, ap, subst, ◌∙◌, arith}
 use Rattle.std.specs.Prelude.{IfOk, filter}
 use Rattle.std.specs.List.{filter_map, flat_map, list_any}
 use Rattle.std.specs.Option.{option_flatten}
@@ -10,16 +9,12 @@ use Rattle.std.proofs.Math.Bool.{or_assoc, or-false}
 use Rattle.serde_json.specs.Data.{Data, object, no_members}
 use Rattle.serde_json.specs.Find.{as_str}
 use Rattle.np_addr.specs.AddressGrammar.{address_of}
-use Rattle.np_addr.specs.declared.address.Address.{Address}
-use Rattle.np_addr.specs.declared.address.Address.TheVariants.{Four, Six}
+use Rattle.np_meaning.specs.Types.{Address, BadAddress, BadProtocol, Four, NamedPort, NamespaceItem, PodItem, Proto, Six, Tcp}
 use Rattle.np_conns.specs.ConnsText.{proto_named}
-use Rattle.np_conns.specs.declared.proto.Proto.{Proto}
-use Rattle.np_conns.specs.declared.proto.Proto.TheVariants.{Tcp}
 use Rattle.np_json.specs.Members.{member_of}
 use Rattle.np_json.specs.Meta.{namespaced_name}
 use Rattle.np_json.specs.Scalars.{flag, name, port, protocol_name, text, word}
 use Rattle.np_json.specs.Shapes.{given, listed, must_be_object, optional, or_refuse, required}
-use Rattle.np_json.specs.declared.fault.FaultKind.TheVariants.{BadAddress, BadProtocol}
 use Rattle.np_meaning.proofs.MetaMeant.{labels-meant, namespaced_name-meant, IsOwn}
 use Rattle.np_meaning.proofs.Outputs.{OutputOf, optional-output, each-output, number_at-required, is_true_at-optional, text_at-optional, text_at-required, IsOptional, text-output}
 use Rattle.np_policies.proofs.ReadLemmas.{bind-output, then-output, word-output}
@@ -27,16 +22,12 @@ use Rattle.np_objects.specs.Labels.{label_map}
 use Rattle.np_objects.specs.Lists.{unless_empty}
 use Rattle.np_objects.specs.Namespaces.{namespace, namespace_metadata}
 use Rattle.np_meaning.specs.EachPod.{AreEach}
-use Rattle.np_meaning.specs.ObjectMeaning.{has_name, is_address, is_final, is_text_empty, list_at, is_true_at, named_ports, number_at, protocol_of, says_address, text_at, AreLabelsOf, IsContainerPort}
-use Rattle.np_meaning.specs.ObjectMeaning.{IsNamespaceOf, IsPodOf}
+use Rattle.np_meaning.specs.ObjectMeaning.{has_name, is_address, is_final, is_text_empty, list_at, is_true_at, named_ports, number_at, protocol_of, says_address, text_at, AreLabelsOf, IsContainerPort, IsNamespaceOf, IsPodOf}
 use Rattle.np_objects.specs.Owners.{owner_reference}
 use Rattle.np_objects.specs.PodSpecs.{container, pod_spec}
 use Rattle.np_objects.specs.Pods.{pod, pod_item, pod_metadata}
 use Rattle.np_objects.specs.Ports.{container_port, if_named, port_name}
 use Rattle.np_objects.specs.Statuses.{address, address_by, distinct, has_address, is_finished, is_same, kept_with, no_status, pod_ip, pod_status}
-use Rattle.np_model.specs.declared.named_port.NamedPort.{NamedPort}
-use Rattle.np_objects.specs.declared.namespace.NamespaceItem.{NamespaceItem}
-use Rattle.np_objects.specs.declared.pod_item.PodItem.{PodItem}
 use Rattle.np_policies.specs.PolicyMeaning.{object_at}
 use Rattle.np_policies.proofs.MemberReads.{object_at-output, name-output}
 

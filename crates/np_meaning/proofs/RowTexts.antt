@@ -1,29 +1,22 @@
 -- Rows are told apart by their texts. No end has a space in its text, and marks of families begin with one.
-use Rattle.std.proofs.Common.{◌≡◌, ℕ, ◌+◌, ◌^◌, ◌<◌, ◌≤◌, ◌==◌, Bool, true, false, cond, List, [], ◌∷◌, ◌++◌, length, get_or, slice_get, All, codes, decimal, Option, Some, None, refl, sym, ap, subst}
-use Rattle.std.proofs.Common.{◌∙◌, append-nil, arith, lit≤}
+use Rattle.std.proofs.Common.{◌≡◌, ℕ, ◌+◌, ◌^◌, ◌<◌, ◌≤◌, ◌==◌, Bool, true, false, cond, List, [], ◌∷◌, ◌++◌, length, get_or, slice_get, All, codes, decimal, Option, Some, None, refl, sym, ap, subst, ◌∙◌, append-nil, arith, lit≤}
 use Rattle.std.specs.List.{list_all}
 use Rattle.std.proofs.lemmas.Bool.{and_parts, eqb-true, false_from_ne_true, true≢false}
 use Rattle.std.proofs.lemmas.Fmt.{decimal_is_IsNumeral_wide}
 use Rattle.std.proofs.lemmas.List.{length-map}
 use Rattle.std.proofs.lemmas.List.Elements.{All-append, All-cons, All-nil}
-use Rattle.np_addr.specs.declared.address.Family.{Family}
+use Rattle.np_meaning.specs.Types.{Controller, EstateLists, Family, Pod, Report, Row, RowEnd, Span, Work}
 use Rattle.np_addr.specs.declared.address.Family.TheVariants.{Four, Six}
 use Rattle.np_addr.specs.Pieces.{pieces}
 use Rattle.np_addr.proofs.PieceLemmas.{IsOther, IsOther-from_digits, pieces-first, pieces-one}
-use Rattle.np_args.specs.declared.report.Report.{Report}
 use Rattle.np_conns.proofs.OneText.{conns_text-injective}
 use Rattle.np_fold.specs.Workloads.{first_pods, folding_of, owner_name, owner_name_at, owner_names}
 use Rattle.np_meaning.specs.EstateRows.{IsEndOf, IsRowOf}
 use Rattle.np_report.specs.RowText.{end_text, family_suffix, names_of, row_text}
-use Rattle.np_table.specs.declared.rows.Row.{Row}
-use Rattle.np_table.specs.declared.rows.RowEnd.{RowEnd}
-use Rattle.np_table.specs.declared.rows.RowEnd.TheVariants.{Controller, Span, Work}
 use Rattle.np_meaning.proofs.EndTexts.{IsNoSpanByte, lacks-from, one-end, span-lacks}
 use Rattle.np_meaning.proofs.NameTexts.{few-workloads, name-within, names-all}
 use Rattle.np_model.specs.Lawful.{IsLawful, is_well_pod}
 use Rattle.np_model.specs.Words.{is_name, is_word_byte}
-use Rattle.np_model.specs.declared.lists.EstateLists.{EstateLists}
-use Rattle.np_model.specs.declared.pod.Pod.{Pod}
 use Rattle.np_names.specs.Names.{namesakes, suffix}
 use Rattle.np_names.proofs.CountLemmas.{few-namesakes, number_among, number-among-namesakes}
 use Rattle.std.proofs.lemmas.List.Sums.{AllPass-from_list_all}

@@ -7,7 +7,7 @@ use Rattle.std.proofs.lemmas.Bool.Decides.{nat_tests}
 use Rattle.std.proofs.Math.Bool.{or-false}
 use Rattle.serde_json.specs.Data.{Data, object, Members, no_members, member}
 use Rattle.serde_json.specs.Find.{as_object, as_str}
-use Rattle.np_conns.specs.declared.proto.Proto.TheVariants.{Tcp}
+use Rattle.np_meaning.specs.Types.{Named, Number, Pair, PortName, ServiceItem, ServicePort, Tcp}
 use Rattle.np_json.specs.Members.{as_whole, member_of, pairs_of_members}
 use Rattle.np_json.specs.Meta.{namespaced_name}
 use Rattle.np_json.specs.Scalars.{labels, port, port_number, protocol_name, text}
@@ -15,7 +15,6 @@ use Rattle.np_json.specs.Shapes.{listed, must_be_object, optional, required}
 use Rattle.np_labels.specs.Labels.{value_of}
 use Rattle.np_labels.specs.Selectors.{allows, label_requirement, meets_requirement}
 use Rattle.np_labels.specs.declared.op.Op.TheVariants.{OneOf}
-use Rattle.np_labels.specs.declared.pair.Pair.{Pair}
 use Rattle.np_meaning.proofs.MetaMeant.{labels-output, namespaced_name-meant, pairs-member}
 use Rattle.np_meaning.proofs.Outputs.{OutputOf, optional-output, each-output, number_at-required, text_at-optional, IsOptional}
 use Rattle.np_policies.proofs.ReadLemmas.{bind-output, then-output}
@@ -25,10 +24,6 @@ use Rattle.np_meaning.specs.EachPod.{AreEach}
 use Rattle.np_meaning.specs.ObjectMeaning.{entries_at, have_entries, is_text_of, list_at, number_at, target_at, text_at, IsServiceOf, IsServicePort, IsServiceSelector}
 use Rattle.np_objects.specs.Ports.{port_name}
 use Rattle.np_objects.specs.Services.{by_name, by_number, is_text, selector_of, service, service_item, service_port, service_spec, target_by, target_port}
-use Rattle.np_model.specs.declared.service.PortName.{PortName}
-use Rattle.np_model.specs.declared.service.PortName.TheVariants.{Number, Named}
-use Rattle.np_model.specs.declared.service.ServiceItem.{ServiceItem}
-use Rattle.np_model.specs.declared.service.ServicePort.{ServicePort}
 use Rattle.np_policies.specs.PolicyMeaning.{object_at}
 use Rattle.np_policies.proofs.MemberReads.{object_at-output}
 use Rattle.np_policies.proofs.AdminMeant.{port_number-whole}

@@ -1,16 +1,13 @@
 -- Ranges of addresses are told apart by their texts.
-use Rattle.std.proofs.Common.{◌≡◌, ℕ, ◌≤◌, ◌==◌, ◌&&◌, ◌||◌, nat_le, Bool, true, false, cond, List, [], ◌∷◌, ◌++◌, get_or, map, All, codes, refl, sym, ap, subst, ◌∙◌, append-nil}
-use Rattle.std.proofs.Common.{append_assoc, arith, lit≤}
+use Rattle.std.proofs.Common.{◌≡◌, ℕ, ◌≤◌, ◌==◌, ◌&&◌, ◌||◌, nat_le, Bool, true, false, cond, List, [], ◌∷◌, ◌++◌, get_or, map, All, codes, refl, sym, ap, subst, ◌∙◌, append-nil, append_assoc, arith, lit≤}
 use Rattle.std.specs.List.{join_by}
 use Rattle.std.proofs.lemmas.Bool.{and_from, or_left, eqb-true, false≢true, le-leb, leb-true}
 use Rattle.std.proofs.lemmas.List.Elements.{All-head, All-tail}
 use Rattle.std.proofs.lemmas.List.Folds.{list_any_at}
 use Rattle.std.proofs.lemmas.Option.{same_Some}
-use Rattle.np_addr.specs.declared.address.Address.{Address}
+use Rattle.np_meaning.specs.Types.{Address, AddressSpan, Cidr, Family, One, Range, Report, Two}
 use Rattle.np_addr.specs.declared.address.Address.TheVariants as address
-use Rattle.np_addr.specs.declared.address.Family.{Family}
 use Rattle.np_addr.specs.declared.address.Family.TheVariants as family
-use Rattle.np_addr.specs.declared.cidr.Cidr.{Cidr}
 use Rattle.np_addr.specs.declared.cidr.Cidr.TheVariants as cidr
 use Rattle.np_addr.specs.Addresses.{IsAddress, IsCidr, cidr_has}
 use Rattle.np_addr.specs.AddressGrammar.{cidr_of}
@@ -23,15 +20,11 @@ use Rattle.np_addr.proofs.PieceLemmas.{IsOther, pieces-first, pieces-one}
 use Rattle.np_addr.proofs.PrefixLemmas.{prefixes_of-one_four, prefixes_of-one_six}
 use Rattle.np_addr.proofs.RightPrefixes.{prefixes_of-right}
 use Rattle.np_addr.proofs.OnePrefixList.{base_is_in}
-use Rattle.np_args.specs.declared.report.Report.{Report}
-use Rattle.np_args.specs.declared.report.Report.TheVariants.{One, Two}
-use Rattle.np_base.specs.declared.range.Range.{Range}
 use Rattle.np_base.specs.Ranges.{holds}
 use Rattle.np_meaning.specs.EstateRows.{IsRangeOf, IsSpan}
 use Rattle.np_report.specs.RowText.{blocks_of, ends_text, span_text}
 use Rattle.np_table.specs.Said.{IsInFamily}
 use Rattle.np_kinds.specs.Between.{address_of}
-use Rattle.np_table.specs.declared.rows.AddressSpan.{AddressSpan}
 use Rattle.np_table.specs.declared.rows.AddressSpan.TheVariants as span
 use Rattle.np_meaning.proofs.AddressBytes.{IsForeign, address-lacks, block-lacks}
 

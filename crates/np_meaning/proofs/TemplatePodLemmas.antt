@@ -11,11 +11,9 @@ use Rattle.std.proofs.lemmas.List.Folds.{Any-from_list_any, list_any_at}
 use Rattle.std.proofs.lemmas.List.FromFn.{get_or-range_with_len, length-range_with_len}
 use Rattle.std.proofs.lemmas.Option.{none-some, same_Some, slice_get_within}
 use Rattle.np_chains.specs.Chains.{first_cycle, is_at_or_over, is_marked, owners, places, IsChains}
-use Rattle.np_items.specs.declared.item.Item.{Item}
+use Rattle.np_meaning.specs.Types.{ControllerItem, EstateLists, Item, PodItem}
 use Rattle.np_items.specs.declared.item.Item.TheVariants as item
-use Rattle.np_objects.specs.declared.controller.ControllerItem.{ControllerItem}
 use Rattle.np_objects.specs.declared.object.Object.TheVariants as object
-use Rattle.np_objects.specs.declared.pod_item.PodItem.{PodItem}
 use Rattle.np_owners.specs.MadePods.{has_pods, is_pod, makes_pod, wants_pods}
 use Rattle.np_owners.specs.Owners.{full_name_of, owner_place, ups}
 use Rattle.np_reading.proofs.LawfulLists.{AllLater}
@@ -25,7 +23,6 @@ use Rattle.np_reading.specs.Listed.{have_priorities_apart}
 use Rattle.np_reading.specs.Reading.{estate_of, have_names_apart, have_no_cycle, estate_of_items}
 use Rattle.np_reading.specs.Readings.{Reading, refuse_found}
 use Rattle.np_reading.specs.declared.refusal.Refusal.TheVariants.{OwnerCycle}
-use Rattle.np_model.specs.declared.lists.EstateLists.{EstateLists}
 use Rattle.np_items.specs.Inputs.{all_values}
 use Rattle.np_items.specs.Items.{each_item, item_of, items_of, must_be_few}
 use Rattle.np_items.specs.Readings.{Reading as ItemsReading}

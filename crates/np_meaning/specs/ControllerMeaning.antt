@@ -5,10 +5,7 @@ use Rattle.serde_json.specs.Data.{Data}
 use Rattle.np_json.specs.Members.{member_of}
 use Rattle.np_meaning.specs.EachPod.{AreEach}
 use Rattle.np_meaning.specs.ObjectMeaning.{metadata_of, named_ports, number_at, is_true_at, AreLabelsOf, IsContainerPort, IsNamed}
-use Rattle.np_objects.specs.declared.controller.ControllerItem.{ControllerItem}
-use Rattle.np_objects.specs.declared.controller.ControllerKind.{ControllerKind}
-use Rattle.np_objects.specs.declared.controller.ControllerKind.TheVariants.{Deployment, ReplicaSet, StatefulSet, DaemonSet, ReplicationController, Job, CronJob}
-use Rattle.np_objects.specs.declared.controller.Template.{Template}
+use Rattle.np_meaning.specs.Types.{ControllerItem, ControllerKind, CronJob, DaemonSet, Deployment, Job, ReplicaSet, ReplicationController, StatefulSet, Template}
 use Rattle.np_policies.specs.PolicyMeaning.{object_at, spec_of}
 
 -- where the spec of a controller of a kind has the template of its pods: a CronJob in the template of its jobs

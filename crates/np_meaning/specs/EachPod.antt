@@ -3,16 +3,10 @@ use Rattle.std.specs.Prelude.{◌≡◌, ◌≢◌, ℕ, ◌+◌, List, [], ◌�
 use Rattle.std.specs.List.{filter_map}
 use Rattle.std.specs.Option.{option_and_then}
 use Rattle.std.specs.Str.{bytes_eq}
-use Rattle.np_model.specs.declared.lists.EstateLists.{EstateLists}
-use Rattle.np_model.specs.declared.pod.Pod.{Pod}
-use Rattle.np_items.specs.declared.item.Item.{Item}
+use Rattle.np_meaning.specs.Types.{ControllerItem, EstateLists, Item, NamespaceItem, Pod, PodItem, Template}
 use Rattle.np_items.specs.declared.item.Item.TheVariants as item
 use Rattle.np_labels.specs.Labels.{last_value_of, value_of}
-use Rattle.np_objects.specs.declared.controller.ControllerItem.{ControllerItem}
-use Rattle.np_objects.specs.declared.controller.Template.{Template}
-use Rattle.np_objects.specs.declared.namespace.NamespaceItem.{NamespaceItem}
 use Rattle.np_objects.specs.declared.object.Object.TheVariants as object
-use Rattle.np_objects.specs.declared.pod_item.PodItem.{PodItem}
 use Rattle.np_owners.specs.MadePods.{makes_pod}
 
 -- each of one list is what the relation says of the one at its place in another, and there are as many

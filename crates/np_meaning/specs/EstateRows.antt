@@ -1,17 +1,11 @@
 -- The rows that may be told of an estate.
 use Rattle.std.specs.Prelude.{◌≤◌, ℕ, ⊤}
-use Rattle.np_addr.specs.declared.address.Family.{Family}
+use Rattle.np_meaning.specs.Types.{AddressSpan, Controller, EstateLists, Family, Range, Row, RowEnd, Span, Work}
 use Rattle.np_addr.specs.declared.address.Family.TheVariants as family
-use Rattle.np_base.specs.declared.range.Range.{Range}
 use Rattle.np_conns.specs.Conns.{IsConns}
-use Rattle.np_model.specs.declared.lists.EstateLists.{EstateLists}
 use Rattle.np_table.specs.Said.{IsInFamily}
 use Rattle.np_kinds.specs.Between.{IsWorkload}
-use Rattle.np_table.specs.declared.rows.AddressSpan.{AddressSpan}
 use Rattle.np_table.specs.declared.rows.AddressSpan.TheVariants as span
-use Rattle.np_table.specs.declared.rows.Row.{Row}
-use Rattle.np_table.specs.declared.rows.RowEnd.{RowEnd}
-use Rattle.np_table.specs.declared.rows.RowEnd.TheVariants.{Controller, Span, Work}
 
 -- a range that has an address, and none but those of the family
 abbrev pub IsRangeOf : Family → Range ℕ → Type 0

@@ -8,9 +8,7 @@ use Rattle.np_objects.specs.Ingresses.{ingress}
 use Rattle.np_objects.specs.Namespaces.{namespace}
 use Rattle.np_objects.specs.Pods.{pod}
 use Rattle.np_objects.specs.Services.{service}
-use Rattle.np_objects.specs.declared.controller.ControllerKind.{ControllerKind}
-use Rattle.np_objects.specs.declared.controller.ControllerKind.TheVariants.{Deployment, ReplicaSet, StatefulSet, DaemonSet, ReplicationController, Job, CronJob}
-use Rattle.np_objects.specs.declared.object.Object.{Object}
+use Rattle.np_meaning.specs.Types.{ControllerKind, CronJob, DaemonSet, Deployment, Job, Object, ReplicaSet, ReplicationController, StatefulSet}
 use Rattle.np_objects.specs.declared.object.Object.TheVariants as object
 
 -- the version that is read of a kind of controllers

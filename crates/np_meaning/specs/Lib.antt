@@ -5,3 +5,4 @@ pub mod KindMeaning
 pub mod Numbering
 pub mod ObjectMeaning
 pub mod TemplatePods
+pub mod Types

@@ -7,26 +7,13 @@ use Rattle.serde_json.specs.Data.{Data, no_items, Members, no_members, member}
 use Rattle.serde_json.specs.Find.{as_str, as_bool, as_array, as_object}
 use Rattle.np_items.specs.Inputs.{values}
 use Rattle.np_addr.specs.AddressGrammar.{address_of}
-use Rattle.np_addr.specs.declared.address.Address.{Address}
+use Rattle.np_meaning.specs.Types.{Address, Backend, IngressItem, Named, NamedPort, NamespaceItem, Number, Pair, PodItem, PortName, Proto, Resource, Service, ServiceItem, ServicePort, Tcp}
 use Rattle.np_conns.specs.ConnsText.{proto_named}
-use Rattle.np_conns.specs.declared.proto.Proto.{Proto}
-use Rattle.np_conns.specs.declared.proto.Proto.TheVariants.{Tcp}
 use Rattle.np_json.specs.Members.{as_whole, member_of}
 use Rattle.np_labels.specs.Labels.{value_of}
 use Rattle.np_labels.specs.Selectors.{meets_selector}
-use Rattle.np_labels.specs.declared.pair.Pair.{Pair}
 use Rattle.np_labels.specs.declared.selector.Selector.{Selector}
 use Rattle.np_objects.specs.Statuses.{has_address, is_same}
-use Rattle.np_model.specs.declared.ingress.Backend.{Backend}
-use Rattle.np_model.specs.declared.ingress.Backend.TheVariants.{Service, Resource}
-use Rattle.np_model.specs.declared.ingress.IngressItem.{IngressItem}
-use Rattle.np_model.specs.declared.named_port.NamedPort.{NamedPort}
-use Rattle.np_objects.specs.declared.namespace.NamespaceItem.{NamespaceItem}
-use Rattle.np_objects.specs.declared.pod_item.PodItem.{PodItem}
-use Rattle.np_model.specs.declared.service.PortName.{PortName}
-use Rattle.np_model.specs.declared.service.PortName.TheVariants.{Number, Named}
-use Rattle.np_model.specs.declared.service.ServiceItem.{ServiceItem}
-use Rattle.np_model.specs.declared.service.ServicePort.{ServicePort}
 use Rattle.np_meaning.specs.EachPod.{AreEach}
 use Rattle.np_policies.specs.PolicyMeaning.{object_at, spec_of, named_or_default}
 

@@ -1,13 +1,10 @@
 -- Which controllers have a template pod: those of which no pod is listed.
 use Rattle.std.specs.Prelude.{◌≡◌, ℕ, List, [], ◌∷◌, false, Option, Some, None, IsSome, ⊤}
 use Rattle.std.specs.List.{Contains}
-use Rattle.np_items.specs.declared.item.Item.{Item}
+use Rattle.np_meaning.specs.Types.{ControllerItem, Item, OwnerRef, PodItem}
 use Rattle.np_items.specs.declared.item.Item.TheVariants as item
 use Rattle.np_objects.specs.ControllerKinds.{kind_name}
-use Rattle.np_objects.specs.declared.controller.ControllerItem.{ControllerItem}
 use Rattle.np_objects.specs.declared.object.Object.TheVariants as object
-use Rattle.np_objects.specs.declared.owner_ref.OwnerRef.{OwnerRef}
-use Rattle.np_objects.specs.declared.pod_item.PodItem.{PodItem}
 
 abbrev pub pod_item : PodItem → Item
 pod_item pod = item.Object (object.Pod pod)

@@ -1,8 +1,7 @@
 -- Families of addresses.
 use Rattle.std.proofs.Common.{◌≡◌, true, refl}
 use Rattle.np_model.specs.Families.{same_family}
-use Rattle.np_addr.specs.declared.address.Family.{Family}
-use Rattle.np_addr.specs.declared.address.Family.TheVariants.{Four, Six}
+use Rattle.np_model.specs.Types.{Family, Four, Six}
 
 pub same_family-itself : (family : Family) → same_family family family ≡ true
 same_family-itself Four = refl

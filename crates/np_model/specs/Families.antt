@@ -3,10 +3,7 @@ use Rattle.std.specs.Prelude.{List, [], ◌∷◌, Bool, true, false, filter}
 use Rattle.std.specs.List.{list_any}
 use Rattle.np_addr.specs.Addresses.{family_of}
 use Rattle.np_addr.specs.declared.address.Address.{Address}
-use Rattle.np_addr.specs.declared.address.Family.{Family}
-use Rattle.np_addr.specs.declared.address.Family.TheVariants.{Four, Six}
-use Rattle.np_model.specs.declared.pod.Pod.{Pod}
-use Rattle.np_model.specs.declared.admin_policy.AdminPeer.{AdminPeer}
+use Rattle.np_model.specs.Types.{AdminPeer, Family, Four, Pod, Six}
 use Rattle.np_model.specs.declared.admin_policy.AdminPeer.TheVariants.{Pods, Networks}
 
 -- whether two families are one

@@ -10,13 +10,10 @@ use Rattle.std.specs.Str.{bytes_eq}
 use Rattle.np_model.specs.Words.{is_name}
 use Rattle.np_labels.specs.Labels.{value_of}
 use Rattle.np_model.specs.WellObjects.{is_well_labels, is_well_ports, is_well_service, is_well_ingress}
-use Rattle.np_model.specs.declared.service.ServiceItem.{ServiceItem}
+use Rattle.np_model.specs.Types.{AdminPolicy, NetPolicy, Pod, ServiceItem}
 use Rattle.np_model.specs.WellPolicies.{is_well_net_policy, is_well_admin_policy, is_well_base_policy}
-use Rattle.np_model.specs.declared.admin_policy.AdminPolicy.{AdminPolicy}
-use Rattle.np_model.specs.declared.network_policy.NetPolicy.{NetPolicy}
 use Rattle.np_model.specs.declared.lists.EstateLists.{EstateLists}
 use Rattle.np_model.specs.declared.placed_ingress.PlacedIngress.{PlacedIngress}
-use Rattle.np_model.specs.declared.pod.Pod.{Pod}
 
 -- ---- admin policies
 

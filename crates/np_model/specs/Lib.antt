@@ -1,6 +1,7 @@
 pub mod Families
 pub mod Lawful
 pub mod PodPlaces
+pub mod Types
 pub mod WellObjects
 pub mod WellPolicies
 pub mod Words

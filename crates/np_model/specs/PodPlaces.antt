@@ -2,7 +2,7 @@
 use Rattle.std.specs.Prelude.{ℕ, List, Bool, ◌&&◌, Option}
 use Rattle.std.specs.List.{position}
 use Rattle.std.specs.Str.{bytes_eq}
-use Rattle.np_model.specs.declared.pod.Pod.{Pod}
+use Rattle.np_model.specs.Types.{Pod}
 
 -- whether a pod is the listed one of that name; one that a template makes is none
 abbrev pub is_pod : List ℕ → List ℕ → Pod → Bool

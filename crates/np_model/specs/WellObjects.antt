@@ -5,13 +5,11 @@ use Rattle.std.specs.List.{list_all}
 use Rattle.np_model.specs.Words.{is_label, is_word, is_name, is_whole_word}
 use Rattle.np_labels.specs.WellFormed as demand
 use Rattle.np_labels.specs.declared.pair.Pair.{Pair}
-use Rattle.np_labels.specs.declared.requirement.Requirement.{Requirement}
-use Rattle.np_labels.specs.declared.selector.Selector.{Selector}
+use Rattle.np_model.specs.Types.{Requirement, Selector, ServiceItem}
 use Rattle.np_model.specs.declared.ingress.IngressItem.{IngressItem}
 use Rattle.np_model.specs.declared.named_port.NamedPort.{NamedPort}
 use Rattle.np_model.specs.declared.service.PortName.{PortName}
 use Rattle.np_model.specs.declared.service.PortName.TheVariants.{Number, Named}
-use Rattle.np_model.specs.declared.service.ServiceItem.{ServiceItem}
 use Rattle.np_model.specs.declared.service.ServicePort.{ServicePort}
 
 -- whether a value passes a test, if there is one

@@ -6,13 +6,10 @@ use Rattle.np_addr.specs.declared.cidr.Cidr.{Cidr}
 use Rattle.np_addr.specs.declared.cidr.Cidr.TheVariants.{Four, Six}
 use Rattle.np_model.specs.Words.{is_name, is_word, is_whole_word}
 use Rattle.np_labels.specs.WellFormed as labels
-use Rattle.np_labels.specs.declared.requirement.Requirement.{Requirement}
-use Rattle.np_labels.specs.declared.selector.Selector.{Selector}
+use Rattle.np_model.specs.Types.{AdminPeer, AdminPolicy, NetPolicy, Requirement, Selector}
 use Rattle.np_model.specs.declared.admin_policy.Action.{Action}
 use Rattle.np_model.specs.declared.admin_policy.Action.TheVariants.{Allow, Deny, Pass}
-use Rattle.np_model.specs.declared.admin_policy.AdminPeer.{AdminPeer}
 use Rattle.np_model.specs.declared.admin_policy.AdminPeer.TheVariants as admin_peer
-use Rattle.np_model.specs.declared.admin_policy.AdminPolicy.{AdminPolicy}
 use Rattle.np_model.specs.declared.admin_policy.AdminPort.{AdminPort}
 use Rattle.np_model.specs.declared.admin_policy.AdminPort.TheVariants as admin_port
 use Rattle.np_model.specs.declared.admin_policy.AdminRule.{AdminRule}
@@ -20,7 +17,6 @@ use Rattle.np_model.specs.declared.admin_policy.BasePolicy.{BasePolicy}
 use Rattle.np_model.specs.declared.admin_policy.Subject.{Subject}
 use Rattle.np_model.specs.declared.network_policy.NetPeer.{NetPeer}
 use Rattle.np_model.specs.declared.network_policy.NetPeer.TheVariants as net_peer
-use Rattle.np_model.specs.declared.network_policy.NetPolicy.{NetPolicy}
 use Rattle.np_model.specs.declared.network_policy.NetPort.{NetPort}
 use Rattle.np_model.specs.declared.network_policy.NetPort.TheVariants as net_port
 use Rattle.np_model.specs.declared.network_policy.NetRule.{NetRule}

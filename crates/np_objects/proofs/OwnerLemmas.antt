@@ -10,12 +10,7 @@ use Rattle.std.proofs.lemmas.Slice.Eq.{bytes_eq-Decides}
 use Rattle.np_objects.specs.ControllerKinds.{kinds, kind_name, is_controller_kind}
 use Rattle.np_objects.specs.OwnerLaws.{Counts, NamesOwner}
 use Rattle.np_objects.specs.Owners.{counts, names_owner, owner_of}
-use Rattle.np_objects.specs.declared.controller.ControllerKind.{ControllerKind}
-use Rattle.np_objects.specs.declared.controller.ControllerKind.TheVariants.{Deployment, ReplicaSet, StatefulSet, DaemonSet, ReplicationController, Job, CronJob}
-use Rattle.np_objects.specs.declared.owner_ref.OwnerRef.{OwnerRef}
-use Rattle.np_objects.specs.declared.owner_reference.Dependent.{Dependent}
-use Rattle.np_objects.specs.declared.owner_reference.Dependent.TheVariants.{Pod, Controller}
-use Rattle.np_objects.specs.declared.owner_reference.OwnerReference.{OwnerReference}
+use Rattle.np_objects.specs.Types.{Controller, ControllerKind, CronJob, DaemonSet, Dependent, Deployment, Job, OwnerRef, OwnerReference, Pod, ReplicaSet, ReplicationController, StatefulSet}
 
 -- ---- kinds of controllers
 

@@ -4,12 +4,8 @@ use Rattle.serde_json.specs.Data.{Data}
 use Rattle.np_json.specs.Members.{member_of}
 use Rattle.np_json.specs.Meta.{namespaced_name}
 use Rattle.np_json.specs.Shapes.{Read, ◌>>=◌, listed, optional, read_member, refuse, required, under}
-use Rattle.np_json.specs.declared.fault.FaultKind.TheVariants.{BadField}
-use Rattle.np_json.specs.declared.meta.NamespacedName.{NamespacedName}
-use Rattle.np_json.specs.declared.path.Step.{Step}
-use Rattle.np_json.specs.declared.path.Step.TheVariants.{Field}
+use Rattle.np_objects.specs.Types.{BadField, ControllerItem, ControllerKind, ControllerMetadata, ControllerSpec, Dependent, Field, NamespacedName, OwnerRef, OwnerReference, Pair, PodItem, PodMetadata, PodSpec, PodStatus, Step}
 use Rattle.np_json.proofs.ReadLemmas.{under-output}
-use Rattle.np_labels.specs.declared.pair.Pair.{Pair}
 use Rattle.np_objects.specs.Controllers.{controller, controller_item, controller_metadata, controller_spec, no_spec}
 use Rattle.np_objects.specs.Labels.{label_map}
 use Rattle.np_objects.specs.OwnerLaws.{IsOwnerIn}
@@ -17,18 +13,7 @@ use Rattle.np_objects.specs.Owners.{owner_reference, owner_of}
 use Rattle.np_objects.specs.PodSpecs.{pod_spec}
 use Rattle.np_objects.specs.Pods.{pod, pod_item, pod_metadata}
 use Rattle.np_objects.specs.Statuses.{pod_status, no_status}
-use Rattle.np_objects.specs.declared.controller.ControllerItem.{ControllerItem}
-use Rattle.np_objects.specs.declared.controller.ControllerKind.{ControllerKind}
-use Rattle.np_objects.specs.declared.controller_shapes.ControllerMetadata.{ControllerMetadata}
-use Rattle.np_objects.specs.declared.controller_spec.ControllerSpec.{ControllerSpec}
-use Rattle.np_objects.specs.declared.owner_ref.OwnerRef.{OwnerRef}
-use Rattle.np_objects.specs.declared.owner_reference.Dependent.{Dependent}
 use Rattle.np_objects.specs.declared.owner_reference.Dependent.TheVariants as dependent
-use Rattle.np_objects.specs.declared.owner_reference.OwnerReference.{OwnerReference}
-use Rattle.np_objects.specs.declared.pod_item.PodItem.{PodItem}
-use Rattle.np_objects.specs.declared.pod_item.PodMetadata.{PodMetadata}
-use Rattle.np_objects.specs.declared.pod_spec.PodSpec.{PodSpec}
-use Rattle.np_objects.specs.declared.pod_status.PodStatus.{PodStatus}
 
 -- ---- members
 

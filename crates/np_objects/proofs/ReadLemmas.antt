@@ -10,10 +10,8 @@ use Rattle.np_model.specs.Words.{is_label, is_word, is_name}
 use Rattle.np_json.specs.Scalars.{name, word, labels}
 use Rattle.np_json.specs.Shapes.{Read, ◌>>=◌, ◌>>◌, each_item, given, list_by, listed, optional, read_member, refuse, refuse_if, required, under}
 use Rattle.np_json.specs.declared.fault.FaultKind.{FaultKind}
-use Rattle.np_json.specs.declared.fault.FaultKind.TheVariants.{BadField, BadName}
+use Rattle.np_objects.specs.Types.{BadField, BadName, Field, Item, Step}
 use Rattle.np_json.specs.declared.flaw.Flaw.{Flaw}
-use Rattle.np_json.specs.declared.path.Step.{Step}
-use Rattle.np_json.specs.declared.path.Step.TheVariants.{Item, Field}
 use Rattle.np_json.proofs.ReadLemmas.{is_well_own}
 use Rattle.np_model.specs.WellObjects.{option_all}
 

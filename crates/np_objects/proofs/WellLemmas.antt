@@ -1,6 +1,5 @@
 -- What the shapes of objects read is well formed.
-use Rattle.std.proofs.Common.{◌≡◌, ℕ, List, [], ◌∷◌, length, map, fold, Bool, true, false, not, ◌&&◌, ◌==◌, if◌then◌else◌, IfOk, Option, Some, None, option_map, find, Ok, Err, Result, ℤ, codes}
-use Rattle.std.proofs.Common.{unwrap_or, refl, ap, ◌∙◌}
+use Rattle.std.proofs.Common.{◌≡◌, ℕ, List, [], ◌∷◌, length, map, fold, Bool, true, false, not, ◌&&◌, ◌==◌, if◌then◌else◌, IfOk, Option, Some, None, option_map, find, Ok, Err, Result, ℤ, codes, unwrap_or, refl, ap, ◌∙◌}
 use Rattle.std.specs.List.{list_all, filter_map, flat_map}
 use Rattle.std.specs.Option.{option_flatten}
 use Rattle.std.specs.Ordering.{nat_cmp, match_ordering}
@@ -10,8 +9,7 @@ use Rattle.std.specs.declared.cmp.Ordering.TheVariants.{Less, Equal, Greater}
 use Rattle.std.proofs.lemmas.Bool.{and_from, and_parts}
 use Rattle.std.proofs.lemmas.List.Folds.{list_all-append}
 use Rattle.serde_json.specs.Data.{Data}
-use Rattle.np_conns.specs.declared.proto.Proto.{Proto}
-use Rattle.np_conns.specs.declared.proto.Proto.TheVariants.{Tcp}
+use Rattle.np_objects.specs.Types.{ControllerKind, ControllerMetadata, ControllerSpec, CronJob, DaemonSet, Dependent, Deployment, Job, Named, Number, Object, ObjectKind, OwnerReference, Pair, PodMetadata, PodSpec, Proto, ReplicaSet, ReplicationController, ServiceSpec, StatefulSet, Tcp}
 use Rattle.np_json.specs.Meta.{namespaced_name}
 use Rattle.np_json.specs.Members.{as_whole}
 use Rattle.np_model.specs.Words.{is_label, is_word, is_name, is_whole_word}
@@ -21,7 +19,6 @@ use Rattle.np_json.specs.declared.fault.ReadFault.{ReadFault}
 use Rattle.np_json.proofs.ReadLemmas.{is_well_own}
 use Rattle.np_labels.specs.Selectors.{label_requirement}
 use Rattle.np_labels.specs.Labels.{with_pair, pair_of}
-use Rattle.np_labels.specs.declared.pair.Pair.{Pair}
 use Rattle.np_objects.specs.Controllers.{controller, controller_spec, controller_metadata, replicated_spec, template_spec, job_template, cron_job_spec, no_spec, is_zero}
 use Rattle.np_objects.specs.Ingresses.{ingress}
 use Rattle.np_objects.specs.Labels.{label_map}
@@ -34,24 +31,11 @@ use Rattle.np_objects.specs.Pods.{pod, pod_metadata}
 use Rattle.np_objects.specs.Ports.{port_name, container_port, if_named}
 use Rattle.np_objects.specs.Services.{service, service_spec, service_port, target_port, target_by, by_number, by_name, selector_of, is_text}
 use Rattle.np_objects.specs.Templates.{template, template_metadata}
-use Rattle.np_model.specs.WellObjects.{option_all, is_well_label, is_well_labels, is_well_requirement, is_well_selector, is_well_port, is_well_ports, is_well_target}
-use Rattle.np_model.specs.WellObjects.{is_well_service_port, is_well_service, is_well_ingress}
+use Rattle.np_model.specs.WellObjects.{option_all, is_well_label, is_well_labels, is_well_requirement, is_well_selector, is_well_port, is_well_ports, is_well_target, is_well_service_port, is_well_service, is_well_ingress}
 use Rattle.np_objects.specs.WellFormed.{is_well_owner, is_well_pod, is_well_namespace, is_well_template, is_well_controller, is_well_object, IsWellObject}
-use Rattle.np_objects.specs.declared.controller.ControllerKind.{ControllerKind}
-use Rattle.np_objects.specs.declared.controller.ControllerKind.TheVariants.{Deployment, ReplicaSet, StatefulSet, DaemonSet, ReplicationController, Job, CronJob}
-use Rattle.np_objects.specs.declared.controller_spec.ControllerSpec.{ControllerSpec}
-use Rattle.np_objects.specs.declared.controller_shapes.ControllerMetadata.{ControllerMetadata}
-use Rattle.np_objects.specs.declared.kind.ObjectKind.{ObjectKind}
 use Rattle.np_objects.specs.declared.kind.ObjectKind.TheVariants as kind
-use Rattle.np_objects.specs.declared.object.Object.{Object}
 use Rattle.np_objects.specs.declared.object.Object.TheVariants as object
-use Rattle.np_objects.specs.declared.owner_reference.Dependent.{Dependent}
 use Rattle.np_objects.specs.declared.owner_reference.Dependent.TheVariants as dependent
-use Rattle.np_objects.specs.declared.owner_reference.OwnerReference.{OwnerReference}
-use Rattle.np_objects.specs.declared.pod_item.PodMetadata.{PodMetadata}
-use Rattle.np_objects.specs.declared.pod_spec.PodSpec.{PodSpec}
-use Rattle.np_model.specs.declared.service.PortName.TheVariants.{Number, Named}
-use Rattle.np_objects.specs.declared.service_spec.ServiceSpec.{ServiceSpec}
 use Rattle.np_objects.proofs.ReadLemmas.{ReadsOnly, ReadsOnly-Ok, ReadsOnly-bind, ReadsOnly-after, ReadsOnly-then, ReadsOnly-required, ReadsOnly-optional, ReadsOnly-listed, ReadsOnly-name}
 use Rattle.np_objects.proofs.ReadLemmas.{ReadsOnly-word, ReadsOnly-labels, ReadsOnly-namespaced_name, unwrapped}
 

@@ -6,11 +6,7 @@ use Rattle.np_json.specs.Scalars.{whole}
 use Rattle.np_json.specs.Shapes.{Read, ◌>>=◌, ◌>>◌, must_be_object, optional, optional_or, required, listed}
 use Rattle.np_objects.specs.Owners.{owner_reference, owner_of}
 use Rattle.np_objects.specs.Templates.{template}
-use Rattle.np_objects.specs.declared.controller.ControllerItem.{ControllerItem}
-use Rattle.np_objects.specs.declared.controller.ControllerKind.{ControllerKind}
-use Rattle.np_objects.specs.declared.controller.ControllerKind.TheVariants.{DaemonSet, Job, CronJob}
-use Rattle.np_objects.specs.declared.controller_spec.ControllerSpec.{ControllerSpec}
-use Rattle.np_objects.specs.declared.controller_shapes.ControllerMetadata.{ControllerMetadata}
+use Rattle.np_objects.specs.Types.{ControllerItem, ControllerKind, ControllerMetadata, ControllerSpec, CronJob, DaemonSet, Job}
 use Rattle.np_objects.specs.declared.owner_reference.Dependent.TheVariants as dependent
 
 -- the metadata of a controller: first the name and the namespace

@@ -7,16 +7,13 @@ use Rattle.np_json.specs.Members.{text_of, whole_of}
 use Rattle.np_json.specs.Meta.{namespaced_name}
 use Rattle.np_json.specs.Scalars.{text, port}
 use Rattle.np_json.specs.Shapes.{Read, ◌>>=◌, ◌>>◌, has_one_of, must_be_object, optional, optional_or, refuse_if, required, listed}
-use Rattle.np_json.specs.declared.fault.FaultKind.TheVariants.{BadField}
+use Rattle.np_objects.specs.Types.{BadField, Named, NamespacedName, Number, PortName}
 use Rattle.np_json.specs.declared.field.Field.{Field}
 use Rattle.np_json.specs.declared.field.Field.TheVariants.{Missing, Wrong, Given}
-use Rattle.np_json.specs.declared.meta.NamespacedName.{NamespacedName}
 use Rattle.np_objects.specs.Controllers.{is_zero}
 use Rattle.np_model.specs.declared.ingress.Backend.{Backend}
 use Rattle.np_model.specs.declared.ingress.Backend.TheVariants.{Service, Resource}
 use Rattle.np_model.specs.declared.ingress.IngressItem.{IngressItem}
-use Rattle.np_model.specs.declared.service.PortName.{PortName}
-use Rattle.np_model.specs.declared.service.PortName.TheVariants.{Number, Named}
 
 -- whether there is a number; the number 0 counts as missing
 abbrev pub is_numbered : Field ℤ → Bool

@@ -4,7 +4,7 @@ use Rattle.serde_json.specs.Data.{Data}
 use Rattle.np_json.specs.Scalars.{labels}
 use Rattle.np_json.specs.Shapes.{Read, ◌>>=◌}
 use Rattle.np_labels.specs.Labels.{labels_of, pair_of}
-use Rattle.np_labels.specs.declared.pair.Pair.{Pair}
+use Rattle.np_objects.specs.Types.{Pair}
 
 -- an object from texts to texts, each a label
 unfoldable pub label_map : Data → Read (List Pair)

@@ -16,4 +16,5 @@ pub mod Ports
 pub mod Services
 pub mod Statuses
 pub mod Templates
+pub mod Types
 pub mod WellFormed

@@ -4,7 +4,7 @@ use Rattle.serde_json.specs.Data.{Data}
 use Rattle.np_json.specs.Scalars.{name}
 use Rattle.np_json.specs.Shapes.{Read, ◌>>=◌, ◌>>◌, must_be_object, optional, required}
 use Rattle.np_objects.specs.Labels.{label_map}
-use Rattle.np_objects.specs.declared.namespace.NamespaceItem.{NamespaceItem}
+use Rattle.np_objects.specs.Types.{NamespaceItem}
 
 -- the metadata of a namespace, which is in no namespace itself
 unfoldable pub namespace_metadata : Data → Read NamespaceItem

@@ -11,11 +11,8 @@ use Rattle.np_objects.specs.Ingresses.{ingress}
 use Rattle.np_objects.specs.Namespaces.{namespace}
 use Rattle.np_objects.specs.Pods.{pod}
 use Rattle.np_objects.specs.Services.{service}
-use Rattle.np_objects.specs.declared.controller.ControllerKind.{ControllerKind}
-use Rattle.np_objects.specs.declared.controller.ControllerKind.TheVariants.{Deployment, ReplicaSet, StatefulSet, DaemonSet, ReplicationController, Job, CronJob}
-use Rattle.np_objects.specs.declared.kind.ObjectKind.{ObjectKind}
+use Rattle.np_objects.specs.Types.{ControllerKind, CronJob, DaemonSet, Deployment, Job, Object, ObjectKind, ReplicaSet, ReplicationController, StatefulSet}
 use Rattle.np_objects.specs.declared.kind.ObjectKind.TheVariants as kind
-use Rattle.np_objects.specs.declared.object.Object.{Object}
 use Rattle.np_objects.specs.declared.object.Object.TheVariants as object
 
 -- kinds of controllers, by their names

@@ -4,11 +4,7 @@ use Rattle.serde_json.specs.Data.{Data}
 use Rattle.np_json.specs.Shapes.{Read, listed, required}
 use Rattle.np_objects.specs.ControllerKinds.{kind_name}
 use Rattle.np_objects.specs.Owners.{owner_reference, owner_of}
-use Rattle.np_objects.specs.declared.controller.ControllerKind.{ControllerKind}
-use Rattle.np_objects.specs.declared.owner_ref.OwnerRef.{OwnerRef}
-use Rattle.np_objects.specs.declared.owner_reference.Dependent.{Dependent}
-use Rattle.np_objects.specs.declared.owner_reference.Dependent.TheVariants.{Pod, Controller}
-use Rattle.np_objects.specs.declared.owner_reference.OwnerReference.{OwnerReference}
+use Rattle.np_objects.specs.Types.{Controller, ControllerKind, Dependent, OwnerRef, OwnerReference, Pod}
 
 -- owners of that kind count: for a pod each but its node, for a controller other controllers
 abbrev pub Counts : Dependent → List ℕ → Type 0

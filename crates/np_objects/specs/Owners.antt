@@ -5,10 +5,7 @@ use Rattle.serde_json.specs.Data.{Data}
 use Rattle.np_json.specs.Scalars.{name, flag}
 use Rattle.np_json.specs.Shapes.{Read, ◌>>=◌, ◌>>◌, must_be_object, optional, required}
 use Rattle.np_objects.specs.ControllerKinds.{is_controller_kind}
-use Rattle.np_objects.specs.declared.owner_ref.OwnerRef.{OwnerRef}
-use Rattle.np_objects.specs.declared.owner_reference.Dependent.{Dependent}
-use Rattle.np_objects.specs.declared.owner_reference.Dependent.TheVariants.{Pod, Controller}
-use Rattle.np_objects.specs.declared.owner_reference.OwnerReference.{OwnerReference}
+use Rattle.np_objects.specs.Types.{Controller, Dependent, OwnerRef, OwnerReference, Pod}
 
 -- An owner reference, whether it counts or not. Owners are known by kind and name, whatever their API group: neither
 -- `apiVersion` nor `uid` is read.

@@ -5,8 +5,7 @@ use Rattle.serde_json.specs.Data.{Data}
 use Rattle.np_json.specs.Scalars.{flag}
 use Rattle.np_json.specs.Shapes.{Read, ◌>>=◌, ◌>>◌, must_be_object, optional, listed}
 use Rattle.np_objects.specs.Ports.{container_port}
-use Rattle.np_model.specs.declared.named_port.NamedPort.{NamedPort}
-use Rattle.np_objects.specs.declared.pod_spec.PodSpec.{PodSpec}
+use Rattle.np_objects.specs.Types.{NamedPort, PodSpec}
 
 -- a container: its ports that have a name
 unfoldable pub container : Data → Read (List NamedPort)

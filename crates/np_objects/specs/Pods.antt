@@ -8,10 +8,7 @@ use Rattle.np_objects.specs.Owners.{owner_reference, owner_of}
 use Rattle.np_objects.specs.PodSpecs.{pod_spec}
 use Rattle.np_objects.specs.Statuses.{pod_status, no_status}
 use Rattle.np_objects.specs.declared.owner_reference.Dependent.TheVariants as dependent
-use Rattle.np_objects.specs.declared.pod_item.PodItem.{PodItem}
-use Rattle.np_objects.specs.declared.pod_item.PodMetadata.{PodMetadata}
-use Rattle.np_objects.specs.declared.pod_spec.PodSpec.{PodSpec}
-use Rattle.np_objects.specs.declared.pod_status.PodStatus.{PodStatus}
+use Rattle.np_objects.specs.Types.{PodItem, PodMetadata, PodSpec, PodStatus}
 
 -- the metadata of a pod: first the name and the namespace
 unfoldable pub pod_metadata : Data → Read PodMetadata

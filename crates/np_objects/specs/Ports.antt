@@ -2,12 +2,10 @@
 use Rattle.std.specs.Prelude.{ℕ, List, codes, Option, Some, None, unwrap_or, Ok}
 use Rattle.std.specs.Option.{option_flatten}
 use Rattle.serde_json.specs.Data.{Data}
-use Rattle.np_conns.specs.declared.proto.Proto.{Proto}
-use Rattle.np_conns.specs.declared.proto.Proto.TheVariants.{Tcp}
+use Rattle.np_objects.specs.Types.{NamedPort, Proto, Tcp}
 use Rattle.np_json.specs.Scalars.{word, port, protocol_name}
 use Rattle.np_json.specs.Shapes.{Read, ◌>>=◌, ◌>>◌, must_be_object, optional, required}
 use Rattle.np_objects.specs.Lists.{unless_empty}
-use Rattle.np_model.specs.declared.named_port.NamedPort.{NamedPort}
 
 -- a word; the empty text counts as missing
 unfoldable pub port_name : Data → Read (Option (List ℕ))

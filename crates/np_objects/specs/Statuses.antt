@@ -5,13 +5,10 @@ use Rattle.std.specs.Option.{option_flatten, option_map_or}
 use Rattle.std.specs.Str.{bytes_eq}
 use Rattle.serde_json.specs.Data.{Data}
 use Rattle.np_addr.specs.AddressGrammar.{address_of}
-use Rattle.np_addr.specs.declared.address.Address.{Address}
-use Rattle.np_addr.specs.declared.address.Address.TheVariants.{Four, Six}
+use Rattle.np_objects.specs.Types.{Address, BadAddress, Four, PodStatus, Six}
 use Rattle.np_json.specs.Scalars.{text}
 use Rattle.np_json.specs.Shapes.{Read, ◌>>=◌, ◌>>◌, given, must_be_object, optional, listed, or_refuse}
-use Rattle.np_json.specs.declared.fault.FaultKind.TheVariants.{BadAddress}
 use Rattle.np_objects.specs.Lists.{unless_empty}
-use Rattle.np_objects.specs.declared.pod_status.PodStatus.{PodStatus}
 
 -- the address of a text, and none of the empty text
 abbrev pub address_by : Option (List ℕ) → Read (Option Address)

@@ -2,10 +2,9 @@
 use Rattle.std.specs.Prelude.{List, [], codes, unwrap_or, Ok}
 use Rattle.serde_json.specs.Data.{Data}
 use Rattle.np_json.specs.Shapes.{Read, ◌>>=◌, ◌>>◌, must_be_object, optional, optional_or, required}
-use Rattle.np_labels.specs.declared.pair.Pair.{Pair}
+use Rattle.np_objects.specs.Types.{Pair, Template}
 use Rattle.np_objects.specs.Labels.{label_map}
 use Rattle.np_objects.specs.PodSpecs.{pod_spec}
-use Rattle.np_objects.specs.declared.controller.Template.{Template}
 
 -- the metadata of a template: its labels
 unfoldable pub template_metadata : Data → Read (List Pair)

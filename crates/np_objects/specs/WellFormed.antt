@@ -3,13 +3,8 @@
 use Rattle.std.specs.Prelude.{Bool, true, IsTrue, ◌&&◌}
 use Rattle.np_model.specs.WellObjects.{is_well_ingress, is_well_labels, is_well_ports, is_well_service, option_all}
 use Rattle.np_model.specs.Words.{is_name}
-use Rattle.np_objects.specs.declared.controller.ControllerItem.{ControllerItem}
-use Rattle.np_objects.specs.declared.controller.Template.{Template}
-use Rattle.np_objects.specs.declared.namespace.NamespaceItem.{NamespaceItem}
-use Rattle.np_objects.specs.declared.object.Object.{Object}
+use Rattle.np_objects.specs.Types.{ControllerItem, NamespaceItem, Object, OwnerRef, PodItem, Template}
 use Rattle.np_objects.specs.declared.object.Object.TheVariants as object
-use Rattle.np_objects.specs.declared.owner_ref.OwnerRef.{OwnerRef}
-use Rattle.np_objects.specs.declared.pod_item.PodItem.{PodItem}
 
 abbrev pub is_well_owner : OwnerRef → Bool
 is_well_owner owner = is_name owner.kind && is_name owner.name

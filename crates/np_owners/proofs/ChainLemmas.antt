@@ -9,13 +9,10 @@ use Rattle.std.proofs.lemmas.List.Quantifiers.{position-Some}
 use Rattle.std.proofs.lemmas.Option.{option_and_then_some, slice_get_read}
 use Rattle.std.proofs.lemmas.Simd.{map-map}
 use Rattle.np_chains.specs.Chains.{IsChains, first_cycle, top, places}
-use Rattle.np_items.specs.declared.item.Item.{Item}
+use Rattle.np_owners.specs.Types.{Item, ObjectName, Owner, OwnerRef}
 use Rattle.np_owners.specs.Names.{name_of, is_named, place_of}
 use Rattle.np_owners.specs.Owners.{owner_of, controller_place, place_in_namespace, owner_place, ups, full_name_of, first_in_cycle, last_owner, top_owners}
-use Rattle.np_owners.specs.declared.object_name.ObjectName.{ObjectName}
-use Rattle.np_model.specs.declared.owner.Owner.{Owner}
 use Rattle.np_objects.specs.ControllerKinds.{is_controller_kind}
-use Rattle.np_objects.specs.declared.owner_ref.OwnerRef.{OwnerRef}
 
 -- ---- what owns an item is an item
 

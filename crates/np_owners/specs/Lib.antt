@@ -1,3 +1,4 @@
 pub mod Names
 pub mod Owners
 pub mod MadePods
+pub mod Types

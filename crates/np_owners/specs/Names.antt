@@ -7,14 +7,13 @@ use Rattle.std.specs.Option.{option_and_then, option_map_or, option_or}
 use Rattle.std.specs.Ordering.{nat_cmp, ordering_then, is_eq}
 use Rattle.std.specs.Str.{bytes_eq}
 use Rattle.std.specs.declared.cmp.Ordering.{Ordering}
-use Rattle.np_items.specs.declared.item.Item.{Item}
+use Rattle.np_owners.specs.Types.{Item, ObjectName}
 use Rattle.np_items.specs.declared.item.Item.TheVariants as item
 use Rattle.np_objects.specs.ControllerKinds.{kind_name}
 use Rattle.np_objects.specs.declared.object.Object.{Object}
 use Rattle.np_objects.specs.declared.object.Object.TheVariants as object
 use Rattle.np_owners.specs.declared.fault.PlacesFault.{PlacesFault}
 use Rattle.np_owners.specs.declared.fault.PlacesFault.TheVariants.{Duplicate, NoMemory}
-use Rattle.np_owners.specs.declared.object_name.ObjectName.{ObjectName}
 use Rattle.np_policies.specs.declared.policy.Policy.{Policy}
 use Rattle.np_policies.specs.declared.policy.Policy.TheVariants as policy
 

@@ -3,16 +3,13 @@ use Rattle.std.specs.Prelude.{◌≡◌, ℕ, List, [], ◌++◌, length, map, i
 use Rattle.std.specs.List.{range_with_len, slice_get}
 use Rattle.std.specs.Option.{option_and_then, option_map, option_map_or, option_or}
 use Rattle.np_chains.specs.Chains.{first_cycle, top}
-use Rattle.np_items.specs.declared.item.Item.{Item}
+use Rattle.np_owners.specs.Types.{Item, ObjectName, Owner, OwnerRef}
 use Rattle.np_items.specs.declared.item.Item.TheVariants as item
 use Rattle.np_objects.specs.ControllerKinds.{is_controller_kind}
 use Rattle.np_objects.specs.declared.object.Object.TheVariants as object
-use Rattle.np_objects.specs.declared.owner_ref.OwnerRef.{OwnerRef}
 use Rattle.np_owners.specs.Names.{name_of, place_of}
 use Rattle.np_owners.specs.declared.fault.ChainsFault.{ChainsFault}
 use Rattle.np_owners.specs.declared.fault.ChainsFault.TheVariants.{OwnerCycle, NoMemory}
-use Rattle.np_owners.specs.declared.object_name.ObjectName.{ObjectName}
-use Rattle.np_model.specs.declared.owner.Owner.{Owner}
 
 -- ---- owners that items name
 

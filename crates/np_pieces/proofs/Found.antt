@@ -2,8 +2,7 @@
 use Rattle.std.proofs.Common.{◌≡◌, ℕ, ◌+◌, ◌<◌, ◌≤◌, List, [], ◌∷◌, Option, Some, None, is_some, Bool, true, zero, suc, length, get_or, drop, sym, ◌∙◌, ap, arith}
 use Rattle.std.proofs.lemmas.Bool.{true≢false}
 use Rattle.np_base.proofs.Lists.{drop-ended}
-use Rattle.np_pieces.specs.declared.piece.At.{At}
-use Rattle.np_pieces.specs.declared.piece.Piece.{Piece}
+use Rattle.np_pieces.specs.Types.{At, Piece}
 use Rattle.np_pieces.specs.Laws.{value_at-some}
 use Rattle.np_pieces.specs.Pieces.{value_at, has_spot, ArePieces, Covers}
 use Rattle.np_pieces.specs.Values.{value_at-first, value_at-rest}

@@ -2,7 +2,7 @@
 use Rattle.std.proofs.Common.{◌≡◌, ◌≢◌, ℕ, ◌+◌, ◌<◌, ◌≤◌, List, [], ◌∷◌, ◌++◌, Option, Some, None, Bool, true, false, not, cond, refl, sym, ◌∙◌, ap, arith}
 use Rattle.std.proofs.lemmas.Bool.{le-leb}
 use Rattle.np_base.proofs.Bools.{not_itself}
-use Rattle.np_pieces.specs.declared.piece.Piece.{Piece}
+use Rattle.np_pieces.specs.Types.{Piece}
 use Rattle.np_pieces.specs.Pieces.{is_in, value_at, ArePieces}
 use Rattle.np_pieces.specs.Steps.{IsWith}
 use Rattle.np_pieces.specs.Values.{is_in-inside, is_in-before, value_at-first, value_at-past}

@@ -1,7 +1,7 @@
 -- Steps of one pass over two lists of pieces.
 use Rattle.std.proofs.Common.{◌≡◌, ℕ, ◌+◌, ◌<◌, ◌≤◌, min, max, List, [], ◌∷◌, length, Option, Some, arith, inl, inr}
 use Rattle.std.proofs.lemmas.Bool.{cases_lt, cases_order}
-use Rattle.np_pieces.specs.declared.piece.Piece.{Piece}
+use Rattle.np_pieces.specs.Types.{Piece}
 use Rattle.np_pieces.specs.Pieces.{value_at, ArePieces}
 use Rattle.np_pieces.specs.Steps.{AreBothAt, GoOn, IsOverlap}
 use Rattle.np_pieces.specs.Values.{value_at-first, value_at-rest, ArePieces-ordered}

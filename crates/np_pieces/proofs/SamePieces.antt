@@ -1,8 +1,7 @@
 -- Lists of pieces with the same values, and with others.
 use Rattle.std.proofs.Common.{◌≡◌, ℕ, ◌+◌, ◌<◌, ◌≤◌, List, None, Bool, not, sym, ◌∙◌, ap, arith, inl, inr}
 use Rattle.std.proofs.lemmas.Bool.{cases_lt}
-use Rattle.np_pieces.specs.declared.piece.At.{At}
-use Rattle.np_pieces.specs.declared.piece.Piece.{Piece}
+use Rattle.np_pieces.specs.Types.{At, Piece}
 use Rattle.np_pieces.specs.Laws.{same_values_same_pieces}
 use Rattle.np_pieces.specs.Pieces.{value_at, has_spot, Covers}
 use Rattle.np_pieces.specs.Steps.{IsShared}

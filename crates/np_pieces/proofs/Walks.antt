@@ -1,9 +1,7 @@
 -- One pass over two lists of pieces.
 use Rattle.std.proofs.Common.{◌≡◌, ℕ, ◌+◌, ◌<◌, ◌≤◌, List, [], None, Bool, false, refl, sym, ◌∙◌, arith, inl, inr}
 use Rattle.std.proofs.lemmas.Bool.{cases_lt}
-use Rattle.np_pieces.specs.declared.operation.Operation.{Operation}
-use Rattle.np_pieces.specs.declared.operation.Operation.TheVariants.{Join, Meet, Minus}
-use Rattle.np_pieces.specs.declared.piece.Piece.{Piece}
+use Rattle.np_pieces.specs.Types.{Join, Meet, Minus, Operation, Piece}
 use Rattle.np_pieces.specs.Operations.{holds_after}
 use Rattle.np_pieces.specs.Pieces.{value_at, has_at, ArePieces, Covers}
 use Rattle.np_pieces.specs.Steps.{GoOn, IsShared, GrowsTo}

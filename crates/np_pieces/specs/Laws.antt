@@ -3,8 +3,7 @@ use Rattle.std.proofs.Common.{◌≡◌, ℕ, ◌+◌, ◌<◌, ◌≤◌, List,
 use Rattle.std.proofs.lemmas.Bool.{and_from, cases_order, cases_lt, le-leb, false≢true}
 use Rattle.np_base.proofs.Options.{some_is}
 use Rattle.np_sets.specs.Space.{is_between}
-use Rattle.np_pieces.specs.declared.piece.At.{At}
-use Rattle.np_pieces.specs.declared.piece.Piece.{Piece}
+use Rattle.np_pieces.specs.Types.{At, Piece}
 use Rattle.np_pieces.specs.Pieces.{is_in, value_at, value_has, has_at, has_spot, ArePieces, Covers}
 use Rattle.np_pieces.specs.Values.{value_at-first, value_at-rest, value_at-before, value_at-past, ArePieces-ordered}
 

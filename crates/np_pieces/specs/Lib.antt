@@ -4,4 +4,5 @@ pub mod Laws
 pub mod Operations
 pub mod Pieces
 pub mod Steps
+pub mod Types
 pub mod Values

@@ -1,7 +1,6 @@
 -- What an operation on sets does at one spot.
 use Rattle.std.specs.Prelude.{Bool, ◌&&◌, ◌||◌, not}
-use Rattle.np_pieces.specs.declared.operation.Operation.{Operation}
-use Rattle.np_pieces.specs.declared.operation.Operation.TheVariants.{Join, Meet, Minus}
+use Rattle.np_pieces.specs.Types.{Join, Meet, Minus, Operation}
 
 -- whether a spot is in what the operation makes, by whether it is in the first set and in the second
 abbrev pub holds_after : Operation → Bool → Bool → Bool

@@ -1,7 +1,6 @@
 -- Lists of pieces, each with one value at all of its points, by a function from points to numbers.
 use Rattle.std.specs.Prelude.{ℕ, ◌≡◌, ◌≢◌, ◌+◌, ◌≤◌, List, [], ◌∷◌, Bool, false, ◌&&◌, nat_le, Option, Some, None, if◌then◌else◌}
-use Rattle.np_pieces.specs.declared.piece.At.{At}
-use Rattle.np_pieces.specs.declared.piece.Piece.{Piece}
+use Rattle.np_pieces.specs.Types.{At, Piece}
 
 -- whether a number is in the piece, ends included
 abbrev pub is_in : {P S : Type 0} → (P → ℕ) → Piece P S → ℕ → Bool

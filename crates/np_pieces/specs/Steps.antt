@@ -1,6 +1,6 @@
 -- Steps of one pass over two lists of pieces.
 use Rattle.std.specs.Prelude.{ℕ, ◌≡◌, ◌+◌, ◌<◌, ◌≤◌, max, List, [], ◌∷◌, length, Some, None}
-use Rattle.np_pieces.specs.declared.piece.Piece.{Piece}
+use Rattle.np_pieces.specs.Types.{Piece}
 use Rattle.np_pieces.specs.Pieces.{value_at, ArePieces}
 
 -- Both pieces have the number `from`, where the later of them begins, and the pieces after them go on to the end.

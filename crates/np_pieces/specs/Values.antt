@@ -1,7 +1,7 @@
 -- The values of lists of pieces.
 use Rattle.std.proofs.Common.{◌≡◌, ℕ, ◌+◌, ◌<◌, ◌≤◌, List, [], ◌∷◌, Option, Some, None, true, false, arith}
 use Rattle.std.proofs.lemmas.Bool.{and_from, and_left, and_right, le-leb, lt-leb}
-use Rattle.np_pieces.specs.declared.piece.Piece.{Piece}
+use Rattle.np_pieces.specs.Types.{Piece}
 use Rattle.np_pieces.specs.Pieces.{is_in, value_at, ArePieces}
 
 -- a number from the piece's first to its last is in it

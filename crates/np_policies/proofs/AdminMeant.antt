@@ -1,6 +1,5 @@
 -- An admin policy that was read is what its members say.
-use Rattle.std.proofs.Common.{◌≡◌, ℕ, ℤ, pos, negsuc, ◌+◌, List, [], ◌∷◌, length, map, Bool, true, false, not, cond, ◌&&◌, ◌==◌, nat_le, nat_lt, is_some, Option, Some, None, codes, Ok, Err, refl, sym}
-use Rattle.std.proofs.Common.{ap, subst, ◌∙◌}
+use Rattle.std.proofs.Common.{◌≡◌, ℕ, ℤ, pos, negsuc, ◌+◌, List, [], ◌∷◌, length, map, Bool, true, false, not, cond, ◌&&◌, ◌==◌, nat_le, nat_lt, is_some, Option, Some, None, codes, Ok, Err, refl, sym, ap, subst, ◌∙◌}
 use Rattle.std.specs.Cmp.Lexicographic.{bytes_decides}
 use Rattle.std.specs.Str.{bytes_eq}
 use Rattle.std.proofs.lemmas.Bool.{not-false}
@@ -10,15 +9,14 @@ use Rattle.np_json.specs.Members.{as_whole, member_of}
 use Rattle.np_json.specs.Scalars.{name, port, port_number, text, whole}
 use Rattle.np_json.specs.Shapes.{Read, ◌>>=◌, ◌>>◌, has_member, has_one_of, listed, must_be_object, or_refuse, refuse, refuse_if, refuse_member_if, required}
 use Rattle.np_model.specs.Words.{is_word}
-use Rattle.np_json.specs.declared.fault.FaultKind.TheVariants.{BadAction, BadField, BadPort, BadPriority, BaselineName, DomainPeer, EmptyPeers, NodePeer, PeerShape}
+use Rattle.np_policies.specs.Types.{Action, AdminPeer, AdminPolicy, AdminPort, AdminRule, AdminSpec, Allow, BadAction, BadField, BadPort, BadPriority, BaselineName, BasePolicy, Deny, DomainPeer, Egress, EmptyPeers, Ingress, Named, NodePeer, Pass, PeerShape, Span, Subject, Tier}
 use Rattle.np_policies.proofs.KindReads.{admin-read, base-read}
 use Rattle.np_policies.proofs.MemberReads.{object_at-output, found-output, required-some, AreEach-listed, number_at-output, name-output}
 use Rattle.np_policies.proofs.PeersMeaning.{blocks_of-each_item, not_there}
 use Rattle.np_policies.proofs.PortsMeaning.{protocol-output}
 use Rattle.np_policies.proofs.ReadLemmas.{bind-output, then-output, required-output, listed-output, of_type-output, or_refuse-output, text_at-output}
 use Rattle.np_policies.proofs.WellLemmas.{unbroken-output, unbroken_member-output}
-use Rattle.np_policies.specs.AdminMeaning.{action_text, ArePodsBy, ArePodsOf, IsAdminPolicyOf, IsAdminPort, IsAdminSpec, IsBasePolicyOf, IsEgressPeer, IsEgressRule, IsIngressPeer, IsIngressRule}
-use Rattle.np_policies.specs.AdminMeaning.{IsPortBy, IsSpanOf}
+use Rattle.np_policies.specs.AdminMeaning.{action_text, ArePodsBy, ArePodsOf, IsAdminPolicyOf, IsAdminPort, IsAdminSpec, IsBasePolicyOf, IsEgressPeer, IsEgressRule, IsIngressPeer, IsIngressRule, IsPortBy, IsSpanOf}
 use Rattle.np_policies.specs.AdminPolicies.{action, action_named, admin_peer, admin_peers, admin_policy, admin_rule, admin_rules, admin_spec, all_pods, base_name, base_policy, base_spec}
 use Rattle.np_policies.specs.AdminPolicies.{egress_member, egress_peer, ingress_peer, namespace_selector, networks, object_name, pods_member, priority, priority_number, some_pods, subject}
 use Rattle.np_policies.specs.Blocks.{cidr}
@@ -27,20 +25,8 @@ use Rattle.np_policies.specs.PolicyMeaning.{blocks_of, number_at, object_at, spe
 use Rattle.np_policies.specs.Ports.{admin_port, admin_port_member, named_port, one_port, port_name, port_range, protocol}
 use Rattle.np_policies.specs.SelectorMeaning.{items_at, text_at}
 use Rattle.np_policies.specs.Selectors.{everything, selector}
-use Rattle.np_model.specs.declared.admin_policy.Action.{Action}
-use Rattle.np_model.specs.declared.admin_policy.Action.TheVariants.{Allow, Deny, Pass}
-use Rattle.np_model.specs.declared.admin_policy.AdminPeer.{AdminPeer}
 use Rattle.np_model.specs.declared.admin_policy.AdminPeer.TheVariants as peer
-use Rattle.np_model.specs.declared.admin_policy.AdminPolicy.{AdminPolicy}
-use Rattle.np_model.specs.declared.admin_policy.AdminPort.{AdminPort}
-use Rattle.np_model.specs.declared.admin_policy.AdminPort.TheVariants.{Span, Named}
-use Rattle.np_model.specs.declared.admin_policy.AdminRule.{AdminRule}
-use Rattle.np_model.specs.declared.admin_policy.BasePolicy.{BasePolicy}
-use Rattle.np_model.specs.declared.admin_policy.Subject.{Subject}
-use Rattle.np_policies.specs.declared.admin_policy_shape.AdminSpec.{AdminSpec}
-use Rattle.np_policies.specs.declared.admin_rule_shape.Tier.{Tier}
 use Rattle.np_policies.specs.declared.admin_rule_shape.Tier.TheVariants as tier
-use Rattle.np_model.specs.declared.direction.Direction.TheVariants.{Ingress, Egress}
 use Rattle.np_policies.specs.declared.policy.Policy.TheVariants as policy
 
 -- ---- subjects and peers

@@ -8,10 +8,9 @@ use Rattle.np_addr.specs.AddressGrammar.{block_of, cidr_of}
 use Rattle.np_addr.specs.Addresses.{family_of, width_of, IsCidr}
 use Rattle.np_addr.specs.declared.address.Address.{Address}
 use Rattle.np_addr.specs.declared.address.Address.TheVariants.{Four, Six}
-use Rattle.np_addr.specs.declared.cidr.Cidr.{Cidr}
+use Rattle.np_policies.specs.Types.{BadCidr, Cidr}
 use Rattle.np_json.specs.Scalars.{of_type}
 use Rattle.np_json.specs.Shapes.{◌>>=◌, or_refuse, required}
-use Rattle.np_json.specs.declared.fault.FaultKind.TheVariants.{BadCidr}
 use Rattle.np_policies.proofs.ReadLemmas.{required-output}
 use Rattle.np_policies.specs.Blocks.{cidr}
 

@@ -6,15 +6,12 @@ use Rattle.std.proofs.Math.Bool.{and-false}
 use Rattle.serde_json.specs.Data.{Data}
 use Rattle.np_json.specs.Meta.{type_meta}
 use Rattle.np_json.specs.Shapes.{refuse}
-use Rattle.np_json.specs.declared.fault.FaultKind.TheVariants.{ForeignPolicy}
-use Rattle.np_json.specs.declared.meta.TypeMeta.{TypeMeta}
-use Rattle.np_json.specs.declared.path.Step.TheVariants.{Field}
+use Rattle.np_policies.specs.Types.{Admin, Base, Field, Foreign, ForeignPolicy, Net, NoPolicy, TypeMeta}
 use Rattle.np_json.proofs.ReadLemmas.{under-output}
 use Rattle.np_policies.proofs.ReadLemmas.{bind-output}
 use Rattle.np_policies.specs.AdminPolicies.{admin_policy, base_policy}
 use Rattle.np_policies.specs.NetworkPolicies.{net_policy}
 use Rattle.np_policies.specs.Policies.{is_network_policy, is_of, policy_kind, policy_by, policy_of}
-use Rattle.np_policies.specs.declared.policy_shape.PolicyKind.TheVariants.{Net, Admin, Base, Foreign, NoPolicy}
 
 -- an object whose kind is no network policy is of no kind that is one
 not_of : (version kind : List ℕ) (meta : TypeMeta) → is_network_policy kind ≡ true → is_network_policy meta.kind ≡ false → is_of version kind meta ≡ false

@@ -7,22 +7,14 @@ use Rattle.serde_json.specs.Find.{as_str}
 use Rattle.np_json.specs.Meta.{type_meta}
 use Rattle.np_json.specs.Scalars.{text}
 use Rattle.np_json.specs.Shapes.{must_be_object, refuse, required}
-use Rattle.np_json.specs.declared.fault.FaultKind.TheVariants.{ForeignPolicy}
-use Rattle.np_json.specs.declared.meta.TypeMeta.{TypeMeta}
-use Rattle.np_json.specs.declared.path.Step.TheVariants.{Field}
+use Rattle.np_policies.specs.Types.{Admin, AdminPolicy, Base, BasePolicy, Field, Foreign, ForeignPolicy, Net, NetPolicy, NoPolicy, Policy, PolicyKind, TypeMeta}
 use Rattle.np_json.proofs.ReadLemmas.{under-output}
 use Rattle.np_policies.proofs.ReadLemmas.{bind-output, then-output, of_type-output, text_at-output}
 use Rattle.np_policies.specs.AdminPolicies.{admin_policy, base_policy}
 use Rattle.np_policies.specs.NetworkPolicies.{net_policy}
 use Rattle.np_policies.specs.Policies.{is_network_policy, is_of, policy_kind, policy_by, policy_of}
 use Rattle.np_policies.specs.PolicyMeaning.{IsOfKind}
-use Rattle.np_model.specs.declared.admin_policy.AdminPolicy.{AdminPolicy}
-use Rattle.np_model.specs.declared.admin_policy.BasePolicy.{BasePolicy}
-use Rattle.np_model.specs.declared.network_policy.NetPolicy.{NetPolicy}
-use Rattle.np_policies.specs.declared.policy.Policy.{Policy}
 use Rattle.np_policies.specs.declared.policy.Policy.TheVariants as policy
-use Rattle.np_policies.specs.declared.policy_shape.PolicyKind.{PolicyKind}
-use Rattle.np_policies.specs.declared.policy_shape.PolicyKind.TheVariants.{Net, Admin, Base, Foreign, NoPolicy}
 
 -- the kind of a policy, and that the shape of its kind read it
 abbrev IsReadBy : PolicyKind → Data → Policy → Type 0

@@ -6,7 +6,7 @@ use Rattle.np_json.specs.Members.{as_whole, member_of}
 use Rattle.np_json.specs.Scalars.{name, text}
 use Rattle.np_json.specs.Shapes.{Read, ◌>>◌, each_item, listed, refuse_if, required}
 use Rattle.np_model.specs.Words.{is_name}
-use Rattle.np_json.specs.declared.fault.FaultKind.TheVariants.{BadName}
+use Rattle.np_policies.specs.Types.{BadName}
 use Rattle.np_policies.proofs.ReadLemmas.{bind-output, then-output, required-output, listed-output, each_item-output, of_type-output}
 use Rattle.np_policies.specs.PolicyMeaning.{number_at, object_at, AreEach, IsReadOf}
 use Rattle.np_policies.specs.SelectorMeaning.{items_at}

@@ -9,8 +9,7 @@ use Rattle.np_json.specs.Meta.{namespace, namespaced_name, or_default}
 use Rattle.np_json.specs.Scalars.{name, text}
 use Rattle.np_json.specs.Shapes.{◌>>◌, listed, must_be_object, optional, refuse_if, required}
 use Rattle.np_model.specs.Words.{is_name, direction_text}
-use Rattle.np_json.specs.declared.fault.FaultKind.TheVariants.{BadName}
-use Rattle.np_json.specs.declared.meta.NamespacedName.{NamespacedName}
+use Rattle.np_policies.specs.Types.{BadName, Direction, Egress, Ingress, NamespacedName, NetPolicy, NetRule}
 use Rattle.np_policies.proofs.KindReads.{net-read}
 use Rattle.np_policies.proofs.MemberReads.{name-output, object_at-output, AreEach-listed}
 use Rattle.np_policies.proofs.ReadLemmas.{bind-output, then-output, optional-output, of_type-output, text_at-output, IsOptional}
@@ -20,10 +19,6 @@ use Rattle.np_policies.specs.Policies.{policy_of}
 use Rattle.np_policies.specs.PolicyMeaning.{named_or_default, namespace_in, object_at, spec_of, AreEach, IsNetPolicyOf, IsNetRule}
 use Rattle.np_policies.specs.Ports.{net_port}
 use Rattle.np_policies.specs.SelectorMeaning.{items_at, text_at}
-use Rattle.np_model.specs.declared.direction.Direction.{Direction}
-use Rattle.np_model.specs.declared.direction.Direction.TheVariants.{Ingress, Egress}
-use Rattle.np_model.specs.declared.network_policy.NetPolicy.{NetPolicy}
-use Rattle.np_model.specs.declared.network_policy.NetRule.{NetRule}
 use Rattle.np_policies.specs.declared.policy.Policy.TheVariants as policy
 
 -- ---- names

@@ -5,12 +5,10 @@ use Rattle.serde_json.specs.Data.{Data, Items, no_items, item}
 use Rattle.serde_json.specs.Find.{as_str}
 use Rattle.np_addr.specs.AddressGrammar.{cidr_of}
 use Rattle.np_addr.specs.Blocks.{first_bad_except}
-use Rattle.np_addr.specs.declared.cidr.Cidr.{Cidr}
+use Rattle.np_policies.specs.Types.{BadCidr, Block, Cidr, IpBlock, NetPeer, PeerShape, Selector}
 use Rattle.np_json.specs.Members.{member_of}
 use Rattle.np_json.specs.Scalars.{text}
 use Rattle.np_json.specs.Shapes.{Read, ◌>>◌, each_item, has_member, listed, must_be_object, optional, or_refuse, refuse_if, required}
-use Rattle.np_json.specs.declared.fault.FaultKind.TheVariants.{BadCidr, PeerShape}
-use Rattle.np_labels.specs.declared.selector.Selector.{Selector}
 use Rattle.np_policies.proofs.ReadLemmas.{bind-output, then-output, optional-output, required-output, listed-output, each_item-output, of_type-output, or_refuse-output, IsOptional}
 use Rattle.np_policies.proofs.WellLemmas.{unbroken-output}
 use Rattle.np_policies.specs.Blocks.{cidr, ip_block, refuse_except}
@@ -18,9 +16,7 @@ use Rattle.np_policies.specs.NetworkPolicies.{is_misshapen, net_peer, net_peer_b
 use Rattle.np_policies.specs.PolicyMeaning.{blocks_of, IsBlockOf, IsReadOf}
 use Rattle.np_policies.specs.SelectorMeaning.{items_at, text_at}
 use Rattle.np_policies.specs.Selectors.{selector}
-use Rattle.np_policies.specs.declared.ip_block_shape.IpBlock.{IpBlock}
-use Rattle.np_model.specs.declared.network_policy.NetPeer.{NetPeer}
-use Rattle.np_model.specs.declared.network_policy.NetPeer.TheVariants.{Pods, Block}
+use Rattle.np_model.specs.declared.network_policy.NetPeer.TheVariants.{Pods}
 
 IsReadOf-optional : {A : Type 0} (shape : Data → Read A) (member : Option Data) (output : Option A) → IsOptional shape member output → IsReadOf shape member output
 IsReadOf-optional shape member None is = subst (λ (found : Option Data). IsReadOf shape found None) (sym is) tt

@@ -3,19 +3,14 @@ use Rattle.std.proofs.Common.{◌≡◌, ℕ, ℤ, pos, List, [], length, Bool, 
 use Rattle.serde_json.specs.Data.{Data, string}
 use Rattle.serde_json.specs.Find.{as_str}
 use Rattle.np_conns.specs.ConnsText.{proto_named}
-use Rattle.np_conns.specs.declared.proto.Proto.{Proto}
-use Rattle.np_conns.specs.declared.proto.Proto.TheVariants.{Tcp}
+use Rattle.np_policies.specs.Types.{BadField, BadPort, BadProtocol, Name, NetPort, Number, PortValue, Proto, Tcp}
 use Rattle.np_json.specs.Members.{as_whole, member_of}
 use Rattle.np_json.specs.Scalars.{port, port_number, protocol_name, text, whole}
 use Rattle.np_json.specs.Shapes.{Read, ◌>>◌, must_be_object, optional, or_refuse, refuse, refuse_if}
 use Rattle.np_model.specs.Words.{is_word}
-use Rattle.np_json.specs.declared.fault.FaultKind.TheVariants.{BadField, BadPort, BadProtocol}
 use Rattle.np_policies.proofs.ReadLemmas.{bind-output, then-output, optional-output, of_type-output, or_refuse-output, IsOptional}
 use Rattle.np_policies.specs.PolicyMeaning.{number_at, protocol_of}
 use Rattle.np_policies.specs.Ports.{end_port, may_end, net_port, net_port_by, number_of, port_name, port_value, port_value_by, protocol}
-use Rattle.np_policies.specs.declared.net_port_shape.PortValue.{PortValue}
-use Rattle.np_policies.specs.declared.net_port_shape.PortValue.TheVariants.{Number, Name}
-use Rattle.np_model.specs.declared.network_policy.NetPort.{NetPort}
 use Rattle.np_model.specs.declared.network_policy.NetPort.TheVariants.{Span, Named}
 
 -- a number that was read as a port is the port

@@ -7,9 +7,7 @@ use Rattle.np_json.specs.Members.{member_of}
 use Rattle.np_json.specs.Scalars.{of_type, text, word}
 use Rattle.np_json.specs.Shapes.{Read, ◌>>=◌, ◌>>◌, each_item, given, list_by, listed, optional, or_refuse, read_member, refuse, refuse_if, required, under}
 use Rattle.np_model.specs.Words.{is_word}
-use Rattle.np_json.specs.declared.fault.FaultKind.{FaultKind}
-use Rattle.np_json.specs.declared.fault.FaultKind.TheVariants.{BadField}
-use Rattle.np_json.specs.declared.path.Step.TheVariants.{Field, Item}
+use Rattle.np_policies.specs.Types.{BadField, FaultKind, Field, Item}
 use Rattle.np_json.proofs.ReadLemmas.{under-output}
 use Rattle.np_policies.specs.SelectorMeaning.{all_items, any_item, items_at, text_at}
 

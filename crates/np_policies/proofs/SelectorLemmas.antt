@@ -1,6 +1,5 @@
 -- What a selector that was read asks of labels.
-use Rattle.std.proofs.Common.{◌≡◌, ℕ, List, [], ◌∷◌, ◌++◌, length, map, Bool, true, false, not, cond, ◌==◌, Option, Some, None, option_and_then, option_map, unwrap_or, is_some, is_none, codes}
-use Rattle.std.proofs.Common.{Ok, refl, ap, ◌∙◌}
+use Rattle.std.proofs.Common.{◌≡◌, ℕ, List, [], ◌∷◌, ◌++◌, length, map, Bool, true, false, not, cond, ◌==◌, Option, Some, None, option_and_then, option_map, unwrap_or, is_some, is_none, codes, Ok, refl, ap, ◌∙◌}
 use Rattle.std.proofs.lemmas.List.Folds.{list_all-append}
 use Rattle.std.specs.List.{list_all}
 use Rattle.std.specs.Str.{bytes_eq}
@@ -11,16 +10,11 @@ use Rattle.np_json.specs.Members.{as_pairs, member_of, pairs_of_members}
 use Rattle.np_model.specs.Words.{is_label, is_whole_word}
 use Rattle.np_json.specs.Scalars.{labels, of_type, text, word}
 use Rattle.np_json.specs.Shapes.{◌>>◌, listed, must_be_object, optional, refuse, refuse_if, required}
-use Rattle.np_json.specs.declared.fault.FaultKind.TheVariants.{BadField, BadSelector}
+use Rattle.np_policies.specs.Types.{Absent, BadField, BadSelector, NoneOf, OneOf, Op, Pair, Present, Requirement, Selector}
 use Rattle.np_labels.specs.Labels.{value_of}
 use Rattle.np_labels.specs.Selectors.{allows, is_listed, label_requirement, meets_requirement, meets_selector, requirement_of}
 use Rattle.np_labels.specs.Values.{distinct}
 use Rattle.np_labels.specs.WellFormed.{fits}
-use Rattle.np_labels.specs.declared.op.Op.{Op}
-use Rattle.np_labels.specs.declared.op.Op.TheVariants.{OneOf, NoneOf, Present, Absent}
-use Rattle.np_labels.specs.declared.pair.Pair.{Pair}
-use Rattle.np_labels.specs.declared.requirement.Requirement.{Requirement}
-use Rattle.np_labels.specs.declared.selector.Selector.{Selector}
 pub use Rattle.np_labels.proofs.Distinct.{is_listed-distinct}
 use Rattle.np_policies.proofs.ReadLemmas.{bind-output, then-output, optional-output, listed-output, list_all-each_item, list_any-each_item, of_type-output, word-output, text_at-output, IsOptional}
 use Rattle.np_policies.specs.SelectorMeaning.{any_item, has_entries, has_text, is_among, is_text, items_at, meets_expression, meets_members, meets_operator}

@@ -10,8 +10,7 @@ use Rattle.np_json.specs.Members.{member_of}
 use Rattle.np_json.specs.Meta.{namespaced_name}
 use Rattle.np_json.specs.Scalars.{of_type, text}
 use Rattle.np_json.specs.Shapes.{Read, each_item, listed, must_be_object, optional, refuse_if, required, under}
-use Rattle.np_json.specs.declared.meta.NamespacedName.{NamespacedName}
-use Rattle.np_labels.specs.declared.selector.Selector.{Selector}
+use Rattle.np_policies.specs.Types.{Direction, Egress, Ingress, NamespacedName, NetPolicy, NetRule, NetSpec, Selector}
 use Rattle.np_policies.proofs.KindReads.{net-read}
 use Rattle.np_policies.proofs.ReadLemmas.{bind-output, then-output, optional-output, listed-output, each_item-output, list_any-each_item, of_type-output, IsOptional}
 use Rattle.np_policies.specs.NetworkPolicies.{direction_named, empty_spec, has_direction, is_same, net_policy, net_policy_by, net_rule, net_rules, net_spec, policy_type, rules_if}
@@ -19,11 +18,6 @@ use Rattle.np_policies.specs.Policies.{policy_of}
 use Rattle.np_policies.specs.PolicyMeaning.{has_egress, has_ingress, is_empty, object_at, spec_of}
 use Rattle.np_policies.specs.SelectorMeaning.{is_text, items_at}
 use Rattle.np_policies.specs.Selectors.{everything, selector}
-use Rattle.np_model.specs.declared.direction.Direction.{Direction}
-use Rattle.np_model.specs.declared.direction.Direction.TheVariants.{Ingress, Egress}
-use Rattle.np_policies.specs.declared.net_policy_shape.NetSpec.{NetSpec}
-use Rattle.np_model.specs.declared.network_policy.NetPolicy.{NetPolicy}
-use Rattle.np_model.specs.declared.network_policy.NetRule.{NetRule}
 use Rattle.np_policies.specs.declared.policy.Policy.TheVariants as policy
 
 -- a type that was read is the text of its item

@@ -7,7 +7,7 @@ use Rattle.serde_json.specs.Data.{Data}
 use Rattle.np_json.specs.Scalars as scalars
 use Rattle.np_json.specs.Shapes.{◌>>=◌, ◌>>◌, has_member, has_one_of, listed, must_be_object, or_refuse, refuse, refuse_if, refuse_member_if, required}
 use Rattle.np_model.specs.Words.{is_name, direction_text}
-use Rattle.np_json.specs.declared.fault.FaultKind.TheVariants.{BadAction, BadPriority, DomainPeer, EmptyPeers, NodePeer, PeerShape}
+use Rattle.np_policies.specs.Types.{Action, AdminPeer, AdminPolicy, AdminRule, AdminSpec, Allow, BadAction, BadPriority, BasePolicy, Deny, Direction, DomainPeer, Egress, EmptyPeers, Ingress, NodePeer, Pass, PeerShape, Subject, Tier}
 use Rattle.np_policies.proofs.ReadLemmas.{bind-output, then-output, or_refuse-output}
 use Rattle.np_policies.proofs.WellLemmas.{unbroken_member-output, listed-well, required-well, selector-well, cidr_text-well, admin_port-well}
 use Rattle.np_policies.specs.AdminPolicies.{action, action_named, admin_peer, admin_peers, admin_policy, admin_rule, admin_rules, admin_spec, all_pods, base_name, base_policy, base_spec}
@@ -16,21 +16,9 @@ use Rattle.np_policies.specs.Blocks.{cidr}
 use Rattle.np_policies.specs.NetworkPolicies.{peers_member}
 use Rattle.np_policies.specs.Ports.{admin_port}
 use Rattle.np_policies.specs.Selectors.{everything, selector}
-use Rattle.np_model.specs.WellPolicies.{is_decision, is_well_admin_peer, is_well_admin_policy, is_well_admin_port, is_well_admin_rule, is_well_base_policy, is_well_cidr, is_well_selector}
-use Rattle.np_model.specs.WellPolicies.{is_well_subject}
-use Rattle.np_model.specs.declared.admin_policy.Action.{Action}
-use Rattle.np_model.specs.declared.admin_policy.Action.TheVariants.{Allow, Deny, Pass}
-use Rattle.np_model.specs.declared.admin_policy.AdminPeer.{AdminPeer}
+use Rattle.np_model.specs.WellPolicies.{is_decision, is_well_admin_peer, is_well_admin_policy, is_well_admin_port, is_well_admin_rule, is_well_base_policy, is_well_cidr, is_well_selector, is_well_subject}
 use Rattle.np_model.specs.declared.admin_policy.AdminPeer.TheVariants as peer
-use Rattle.np_model.specs.declared.admin_policy.AdminPolicy.{AdminPolicy}
-use Rattle.np_model.specs.declared.admin_policy.AdminRule.{AdminRule}
-use Rattle.np_model.specs.declared.admin_policy.BasePolicy.{BasePolicy}
-use Rattle.np_model.specs.declared.admin_policy.Subject.{Subject}
-use Rattle.np_policies.specs.declared.admin_policy_shape.AdminSpec.{AdminSpec}
-use Rattle.np_policies.specs.declared.admin_rule_shape.Tier.{Tier}
 use Rattle.np_policies.specs.declared.admin_rule_shape.Tier.TheVariants as tier
-use Rattle.np_model.specs.declared.direction.Direction.{Direction}
-use Rattle.np_model.specs.declared.direction.Direction.TheVariants.{Ingress, Egress}
 use Rattle.np_policies.proofs.WellNetwork.{name-well}
 
 -- ---- subjects and peers of admin policies

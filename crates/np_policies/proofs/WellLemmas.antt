@@ -1,6 +1,5 @@
 -- What is read by the shapes of selectors, blocks and ports is well formed.
-use Rattle.std.proofs.Common.{◌≡◌, ◌↔◌, ℕ, ℤ, ◌-◌, ◌%◌, ◌^◌, List, [], ◌∷◌, ◌++◌, length, map, Bool, true, false, not, cond, ◌&&◌, ◌==◌, nat_le, nat_lt, is_none, Option, Some, None, unwrap_or, codes}
-use Rattle.std.proofs.Common.{Ok, refl, ◌∙◌, arith}
+use Rattle.std.proofs.Common.{◌≡◌, ◌↔◌, ℕ, ℤ, ◌-◌, ◌%◌, ◌^◌, List, [], ◌∷◌, ◌++◌, length, map, Bool, true, false, not, cond, ◌&&◌, ◌==◌, nat_le, nat_lt, is_none, Option, Some, None, unwrap_or, codes, Ok, refl, ◌∙◌, arith}
 use Rattle.std.proofs.lemmas.Bool.Decides.{nat_tests}
 use Rattle.std.proofs.lemmas.List.Folds.{list_all-append}
 use Rattle.std.specs.List.{list_all}
@@ -9,36 +8,24 @@ use Rattle.serde_json.specs.Data.{Data, Items, no_items, item}
 use Rattle.serde_json.specs.Find.{as_object}
 use Rattle.np_addr.specs.Addresses.{IsCidr}
 use Rattle.np_addr.specs.Blocks.{first_bad_except}
-use Rattle.np_addr.specs.declared.cidr.Cidr.{Cidr}
+use Rattle.np_policies.specs.Types.{AdminPort, BadField, BadPort, BadSelector, Cidr, FaultKind, IpBlock, Name, NetPort, Number, Op, PortValue, Proto, Requirement, Selector}
 use Rattle.np_addr.specs.declared.cidr.Cidr.TheVariants.{Four, Six}
-use Rattle.np_conns.specs.declared.proto.Proto.{Proto}
 use Rattle.np_json.specs.Members.{as_pairs, as_whole}
 use Rattle.np_model.specs.Words.{is_label, is_word, is_whole_word}
 use Rattle.np_json.specs.Scalars.{labels, of_type, port, port_number, text, word}
 use Rattle.np_json.specs.Shapes.{Read, ◌>>◌, has_member, has_one_of, listed, must_be_object, optional, refuse, refuse_if, refuse_member_if, required, under}
-use Rattle.np_json.specs.declared.fault.FaultKind.{FaultKind}
-use Rattle.np_json.specs.declared.fault.FaultKind.TheVariants.{BadField, BadPort, BadSelector}
 use Rattle.np_labels.proofs.Distinct.{is_empty-distinct, list_all-distinct}
 use Rattle.np_labels.specs.DistinctAscends.{distinct-ascends}
 use Rattle.np_labels.specs.Selectors.{label_requirement, requirement_of}
 use Rattle.np_labels.specs.WellFormed.{fits, is_well_requirement}
-use Rattle.np_labels.specs.declared.op.Op.{Op}
-use Rattle.np_labels.specs.declared.requirement.Requirement.{Requirement}
-use Rattle.np_labels.specs.declared.selector.Selector.{Selector}
 use Rattle.np_policies.proofs.BlockLemmas.{cidr-well}
 use Rattle.np_policies.proofs.ReadLemmas.{bind-output, then-output, required-output, optional-output, listed-output, list_all-each_item}
 use Rattle.np_policies.specs.Blocks.{cidr, ip_block, refuse_except}
-use Rattle.np_policies.specs.Ports.{admin_port, admin_port_member, end_port, may_end, named_port, net_port, net_port_by, number_of, one_port, port_name, port_range, port_value, port_value_by}
-use Rattle.np_policies.specs.Ports.{protocol}
+use Rattle.np_policies.specs.Ports.{admin_port, admin_port_member, end_port, may_end, named_port, net_port, net_port_by, number_of, one_port, port_name, port_range, port_value, port_value_by, protocol}
 use Rattle.np_policies.specs.SelectorMeaning.{all_items, items_at}
 use Rattle.np_policies.specs.Selectors.{expression, fitting, has_other, key, op_named, selector}
 use Rattle.np_model.specs.WellPolicies.{is_well_admin_port, is_well_block, is_well_cidr, is_well_net_port, is_well_selector, is_worded}
-use Rattle.np_model.specs.declared.admin_policy.AdminPort.{AdminPort}
 use Rattle.np_model.specs.declared.admin_policy.AdminPort.TheVariants as admin
-use Rattle.np_policies.specs.declared.ip_block_shape.IpBlock.{IpBlock}
-use Rattle.np_policies.specs.declared.net_port_shape.PortValue.{PortValue}
-use Rattle.np_policies.specs.declared.net_port_shape.PortValue.TheVariants.{Number, Name}
-use Rattle.np_model.specs.declared.network_policy.NetPort.{NetPort}
 use Rattle.np_model.specs.WellObjects.{option_all}
 
 -- ---- tests

@@ -4,19 +4,15 @@ use Rattle.serde_json.specs.Data.{Data}
 use Rattle.np_model.specs.WellObjects.{option_all}
 use Rattle.np_json.specs.Meta.{type_meta}
 use Rattle.np_json.specs.Shapes.{GivesItem, refuse}
-use Rattle.np_json.specs.declared.fault.FaultKind.TheVariants.{ForeignPolicy}
+use Rattle.np_policies.specs.Types.{Admin, Base, Field, Foreign, ForeignPolicy, Net, NoPolicy, Policy, PolicyKind}
 use Rattle.np_json.specs.declared.fault.ReadFault.{ReadFault}
-use Rattle.np_json.specs.declared.path.Step.TheVariants.{Field}
 use Rattle.np_json.proofs.ReadLemmas.{under-output}
 use Rattle.np_policies.proofs.ReadLemmas.{bind-output}
 use Rattle.np_policies.specs.AdminPolicies.{admin_policy, base_policy}
 use Rattle.np_policies.specs.NetworkPolicies.{net_policy}
 use Rattle.np_policies.specs.Policies.{policy_kind, policy_by, policy_of}
 use Rattle.np_policies.specs.WellFormed.{is_well_policy}
-use Rattle.np_policies.specs.declared.policy.Policy.{Policy}
 use Rattle.np_policies.specs.declared.policy.Policy.TheVariants as policy
-use Rattle.np_policies.specs.declared.policy_shape.PolicyKind.{PolicyKind}
-use Rattle.np_policies.specs.declared.policy_shape.PolicyKind.TheVariants.{Net, Admin, Base, Foreign, NoPolicy}
 use Rattle.np_policies.proofs.WellNetwork.{net_policy-well}
 use Rattle.np_policies.proofs.WellAdmin.{admin_policy-well, base_policy-well}
 

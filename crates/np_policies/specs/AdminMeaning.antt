@@ -5,20 +5,10 @@ use Rattle.std.specs.Prelude.{◌≡◌, ℕ, pos, List, map, Option, Some, None
 use Rattle.serde_json.specs.Data.{Data}
 use Rattle.serde_json.specs.Find.{as_str}
 use Rattle.np_json.specs.Members.{member_of}
-use Rattle.np_labels.specs.declared.selector.Selector.{Selector}
+use Rattle.np_policies.specs.Types.{Action, AdminPeer, AdminPolicy, AdminPort, AdminRule, Allow, BasePolicy, Deny, Named, Networks, Pass, Pods, Selector, Span, Subject}
 use Rattle.np_policies.specs.PolicyMeaning.{blocks_of, number_at, object_at, protocol_of, spec_of, AreEach, IsOfKind, IsReadOf}
 use Rattle.np_policies.specs.SelectorMeaning.{items_at, text_at}
 use Rattle.np_policies.specs.Selectors.{everything, selector}
-use Rattle.np_model.specs.declared.admin_policy.Action.{Action}
-use Rattle.np_model.specs.declared.admin_policy.Action.TheVariants.{Allow, Deny, Pass}
-use Rattle.np_model.specs.declared.admin_policy.AdminPeer.{AdminPeer}
-use Rattle.np_model.specs.declared.admin_policy.AdminPeer.TheVariants.{Pods, Networks}
-use Rattle.np_model.specs.declared.admin_policy.AdminPolicy.{AdminPolicy}
-use Rattle.np_model.specs.declared.admin_policy.AdminPort.{AdminPort}
-use Rattle.np_model.specs.declared.admin_policy.AdminPort.TheVariants.{Span, Named}
-use Rattle.np_model.specs.declared.admin_policy.AdminRule.{AdminRule}
-use Rattle.np_model.specs.declared.admin_policy.BasePolicy.{BasePolicy}
-use Rattle.np_model.specs.declared.admin_policy.Subject.{Subject}
 
 -- ---- subjects and peers
 

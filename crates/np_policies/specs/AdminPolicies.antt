@@ -6,25 +6,12 @@ use Rattle.std.specs.Str.{bytes_eq}
 use Rattle.serde_json.specs.Data.{Data}
 use Rattle.np_json.specs.Scalars.{name, text, whole}
 use Rattle.np_json.specs.Shapes.{Read, ◌>>=◌, ◌>>◌, has_member, has_one_of, listed, must_be_object, or_refuse, refuse, refuse_if, refuse_member_if, required}
-use Rattle.np_json.specs.declared.fault.FaultKind.TheVariants.{BadAction, BadPriority, BaselineName, DomainPeer, EmptyPeers, NodePeer, PeerShape}
-use Rattle.np_labels.specs.declared.selector.Selector.{Selector}
+use Rattle.np_policies.specs.Types.{Action, AdminPeer, AdminPolicy, AdminRule, AdminSpec, Allow, BadAction, BadPriority, BaselineName, BasePolicy, Deny, Direction, DomainPeer, Egress, EmptyPeers, Ingress, Networks, NodePeer, Pass, PeerShape, Pods, Selector, Subject, Tier}
 use Rattle.np_policies.specs.Blocks.{cidr}
 use Rattle.np_policies.specs.NetworkPolicies.{peers_member}
 use Rattle.np_policies.specs.Ports.{admin_port}
 use Rattle.np_policies.specs.Selectors.{selector, everything}
-use Rattle.np_model.specs.declared.admin_policy.Action.{Action}
-use Rattle.np_model.specs.declared.admin_policy.Action.TheVariants.{Allow, Deny, Pass}
-use Rattle.np_model.specs.declared.admin_policy.AdminPeer.{AdminPeer}
-use Rattle.np_model.specs.declared.admin_policy.AdminPeer.TheVariants.{Pods, Networks}
-use Rattle.np_model.specs.declared.admin_policy.AdminPolicy.{AdminPolicy}
-use Rattle.np_model.specs.declared.admin_policy.AdminRule.{AdminRule}
-use Rattle.np_model.specs.declared.admin_policy.BasePolicy.{BasePolicy}
-use Rattle.np_model.specs.declared.admin_policy.Subject.{Subject}
-use Rattle.np_policies.specs.declared.admin_policy_shape.AdminSpec.{AdminSpec}
-use Rattle.np_policies.specs.declared.admin_rule_shape.Tier.{Tier}
 use Rattle.np_policies.specs.declared.admin_rule_shape.Tier.TheVariants.{Admin, Baseline}
-use Rattle.np_model.specs.declared.direction.Direction.{Direction}
-use Rattle.np_model.specs.declared.direction.Direction.TheVariants.{Ingress, Egress}
 use Rattle.np_model.specs.Words.{direction_text}
 
 -- `namespaces` of a subject or peer: all pods of the namespaces that it selects

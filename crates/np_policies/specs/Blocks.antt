@@ -3,12 +3,9 @@ use Rattle.std.specs.Prelude.{ℕ, Option, Some, None, codes, Ok, ⊤}
 use Rattle.serde_json.specs.Data.{Data}
 use Rattle.np_addr.specs.AddressGrammar.{cidr_of}
 use Rattle.np_addr.specs.Blocks.{first_bad_except}
-use Rattle.np_addr.specs.declared.cidr.Cidr.{Cidr}
+use Rattle.np_policies.specs.Types.{BadCidr, BadExcept, Cidr, Field, IpBlock, Item}
 use Rattle.np_json.specs.Scalars.{text}
 use Rattle.np_json.specs.Shapes.{Read, ◌>>=◌, ◌>>◌, listed, must_be_object, or_refuse, refuse, required, under}
-use Rattle.np_json.specs.declared.fault.FaultKind.TheVariants.{BadCidr, BadExcept}
-use Rattle.np_json.specs.declared.path.Step.TheVariants.{Field, Item}
-use Rattle.np_policies.specs.declared.ip_block_shape.IpBlock.{IpBlock}
 
 -- a text that writes a block of addresses, else BadCidr
 unfoldable pub cidr : Data → Read Cidr

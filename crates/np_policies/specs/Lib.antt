@@ -7,4 +7,5 @@ pub mod PolicyMeaning
 pub mod Ports
 pub mod SelectorMeaning
 pub mod Selectors
+pub mod Types
 pub mod WellFormed

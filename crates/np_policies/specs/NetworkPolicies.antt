@@ -7,20 +7,11 @@ use Rattle.serde_json.specs.Data.{Data}
 use Rattle.np_json.specs.Meta.{namespaced_name}
 use Rattle.np_json.specs.Scalars.{of_type, text}
 use Rattle.np_json.specs.Shapes.{Read, ◌>>=◌, ◌>>◌, has_member, listed, must_be_object, optional, refuse_if, required}
-use Rattle.np_json.specs.declared.fault.FaultKind.TheVariants.{PeerShape}
-use Rattle.np_json.specs.declared.meta.NamespacedName.{NamespacedName}
-use Rattle.np_labels.specs.declared.selector.Selector.{Selector}
+use Rattle.np_policies.specs.Types.{Block, Direction, Egress, Ingress, IpBlock, NamespacedName, NetPeer, NetPolicy, NetRule, NetSpec, PeerShape, Selector}
 use Rattle.np_policies.specs.Blocks.{ip_block}
 use Rattle.np_policies.specs.Ports.{net_port}
 use Rattle.np_policies.specs.Selectors.{selector, everything}
-use Rattle.np_model.specs.declared.direction.Direction.{Direction}
-use Rattle.np_model.specs.declared.direction.Direction.TheVariants.{Ingress, Egress}
-use Rattle.np_policies.specs.declared.ip_block_shape.IpBlock.{IpBlock}
-use Rattle.np_policies.specs.declared.net_policy_shape.NetSpec.{NetSpec}
-use Rattle.np_model.specs.declared.network_policy.NetPeer.{NetPeer}
-use Rattle.np_model.specs.declared.network_policy.NetPeer.TheVariants.{Pods, Block}
-use Rattle.np_model.specs.declared.network_policy.NetPolicy.{NetPolicy}
-use Rattle.np_model.specs.declared.network_policy.NetRule.{NetRule}
+use Rattle.np_model.specs.declared.network_policy.NetPeer.TheVariants.{Pods}
 use Rattle.np_model.specs.Words.{direction_text}
 
 -- the member of a rule that lists the other ends

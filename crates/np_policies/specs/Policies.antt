@@ -5,15 +5,10 @@ use Rattle.std.specs.Str.{bytes_eq}
 use Rattle.serde_json.specs.Data.{Data}
 use Rattle.np_json.specs.Meta.{type_meta}
 use Rattle.np_json.specs.Shapes.{Read, ◌>>=◌, refuse, under}
-use Rattle.np_json.specs.declared.fault.FaultKind.TheVariants.{ForeignPolicy}
-use Rattle.np_json.specs.declared.meta.TypeMeta.{TypeMeta}
-use Rattle.np_json.specs.declared.path.Step.TheVariants.{Field}
+use Rattle.np_policies.specs.Types.{Admin, Base, Field, Foreign, ForeignPolicy, Net, NoPolicy, Policy, PolicyKind, TypeMeta}
 use Rattle.np_policies.specs.AdminPolicies.{admin_policy, base_policy}
 use Rattle.np_policies.specs.NetworkPolicies.{net_policy}
-use Rattle.np_policies.specs.declared.policy.Policy.{Policy}
 use Rattle.np_policies.specs.declared.policy.Policy.TheVariants as policy
-use Rattle.np_policies.specs.declared.policy_shape.PolicyKind.{PolicyKind}
-use Rattle.np_policies.specs.declared.policy_shape.PolicyKind.TheVariants.{Net, Admin, Base, Foreign, NoPolicy}
 
 -- whether an object is of a version and kind
 abbrev pub is_of : List ℕ → List ℕ → TypeMeta → Bool

@@ -4,18 +4,14 @@ use Rattle.std.specs.Prelude.{◌≡◌, ℕ, ℤ, List, [], ◌∷◌, map, Boo
 use Rattle.serde_json.specs.Data.{Data, object, Items, no_items, item, no_members}
 use Rattle.serde_json.specs.Find.{as_str}
 use Rattle.np_addr.specs.AddressGrammar.{cidr_of}
-use Rattle.np_addr.specs.declared.cidr.Cidr.{Cidr}
+use Rattle.np_policies.specs.Types.{Cidr, NetPolicy, NetRule, Proto, Tcp}
 use Rattle.np_conns.specs.ConnsText.{proto_named}
-use Rattle.np_conns.specs.declared.proto.Proto.{Proto}
-use Rattle.np_conns.specs.declared.proto.Proto.TheVariants.{Tcp}
 use Rattle.np_json.specs.Members.{as_whole, member_of}
 use Rattle.np_json.specs.Shapes.{Read}
 use Rattle.np_policies.specs.NetworkPolicies.{net_peer}
 use Rattle.np_policies.specs.Ports.{net_port}
 use Rattle.np_policies.specs.SelectorMeaning.{any_item, is_text, items_at, text_at}
 use Rattle.np_policies.specs.Selectors.{selector}
-use Rattle.np_model.specs.declared.network_policy.NetPolicy.{NetPolicy}
-use Rattle.np_model.specs.declared.network_policy.NetRule.{NetRule}
 
 -- ---- members
 

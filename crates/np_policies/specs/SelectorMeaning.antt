@@ -5,7 +5,7 @@ use Rattle.serde_json.specs.Data.{Data, Items, no_items, item, Members, no_membe
 use Rattle.serde_json.specs.Find.{as_str, as_array, as_object}
 use Rattle.np_json.specs.Members.{member_of}
 use Rattle.np_labels.specs.Labels.{value_of}
-use Rattle.np_labels.specs.declared.pair.Pair.{Pair}
+use Rattle.np_policies.specs.Types.{Pair}
 
 abbrev pub all_items : (Data → Bool) → Items → Bool
 all_items test no_items = true

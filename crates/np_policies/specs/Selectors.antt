@@ -8,13 +8,9 @@ use Rattle.np_json.specs.Members.{unless_null}
 use Rattle.np_json.specs.Scalars.{text, word, labels}
 use Rattle.np_json.specs.Shapes.{Read, ◌>>=◌, ◌>>◌, listed, must_be_object, optional, passing, refuse, refuse_if, required}
 use Rattle.np_model.specs.Words.{is_whole_word}
-use Rattle.np_json.specs.declared.fault.FaultKind.TheVariants.{BadField, BadSelector}
+use Rattle.np_policies.specs.Types.{Absent, BadField, BadSelector, NoneOf, OneOf, Op, Present, Requirement, Selector}
 use Rattle.np_labels.specs.Selectors.{label_requirement, requirement_of}
 use Rattle.np_labels.specs.WellFormed.{fits}
-use Rattle.np_labels.specs.declared.op.Op.{Op}
-use Rattle.np_labels.specs.declared.op.Op.TheVariants.{OneOf, NoneOf, Present, Absent}
-use Rattle.np_labels.specs.declared.requirement.Requirement.{Requirement}
-use Rattle.np_labels.specs.declared.selector.Selector.{Selector}
 
 -- the key of an expression: a word that is not empty, else BadField
 unfoldable pub key : Data → Read (List ℕ)

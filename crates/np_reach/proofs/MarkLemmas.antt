@@ -1,16 +1,13 @@
 -- What a pod's row says of each far end.
-use Rattle.std.proofs.Common.{◌≡◌, ℕ, zero, suc, ◌+◌, ◌<◌, List, [], ◌∷◌, ◌++◌, Bool, true, false, ◌&&◌, ◌||◌, not, map, length, take, get_or, option_and_then, slice_get, unwrap_or, Option, Some}
-use Rattle.std.proofs.Common.{arith, refl, sym, ap, ◌∙◌}
+use Rattle.std.proofs.Common.{◌≡◌, ℕ, zero, suc, ◌+◌, ◌<◌, List, [], ◌∷◌, ◌++◌, Bool, true, false, ◌&&◌, ◌||◌, not, map, length, take, get_or, option_and_then, slice_get, unwrap_or, Option, Some, arith, refl, sym, ap, ◌∙◌}
 use Rattle.std.specs.Prelude.{All}
 use Rattle.std.specs.List.{flat_map, list_any, range_with_len}
 use Rattle.std.specs.Option.{option_map}
 use Rattle.std.proofs.lemmas.List.{append_assoc, map-append, take_more}
 use Rattle.std.proofs.lemmas.Option.{slice_get-map}
-use Rattle.np_model.specs.declared.lists.EstateLists.{EstateLists}
-use Rattle.np_model.specs.declared.direction.Direction.{Direction}
+use Rattle.np_reach.specs.Types.{Direction, EstateLists, Marks}
 use Rattle.np_reach.specs.Marks.{IsSpoken, speaks_at}
 use Rattle.np_reach.specs.Reach.{admin_reaches, has_place, may_at, may_reach, net_reaches, reach_of}
-use Rattle.np_reach.specs.declared.spoken.Marks.{Marks}
 use Rattle.np_rules.proofs.PlacesLemmas.{flat_map-next}
 use Rattle.np_rules.specs.model.Ends.{PodEnd, pod}
 use Rattle.np_rules.specs.model.NetTier.{is_isolated}

@@ -12,7 +12,7 @@ use Rattle.std.proofs.lemmas.Option.{slice_get-map, slice_get_past, slice_get_wi
 use Rattle.std.proofs.Math.Bool.{or-false, or_assoc}
 use Rattle.np_reach.specs.Marks.{AreWithin, IsSpoken, marks_at, speaks_at}
 use Rattle.np_reach.specs.Reach.{has_place}
-use Rattle.np_reach.specs.declared.spoken.Marks.{Marks}
+use Rattle.np_reach.specs.Types.{Marks}
 
 -- ---- places of two lists, one behind the other
 

@@ -3,3 +3,4 @@ pub mod Marks
 pub mod Namespaces
 pub mod Stretches
 pub mod SidesOf
+pub mod Types

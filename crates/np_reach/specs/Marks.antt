@@ -2,7 +2,7 @@
 use Rattle.std.specs.Prelude.{ℕ, ◌≡◌, ◌≤◌, ◌+◌, ◌-◌, List, Bool, false, All, Some, length, nat_lt, slice_get, if◌then◌else◌}
 use Rattle.std.specs.List.{list_any}
 use Rattle.np_reach.specs.Reach.{has_place}
-use Rattle.np_reach.specs.declared.spoken.Marks.{Marks}
+use Rattle.np_reach.specs.Types.{Marks}
 
 -- whether the marks of a stretch say so of the pod at a place
 abbrev pub marks_at : Marks → ℕ → Bool

@@ -4,18 +4,12 @@ use Rattle.std.proofs.Common.{refl, sym, ap, ◌∙◌}
 use Rattle.std.proofs.lemmas.Bool.{and_left, false≢true, or_from}
 use Rattle.std.specs.List.{list_any}
 use Rattle.std.specs.Str.{bytes_eq}
-use Rattle.np_addr.specs.declared.address.Family.{Family}
-use Rattle.np_addr.specs.declared.address.Family.TheVariants.{Four, Six}
+use Rattle.np_reach.specs.Types.{AdminPolicy, AdminRule, Direction, Family, Four, NetPolicy, NetRule, Six}
 use Rattle.np_labels.specs.Selectors.{meets_selector}
 use Rattle.np_model.specs.declared.admin_policy.AdminPeer.{AdminPeer}
 use Rattle.np_model.specs.declared.admin_policy.AdminPeer.TheVariants as admin
-use Rattle.np_model.specs.declared.admin_policy.AdminPolicy.{AdminPolicy}
-use Rattle.np_model.specs.declared.admin_policy.AdminRule.{AdminRule}
-use Rattle.np_model.specs.declared.direction.Direction.{Direction}
 use Rattle.np_model.specs.declared.network_policy.NetPeer.{NetPeer}
 use Rattle.np_model.specs.declared.network_policy.NetPeer.TheVariants as net
-use Rattle.np_model.specs.declared.network_policy.NetPolicy.{NetPolicy}
-use Rattle.np_model.specs.declared.network_policy.NetRule.{NetRule}
 use Rattle.np_reach.specs.Reach.{admin_reaches, admin_rule_reaches, net_reaches}
 use Rattle.np_rules.proofs.KeptLemmas.{none_quieter, quieter}
 use Rattle.np_rules.specs.model.Ends.{PodEnd, pod}

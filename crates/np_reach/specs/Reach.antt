@@ -1,12 +1,7 @@
 -- Which far ends the side of a pod may let through at all.
 use Rattle.std.specs.Prelude.{ℕ, List, [], Bool, true, false, ◌&&◌, ◌||◌, not, map, option_and_then, slice_get, unwrap_or}
 use Rattle.std.specs.List.{list_any}
-use Rattle.np_addr.specs.declared.address.Family.TheVariants.{Four, Six}
-use Rattle.np_model.specs.declared.lists.EstateLists.{EstateLists}
-use Rattle.np_model.specs.declared.admin_policy.AdminPolicy.{AdminPolicy}
-use Rattle.np_model.specs.declared.admin_policy.AdminRule.{AdminRule}
-use Rattle.np_model.specs.declared.direction.Direction.{Direction}
-use Rattle.np_model.specs.declared.network_policy.NetPolicy.{NetPolicy}
+use Rattle.np_reach.specs.Types.{AdminPolicy, AdminRule, Direction, EstateLists, Four, NetPolicy, Six}
 use Rattle.np_rules.specs.model.Ends.{End, PodEnd, pod}
 use Rattle.np_rules.specs.model.NetTier.{is_isolated}
 use Rattle.np_rules.specs.model.Peers.{admin_peer_matches, net_peer_matches}

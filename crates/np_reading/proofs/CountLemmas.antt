@@ -8,9 +8,7 @@ use Rattle.std.proofs.lemmas.List.FromFn.{length-map-range_with_len, get_or-map-
 use Rattle.std.proofs.lemmas.Option.{slice_get_read}
 use Rattle.np_reading.specs.LeftOut.{left_out, is_for, is_left_out}
 use Rattle.np_reading.specs.Listed.{first_equal}
-use Rattle.np_reading.specs.declared.left_out.LeftOut.{LeftOut}
-use Rattle.np_reading.specs.declared.priorities.Rank.{Rank}
-use Rattle.np_items.specs.declared.item.Item.{Item}
+use Rattle.np_reading.specs.Types.{Item, LeftOut, Rank}
 use Rattle.np_owners.specs.MadePods.{makers, makes_pod}
 
 -- there is a mark for each item

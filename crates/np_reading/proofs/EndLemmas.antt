@@ -4,11 +4,9 @@ use Rattle.std.proofs.Math.Nat.{zero-add}
 use Rattle.std.proofs.Math.Seq.{drop-cons}
 use Rattle.std.proofs.lemmas.List.FromFn.{length-map-range_with_len, get_or-map-range_with_len}
 use Rattle.np_reading.specs.Ends.{context_at, context_of, contexts_from, contexts_of, gives_end}
-use Rattle.np_reading.specs.declared.context.PodContext.{PodContext}
-use Rattle.np_items.specs.declared.item.Item.{Item}
+use Rattle.np_reading.specs.Types.{Item, Owner, PodContext}
 use Rattle.np_owners.specs.MadePods.{makes_pod}
 use Rattle.np_owners.specs.Owners.{top_owner, top_owners}
-use Rattle.np_model.specs.declared.owner.Owner.{Owner}
 
 -- there is a top owner, or none, for each item
 pub length-top_owners : (items : List Item) (owners : List (Option Owner)) → owners ≡ top_owners items → length owners ≡ length items

@@ -1,10 +1,9 @@
 -- The estate of items that nothing refuses.
 use Rattle.std.proofs.Common.{◌≡◌, ℕ, List, None, Ok, refl}
-use Rattle.np_model.specs.declared.notes.Notes.{Notes}
+use Rattle.np_reading.specs.Types.{Item, Notes}
 use Rattle.np_owners.specs.Names.{first_repeat}
 use Rattle.np_owners.specs.Owners.{first_in_cycle}
 use Rattle.np_items.specs.Items.{items_of}
-use Rattle.np_items.specs.declared.item.Item.{Item}
 use Rattle.np_reading.specs.Listed.{first_equal, ranks_of}
 use Rattle.np_reading.specs.Reading.{estate_of, estate_of_items}
 

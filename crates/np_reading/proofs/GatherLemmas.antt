@@ -8,19 +8,9 @@ use Rattle.np_reading.specs.steps.Gathering.{Seen, in_order, nothing, or_first, 
 use Rattle.np_reading.specs.LeftOut.{count_left_out}
 use Rattle.np_reading.specs.Listed.{admin_policy, base_policy, first_of, ingress, ingresses_from, net_policy, placed, service, with_admin, with_net}
 use Rattle.np_reading.specs.Reading.{estate_of_items, notes_of}
-use Rattle.np_reading.specs.declared.left_out.LeftOut.TheVariants.{Host, Finished, Skipped}
-use Rattle.np_model.specs.declared.lists.EstateLists.{EstateLists}
-use Rattle.np_model.specs.declared.placed_ingress.PlacedIngress.{PlacedIngress}
-use Rattle.np_model.specs.declared.pod.Pod.{Pod}
-use Rattle.np_reading.specs.declared.context.PodContext.{PodContext}
-use Rattle.np_items.specs.declared.item.Item.{Item}
+use Rattle.np_reading.specs.Types.{AdminPolicy, BasePolicy, EstateLists, Finished, Host, IngressItem, Item, NetPolicy, PlacedIngress, Pod, PodContext, ServiceItem, Skipped}
 use Rattle.np_items.specs.declared.item.Item.TheVariants as item
-use Rattle.np_model.specs.declared.ingress.IngressItem.{IngressItem}
 use Rattle.np_objects.specs.declared.object.Object.TheVariants as object
-use Rattle.np_model.specs.declared.service.ServiceItem.{ServiceItem}
-use Rattle.np_model.specs.declared.admin_policy.AdminPolicy.{AdminPolicy}
-use Rattle.np_model.specs.declared.admin_policy.BasePolicy.{BasePolicy}
-use Rattle.np_model.specs.declared.network_policy.NetPolicy.{NetPolicy}
 use Rattle.np_policies.specs.declared.policy.Policy.TheVariants as policy
 
 -- one pair more

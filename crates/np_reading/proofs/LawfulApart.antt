@@ -12,13 +12,10 @@ use Rattle.np_reading.proofs.LawfulPolicies.{later-admin_policies}
 use Rattle.np_reading.specs.Ends.{pods_of}
 use Rattle.np_model.specs.Lawful.{are_apart, ArePodsApart, AreNamesApart, AreServicesApart}
 use Rattle.np_reading.specs.Listed.{admin_policy, admin_policies_of, service, services_of}
-use Rattle.np_model.specs.declared.pod.Pod.{Pod}
-use Rattle.np_items.specs.declared.item.Item.{Item}
+use Rattle.np_reading.specs.Types.{AdminPolicy, Item, Pod, ServiceItem}
 use Rattle.np_items.specs.declared.item.Item.TheVariants as item
 use Rattle.np_objects.specs.declared.object.Object.TheVariants as object
-use Rattle.np_model.specs.declared.service.ServiceItem.{ServiceItem}
 use Rattle.np_owners.specs.Names.{name_of, named, first_repeat}
-use Rattle.np_model.specs.declared.admin_policy.AdminPolicy.{AdminPolicy}
 use Rattle.np_policies.specs.declared.policy.Policy.TheVariants as policy
 
 -- ---- pods

@@ -9,14 +9,12 @@ use Rattle.std.proofs.lemmas.List.Folds.{list_all-append}
 use Rattle.std.proofs.lemmas.Option.{slice_get_within, get_or_from_slice_get}
 use Rattle.np_model.specs.Lawful.{AgreeOnNamespace, SaysItsNamespace}
 use Rattle.np_reading.specs.Namespaces.{labels_in, listed_labels, name_label, namespace_labels, namespace_name}
-use Rattle.np_model.specs.declared.pod.Pod.{Pod}
+use Rattle.np_reading.specs.Types.{Item, Pair, Pod}
 use Rattle.np_items.specs.WellFormed.{IsWellItem}
-use Rattle.np_items.specs.declared.item.Item.{Item}
 use Rattle.np_items.specs.declared.item.Item.TheVariants as item
 use Rattle.np_model.specs.Words.{has_slash, is_name, is_word}
 use Rattle.np_labels.proofs.PairLists.{value_of-labels_of}
 use Rattle.np_labels.specs.Labels.{value_of, with_pair}
-use Rattle.np_labels.specs.declared.pair.Pair.{Pair}
 use Rattle.np_objects.proofs.WellLemmas.{with_pair-well}
 use Rattle.np_model.specs.WellObjects.{is_well_label, is_well_labels}
 use Rattle.np_objects.specs.declared.object.Object.TheVariants as object

@@ -8,7 +8,7 @@ use Rattle.std.proofs.lemmas.Option.{none-some, same_Some, option_and_then_some}
 use Rattle.np_chains.specs.Chains.{top}
 use Rattle.np_reading.proofs.LawfulNamespaces.{well_at}
 use Rattle.np_items.specs.WellFormed.{IsWellItem}
-use Rattle.np_items.specs.declared.item.Item.{Item}
+use Rattle.np_reading.specs.Types.{Item, ObjectName, Owner, OwnerRef}
 use Rattle.np_items.specs.declared.item.Item.TheVariants as item
 use Rattle.np_model.specs.Words.{is_name}
 use Rattle.np_objects.specs.ControllerKinds.{kind_name}
@@ -17,11 +17,8 @@ use Rattle.np_objects.specs.WellFormed.{is_well_owner, is_well_template}
 use Rattle.np_objects.specs.declared.controller.ControllerKind.{ControllerKind}
 use Rattle.np_objects.specs.declared.controller.ControllerKind.TheVariants.{Deployment, ReplicaSet, StatefulSet, DaemonSet, ReplicationController, Job, CronJob}
 use Rattle.np_objects.specs.declared.object.Object.TheVariants as object
-use Rattle.np_objects.specs.declared.owner_ref.OwnerRef.{OwnerRef}
 use Rattle.np_owners.specs.Names.{name_of}
 use Rattle.np_owners.specs.Owners.{by_name, by_reference, last_owner, owner_of, top_owner, ups}
-use Rattle.np_owners.specs.declared.object_name.ObjectName.{ObjectName}
-use Rattle.np_model.specs.declared.owner.Owner.{Owner}
 use Rattle.np_policies.specs.declared.policy.Policy.TheVariants as policy
 
 abbrev pub is_named_owner : Owner → Bool

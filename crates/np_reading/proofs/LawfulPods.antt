@@ -8,23 +8,16 @@ use Rattle.std.proofs.lemmas.Option.{none-some, same_Some, option_and_then_some}
 use Rattle.np_reading.proofs.LawfulLists.{AllLater}
 use Rattle.np_reading.specs.Ends.{end_of, gives_end, listed_pod, made_pod, pod_at_item, pods_from, context, context_at, context_of}
 use Rattle.np_reading.specs.Namespaces.{namespace_labels}
-use Rattle.np_model.specs.declared.pod.Pod.{Pod}
-use Rattle.np_reading.specs.declared.context.PodContext.{PodContext}
+use Rattle.np_reading.specs.Types.{ControllerItem, Item, ObjectName, Owner, Pod, PodContext, PodItem, Template}
 use Rattle.np_items.specs.WellFormed.{IsWellItem}
-use Rattle.np_items.specs.declared.item.Item.{Item}
 use Rattle.np_items.specs.declared.item.Item.TheVariants as item
 use Rattle.np_model.specs.Words.{is_name}
 use Rattle.np_model.specs.WellObjects.{option_all, is_well_labels, is_well_ports}
 use Rattle.np_objects.specs.WellFormed.{is_well_owner, is_well_template}
-use Rattle.np_objects.specs.declared.controller.ControllerItem.{ControllerItem}
-use Rattle.np_objects.specs.declared.controller.Template.{Template}
 use Rattle.np_objects.specs.declared.object.Object.TheVariants as object
-use Rattle.np_objects.specs.declared.pod_item.PodItem.{PodItem}
 use Rattle.np_owners.specs.MadePods.{makes_pod}
 use Rattle.np_owners.specs.Names.{name_of, named}
 use Rattle.np_owners.specs.Owners.{top_owner}
-use Rattle.np_owners.specs.declared.object_name.ObjectName.{ObjectName}
-use Rattle.np_model.specs.declared.owner.Owner.{Owner}
 
 -- whether a pod's own names and labels are names and labels
 abbrev pub is_well_itself : Pod → Bool

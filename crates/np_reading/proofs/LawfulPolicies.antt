@@ -12,12 +12,9 @@ use Rattle.np_reading.proofs.LawfulEntries.{length-with_values-le, all-with_valu
 use Rattle.np_reading.proofs.LawfulLists.{AllLater, length-filter_map-le}
 use Rattle.np_model.specs.Lawful.{ascends, HasAscendingPriorities, comes_before, StandsBefore}
 use Rattle.np_reading.specs.Listed.{net_policy, net_name, with_net, net_policies_of, admin_policy, with_admin, admin_policies_of}
-use Rattle.np_items.specs.declared.item.Item.{Item}
+use Rattle.np_reading.specs.Types.{AdminPolicy, Item, NetPolicy, ObjectName}
 use Rattle.np_owners.proofs.PlaceLemmas.{is_eq-compare_names, equal_names}
 use Rattle.np_owners.specs.Names.{compare_names}
-use Rattle.np_owners.specs.declared.object_name.ObjectName.{ObjectName}
-use Rattle.np_model.specs.declared.admin_policy.AdminPolicy.{AdminPolicy}
-use Rattle.np_model.specs.declared.network_policy.NetPolicy.{NetPolicy}
 
 -- ---- orders
 

@@ -16,8 +16,7 @@ use Rattle.np_model.specs.Lawful.{IsEarlierItem, IsFew, IsLawful}
 use Rattle.np_reading.specs.Listed.{ingress, ingresses_from, ingresses_of, placed, service}
 use Rattle.np_reading.specs.Reading.{estate_of_items}
 use Rattle.np_items.specs.WellFormed.{IsWellItem}
-use Rattle.np_items.specs.declared.item.Item.{Item}
-use Rattle.np_model.specs.declared.ingress.IngressItem.{IngressItem}
+use Rattle.np_reading.specs.Types.{IngressItem, Item}
 use Rattle.np_owners.specs.Names.{first_repeat}
 
 -- ---- ingresses

@@ -12,19 +12,15 @@ use Rattle.np_reading.proofs.LawfulPods.{IsPodOf, all-pods_from}
 use Rattle.np_reading.proofs.LawfulPolicies.{all-admin_policies, all-net_policies}
 use Rattle.np_reading.specs.Ends.{pods_of}
 use Rattle.np_model.specs.Lawful.{is_well, is_well_pod}
-use Rattle.np_reading.specs.Listed.{admin_policy, admin_policies_of, base_policy, baseline_of, first_of, ingress, ingresses_from, ingresses_of, net_policy, net_policies_of, placed, service}
-use Rattle.np_reading.specs.Listed.{services_of}
+use Rattle.np_reading.specs.Listed.{admin_policy, admin_policies_of, base_policy, baseline_of, first_of, ingress, ingresses_from, ingresses_of, net_policy, net_policies_of, placed, service, services_of}
 use Rattle.np_reading.specs.Reading.{estate_of_items}
-use Rattle.np_model.specs.declared.pod.Pod.{Pod}
+use Rattle.np_reading.specs.Types.{BasePolicy, IngressItem, Item, Pod}
 use Rattle.np_items.specs.WellFormed.{IsWellItem}
-use Rattle.np_items.specs.declared.item.Item.{Item}
 use Rattle.np_items.specs.declared.item.Item.TheVariants as item
 use Rattle.np_model.specs.Words.{is_name}
 use Rattle.np_model.specs.WellObjects.{option_all, is_well_ingress, is_well_labels, is_well_ports, is_well_service}
-use Rattle.np_model.specs.declared.ingress.IngressItem.{IngressItem}
 use Rattle.np_objects.specs.declared.object.Object.TheVariants as object
 use Rattle.np_model.specs.WellPolicies.{is_well_admin_policy, is_well_base_policy, is_well_net_policy}
-use Rattle.np_model.specs.declared.admin_policy.BasePolicy.{BasePolicy}
 use Rattle.np_policies.specs.declared.policy.Policy.TheVariants as policy
 
 some_passes : {A : Type 0} (p : A → Bool) (o : Option A) (x : A) → o ≡ Some x → option_all p o ≡ true → p x ≡ true

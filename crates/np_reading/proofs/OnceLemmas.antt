@@ -18,21 +18,12 @@ use Rattle.np_reading.proofs.PriorityLemmas.{priorities-apart}
 use Rattle.np_reading.proofs.ReadingLemmas.{estate_of-passed}
 use Rattle.np_reading.specs.EachOnce.{HoldsEachOnce, IsOfItsItem}
 use Rattle.np_model.specs.Lawful.{are_apart}
-use Rattle.np_reading.specs.Listed.{admin_policies_of, admin_policy, base_policy, first_equal, first_of, ingress, ingresses_from, ingresses_of, net_name, net_policies_of, net_policy, placed, rank_of}
-use Rattle.np_reading.specs.Listed.{ranks_of}
+use Rattle.np_reading.specs.Listed.{admin_policies_of, admin_policy, base_policy, first_equal, first_of, ingress, ingresses_from, ingresses_of, net_name, net_policies_of, net_policy, placed, rank_of, ranks_of}
 use Rattle.np_reading.specs.Reading.{estate_of}
-use Rattle.np_model.specs.declared.lists.EstateLists.{EstateLists}
-use Rattle.np_model.specs.declared.placed_ingress.PlacedIngress.{PlacedIngress}
-use Rattle.np_reading.specs.declared.priorities.Rank.{Rank}
+use Rattle.np_reading.specs.Types.{AdminPolicy, BasePolicy, EstateLists, IngressItem, Item, NetPolicy, ObjectName, PlacedIngress, Rank}
 use Rattle.np_items.specs.Items.{items_of}
-use Rattle.np_items.specs.declared.item.Item.{Item}
 use Rattle.np_items.specs.declared.item.Item.TheVariants as item
-use Rattle.np_model.specs.declared.ingress.IngressItem.{IngressItem}
 use Rattle.np_owners.specs.Names.{name_of, named, first_repeat}
-use Rattle.np_owners.specs.declared.object_name.ObjectName.{ObjectName}
-use Rattle.np_model.specs.declared.admin_policy.AdminPolicy.{AdminPolicy}
-use Rattle.np_model.specs.declared.admin_policy.BasePolicy.{BasePolicy}
-use Rattle.np_model.specs.declared.network_policy.NetPolicy.{NetPolicy}
 use Rattle.np_policies.specs.declared.policy.Policy.TheVariants as policy
 
 -- names that are apart are not the same

@@ -4,11 +4,9 @@ use Rattle.std.specs.Prelude.{⊤}
 use Rattle.np_reading.specs.Listed.{equal_priority, first_equal, have_priorities_apart, ranks_of}
 use Rattle.np_reading.specs.Reading.{estate_of, have_names_apart, have_no_cycle, estate_of_items}
 use Rattle.np_reading.specs.Readings.{Reading, refuse_found}
-use Rattle.np_reading.specs.declared.refusal.Refusal.{Refusal}
-use Rattle.np_model.specs.declared.lists.EstateLists.{EstateLists}
+use Rattle.np_reading.specs.Types.{EstateLists, Item, Refusal}
 use Rattle.np_items.specs.Items.{items_of}
 use Rattle.np_json.specs.Shapes.{◌>>◌}
-use Rattle.np_items.specs.declared.item.Item.{Item}
 use Rattle.np_owners.specs.Names.{first_repeat}
 
 none_found : {A : Type 0} (refusal : A → Refusal) (found : Option A) → refuse_found refusal found ≡ Ok tt → found ≡ None

@@ -7,11 +7,9 @@ use Rattle.std.proofs.lemmas.Option.{slice_get-map}
 use Rattle.np_chains.proofs.Walks.{chain_none}
 use Rattle.np_chains.specs.Chains.{last_of, top, up}
 use Rattle.np_reading.specs.TopOwners.{named_or_itself}
-use Rattle.np_items.specs.declared.item.Item.{Item}
+use Rattle.np_reading.specs.Types.{Item, OwnerRef, PodItem}
 use Rattle.np_items.specs.declared.item.Item.TheVariants as item
 use Rattle.np_objects.specs.declared.object.Object.TheVariants as object
-use Rattle.np_objects.specs.declared.owner_ref.OwnerRef.{OwnerRef}
-use Rattle.np_objects.specs.declared.pod_item.PodItem.{PodItem}
 use Rattle.np_owners.specs.Names.{named}
 use Rattle.np_owners.specs.Owners.{by_reference, by_name, last_owner, owner_place, top_owner, ups}
 

@@ -3,9 +3,7 @@ use Rattle.std.specs.Prelude.{◌≡◌, ◌-◌, List, Some, map, option_to_lis
 use Rattle.std.specs.List.{filter_map, slice_get}
 use Rattle.std.specs.Option.{option_and_then}
 use Rattle.np_reading.specs.Listed.{admin_policy, base_policy, ingress, net_policy, service}
-use Rattle.np_model.specs.declared.lists.EstateLists.{EstateLists}
-use Rattle.np_model.specs.declared.placed_ingress.PlacedIngress.{PlacedIngress}
-use Rattle.np_items.specs.declared.item.Item.{Item}
+use Rattle.np_reading.specs.Types.{EstateLists, Item, PlacedIngress}
 
 -- an ingress is that of the item whose number, from 1, it has
 abbrev pub IsOfItsItem : List Item → PlacedIngress → Type 0

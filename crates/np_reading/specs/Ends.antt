@@ -2,20 +2,12 @@
 use Rattle.std.specs.Prelude.{ℕ, ◌+◌, List, [], ◌∷◌, ◌++◌, Bool, true, false, ◌&&◌, ◌||◌, not, if◌then◌else◌, Option, Some, None, option_to_list}
 use Rattle.std.specs.Option.{option_and_then, option_map, option_map_or}
 use Rattle.np_reading.specs.Namespaces.{namespace_labels}
-use Rattle.np_model.specs.declared.pod.Pod.{Pod}
-use Rattle.np_reading.specs.declared.context.PodContext.{PodContext}
-use Rattle.np_items.specs.declared.item.Item.{Item}
+use Rattle.np_reading.specs.Types.{ControllerItem, Item, Object, Owner, Pair, Pod, PodContext, PodItem, Template}
 use Rattle.np_items.specs.declared.item.Item.TheVariants as item
-use Rattle.np_labels.specs.declared.pair.Pair.{Pair}
-use Rattle.np_objects.specs.declared.controller.ControllerItem.{ControllerItem}
-use Rattle.np_objects.specs.declared.controller.Template.{Template}
-use Rattle.np_objects.specs.declared.object.Object.{Object}
 use Rattle.np_objects.specs.declared.object.Object.TheVariants as object
-use Rattle.np_objects.specs.declared.pod_item.PodItem.{PodItem}
 use Rattle.np_owners.specs.MadePods.{makes_pod}
 use Rattle.np_owners.specs.Names.{name_of}
 use Rattle.np_owners.specs.Owners.{top_owner}
-use Rattle.np_model.specs.declared.owner.Owner.{Owner}
 
 -- ---- which items give a pod
 

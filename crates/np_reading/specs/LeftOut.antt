@@ -3,17 +3,11 @@ use Rattle.std.specs.Prelude.{ℕ, List, length, ◌==◌, Bool, true, false, �
 use Rattle.std.specs.List.{count_by, list_any, range_with_len, slice_get}
 use Rattle.std.specs.Option.{option_and_then, option_map_or}
 use Rattle.np_reading.specs.Ends.{is_on_host}
-use Rattle.np_reading.specs.declared.left_out.LeftOut.{LeftOut}
-use Rattle.np_reading.specs.declared.left_out.LeftOut.TheVariants.{Host, Finished, Skipped}
-use Rattle.np_model.specs.declared.pod.Pod.{Pod}
-use Rattle.np_items.specs.declared.item.Item.{Item}
+use Rattle.np_reading.specs.Types.{AdminPolicy, BasePolicy, Finished, Host, Item, LeftOut, Pod, PodItem, Skipped}
 use Rattle.np_items.specs.declared.item.Item.TheVariants as item
 use Rattle.np_objects.specs.declared.object.Object.TheVariants as object
-use Rattle.np_objects.specs.declared.pod_item.PodItem.{PodItem}
 use Rattle.np_owners.specs.MadePods.{makes_pod}
-use Rattle.np_model.specs.declared.admin_policy.AdminPolicy.{AdminPolicy}
 use Rattle.np_model.specs.declared.admin_policy.AdminRule.{AdminRule}
-use Rattle.np_model.specs.declared.admin_policy.BasePolicy.{BasePolicy}
 use Rattle.np_model.specs.Families.{is_networks}
 
 abbrev pub if_counts : Bool → LeftOut → Option LeftOut

@@ -7,4 +7,5 @@ pub mod Reading
 pub mod Readings
 pub mod Refusals
 pub mod TopOwners
+pub mod Types
 pub mod steps

@@ -7,20 +7,10 @@ use Rattle.std.specs.Option.{option_map_or}
 use Rattle.std.specs.Ordering.{nat_cmp, ordering_then}
 use Rattle.std.specs.declared.cmp.Ordering.{Ordering}
 use Rattle.np_reading.specs.Readings.{Reading, refuse_found}
-use Rattle.np_model.specs.declared.placed_ingress.PlacedIngress.{PlacedIngress}
-use Rattle.np_reading.specs.declared.priorities.Rank.{Rank}
-use Rattle.np_reading.specs.declared.refusal.Refusal.{Refusal}
-use Rattle.np_reading.specs.declared.refusal.Refusal.TheVariants.{EqualPriority}
-use Rattle.np_items.specs.declared.item.Item.{Item}
+use Rattle.np_reading.specs.Types.{AdminPolicy, BasePolicy, EqualPriority, IngressItem, Item, NetPolicy, ObjectName, PlacedIngress, Rank, Refusal, ServiceItem}
 use Rattle.np_items.specs.declared.item.Item.TheVariants as item
-use Rattle.np_model.specs.declared.ingress.IngressItem.{IngressItem}
 use Rattle.np_objects.specs.declared.object.Object.TheVariants as object
-use Rattle.np_model.specs.declared.service.ServiceItem.{ServiceItem}
 use Rattle.np_owners.specs.Names.{compare_names}
-use Rattle.np_owners.specs.declared.object_name.ObjectName.{ObjectName}
-use Rattle.np_model.specs.declared.admin_policy.AdminPolicy.{AdminPolicy}
-use Rattle.np_model.specs.declared.admin_policy.BasePolicy.{BasePolicy}
-use Rattle.np_model.specs.declared.network_policy.NetPolicy.{NetPolicy}
 use Rattle.np_policies.specs.declared.policy.Policy.TheVariants as policy
 
 -- ---- what an item is

@@ -5,14 +5,9 @@ use Rattle.np_reading.specs.LeftOut.{count_left_out, unaddressed}
 use Rattle.np_reading.specs.Listed.{admin_policies_of, baseline_of, have_priorities_apart, ingresses_of, net_policies_of, services_of}
 use Rattle.np_reading.specs.Readings.{Reading, refuse_found}
 use Rattle.np_reading.specs.Refusals.{items_refusal}
-use Rattle.np_reading.specs.declared.left_out.LeftOut.TheVariants.{Host, Finished, Skipped}
-use Rattle.np_model.specs.declared.lists.EstateLists.{EstateLists}
-use Rattle.np_model.specs.declared.notes.Notes.{Notes}
-use Rattle.np_reading.specs.declared.refusal.Refusal.TheVariants.{Duplicate, OwnerCycle}
+use Rattle.np_reading.specs.Types.{Duplicate, EstateLists, Finished, Host, Item, ItemsFault, Notes, OwnerCycle, Skipped}
 use Rattle.np_items.specs.Items.{items_of}
 use Rattle.np_json.specs.Shapes.{◌>>=◌, ◌>>◌}
-use Rattle.np_items.specs.declared.fault.ItemsFault.{ItemsFault}
-use Rattle.np_items.specs.declared.item.Item.{Item}
 use Rattle.np_owners.specs.Names.{first_repeat}
 use Rattle.np_owners.specs.Owners.{first_in_cycle}
 

@@ -1,8 +1,7 @@
 -- Readings: what inputs are read as, or the refusal that stands first: first by the lines of `estate_of`. It is never
 -- `NoMemory`.
 use Rattle.std.specs.Prelude.{◌≡◌, Option, Some, None, Result, Ok, Err, ⊤}
-use Rattle.np_reading.specs.declared.refusal.Refusal.{Refusal}
-use Rattle.np_reading.specs.declared.refusal.Refusal.TheVariants.{NoMemory}
+use Rattle.np_reading.specs.Types.{NoMemory, Refusal}
 
 abbrev pub Reading : Type 0 → Type 0
 Reading A = Result A Refusal

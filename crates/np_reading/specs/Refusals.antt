@@ -1,8 +1,6 @@
 -- Refusals, and their texts.
 use Rattle.std.specs.Prelude.{ℕ, List, ◌++◌, codes, decimal}
-use Rattle.np_reading.specs.declared.refusal.Refusal.{Refusal}
-use Rattle.np_reading.specs.declared.refusal.Refusal.TheVariants.{NotJson, NotAList, TooManyItems, NestedList, Bad, Duplicate, EqualPriority, OwnerCycle, NoMemory}
-use Rattle.np_items.specs.declared.fault.ItemsFault.{ItemsFault}
+use Rattle.np_reading.specs.Types.{Bad, Duplicate, EqualPriority, ItemsFault, NestedList, NoMemory, NotAList, NotJson, OwnerCycle, Refusal, TooManyItems}
 use Rattle.np_items.specs.declared.fault.ItemsFault.TheVariants as items
 use Rattle.np_json.specs.Faults.{fault_text}
 use Rattle.np_owners.specs.declared.fault.ChainsFault.{ChainsFault}

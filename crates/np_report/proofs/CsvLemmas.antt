@@ -4,7 +4,7 @@ use Rattle.std.proofs.lemmas.Bool.{ne_eqb}
 use Rattle.csv.specs.Writing.{default_writer, escaped, field_text, fields_text, is_blank}
 use Rattle.csv.specs.declared.writer.WriterBuilder.{WriterBuilder}
 use Rattle.np_report.specs.Forms.{csv_header, csv_line}
-use Rattle.np_report.specs.declared.row.RowText.{RowText}
+use Rattle.np_report.specs.Types.{RowText}
 
 -- the header row
 pub header_is : codes "source,destination,connections\n" ≡ csv_header

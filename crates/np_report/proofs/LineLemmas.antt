@@ -2,7 +2,7 @@
 use Rattle.std.proofs.Common.{◌≡◌, ℕ, List, [], ◌∷◌, ◌++◌, Bool, true, false, ◌||◌, append_assoc, ap, subst, sym, ◌∙◌}
 use Rattle.std.proofs.Math.Bool.{or-false, or-true}
 use Rattle.np_report.specs.Forms.{Form, lines_of, text_to_come}
-use Rattle.np_report.specs.declared.row.RowText.{RowText}
+use Rattle.np_report.specs.Types.{RowText}
 
 -- whether there is a row
 abbrev pub is_some_row : List RowText → Bool

@@ -6,11 +6,9 @@ use Rattle.std.specs.List.{flat_map}
 use Rattle.np_addr.specs.Addresses.{width_of}
 use Rattle.np_addr.specs.Blocks.{AddressRanges}
 use Rattle.np_addr.specs.Prefixes.{blocks_in, is_inside, prefixes_of, range_prefixes}
-use Rattle.np_addr.specs.declared.address.Family.{Family}
-use Rattle.np_addr.specs.declared.address.Family.TheVariants.{Four, Six}
+use Rattle.np_report.specs.Types.{Family, Four, Range, Six}
 use Rattle.np_base.proofs.Ranges.{is_within-inside}
 use Rattle.np_base.specs.Ranges.{IsAscending, holds}
-use Rattle.np_base.specs.declared.range.Range.{Range}
 
 -- ranges that hold no number are none
 pub none_held : {P : Type 0} (number_of : P → ℕ) (from last : ℕ) (ranges : List (Range P)) → IsAscending number_of from last ranges → ((p : P) → holds number_of ranges (number_of p) ≡ false) →

@@ -1,26 +1,18 @@
 -- Tables that say the same have the same rows.
 use Rattle.std.proofs.Common.{◌≡◌, ℕ, zero, suc, ◌+◌, ◌-◌, ◌^◌, ◌<◌, ◌≤◌, List, [], ◌∷◌, ◌++◌, true, None, length, map, refl, ap, ◌∙◌, arith}
 use Rattle.std.specs.List.{flat_map, range_with_len}
-use Rattle.np_addr.specs.declared.address.Family.{Family}
-use Rattle.np_addr.specs.declared.address.Family.TheVariants.{Four, Six}
+use Rattle.np_report.specs.Types.{Direction, Family, Format, Four, Query, Report, Row, RowKey, Six}
 use Rattle.np_model.proofs.FamilyLemmas.{same_family-itself}
 use Rattle.np_conns.specs.Conns.{Conns}
-use Rattle.np_model.specs.declared.direction.Direction.{Direction}
 use Rattle.np_model.specs.declared.direction.Direction.TheVariants.{Egress, Ingress}
 use Rattle.np_report.specs.TableText.{AreSameTables, SayTheSame, is_shown, list_text, shown, texts_of}
 use Rattle.np_report.specs.Forms.{report_text}
-use Rattle.np_report.specs.declared.query.Query.{Query}
 use Rattle.np_routes.specs.ClusterTable.{ClusterTable, all_ingress_rows, cluster_rows, ingress_key, ingress_row}
 use Rattle.np_table.proofs.RangeOneList.{walk-agrees}
 use Rattle.np_table.proofs.RangeSets.{conns_of-agrees}
 use Rattle.np_table.specs.Right.{Stretch, conns_of, walk}
-use Rattle.np_table.specs.Rows.{address_row, address_rows, all_address_rows, all_pair_rows, all_rows, four_of, pair_key, pair_rows, row_if, row_of, rows_in, rows_of_both, rows_towards, six_of}
-use Rattle.np_table.specs.Rows.{workloads}
+use Rattle.np_table.specs.Rows.{address_row, address_rows, all_address_rows, all_pair_rows, all_rows, four_of, pair_key, pair_rows, row_if, row_of, rows_in, rows_of_both, rows_towards, six_of, workloads}
 use Rattle.np_table.specs.Table.{Table}
-use Rattle.np_table.specs.declared.rows.Row.{Row}
-use Rattle.np_table.specs.declared.rows.RowKey.{RowKey}
-use Rattle.np_args.specs.declared.format.Format.{Format}
-use Rattle.np_args.specs.declared.report.Report.{Report}
 
 -- lists that are joined for each number of a range are those of another function that agrees there
 flat_map-agrees : {Y : Type 0} (f g : ℕ → List Y) (from count : ℕ) → ((n : ℕ) → from ≤ n → n < from + count → f n ≡ g n) →

@@ -4,9 +4,7 @@ use Rattle.np_report.specs.Forms.{Form}
 use Rattle.np_report.specs.Keeps.{keeps}
 use Rattle.np_report.specs.RowText.{row_text}
 use Rattle.np_report.specs.TableText.{rows_to_come}
-use Rattle.np_report.specs.declared.query.Query.{Query}
-use Rattle.np_table.specs.declared.rows.Row.{Row}
-use Rattle.np_args.specs.declared.report.Report.{Report}
+use Rattle.np_report.specs.Types.{Query, Report, Row}
 
 module _ (form : Form) (names : List (List ℕ)) (query : Query) (report : Report) (came : Bool) where
   -- behind the last row it is the end

@@ -1,8 +1,7 @@
 -- The forms of a report: its bytes, for the texts of its rows.
 use Rattle.std.specs.Prelude.{ℕ, List, [], ◌∷◌, ◌++◌, Bool, true, false, codes, if◌then◌else◌}
 use Rattle.csv.specs.Writing.{default_writer, row_text as csv_row}
-use Rattle.np_report.specs.declared.row.RowText.{RowText}
-use Rattle.np_args.specs.declared.format.Format.{Format}
+use Rattle.np_report.specs.Types.{Format, RowText}
 use Rattle.np_args.specs.declared.format.Format.TheVariants.{Plain, Csv, Json}
 use Rattle.serde_json.specs.Data.{Data, string, object, member, no_members}
 use Rattle.serde_json.specs.Written.{compact_text}

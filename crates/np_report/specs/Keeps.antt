@@ -1,9 +1,8 @@
 -- Which rows a query asks for.
 use Rattle.std.specs.Prelude.{ℕ, Bool, true, ◌||◌}
-use Rattle.np_report.specs.declared.query.Query.{Query}
+use Rattle.np_report.specs.Types.{Query, RowKey}
 use Rattle.np_report.specs.declared.query.Query.TheVariants as query
 pub use Rattle.np_table.specs.Said.{is_workload}
-use Rattle.np_table.specs.declared.rows.RowKey.{RowKey}
 use Rattle.np_args.specs.declared.focus_side.FocusSide.{FocusSide}
 use Rattle.np_args.specs.declared.focus_side.FocusSide.TheVariants.{Destination, Either, Source}
 

@@ -4,3 +4,4 @@ pub mod Keeps
 pub mod RowText
 pub mod TableText
 pub mod Tallied
+pub mod Types

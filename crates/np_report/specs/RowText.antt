@@ -3,21 +3,14 @@ use Rattle.std.specs.Prelude.{ℕ, List, [], ◌++◌, ◌==◌, codes, map, sli
 use Rattle.std.specs.List.{join_by}
 use Rattle.np_addr.specs.AddressText.{address_text, cidr_text}
 use Rattle.np_addr.specs.Prefixes.{range_prefixes}
-use Rattle.np_addr.specs.declared.address.Family.{Family}
-use Rattle.np_addr.specs.declared.address.Family.TheVariants.{Four, Six}
+use Rattle.np_report.specs.Types.{Controller, Family, Four, Range, Report, Row, RowEnd, RowText, Six, Span, Work}
 use Rattle.np_addr.specs.declared.cidr.Cidr.{Cidr}
-use Rattle.np_base.specs.declared.range.Range.{Range}
 use Rattle.np_conns.specs.Conns.{has_spot}
 use Rattle.np_conns.specs.ConnsText.{conns_text}
 use Rattle.np_fold.specs.Workloads.{Folding}
-use Rattle.np_report.specs.declared.row.RowText.{RowText}
 use Rattle.np_kinds.specs.Between.{address_of}
 use Rattle.np_table.specs.declared.rows.AddressSpan.{AddressSpan}
 use Rattle.np_table.specs.declared.rows.AddressSpan.TheVariants as span
-use Rattle.np_table.specs.declared.rows.Row.{Row}
-use Rattle.np_table.specs.declared.rows.RowEnd.{RowEnd}
-use Rattle.np_table.specs.declared.rows.RowEnd.TheVariants.{Work, Span, Controller}
-use Rattle.np_args.specs.declared.report.Report.{Report}
 use Rattle.np_args.specs.declared.report.Report.TheVariants.{One, Two}
 
 -- ---- ranges of addresses

@@ -1,20 +1,14 @@
 -- The text of a table.
 use Rattle.std.specs.Prelude.{◌≡◌, ℕ, ◌<◌, ◌^◌, List, [], ◌∷◌, Bool, true, filter, length, map}
 use Rattle.np_addr.specs.Addresses.{width_of}
-use Rattle.np_addr.specs.declared.address.Family.{Family}
+use Rattle.np_report.specs.Types.{Direction, Family, Format, Query, Report, Row, RowText}
 use Rattle.np_model.specs.Families.{same_family}
-use Rattle.np_model.specs.declared.direction.Direction.{Direction}
 use Rattle.np_report.specs.Forms.{Form, report_text, text_to_come}
 use Rattle.np_report.specs.Keeps.{keeps}
 use Rattle.np_report.specs.RowText.{row_text}
-use Rattle.np_report.specs.declared.query.Query.{Query}
-use Rattle.np_report.specs.declared.row.RowText.{RowText}
 use Rattle.np_routes.specs.ClusterTable.{ClusterTable, cluster_rows}
 use Rattle.np_table.specs.Said.{AllowSamePorts}
 use Rattle.np_table.specs.Table.{Table}
-use Rattle.np_table.specs.declared.rows.Row.{Row}
-use Rattle.np_args.specs.declared.format.Format.{Format}
-use Rattle.np_args.specs.declared.report.Report.{Report}
 
 -- ---- the text
 

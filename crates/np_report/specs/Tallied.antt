@@ -1,8 +1,6 @@
 -- Rows that are counted by their ends.
 use Rattle.std.specs.Prelude.{ℕ, ◌+◌}
-use Rattle.np_table.specs.declared.rows.RowEnd.{RowEnd}
-use Rattle.np_table.specs.declared.rows.RowEnd.TheVariants.{Controller, Span, Work}
-use Rattle.np_table.specs.declared.rows.RowKey.{RowKey}
+use Rattle.np_report.specs.Types.{Controller, RowEnd, RowKey, Span, Work}
 
 -- how many rows of pairs of workloads, of addresses and of the controller of Ingresses there are
 pub record Counts : Type 0 where

@@ -9,16 +9,12 @@ use Rattle.std.specs.List.{list_any, slice_get}
 use Rattle.std.specs.Option.{option_map}
 use Rattle.std.proofs.Math.Bool.{and-false}
 use Rattle.np_conns.specs.Conns.{same_proto}
-use Rattle.np_conns.specs.declared.proto.Proto.TheVariants.{Tcp}
-use Rattle.np_model.specs.declared.service.PortName.{PortName}
-use Rattle.np_model.specs.declared.service.ServiceItem.{ServiceItem}
+use Rattle.np_routes.specs.Types.{AskedService, PortName, PortSet, ServiceItem, Tcp}
 use Rattle.np_routes.proofs.AnyLemmas.{and-or, list_any-none, list_any-or, list_any-set}
 use Rattle.np_routes.proofs.PortSetLemmas.{own-added, own-none}
 use Rattle.np_routes.proofs.TargetLemmas.{through-served, through-unserved}
 use Rattle.np_routes.specs.Routes.{leads_to, routes_through}
 use Rattle.np_routes.specs.Services.{is_backend_port, is_named_by, is_target, serves}
-use Rattle.np_routes.specs.declared.asked_services.AskedService.{AskedService}
-use Rattle.np_routes.specs.declared.port_set.PortSet.{PortSet}
 use Rattle.np_routes.specs.steps.AskedServices.{asked_leads, asked_port_leads, services_of}
 use Rattle.np_routes.specs.steps.PortSets.{has_own, has_port, is_same_port}
 use Rattle.np_rules.specs.model.Ends.{PodEnd}

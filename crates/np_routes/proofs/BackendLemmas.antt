@@ -6,11 +6,8 @@ use Rattle.std.specs.List.{list_any}
 use Rattle.std.specs.Str.{bytes_eq}
 use Rattle.std.proofs.lemmas.Bool.{and_parts}
 use Rattle.std.proofs.lemmas.Option.{none-some}
-use Rattle.np_model.specs.declared.lists.EstateLists.{EstateLists}
-use Rattle.np_model.specs.declared.placed_ingress.PlacedIngress.{PlacedIngress}
-use Rattle.np_model.specs.declared.ingress.Backend.{Backend}
+use Rattle.np_routes.specs.Types.{Backend, EstateLists, PlacedIngress, ServiceItem}
 use Rattle.np_model.specs.declared.ingress.Backend.TheVariants as backend
-use Rattle.np_model.specs.declared.service.ServiceItem.{ServiceItem}
 use Rattle.np_routes.proofs.AnyLemmas.{list_any-none, list_any-same}
 use Rattle.np_routes.proofs.RouteLemmas.{backend_leads, by_backends, by_ingresses, ingress_leads, list_any-flat_map}
 use Rattle.np_routes.proofs.TargetLemmas.{serves-outside, through-unserved}

@@ -1,22 +1,17 @@
 -- The rows of a cluster, and what they say.
-use Rattle.std.proofs.Common.{◌≡◌, ◌≢◌, ◌<◌, ◌≤◌, ℕ, List, [], ◌∷◌, ◌++◌, Bool, true, false, ◌&&◌, Option, None, flat_map, length, append-nil, eq-eqb, arith, refl, sym, ap, subst, ◌∙◌}
-use Rattle.std.proofs.Common.{if◌then◌else◌}
+use Rattle.std.proofs.Common.{◌≡◌, ◌≢◌, ◌<◌, ◌≤◌, ℕ, List, [], ◌∷◌, ◌++◌, Bool, true, false, ◌&&◌, Option, None, flat_map, length, append-nil, eq-eqb, arith, refl, sym, ap, subst, ◌∙◌, if◌then◌else◌}
 use Rattle.std.specs.Prelude.{filter}
 use Rattle.std.proofs.lemmas.Bool.{and_parts, eqb-true, false≢true, ne_eqb}
 use Rattle.std.proofs.lemmas.List.{length-map}
 use Rattle.std.proofs.lemmas.List.Elements.{All-weaker, filter-append, filter_passes}
 use Rattle.std.proofs.Math.Bool.{or-false}
-use Rattle.np_addr.specs.declared.address.Family.{Family}
+use Rattle.np_routes.specs.Types.{Controller, Egress, EstateLists, Family, Ingress, PortSpot, Row, RowEnd, RowKey, Sctp, Span, Tcp, Udp, Work}
 use Rattle.np_base.specs.Ranges.{holds}
 use Rattle.np_base.specs.declared.range.Range.{Range}
 use Rattle.np_conns.specs.Conns.{Conns, has_spot, is_spot, ranges_of}
-use Rattle.np_conns.specs.declared.port_spot.PortSpot.{PortSpot}
-use Rattle.np_conns.specs.declared.proto.Proto.TheVariants.{Tcp, Udp, Sctp}
 use Rattle.np_model.specs.Lawful.{IsLawful}
-use Rattle.np_model.specs.declared.lists.EstateLists.{EstateLists}
 use Rattle.np_fold.specs.Workloads.{Folding, Workload, folding_of, number_of}
 use Rattle.np_model.specs.declared.direction.Direction.{Direction}
-use Rattle.np_model.specs.declared.direction.Direction.TheVariants.{Ingress, Egress}
 use Rattle.np_routes.proofs.ReachedLemmas.{number-workload, reaches-allows}
 use Rattle.np_routes.specs.ClusterTable.{ClusterTable, all_ingress_rows, cluster_rows, cluster_table, ingress_key, ingress_row, is_from_controller, is_ingress_controller, rows_from_controller}
 use Rattle.np_routes.specs.Controllers.{ingress_allows, ingress_reaches, is_controller, sender_of}
@@ -27,10 +22,6 @@ use Rattle.np_table.specs.Rows.{address_rows, all_address_rows, all_pair_rows, a
 use Rattle.np_table.specs.Said.{allows_in, is_between, is_of_address, is_workload, rows_between, rows_of_address}
 use Rattle.np_kinds.specs.Between.{IsWorkload, number_of_workloads}
 use Rattle.np_table.specs.Table.{Table, table_of, estate_table}
-use Rattle.np_table.specs.declared.rows.Row.{Row}
-use Rattle.np_table.specs.declared.rows.RowEnd.{RowEnd}
-use Rattle.np_table.specs.declared.rows.RowEnd.TheVariants.{Controller, Span, Work}
-use Rattle.np_table.specs.declared.rows.RowKey.{RowKey}
 
 -- ---- a row from the controller
 

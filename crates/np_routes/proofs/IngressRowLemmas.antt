@@ -5,10 +5,8 @@ use Rattle.std.specs.List.{range_with_len}
 use Rattle.std.specs.Option.{option_to_list}
 use Rattle.std.proofs.lemmas.Bool.{false_from_ne_true, true≢false}
 use Rattle.np_conns.specs.Conns.{Conns, IsConns, has_spot}
-use Rattle.np_conns.specs.declared.port_spot.PortSpot.{PortSpot}
-use Rattle.np_model.specs.declared.lists.EstateLists.{EstateLists}
+use Rattle.np_routes.specs.Types.{Egress, EstateLists, Ingress, PortSpot, Row, RowKey}
 use Rattle.np_fold.specs.Workloads.{folding_of}
-use Rattle.np_model.specs.declared.direction.Direction.TheVariants.{Egress, Ingress}
 use Rattle.np_routes.proofs.ClusterLemmas.{cluster-names, has_spot-nothing}
 use Rattle.np_routes.specs.ClusterTable.{ClusterTable, all_ingress_rows, cluster_rows, cluster_table, ingress_key, ingress_row}
 use Rattle.np_routes.specs.Controllers.{ingress_allows, ingress_steps}
@@ -20,8 +18,6 @@ use Rattle.np_table.specs.Rows.{all_rows, is_nothing, row_if}
 use Rattle.np_kinds.specs.Between.{IsWorkload, number_of_workloads}
 use Rattle.np_table.specs.Table.{estate_table}
 use Rattle.np_table.specs.ToCome.{most_rules}
-use Rattle.np_table.specs.declared.rows.Row.{Row}
-use Rattle.np_table.specs.declared.rows.RowKey.{RowKey}
 
 -- ---- the rows from a workload on
 

@@ -11,13 +11,9 @@ use Rattle.std.proofs.lemmas.Map.Text.{is_eq-slice_cmp}
 use Rattle.std.proofs.Math.Bool.{or-false}
 use Rattle.np_base.proofs.Bools.{or-last, or-leftwards, eq-swap}
 use Rattle.np_conns.specs.Conns.{same_proto}
-use Rattle.np_conns.specs.declared.proto.Proto.TheVariants.{Tcp}
-use Rattle.np_model.specs.declared.service.PortName.{PortName}
-use Rattle.np_model.specs.declared.service.PortName.TheVariants.{Number, Named}
-use Rattle.np_model.specs.declared.service.ServicePort.{ServicePort}
+use Rattle.np_routes.specs.Types.{Named, Number, PortName, PortSet, ServicePort, Tcp}
 use Rattle.np_routes.proofs.AnyLemmas.{bytes-swap, list_any-none, list_any-or, list_any-same, or-swap}
 use Rattle.np_routes.specs.Services.{is_named_by, is_pod_port}
-use Rattle.np_routes.specs.declared.port_set.PortSet.{PortSet}
 use Rattle.np_routes.specs.steps.PortSets.{at_pod, has_own, has_port, has_text, held_at, is_named_in, is_same_port}
 use Rattle.np_rules.specs.model.Ends.{PodEnd}
 

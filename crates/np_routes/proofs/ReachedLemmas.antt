@@ -1,27 +1,20 @@
 -- The ports of a workload that are reached, and the rules that are looked at for them.
-use Rattle.std.proofs.Common.{◌≡◌, ◌<◌, ◌≤◌, ◌+◌, ◌*◌, ℕ, List, [], ◌∷◌, ◌++◌, Bool, true, false, ◌&&◌, ◌||◌, Contains, Option, Some, None, eqb, length, get_or, take, arith, refl, sym, ap, subst, ◌∙◌}
-use Rattle.std.proofs.Common.{if◌then◌else◌}
+use Rattle.std.proofs.Common.{◌≡◌, ◌<◌, ◌≤◌, ◌+◌, ◌*◌, ℕ, List, [], ◌∷◌, ◌++◌, Bool, true, false, ◌&&◌, ◌||◌, Contains, Option, Some, None, eqb, length, get_or, take, arith, refl, sym, ap, subst, ◌∙◌, if◌then◌else◌}
 use Rattle.std.specs.List.{list_any}
 use Rattle.std.specs.Option.{option_eq}
 use Rattle.std.proofs.Math.Nat.{mul-le-mul_right}
 use Rattle.std.proofs.lemmas.List.{get_or_default}
 use Rattle.std.proofs.lemmas.List.Folds.{list_any-append, list_any_more}
 use Rattle.std.proofs.Math.Bool.{or-false}
-use Rattle.np_addr.specs.declared.address.Family.{Family}
-use Rattle.np_addr.specs.declared.address.Family.TheVariants.{Four, Six}
+use Rattle.np_routes.specs.Types.{Egress, EstateLists, Family, Four, Ingress, Pod, PortSpot, Sender, Six}
 use Rattle.np_conns.specs.Conns.{Conns, IsConns, has_spot, is_spot}
-use Rattle.np_conns.specs.declared.port_spot.PortSpot.{PortSpot}
 use Rattle.np_model.specs.Families.{families_of, has_family, or_four}
 use Rattle.np_model.specs.Lawful.{IsLawful}
-use Rattle.np_model.specs.declared.lists.EstateLists.{EstateLists}
-use Rattle.np_model.specs.declared.pod.Pod.{Pod}
 use Rattle.np_fold.proofs.WorkloadLemmas.{number-in_workloads}
 use Rattle.np_fold.specs.Workloads.{folding_of, members_of, number_of}
-use Rattle.np_model.specs.declared.direction.Direction.TheVariants.{Egress, Ingress}
 use Rattle.np_routes.proofs.KindRoutes.{one_workload-alike, reaches-same}
 use Rattle.np_routes.specs.Controllers.{ingress_allows, ingress_reaches, ingress_steps, is_controller, may_send, sender_of}
 use Rattle.np_routes.specs.Routes.{is_routed}
-use Rattle.np_routes.specs.declared.senders.Sender.{Sender}
 use Rattle.np_routes.specs.steps.Senders.{reaches, send_steps, sender_for, sends}
 use Rattle.np_rules.specs.PodSides.{side_of, side_rule_count}
 use Rattle.np_rules.specs.model.Verdict.{pod_at}

@@ -1,6 +1,5 @@
 -- Places of services that are kept by namespace and name.
-use Rattle.std.proofs.Common.{◌≡◌, ◌<◌, ◌+◌, ℕ, List, [], ◌∷◌, Bool, true, false, ◌&&◌, Option, Some, None, Bor, Less, Equal, Greater, Ordering, length, get_or, take, is_some, refl, sym, ap, ◌∙◌}
-use Rattle.std.proofs.Common.{if◌then◌else◌, cond}
+use Rattle.std.proofs.Common.{◌≡◌, ◌<◌, ◌+◌, ℕ, List, [], ◌∷◌, Bool, true, false, ◌&&◌, Option, Some, None, Bor, Less, Equal, Greater, Ordering, length, get_or, take, is_some, refl, sym, ap, ◌∙◌, if◌then◌else◌, cond}
 use Rattle.std.specs.BTreeMap.{BTreeMap, Updates}
 use Rattle.std.specs.Cmp.Lexicographic.{bytes_decides, slice_cmp}
 use Rattle.std.specs.Option.{option_or}
@@ -11,7 +10,7 @@ use Rattle.std.proofs.lemmas.List.{take_more}
 use Rattle.std.proofs.lemmas.List.Folds.{find-append}
 use Rattle.std.proofs.lemmas.Map.Text.{is_eq-slice_cmp}
 use Rattle.std.proofs.lemmas.Option.{slice_get-get_or}
-use Rattle.np_model.specs.declared.service.ServiceItem.{ServiceItem}
+use Rattle.np_routes.specs.Types.{ServiceItem}
 use Rattle.np_routes.specs.Services.{is_service, service_named}
 use Rattle.np_routes.specs.steps.ServicesByName.{IsPlaceOf, place_at}
 use Rattle.np_routes.proofs.PortSetLemmas.{lent}

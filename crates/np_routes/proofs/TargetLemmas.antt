@@ -9,21 +9,12 @@ use Rattle.std.proofs.lemmas.List.Folds.{list_any-append, list_any_more}
 use Rattle.std.proofs.Math.Bool.{or-false, and-false, or_assoc}
 use Rattle.np_base.proofs.Bools.{eq-swap}
 use Rattle.np_conns.specs.Conns.{same_proto}
-use Rattle.np_conns.specs.declared.proto.Proto.{Proto}
-use Rattle.np_conns.specs.declared.proto.Proto.TheVariants.{Tcp, Udp, Sctp}
+use Rattle.np_routes.specs.Types.{AskedService, Named, NamedPort, Number, PortName, PortSet, Proto, Sctp, ServiceItem, ServicePort, ServiceTargets, Tcp, Udp}
 use Rattle.np_labels.specs.Selectors.{meets_selector}
-use Rattle.np_model.specs.declared.named_port.NamedPort.{NamedPort}
-use Rattle.np_model.specs.declared.service.PortName.{PortName}
-use Rattle.np_model.specs.declared.service.PortName.TheVariants.{Number, Named}
-use Rattle.np_model.specs.declared.service.ServiceItem.{ServiceItem}
-use Rattle.np_model.specs.declared.service.ServicePort.{ServicePort}
 use Rattle.np_routes.proofs.PortSetLemmas.{at_pod-joined}
 use Rattle.np_routes.proofs.RouteLemmas.{through-ports}
 use Rattle.np_routes.specs.Routes.{leads_to, routes_through}
 use Rattle.np_routes.specs.Services.{is_backend_port, is_pod_port, is_target, serves}
-use Rattle.np_routes.specs.declared.asked_services.AskedService.{AskedService}
-use Rattle.np_routes.specs.declared.port_set.PortSet.{PortSet}
-use Rattle.np_routes.specs.declared.service_targets.ServiceTargets.{ServiceTargets}
 use Rattle.np_routes.specs.steps.AskedServices.{asked_leads, asked_port_leads}
 use Rattle.np_routes.specs.steps.PortSets.{at_pod, has_own, has_port, is_named_in, is_same_port}
 use Rattle.np_routes.specs.steps.TargetsByNamespace.{target_leads}

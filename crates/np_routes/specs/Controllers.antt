@@ -2,18 +2,14 @@
 use Rattle.std.specs.Prelude.{ℕ, ◌*◌, [], ◌∷◌, Bool, false, ◌&&◌, ◌==◌, not, codes, Option, Some, None, option_map}
 use Rattle.std.specs.List.{list_any}
 use Rattle.std.specs.Option.{option_map_or}
-use Rattle.np_addr.specs.declared.address.Family.TheVariants.{Four}
-use Rattle.np_conns.specs.declared.port_spot.PortSpot.{PortSpot}
+use Rattle.np_routes.specs.Types.{EstateLists, Four, Ingress, PortSpot, Stranger}
 use Rattle.np_model.specs.Families.{families_of}
-use Rattle.np_model.specs.declared.lists.EstateLists.{EstateLists}
 use Rattle.np_fold.specs.Workloads.{Folding}
-use Rattle.np_model.specs.declared.direction.Direction.TheVariants.{Ingress}
 use Rattle.np_routes.specs.Routes.{is_routed}
 use Rattle.np_rules.specs.model.Ends.{PodEnd, contact, pod, stranger_end}
 use Rattle.np_rules.specs.PodSides.{side_rule_count}
 use Rattle.np_rules.specs.model.Sides.{side_allows}
 use Rattle.np_rules.specs.model.Verdict.{pod_at}
-use Rattle.np_rules.specs.declared.stranger.Stranger.{Stranger}
 use Rattle.np_kinds.specs.Kinds.{first_side}
 use Rattle.np_table.specs.PairRules.{rules_of_pair}
 use Rattle.np_kinds.specs.Between.{between_pods, source_pod}

@@ -1,12 +1,8 @@
 -- Backends that lead nowhere, or not where they seem to.
 use Rattle.std.specs.Prelude.{ℕ, List, ◌++◌, Bool, ◌||◌, not, codes, decimal, flat_map, Option, Some, None, is_none, option_map, option_to_list, if◌then◌else◌}
 use Rattle.std.specs.List.{enumerate_from, list_any}
-use Rattle.np_model.specs.declared.lists.EstateLists.{EstateLists}
-use Rattle.np_model.specs.declared.placed_ingress.PlacedIngress.{PlacedIngress}
-use Rattle.np_model.specs.declared.ingress.Backend.{Backend}
+use Rattle.np_routes.specs.Types.{Backend, EstateLists, PlacedIngress, PortName, ServiceItem}
 use Rattle.np_model.specs.declared.ingress.Backend.TheVariants as backend
-use Rattle.np_model.specs.declared.service.PortName.{PortName}
-use Rattle.np_model.specs.declared.service.ServiceItem.{ServiceItem}
 use Rattle.np_routes.specs.Services.{is_backend_port, service_named}
 use Rattle.np_routes.specs.declared.route_note.RouteFlaw.{RouteFlaw}
 use Rattle.np_routes.specs.declared.route_note.RouteFlaw.TheVariants.{NoService, NoSelector, NoPort, Headless, Resource}

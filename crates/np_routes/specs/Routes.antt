@@ -3,16 +3,9 @@ use Rattle.std.specs.Prelude.{ℕ, ◌≡◌, List, [], Bool, true, ◌&&◌, ma
 use Rattle.std.specs.List.{list_any}
 use Rattle.std.specs.Str.{bytes_eq}
 use Rattle.np_conns.specs.Conns.{same_proto}
-use Rattle.np_conns.specs.declared.port_spot.PortSpot.{PortSpot}
-use Rattle.np_conns.specs.declared.proto.Proto.TheVariants.{Tcp}
-use Rattle.np_model.specs.declared.lists.EstateLists.{EstateLists}
-use Rattle.np_model.specs.declared.placed_ingress.PlacedIngress.{PlacedIngress}
-use Rattle.np_model.specs.declared.ingress.Backend.{Backend}
+use Rattle.np_routes.specs.Types.{Backend, EstateLists, PlacedIngress, PortName, PortSpot, ServiceItem, ServicePort, Tcp}
 use Rattle.np_model.specs.declared.ingress.Backend.TheVariants as backend
 use Rattle.np_model.specs.declared.ingress.IngressItem.{IngressItem}
-use Rattle.np_model.specs.declared.service.PortName.{PortName}
-use Rattle.np_model.specs.declared.service.ServiceItem.{ServiceItem}
-use Rattle.np_model.specs.declared.service.ServicePort.{ServicePort}
 use Rattle.np_routes.specs.Services.{is_backend_port, is_target, service_named, serves}
 use Rattle.np_rules.specs.model.Ends.{PodEnd}
 

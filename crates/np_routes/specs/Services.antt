@@ -3,12 +3,8 @@ use Rattle.std.specs.Prelude.{ℕ, List, Bool, false, ◌&&◌, ◌==◌, not, f
 use Rattle.std.specs.Option.{option_map_or}
 use Rattle.std.specs.Str.{bytes_eq}
 use Rattle.np_conns.specs.Conns.{same_proto}
-use Rattle.np_conns.specs.declared.proto.Proto.TheVariants.{Tcp}
+use Rattle.np_routes.specs.Types.{Named, Number, PortName, ServiceItem, ServicePort, Tcp}
 use Rattle.np_labels.specs.Selectors.{meets_selector}
-use Rattle.np_model.specs.declared.service.PortName.{PortName}
-use Rattle.np_model.specs.declared.service.PortName.TheVariants.{Number, Named}
-use Rattle.np_model.specs.declared.service.ServiceItem.{ServiceItem}
-use Rattle.np_model.specs.declared.service.ServicePort.{ServicePort}
 use Rattle.np_rules.specs.model.Ends.{PodEnd, pod}
 use Rattle.np_rules.specs.model.PortEntries.{has_named}
 

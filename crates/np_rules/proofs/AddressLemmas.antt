@@ -5,24 +5,15 @@ use Rattle.std.proofs.lemmas.Bool.Decides.{nat_tests}
 use Rattle.std.proofs.lemmas.Bool.{and_left, and_parts}
 use Rattle.np_addr.specs.Addresses.{IsAddress}
 use Rattle.np_addr.specs.Blocks.{AddressRanges, set_has}
-use Rattle.np_addr.specs.declared.address.Address.{Address}
-use Rattle.np_addr.specs.declared.address.Address.TheVariants.{Four, Six}
+use Rattle.np_rules.specs.Types.{Address, AdminRule, At, Direction, First, NetPeer, NetRule, Piece, PortSpot, Second, Six, Which}
+use Rattle.np_addr.specs.declared.address.Address.TheVariants.{Four}
 use Rattle.np_addr.proofs.BlockLemmas.{ranges_have}
 use Rattle.np_base.specs.Beside.{by_side}
 use Rattle.np_base.specs.Ranges.{holds}
-use Rattle.np_base.specs.declared.beside.Which.{Which}
-use Rattle.np_base.specs.declared.beside.Which.TheVariants.{First, Second}
 use Rattle.np_base.proofs.Lists.{list_any-agrees}
 use Rattle.np_conns.specs.Conns.{Conns, has_spot, is_spot}
-use Rattle.np_conns.specs.declared.port_spot.PortSpot.{PortSpot}
 use Rattle.np_pieces.specs.Pieces as pieces
-use Rattle.np_pieces.specs.declared.piece.At.{At}
-use Rattle.np_pieces.specs.declared.piece.Piece.{Piece}
-use Rattle.np_model.specs.declared.admin_policy.AdminRule.{AdminRule}
-use Rattle.np_model.specs.declared.direction.Direction.{Direction}
-use Rattle.np_model.specs.declared.network_policy.NetPeer.{NetPeer}
 use Rattle.np_model.specs.declared.network_policy.NetPeer.TheVariants as net
-use Rattle.np_model.specs.declared.network_policy.NetRule.{NetRule}
 use Rattle.np_rules.specs.model.Ends.{End, address, destination_of}
 use Rattle.np_rules.specs.EveryAddress.{AddressSpot, address_contact, address_of, admin_peer_has, has_place, is_place, net_peer_has, spot_of}
 use Rattle.np_rules.specs.model.Peers.{net_peer_matches}

@@ -1,6 +1,5 @@
 -- The first matching rule in the order of the policies is the one that decides.
-use Rattle.std.proofs.Common.{◌≡◌, ℕ, ◌+◌, ◌<◌, ◌≤◌, List, [], ◌∷◌, ◌++◌, Bool, true, false, ◌&&◌, ◌||◌, ◌==◌, nat_lt, map, filter, length, take, get_or, Option, Some, refl, sym, ap, ◌∙◌, arith}
-use Rattle.std.proofs.Common.{if◌then◌else◌}
+use Rattle.std.proofs.Common.{◌≡◌, ℕ, ◌+◌, ◌<◌, ◌≤◌, List, [], ◌∷◌, ◌++◌, Bool, true, false, ◌&&◌, ◌||◌, ◌==◌, nat_lt, map, filter, length, take, get_or, Option, Some, refl, sym, ap, ◌∙◌, arith, if◌then◌else◌}
 use Rattle.std.specs.List.{AllByRecursion, enumerate_from, find}
 use Rattle.std.specs.Option.{option_map, option_or}
 use Rattle.std.proofs.lemmas.Bool.Decides.{nat_tests}
@@ -9,10 +8,7 @@ use Rattle.std.proofs.Math.Seq.{take-length}
 use Rattle.np_base.proofs.Each.{All-weaker, All-append}
 use Rattle.np_base.proofs.Options.{option_map-or}
 use Rattle.np_model.specs.Lawful.{ascends, HasAscendingPriorities}
-use Rattle.np_model.specs.declared.admin_policy.Action.{Action}
-use Rattle.np_model.specs.declared.admin_policy.AdminPolicy.{AdminPolicy}
-use Rattle.np_model.specs.declared.admin_policy.AdminRule.{AdminRule}
-use Rattle.np_model.specs.declared.direction.Direction.{Direction}
+use Rattle.np_rules.specs.Types.{Action, AdminPolicy, AdminRule, Direction}
 use Rattle.np_rules.specs.model.AdminTier.{least_by, sooner, admin_precedes, admin_decider}
 use Rattle.np_rules.specs.model.Ends.{Contact, PodEnd}
 use Rattle.np_rules.specs.model.Places.{PlacedAdminRule, admin_places, admin_places_of, admin_rules_of}

@@ -2,10 +2,7 @@
 use Rattle.std.proofs.Common.{◌≡◌, List, true, map, Option, Some, refl, ap, ◌∙◌}
 use Rattle.std.specs.List.{find}
 use Rattle.std.specs.Option.{option_map}
-use Rattle.np_model.specs.declared.admin_policy.Action.{Action}
-use Rattle.np_model.specs.declared.admin_policy.AdminRule.{AdminRule}
-use Rattle.np_model.specs.declared.admin_policy.BasePolicy.{BasePolicy}
-use Rattle.np_model.specs.declared.direction.Direction.{Direction}
+use Rattle.np_rules.specs.Types.{Action, AdminRule, BasePolicy, Direction}
 use Rattle.np_rules.specs.model.Ends.{Contact, PodEnd}
 use Rattle.np_rules.specs.model.Places.{PlacedBaseRule, base_places, base_rules_of}
 use Rattle.np_rules.specs.model.Rules.{admin_rule_matches}

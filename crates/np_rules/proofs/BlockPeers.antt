@@ -3,11 +3,9 @@ use Rattle.std.proofs.Common.{◌≡◌, List, [], ◌∷◌, Bool, true, false,
 use Rattle.std.specs.List.{list_any}
 use Rattle.std.proofs.Math.Bool.{or-false, and-false}
 use Rattle.np_addr.specs.Addresses.{cidr_has}
-use Rattle.np_addr.specs.declared.address.Address.{Address}
+use Rattle.np_rules.specs.Types.{Address, Cidr, Family}
 use Rattle.np_addr.specs.declared.address.Address.TheVariants as at
-use Rattle.np_addr.specs.declared.address.Family.{Family}
 use Rattle.np_addr.specs.declared.address.Family.TheVariants as of
-use Rattle.np_addr.specs.declared.cidr.Cidr.{Cidr}
 use Rattle.np_addr.specs.declared.cidr.Cidr.TheVariants as block
 use Rattle.np_addr.specs.Prefixes.{some_has}
 use Rattle.np_model.specs.Families.{is_of, same_family}

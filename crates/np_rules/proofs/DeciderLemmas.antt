@@ -4,10 +4,7 @@ use Rattle.std.specs.List.{AllByRecursion, list_any}
 use Rattle.std.proofs.lemmas.Bool.Decides.{nat_tests}
 use Rattle.np_base.proofs.Each.{All-weaker}
 use Rattle.np_base.proofs.Options.{some_is}
-use Rattle.np_model.specs.declared.lists.EstateLists.{EstateLists}
-use Rattle.np_model.specs.declared.admin_policy.Action.{Action}
-use Rattle.np_model.specs.declared.admin_policy.Action.TheVariants.{Allow, Deny, Pass}
-use Rattle.np_model.specs.declared.direction.Direction.{Direction}
+use Rattle.np_rules.specs.Types.{Action, Allow, Decider, Deny, Direction, EstateLists, Pass, RuleName}
 use Rattle.np_rules.specs.model.AdminTier.{admin_decider, admin_precedes, least_by, sooner}
 use Rattle.np_rules.specs.model.BaseTier.{base_decider}
 use Rattle.np_rules.specs.Deciders.{action_decides, admin_decides, admin_rule_name, base_decides, decider, decider_allows, isolating_names, lower_decider, net_decider, net_decides, net_precedes}
@@ -17,8 +14,6 @@ use Rattle.np_rules.specs.model.NetTier.{is_isolated, permits, placed_net_matche
 use Rattle.np_rules.specs.model.Places.{PlacedAdminRule, PlacedBaseRule, PlacedNetRule, net_places}
 use Rattle.np_rules.specs.model.Sides.{action_says, admin_says, base_says, lower_allows, side_allows}
 use Rattle.np_rules.specs.model.Verdict.{end_allows}
-use Rattle.np_rules.specs.declared.decider.Decider.{Decider}
-use Rattle.np_rules.specs.declared.decider.RuleName.{RuleName}
 
 -- ---- what decides says what the side says
 

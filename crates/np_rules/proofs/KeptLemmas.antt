@@ -1,18 +1,12 @@
 -- Rules that match no address may be left out of a layer for addresses.
-use Rattle.std.proofs.Common.{◌≡◌, ℕ, ◌+◌, ◌<◌, List, [], ◌∷◌, ◌++◌, Bool, true, false, append-nil, filter, find, get_or, length, map, take, Option, refl, sym, ap, subst, ◌∙◌}
-use Rattle.std.proofs.Common.{if◌then◌else◌}
+use Rattle.std.proofs.Common.{◌≡◌, ℕ, ◌+◌, ◌<◌, List, [], ◌∷◌, ◌++◌, Bool, true, false, append-nil, filter, find, get_or, length, map, take, Option, refl, sym, ap, subst, ◌∙◌, if◌then◌else◌}
 use Rattle.std.specs.List.{list_any}
 use Rattle.std.proofs.lemmas.Bool.{and_left, false≢true, or_from, or_parts}
 use Rattle.std.proofs.lemmas.List.{map-append, take_more}
 use Rattle.std.proofs.lemmas.List.Elements.{filter-append}
-use Rattle.np_addr.specs.declared.address.Address.{Address}
-use Rattle.np_addr.specs.declared.address.Family.{Family}
-use Rattle.np_model.specs.declared.admin_policy.AdminPeer.{AdminPeer}
+use Rattle.np_rules.specs.Types.{Address, AdminPeer, AdminRule, Family, Layer, NetPeer, NetRule}
 use Rattle.np_model.specs.declared.admin_policy.AdminPeer.TheVariants as admin
-use Rattle.np_model.specs.declared.admin_policy.AdminRule.{AdminRule}
-use Rattle.np_model.specs.declared.network_policy.NetPeer.{NetPeer}
 use Rattle.np_model.specs.declared.network_policy.NetPeer.TheVariants as net
-use Rattle.np_model.specs.declared.network_policy.NetRule.{NetRule}
 use Rattle.np_rules.proofs.FilterLemmas.{any_kept, find_kept}
 use Rattle.np_rules.proofs.LayerLemmas.{admin_same, base_same, matches_in, matches_in_namespace, net_same, walk_by_tiers}
 use Rattle.np_rules.proofs.PairwiseLemmas.{Pairwise-map, map-map}
@@ -27,7 +21,6 @@ use Rattle.np_rules.specs.model.PortEntries.{admin_entry_matches, net_entry_matc
 use Rattle.np_rules.specs.model.Rules.{admin_rule_matches, net_rule_matches, none_or_any}
 use Rattle.np_rules.specs.model.Sides.{admin_says, base_says, side_allows}
 use Rattle.np_tiers.specs.Walk.{admin_allows, base_allows, walk_allows}
-use Rattle.np_tiers.specs.declared.layer.Layer.{Layer}
 
 -- ---- rules without addresses
 

@@ -6,17 +6,10 @@ use Rattle.std.proofs.lemmas.Bool.{and_parts}
 use Rattle.std.proofs.lemmas.List.{map-append}
 use Rattle.std.proofs.lemmas.Slice.Eq.{bytes_eq-Decides}
 use Rattle.np_model.specs.Lawful.{HasAscendingPriorities}
-use Rattle.np_model.specs.declared.lists.EstateLists.{EstateLists}
+use Rattle.np_rules.specs.Types.{Action, AdminPart, BasePart, Direction, EstateLists, Layer, NetPolicy, NetRule}
 use Rattle.np_labels.specs.Selectors.{meets_selector}
-use Rattle.np_model.specs.declared.admin_policy.Action.{Action}
 use Rattle.np_model.specs.declared.admin_policy.Action.TheVariants as policy
-use Rattle.np_model.specs.declared.direction.Direction.{Direction}
-use Rattle.np_model.specs.declared.network_policy.NetPolicy.{NetPolicy}
-use Rattle.np_model.specs.declared.network_policy.NetRule.{NetRule}
 use Rattle.np_tiers.specs.Walk.{action_allows, admin_allows, base_allows, lower_allows, walk_allows}
-use Rattle.np_tiers.specs.declared.layer.AdminPart.{AdminPart}
-use Rattle.np_tiers.specs.declared.layer.BasePart.{BasePart}
-use Rattle.np_tiers.specs.declared.layer.Layer.{Layer}
 use Rattle.np_rules.specs.model.Ends.{Contact, PodEnd}
 use Rattle.np_rules.specs.Layers.{Pairwise, IsSetOf, IsAdminPart, IsBasePart, IsLayer, tier_action, matches_of}
 use Rattle.np_rules.specs.model.NetTier.{is_isolated, placed_net_matches}

@@ -3,7 +3,7 @@ use Rattle.std.proofs.Common.{◌≡◌, ℕ, zero, suc, ◌+◌, List, [], ◌�
 use Rattle.std.specs.List.{enumerate_from}
 use Rattle.np_rules.specs.LayerRules.{ids_from}
 use Rattle.np_rules.specs.Layers.{Pairwise}
-use Rattle.np_rules.specs.declared.rule_ids.RuleId.{RuleId}
+use Rattle.np_rules.specs.Types.{RuleId}
 
 -- one name more at the end
 ids_after : (policy first count : ℕ) → ids_from policy first (suc count) ≡ ids_from policy first count ++ record { policy = policy; place = first + count } ∷ []

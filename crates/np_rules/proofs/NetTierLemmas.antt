@@ -1,8 +1,7 @@
 -- Rules of NetworkPolicies, policy by policy.
 use Rattle.std.proofs.Common.{◌≡◌, ℕ, ◌+◌, ◌<◌, List, [], Bool, ◌||◌, length, take, get_or, refl, sym, ap, ◌∙◌, unwrap_or, if◌then◌else◌}
 use Rattle.std.specs.List.{list_any}
-use Rattle.np_model.specs.declared.direction.Direction.{Direction}
-use Rattle.np_model.specs.declared.network_policy.NetPolicy.{NetPolicy}
+use Rattle.np_rules.specs.Types.{Direction, NetPolicy}
 use Rattle.np_rules.specs.model.Ends.{Contact, PodEnd}
 use Rattle.np_rules.specs.model.NetTier.{permits, placed_net_matches}
 use Rattle.np_rules.specs.model.Places.{PlacedNetRule, net_places, net_places_of, net_rules_of}

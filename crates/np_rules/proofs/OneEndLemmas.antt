@@ -1,12 +1,9 @@
 -- One far end and what its spots stand for.
 use Rattle.std.proofs.Common.{◌≡◌, ap, ◌∙◌}
-use Rattle.np_addr.specs.declared.address.Family.{Family}
-use Rattle.np_conns.specs.declared.port_spot.PortSpot.{PortSpot}
-use Rattle.np_model.specs.declared.direction.Direction.{Direction}
+use Rattle.np_rules.specs.Types.{Direction, Family, OneEnd, PortSpot}
 use Rattle.np_rules.specs.model.Ends.{Contact, End, contact, destination_of}
 use Rattle.np_rules.specs.OneEnd.{one_contact}
 use Rattle.np_rules.specs.Views.{end_view}
-use Rattle.np_rules.specs.declared.one_end.OneEnd.{OneEnd}
 
 abbrev contacts : End → End → Family → PortSpot → Contact
 contacts far destination family spot = record { far = far; destination = destination; family = family; spot = spot }

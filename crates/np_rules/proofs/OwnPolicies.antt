@@ -13,8 +13,7 @@ use Rattle.std.proofs.lemmas.List.Elements.{filter-append}
 use Rattle.std.proofs.lemmas.List.Sorted.{searchable_from_sorted}
 use Rattle.std.proofs.lemmas.Map.Text.{is_eq-slice_cmp}
 use Rattle.np_model.specs.Lawful.{StandsBefore, comes_before}
-use Rattle.np_model.specs.declared.direction.Direction.{Direction}
-use Rattle.np_model.specs.declared.network_policy.NetPolicy.{NetPolicy}
+use Rattle.np_rules.specs.Types.{Direction, NetPolicy}
 use Rattle.np_rules.specs.model.Ends.{PodEnd}
 use Rattle.np_rules.specs.model.NetTier.{is_isolated, isolates}
 use Rattle.np_rules.proofs.FilterLemmas.{any_kept, filter_kept}

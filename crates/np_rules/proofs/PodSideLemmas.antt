@@ -1,7 +1,6 @@
 -- The layer of a side, made of the rules that are kept of it.
 use Rattle.std.proofs.Common.{◌≡◌, ℕ, ◌+◌, List, [], ◌∷◌, Bool, length, map, refl, sym, ap, ◌∙◌, subst, arith}
-use Rattle.np_model.specs.declared.admin_policy.AdminRule.{AdminRule}
-use Rattle.np_model.specs.declared.network_policy.NetRule.{NetRule}
+use Rattle.np_rules.specs.Types.{AdminRule, Layer, NetRule}
 use Rattle.np_rules.specs.model.Ends.{Contact}
 use Rattle.np_rules.specs.Layers.{Pairwise, IsAdminPart, IsBasePart, IsLayer, IsSetOf, matches_of}
 use Rattle.np_rules.specs.model.Places.{admin_places, base_places, net_places}
@@ -9,7 +8,6 @@ use Rattle.np_rules.specs.PodSides.{KeepsRules, PodSide, near_pod, side_rule_cou
 use Rattle.np_rules.specs.model.Rules.{net_rule_matches}
 use Rattle.np_rules.proofs.LayerLemmas.{matches_in_namespace}
 use Rattle.np_rules.proofs.PairwiseLemmas.{Pairwise-map, map-map}
-use Rattle.np_tiers.specs.declared.layer.Layer.{Layer}
 
 -- Parts of the rules that are kept are parts of the rules that speak of the pod. Each rule of a NetworkPolicy is kept as
 -- something that it is seen in.

@@ -7,23 +7,15 @@ use Rattle.std.proofs.lemmas.List.{append-nil, map-append}
 use Rattle.std.proofs.lemmas.List.Elements.{All-cons, All-nil}
 use Rattle.std.proofs.lemmas.Option.{slice_get_within}
 use Rattle.np_model.specs.Lawful.{IsFew}
-use Rattle.np_model.specs.declared.admin_policy.AdminPolicy.{AdminPolicy}
-use Rattle.np_model.specs.declared.admin_policy.AdminRule.{AdminRule}
-use Rattle.np_model.specs.declared.admin_policy.BasePolicy.{BasePolicy}
-use Rattle.np_model.specs.declared.direction.Direction.{Direction}
-use Rattle.np_model.specs.declared.network_policy.NetPolicy.{NetPolicy}
-use Rattle.np_model.specs.declared.network_policy.NetRule.{NetRule}
+use Rattle.np_rules.specs.Types.{AdminPolicy, AdminRule, BasePolicy, Direction, NetPolicy, NetRule, PolicyRules, RuleId}
 use Rattle.np_rules.specs.model.Ends.{PodEnd}
 use Rattle.np_rules.specs.Layers.{Pairwise}
 use Rattle.np_rules.specs.LayerRules.{NamesAdmin, NamesBase, NamesNet, ids_from}
 use Rattle.np_rules.specs.model.NetTier.{isolates}
-use Rattle.np_rules.specs.model.Places.{PlacedAdminRule, PlacedBaseRule, PlacedNetRule}
-use Rattle.np_rules.specs.model.Places.{admin_places, admin_places_of, admin_rules_of, base_places, base_rules_of, net_places, net_places_of, net_rules_of}
+use Rattle.np_rules.specs.model.Places.{PlacedAdminRule, PlacedBaseRule, PlacedNetRule, admin_places, admin_places_of, admin_rules_of, base_places, base_rules_of, net_places, net_places_of, net_rules_of}
 use Rattle.np_rules.specs.model.Selection.{net_selects, subject_selects}
 use Rattle.np_rules.specs.PodSides.{KeepsPolicies, KeepsRules, PodSide, near_pod}
 use Rattle.np_rules.specs.PolicyRules.{IsPolicyAt, ids_of, net_rules_in}
-use Rattle.np_rules.specs.declared.policy_rules.PolicyRules.{PolicyRules}
-use Rattle.np_rules.specs.declared.rule_ids.RuleId.{RuleId}
 use Rattle.np_rules.proofs.AdminTierLemmas as admin
 use Rattle.np_rules.proofs.FilterLemmas.{filter_next, flat_map_filter}
 use Rattle.np_rules.proofs.LayerLemmas.{placed_in}

@@ -3,16 +3,9 @@ use Rattle.std.proofs.Common.{◌≡◌, ℕ, ◌+◌, ◌<◌, List, [], ◌∷
 use Rattle.std.specs.List.{AllByRecursion, list_any}
 use Rattle.std.proofs.lemmas.List.{map-append, take_more}
 use Rattle.std.proofs.Math.Bool.{or-false}
-use Rattle.np_addr.specs.declared.address.Address.{Address}
-use Rattle.np_addr.specs.declared.address.Address.TheVariants.{Six}
+use Rattle.np_rules.specs.Types.{Address, AdminRule, Direction, Egress, Ingress, Layer, NetPort, NetRule, PortSpot, RuleConns, Six, Stranger}
 use Rattle.np_conns.specs.Conns.{Conns, has_spot, is_spot}
-use Rattle.np_conns.specs.declared.port_spot.PortSpot.{PortSpot}
-use Rattle.np_model.specs.declared.admin_policy.AdminRule.{AdminRule}
-use Rattle.np_model.specs.declared.direction.Direction.{Direction}
-use Rattle.np_model.specs.declared.direction.Direction.TheVariants.{Ingress, Egress}
-use Rattle.np_model.specs.declared.network_policy.NetPort.{NetPort}
 use Rattle.np_model.specs.declared.network_policy.NetPort.TheVariants as net
-use Rattle.np_model.specs.declared.network_policy.NetRule.{NetRule}
 use Rattle.np_rules.proofs.LayerLemmas.{admin_same, base_same, matches_in, matches_in_namespace, walk_by_tiers}
 use Rattle.np_rules.proofs.PairwiseLemmas.{Pairwise-map}
 use Rattle.np_rules.specs.model.Ends.{Contact, End, address, destination_of, pod, stranger_end}
@@ -24,12 +17,9 @@ use Rattle.np_rules.specs.PodSides.{KeepsRules, PodSide, SaysVerdicts, near_pod,
 use Rattle.np_rules.specs.model.PortEntries.{net_entry_matches}
 use Rattle.np_rules.specs.model.Rules.{admin_rule_matches, net_rule_matches, none_or_any}
 use Rattle.np_rules.specs.StrangerRules.{ArePermitted, HasPorts, HavePorts, IsNetOf, kept_matches, rule_of}
-use Rattle.np_rules.specs.declared.stranger.Stranger.{Stranger}
-use Rattle.np_rules.specs.declared.stranger_rules.RuleConns.{RuleConns}
 use Rattle.np_rules.specs.model.Sides.{admin_says, base_says}
 use Rattle.np_rules.proofs.AddressLemmas.{none_or_any-same}
 use Rattle.np_tiers.specs.Walk.{admin_allows, base_allows}
-use Rattle.np_tiers.specs.declared.layer.Layer.{Layer}
 
 -- ---- the sets of the rules
 

@@ -4,14 +4,9 @@ use Rattle.std.proofs.Common.{refl, sym}
 use Rattle.std.proofs.lemmas.Bool.{false≢true}
 use Rattle.std.specs.List.{list_any}
 use Rattle.np_addr.specs.Addresses.{cidr_has}
-use Rattle.np_addr.specs.declared.address.Address.{Address}
-use Rattle.np_addr.specs.declared.cidr.Cidr.{Cidr}
-use Rattle.np_model.specs.declared.admin_policy.AdminPeer.{AdminPeer}
+use Rattle.np_rules.specs.Types.{Address, AdminPeer, AdminRule, Cidr, NetPeer, NetRule}
 use Rattle.np_model.specs.declared.admin_policy.AdminPeer.TheVariants as admin
-use Rattle.np_model.specs.declared.admin_policy.AdminRule.{AdminRule}
-use Rattle.np_model.specs.declared.network_policy.NetPeer.{NetPeer}
 use Rattle.np_model.specs.declared.network_policy.NetPeer.TheVariants as net
-use Rattle.np_model.specs.declared.network_policy.NetRule.{NetRule}
 use Rattle.np_rules.specs.EveryAddress.{admin_peer_has, net_peer_has}
 use Rattle.np_rules.specs.model.Rules.{none_or_any}
 

@@ -2,10 +2,8 @@
 use Rattle.std.specs.Prelude.{List, Bool, ◌&&◌}
 use Rattle.std.specs.List.{list_any}
 use Rattle.np_addr.specs.Addresses.{cidr_has}
-use Rattle.np_addr.specs.declared.address.Address.{Address}
-use Rattle.np_addr.specs.declared.address.Family.{Family}
-use Rattle.np_addr.specs.declared.address.Family.TheVariants.{Four, Six}
-use Rattle.np_addr.specs.declared.cidr.Cidr.{Cidr}
+use Rattle.np_rules.specs.Types.{Address, Cidr, Family, Four}
+use Rattle.np_addr.specs.declared.address.Family.TheVariants.{Six}
 use Rattle.np_addr.specs.declared.cidr.Cidr.TheVariants as block
 use Rattle.np_model.specs.Families.{same_family}
 

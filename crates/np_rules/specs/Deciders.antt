@@ -2,20 +2,14 @@
 use Rattle.std.specs.Prelude.{ℕ, List, ◌++◌, codes, map, filter, Bool, true, false, nat_lt, Option, Some, None, if◌then◌else◌}
 use Rattle.std.specs.Cmp.Lexicographic.{slice_cmp}
 use Rattle.std.specs.Ordering.{nat_cmp, match_ordering}
-use Rattle.np_model.specs.declared.lists.EstateLists.{EstateLists}
-use Rattle.np_model.specs.declared.admin_policy.Action.{Action}
-use Rattle.np_model.specs.declared.admin_policy.Action.TheVariants.{Allow, Deny, Pass}
-use Rattle.np_model.specs.declared.direction.Direction.{Direction}
-use Rattle.np_model.specs.declared.network_policy.NetPolicy.{NetPolicy}
+use Rattle.np_rules.specs.Types.{Action, Allow, Decider, Deny, Direction, EstateLists, NetPolicy, Pass, RuleName}
 use Rattle.np_rules.specs.model.AdminTier.{admin_decider, least_by}
 use Rattle.np_rules.specs.model.BaseTier.{base_decider}
 use Rattle.np_rules.specs.model.Ends.{End, Contact, PodEnd, pod, address}
 use Rattle.np_rules.specs.model.NetTier.{isolates, is_isolated, placed_net_matches}
 use Rattle.np_rules.specs.model.Places.{PlacedAdminRule, PlacedBaseRule, PlacedNetRule, net_places}
 use Rattle.np_rules.specs.model.Sides.{is_allow}
-use Rattle.np_rules.specs.declared.decider.Decider.{Decider}
 use Rattle.np_rules.specs.declared.decider.Decider.TheVariants.{NoSide, Admin, Net, Isolated, Base, Free}
-use Rattle.np_rules.specs.declared.decider.RuleName.{RuleName}
 
 -- `namespace/name`
 abbrev pub net_policy_name : NetPolicy → List ℕ

@@ -1,20 +1,11 @@
 -- All addresses of both families at once: sets of places, each of which is an address with a protocol and a port.
 use Rattle.std.specs.Prelude.{ℕ, ◌-◌, ◌^◌, List, [], Bool, ◌&&◌}
-use Rattle.np_addr.specs.declared.address.Address.{Address}
-use Rattle.np_addr.specs.declared.address.Address.TheVariants.{Four, Six}
+use Rattle.np_rules.specs.Types.{Address, AdminPeer, At, Beside, Direction, First, NetPeer, Piece, PortSpot, Second, Six, Which}
+use Rattle.np_addr.specs.declared.address.Address.TheVariants.{Four}
 use Rattle.np_addr.specs.Addresses.{family_of}
 use Rattle.np_base.specs.Beside.{by_side}
-use Rattle.np_base.specs.declared.beside.Beside.{Beside}
-use Rattle.np_base.specs.declared.beside.Which.{Which}
-use Rattle.np_base.specs.declared.beside.Which.TheVariants.{First, Second}
 use Rattle.np_conns.specs.Conns.{Conns, has_spot, is_spot}
-use Rattle.np_conns.specs.declared.port_spot.PortSpot.{PortSpot}
 use Rattle.np_pieces.specs.Pieces as pieces
-use Rattle.np_pieces.specs.declared.piece.At.{At}
-use Rattle.np_pieces.specs.declared.piece.Piece.{Piece}
-use Rattle.np_model.specs.declared.admin_policy.AdminPeer.{AdminPeer}
-use Rattle.np_model.specs.declared.direction.Direction.{Direction}
-use Rattle.np_model.specs.declared.network_policy.NetPeer.{NetPeer}
 use Rattle.np_rules.specs.model.Ends.{Contact, End, address, contact}
 use Rattle.np_rules.specs.model.Peers.{admin_peer_matches, net_peer_matches}
 use Rattle.np_rules.specs.Views.{end_view}

@@ -2,10 +2,8 @@
 -- direction.
 use Rattle.std.specs.Prelude.{◌≡◌, ℕ, zero, suc, ◌+◌, List, [], ◌∷◌, Some}
 use Rattle.std.specs.List.{slice_get}
-use Rattle.np_model.specs.declared.admin_policy.AdminPolicy.{AdminPolicy}
-use Rattle.np_model.specs.declared.network_policy.NetPolicy.{NetPolicy}
+use Rattle.np_rules.specs.Types.{AdminPolicy, NetPolicy, RuleId}
 use Rattle.np_rules.specs.model.Places.{PlacedAdminRule, PlacedBaseRule, PlacedNetRule}
-use Rattle.np_rules.specs.declared.rule_ids.RuleId.{RuleId}
 
 -- the name is that of a rule of the admin policies
 pub record NamesAdmin (policies : List AdminPolicy) (id : RuleId) (placed : PlacedAdminRule) : Type 0 where

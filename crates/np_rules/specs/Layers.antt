@@ -1,16 +1,10 @@
 -- The layer of a pod's side: the rules that speak of the pod as sets, place by place. Each spot of the sets stands for
 -- something that the side may look at, a contact.
 use Rattle.std.specs.Prelude.{◌≡◌, List, [], ◌∷◌, Bool, true}
-use Rattle.np_model.specs.declared.lists.EstateLists.{EstateLists}
-use Rattle.np_model.specs.declared.admin_policy.Action.{Action}
+use Rattle.np_rules.specs.Types.{Action, AdminPart, AdminRule, BasePart, Direction, EstateLists, Layer}
 use Rattle.np_model.specs.declared.admin_policy.Action.TheVariants as policy
-use Rattle.np_model.specs.declared.admin_policy.AdminRule.{AdminRule}
-use Rattle.np_model.specs.declared.direction.Direction.{Direction}
 use Rattle.np_tiers.specs.declared.layer.Action.{Action as TierAction}
 use Rattle.np_tiers.specs.declared.layer.Action.TheVariants as tier
-use Rattle.np_tiers.specs.declared.layer.AdminPart.{AdminPart}
-use Rattle.np_tiers.specs.declared.layer.BasePart.{BasePart}
-use Rattle.np_tiers.specs.declared.layer.Layer.{Layer}
 use Rattle.np_rules.specs.model.Ends.{Contact, PodEnd}
 use Rattle.np_rules.specs.model.NetTier.{is_isolated}
 use Rattle.np_rules.specs.model.Places.{PlacedNetRule, admin_places, base_places, net_places}

@@ -11,4 +11,5 @@ pub mod PodSides
 pub mod PolicyRules
 pub mod StrangerRules
 pub mod Texts
+pub mod Types
 pub mod Views

@@ -1,8 +1,7 @@
 -- One far end.
-use Rattle.np_conns.specs.declared.port_spot.PortSpot.{PortSpot}
+use Rattle.np_rules.specs.Types.{OneEnd, PortSpot}
 use Rattle.np_rules.specs.model.Ends.{Contact}
 use Rattle.np_rules.specs.Views.{end_view}
-use Rattle.np_rules.specs.declared.one_end.OneEnd.{OneEnd}
 
 -- what a spot stands for
 abbrev pub one_contact : OneEnd → PortSpot → Contact

@@ -1,19 +1,13 @@
 -- The policies that speak of a pod, each as its place in the estate's list and its rules of the direction.
 use Rattle.std.specs.Prelude.{◌≡◌, List, [], filter, flat_map, length, Some, unwrap_or}
 use Rattle.std.specs.List.{slice_get}
-use Rattle.np_model.specs.declared.admin_policy.AdminPolicy.{AdminPolicy}
-use Rattle.np_model.specs.declared.admin_policy.AdminRule.{AdminRule}
-use Rattle.np_model.specs.declared.direction.Direction.{Direction}
-use Rattle.np_model.specs.declared.network_policy.NetPolicy.{NetPolicy}
-use Rattle.np_model.specs.declared.network_policy.NetRule.{NetRule}
+use Rattle.np_rules.specs.Types.{AdminPolicy, AdminRule, Direction, NetPolicy, NetRule, PolicyRules, RuleId}
 use Rattle.np_rules.specs.model.Ends.{PodEnd}
 use Rattle.np_rules.specs.Layers.{Pairwise}
 use Rattle.np_rules.specs.LayerRules.{ids_from}
 use Rattle.np_rules.specs.model.NetTier.{isolates}
 use Rattle.np_rules.specs.model.Places.{admin_rules_of, net_rules_of}
 use Rattle.np_rules.specs.model.Selection.{subject_selects}
-use Rattle.np_rules.specs.declared.policy_rules.PolicyRules.{PolicyRules}
-use Rattle.np_rules.specs.declared.rule_ids.RuleId.{RuleId}
 
 -- what is kept of a policy: its place, and its rules
 pub record IsPolicyAt {P R : Type 0} (policies : List P) (rules_of : P → List R) (kept : PolicyRules R) (policy : P) : Type 0 where

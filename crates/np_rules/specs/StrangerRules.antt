@@ -3,17 +3,13 @@
 use Rattle.std.specs.Prelude.{◌≡◌, ℕ, List, Bool, true, ◌&&◌}
 use Rattle.std.specs.List.{AllByRecursion, list_any}
 use Rattle.np_conns.specs.Conns.{Conns, has_spot, is_spot}
-use Rattle.np_conns.specs.declared.port_spot.PortSpot.{PortSpot}
-use Rattle.np_model.specs.declared.direction.Direction.{Direction}
-use Rattle.np_model.specs.declared.network_policy.NetRule.{NetRule}
+use Rattle.np_rules.specs.Types.{Direction, NetRule, PortSpot, RuleConns, Stranger}
 use Rattle.np_rules.specs.model.Ends.{End, destination_of, pod, stranger_end}
 use Rattle.np_rules.specs.model.NetTier.{permits}
 use Rattle.np_rules.specs.model.Peers.{net_peer_matches}
 use Rattle.np_rules.specs.PodSides.{PodSide, near_pod, with_stranger}
 use Rattle.np_rules.specs.model.PortEntries.{net_entry_matches}
 use Rattle.np_rules.specs.model.Rules.{none_or_any}
-use Rattle.np_rules.specs.declared.stranger.Stranger.{Stranger}
-use Rattle.np_rules.specs.declared.stranger_rules.RuleConns.{RuleConns}
 
 abbrev pub rule_of : RuleConns → NetRule
 rule_of kept = kept.rule.now

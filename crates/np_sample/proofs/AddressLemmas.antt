@@ -3,9 +3,7 @@ use Rattle.std.proofs.Common.{◌≡◌, ℕ, List, [], ◌∷◌, ◌++◌, Boo
 use Rattle.std.specs.List.{list_any, range_with_len}
 use Rattle.np_addr.specs.declared.address.Address.TheVariants as at
 use Rattle.np_addr.specs.declared.address.Family.TheVariants.{Six}
-use Rattle.np_conns.specs.declared.port_spot.PortSpot.{PortSpot}
-use Rattle.np_model.specs.declared.direction.Direction.{Direction}
-use Rattle.np_model.specs.declared.direction.Direction.TheVariants.{Ingress, Egress}
+use Rattle.np_sample.specs.Types.{Direction, Egress, Ingress, PortSpot}
 use Rattle.np_rules.specs.model.Ends.{Contact, End, PodEnd, address, pod}
 use Rattle.np_rules.specs.model.NetTier.{is_isolated, permits, placed_net_matches}
 use Rattle.np_rules.specs.model.Places.{net_places, net_places_of}

@@ -1,6 +1,5 @@
 -- The estate of the items of the sample.
-use Rattle.std.proofs.Common.{◌≡◌, ℕ, zero, suc, ◌+◌, List, [], ◌∷◌, ◌++◌, length, map, Bool, false, Option, Some, None, refl, sym, ap, ◌∙◌, arith, append_assoc}
-use Rattle.std.proofs.Common.{length-append}
+use Rattle.std.proofs.Common.{◌≡◌, ℕ, zero, suc, ◌+◌, List, [], ◌∷◌, ◌++◌, length, map, Bool, false, Option, Some, None, refl, sym, ap, ◌∙◌, arith, append_assoc, length-append}
 use Rattle.std.specs.List.{AllByRecursion, cons_option, filter_map, range_with_len, slice_get}
 use Rattle.std.specs.Option.{option_and_then, option_map_or, option_to_list}
 use Rattle.std.proofs.lemmas.List.Elements.{filter_map-append}
@@ -11,15 +10,13 @@ use Rattle.np_reading.specs.Ends.{listed_pod, pod_at_item, pods_from, context}
 use Rattle.np_reading.specs.LeftOut.{count_left_out, is_for, is_left_out, left_out}
 use Rattle.np_reading.specs.Namespaces.{labels_in, listed_labels, name_label, namespace_name}
 use Rattle.np_reading.specs.TopOwners.{named_or_itself}
-use Rattle.np_model.specs.declared.pod.Pod.{Pod}
+use Rattle.np_sample.specs.Types.{Item, ObjectName, Pod}
 use Rattle.np_reading.proofs.TopLemmas.{top_owner-pod}
-use Rattle.np_items.specs.declared.item.Item.{Item}
 use Rattle.np_items.specs.declared.item.Item.TheVariants as item
 use Rattle.np_objects.specs.declared.object.Object.TheVariants as object
 use Rattle.np_owners.specs.MadePods.{makes_pod}
 use Rattle.np_owners.specs.Names.{name_of, place_of}
 use Rattle.np_owners.specs.Owners.{first_in_cycle, owner_of, owner_place, place_in_namespace, ups}
-use Rattle.np_owners.specs.declared.object_name.ObjectName.{ObjectName}
 use Rattle.np_sample.specs.Objects.{namespace_count}
 use Rattle.np_sample.proofs.Items.{admin_policy_item, namespace_item, net_policy_item, pod_item, pod_read, sample_items}
 

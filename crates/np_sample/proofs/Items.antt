@@ -1,6 +1,6 @@
 -- The items of the sample.
 use Rattle.std.proofs.Common.{ℕ, List, [], codes, false, None}
-use Rattle.np_items.specs.declared.item.Item.{Item}
+use Rattle.np_sample.specs.Types.{Item}
 use Rattle.np_items.specs.declared.item.Item.TheVariants as item
 use Rattle.np_objects.specs.declared.object.Object.TheVariants as object
 use Rattle.np_objects.specs.declared.pod_item.PodItem.{PodItem}

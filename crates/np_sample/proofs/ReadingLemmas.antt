@@ -5,7 +5,7 @@ use Rattle.std.specs.List.{AllByRecursion, AllZip}
 use Rattle.serde_json.specs.Data.{Data}
 use Rattle.np_items.specs.Inputs.{input_values, json_of, items_by, items_in, values}
 use Rattle.np_items.specs.Items.{each_item, item_of, items_of, must_be_few}
-use Rattle.np_items.specs.declared.item.Item.{Item}
+use Rattle.np_sample.specs.Types.{Item}
 use Rattle.np_items.proofs.InputLemmas.{values-items_of}
 use Rattle.np_sample.specs.Objects.{admin_policy, namespace, net_policy, pod}
 use Rattle.np_sample.specs.Sample.{list_of, sample_objects, sample_text, sample_value}

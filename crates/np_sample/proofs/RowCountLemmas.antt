@@ -1,6 +1,5 @@
 -- How many rows the tables of the samples have.
-use Rattle.std.proofs.Common.{◌≡◌, ℕ, zero, suc, ◌+◌, ◌*◌, ◌-◌, ◌^◌, ◌<◌, ◌≤◌, List, [], ◌∷◌, ◌++◌, map, Bool, true, false, length, Option, None, Some, if◌then◌else◌, refl, sym, ap, ◌∙◌, arith}
-use Rattle.std.proofs.Common.{length-append}
+use Rattle.std.proofs.Common.{◌≡◌, ℕ, zero, suc, ◌+◌, ◌*◌, ◌-◌, ◌^◌, ◌<◌, ◌≤◌, List, [], ◌∷◌, ◌++◌, map, Bool, true, false, length, Option, None, Some, if◌then◌else◌, refl, sym, ap, ◌∙◌, arith, length-append}
 use Rattle.std.specs.List.{flat_map}
 use Rattle.std.proofs.lemmas.Bool.{cond_both}
 use Rattle.std.proofs.lemmas.List.{length-map}
@@ -8,12 +7,9 @@ use Rattle.std.proofs.lemmas.List.FromFn.{length-range_with_len}
 use Rattle.np_addr.specs.declared.address.Family.{Family}
 use Rattle.np_addr.specs.declared.address.Family.TheVariants as family
 use Rattle.np_conns.specs.Conns.{Conns}
-use Rattle.np_conns.specs.declared.port_spot.PortSpot.{PortSpot}
-use Rattle.np_model.specs.declared.lists.EstateLists.{EstateLists}
+use Rattle.np_sample.specs.Types.{Direction, Egress, EstateLists, Ingress, PortSpot}
 use Rattle.np_fold.specs.Workloads.{folding_of, workload_count, workloads_of}
 use Rattle.np_fold.proofs.WorkloadLemmas.{workloads-count}
-use Rattle.np_model.specs.declared.direction.Direction.{Direction}
-use Rattle.np_model.specs.declared.direction.Direction.TheVariants.{Ingress, Egress}
 use Rattle.np_routes.specs.ClusterTable.{ClusterTable, all_ingress_rows, cluster_rows, cluster_table, ingress_row}
 use Rattle.np_routes.proofs.ClusterLemmas.{ingress_row-one}
 use Rattle.np_rules.specs.model.Verdict.{pod_at}

@@ -11,13 +11,10 @@ use Rattle.np_reading.specs.Reading.{estate_of, estate_of_items, notes_of}
 use Rattle.np_reading.proofs.EstateLemmas.{estate_of-read, same-notes}
 use Rattle.np_model.specs.declared.notes.Notes.{Notes}
 use Rattle.np_model.specs.declared.placed_ingress.PlacedIngress.{PlacedIngress}
-use Rattle.np_model.specs.declared.pod.Pod.{Pod}
-use Rattle.np_items.specs.declared.item.Item.{Item}
+use Rattle.np_sample.specs.Types.{AdminPolicy, Item, NetPolicy, Pod}
 use Rattle.np_model.specs.declared.service.ServiceItem.{ServiceItem}
 use Rattle.np_owners.specs.Owners.{owner_of}
-use Rattle.np_model.specs.declared.admin_policy.AdminPolicy.{AdminPolicy}
 use Rattle.np_model.specs.declared.admin_policy.BasePolicy.{BasePolicy}
-use Rattle.np_model.specs.declared.network_policy.NetPolicy.{NetPolicy}
 use Rattle.np_sample.specs.Objects.{namespace_count}
 use Rattle.np_sample.specs.Sample.{sample_text}
 use Rattle.np_sample.proofs.ApartLemmas.{first_repeat-sample}

@@ -2,7 +2,7 @@
 use Rattle.std.proofs.Common.{ℕ, ◌≤◌, length, arith}
 use Rattle.std.proofs.lemmas.List.FromFn.{length-map-range_with_len}
 use Rattle.np_classes.proofs.Relations.{firsts-le-count}
-use Rattle.np_model.specs.declared.lists.EstateLists.{EstateLists}
+use Rattle.np_sample.specs.Types.{EstateLists}
 use Rattle.np_fold.specs.Workloads.{pods_alike, workload_count}
 use Rattle.np_sample.specs.Estate.{estate_pod, sample_estate}
 

@@ -4,8 +4,7 @@ use Rattle.std.specs.List.{range_with_len}
 use Rattle.np_addr.specs.declared.cidr.Cidr.{Cidr}
 use Rattle.np_addr.specs.declared.cidr.Cidr.TheVariants as cidr
 use Rattle.np_conns.specs.declared.proto.Proto.TheVariants.{Tcp}
-use Rattle.np_model.specs.declared.lists.EstateLists.{EstateLists}
-use Rattle.np_model.specs.declared.pod.Pod.{Pod}
+use Rattle.np_sample.specs.Types.{AdminPolicy, EstateLists, NetPolicy, Pod}
 use Rattle.np_labels.specs.Selectors.{label_requirement}
 use Rattle.np_labels.specs.declared.pair.Pair.{Pair}
 use Rattle.np_labels.specs.declared.selector.Selector.{Selector}
@@ -13,10 +12,8 @@ use Rattle.np_model.specs.declared.named_port.NamedPort.{NamedPort}
 use Rattle.np_policies.specs.Selectors.{everything}
 use Rattle.np_model.specs.declared.admin_policy.Action.TheVariants.{Deny}
 use Rattle.np_model.specs.declared.admin_policy.AdminPeer.TheVariants as admin_peer
-use Rattle.np_model.specs.declared.admin_policy.AdminPolicy.{AdminPolicy}
 use Rattle.np_model.specs.declared.admin_policy.AdminRule.{AdminRule}
 use Rattle.np_model.specs.declared.network_policy.NetPeer.TheVariants as net_peer
-use Rattle.np_model.specs.declared.network_policy.NetPolicy.{NetPolicy}
 use Rattle.np_model.specs.declared.network_policy.NetPort.TheVariants as net_port
 use Rattle.np_model.specs.declared.network_policy.NetRule.{NetRule}
 use Rattle.np_sample.specs.Objects.{app_of, namespace_count, namespace_name, namespace_of, next_of, pod_name, port_of}

@@ -1,3 +1,4 @@
 pub mod Estate
 pub mod Objects
 pub mod Sample
+pub mod Types

@@ -5,9 +5,8 @@ use Rattle.std.proofs.lemmas.Bool.Decides.{nat_tests}
 use Rattle.std.proofs.lemmas.Nat.{pow_pos}
 use Rattle.np_addr.specs.Addresses.{IsAddress, cidr_has}
 use Rattle.np_addr.specs.Blocks.{AddressRanges, IsAddressSet, set_has}
-use Rattle.np_addr.specs.declared.address.Address.{Address}
+use Rattle.np_statements.specs.Types.{Address, Cidr}
 use Rattle.np_addr.specs.declared.address.Address.TheVariants as address
-use Rattle.np_addr.specs.declared.cidr.Cidr.{Cidr}
 use Rattle.np_addr.specs.declared.cidr.Cidr.TheVariants as cidr
 use Rattle.np_base.proofs.Ranges.{same_members_same_ranges}
 use Rattle.np_base.specs.Beside.{equal_by_parts}

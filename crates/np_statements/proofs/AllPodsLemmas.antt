@@ -6,15 +6,8 @@ use Rattle.std.proofs.lemmas.List.Elements.{All-cons, All-nil}
 use Rattle.np_check.proofs.LeastLemmas.{first_broken, nothing_broken}
 use Rattle.np_check.specs.Counters.{allows_between, complies, counter_of}
 use Rattle.np_check.specs.FirstPacket.{IsBroken}
-use Rattle.np_check.specs.declared.counterexample.Counterexample.{Counterexample}
-use Rattle.np_check.specs.declared.question.Question.{Question}
-use Rattle.np_statements.specs.declared.statement_text.EndForm.{EndForm}
-use Rattle.np_statements.specs.declared.statement_text.EndForm.TheVariants.{Pods, Addresses, Namespace, Work, Block}
-use Rattle.np_check.specs.declared.question.Wanted.{Wanted}
-use Rattle.np_check.specs.declared.question.Wanted.TheVariants.{Allow, Deny}
+use Rattle.np_statements.specs.Types.{Addresses, Allow, AskedLine, Block, CheckedKinds, Counterexample, Deny, EndForm, EstateLists, Namespace, Pods, PortSpot, Question, StatementLine, Wanted, Work}
 use Rattle.np_conns.specs.Conns.{Conns, has_spot}
-use Rattle.np_conns.specs.declared.port_spot.PortSpot.{PortSpot}
-use Rattle.np_model.specs.declared.lists.EstateLists.{EstateLists}
 use Rattle.np_statements.proofs.AmongLemmas.{IsLeft, one_left}
 use Rattle.np_statements.proofs.EndLemmas.{AreEnds, ends_of-are}
 use Rattle.np_statements.proofs.FoundLemmas.{at_turn}
@@ -23,9 +16,6 @@ use Rattle.np_statements.specs.AskedLines.{IsQuestion}
 use Rattle.np_statements.specs.BrokenLines.{broken_by, broken_of}
 use Rattle.np_statements.specs.Ends.{all_works, ends_of, works_alone}
 use Rattle.np_statements.specs.FoundEnds.{asked_of}
-use Rattle.np_statements.specs.declared.all_pods.CheckedKinds.{CheckedKinds}
-use Rattle.np_statements.specs.declared.asked_line.AskedLine.{AskedLine}
-use Rattle.np_statements.specs.declared.statement_line.StatementLine.{StatementLine}
 
 -- ---- what is asked
 

@@ -5,7 +5,7 @@ use Rattle.std.specs.Prelude.{IsOk}
 use Rattle.std.proofs.lemmas.Bool.{false≢true, true≢false}
 use Rattle.std.proofs.lemmas.List.{at_drop_more, drop_all}
 use Rattle.np_check.specs.Firsts.{first_of}
-use Rattle.np_model.specs.declared.lists.EstateLists.{EstateLists}
+use Rattle.np_statements.specs.Types.{AskedLine, Broken, EndFault, EstateLists, StatementLine}
 use Rattle.np_statements.proofs.FoundLemmas.{asked-by, asked-known, found-behind, length-found}
 use Rattle.np_statements.proofs.StepLemmas.{same_ok, then-ok}
 use Rattle.np_statements.specs.Answers.{GivesEnds}
@@ -13,11 +13,7 @@ use Rattle.np_statements.specs.AskedLines.{IsAsked, IsWellLine}
 use Rattle.np_statements.specs.BrokenLines.{broken_among, broken_of, first_broken}
 use Rattle.np_statements.specs.FoundEnds.{asked_of, ends_found}
 use Rattle.np_statements.specs.Steps.{◌>>=◌}
-use Rattle.np_statements.specs.declared.asked_line.AskedLine.{AskedLine}
-use Rattle.np_statements.specs.declared.broken.Broken.{Broken}
-use Rattle.np_statements.specs.declared.end_fault.EndFault.{EndFault}
 use Rattle.np_statements.specs.declared.end_fault.EndFault.TheVariants.{NoMemory, UnknownEnd}
-use Rattle.np_statements.specs.declared.statement_line.StatementLine.{StatementLine}
 
 -- ---- the first of some lines
 

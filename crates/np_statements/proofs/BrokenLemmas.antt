@@ -12,16 +12,10 @@ use Rattle.np_check.specs.Counters.{complies, counter_of}
 use Rattle.np_check.specs.FirstPacket.{IsEndOf}
 use Rattle.np_check.specs.Firsts.{first_of}
 use Rattle.np_check.specs.Holding.{Holds, IsOf}
-use Rattle.np_check.specs.declared.counterexample.Counterexample.{Counterexample}
-use Rattle.np_check.specs.declared.counterexample.PlaceEnd.{PlaceEnd}
-use Rattle.np_check.specs.declared.counterexample.PlaceEnd.TheVariants.{At, Work}
-use Rattle.np_check.specs.declared.question.Ends.{Ends}
-use Rattle.np_check.specs.declared.question.Question.{Question}
-use Rattle.np_check.specs.declared.question.Wanted.{Wanted}
-use Rattle.np_check.specs.declared.question.Wanted.TheVariants.{Allow, Deny}
+use Rattle.np_statements.specs.Types.{Allow, AskedLine, At, Broken, Counterexample, Deny, Ends, EstateLists, PlaceEnd, Question, StatementLine, Wanted}
+use Rattle.np_check.specs.declared.counterexample.PlaceEnd.TheVariants.{Work}
 use Rattle.np_conns.specs.Conns.{has_spot}
 use Rattle.np_model.specs.Lawful.{IsLawful}
-use Rattle.np_model.specs.declared.lists.EstateLists.{EstateLists}
 use Rattle.np_statements.proofs.FormLemmas.{names-addresses, names-pods}
 use Rattle.np_statements.proofs.FoundLemmas.{AreFoundBy, IsAskedBy, all-known, asked-by, found-by}
 use Rattle.np_statements.proofs.StepLemmas.{same_ok}
@@ -30,9 +24,6 @@ use Rattle.np_statements.specs.BrokenLines.{IsPlace, broken_by, broken_of, first
 use Rattle.np_statements.specs.FirstBrokenLine.{IsFirstBrokenLine}
 use Rattle.np_statements.specs.FoundEnds.{asked_of, ends_found}
 use Rattle.np_statements.specs.Holding.{IsNamedPod, LineHolds}
-use Rattle.np_statements.specs.declared.asked_line.AskedLine.{AskedLine}
-use Rattle.np_statements.specs.declared.broken.Broken.{Broken}
-use Rattle.np_statements.specs.declared.statement_line.StatementLine.{StatementLine}
 use Rattle.np_kinds.specs.Between.{IsWorkload}
 
 -- ---- one line

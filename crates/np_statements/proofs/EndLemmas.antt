@@ -10,16 +10,11 @@ use Rattle.std.proofs.lemmas.List.Elements.{All-cons, All-filter, All-nil, All-w
 use Rattle.std.proofs.lemmas.List.Quantifiers.{position-Some}
 use Rattle.std.proofs.lemmas.Option.{slice_get_read}
 use Rattle.np_addr.specs.Blocks.{AddressRanges}
-use Rattle.np_addr.specs.declared.cidr.Cidr.{Cidr}
+use Rattle.np_statements.specs.Types.{Addresses, Block, Cidr, EndForm, Ends, EstateLists, Namespace, Pod, Pods, Work}
 use Rattle.np_check.proofs.FirstLemmas.{range-append}
 use Rattle.np_check.proofs.SortedLemmas.{filtered}
 use Rattle.np_check.specs.Numbers.{HasNoAddress, is_ascending}
 use Rattle.np_statements.specs.StatementGrammar.{is_address_form}
-use Rattle.np_check.specs.declared.question.Ends.{Ends}
-use Rattle.np_statements.specs.declared.statement_text.EndForm.{EndForm}
-use Rattle.np_statements.specs.declared.statement_text.EndForm.TheVariants.{Pods, Addresses, Namespace, Work, Block}
-use Rattle.np_model.specs.declared.lists.EstateLists.{EstateLists}
-use Rattle.np_model.specs.declared.pod.Pod.{Pod}
 use Rattle.np_fold.specs.Workloads.{Workload, folding_of, members_of, number_named}
 use Rattle.np_statements.proofs.StepLemmas.{same_ok}
 use Rattle.np_statements.specs.Ends.{addresses_alone, addresses_in, all_works, ends_of, every_address, is_in_namespace, named_alone, works_alone}

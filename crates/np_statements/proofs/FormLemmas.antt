@@ -1,6 +1,5 @@
 -- The pods and the addresses that a form names are those of its ends.
-use Rattle.std.proofs.Common.{◌≡◌, ◌≢◌, ℕ, ◌^◌, ◌<◌, ◌↔◌, List, [], ◌∷◌, Bool, true, false, Option, Some, None, Ok, Err, length, map, get_or, slice_get, refl, sym, ap}
-use Rattle.std.proofs.Common.{subst, ◌∙◌, inl, inr, arith}
+use Rattle.std.proofs.Common.{◌≡◌, ◌≢◌, ℕ, ◌^◌, ◌<◌, ◌↔◌, List, [], ◌∷◌, Bool, true, false, Option, Some, None, Ok, Err, length, map, get_or, slice_get, refl, sym, ap, subst, ◌∙◌, inl, inr, arith}
 use Rattle.std.specs.Prelude.{Contains, IsSomeAnd, filter}
 use Rattle.std.specs.Cmp.Lexicographic.{slice_cmp}
 use Rattle.std.specs.List.Sorted.{IsStrictlySortedBy}
@@ -19,17 +18,12 @@ use Rattle.std.proofs.lemmas.Slice.Eq.{bytes_eq-Decides}
 use Rattle.np_base.proofs.Lists.{slice_get-some}
 use Rattle.np_addr.specs.Addresses.{IsAddress, cidr_has}
 use Rattle.np_addr.specs.Blocks.{AddressRanges, set_has}
-use Rattle.np_addr.specs.declared.address.Address.{Address}
+use Rattle.np_statements.specs.Types.{Address, Addresses, Block, EndForm, Ends, EstateLists, Namespace, Pod, Pods, Work}
 use Rattle.np_addr.specs.declared.address.Address.TheVariants as address
 use Rattle.np_check.proofs.MemberLemmas.{first_or_later, in_filter, in_range, nothing}
-use Rattle.np_check.specs.declared.question.Ends.{Ends}
-use Rattle.np_statements.specs.declared.statement_text.EndForm.{EndForm}
-use Rattle.np_statements.specs.declared.statement_text.EndForm.TheVariants.{Pods, Addresses, Namespace, Work, Block}
 use Rattle.np_classes.proofs.Lists.{no_position}
 use Rattle.np_classes.proofs.Relations.{firsts-le-count}
 use Rattle.np_model.specs.Lawful.{IsLawful}
-use Rattle.np_model.specs.declared.lists.EstateLists.{EstateLists}
-use Rattle.np_model.specs.declared.pod.Pod.{Pod}
 use Rattle.np_fold.proofs.WorkloadLemmas.{number-in_workloads, one_workload, workloads-by_name}
 use Rattle.np_fold.specs.Workloads.{Workload, folding_of, name_of, number_named, number_of, pods_alike, workload_count, workloads_of}
 use Rattle.np_statements.proofs.AddressSetLemmas.{has-addresses_in, has-every_address}

@@ -1,6 +1,5 @@
 -- Lines with their ends found.
-use Rattle.std.proofs.Common.{◌≡◌, ℕ, zero, suc, ◌+◌, ◌<◌, ◌≤◌, List, [], ◌∷◌, ◌++◌, Option, Some, None, Result, Ok, Err, is_ok, All, length, drop, get_or, refl, sym, ap, subst, ◌∙◌, inl, inr}
-use Rattle.std.proofs.Common.{append-nil, append_assoc}
+use Rattle.std.proofs.Common.{◌≡◌, ℕ, zero, suc, ◌+◌, ◌<◌, ◌≤◌, List, [], ◌∷◌, ◌++◌, Option, Some, None, Result, Ok, Err, is_ok, All, length, drop, get_or, refl, sym, ap, subst, ◌∙◌, inl, inr, append-nil, append_assoc}
 use Rattle.std.specs.Borrow.{Bor}
 use Rattle.std.specs.Option.{option_or}
 use Rattle.std.specs.Prelude.{IsOk}
@@ -8,8 +7,7 @@ use Rattle.std.proofs.lemmas.Bool.{and_cases, false≢true}
 use Rattle.std.proofs.lemmas.List.{at_drop_more, drop_all}
 use Rattle.std.proofs.lemmas.List.Elements.{All-cons, All-get_or, All-head, All-nil, All-same, All-tail}
 use Rattle.np_statements.specs.StatementGrammar.{is_address_form}
-use Rattle.np_check.specs.declared.question.Ends.{Ends}
-use Rattle.np_model.specs.declared.lists.EstateLists.{EstateLists}
+use Rattle.np_statements.specs.Types.{AskedLine, Ends, EstateLists, StatementLine}
 use Rattle.np_statements.proofs.EndLemmas.{ends_of-are}
 use Rattle.np_statements.proofs.StepLemmas.{after, after-none, same_ok, then-ok}
 use Rattle.np_statements.specs.Answers.{TellsUnknown}
@@ -17,8 +15,6 @@ use Rattle.np_statements.specs.AskedLines.{IsAsked, IsWellLine}
 use Rattle.np_statements.specs.Ends.{ends_of}
 use Rattle.np_statements.specs.FoundEnds.{asked_of, ends_found}
 use Rattle.np_statements.specs.Steps.{◌>>=◌}
-use Rattle.np_statements.specs.declared.asked_line.AskedLine.{AskedLine}
-use Rattle.np_statements.specs.declared.statement_line.StatementLine.{StatementLine}
 
 -- ---- what is asked
 

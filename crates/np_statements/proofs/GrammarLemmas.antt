@@ -11,11 +11,7 @@ use Rattle.np_check.proofs.FirstLemmas.{first_of-from, none_both, none_each}
 use Rattle.np_statements.proofs.OneStatement.{one_form, one_statement}
 use Rattle.np_check.specs.Firsts.{first_of}
 use Rattle.np_statements.specs.StatementGrammar.{IsEndText, IsSpelled, IsStatementText, IsWorkText, is_address_form, wanted_text}
-use Rattle.np_statements.specs.declared.statement_text.EndForm.{EndForm}
-use Rattle.np_statements.specs.declared.statement_text.EndForm.TheVariants.{Pods, Addresses, Namespace, Work, Block}
-use Rattle.np_statements.specs.declared.statement_text.StatementText.{StatementText}
-use Rattle.np_check.specs.declared.question.Wanted.{Wanted}
-use Rattle.np_check.specs.declared.question.Wanted.TheVariants.{Allow, Deny}
+use Rattle.np_statements.specs.Types.{Addresses, Allow, Block, Deny, EndForm, Namespace, Pods, StatementText, Wanted, Work}
 use Rattle.np_model.specs.Words.{has_slash, is_name}
 use Rattle.np_statements.proofs.ConnsLemmas.{conns_read-is, conns_read-text}
 use Rattle.np_statements.proofs.CutLemmas.{behind-append, behind-is, by-lacks, first_cut-none, first_cut-some, if_some, lacks-by, then_some}

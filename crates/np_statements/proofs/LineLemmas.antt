@@ -11,12 +11,8 @@ use Rattle.np_addr.proofs.BlockLemmas.{rest_of_cleared}
 use Rattle.np_addr.proofs.GrammarLemmas.{cidr_text_iff}
 use Rattle.np_addr.specs.AddressGrammar.{block_of}
 use Rattle.np_addr.specs.Addresses.{IsCidr, family_of, width_of}
-use Rattle.np_addr.specs.declared.address.Address.{Address}
-use Rattle.np_addr.specs.declared.address.Address.TheVariants.{Four, Six}
+use Rattle.np_statements.specs.Types.{Address, Addresses, Block, EndForm, FileFault, Four, Namespace, Pods, Six, StatementLine, StatementText, Work}
 use Rattle.np_statements.specs.StatementGrammar.{IsEndText, IsStatementText}
-use Rattle.np_statements.specs.declared.statement_text.EndForm.{EndForm}
-use Rattle.np_statements.specs.declared.statement_text.EndForm.TheVariants.{Pods, Addresses, Namespace, Work, Block}
-use Rattle.np_statements.specs.declared.statement_text.StatementText.{StatementText}
 use Rattle.np_statements.proofs.CutLemmas.{if_some}
 use Rattle.np_statements.proofs.GrammarLemmas.{read-is, read-text}
 use Rattle.np_statements.proofs.StepLemmas.{after, after-none, same_ok, then-ok}
@@ -25,9 +21,7 @@ use Rattle.np_statements.specs.AskedLines.{IsWellForm, IsWellLine}
 use Rattle.np_statements.specs.Lines.{at_line, line_read, lines_of, lines_read, statement_of, statements_of}
 use Rattle.np_statements.specs.ReadStatement.{statement_read}
 use Rattle.np_statements.specs.Steps.{◌>>=◌}
-use Rattle.np_statements.specs.declared.file_fault.FileFault.{FileFault}
 use Rattle.np_statements.specs.declared.file_fault.FileFault.TheVariants.{BadStatement, NoMemory}
-use Rattle.np_statements.specs.declared.statement_line.StatementLine.{StatementLine}
 
 -- ---- one line
 

@@ -9,16 +9,12 @@ use Rattle.np_addr.proofs.CanonicalLemmas.{cidr_of-cidr_text}
 use Rattle.np_addr.proofs.GrammarLemmas.{cidr_text_iff}
 use Rattle.np_addr.proofs.PieceLemmas.{IsOther}
 use Rattle.np_addr.specs.AddressGrammar.{cidr_of}
-use Rattle.np_addr.specs.declared.cidr.Cidr.{Cidr}
+use Rattle.np_statements.specs.Types.{Addresses, Block, Cidr, EndForm, Namespace, Pods, StatementText, Wanted, Work}
 use Rattle.np_statements.proofs.SideLemmas.{after_first, first_letter, named_side}
 use Rattle.np_statements.proofs.TextLemmas.{IsForeign, arrow_mark, before_arrow, before_colon, cidr_foreign, cidr_some, colon_mark, one_wanted, w_foreign}
 use Rattle.np_statements.specs.StatementGrammar.{IsEndText, IsStatementText, is_address_form}
 use Rattle.np_statements.specs.StatementTexts.{IsWellEnd, IsWellStatement, end_text, statement_text}
 use Rattle.np_statements.specs.Sides.{IsBefore, IsMark, IsWithout}
-use Rattle.np_statements.specs.declared.statement_text.EndForm.{EndForm}
-use Rattle.np_statements.specs.declared.statement_text.EndForm.TheVariants.{Pods, Addresses, Namespace, Work, Block}
-use Rattle.np_statements.specs.declared.statement_text.StatementText.{StatementText}
-use Rattle.np_check.specs.declared.question.Wanted.{Wanted}
 use Rattle.np_conns.proofs.OneText.{conns_text-injective}
 use Rattle.np_conns.specs.Conns.{Conns, has_spot}
 use Rattle.np_conns.specs.ConnsText.{conns_text}

@@ -12,20 +12,11 @@ use Rattle.np_addr.proofs.GrammarLemmas.{cidr_text_iff}
 use Rattle.np_addr.proofs.PieceLemmas.{IsOther, IsOther-from_digits}
 use Rattle.np_addr.specs.AddressGrammar.{cidr_of}
 use Rattle.np_addr.specs.TextForms.{AreGroups, IsAddressText, IsCidrText, IsDotted, IsSide as IsGroupSide}
-use Rattle.np_addr.specs.declared.address.Address.{Address}
-use Rattle.np_addr.specs.declared.address.Address.TheVariants.{Four, Six}
-use Rattle.np_addr.specs.declared.cidr.Cidr.{Cidr}
-use Rattle.np_base.specs.declared.range.Range.{Range}
+use Rattle.np_statements.specs.Types.{Address, Addresses, Allow, Block, Cidr, Deny, EndForm, Four, Namespace, Pods, PortSpot, Range, Sctp, Six, Tcp, Udp, Wanted, Work}
 use Rattle.np_statements.proofs.SideLemmas.{same_head}
 use Rattle.np_statements.specs.StatementGrammar.{IsEndText, Lacks, wanted_text}
 use Rattle.np_statements.specs.Sides.{IsBefore, IsMark, IsSide}
-use Rattle.np_statements.specs.declared.statement_text.EndForm.{EndForm}
-use Rattle.np_statements.specs.declared.statement_text.EndForm.TheVariants.{Pods, Addresses, Namespace, Work, Block}
-use Rattle.np_check.specs.declared.question.Wanted.{Wanted}
-use Rattle.np_check.specs.declared.question.Wanted.TheVariants.{Allow, Deny}
 use Rattle.np_conns.specs.ConnsText.{conns_text, is_whole, joined, part, part_text, spans_of, text_of_runs}
-use Rattle.np_conns.specs.declared.port_spot.PortSpot.{PortSpot}
-use Rattle.np_conns.specs.declared.proto.Proto.TheVariants.{Sctp, Tcp, Udp}
 use Rattle.np_model.specs.Words.{has_slash, is_name, is_word, is_word_byte}
 
 -- ---- the marks

@@ -1,18 +1,9 @@
 -- Statements of any pod and any pod, asked at once.
 use Rattle.std.specs.Prelude.{◌≡◌, List, Bool, true, false, ◌&&◌, ◌||◌, All, None}
 use Rattle.np_check.specs.Counters.{counter_of}
-use Rattle.np_check.specs.declared.question.Question.{Question}
-use Rattle.np_statements.specs.declared.statement_text.EndForm.{EndForm}
-use Rattle.np_statements.specs.declared.statement_text.EndForm.TheVariants.{Pods, Addresses, Namespace, Work, Block}
-use Rattle.np_statements.specs.declared.statement_text.StatementText.{StatementText}
-use Rattle.np_check.specs.declared.question.Wanted.{Wanted}
-use Rattle.np_check.specs.declared.question.Wanted.TheVariants.{Allow, Deny}
+use Rattle.np_statements.specs.Types.{Addresses, Allow, Block, CheckedKinds, Deny, EndForm, EstateLists, Namespace, Pods, PortSpot, Question, StatementLine, StatementText, Wanted, Work}
 use Rattle.np_conns.specs.Conns.{Conns, has_spot}
-use Rattle.np_conns.specs.declared.port_spot.PortSpot.{PortSpot}
-use Rattle.np_model.specs.declared.lists.EstateLists.{EstateLists}
 use Rattle.np_statements.specs.Ends.{all_works, works_alone}
-use Rattle.np_statements.specs.declared.all_pods.CheckedKinds.{CheckedKinds}
-use Rattle.np_statements.specs.declared.statement_line.StatementLine.{StatementLine}
 
 -- ---- which statements
 

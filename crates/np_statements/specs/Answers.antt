@@ -1,9 +1,8 @@
 -- What the code gives of what there is: its value or its very fault, and want of memory at any time.
 use Rattle.std.specs.Prelude.{◌≡◌, ℕ, List, Option, Some, None, IsOk, Result, Ok, Err}
 use Rattle.std.specs.Borrow.{Bor}
-use Rattle.np_statements.specs.declared.end_fault.EndFault.{EndFault}
+use Rattle.np_statements.specs.Types.{EndFault, FileFault}
 use Rattle.np_statements.specs.declared.end_fault.EndFault.TheVariants as ends
-use Rattle.np_statements.specs.declared.file_fault.FileFault.{FileFault}
 use Rattle.np_statements.specs.declared.file_fault.FileFault.TheVariants as file
 
 -- of the statements of a file, or of the number of its first bad line

@@ -3,12 +3,7 @@ use Rattle.std.specs.Prelude.{◌≡◌, ◌&&◌, true, false, All}
 use Rattle.np_addr.specs.Addresses.{IsCidr}
 use Rattle.np_check.specs.Numbers.{IsOneSided, is_ascending}
 use Rattle.np_statements.specs.StatementGrammar.{is_address_form}
-use Rattle.np_check.specs.declared.question.Question.{Question}
-use Rattle.np_statements.specs.declared.statement_text.EndForm.{EndForm}
-use Rattle.np_statements.specs.declared.statement_text.EndForm.TheVariants.{Pods, Addresses, Namespace, Work, Block}
-use Rattle.np_model.specs.declared.lists.EstateLists.{EstateLists}
-use Rattle.np_statements.specs.declared.asked_line.AskedLine.{AskedLine}
-use Rattle.np_statements.specs.declared.statement_line.StatementLine.{StatementLine}
+use Rattle.np_statements.specs.Types.{Addresses, AskedLine, Block, EndForm, EstateLists, Namespace, Pods, Question, StatementLine, Work}
 use Rattle.np_kinds.specs.Between.{IsWorkload}
 
 -- a block has no host bits

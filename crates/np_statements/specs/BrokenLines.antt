@@ -2,15 +2,10 @@
 use Rattle.std.specs.Prelude.{ℕ, List, Bool, Option, option_map, Result, Ok}
 use Rattle.np_check.specs.Counters.{allows_between, counter_of}
 use Rattle.np_check.specs.Firsts.{first_of}
-use Rattle.np_check.specs.declared.counterexample.Counterexample.{Counterexample}
-use Rattle.np_check.specs.declared.counterexample.PlaceEnd.{PlaceEnd}
-use Rattle.np_check.specs.declared.counterexample.PlaceEnd.TheVariants.{At, Work}
-use Rattle.np_model.specs.declared.lists.EstateLists.{EstateLists}
+use Rattle.np_statements.specs.Types.{AskedLine, At, Broken, Counterexample, EstateLists, PlaceEnd, StatementLine}
+use Rattle.np_check.specs.declared.counterexample.PlaceEnd.TheVariants.{Work}
 use Rattle.np_statements.specs.FoundEnds.{ends_found}
 use Rattle.np_statements.specs.Steps.{◌>>=◌}
-use Rattle.np_statements.specs.declared.asked_line.AskedLine.{AskedLine}
-use Rattle.np_statements.specs.declared.broken.Broken.{Broken}
-use Rattle.np_statements.specs.declared.statement_line.StatementLine.{StatementLine}
 use Rattle.np_kinds.specs.Between.{IsWorkload}
 
 -- whether a packet is allowed

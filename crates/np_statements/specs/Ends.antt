@@ -4,12 +4,8 @@ use Rattle.std.specs.List.{range_with_len}
 use Rattle.std.specs.Option.{option_map_or}
 use Rattle.std.specs.Str.{bytes_eq}
 use Rattle.np_addr.specs.Blocks.{AddressRanges}
-use Rattle.np_addr.specs.declared.cidr.Cidr.{Cidr}
+use Rattle.np_statements.specs.Types.{Addresses, Block, Cidr, EndForm, Ends, EstateLists, Namespace, Pods, Work}
 use Rattle.np_addr.specs.declared.cidr.Cidr.TheVariants.{Four, Six}
-use Rattle.np_check.specs.declared.question.Ends.{Ends}
-use Rattle.np_statements.specs.declared.statement_text.EndForm.{EndForm}
-use Rattle.np_statements.specs.declared.statement_text.EndForm.TheVariants.{Pods, Addresses, Namespace, Work, Block}
-use Rattle.np_model.specs.declared.lists.EstateLists.{EstateLists}
 use Rattle.np_fold.specs.Workloads.{folding_of, number_named}
 use Rattle.np_kinds.specs.Between.{number_of_workloads, source_pod}
 

@@ -1,8 +1,7 @@
 -- How it is told why a line gave no statement, a file none, or statements no ends.
 use Rattle.std.specs.Prelude.{ℕ, List, ◌++◌, codes, decimal}
-use Rattle.np_statements.specs.declared.end_fault.EndFault.{EndFault}
+use Rattle.np_statements.specs.Types.{EndFault, FileFault}
 use Rattle.np_statements.specs.declared.end_fault.EndFault.TheVariants as ends
-use Rattle.np_statements.specs.declared.file_fault.FileFault.{FileFault}
 use Rattle.np_statements.specs.declared.file_fault.FileFault.TheVariants as file
 use Rattle.np_statements.specs.declared.statement_text.StatementFault.{StatementFault}
 use Rattle.np_statements.specs.declared.statement_text.StatementFault.TheVariants as statement

@@ -2,13 +2,10 @@
 use Rattle.std.specs.Prelude.{◌≡◌, List, ◌∷◌, ◌++◌, false, All, Ok}
 use Rattle.np_check.specs.Counters.{complies}
 use Rattle.np_check.specs.FirstPacket.{IsFirstBroken}
-use Rattle.np_model.specs.declared.lists.EstateLists.{EstateLists}
+use Rattle.np_statements.specs.Types.{AskedLine, Broken, EstateLists, StatementLine}
 use Rattle.np_statements.specs.BrokenLines.{is_allowed}
 use Rattle.np_statements.specs.FoundEnds.{asked_of}
 use Rattle.np_statements.specs.Holding.{LineHolds}
-use Rattle.np_statements.specs.declared.asked_line.AskedLine.{AskedLine}
-use Rattle.np_statements.specs.declared.broken.Broken.{Broken}
-use Rattle.np_statements.specs.declared.statement_line.StatementLine.{StatementLine}
 
 -- The lines before it hold, and it does not: its packet is the first that breaks it, and the verdict of that is not the wanted one.
 pub record IsFirstBrokenLine (lists : EstateLists) (lines : List StatementLine) (broken : Broken) : Type 0 where

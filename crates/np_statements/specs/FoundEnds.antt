@@ -1,10 +1,8 @@
 -- Statements with their ends found.
 use Rattle.std.specs.Prelude.{ℕ, List, [], ◌∷◌, Result, Ok}
-use Rattle.np_model.specs.declared.lists.EstateLists.{EstateLists}
+use Rattle.np_statements.specs.Types.{AskedLine, EstateLists, StatementLine}
 use Rattle.np_statements.specs.Ends.{ends_of}
 use Rattle.np_statements.specs.Steps.{◌>>=◌}
-use Rattle.np_statements.specs.declared.asked_line.AskedLine.{AskedLine}
-use Rattle.np_statements.specs.declared.statement_line.StatementLine.{StatementLine}
 
 -- what a line asks; the ends of its source are found first
 unfoldable pub asked_of : EstateLists → StatementLine → Result AskedLine (List ℕ)

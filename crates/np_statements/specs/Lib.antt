@@ -18,3 +18,4 @@ pub mod Sides
 pub mod StatementGrammar
 pub mod StatementTexts
 pub mod Steps
+pub mod Types

@@ -2,10 +2,9 @@
 use Rattle.std.specs.Prelude.{ℕ, ◌+◌, ◌==◌, List, [], ◌∷◌, ◌++◌, Option, Some, None, option_to_list, Result, Ok, Err, if◌then◌else◌}
 use Rattle.std.specs.List.{slice_split}
 use Rattle.std.specs.Str.{is_utf8}
-use Rattle.np_statements.specs.declared.statement_text.StatementText.{StatementText}
+use Rattle.np_statements.specs.Types.{StatementLine, StatementText}
 use Rattle.np_statements.specs.ReadStatement.{statement_read}
 use Rattle.np_statements.specs.Steps.{◌>>=◌}
-use Rattle.np_statements.specs.declared.statement_line.StatementLine.{StatementLine}
 
 -- the lines of a file, cut at line feeds (10)
 abbrev pub lines_of : List ℕ → List (List ℕ)

@@ -1,10 +1,7 @@
 -- The pods and the addresses that a form names.
 use Rattle.std.specs.Prelude.{◌≡◌, ℕ, true, IsSomeAnd, slice_get}
 use Rattle.np_addr.specs.Addresses.{cidr_has}
-use Rattle.np_addr.specs.declared.address.Address.{Address}
-use Rattle.np_statements.specs.declared.statement_text.EndForm.{EndForm}
-use Rattle.np_statements.specs.declared.statement_text.EndForm.TheVariants.{Pods, Addresses, Namespace, Work, Block}
-use Rattle.np_model.specs.declared.lists.EstateLists.{EstateLists}
+use Rattle.np_statements.specs.Types.{Address, Addresses, Block, EndForm, EstateLists, Namespace, Pods, Work}
 use Rattle.np_fold.specs.Workloads.{folding_of, name_of, number_of}
 
 -- the form names the pod at a place

@@ -2,7 +2,7 @@
 use Rattle.std.specs.Prelude.{ℕ, zero, suc, ◌+◌, List, [], ◌∷◌, ◌++◌, map, flat_map, Option}
 use Rattle.std.specs.List.{find}
 use Rattle.std.specs.Str.{bytes_eq}
-use Rattle.np_base.specs.declared.range.Range.{Range}
+use Rattle.np_statements.specs.Types.{Range}
 use Rattle.np_conns.specs.Conns.{Conns, has_spot}
 use Rattle.np_conns.specs.ConnsText.{conns_text}
 use Rattle.np_conns.specs.Runs.{onto_runs}

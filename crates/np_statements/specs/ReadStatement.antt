@@ -6,11 +6,7 @@ use Rattle.np_addr.specs.AddressGrammar.{cidr_of}
 use Rattle.np_addr.specs.Steps.{◌>>=◌}
 use Rattle.np_check.specs.Firsts.{first_of}
 use Rattle.np_statements.specs.StatementGrammar.{is_address_form, wanted_text}
-use Rattle.np_statements.specs.declared.statement_text.EndForm.{EndForm}
-use Rattle.np_statements.specs.declared.statement_text.EndForm.TheVariants.{Pods, Addresses, Namespace, Work, Block}
-use Rattle.np_statements.specs.declared.statement_text.StatementText.{StatementText}
-use Rattle.np_check.specs.declared.question.Wanted.{Wanted}
-use Rattle.np_check.specs.declared.question.Wanted.TheVariants.{Allow, Deny}
+use Rattle.np_statements.specs.Types.{Addresses, Allow, Block, Deny, EndForm, Namespace, Pods, StatementText, Wanted, Work}
 use Rattle.np_model.specs.Words.{has_slash, is_name}
 use Rattle.np_statements.specs.Cuts.{behind, first_cut, has_mark}
 use Rattle.np_statements.specs.ReadConns.{conns_read}

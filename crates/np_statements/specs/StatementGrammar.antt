@@ -1,11 +1,7 @@
 -- The lines of statements, by how they are put together.
 use Rattle.std.specs.Prelude.{◌≡◌, ◌≢◌, ℕ, List, ◌++◌, Bool, true, false, ◌&&◌, Some, codes}
 use Rattle.np_addr.specs.AddressGrammar.{cidr_of}
-use Rattle.np_statements.specs.declared.statement_text.EndForm.{EndForm}
-use Rattle.np_statements.specs.declared.statement_text.EndForm.TheVariants.{Pods, Addresses, Namespace, Work, Block}
-use Rattle.np_statements.specs.declared.statement_text.StatementText.{StatementText}
-use Rattle.np_check.specs.declared.question.Wanted.{Wanted}
-use Rattle.np_check.specs.declared.question.Wanted.TheVariants.{Allow, Deny}
+use Rattle.np_statements.specs.Types.{Addresses, Allow, Block, Deny, EndForm, Namespace, Pods, StatementText, Wanted, Work}
 use Rattle.np_conns.specs.Conns.{IsConns, has_spot}
 use Rattle.np_conns.specs.ConnsText.{conns_text}
 use Rattle.np_model.specs.Words.{has_slash, is_name}

@@ -4,9 +4,7 @@ use Rattle.np_addr.specs.Addresses.{IsAddress, IsCidr}
 use Rattle.np_addr.specs.AddressText.{cidr_text}
 use Rattle.np_addr.specs.Blocks.{base_of}
 use Rattle.np_statements.specs.StatementGrammar.{IsWorkText, is_address_form, wanted_text}
-use Rattle.np_statements.specs.declared.statement_text.EndForm.{EndForm}
-use Rattle.np_statements.specs.declared.statement_text.EndForm.TheVariants.{Pods, Addresses, Namespace, Work, Block}
-use Rattle.np_statements.specs.declared.statement_text.StatementText.{StatementText}
+use Rattle.np_statements.specs.Types.{Addresses, Block, EndForm, Namespace, Pods, StatementText, Work}
 use Rattle.np_conns.specs.Conns.{IsConns, has_spot}
 use Rattle.np_conns.specs.ConnsText.{conns_text}
 use Rattle.np_model.specs.Words.{is_name}

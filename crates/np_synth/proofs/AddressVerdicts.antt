@@ -1,6 +1,5 @@
 -- What the rules of ranges of addresses allow.
-use Rattle.std.proofs.Common.{◌≡◌, ℕ, ◌+◌, ◌-◌, ◌^◌, ◌<◌, ◌≤◌, List, [], ◌∷◌, ◌++◌, Bool, true, false, ◌&&◌, ◌||◌, nat_le, Option, Some, None, map, if◌then◌else◌, lit≤, refl, sym, ap, ◌∙◌, arith, inl}
-use Rattle.std.proofs.Common.{inr}
+use Rattle.std.proofs.Common.{◌≡◌, ℕ, ◌+◌, ◌-◌, ◌^◌, ◌<◌, ◌≤◌, List, [], ◌∷◌, ◌++◌, Bool, true, false, ◌&&◌, ◌||◌, nat_le, Option, Some, None, map, if◌then◌else◌, lit≤, refl, sym, ap, ◌∙◌, arith, inl, inr}
 use Rattle.std.specs.List.{AllByRecursion, list_any}
 use Rattle.std.proofs.lemmas.Bool.{and_from, cases_lt, le-leb, lt-leb, true≢false}
 use Rattle.std.proofs.lemmas.List.Folds.{list_any-append}
@@ -10,16 +9,10 @@ use Rattle.np_addr.specs.Blocks.{IsAddressSet, block_has, set_has}
 use Rattle.np_addr.specs.Prefixes.{prefixes_of, some_has}
 use Rattle.np_addr.specs.declared.address.Address.{Address}
 use Rattle.np_addr.specs.declared.address.Address.TheVariants as address
-use Rattle.np_addr.specs.declared.address.Family.{Family}
+use Rattle.np_synth.specs.Types.{AddressRow, AddressSpan, Block, Family, NetPeer, NetRule, PortSpot, Proto, Sctp, Tcp, Udp}
 use Rattle.np_addr.specs.declared.address.Family.TheVariants as family
 use Rattle.np_addr.specs.declared.cidr.Cidr.{Cidr}
 use Rattle.np_conns.specs.Conns.{Conns, has_spot, is_spot}
-use Rattle.np_conns.specs.declared.port_spot.PortSpot.{PortSpot}
-use Rattle.np_conns.specs.declared.proto.Proto.{Proto}
-use Rattle.np_conns.specs.declared.proto.Proto.TheVariants.{Tcp, Udp, Sctp}
-use Rattle.np_model.specs.declared.network_policy.NetPeer.{NetPeer}
-use Rattle.np_model.specs.declared.network_policy.NetPeer.TheVariants.{Block}
-use Rattle.np_model.specs.declared.network_policy.NetRule.{NetRule}
 use Rattle.np_rules.specs.model.Ends.{Contact, End, PodEnd, address, pod}
 use Rattle.np_rules.specs.model.Peers.{net_peer_matches}
 use Rattle.np_rules.specs.model.PortEntries.{net_entry_matches}
@@ -35,8 +28,6 @@ use Rattle.np_table.specs.Right.{AreRight, Stretch, is_within, walk}
 use Rattle.np_table.specs.Rows.{address_row, four_of, is_none, is_nothing, rows_of_addresses, six_of}
 use Rattle.np_table.specs.Said.{IsInFamily, span_has}
 use Rattle.np_kinds.specs.Between.{address_of}
-use Rattle.np_table.specs.declared.rows.AddressRow.{AddressRow}
-use Rattle.np_table.specs.declared.rows.AddressSpan.{AddressSpan}
 use Rattle.np_table.specs.declared.rows.AddressSpan.TheVariants as span
 
 -- ---- the right list

@@ -7,22 +7,15 @@ use Rattle.std.proofs.lemmas.Bool.{false_from_ne_true}
 use Rattle.std.proofs.lemmas.List.Elements.{All-get_or}
 use Rattle.std.proofs.lemmas.List.Folds.{list_any-append}
 use Rattle.std.proofs.lemmas.Option.{get_or_from_slice_get, slice_get-get_or}
-use Rattle.np_addr.specs.declared.address.Family.{Family}
+use Rattle.np_synth.specs.Types.{AddressRow, Direction, Egress, EstateLists, Family, Ingress, NetPeer, NetRule, Pod, PortSpot}
 use Rattle.np_classes.proofs.Relations.{class_of_first, class_within, firsts_within, same_class}
 use Rattle.np_classes.specs.Classes.{firsts, places}
 use Rattle.np_conns.specs.Conns.{Conns, has_spot, is_spot}
-use Rattle.np_conns.specs.declared.port_spot.PortSpot.{PortSpot}
 use Rattle.np_model.specs.Families.{families_of}
 use Rattle.np_model.specs.Lawful.{IsLawful, SaysItsNamespace}
-use Rattle.np_model.specs.declared.lists.EstateLists.{EstateLists}
-use Rattle.np_model.specs.declared.pod.Pod.{Pod}
 use Rattle.np_fold.proofs.WorkloadLemmas.{number-in_workloads, one_workload}
 use Rattle.np_fold.specs.Workloads.{folding_of, number_of}
 use Rattle.np_labels.specs.Labels.{value_of}
-use Rattle.np_model.specs.declared.direction.Direction.{Direction}
-use Rattle.np_model.specs.declared.direction.Direction.TheVariants.{Egress, Ingress}
-use Rattle.np_model.specs.declared.network_policy.NetPeer.{NetPeer}
-use Rattle.np_model.specs.declared.network_policy.NetRule.{NetRule}
 use Rattle.np_rules.specs.model.Ends.{Contact, End, PodEnd, address, pod, pod_end}
 use Rattle.np_rules.specs.model.Peers.{net_peer_matches}
 use Rattle.np_rules.specs.model.Places.{net_rules_of}
@@ -41,8 +34,7 @@ use Rattle.np_synth.proofs.OnePolicy.{any-agree, any-flat_map, only-one, side-by
 use Rattle.np_synth.proofs.PortLemmas.{ports-match}
 use Rattle.np_synth.proofs.SelectLemmas.{meets-namespace_named, meets-selector_of}
 use Rattle.np_synth.specs.Faults.{flat_fault, is_defined, set_in}
-use Rattle.np_synth.specs.Flat.{egress_rules, flat_policy, flattened, group_namespace, group_peer, group_rows, ingress_rules, rule_if, rules_from_group, rules_from_groups, rules_of_addresses}
-use Rattle.np_synth.specs.Flat.{rules_of_set, set_from}
+use Rattle.np_synth.specs.Flat.{egress_rules, flat_policy, flattened, group_namespace, group_peer, group_rows, ingress_rules, rule_if, rules_from_group, rules_from_groups, rules_of_addresses, rules_of_set, set_from}
 use Rattle.np_synth.specs.Groups.{are_together, first_of_group, group_count, group_of, look_alike, relevant}
 use Rattle.np_kinds.specs.Kinds.{first_end}
 use Rattle.np_synth.specs.Ports.{ports_of}
@@ -54,7 +46,6 @@ use Rattle.np_table.specs.Rows.{address_rows, is_nothing}
 use Rattle.np_table.specs.Said.{IsInFamily}
 use Rattle.np_kinds.specs.Between.{address_allows, address_of, between_pods, number_of_workloads, pair_allows, source_pod, with_address}
 use Rattle.np_table.specs.Table.{estate_table, table_of}
-use Rattle.np_table.specs.declared.rows.AddressRow.{AddressRow}
 
 -- ---- pods and groups
 

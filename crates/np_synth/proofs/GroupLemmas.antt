@@ -14,12 +14,11 @@ use Rattle.std.proofs.lemmas.Option.{same_Some, slice_get-get_or, slice_get-map}
 use Rattle.np_classes.proofs.Lists.{All-places, map_agree_on, places_more}
 use Rattle.np_classes.proofs.Relations.{class_of_agree, firsts_agree}
 use Rattle.np_classes.specs.Classes.{IsAlike, class_of, firsts, keys_tie, places}
-use Rattle.np_model.specs.declared.lists.EstateLists.{EstateLists}
+use Rattle.np_synth.specs.Types.{EstateLists, Traits}
 use Rattle.np_fold.proofs.LabelLemmas.{Decides-listed, labels-from_values, values-from_labels}
 use Rattle.np_fold.proofs.OrderLemmas.{ties-equal}
 use Rattle.np_fold.specs.Order.{compare_traits}
 use Rattle.np_fold.specs.Traits.{label_of}
-use Rattle.np_fold.specs.declared.traits.Traits.{Traits}
 use Rattle.np_labels.specs.Labels.{value_of}
 use Rattle.np_rules.specs.model.Ends.{PodEnd}
 use Rattle.np_synth.specs.Groups.{are_together, group_firsts, group_of, have_same_value, look_alike, relevant}

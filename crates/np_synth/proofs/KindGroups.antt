@@ -5,13 +5,9 @@ use Rattle.std.specs.List.{list_all}
 use Rattle.std.specs.Str.{bytes_eq}
 use Rattle.std.specs.Cmp.Lexicographic.{bytes_decides}
 use Rattle.std.proofs.lemmas.Bool.{and_from}
-use Rattle.np_addr.specs.declared.address.Family.{Family}
-use Rattle.np_addr.specs.declared.address.Family.TheVariants.{Four, Six}
+use Rattle.np_synth.specs.Types.{AddressRow, Direction, Egress, EstateLists, Family, Four, Ingress, Pod, PortSpot, Six}
 use Rattle.np_classes.specs.Classes.{IsAlike, class_of}
-use Rattle.np_conns.specs.declared.port_spot.PortSpot.{PortSpot}
 use Rattle.np_model.specs.Lawful.{IsLawful}
-use Rattle.np_model.specs.declared.lists.EstateLists.{EstateLists}
-use Rattle.np_model.specs.declared.pod.Pod.{Pod}
 use Rattle.np_fold.proofs.AlikeLemmas.{kinds-are}
 use Rattle.np_fold.proofs.PartLemmas.{keys-agree}
 use Rattle.np_fold.proofs.WorkloadLemmas.{first-is, one_kind, workloads-count}
@@ -20,8 +16,6 @@ use Rattle.np_fold.specs.Keys.{keys_of_estate, with_keys}
 use Rattle.np_fold.specs.Workloads.{first_pod, folding_of, kinds_alike, members_of, workload_count}
 use Rattle.np_labels.specs.Labels.{value_of}
 use Rattle.np_labels.specs.Selectors.{is_listed}
-use Rattle.np_model.specs.declared.direction.Direction.{Direction}
-use Rattle.np_model.specs.declared.direction.Direction.TheVariants.{Egress, Ingress}
 use Rattle.np_rules.specs.model.Ends.{pod, pod_end}
 use Rattle.np_rules.specs.model.Verdict.{no_pod, pod_at}
 use Rattle.np_synth.proofs.AgreeLemmas.{least-first_pair}
@@ -41,7 +35,6 @@ use Rattle.np_table.specs.Right.{Stretch, walk}
 use Rattle.np_table.specs.Rows.{address_row, address_rows, four_of, six_of}
 use Rattle.np_kinds.specs.Between.{address_allows, is_alone, number_of_workloads, source_pod}
 use Rattle.np_table.specs.Table.{estate_table, table_of}
-use Rattle.np_table.specs.declared.rows.AddressRow.{AddressRow}
 
 -- ---- counts
 

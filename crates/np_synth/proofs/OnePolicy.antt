@@ -6,10 +6,7 @@ use Rattle.std.proofs.lemmas.Bool.{and_from, cases_Bool, cases_eq, false_from_ne
 use Rattle.std.proofs.lemmas.List.Folds.{list_any-append}
 use Rattle.np_classes.proofs.Lists.{any_place, place_that_passes}
 use Rattle.np_classes.specs.Classes.{places}
-use Rattle.np_model.specs.declared.lists.EstateLists.{EstateLists}
-use Rattle.np_model.specs.declared.direction.Direction.{Direction}
-use Rattle.np_model.specs.declared.network_policy.NetPolicy.{NetPolicy}
-use Rattle.np_model.specs.declared.network_policy.NetRule.{NetRule}
+use Rattle.np_synth.specs.Types.{Direction, EstateLists, NetPolicy, NetRule}
 use Rattle.np_rules.specs.model.Ends.{Contact, PodEnd}
 use Rattle.np_rules.specs.model.NetTier.{is_isolated, isolates, permits, placed_net_matches}
 use Rattle.np_rules.specs.model.Places.{net_places_of, net_rules_of}

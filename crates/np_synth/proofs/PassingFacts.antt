@@ -1,13 +1,9 @@
 -- The sides of the kinds of workloads, and what passes between two.
 use Rattle.std.proofs.Common.{◌≡◌, ◌≢◌, ◌==◌, ◌+◌, ℕ, false, true, length, inl, inr, arith, sym, ap, ◌∙◌}
 use Rattle.std.proofs.lemmas.Bool.{and_left, cases_eq, ne_eqb}
-use Rattle.np_addr.specs.declared.address.Family.{Family}
+use Rattle.np_synth.specs.Types.{Direction, Egress, EstateLists, Family, Ingress, PortSpot}
 use Rattle.np_conns.specs.Conns.{Conns, IsConns, has_spot}
-use Rattle.np_conns.specs.declared.port_spot.PortSpot.{PortSpot}
-use Rattle.np_model.specs.declared.lists.EstateLists.{EstateLists}
 use Rattle.np_fold.specs.Workloads.{folding_of, members_of}
-use Rattle.np_model.specs.declared.direction.Direction.{Direction}
-use Rattle.np_model.specs.declared.direction.Direction.TheVariants.{Egress, Ingress}
 use Rattle.np_rules.specs.PodSides.{PodSide}
 use Rattle.np_synth.specs.Faults.{family_of_list, set_in, set_of}
 use Rattle.np_synth.specs.steps.Known.{AreKnownBelow}

@@ -1,13 +1,7 @@
 -- The parts of a flat policy, as they are made.
 use Rattle.std.proofs.Common.{◌≡◌, ℕ, List, [], ◌∷◌, Bool, false, Option, Some, Result, Ok, Err, OnOk, if◌then◌else◌, sym, ap, ◌∙◌}
 use Rattle.np_conns.specs.Conns.{Conns}
-use Rattle.np_model.specs.declared.lists.EstateLists.{EstateLists}
-use Rattle.np_labels.specs.declared.selector.Selector.{Selector}
-use Rattle.np_model.specs.declared.network_policy.NetPeer.{NetPeer}
-use Rattle.np_model.specs.declared.network_policy.NetPeer.TheVariants.{Pods}
-use Rattle.np_model.specs.declared.network_policy.NetPolicy.{NetPolicy}
-use Rattle.np_model.specs.declared.network_policy.NetPort.{NetPort}
-use Rattle.np_model.specs.declared.network_policy.NetRule.{NetRule}
+use Rattle.np_synth.specs.Types.{EstateLists, NetPeer, NetPolicy, NetPort, NetRule, Pods, Selector}
 use Rattle.np_rules.specs.model.Ends.{PodEnd}
 use Rattle.np_synth.specs.Flat.{egress_rules, flat_name, flat_policy, group_peer, ingress_rules, rules_from_group, rules_of_set, set_from}
 use Rattle.np_synth.specs.Groups.{first_of_group, relevant}

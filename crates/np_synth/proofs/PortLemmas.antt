@@ -4,13 +4,9 @@ use Rattle.std.specs.List.{list_any}
 use Rattle.std.proofs.lemmas.Bool.{and_parts, eqb-true, or_left, true≢false}
 use Rattle.std.proofs.lemmas.List.Folds.{list_any-append}
 use Rattle.np_base.specs.Ranges.{holds}
-use Rattle.np_base.specs.declared.range.Range.{Range}
+use Rattle.np_synth.specs.Types.{NetPort, PortSpot, Proto, Range, Sctp, Tcp, Udp}
 use Rattle.np_conns.specs.Conns.{Conns, has_spot, is_spot, same_proto}
 use Rattle.np_conns.specs.ConnsText.{is_whole}
-use Rattle.np_conns.specs.declared.port_spot.PortSpot.{PortSpot}
-use Rattle.np_conns.specs.declared.proto.Proto.{Proto}
-use Rattle.np_conns.specs.declared.proto.Proto.TheVariants.{Tcp, Udp, Sctp}
-use Rattle.np_model.specs.declared.network_policy.NetPort.{NetPort}
 use Rattle.np_rules.specs.model.Ends.{End}
 use Rattle.np_rules.specs.model.PortEntries.{net_entry_matches}
 use Rattle.np_rules.specs.model.Rules.{none_or_any}

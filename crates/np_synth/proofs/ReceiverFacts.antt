@@ -8,15 +8,12 @@ use Rattle.std.proofs.lemmas.List.Elements.{All-from_recursion, All-get_or, All-
 use Rattle.std.proofs.lemmas.Option.{slice_get-get_or}
 use Rattle.np_base.proofs.Ranges.{is_within-inside}
 use Rattle.np_base.specs.Ranges.{IsAscending, holds}
-use Rattle.np_base.specs.declared.range.Range.{Range}
+use Rattle.np_synth.specs.Types.{AddressRow, AddressSpan, Direction, EstateLists, NetRule, Range}
 use Rattle.np_classes.proofs.Lists.{places_more}
 use Rattle.np_classes.proofs.Relations.{class_of_first, firsts-le-count, firsts_within}
 use Rattle.np_classes.specs.Classes.{places}
 use Rattle.np_conns.specs.Conns.{Conns}
-use Rattle.np_model.specs.declared.lists.EstateLists.{EstateLists}
 use Rattle.np_fold.specs.Workloads.{folding_of}
-use Rattle.np_model.specs.declared.direction.Direction.{Direction}
-use Rattle.np_model.specs.declared.network_policy.NetRule.{NetRule}
 use Rattle.np_synth.proofs.AddressVerdicts.{IsWellSpan, rows-well}
 use Rattle.np_synth.proofs.ClassFirsts.{first-least}
 use Rattle.np_synth.proofs.DifferLemmas.{apart-defined}
@@ -30,8 +27,6 @@ use Rattle.np_synth.specs.steps.Next.{next_in}
 use Rattle.np_table.specs.Rows.{address_rows}
 use Rattle.np_table.specs.Table.{estate_table}
 use Rattle.np_kinds.specs.Between.{is_alone, number_of_workloads}
-use Rattle.np_table.specs.declared.rows.AddressRow.{AddressRow}
-use Rattle.np_table.specs.declared.rows.AddressSpan.{AddressSpan}
 use Rattle.np_table.specs.declared.rows.AddressSpan.TheVariants as span
 
 -- ---- the first workload of a group

@@ -3,15 +3,10 @@ use Rattle.std.proofs.Common.{◌≡◌, ◌⊎◌, ℕ, ◌<◌, List, [], ◌�
 use Rattle.std.specs.List.{Contains}
 use Rattle.std.proofs.lemmas.Bool.{and_parts, lt-ltb, ltb-true, true≢false}
 use Rattle.std.proofs.lemmas.List.Elements.{All-contains, All-from_recursion}
-use Rattle.np_addr.specs.declared.address.Family.{Family}
-use Rattle.np_addr.specs.declared.address.Family.TheVariants.{Four, Six}
+use Rattle.np_synth.specs.Types.{AddressRow, Alike, Direction, Egress, EstateLists, Family, Four, Ingress, PortSpot, Six, Split}
 use Rattle.np_conns.specs.Conns.{Conns, has_spot, is_spot}
-use Rattle.np_conns.specs.declared.port_spot.PortSpot.{PortSpot}
 use Rattle.np_model.specs.Families.{families_of}
-use Rattle.np_model.specs.declared.lists.EstateLists.{EstateLists}
 use Rattle.np_fold.specs.Workloads.{folding_of}
-use Rattle.np_model.specs.declared.direction.Direction.{Direction}
-use Rattle.np_model.specs.declared.direction.Direction.TheVariants.{Egress, Ingress}
 use Rattle.np_synth.proofs.DifferLemmas.{Agrees, from_agree, to_agree}
 use Rattle.np_synth.proofs.FirstPairs.{first_pair-from_none, first_pair-is_first}
 use Rattle.np_synth.proofs.FlatFacts.{same_sets}
@@ -20,13 +15,11 @@ use Rattle.np_synth.specs.Faults.{differ, family_of_list, fault_by, first_family
 use Rattle.np_synth.specs.Groups.{are_together}
 use Rattle.np_synth.specs.Pairs.{first_pair}
 use Rattle.np_synth.specs.Refused.{AreFamiliesAlike, AreTreatedAlike, ComesBefore, PassTheSame}
-use Rattle.np_synth.specs.declared.fault.FlatFault.TheVariants.{Alike, Split}
 use Rattle.np_table.proofs.RangeSets.{are_same_conns-Decides, conns_of-agrees}
 use Rattle.np_table.proofs.SetLemmas.{has_spot-conns_of}
 use Rattle.np_table.specs.Rows.{address_rows}
 use Rattle.np_table.specs.Table.{estate_table}
 use Rattle.np_kinds.specs.Between.{is_alone, number_of_workloads, pair_allows}
-use Rattle.np_table.specs.declared.rows.AddressRow.{AddressRow}
 
 -- ---- sets and packets
 

@@ -5,7 +5,7 @@ use Rattle.std.specs.Option.{option_eq}
 use Rattle.std.specs.Str.{bytes_eq}
 use Rattle.np_labels.specs.Labels.{value_of}
 use Rattle.np_labels.specs.Selectors.{meets_requirement, meets_selector}
-use Rattle.np_labels.specs.declared.pair.Pair.{Pair}
+use Rattle.np_synth.specs.Types.{Pair}
 use Rattle.np_synth.specs.Selecting.{namespace_named, requirement_at, requirement_of_key, selector_of}
 
 or_false : (b : Bool) → (b || false) ≡ b

@@ -1,23 +1,16 @@
 -- The first row with a mark tells the first pair that is split.
-use Rattle.std.proofs.Common.{◌≡◌, ℕ, ◌<◌, List, [], ◌∷◌, ◌++◌, Bool, true, false, not, ◌&&◌, ◌||◌, ◌⊎◌, Option, Some, None, map, flat_map, length, if◌then◌else◌, arith, refl, sym, ap, subst, ◌∙◌}
-use Rattle.std.proofs.Common.{inl, inr}
+use Rattle.std.proofs.Common.{◌≡◌, ℕ, ◌<◌, List, [], ◌∷◌, ◌++◌, Bool, true, false, not, ◌&&◌, ◌||◌, ◌⊎◌, Option, Some, None, map, flat_map, length, if◌then◌else◌, arith, refl, sym, ap, subst, ◌∙◌, inl, inr}
 use Rattle.std.specs.Prelude.{MatchOption, is_some}
 use Rattle.std.specs.List.{find}
 use Rattle.std.specs.Option.{option_or}
 use Rattle.std.proofs.lemmas.Bool.{and_parts, cases_Bool, true≢false}
 use Rattle.std.proofs.lemmas.List.{length-map}
 use Rattle.std.proofs.lemmas.List.Folds.{find-append}
-use Rattle.np_addr.specs.declared.address.Family.{Family}
-use Rattle.np_addr.specs.declared.address.Family.TheVariants.{Four, Six}
-use Rattle.np_base.specs.declared.range.Range.{Range}
+use Rattle.np_synth.specs.Types.{AddressRow, Direction, Egress, EstateLists, Family, Four, Ingress, Pod, Range, Row, Six}
 use Rattle.np_classes.specs.Classes.{places}
 use Rattle.np_conns.specs.Conns.{Conns}
 use Rattle.np_model.specs.Families.{families_of, has_family}
-use Rattle.np_model.specs.declared.lists.EstateLists.{EstateLists}
-use Rattle.np_model.specs.declared.pod.Pod.{Pod}
 use Rattle.np_fold.specs.Workloads.{Workload, folding_of}
-use Rattle.np_model.specs.declared.direction.Direction.{Direction}
-use Rattle.np_model.specs.declared.direction.Direction.TheVariants.{Egress, Ingress}
 use Rattle.np_synth.proofs.FirstPairs.{first_pair-none}
 use Rattle.np_synth.specs.Faults.{is_defined, is_split, set_in, two_differ}
 use Rattle.np_synth.specs.Pairs.{first_pair}
@@ -28,8 +21,6 @@ use Rattle.np_table.specs.Right.{are_same_conns}
 use Rattle.np_table.specs.Rows.{all_address_rows, all_pair_rows, address_rows, all_rows, is_none, is_nothing, pair_key, pair_rows, row_if, row_of, rows_in, rows_towards, workloads}
 use Rattle.np_table.specs.Table.{Table, estate_table, table_of}
 use Rattle.np_kinds.specs.Between.{is_alone, number_of_workloads}
-use Rattle.np_table.specs.declared.rows.AddressRow.{AddressRow}
-use Rattle.np_table.specs.declared.rows.Row.{Row}
 
 -- ---- rows of several lists
 

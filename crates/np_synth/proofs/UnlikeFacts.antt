@@ -6,7 +6,7 @@ use Rattle.std.proofs.lemmas.List.FromFn.{length-range_with_len}
 use Rattle.std.proofs.lemmas.Option.{get_or_from_slice_get}
 use Rattle.np_classes.proofs.Relations.{class_within}
 use Rattle.np_classes.specs.Classes.{places}
-use Rattle.np_model.specs.declared.lists.EstateLists.{EstateLists}
+use Rattle.np_synth.specs.Types.{EstateLists}
 use Rattle.np_fold.specs.Workloads.{folding_of}
 use Rattle.np_synth.proofs.ClassFirsts.{first-in}
 use Rattle.np_synth.proofs.GroupLemmas.{get-map, together-is}

@@ -1,7 +1,6 @@
 -- How it is told why an estate has no flat policies.
 use Rattle.std.specs.Prelude.{ℕ, List, ◌++◌, codes, decimal}
-use Rattle.np_synth.specs.declared.fault.FlatFault.{FlatFault}
-use Rattle.np_synth.specs.declared.fault.FlatFault.TheVariants.{Split, Alike, NoMemory}
+use Rattle.np_synth.specs.Types.{Alike, FlatFault, NoMemory, Split}
 
 abbrev pub flat_fault_text : FlatFault → List ℕ
 flat_fault_text (Split source destination) = codes "Split " ++ decimal source ++ codes ", " ++ decimal destination

@@ -2,25 +2,17 @@
 use Rattle.std.specs.Prelude.{ℕ, List, [], ◌∷◌, Bool, false, ◌&&◌, ◌||◌, ◌==◌, not, nat_lt, map, filter, Option, Some, None}
 use Rattle.std.specs.Cmp.Lexicographic.{pointwise}
 use Rattle.std.specs.List.{list_any}
-use Rattle.np_addr.specs.declared.address.Family.{Family}
-use Rattle.np_addr.specs.declared.address.Family.TheVariants.{Four}
+use Rattle.np_synth.specs.Types.{AddressRow, AddressSpan, Alike, Direction, Egress, EstateLists, Family, FlatFault, Four, Ingress, Split}
 use Rattle.np_classes.specs.Classes.{places}
 use Rattle.np_conns.specs.Conns.{Conns}
 use Rattle.np_model.specs.Families.{families_of}
-use Rattle.np_model.specs.declared.lists.EstateLists.{EstateLists}
 use Rattle.np_fold.specs.Workloads.{folding_of}
-use Rattle.np_model.specs.declared.direction.Direction.{Direction}
-use Rattle.np_model.specs.declared.direction.Direction.TheVariants.{Ingress, Egress}
 use Rattle.np_synth.specs.Groups.{are_together}
 use Rattle.np_synth.specs.Pairs.{first_pair}
-use Rattle.np_synth.specs.declared.fault.FlatFault.{FlatFault}
-use Rattle.np_synth.specs.declared.fault.FlatFault.TheVariants.{Split, Alike}
 use Rattle.np_table.specs.Right.{are_same_conns, are_same_range, conns_of}
 use Rattle.np_table.specs.Rows.{address_rows}
 use Rattle.np_table.specs.Table.{estate_table}
 use Rattle.np_kinds.specs.Between.{is_alone, number_of_workloads, pair_allows}
-use Rattle.np_table.specs.declared.rows.AddressRow.{AddressRow}
-use Rattle.np_table.specs.declared.rows.AddressSpan.{AddressSpan}
 use Rattle.np_table.specs.declared.rows.AddressSpan.TheVariants as span
 
 -- ---- what passes between two workloads

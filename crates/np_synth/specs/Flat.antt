@@ -4,14 +4,7 @@ use Rattle.np_addr.specs.Blocks.{AddressRanges}
 use Rattle.np_addr.specs.Prefixes.{prefixes_of}
 use Rattle.np_classes.specs.Classes.{places}
 use Rattle.np_conns.specs.Conns.{Conns}
-use Rattle.np_model.specs.declared.lists.EstateLists.{EstateLists}
-use Rattle.np_labels.specs.declared.selector.Selector.{Selector}
-use Rattle.np_model.specs.declared.direction.Direction.{Direction}
-use Rattle.np_model.specs.declared.direction.Direction.TheVariants.{Ingress, Egress}
-use Rattle.np_model.specs.declared.network_policy.NetPeer.{NetPeer}
-use Rattle.np_model.specs.declared.network_policy.NetPeer.TheVariants.{Pods, Block}
-use Rattle.np_model.specs.declared.network_policy.NetPolicy.{NetPolicy}
-use Rattle.np_model.specs.declared.network_policy.NetRule.{NetRule}
+use Rattle.np_synth.specs.Types.{AddressRow, AddressSpan, Block, Direction, Egress, EstateLists, Ingress, NetPeer, NetPolicy, NetRule, Pods, Selector}
 use Rattle.np_synth.specs.Faults.{is_defined, set_of}
 use Rattle.np_synth.specs.Groups.{first_of_group, group_count, group_of, relevant}
 use Rattle.np_kinds.specs.Kinds.{first_end}
@@ -20,8 +13,6 @@ use Rattle.np_synth.specs.Selecting.{namespace_named, selector_of}
 use Rattle.np_table.specs.Rows.{address_rows, is_nothing}
 use Rattle.np_table.specs.Table.{estate_table}
 use Rattle.np_kinds.specs.Between.{number_of_workloads}
-use Rattle.np_table.specs.declared.rows.AddressRow.{AddressRow}
-use Rattle.np_table.specs.declared.rows.AddressSpan.{AddressSpan}
 use Rattle.np_table.specs.declared.rows.AddressSpan.TheVariants as span
 
 -- ---- groups as selectors see them

@@ -6,4 +6,5 @@ pub mod Pairs
 pub mod Ports
 pub mod Refused
 pub mod Selecting
+pub mod Types
 pub mod steps

@@ -1,13 +1,10 @@
 -- What `flatten` refuses, packet by packet.
 use Rattle.std.specs.Prelude.{ℕ, ◌≡◌, ◌≢◌, ◌⊎◌, ◌<◌, true}
 use Rattle.std.specs.List.{Contains}
-use Rattle.np_addr.specs.declared.address.Family.{Family}
+use Rattle.np_synth.specs.Types.{Direction, EstateLists, Family, PortSpot}
 use Rattle.np_conns.specs.Conns.{is_spot}
-use Rattle.np_conns.specs.declared.port_spot.PortSpot.{PortSpot}
 use Rattle.np_model.specs.Families.{families_of}
-use Rattle.np_model.specs.declared.lists.EstateLists.{EstateLists}
 use Rattle.np_fold.specs.Workloads.{folding_of}
-use Rattle.np_model.specs.declared.direction.Direction.{Direction}
 use Rattle.np_synth.specs.Faults.{family_of_list, is_defined}
 use Rattle.np_table.specs.Rows.{address_rows}
 use Rattle.np_table.specs.Table.{estate_table}

@@ -2,10 +2,7 @@
 use Rattle.std.specs.Prelude.{ℕ, List, [], ◌∷◌, map, codes, Option, Some, None}
 use Rattle.np_labels.specs.Labels.{value_of}
 use Rattle.np_labels.specs.Selectors.{label_requirement, requirement_of}
-use Rattle.np_labels.specs.declared.op.Op.TheVariants.{Absent}
-use Rattle.np_labels.specs.declared.pair.Pair.{Pair}
-use Rattle.np_labels.specs.declared.requirement.Requirement.{Requirement}
-use Rattle.np_labels.specs.declared.selector.Selector.{Selector}
+use Rattle.np_synth.specs.Types.{Absent, Pair, Requirement, Selector}
 
 -- a key has the value, or is absent where there is none
 abbrev pub requirement_at : List ℕ → Option (List ℕ) → Requirement

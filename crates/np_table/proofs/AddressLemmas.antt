@@ -1,17 +1,11 @@
 -- What passes at each address, as the one right list of ranges.
 use Rattle.std.proofs.Common.{◌≡◌, ◌≤◌, ◌-◌, ◌^◌, ◌++◌, ℕ, List, Bool, true, false, ◌&&◌, map, lit≤, refl, ◌∙◌}
 use Rattle.std.proofs.lemmas.Bool.{and_from, le-leb}
-use Rattle.np_addr.specs.declared.address.Family.{Family}
-use Rattle.np_addr.specs.declared.address.Family.TheVariants.{Four, Six}
+use Rattle.np_table.specs.Types.{Direction, Egress, EstateLists, Family, Four, Ingress, Piece, PortSpot, Six}
 use Rattle.np_base.specs.declared.beside.Beside.{Beside}
 use Rattle.np_base.specs.declared.beside.Which.TheVariants.{First, Second}
 use Rattle.np_conns.specs.Conns.{Conns, IsConns, has_spot, is_spot}
-use Rattle.np_conns.specs.declared.port_spot.PortSpot.{PortSpot}
-use Rattle.np_model.specs.declared.lists.EstateLists.{EstateLists}
 use Rattle.np_pieces.specs.Pieces.{Covers, has_at}
-use Rattle.np_pieces.specs.declared.piece.Piece.{Piece}
-use Rattle.np_model.specs.declared.direction.Direction.{Direction}
-use Rattle.np_model.specs.declared.direction.Direction.TheVariants.{Egress, Ingress}
 use Rattle.np_table.proofs.RangeOneList.{right-walk, walk-agrees}
 use Rattle.np_table.proofs.RangePieces.{Covers-right}
 use Rattle.np_table.specs.Right.{stretches_of, walk}

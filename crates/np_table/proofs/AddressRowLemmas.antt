@@ -1,19 +1,13 @@
 -- What the row of an address says.
-use Rattle.std.proofs.Common.{◌≡◌, ◌≢◌, ◌<◌, ◌≤◌, ◌-◌, ◌^◌, ◌+◌, ◌==◌, ℕ, List, [], ◌∷◌, ◌++◌, Bool, true, false, ◌&&◌, nat_le, All, Option, None, Some, length, map, flat_map, append-nil, arith, refl}
-use Rattle.std.proofs.Common.{sym, ap, ◌∙◌, eq-eqb}
+use Rattle.std.proofs.Common.{◌≡◌, ◌≢◌, ◌<◌, ◌≤◌, ◌-◌, ◌^◌, ◌+◌, ◌==◌, ℕ, List, [], ◌∷◌, ◌++◌, Bool, true, false, ◌&&◌, nat_le, All, Option, None, Some, length, map, flat_map, append-nil, arith, refl, sym, ap, ◌∙◌, eq-eqb}
 use Rattle.std.specs.Prelude.{filter}
 use Rattle.std.proofs.lemmas.Bool.{and_left, and_parts, and_right, leb-true, ne_eqb}
 use Rattle.std.proofs.lemmas.List.Elements.{All-cons, All-filter, All-head, All-nil, All-same, All-weaker, filter-append, filter_passes}
 use Rattle.std.proofs.lemmas.List.Sums.{length-filter}
-use Rattle.np_addr.specs.declared.address.Family.{Family}
-use Rattle.np_addr.specs.declared.address.Family.TheVariants.{Four, Six}
+use Rattle.np_table.specs.Types.{AddressRow, Direction, Egress, EstateLists, Family, Four, Ingress, PortSpot, Row, RowKey, Six}
 use Rattle.np_conns.specs.Conns.{Conns, has_spot}
-use Rattle.np_conns.specs.declared.port_spot.PortSpot.{PortSpot}
 use Rattle.np_model.specs.Lawful.{IsLawful}
-use Rattle.np_model.specs.declared.lists.EstateLists.{EstateLists}
 use Rattle.np_fold.specs.Workloads.{Folding, folding_of, number_of}
-use Rattle.np_model.specs.declared.direction.Direction.{Direction}
-use Rattle.np_model.specs.declared.direction.Direction.TheVariants.{Egress, Ingress}
 use Rattle.np_rules.specs.model.Ends.{pod}
 use Rattle.np_rules.specs.model.Verdict.{pod_at}
 use Rattle.np_kinds.proofs.PairLemmas.{with_address-address_allows}
@@ -27,9 +21,6 @@ use Rattle.np_table.specs.Rows.{address_row, address_rows, all_address_rows, all
 use Rattle.np_table.specs.Said.{IsInFamily, OneRowSays, is_address, is_of_address, is_workload, rows_of_address, span_has}
 use Rattle.np_table.specs.Table.{Table, table_of}
 use Rattle.np_kinds.specs.Between.{address_allows, with_address}
-use Rattle.np_table.specs.declared.rows.AddressRow.{AddressRow}
-use Rattle.np_table.specs.declared.rows.Row.{Row}
-use Rattle.np_table.specs.declared.rows.RowKey.{RowKey}
 
 -- ---- the range of an address
 

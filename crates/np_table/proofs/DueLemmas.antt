@@ -1,14 +1,12 @@
 -- How many rules are still to be looked at, from place to place.
-use Rattle.std.proofs.Common.{◌≡◌, ◌≢◌, ◌<◌, ◌≤◌, ◌+◌, ◌-◌, ◌*◌, ◌/◌, ◌%◌, ℕ, zero, suc, List, [], Bool, true, false, Option, length, map, nat_lt, arith, refl, sym, ap, subst, inl, inr, ◌∙◌}
-use Rattle.std.proofs.Common.{if◌then◌else◌}
+use Rattle.std.proofs.Common.{◌≡◌, ◌≢◌, ◌<◌, ◌≤◌, ◌+◌, ◌-◌, ◌*◌, ◌/◌, ◌%◌, ℕ, zero, suc, List, [], Bool, true, false, Option, length, map, nat_lt, arith, refl, sym, ap, subst, inl, inr, ◌∙◌, if◌then◌else◌}
 use Rattle.std.specs.List.{range_with_len}
 use Rattle.std.proofs.Math.Nat.{div-lt_iff_lt-mul, mod-lt, mul-le-mul_left, mul-le-mul_right}
 use Rattle.std.proofs.lemmas.Bool.{cases_lt, cases_order, lt-ltb, le-ltb}
 use Rattle.std.proofs.lemmas.Nat.{div-add-mod', div-mul-add}
-use Rattle.np_model.specs.declared.lists.EstateLists.{EstateLists}
+use Rattle.np_table.specs.Types.{CachedConns, EstateLists}
 use Rattle.np_fold.specs.Workloads.{Folding}
 use Rattle.np_table.specs.RowCache.{kept_count}
-use Rattle.np_table.specs.declared.row_cache.CachedConns.{CachedConns}
 use Rattle.np_table.specs.ToCome.{IsOfSameSource, due_at, due_from, most_rules, greatest, pair_count, place_count}
 
 -- ---- the greatest number

@@ -2,7 +2,7 @@
 use Rattle.std.proofs.Common.{◌≡◌, ◌<◌, ◌≤◌, ◌+◌, ℕ, zero, suc, List, [], ◌∷◌, ◌++◌, Option, Some, None, is_some, length, set, arith, refl, ap, ◌∙◌, cond}
 use Rattle.std.proofs.lemmas.List.Sums.{count_by-le-length, sum_by-cons}
 use Rattle.np_table.specs.RowCache.{KeepsTheSame, kept_at, kept_count}
-use Rattle.np_table.specs.declared.row_cache.CachedConns.{CachedConns}
+use Rattle.np_table.specs.Types.{CachedConns}
 
 -- ---- counts by one place
 

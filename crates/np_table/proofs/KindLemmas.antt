@@ -4,16 +4,10 @@ use Rattle.std.proofs.Common.{ap, subst, ◌∙◌, inl, inr, if◌then◌else�
 use Rattle.std.specs.Option.{option_map}
 use Rattle.std.proofs.Math.Nat.{mul-le-mul_left}
 use Rattle.std.proofs.lemmas.Bool.Decides.{eqb_tells}
-use Rattle.np_addr.specs.declared.address.Family.{Family}
-use Rattle.np_addr.specs.declared.address.Family.TheVariants.{Four, Six}
+use Rattle.np_table.specs.Types.{CachedConns, Direction, Egress, EstateLists, Family, Four, Ingress, PortSpot, Row, RowKey, Sctp, Six, Tcp, Udp}
 use Rattle.np_conns.specs.Conns.{Conns, has_spot}
-use Rattle.np_conns.specs.declared.port_spot.PortSpot.{PortSpot}
-use Rattle.np_conns.specs.declared.proto.Proto.TheVariants.{Tcp, Udp, Sctp}
 use Rattle.np_model.specs.Lawful.{IsLawful}
-use Rattle.np_model.specs.declared.lists.EstateLists.{EstateLists}
 use Rattle.np_fold.specs.Workloads.{Folding, folding_of}
-use Rattle.np_model.specs.declared.direction.Direction.{Direction}
-use Rattle.np_model.specs.declared.direction.Direction.TheVariants.{Egress, Ingress}
 use Rattle.np_table.proofs.RangeSets.{conns_of-agrees, conns_of-has_spot}
 use Rattle.np_table.specs.Right.{are_same_conns, conns_of}
 use Rattle.np_table.proofs.DueLemmas.{greatest-at, over-source, same_source, source-behind}
@@ -25,9 +19,6 @@ use Rattle.np_table.specs.Rows.{is_nothing, pair_key, pair_rows, row_if, rows_in
 use Rattle.np_kinds.specs.Between.{is_alone, pair_allows}
 use Rattle.np_table.specs.Table.{table_of}
 use Rattle.np_table.specs.ToCome.{IsOfSameSource, most_rules, rules_of}
-use Rattle.np_table.specs.declared.row_cache.CachedConns.{CachedConns}
-use Rattle.np_table.specs.declared.rows.Row.{Row}
-use Rattle.np_table.specs.declared.rows.RowKey.{RowKey}
 
 -- ---- rows with other ends
 

@@ -7,13 +7,11 @@ use Rattle.std.proofs.lemmas.Grind.{flat_map-append}
 use Rattle.std.proofs.lemmas.List.{length-map, reverse-reverse}
 use Rattle.std.proofs.lemmas.Nat.{div-mul-add, mod-mul-add}
 use Rattle.std.proofs.Math.Nat.{mul-le-mul_right}
-use Rattle.np_model.specs.declared.lists.EstateLists.{EstateLists}
+use Rattle.np_table.specs.Types.{Egress, EstateLists, Ingress, Row}
 use Rattle.np_fold.specs.Workloads.{Folding}
-use Rattle.np_model.specs.declared.direction.Direction.TheVariants.{Ingress, Egress}
 use Rattle.np_table.specs.Rows.{all_address_rows, all_pair_rows, all_rows, pair_rows, rows_towards, workloads}
 use Rattle.np_table.specs.Table.{Table, table_of}
 use Rattle.np_table.specs.ToCome.{address_rows_at, pair_count, pair_rows_at, place_count, rows_at, rows_from}
-use Rattle.np_table.specs.declared.rows.Row.{Row}
 
 -- ---- numbers in a row
 

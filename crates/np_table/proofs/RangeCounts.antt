@@ -3,7 +3,7 @@ use Rattle.std.proofs.Common.{◌≡◌, ℕ, ◌+◌, ◌<◌, ◌≤◌, List,
 use Rattle.std.proofs.lemmas.Bool.{and_from, and_left, and_right, cases_lt, le-leb, lt-leb}
 use Rattle.std.proofs.lemmas.List.Sums.{sum_by-cons}
 use Rattle.np_conns.specs.Conns.{Conns}
-use Rattle.np_conns.specs.declared.port_spot.PortSpot.{PortSpot}
+use Rattle.np_table.specs.Types.{PortSpot}
 use Rattle.np_table.specs.Right.{AreRight, IsRight, Stretch, is_within}
 
 -- a stretch counts once where it has the number, and else not

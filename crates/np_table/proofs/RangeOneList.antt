@@ -2,7 +2,7 @@
 use Rattle.std.proofs.Common.{◌≡◌, ℕ, ◌+◌, ◌<◌, ◌≤◌, List, [], ◌∷◌, Bool, true, Option, Some, None, refl, sym, ◌∙◌, ap, arith, inl, inr}
 use Rattle.std.proofs.lemmas.Bool.{cases_order}
 use Rattle.np_conns.specs.Conns.{Conns, is_spot}
-use Rattle.np_conns.specs.declared.port_spot.PortSpot.{PortSpot}
+use Rattle.np_table.specs.Types.{PortSpot}
 use Rattle.np_table.proofs.RangeSets.{conns_of-agrees}
 use Rattle.np_table.proofs.RangeWalks.{walk-right}
 use Rattle.np_table.specs.Right.{AreRight, IsRight, Stretch, conns_of, walk}

@@ -1,10 +1,9 @@
 -- Pieces are the right list of what passes by them.
 use Rattle.std.proofs.Common.{◌≡◌, ℕ, ◌+◌, ◌<◌, ◌≤◌, List, [], ◌∷◌, Bool, Option, Some, None, refl, ◌∙◌, ap, arith}
 use Rattle.np_conns.specs.Conns.{Conns, IsConns, has_spot}
-use Rattle.np_conns.specs.declared.port_spot.PortSpot.{PortSpot}
+use Rattle.np_table.specs.Types.{Piece, PortSpot}
 use Rattle.np_pieces.specs.Pieces.{ArePieces, Covers, has_at, value_has}
 use Rattle.np_pieces.specs.Values.{ArePieces-ordered, value_at-first, value_at-rest}
-use Rattle.np_pieces.specs.declared.piece.Piece.{Piece}
 use Rattle.np_table.proofs.RangeSets.{conns_of-has_spot}
 use Rattle.np_table.specs.Right.{AreRight, IsRight, conns_of, stretches_of}
 

@@ -3,7 +3,7 @@ use Rattle.std.proofs.Common.{◌≡◌, ◌≢◌, ℕ, zero, suc, ◌+◌, ◌
 use Rattle.std.proofs.lemmas.Bool.{cases_lt, cond_both}
 use Rattle.std.proofs.lemmas.Bool.Decides.{not_from_Decides}
 use Rattle.np_conns.specs.Conns.{Conns}
-use Rattle.np_conns.specs.declared.port_spot.PortSpot.{PortSpot}
+use Rattle.np_table.specs.Types.{PortSpot}
 use Rattle.np_table.proofs.RangeSets.{are_same_conns-Decides}
 use Rattle.np_table.specs.Right.{AreRight, IsNext, IsRight, Stretch, are_same_conns, conns_of, stretch_at, walk, walk_on}
 

@@ -1,22 +1,15 @@
 -- Rows of a list: those that pass a test, and their ends.
-use Rattle.std.proofs.Common.{◌≡◌, ◌≢◌, ◌<◌, ◌≤◌, ◌+◌, ℕ, zero, suc, List, [], ◌∷◌, ◌++◌, Bool, true, false, All, Option, None, Some, map, flat_map, append-nil, if◌then◌else◌, arith, refl, ap, ◌∙◌}
-use Rattle.std.proofs.Common.{inl, inr}
+use Rattle.std.proofs.Common.{◌≡◌, ◌≢◌, ◌<◌, ◌≤◌, ◌+◌, ℕ, zero, suc, List, [], ◌∷◌, ◌++◌, Bool, true, false, All, Option, None, Some, map, flat_map, append-nil, if◌then◌else◌, arith, refl, ap, ◌∙◌, inl, inr}
 use Rattle.std.specs.Prelude.{filter}
 use Rattle.std.specs.List.{range_with_len}
 use Rattle.std.proofs.lemmas.Bool.{and_parts, cases_eq, eqb-true, false≢true}
 use Rattle.std.proofs.lemmas.List.Elements.{All-append, All-cons, All-head, All-nil, All-tail, All-weaker, filter-append, filter_passes}
-use Rattle.np_addr.specs.declared.address.Family.{Family}
-use Rattle.np_addr.specs.declared.address.Family.TheVariants.{Four, Six}
+use Rattle.np_table.specs.Types.{Controller, Direction, Family, Four, Row, RowEnd, RowKey, Six, Span, Work}
 use Rattle.np_conns.specs.Conns.{Conns}
-use Rattle.np_model.specs.declared.direction.Direction.{Direction}
 use Rattle.np_table.specs.Right.{are_same_conns, conns_of}
 use Rattle.np_table.specs.Rows.{is_nothing, pair_key, pair_rows, row_if, rows_in, rows_of_both}
 use Rattle.np_table.specs.Said.{is_between, is_of_address, is_workload, rows_between, rows_of_address}
 use Rattle.np_table.specs.Table.{Table}
-use Rattle.np_table.specs.declared.rows.Row.{Row}
-use Rattle.np_table.specs.declared.rows.RowEnd.{RowEnd}
-use Rattle.np_table.specs.declared.rows.RowEnd.TheVariants.{Controller, Span, Work}
-use Rattle.np_table.specs.declared.rows.RowKey.{RowKey}
 
 -- ---- rows that pass a test
 

@@ -1,28 +1,19 @@
 -- What the rows of a pair say.
-use Rattle.std.proofs.Common.{◌≡◌, ◌≢◌, ◌<◌, ◌≤◌, ◌==◌, ℕ, List, [], ◌∷◌, ◌++◌, Bool, true, false, ◌&&◌, ◌||◌, All, Contains, Option, None, Some, length, flat_map, append-nil, if◌then◌else◌, arith}
-use Rattle.std.proofs.Common.{refl, sym, ap, ◌∙◌, eq-eqb}
+use Rattle.std.proofs.Common.{◌≡◌, ◌≢◌, ◌<◌, ◌≤◌, ◌==◌, ℕ, List, [], ◌∷◌, ◌++◌, Bool, true, false, ◌&&◌, ◌||◌, All, Contains, Option, None, Some, length, flat_map, append-nil, if◌then◌else◌, arith, refl, sym, ap, ◌∙◌, eq-eqb}
 use Rattle.std.specs.Prelude.{◌↔◌}
 use Rattle.std.proofs.lemmas.Bool.{and_from, and_parts, and_right, false≢true, ne_eqb}
 use Rattle.std.proofs.lemmas.List.{length-map}
 use Rattle.std.proofs.lemmas.List.Elements.{All-cons, All-contains, All-head, All-nil, All-same, All-tail, All-weaker, filter-append}
 use Rattle.std.proofs.lemmas.List.Folds.{list_any-append}
-use Rattle.np_addr.specs.declared.address.Family.{Family}
-use Rattle.np_addr.specs.declared.address.Family.TheVariants.{Four, Six}
+use Rattle.np_table.specs.Types.{Direction, Egress, EstateLists, Family, Four, Ingress, PortSpot, Proto, Range, Row, RowKey, Sctp, Six, Tcp, Udp}
 use Rattle.np_base.specs.Ranges.{holds}
-use Rattle.np_base.specs.declared.range.Range.{Range}
 use Rattle.np_conns.proofs.RunLemmas.{runs-by_members}
 use Rattle.np_conns.specs.Conns.{Conns, has_spot, is_spot, ranges_of}
 use Rattle.np_conns.specs.ConnsText.{spans_of}
-use Rattle.np_conns.specs.declared.port_spot.PortSpot.{PortSpot}
-use Rattle.np_conns.specs.declared.proto.Proto.{Proto}
-use Rattle.np_conns.specs.declared.proto.Proto.TheVariants.{Tcp, Udp, Sctp}
 use Rattle.np_model.specs.Families.{families_of}
 use Rattle.np_model.specs.Lawful.{IsLawful}
-use Rattle.np_model.specs.declared.lists.EstateLists.{EstateLists}
 use Rattle.np_fold.proofs.WorkloadLemmas.{number-in_workloads}
 use Rattle.np_fold.specs.Workloads.{Folding, Workload, folding_of, members_of, number_of}
-use Rattle.np_model.specs.declared.direction.Direction.{Direction}
-use Rattle.np_model.specs.declared.direction.Direction.TheVariants.{Egress, Ingress}
 use Rattle.np_table.proofs.RangeSets.{are_same_conns-Decides, conns_of-agrees}
 use Rattle.np_table.specs.Right.{are_same_conns, conns_of}
 use Rattle.np_kinds.proofs.PairLemmas.{between_pods-pair_allows, pair_allows-alone}
@@ -32,8 +23,6 @@ use Rattle.np_table.specs.Rows.{address_rows, all_address_rows, all_pair_rows, a
 use Rattle.np_table.specs.Said.{AllowSamePorts, IsUnmarked, allows_in, is_between, is_workload, rows_between, says, speaks_of}
 use Rattle.np_table.specs.Table.{Table, table_of}
 use Rattle.np_kinds.specs.Between.{between_pods, pair_allows}
-use Rattle.np_table.specs.declared.rows.Row.{Row}
-use Rattle.np_table.specs.declared.rows.RowKey.{RowKey}
 
 -- ---- sets without ports
 

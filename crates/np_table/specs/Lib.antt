@@ -5,4 +5,5 @@ pub mod Rows
 pub mod Said
 pub mod Table
 pub mod ToCome
+pub mod Types
 pub mod steps

@@ -1,12 +1,9 @@
 -- Lists of ranges of numbers that say which ports pass at each number of a space.
 use Rattle.std.specs.Prelude.{ℕ, zero, suc, ◌≡◌, ◌≢◌, ◌≤◌, ◌+◌, ◌-◌, List, [], ◌∷◌, map, Bool, ◌&&◌, ◌==◌, nat_le, Option, Some, None, if◌then◌else◌}
 use Rattle.std.specs.Cmp.Lexicographic.{pointwise}
-use Rattle.np_base.specs.declared.range.Range.{Range}
+use Rattle.np_table.specs.Types.{Piece, PortSpot, Range, Sctp, Tcp, Udp}
 use Rattle.np_conns.specs.Conns.{Conns}
 use Rattle.np_conns.specs.ConnsText.{spans_of}
-use Rattle.np_conns.specs.declared.port_spot.PortSpot.{PortSpot}
-use Rattle.np_conns.specs.declared.proto.Proto.TheVariants.{Tcp, Udp, Sctp}
-use Rattle.np_pieces.specs.declared.piece.Piece.{Piece}
 
 -- ---- ranges
 

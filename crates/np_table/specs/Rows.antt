@@ -1,21 +1,12 @@
 -- The rows of a table. They are a function of the table alone.
 use Rattle.std.specs.Prelude.{ℕ, ◌-◌, ◌^◌, List, [], ◌∷◌, ◌++◌, Bool, true, false, ◌&&◌, map, flat_map, length, Option, Some, None, if◌then◌else◌}
 use Rattle.std.specs.List.{range_with_len}
-use Rattle.np_addr.specs.declared.address.Family.{Family}
+use Rattle.np_table.specs.Types.{AddressRow, AddressSpan, Direction, Egress, Family, Ingress, PortSpot, Row, RowEnd, RowKey, Span, Work}
 use Rattle.np_addr.specs.declared.address.Family.TheVariants as family
 use Rattle.np_conns.specs.Conns.{Conns}
-use Rattle.np_conns.specs.declared.port_spot.PortSpot.{PortSpot}
-use Rattle.np_model.specs.declared.direction.Direction.{Direction}
-use Rattle.np_model.specs.declared.direction.Direction.TheVariants.{Ingress, Egress}
 use Rattle.np_table.specs.Right.{Stretch, are_same_conns, conns_of, walk}
 use Rattle.np_table.specs.Table.{Table}
-use Rattle.np_table.specs.declared.rows.AddressRow.{AddressRow}
-use Rattle.np_table.specs.declared.rows.AddressSpan.{AddressSpan}
 use Rattle.np_table.specs.declared.rows.AddressSpan.TheVariants as span
-use Rattle.np_table.specs.declared.rows.Row.{Row}
-use Rattle.np_table.specs.declared.rows.RowEnd.{RowEnd}
-use Rattle.np_table.specs.declared.rows.RowEnd.TheVariants.{Work, Span}
-use Rattle.np_table.specs.declared.rows.RowKey.{RowKey}
 
 -- ---- pair rows
 

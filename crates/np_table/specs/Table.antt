@@ -1,12 +1,9 @@
 -- The table: what passes between workloads, and between workloads and addresses.
 use Rattle.std.specs.Prelude.{ℕ, List, Bool, map}
-use Rattle.np_addr.specs.declared.address.Family.{Family}
-use Rattle.np_conns.specs.declared.port_spot.PortSpot.{PortSpot}
+use Rattle.np_table.specs.Types.{Direction, EstateLists, Family, PortSpot}
 use Rattle.np_model.specs.Families.{families_of}
-use Rattle.np_model.specs.declared.lists.EstateLists.{EstateLists}
 use Rattle.np_fold.specs.Workloads.{Folding, folding_of}
 use Rattle.np_kinds.specs.Between.{address_allows, pair_allows}
-use Rattle.np_model.specs.declared.direction.Direction.{Direction}
 
 -- The names of the workloads in their order, the families of the list, and what is allowed between two workloads in a
 -- family, and between a workload and an address in a direction.

@@ -1,18 +1,14 @@
 -- The rows of a table one after another.
 use Rattle.std.specs.Prelude.{ℕ, ◌≡◌, ◌<◌, ◌≤◌, ◌^◌, ◌+◌, ◌-◌, ◌*◌, ◌/◌, ◌%◌, List, [], ◌∷◌, ◌==◌, Option, flat_map, length, map, max, nat_lt, if◌then◌else◌}
 use Rattle.std.specs.List.{range_with_len}
-use Rattle.np_model.specs.declared.lists.EstateLists.{EstateLists}
+use Rattle.np_table.specs.Types.{CachedConns, Direction, Egress, EstateLists, Ingress, Row}
 use Rattle.np_fold.specs.Workloads.{Folding, folding_of}
-use Rattle.np_model.specs.declared.direction.Direction.{Direction}
-use Rattle.np_model.specs.declared.direction.Direction.TheVariants.{Ingress, Egress}
 use Rattle.np_rules.specs.model.Places.{rule_count}
 use Rattle.np_rules.specs.model.Verdict.{pod_at}
 use Rattle.np_table.specs.RowCache.{IsKept, kept_count}
 use Rattle.np_table.specs.Rows.{pair_rows, rows_towards}
 use Rattle.np_table.specs.Table.{Table}
 use Rattle.np_kinds.specs.Between.{number_of_workloads, source_pod}
-use Rattle.np_table.specs.declared.row_cache.CachedConns.{CachedConns}
-use Rattle.np_table.specs.declared.rows.Row.{Row}
 
 -- what is still to come of the rows of a table, and an upper bound of the rules that are still to be looked at for them
 pub record RowsToCome : Type 0 where

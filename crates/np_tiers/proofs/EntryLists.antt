@@ -5,8 +5,7 @@ use Rattle.std.proofs.lemmas.List.Elements.{All-append, All-weaker, filter-appen
 use Rattle.np_base.proofs.Lists.{AllPairs-append}
 use Rattle.np_tiers.specs.Entries.{mark_if, AreEntries, IsCarving}
 use Rattle.np_tiers.specs.Marks.{marks_at}
-use Rattle.np_tiers.specs.declared.mark.Mark.{Mark}
-use Rattle.np_tiers.specs.declared.mark.Marked.{Marked}
+use Rattle.np_tiers.specs.Types.{Mark, Marked}
 
 pub marks_at-append : {S : Type 0} (at : S → Bool) (xs ys : List (Marked S)) → marks_at at (xs ++ ys) ≡ marks_at at xs ++ marks_at at ys
 marks_at-append {S} at xs ys =

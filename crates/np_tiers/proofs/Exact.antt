@@ -3,8 +3,7 @@ use Rattle.std.proofs.Common.{◌≡◌, ◌≢◌, ◌⊎◌, ◌↔◌, ℕ, z
 use Rattle.std.proofs.lemmas.Bool.{cases_order}
 use Rattle.np_tiers.specs.Entries.{mark_if}
 use Rattle.np_tiers.specs.Marks.{marks_at}
-use Rattle.np_tiers.specs.declared.mark.Mark.{Mark}
-use Rattle.np_tiers.specs.declared.mark.Marked.{Marked}
+use Rattle.np_tiers.specs.Types.{Mark, Marked}
 
 -- the mark is among these
 abbrev IsIn : Mark → List Mark → Type 0

@@ -3,8 +3,7 @@ use Rattle.std.proofs.Common.{◌≡◌, ℕ, ◌+◌, ◌<◌, ◌≤◌, Bool,
 use Rattle.std.proofs.lemmas.List.{drop_all}
 use Rattle.np_base.proofs.Lists.{drop-item}
 use Rattle.np_tiers.specs.Entries.{mark_if, IsCarving}
-use Rattle.np_tiers.specs.declared.mark.Mark.{Mark}
-use Rattle.np_tiers.specs.declared.mark.Marked.{Marked}
+use Rattle.np_tiers.specs.Types.{Mark, Marked}
 use Rattle.np_tiers.proofs.EntryLists.{IsBegun, IsBegun-more, IsBegun-end}
 use Rattle.np_tiers.proofs.Places.{IsBelow, IsBelow-more, IsBelow-next, apart_at, apart_at_end}
 

@@ -1,7 +1,6 @@
 -- The places that marks name.
 use Rattle.std.proofs.Common.{◌≡◌, ◌≢◌, ℕ, ◌+◌, ◌<◌, Option, Some, None, ap, subst, ◌∙◌, arith}
-use Rattle.np_tiers.specs.declared.mark.Mark.{Mark}
-use Rattle.np_tiers.specs.declared.mark.Mark.TheVariants.{Admin, Net, Isolated, Base, Free}
+use Rattle.np_tiers.specs.Types.{Admin, Base, Free, Isolated, Mark, Net}
 
 -- the place of the part below the admin tier that decides, if one does
 abbrev pub lower_place : Mark → Option ℕ

@@ -3,9 +3,7 @@ use Rattle.std.proofs.Common.{ℕ, ◌+◌, Option, Some, find}
 use Rattle.std.specs.List.{position_from, enumerate_from}
 use Rattle.np_tiers.specs.Entries.{admin_place}
 use Rattle.np_tiers.specs.Marks.{net_mark, base_mark, lower_mark, action_mark, admin_mark}
-use Rattle.np_tiers.specs.declared.layer.AdminPart.{AdminPart}
-use Rattle.np_tiers.specs.declared.layer.BasePart.{BasePart}
-use Rattle.np_tiers.specs.declared.layer.Layer.{Layer}
+use Rattle.np_tiers.specs.Types.{AdminPart, BasePart, Layer}
 use Rattle.np_tiers.proofs.Choice.{at_choice}
 use Rattle.np_tiers.proofs.FirstMatch.{Tier}
 use Rattle.np_tiers.proofs.Places.{lower_place}

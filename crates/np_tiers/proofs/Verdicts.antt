@@ -6,11 +6,7 @@ use Rattle.std.specs.Option.{option_map_or}
 use Rattle.std.proofs.Math.Bool.{or-false}
 use Rattle.np_tiers.specs.Walk.{action_allows, admin_allows, base_allows, lower_allows, walk_allows}
 use Rattle.np_tiers.specs.Marks.{base_mark, net_mark, lower_mark, action_mark, mark_of, mark_allows, marks_at}
-use Rattle.np_tiers.specs.declared.layer.Action.{Action}
-use Rattle.np_tiers.specs.declared.layer.Action.TheVariants.{Allow, Deny, Pass}
-use Rattle.np_tiers.specs.declared.layer.AdminPart.{AdminPart}
-use Rattle.np_tiers.specs.declared.layer.Layer.{Layer}
-use Rattle.np_tiers.specs.declared.mark.Marked.{Marked}
+use Rattle.np_tiers.specs.Types.{Action, AdminPart, Allow, Deny, Layer, Marked, Pass}
 use Rattle.np_tiers.proofs.Choice.{at_choice}
 use Rattle.np_tiers.proofs.FirstMatch.{Tier}
 use Rattle.np_tiers.proofs.Tiers.{net_tier, base_tier, admin_tier}

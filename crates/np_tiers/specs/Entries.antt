@@ -1,9 +1,7 @@
 -- Lists of marked sets, as the parts of a carving give them.
 use Rattle.std.specs.Prelude.{◌≡◌, ◌≢◌, Bool, true, ℕ, Option, Some, if◌then◌else◌, List, [], ◌∷◌, All, AllPairs}
 use Rattle.np_tiers.specs.Marks.{marks_at}
-use Rattle.np_tiers.specs.declared.mark.Mark.{Mark}
-use Rattle.np_tiers.specs.declared.mark.Mark.TheVariants.{Admin, Net, Isolated, Base, Free}
-use Rattle.np_tiers.specs.declared.mark.Marked.{Marked}
+use Rattle.np_tiers.specs.Types.{Admin, Base, Free, Isolated, Mark, Marked, Net}
 
 -- the place of the admin part that decides or passes, if the walk met one
 abbrev pub admin_place : Mark → Option ℕ

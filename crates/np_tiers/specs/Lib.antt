@@ -1,4 +1,5 @@
 pub mod Entries
 pub mod Marks
 pub mod Runs
+pub mod Types
 pub mod Walk

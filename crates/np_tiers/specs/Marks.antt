@@ -3,13 +3,7 @@ use Rattle.std.specs.Prelude.{Bool, true, false, ℕ, Option, Some, None, if◌t
 use Rattle.std.specs.List.{slice_get, position_from, enumerate_from}
 use Rattle.std.specs.Option.{option_map_or}
 use Rattle.np_tiers.specs.Walk.{action_allows}
-use Rattle.np_tiers.specs.declared.layer.Action.{Action}
-use Rattle.np_tiers.specs.declared.layer.Action.TheVariants.{Allow, Deny, Pass}
-use Rattle.np_tiers.specs.declared.layer.AdminPart.{AdminPart}
-use Rattle.np_tiers.specs.declared.layer.Layer.{Layer}
-use Rattle.np_tiers.specs.declared.mark.Mark.{Mark}
-use Rattle.np_tiers.specs.declared.mark.Mark.TheVariants.{Admin, Net, Isolated, Base, Free}
-use Rattle.np_tiers.specs.declared.mark.Marked.{Marked}
+use Rattle.np_tiers.specs.Types.{Action, Admin, AdminPart, Allow, Base, Deny, Free, Isolated, Layer, Mark, Marked, Net, Pass}
 
 -- what decides by the place of the first `net` set that has the spot
 abbrev pub net_mark : Option ℕ → Option ℕ → Mark

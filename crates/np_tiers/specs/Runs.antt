@@ -2,9 +2,7 @@
 use Rattle.std.specs.Prelude.{◌≡◌, Bool, true, false, not, Option, Some, None, is_some, List, find}
 use Rattle.std.specs.Option.{option_map}
 use Rattle.np_tiers.specs.Walk.{action_allows}
-use Rattle.np_tiers.specs.declared.layer.Action.{Action}
-use Rattle.np_tiers.specs.declared.layer.Action.TheVariants.{Allow, Deny}
-use Rattle.np_tiers.specs.declared.run.Run.{Run}
+use Rattle.np_tiers.specs.Types.{Action, Allow, Deny, Run}
 
 -- what a base part says, as an action
 abbrev pub base_action : Bool → Action

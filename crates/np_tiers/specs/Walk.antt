@@ -1,11 +1,7 @@
 -- The walk of a layer at one spot. `at` tells which sets have the spot.
 use Rattle.std.specs.Prelude.{Bool, true, false, if◌then◌else◌, Option, Some, None, find}
 use Rattle.std.specs.List.{list_any}
-use Rattle.np_tiers.specs.declared.layer.Action.{Action}
-use Rattle.np_tiers.specs.declared.layer.Action.TheVariants.{Allow, Deny, Pass}
-use Rattle.np_tiers.specs.declared.layer.AdminPart.{AdminPart}
-use Rattle.np_tiers.specs.declared.layer.BasePart.{BasePart}
-use Rattle.np_tiers.specs.declared.layer.Layer.{Layer}
+use Rattle.np_tiers.specs.Types.{Action, AdminPart, Allow, BasePart, Deny, Layer, Pass}
 
 -- what the action says, where the tiers below say `below`
 abbrev pub action_allows : Action → Bool → Bool

@@ -2,11 +2,8 @@
 use Rattle.std.specs.Prelude.{◌≡◌, ◌&&◌, ◌==◌, ℕ, List, Bool, true, false, None, slice_index}
 use Rattle.std.specs.List.{list_any}
 use Rattle.np_check.specs.Counters.{counter_between}
-use Rattle.np_check.specs.declared.counterexample.PlaceEnd.TheVariants.{Work}
-use Rattle.np_check.specs.declared.question.Wanted.{Wanted}
-use Rattle.np_check.specs.declared.question.Wanted.TheVariants.{Allow, Deny}
+use Rattle.np_check.specs.Types.{Allow, Deny, EstateLists, Wanted, Work}
 use Rattle.np_conns.specs.Conns.{Conns}
-use Rattle.np_model.specs.declared.lists.EstateLists.{EstateLists}
 use Rattle.np_fold.specs.Workloads.{folding_of}
 use Rattle.np_kinds.specs.Between.{IsWorkload}
 

@@ -1,19 +1,10 @@
 -- Ends that are there, and lines of the text of what decides between them.
 use Rattle.std.specs.Prelude.{◌≡◌, ◌<◌, ℕ, List, ◌++◌, length, codes, false, Option}
-use Rattle.np_addr.specs.declared.address.Family.{Family}
-use Rattle.np_command_explain.specs.declared.report.AskedEnd.{AskedEnd}
-use Rattle.np_command_explain.specs.declared.report.AskedEnd.TheVariants.{At, Work}
-use Rattle.np_command_explain.specs.declared.report.Ends.{Ends}
-use Rattle.np_command_explain.specs.declared.report.Shown.{Shown}
+use Rattle.np_command_explain.specs.Types.{AskedEnd, At, Direction, Egress, Ends, EstateLists, Explanation, Family, Ingress, Part, Shown, Work}
 use Rattle.np_conns.specs.Conns.{has_spot}
 use Rattle.np_conns.specs.ConnsText.{conns_text}
-use Rattle.np_model.specs.declared.lists.EstateLists.{EstateLists}
 use Rattle.np_explain.specs.Sides.{are_one_pod}
-use Rattle.np_explain.specs.declared.explanation.Explanation.{Explanation}
-use Rattle.np_explain.specs.declared.part.Part.{Part}
 use Rattle.np_fold.specs.Workloads.{Folding, members_of}
-use Rattle.np_model.specs.declared.direction.Direction.{Direction}
-use Rattle.np_model.specs.declared.direction.Direction.TheVariants.{Ingress, Egress}
 use Rattle.np_model.specs.Words.{direction_text}
 use Rattle.np_report.specs.RowText.{family_suffix}
 use Rattle.np_rules.specs.model.Verdict.{IsEndOf}

@@ -6,10 +6,9 @@ use Rattle.np_exposure.specs.Choices.{Choices, allows_found, is_name_key, is_ope
 use Rattle.np_exposure.specs.Mentions.{same_side}
 use Rattle.np_exposure.specs.Strangers.{is_hypothetical, labels_at}
 use Rattle.np_exposure.specs.Weight.{looks_at}
-use Rattle.np_exposure.specs.declared.sided_requirement.SidedRequirement.{SidedRequirement}
+use Rattle.np_exposure.specs.Types.{SidedRequirement, Stranger}
 use Rattle.np_labels.specs.Labels.{value_of}
 use Rattle.np_rules.specs.Laws.{IsAmong}
-use Rattle.np_rules.specs.declared.stranger.Stranger.{Stranger}
 
 abbrev pub as_wanted : Bool → Bool → Bool
 as_wanted true b = b

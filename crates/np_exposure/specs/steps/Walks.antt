@@ -3,14 +3,10 @@ use Rattle.std.specs.Prelude.{◌≡◌, List, [], ◌∷◌, Bool, true, false,
 use Rattle.np_conns.specs.Conns.{Conns}
 use Rattle.np_exposure.specs.Strangers.{IsExposure}
 use Rattle.np_exposure.specs.Tree.{IsJoined}
-use Rattle.np_exposure.specs.declared.exposure_row.ExposureRow.{ExposureRow}
-use Rattle.np_exposure.specs.declared.pending.Pending.{Pending}
-use Rattle.np_exposure.specs.declared.sided_requirement.SidedRequirement.{SidedRequirement}
-use Rattle.np_exposure.specs.declared.step.Aside.{Aside}
+use Rattle.np_exposure.specs.Types.{Aside, ExposureRow, Pending, SidedRequirement, Stranger}
 use Rattle.np_exposure.specs.Choices.{Choices}
 use Rattle.np_exposure.specs.steps.States.{IsWitness, can_be, is_decided, narrowed}
 use Rattle.np_rules.specs.PodSides.{PodSide}
-use Rattle.np_rules.specs.declared.stranger.Stranger.{Stranger}
 
 -- one row of the exposure of a hypothetical pod with labels among the choices
 pub record IsLeaf (side : PodSide) (state : List Choices) (rows : List ExposureRow) : Type 0 where

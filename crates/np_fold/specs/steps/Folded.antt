@@ -2,18 +2,12 @@
 use Rattle.std.specs.Prelude.{◌≡◌, ℕ, List, [], Bool, ◌==◌, map, length, Option, slice_get, slice_index}
 use Rattle.std.specs.List.{list_all, position_or_len}
 use Rattle.std.specs.Option.{option_map}
-use Rattle.np_addr.specs.declared.address.Address.{Address}
+use Rattle.np_fold.specs.Types.{Address, Cidr, EstateLists, Named, Owner, Pod, Traits}
 use Rattle.np_addr.specs.declared.address.Address.TheVariants as address
-use Rattle.np_addr.specs.declared.cidr.Cidr.{Cidr}
 use Rattle.np_addr.specs.declared.cidr.Cidr.TheVariants as cidr
 use Rattle.np_classes.specs.Classes.{class_of, firsts, places}
-use Rattle.np_model.specs.declared.lists.EstateLists.{EstateLists}
-use Rattle.np_model.specs.declared.pod.Pod.{Pod}
 use Rattle.np_fold.specs.Traits.{traits_of, with_owner}
 use Rattle.np_fold.specs.Workloads.{Workload, kinds_alike, pods_alike, workload_count}
-use Rattle.np_fold.specs.declared.traits.Traits.{Traits}
-use Rattle.np_names.specs.declared.named.Named.{Named}
-use Rattle.np_model.specs.declared.owner.Owner.{Owner}
 
 -- ---- blocks
 

@@ -1,13 +1,8 @@
 -- The rules that are the first to match a spot.
 use Rattle.std.specs.Prelude.{◌≡◌, ◌⊎◌, ℕ, List, [], ◌∷◌, Bool, true, false, Option, Some, None, if◌then◌else◌, find}
 use Rattle.std.specs.Option.{option_map_or}
-use Rattle.np_lint.specs.declared.flags.Flags.{Flags}
-use Rattle.np_lint.specs.declared.rule_spots.RuleSpots.{RuleSpots}
+use Rattle.np_lint.specs.Types.{Action, AdminPart, Allow, Deny, Flags, Pass, RuleId, RuleSpots}
 use Rattle.np_lint.specs.steps.Known.{flag_at, is_id}
-use Rattle.np_rules.specs.declared.rule_ids.RuleId.{RuleId}
-use Rattle.np_tiers.specs.declared.layer.Action.{Action}
-use Rattle.np_tiers.specs.declared.layer.Action.TheVariants.{Allow, Deny, Pass}
-use Rattle.np_tiers.specs.declared.layer.AdminPart.{AdminPart}
 
 -- ---- first rules
 

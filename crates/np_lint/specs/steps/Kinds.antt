@@ -1,8 +1,7 @@
 -- Pods that stand for their kinds.
 use Rattle.std.specs.Prelude.{◌≡◌, ◌≢◌, ℕ, ◌<◌, List, length, Bool, true, false, ◌||◌, ◌==◌, not, Some, slice_get, slice_index}
-use Rattle.np_model.specs.declared.lists.EstateLists.{EstateLists}
+use Rattle.np_lint.specs.Types.{EstateLists, KindPod}
 use Rattle.np_fold.specs.Workloads.{folding_of}
-use Rattle.np_lint.specs.declared.kind_pods.KindPod.{KindPod}
 use Rattle.np_kinds.specs.Between.{source_pod}
 
 -- the kind of the workload of the pod at a place

@@ -3,14 +3,9 @@ use Rattle.std.specs.Prelude.{ℕ, List, Bool, false, ◌&&◌, ◌==◌, Option
 use Rattle.std.specs.List.{list_all, slice_get}
 use Rattle.std.specs.Option.{option_and_then, option_map_or}
 use Rattle.std.specs.declared.alloc.Global.{Global}
-use Rattle.np_lint.specs.declared.flags.Flags.{Flags}
-use Rattle.np_lint.specs.declared.rule_ref.Tier.{Tier}
+use Rattle.np_lint.specs.Types.{Flags, LayerRules, Mark, RuleId, Tier, UsedRules}
 use Rattle.np_lint.specs.declared.rule_ref.Tier.TheVariants as tier
-use Rattle.np_lint.specs.declared.used_rules.UsedRules.{UsedRules}
-use Rattle.np_rules.specs.declared.rule_ids.LayerRules.{LayerRules}
-use Rattle.np_rules.specs.declared.rule_ids.RuleId.{RuleId}
 use Rattle.np_tiers.specs.Entries.{admin_place}
-use Rattle.np_tiers.specs.declared.mark.Mark.{Mark}
 use Rattle.np_tiers.specs.declared.mark.Mark.TheVariants.{Admin, Net, Isolated, Base, Free}
 
 -- ---- flags

@@ -1,24 +1,15 @@
 -- What a search for used rules has found.
 use Rattle.std.specs.Prelude.{◌≡◌, ℕ, ◌<◌, List, Bool, true, ◌&&◌, ◌||◌, not, Some, slice_get}
 use Rattle.std.specs.List.{Contains}
-use Rattle.np_addr.specs.declared.address.Family.{Family}
+use Rattle.np_lint.specs.Types.{Decider, Direction, Egress, EstateLists, Family, Ingress, KindPod, Kinds, LayerRules, RuleRef, Search, Tier, UsedRules}
 use Rattle.np_conns.specs.Conns.{is_spot}
 use Rattle.np_model.specs.Families.{families_of}
 use Rattle.np_model.specs.Lawful.{IsLawful}
-use Rattle.np_model.specs.declared.lists.EstateLists.{EstateLists}
 use Rattle.np_explain.specs.Marks.{admin_rules, base_rules, net_rules}
 use Rattle.np_lint.specs.Rules.{rule_count_at}
 use Rattle.np_lint.specs.Used.{is_used, stands_in}
-use Rattle.np_lint.specs.declared.kind_pods.KindPod.{KindPod}
-use Rattle.np_lint.specs.declared.rule_ref.RuleRef.{RuleRef}
-use Rattle.np_lint.specs.declared.rule_ref.Tier.{Tier}
-use Rattle.np_lint.specs.declared.search.Kinds.{Kinds}
-use Rattle.np_lint.specs.declared.search.Search.{Search}
-use Rattle.np_lint.specs.declared.used_rules.UsedRules.{UsedRules}
 use Rattle.np_lint.specs.steps.Kinds.{AreKindPods, is_asked}
 use Rattle.np_lint.specs.steps.Known.{are_known, is_known}
-use Rattle.np_model.specs.declared.direction.Direction.{Direction}
-use Rattle.np_model.specs.declared.direction.Direction.TheVariants.{Ingress, Egress}
 use Rattle.np_reach.specs.Reach.{may_at, may_reach, reach_of}
 use Rattle.np_rules.specs.Deciders.{decider}
 use Rattle.np_rules.specs.model.Ends.{Contact, pod}
@@ -27,8 +18,6 @@ use Rattle.np_rules.specs.LayerRules.{NamesAdmin, NamesBase, NamesNet}
 use Rattle.np_rules.specs.Layers.{Pairwise}
 use Rattle.np_rules.specs.PodSides.{PodSide, near_pod, side_of, with_addresses, with_pod}
 use Rattle.np_rules.specs.model.Verdict.{pod_at}
-use Rattle.np_rules.specs.declared.decider.Decider.{Decider}
-use Rattle.np_rules.specs.declared.rule_ids.LayerRules.{LayerRules}
 use Rattle.np_kinds.specs.Kinds.{first_ends}
 
 -- ---- rules of one direction

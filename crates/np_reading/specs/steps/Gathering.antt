@@ -6,20 +6,9 @@ use Rattle.np_reading.specs.Ends.{end_of_object}
 use Rattle.np_reading.specs.LeftOut.{unaddressed}
 use Rattle.np_reading.specs.Listed.{with_admin, with_net}
 use Rattle.np_reading.specs.declared.grouped_items.GroupedItems.{GroupedItems}
-use Rattle.np_model.specs.declared.lists.EstateLists.{EstateLists}
-use Rattle.np_model.specs.declared.notes.Notes.{Notes}
-use Rattle.np_model.specs.declared.placed_ingress.PlacedIngress.{PlacedIngress}
-use Rattle.np_model.specs.declared.pod.Pod.{Pod}
-use Rattle.np_reading.specs.declared.context.PodContext.{PodContext}
-use Rattle.np_items.specs.declared.item.Item.{Item}
+use Rattle.np_reading.specs.Types.{AdminPolicy, BasePolicy, EstateLists, Item, NetPolicy, Notes, Object, ObjectName, PlacedIngress, Pod, PodContext, ServiceItem}
 use Rattle.np_items.specs.declared.item.Item.TheVariants as item
-use Rattle.np_objects.specs.declared.object.Object.{Object}
 use Rattle.np_objects.specs.declared.object.Object.TheVariants as object
-use Rattle.np_model.specs.declared.service.ServiceItem.{ServiceItem}
-use Rattle.np_owners.specs.declared.object_name.ObjectName.{ObjectName}
-use Rattle.np_model.specs.declared.admin_policy.AdminPolicy.{AdminPolicy}
-use Rattle.np_model.specs.declared.admin_policy.BasePolicy.{BasePolicy}
-use Rattle.np_model.specs.declared.network_policy.NetPolicy.{NetPolicy}
 use Rattle.np_policies.specs.declared.policy.Policy.{Policy}
 use Rattle.np_policies.specs.declared.policy.Policy.TheVariants as policy
 

@@ -4,8 +4,7 @@ use Rattle.std.specs.BTreeMap.{BTreeMap, get}
 use Rattle.std.specs.Cmp.Lexicographic.{slice_cmp}
 use Rattle.std.specs.Ordering.{nat_cmp}
 use Rattle.np_reading.specs.Namespaces.{namespace_labels}
-use Rattle.np_items.specs.declared.item.Item.{Item}
-use Rattle.np_labels.specs.declared.pair.Pair.{Pair}
+use Rattle.np_reading.specs.Types.{Item, Pair}
 
 -- what is known of a namespace are its labels
 abbrev pub KnowsLabels : List Item → BTreeMap (List ℕ) (List Pair) → Type 0

@@ -2,11 +2,8 @@
 use Rattle.std.specs.Prelude.{ℕ, List, Bool, ◌&&◌, map}
 use Rattle.std.specs.List.{list_any}
 use Rattle.np_conns.specs.Conns.{same_proto}
-use Rattle.np_conns.specs.declared.proto.Proto.TheVariants.{Tcp}
-use Rattle.np_model.specs.declared.service.ServiceItem.{ServiceItem}
-use Rattle.np_model.specs.declared.service.ServicePort.{ServicePort}
+use Rattle.np_routes.specs.Types.{AskedService, ServiceItem, ServicePort, Tcp}
 use Rattle.np_routes.specs.Services.{is_target, serves}
-use Rattle.np_routes.specs.declared.asked_services.AskedService.{AskedService}
 use Rattle.np_routes.specs.steps.PortSets.{has_own}
 use Rattle.np_rules.specs.model.Ends.{PodEnd}
 

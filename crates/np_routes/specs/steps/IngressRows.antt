@@ -2,13 +2,12 @@
 use Rattle.std.specs.Prelude.{ℕ, ◌≡◌, ◌<◌, ◌≤◌, ◌-◌, ◌*◌, ◌^◌, List, [], flat_map, length, Option, Some}
 use Rattle.std.specs.List.{range_with_len}
 use Rattle.std.specs.Option.{option_map_or}
-use Rattle.np_model.specs.declared.lists.EstateLists.{EstateLists}
+use Rattle.np_routes.specs.Types.{EstateLists, Row}
 use Rattle.np_fold.specs.Workloads.{folding_of}
 use Rattle.np_routes.specs.ClusterTable.{ClusterTable, ingress_row}
 use Rattle.np_routes.specs.Controllers.{Routing}
 use Rattle.np_kinds.specs.Between.{IsWorkload, number_of_workloads}
 use Rattle.np_table.specs.ToCome.{RowsToCome, most_rules}
-use Rattle.np_table.specs.declared.rows.Row.{Row}
 
 -- the rows of a table that are left, none where it has ended
 abbrev pub rows_left : Option RowsToCome → List Row

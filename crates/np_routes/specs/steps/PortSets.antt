@@ -8,14 +8,8 @@ use Rattle.std.specs.Option.{option_map_or}
 use Rattle.std.specs.Ordering.{nat_cmp}
 use Rattle.std.specs.Str.{bytes_eq}
 use Rattle.np_conns.specs.Conns.{same_proto}
-use Rattle.np_conns.specs.declared.proto.Proto.TheVariants.{Tcp}
-use Rattle.np_model.specs.declared.named_port.NamedPort.{NamedPort}
-use Rattle.np_model.specs.declared.service.PortName.{PortName}
-use Rattle.np_model.specs.declared.service.PortName.TheVariants.{Number, Named}
-use Rattle.np_model.specs.declared.service.ServiceItem.{ServiceItem}
-use Rattle.np_model.specs.declared.service.ServicePort.{ServicePort}
+use Rattle.np_routes.specs.Types.{Named, NamedPort, Number, PortName, PortSet, ServiceItem, ServicePort, Tcp}
 use Rattle.np_routes.specs.Services.{is_backend_port}
-use Rattle.np_routes.specs.declared.port_set.PortSet.{PortSet}
 use Rattle.np_rules.specs.model.Ends.{PodEnd}
 
 -- whether two ports are the same number, or the same name

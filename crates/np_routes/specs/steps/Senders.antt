@@ -1,19 +1,14 @@
 -- The end that sends what comes through ingresses, as the code asks it.
 use Rattle.std.specs.Prelude.{ℕ, ◌*◌, ◌+◌, List, length, Bool, ◌&&◌, Option, Some, None}
 use Rattle.std.specs.List.{list_any}
-use Rattle.np_addr.specs.declared.address.Family.{Family}
-use Rattle.np_conns.specs.declared.port_spot.PortSpot.{PortSpot}
+use Rattle.np_routes.specs.Types.{Egress, EstateLists, Family, Ingress, PortSpot, Sender, Stranger}
 use Rattle.np_model.specs.Families.{families_of}
-use Rattle.np_model.specs.declared.lists.EstateLists.{EstateLists}
-use Rattle.np_model.specs.declared.direction.Direction.TheVariants.{Egress, Ingress}
 use Rattle.np_routes.specs.Controllers.{any_controller}
 use Rattle.np_routes.specs.Routes.{is_routed}
-use Rattle.np_routes.specs.declared.senders.Sender.{Sender}
 use Rattle.np_routes.specs.declared.senders.Sender.TheVariants.{Pod, Anyone}
 use Rattle.np_rules.specs.PodSides.{PodSide, near_pod, side_of, side_rule_count, with_stranger}
 use Rattle.np_rules.specs.model.Sides.{side_allows}
 use Rattle.np_rules.specs.model.Verdict.{pod_at}
-use Rattle.np_rules.specs.declared.stranger.Stranger.{Stranger}
 use Rattle.np_table.specs.PairRules.{AreEnds}
 use Rattle.np_kinds.specs.Kinds.{first_side}
 use Rattle.np_kinds.specs.Between.{between_pods}

@@ -5,7 +5,7 @@ use Rattle.std.specs.Borrow.{Bor}
 use Rattle.std.specs.Cmp.Lexicographic.{slice_cmp}
 use Rattle.std.specs.Ordering.{nat_cmp, ordering_then}
 use Rattle.std.specs.declared.cmp.Ordering.{Ordering}
-use Rattle.np_model.specs.declared.service.ServiceItem.{ServiceItem}
+use Rattle.np_routes.specs.Types.{ServiceItem}
 use Rattle.np_routes.specs.Services.{service_named}
 
 -- how a namespace and a name compare to a key: by the namespace, and then by the name

@@ -7,10 +7,9 @@ use Rattle.std.specs.List.{list_any}
 use Rattle.std.specs.Option.{option_map_or}
 use Rattle.std.specs.Ordering.{nat_cmp}
 use Rattle.std.specs.declared.alloc.Global.{Global}
-use Rattle.np_model.specs.declared.lists.EstateLists.{EstateLists}
+use Rattle.np_routes.specs.Types.{EstateLists, ServiceTargets}
 use Rattle.np_routes.specs.Routes.{leads_to, routes_in}
 use Rattle.np_routes.specs.Services.{serves}
-use Rattle.np_routes.specs.declared.service_targets.ServiceTargets.{ServiceTargets}
 use Rattle.np_routes.specs.steps.PortSets.{at_pod}
 use Rattle.np_rules.specs.model.Ends.{PodEnd}
 

@@ -1,7 +1,6 @@
 -- The tier of AdminNetworkPolicies.
 use Rattle.std.specs.Prelude.{List, [], ◌∷◌, filter, Bool, ◌&&◌, ◌||◌, ◌==◌, nat_lt, Option, Some, None, if◌then◌else◌}
-use Rattle.np_model.specs.declared.admin_policy.AdminPolicy.{AdminPolicy}
-use Rattle.np_model.specs.declared.direction.Direction.{Direction}
+use Rattle.np_rules.specs.Types.{AdminPolicy, Direction}
 use Rattle.np_rules.specs.model.Ends.{Contact, PodEnd}
 use Rattle.np_rules.specs.model.Places.{PlacedAdminRule, admin_places}
 use Rattle.np_rules.specs.model.Rules.{admin_rule_matches}

@@ -1,7 +1,6 @@
 -- The baseline.
 use Rattle.std.specs.Prelude.{Option, find}
-use Rattle.np_model.specs.declared.admin_policy.BasePolicy.{BasePolicy}
-use Rattle.np_model.specs.declared.direction.Direction.{Direction}
+use Rattle.np_rules.specs.Types.{BasePolicy, Direction}
 use Rattle.np_rules.specs.model.Ends.{Contact, PodEnd}
 use Rattle.np_rules.specs.model.Places.{PlacedBaseRule, base_places}
 use Rattle.np_rules.specs.model.Rules.{admin_rule_matches}

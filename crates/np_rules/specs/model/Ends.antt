@@ -1,15 +1,9 @@
 -- Who sends what to whom.
 use Rattle.std.specs.Prelude.{ℕ, List, [], unwrap_or, codes}
-use Rattle.np_addr.specs.declared.address.Address.{Address}
-use Rattle.np_addr.specs.declared.address.Family.{Family}
-use Rattle.np_conns.specs.declared.port_spot.PortSpot.{PortSpot}
+use Rattle.np_rules.specs.Types.{Address, Direction, Egress, Family, Ingress, NamedPort, PortSpot, Stranger}
 use Rattle.np_model.specs.declared.pod.Pod.{Pod}
 use Rattle.np_labels.specs.Labels.{value_of}
 use Rattle.np_labels.specs.declared.pair.Pair.{Pair}
-use Rattle.np_model.specs.declared.named_port.NamedPort.{NamedPort}
-use Rattle.np_model.specs.declared.direction.Direction.{Direction}
-use Rattle.np_model.specs.declared.direction.Direction.TheVariants.{Ingress, Egress}
-use Rattle.np_rules.specs.declared.stranger.Stranger.{Stranger}
 
 -- a pod, as rules see it
 pub record PodEnd : Type 0 where

@@ -1,8 +1,7 @@
 -- The tier of NetworkPolicies.
 use Rattle.std.specs.Prelude.{List, Bool, ◌&&◌, is_some}
 use Rattle.std.specs.List.{list_any}
-use Rattle.np_model.specs.declared.direction.Direction.{Direction}
-use Rattle.np_model.specs.declared.network_policy.NetPolicy.{NetPolicy}
+use Rattle.np_rules.specs.Types.{Direction, NetPolicy}
 use Rattle.np_rules.specs.model.Ends.{Contact, PodEnd}
 use Rattle.np_rules.specs.model.Places.{PlacedNetRule, net_places, net_rules_of}
 use Rattle.np_rules.specs.model.Rules.{net_rule_matches}

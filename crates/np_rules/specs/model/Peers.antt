@@ -3,14 +3,12 @@ use Rattle.std.specs.Prelude.{ℕ, List, Bool, false, ◌&&◌, Option, Some, No
 use Rattle.std.specs.List.{list_any}
 use Rattle.std.specs.Str.{bytes_eq}
 use Rattle.np_addr.specs.Blocks.{block_has}
-use Rattle.np_addr.specs.declared.address.Family.{Family}
+use Rattle.np_rules.specs.Types.{AdminPeer, Family, NetPeer}
 use Rattle.np_addr.specs.Prefixes.{some_has}
 use Rattle.np_model.specs.Families.{is_of}
 use Rattle.np_labels.specs.Selectors.{meets_selector}
 use Rattle.np_labels.specs.declared.selector.Selector.{Selector}
-use Rattle.np_model.specs.declared.admin_policy.AdminPeer.{AdminPeer}
 use Rattle.np_model.specs.declared.admin_policy.AdminPeer.TheVariants as admin
-use Rattle.np_model.specs.declared.network_policy.NetPeer.{NetPeer}
 use Rattle.np_model.specs.declared.network_policy.NetPeer.TheVariants as net
 use Rattle.np_rules.specs.model.Ends.{End, PodEnd, pod, address}
 

@@ -2,14 +2,7 @@
 -- direction, from 0. Policies stand in the order of the estate, and rules as written.
 use Rattle.std.specs.Prelude.{ℕ, ◌+◌, List, [], map, flat_map, length, Option, Some, None, unwrap_or, if◌then◌else◌}
 use Rattle.std.specs.List.{enumerate_from}
-use Rattle.np_model.specs.declared.lists.EstateLists.{EstateLists}
-use Rattle.np_model.specs.declared.admin_policy.AdminPolicy.{AdminPolicy}
-use Rattle.np_model.specs.declared.admin_policy.AdminRule.{AdminRule}
-use Rattle.np_model.specs.declared.admin_policy.BasePolicy.{BasePolicy}
-use Rattle.np_model.specs.declared.direction.Direction.{Direction}
-use Rattle.np_model.specs.declared.direction.Direction.TheVariants.{Ingress, Egress}
-use Rattle.np_model.specs.declared.network_policy.NetPolicy.{NetPolicy}
-use Rattle.np_model.specs.declared.network_policy.NetRule.{NetRule}
+use Rattle.np_rules.specs.Types.{AdminPolicy, AdminRule, BasePolicy, Direction, Egress, EstateLists, Ingress, NetPolicy, NetRule}
 use Rattle.np_rules.specs.model.Ends.{End, PodEnd, pod, address}
 use Rattle.np_rules.specs.model.Selection.{net_selects, subject_selects}
 

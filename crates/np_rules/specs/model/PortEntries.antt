@@ -2,14 +2,10 @@
 use Rattle.std.specs.Prelude.{◌≡◌, ℕ, List, Bool, false, ◌&&◌, ◌==◌, nat_le, refl}
 use Rattle.std.specs.List.{list_any}
 use Rattle.std.specs.Str.{bytes_eq}
-use Rattle.np_addr.specs.declared.address.Address.{Address}
+use Rattle.np_rules.specs.Types.{Address, NamedPort, NetPort, PortSpot, Proto}
 use Rattle.np_conns.specs.Conns.{same_proto}
-use Rattle.np_conns.specs.declared.port_spot.PortSpot.{PortSpot}
-use Rattle.np_conns.specs.declared.proto.Proto.{Proto}
-use Rattle.np_model.specs.declared.named_port.NamedPort.{NamedPort}
 use Rattle.np_model.specs.declared.admin_policy.AdminPort.{AdminPort}
 use Rattle.np_model.specs.declared.admin_policy.AdminPort.TheVariants as admin
-use Rattle.np_model.specs.declared.network_policy.NetPort.{NetPort}
 use Rattle.np_model.specs.declared.network_policy.NetPort.TheVariants as net
 use Rattle.np_rules.specs.model.Ends.{End, pod, address}
 

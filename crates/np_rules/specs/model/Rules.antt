@@ -1,8 +1,7 @@
 -- What a rule matches.
 use Rattle.std.specs.Prelude.{ℕ, List, [], ◌∷◌, Bool, true, ◌&&◌}
 use Rattle.std.specs.List.{list_any}
-use Rattle.np_model.specs.declared.admin_policy.AdminRule.{AdminRule}
-use Rattle.np_model.specs.declared.network_policy.NetRule.{NetRule}
+use Rattle.np_rules.specs.Types.{AdminRule, NetRule}
 use Rattle.np_rules.specs.model.Ends.{Contact}
 use Rattle.np_rules.specs.model.Peers.{net_peer_matches, admin_peer_matches}
 use Rattle.np_rules.specs.model.PortEntries.{net_entry_matches, admin_entry_matches}

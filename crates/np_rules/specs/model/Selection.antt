@@ -3,7 +3,7 @@ use Rattle.std.specs.Prelude.{Bool, ◌&&◌}
 use Rattle.std.specs.Str.{bytes_eq}
 use Rattle.np_labels.specs.Selectors.{meets_selector}
 use Rattle.np_model.specs.declared.admin_policy.Subject.{Subject}
-use Rattle.np_model.specs.declared.network_policy.NetPolicy.{NetPolicy}
+use Rattle.np_rules.specs.Types.{NetPolicy}
 use Rattle.np_rules.specs.model.Ends.{PodEnd}
 
 -- A NetworkPolicy selects the pods of its own namespace whose labels meet its subject.

@@ -1,10 +1,7 @@
 -- What a pod's own side says of a packet.
 use Rattle.std.specs.Prelude.{Bool, true, false, Option, if◌then◌else◌}
 use Rattle.std.specs.Option.{option_map_or}
-use Rattle.np_model.specs.declared.lists.EstateLists.{EstateLists}
-use Rattle.np_model.specs.declared.admin_policy.Action.{Action}
-use Rattle.np_model.specs.declared.admin_policy.Action.TheVariants.{Allow, Deny, Pass}
-use Rattle.np_model.specs.declared.direction.Direction.{Direction}
+use Rattle.np_rules.specs.Types.{Action, Allow, Deny, Direction, EstateLists, Pass}
 use Rattle.np_rules.specs.model.AdminTier.{admin_decider}
 use Rattle.np_rules.specs.model.BaseTier.{base_decider}
 use Rattle.np_rules.specs.model.Ends.{Contact, PodEnd}

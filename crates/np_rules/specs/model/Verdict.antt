@@ -2,9 +2,7 @@
 use Rattle.std.specs.Prelude.{ℕ, ◌+◌, ◌<◌, [], length, Bool, true, ◌&&◌}
 use Rattle.std.specs.List.{slice_get}
 use Rattle.std.specs.Option.{option_map_or}
-use Rattle.np_model.specs.declared.lists.EstateLists.{EstateLists}
-use Rattle.np_model.specs.declared.direction.Direction.{Direction}
-use Rattle.np_model.specs.declared.direction.Direction.TheVariants.{Ingress, Egress}
+use Rattle.np_rules.specs.Types.{Direction, Egress, EstateLists, Ingress}
 use Rattle.np_rules.specs.model.Ends.{End, Contact, Packet, PodEnd, pod, address, contact_of, pod_end}
 use Rattle.np_rules.specs.model.Places.{end_rule_count}
 use Rattle.np_rules.specs.model.Sides.{side_allows}

@@ -1,6 +1,6 @@
 -- Ranges of addresses that are not empty.
 use Rattle.std.specs.Prelude.{◌≤◌}
-use Rattle.np_table.specs.declared.rows.AddressSpan.{AddressSpan}
+use Rattle.np_synth.specs.Types.{AddressSpan}
 use Rattle.np_table.specs.declared.rows.AddressSpan.TheVariants as span
 
 -- the range does not end before it begins

@@ -1,7 +1,7 @@
 -- The next workload of a group.
 use Rattle.std.specs.Prelude.{ℕ, ◌+◌, ◌-◌, ◌==◌, find, Option}
 use Rattle.std.specs.List.{range_with_len}
-use Rattle.np_model.specs.declared.lists.EstateLists.{EstateLists}
+use Rattle.np_synth.specs.Types.{EstateLists}
 use Rattle.np_synth.specs.Groups.{group_of}
 use Rattle.np_kinds.specs.Between.{number_of_workloads}
 

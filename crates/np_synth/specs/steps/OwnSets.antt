@@ -1,7 +1,7 @@
 -- What passes within a workload, and between two.
 use Rattle.std.specs.Prelude.{◌≢◌, ℕ, List, [], ◌∷◌, if◌then◌else◌}
 use Rattle.np_conns.specs.Conns.{Conns}
-use Rattle.np_model.specs.declared.lists.EstateLists.{EstateLists}
+use Rattle.np_synth.specs.Types.{EstateLists}
 use Rattle.np_fold.specs.Workloads.{folding_of}
 use Rattle.np_synth.specs.Faults.{set_of}
 use Rattle.np_kinds.specs.Between.{IsWorkload, is_alone}

@@ -1,9 +1,8 @@
 -- What a selector sees of a pod, as traits without all else.
 use Rattle.std.specs.Prelude.{ℕ, List, []}
 use Rattle.std.specs.List.{filter_map}
-use Rattle.np_model.specs.declared.lists.EstateLists.{EstateLists}
+use Rattle.np_synth.specs.Types.{EstateLists, Traits}
 use Rattle.np_fold.specs.Traits.{label_of}
-use Rattle.np_fold.specs.declared.traits.Traits.{Traits}
 use Rattle.np_model.specs.declared.owner.Owner.{Owner}
 use Rattle.np_rules.specs.model.Ends.{PodEnd}
 use Rattle.np_synth.specs.Groups.{relevant}

@@ -1,8 +1,7 @@
 -- Rows that speak of one family of two.
 use Rattle.std.specs.Prelude.{ℕ, List, [], ◌∷◌, Option, Some, None}
 use Rattle.std.specs.Option.{option_or}
-use Rattle.np_addr.specs.declared.address.Family.{Family}
-use Rattle.np_table.specs.declared.rows.Row.{Row}
+use Rattle.np_synth.specs.Types.{Family, Row}
 use Rattle.np_table.specs.declared.rows.RowEnd.{RowEnd}
 use Rattle.np_table.specs.declared.rows.RowEnd.TheVariants.{Work}
 

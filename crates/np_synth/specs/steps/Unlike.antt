@@ -1,6 +1,6 @@
 -- The least pair of a number and of the first of its group that differ, among some numbers.
 use Rattle.std.specs.Prelude.{ℕ, List, Option, slice_index}
-use Rattle.np_model.specs.declared.lists.EstateLists.{EstateLists}
+use Rattle.np_synth.specs.Types.{EstateLists}
 use Rattle.np_synth.specs.Faults.{differ}
 use Rattle.np_synth.specs.Groups.{first_of_group, group_of}
 use Rattle.np_synth.specs.steps.Least.{IsLeast}

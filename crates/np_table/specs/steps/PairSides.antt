@@ -3,10 +3,8 @@ use Rattle.std.specs.Prelude.{ℕ}
 use Rattle.np_fold.specs.Workloads.{folding_of}
 use Rattle.np_kinds.specs.Between.{destination_pod}
 use Rattle.np_kinds.specs.Kinds.{first_side}
-use Rattle.np_model.specs.declared.direction.Direction.TheVariants.{Egress, Ingress}
-use Rattle.np_model.specs.declared.lists.EstateLists.{EstateLists}
+use Rattle.np_table.specs.Types.{Egress, EstateLists, Ingress, PairEnds}
 use Rattle.np_rules.specs.PodSides.{side_of}
-use Rattle.np_table.specs.declared.pair_sets.PairEnds.{PairEnds}
 
 -- the sides of the pods that stand for two workloads
 abbrev pub ends_of : EstateLists → ℕ → ℕ → PairEnds

@@ -4,7 +4,7 @@ use Rattle.clap.specs.Simple.{app_of}
 use Rattle.clap.specs.Values.{kind_of}
 use Rattle.np_args.proofs.AskedLemmas.{matched_job, unmatched_job}
 use Rattle.np_args.specs.Faults.{fault_of_kind}
-use Rattle.np_args.specs.declared.words_fault.WordsFault.TheVariants.{Usage}
+use Rattle.np_args.specs.Types.{Usage}
 use Rattle.np_args.proofs.command_words.read.Goals as goal
 
 pub returns-in_err-matches-clause-usage : goal.returns-in_err-matches-clause-usage

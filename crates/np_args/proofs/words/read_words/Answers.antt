@@ -8,7 +8,7 @@ use Rattle.std.specs.declared.alloc.Global.{Global}
 use Rattle.np_args.proofs.words.read_words.Goals as goal
 use Rattle.np_args.specs.CommandLines.{asked_by, jobs}
 use Rattle.np_args.specs.Values.{Text}
-use Rattle.np_args.specs.declared.job.Job.{Job}
+use Rattle.np_args.specs.Types.{Job}
 
 other : (text name : Text) → text ≢ name → bytes_eq text name ≡ false
 other text name differ = false_from_ne_true (bytes_eq text name) (λ same. differ ((bytes_eq-Decides text name).0 same))

@@ -1,10 +1,8 @@
 use Rattle.std.proofs.Common.{Some, sym, ap, ◌∙◌, option_map}
-use Rattle.np_addr.specs.declared.address.Family.{Family}
+use Rattle.np_check.specs.Types.{At, Family, Ingress, Work}
 use Rattle.np_check.proofs.AddressLemmas.{all_to, counter_to, table_rows}
 use Rattle.np_check.specs.Counters.{counter_at}
-use Rattle.np_check.specs.declared.counterexample.PlaceEnd.TheVariants.{At, Work}
 use Rattle.np_fold.specs.Workloads.{folding_of}
-use Rattle.np_model.specs.declared.direction.Direction.TheVariants.{Ingress}
 use Rattle.np_kinds.specs.Between.{address_allows}
 use Rattle.np_check.proofs.addresses.first_from.Goals as goal
 

@@ -1,14 +1,11 @@
 use Rattle.std.proofs.Common.{ℕ, List, get_or, refl, sym, ap, subst, ◌∙◌}
-use Rattle.np_model.specs.declared.lists.EstateLists.{EstateLists}
+use Rattle.np_check.specs.Types.{Address, At, EstateLists, First, Second, Work}
 use Rattle.np_kinds.specs.Between.{IsWorkload}
 use Rattle.std.proofs.lemmas.List.{take_all}
-use Rattle.np_addr.specs.declared.address.Address.{Address}
-use Rattle.np_base.specs.declared.beside.Which.TheVariants.{First, Second}
 use Rattle.np_check.proofs.AddressLemmas.{no_works, one_work_more}
 use Rattle.np_check.proofs.NoneLemmas.{none_of}
 use Rattle.np_check.specs.Counters.{addresses_of, counter_between}
 use Rattle.np_check.specs.Firsts.{first_of}
-use Rattle.np_check.specs.declared.counterexample.PlaceEnd.TheVariants.{At, Work}
 use Rattle.np_check.proofs.addresses.first_from_addresses.Goals as goal
 
 pub returns-then-is_empty-clause-counter : goal.returns-then-is_empty-clause-counter

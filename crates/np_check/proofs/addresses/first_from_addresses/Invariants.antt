@@ -1,7 +1,7 @@
 use Rattle.std.proofs.Common.{◌≡◌, take}
 use Rattle.np_check.specs.Counters.{addresses_of, counter_between}
 use Rattle.np_check.specs.Firsts.{first_of}
-use Rattle.np_check.specs.declared.counterexample.PlaceEnd.TheVariants.{At, Work}
+use Rattle.np_check.specs.Types.{At, Work}
 use Rattle.np_check.proofs.addresses.first_from_addresses.Given as goal
 
 -- what is kept is the first to the workloads so far

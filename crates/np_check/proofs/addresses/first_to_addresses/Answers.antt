@@ -1,12 +1,9 @@
 use Rattle.std.proofs.Common.{Some, sym, ap, ◌∙◌, option_map}
-use Rattle.np_addr.specs.declared.address.Family.{Family}
-use Rattle.np_base.specs.declared.beside.Which.TheVariants.{First, Second}
+use Rattle.np_check.specs.Types.{At, Egress, Family, First, Second, Work}
 use Rattle.np_check.proofs.AddressLemmas.{all_by, counter_by, table_rows}
 use Rattle.np_check.proofs.NoneLemmas.{none_of}
 use Rattle.np_check.specs.Counters.{counter_at, counter_between}
-use Rattle.np_check.specs.declared.counterexample.PlaceEnd.TheVariants.{At, Work}
 use Rattle.np_fold.specs.Workloads.{folding_of}
-use Rattle.np_model.specs.declared.direction.Direction.TheVariants.{Egress}
 use Rattle.np_kinds.specs.Between.{address_allows}
 use Rattle.np_check.proofs.addresses.first_to_addresses.Goals as goal
 

@@ -4,9 +4,7 @@ use Rattle.std.proofs.lemmas.Result.{IfOk-weaker}
 use Rattle.np_check.proofs.PairLemmas.{from-work, none_or, some_or}
 use Rattle.np_check.specs.Counters.{addresses_of, counter_between, counter_from}
 use Rattle.np_check.specs.Firsts.{first_of}
-use Rattle.np_check.specs.declared.counterexample.Counterexample.{Counterexample}
-use Rattle.np_check.specs.declared.counterexample.PlaceEnd.TheVariants.{At, Work}
-use Rattle.np_model.specs.declared.lists.EstateLists.{EstateLists}
+use Rattle.np_check.specs.Types.{At, Counterexample, EstateLists, Work}
 use Rattle.np_check.proofs.checking.first_from_work.Goals as goal
 
 pub returns-then-is_some-clause-counter : goal.returns-then-is_some-clause-counter

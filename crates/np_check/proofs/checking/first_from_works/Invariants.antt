@@ -2,7 +2,7 @@ use Rattle.std.proofs.Common.{◌≡◌, drop}
 use Rattle.np_check.specs.Counters.{counter_from}
 use Rattle.np_check.specs.Firsts.{first_of}
 use Rattle.np_check.specs.steps.Pairs.{AreSettled}
-use Rattle.np_check.specs.declared.counterexample.PlaceEnd.TheVariants.{Work}
+use Rattle.np_check.specs.Types.{Work}
 use Rattle.np_check.proofs.checking.first_from_works.Given as goal
 
 -- the first from those that are left is the first from all

@@ -2,9 +2,8 @@ use Rattle.std.proofs.Common.{◌≡◌, false, get_or, sym, ap, ◌∙◌}
 use Rattle.np_addr.specs.declared.address.Family.TheVariants.{Four}
 use Rattle.np_check.proofs.PairLemmas.{between-alone, between-apart, found_at, none_left}
 use Rattle.np_check.specs.Counters.{counter_in}
-use Rattle.np_check.specs.declared.counterexample.PlaceEnd.TheVariants.{Work}
+use Rattle.np_check.specs.Types.{EstateLists, Work}
 use Rattle.np_model.specs.Families.{families_of}
-use Rattle.np_model.specs.declared.lists.EstateLists.{EstateLists}
 use Rattle.np_fold.specs.Workloads.{Folding, folding_of}
 use Rattle.np_kinds.specs.Between.{is_alone}
 use Rattle.np_check.proofs.pairs.first_between.Goals as goal

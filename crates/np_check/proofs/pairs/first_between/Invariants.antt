@@ -1,7 +1,7 @@
 use Rattle.std.proofs.Common.{◌≡◌, drop}
 use Rattle.np_check.specs.Counters.{counter_in}
 use Rattle.np_check.specs.Firsts.{first_of}
-use Rattle.np_check.specs.declared.counterexample.PlaceEnd.TheVariants.{Work}
+use Rattle.np_check.specs.Types.{Work}
 use Rattle.np_check.proofs.pairs.first_between.Given as goal
 
 -- the first in the families that are left is the first in all

@@ -1,7 +1,7 @@
 use Rattle.std.proofs.Common.{sym, ap, ◌∙◌, option_map}
 use Rattle.np_check.proofs.PairLemmas.{in_family}
 use Rattle.np_check.specs.Counters.{counter_at}
-use Rattle.np_check.specs.declared.counterexample.PlaceEnd.TheVariants.{Work}
+use Rattle.np_check.specs.Types.{Work}
 use Rattle.np_check.proofs.pairs.first_in.Goals as goal
 
 pub returns-in_default-clause-counter : goal.returns-in_default-clause-counter

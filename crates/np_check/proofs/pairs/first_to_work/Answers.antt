@@ -2,7 +2,7 @@ use Rattle.std.proofs.Common.{◌≡◌, ◌==◌, ◌&&◌, if◌then◌else◌
 use Rattle.np_check.proofs.PairLemmas.{none_denied, none_of_is, settled-more}
 use Rattle.np_check.specs.Counters.{counter_between}
 use Rattle.np_check.specs.steps.Pairs.{has_pair, kind_of}
-use Rattle.np_check.specs.declared.counterexample.PlaceEnd.TheVariants.{Work}
+use Rattle.np_check.specs.Types.{Work}
 use Rattle.np_model.specs.Lawful.{IsLawful}
 use Rattle.np_fold.specs.Workloads.{Folding, folding_of}
 use Rattle.np_kinds.proofs.KindNumbers.{kind-there}

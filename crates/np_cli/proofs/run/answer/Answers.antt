@@ -6,9 +6,7 @@ use Rattle.np_frame.specs.Words.{objects_of}
 use Rattle.np_cli.specs.Answers.{reply_in}
 use Rattle.np_command.specs.Prints.{Wrote}
 use Rattle.np_command.specs.Sinks.{sunk}
-use Rattle.np_command.specs.declared.failure.Failure.TheVariants.{NoMemory}
-use Rattle.np_command.specs.declared.fault.Fault.{Fault}
-use Rattle.np_model.specs.declared.lists.EstateLists.{EstateLists}
+use Rattle.np_cli.specs.Types.{EstateLists, Fault, NoMemory}
 use Rattle.np_cli.proofs.run.answer.Goals as goal
 
 pub returns-in_err-folded-clause-answers : goal.returns-in_err-folded-clause-answers

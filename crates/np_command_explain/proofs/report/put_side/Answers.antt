@@ -6,7 +6,7 @@ use Rattle.np_command_explain.proofs.ShownLemmas.{left-side}
 use Rattle.np_command_explain.proofs.report.put_side.Goals as goal
 use Rattle.np_command_explain.specs.Report.{part_line}
 use Rattle.np_command_explain.specs.steps.Explaining.{parts_at}
-use Rattle.np_explain.specs.declared.part.Part.{Part}
+use Rattle.np_command_explain.specs.Types.{Part}
 
 pub returns-in_err-put : goal.returns-in_err-put
 returns-in_err-put g c =

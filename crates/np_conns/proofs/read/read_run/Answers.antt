@@ -1,6 +1,6 @@
 use Rattle.std.proofs.Common.{◌≡◌, decimal, ap, ◌∙◌, arith}
 use Rattle.std.proofs.lemmas.Grind.{common_steps}
-use Rattle.np_base.specs.declared.range.Range.{Range}
+use Rattle.np_conns.specs.Types.{Range}
 use Rattle.np_conns.specs.Conns.{IsRun}
 use Rattle.np_conns.specs.ConnsText.{run_text}
 use Rattle.np_conns.proofs.SplitLemmas.{run_text-ends}

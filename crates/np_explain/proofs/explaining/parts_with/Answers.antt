@@ -8,7 +8,7 @@ use Rattle.np_explain.specs.Marks.{IsMarkOf, named_part}
 use Rattle.np_explain.specs.Order.{first_number}
 use Rattle.np_explain.specs.Parts.{AreRightParts}
 use Rattle.np_explain.specs.Sides.{with_end}
-use Rattle.np_explain.specs.declared.part.Part.{Part}
+use Rattle.np_explain.specs.Types.{Part}
 use Rattle.np_rules.specs.Deciders.{decider}
 use Rattle.np_rules.specs.PodSides.{PodSide, near_pod}
 use Rattle.np_rules.specs.model.Ends.{pod}

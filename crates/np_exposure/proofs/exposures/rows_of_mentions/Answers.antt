@@ -4,7 +4,7 @@ use Rattle.np_exposure.proofs.BeginLemmas.{are_at-first}
 use Rattle.np_exposure.proofs.FirstLemmas.{IsState-first}
 use Rattle.np_exposure.specs.Choices.{Choices, choices_at_first, choices_of, labels_of}
 use Rattle.np_exposure.specs.Mentions.{each_once}
-use Rattle.np_exposure.specs.declared.sided_requirement.SidedRequirement.{SidedRequirement}
+use Rattle.np_exposure.specs.Types.{SidedRequirement}
 use Rattle.np_exposure.specs.steps.States.{IsState, are_at}
 use Rattle.np_exposure.specs.steps.Walks.{AreWalked}
 use Rattle.np_rules.specs.PodSides.{PodSide}

@@ -6,7 +6,7 @@ use Rattle.np_fold.specs.steps.Folded.{workload_of, workload_of_pair}
 use Rattle.np_fold.specs.Workloads.{Workload, workload_of_entry}
 use Rattle.np_fold.proofs.MemberLemmas.{entries-so_far, members-count, members-same, next-new, no-workloads, workloads-more}
 use Rattle.np_fold.proofs.members.members_by_name.Goals as goal
-use Rattle.np_names.specs.declared.named.Named.{Named}
+use Rattle.np_fold.specs.Types.{Named}
 
 pub bounds-named-place : goal.bounds-named-place
 bounds-named-place c =

@@ -5,8 +5,7 @@ use Rattle.std.specs.List.Sorted.{IsStrictlySortedBy}
 use Rattle.std.specs.Ordering.{nat_cmp}
 use Rattle.np_fold.specs.Keys.{keys_of_estate, with_keys}
 use Rattle.np_labels.specs.Selectors.{is_listed}
-use Rattle.np_labels.proofs.Distinct.{distinct-sorted}
-use Rattle.np_labels.proofs.Distinct.{is_listed-distinct}
+use Rattle.np_labels.proofs.Distinct.{distinct-sorted, is_listed-distinct}
 use Rattle.np_fold.proofs.relevant.relevant_keys.Goals as goal
 
 -- the set has the keys of the estate, in order

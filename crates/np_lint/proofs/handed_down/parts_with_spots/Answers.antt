@@ -4,7 +4,7 @@ use Rattle.std.proofs.lemmas.List.{append-nil}
 use Rattle.np_lint.proofs.FirstLemmas.{hands_down-without}
 use Rattle.np_lint.specs.steps.Firsts.{hands_down}
 use Rattle.np_lint.proofs.handed_down.parts_with_spots.Goals as goal
-use Rattle.np_tiers.specs.declared.layer.AdminPart.{AdminPart}
+use Rattle.np_lint.specs.Types.{AdminPart}
 
 pub loop-part-preserved : goal.loop-part-preserved
 loop-part-preserved g c = λ spot.

@@ -4,7 +4,7 @@ use Rattle.np_fold.specs.Workloads.{Folding, folding_of}
 use Rattle.np_kinds.specs.Between.{source_pod}
 use Rattle.np_lint.proofs.KindStepLemmas.{count_more, each_more, first_workload}
 use Rattle.np_lint.proofs.kind_pods.first_pods.Goals as goal
-use Rattle.np_lint.specs.declared.kind_pods.KindPod.{KindPod}
+use Rattle.np_lint.specs.Types.{KindPod}
 
 pub first_place-pod-requires : goal.first_place-pod-requires
 first_place-pod-requires c = first_workload c.args.folded.now c.first_of_kinds-workload-items.result.now c.loop-workload.workload-index

@@ -1,6 +1,6 @@
 use Rattle.std.proofs.Common.{◌≡◌, ℕ, Some, length, slice_get}
 use Rattle.np_lint.proofs.kind_pods.first_pods.Given as goal
-use Rattle.np_lint.specs.declared.kind_pods.KindPod.{KindPod}
+use Rattle.np_lint.specs.Types.{KindPod}
 use Rattle.np_lint.specs.steps.Kinds.{IsKindPodOf}
 
 -- each kind so far has its pod

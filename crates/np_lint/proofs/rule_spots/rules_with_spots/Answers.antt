@@ -3,12 +3,10 @@ use Rattle.std.proofs.lemmas.List.{take_all}
 use Rattle.std.proofs.lemmas.List.Elements.{All-push}
 use Rattle.std.proofs.lemmas.Option.{slice_get-get_or, slice_get_past}
 use Rattle.np_lint.proofs.FirstLemmas.{part_passed, part_pushed}
-use Rattle.np_lint.specs.declared.rule_spots.RuleSpots.{RuleSpots}
+use Rattle.np_lint.specs.Types.{RuleId, RuleSpots}
 use Rattle.np_lint.specs.steps.Firsts.{first_at}
 use Rattle.np_lint.proofs.rule_spots.rules_with_spots.Goals as goal
-use Rattle.np_lint.proofs.rule_spots.rules_with_spots.Goals.{then-place-ids+then-not-is_empty+in_ok-push, else-place-ids, else-place-ids-via-then-place-ids+else-not-is_empty}
-use Rattle.np_lint.proofs.rule_spots.rules_with_spots.Goals.{else-place-ids-via-else-place-ids}
-use Rattle.np_rules.specs.declared.rule_ids.RuleId.{RuleId}
+use Rattle.np_lint.proofs.rule_spots.rules_with_spots.Goals.{then-place-ids+then-not-is_empty+in_ok-push, else-place-ids, else-place-ids-via-then-place-ids+else-not-is_empty, else-place-ids-via-else-place-ids}
 
 pub loop-place-preserved : goal.loop-place-preserved
 loop-place-preserved g c = record {

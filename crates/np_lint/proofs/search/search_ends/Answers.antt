@@ -4,7 +4,7 @@ use Rattle.np_lint.proofs.StepLemmas.{all_known_of, knows_all_grows, not_searche
 use Rattle.np_lint.proofs.search.search_ends.Goals as goal
 use Rattle.np_lint.specs.steps.Search.{KnowsAll, KnowsFamilies, KnowsSide}
 use Rattle.np_model.specs.Families.{families_of}
-use Rattle.np_model.specs.declared.lists.EstateLists.{EstateLists}
+use Rattle.np_lint.specs.Types.{EstateLists}
 use Rattle.np_rules.specs.EveryAddress.{is_place}
 use Rattle.np_rules.specs.PodSides.{with_addresses}
 

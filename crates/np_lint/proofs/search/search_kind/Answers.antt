@@ -7,7 +7,7 @@ use Rattle.np_lint.proofs.QuietLemmas.{quiet_kind}
 use Rattle.np_lint.proofs.SearchLemmas.{layer_searched}
 use Rattle.np_lint.proofs.StepLemmas.{kind_at, kind_is, not_searched, pod_of_kind, searched_as}
 use Rattle.np_lint.proofs.search.search_kind.Goals as goal
-use Rattle.np_lint.specs.declared.kind_pods.KindPod.{KindPod}
+use Rattle.np_lint.specs.Types.{KindPod}
 use Rattle.np_lint.specs.steps.Search.{KnowsAll, KnowsFar, PodsAreUsed}
 use Rattle.np_rules.specs.PodSides.{with_pod}
 

@@ -2,7 +2,7 @@ use Rattle.std.proofs.Common.{List, ap, ◌∙◌, filter, not}
 use Rattle.np_lint.proofs.RuleListLemmas.{unknown_is_unused}
 use Rattle.np_lint.proofs.unused.unused_rules.Goals as goal
 use Rattle.np_lint.specs.Rules.{all_rules}
-use Rattle.np_lint.specs.declared.rule_ref.RuleRef.{RuleRef}
+use Rattle.np_lint.specs.Types.{RuleRef}
 use Rattle.np_lint.specs.steps.Search.{is_known_by}
 
 pub returns-clause-rules : goal.returns-clause-rules

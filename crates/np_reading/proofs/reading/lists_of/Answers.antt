@@ -3,10 +3,7 @@ use Rattle.std.specs.Prelude.{IfOk}
 use Rattle.np_reading.specs.Ends.{contexts_of}
 use Rattle.np_reading.specs.steps.Gathering.{nothing, seen, with_items}
 use Rattle.np_reading.specs.LeftOut.{count_left_out}
-use Rattle.np_reading.specs.declared.left_out.LeftOut.TheVariants.{Host, Finished, Skipped}
-use Rattle.np_model.specs.declared.lists.EstateLists.{EstateLists}
-use Rattle.np_reading.specs.declared.context.PodContext.{PodContext}
-use Rattle.np_items.specs.declared.item.Item.{Item}
+use Rattle.np_reading.specs.Types.{EstateLists, Finished, Host, Item, PodContext, Skipped}
 use Rattle.np_reading.proofs.GatherLemmas.{lists-gathered}
 use Rattle.np_reading.proofs.reading.lists_of.Goals as goal
 

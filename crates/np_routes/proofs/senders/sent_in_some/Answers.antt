@@ -2,7 +2,7 @@ use Rattle.std.proofs.Common.{arith, length, ◌+◌, ap, ◌∙◌}
 use Rattle.std.specs.List.{list_any}
 use Rattle.std.proofs.lemmas.List.{take_all}
 use Rattle.std.proofs.lemmas.Result.{IfOk-weaker}
-use Rattle.np_addr.specs.declared.address.Family.{Family}
+use Rattle.np_routes.specs.Types.{Family}
 use Rattle.np_conns.specs.Conns.{Conns, has_spot}
 use Rattle.np_routes.proofs.ReachedLemmas.{sets-next, steps-families}
 use Rattle.np_routes.proofs.senders.sent_in_some.Goals as goal

@@ -1,7 +1,7 @@
 use Rattle.std.proofs.Common.{◌≡◌, ◌≤◌, ◌+◌, ◌*◌, true, take}
 use Rattle.std.specs.List.{list_any}
 use Rattle.np_conns.specs.Conns.{has_spot, is_spot}
-use Rattle.np_conns.specs.declared.port_spot.PortSpot.{PortSpot}
+use Rattle.np_routes.specs.Types.{PortSpot}
 use Rattle.np_routes.proofs.senders.sent_in_some.Given as goal
 use Rattle.np_rules.specs.PodSides.{side_rule_count}
 use Rattle.np_kinds.specs.Between.{between_pods}

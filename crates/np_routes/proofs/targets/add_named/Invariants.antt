@@ -1,6 +1,6 @@
 use Rattle.std.proofs.Common.{◌≡◌, ◌||◌, ℕ, List, take}
 use Rattle.std.specs.List.{list_any}
-use Rattle.np_model.specs.declared.service.PortName.TheVariants.{Number, Named}
+use Rattle.np_routes.specs.Types.{Named, Number}
 use Rattle.np_routes.specs.steps.PortSets.{has_port, is_named_in}
 use Rattle.np_routes.proofs.targets.add_named.Given as goal
 

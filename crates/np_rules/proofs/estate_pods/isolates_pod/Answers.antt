@@ -1,6 +1,6 @@
 use Rattle.std.proofs.Common.{List, ℕ, ap, filter, ◌∙◌}
 use Rattle.std.specs.Str.{bytes_eq}
-use Rattle.np_model.specs.declared.network_policy.NetPolicy.{NetPolicy}
+use Rattle.np_rules.specs.Types.{NetPolicy}
 use Rattle.np_rules.proofs.OwnPolicies.{own-is_isolated}
 use Rattle.np_rules.proofs.estate_pods.isolates_pod.Goals as goal
 use Rattle.np_rules.specs.model.Ends.{PodEnd, pod_end}

@@ -1,7 +1,7 @@
 use Rattle.std.proofs.Common.{List, refl, ap, subst, ◌∙◌, filter, arith}
 use Rattle.std.proofs.lemmas.List.{take_all}
 use Rattle.std.proofs.lemmas.Option.{slice_get_read}
-use Rattle.np_model.specs.declared.network_policy.NetPolicy.{NetPolicy}
+use Rattle.np_rules.specs.Types.{NetPolicy}
 use Rattle.np_rules.specs.Layers.{Pairwise}
 use Rattle.np_rules.specs.model.NetTier.{isolates}
 use Rattle.np_rules.specs.model.Places.{net_rules_of}

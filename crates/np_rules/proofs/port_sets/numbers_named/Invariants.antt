@@ -1,7 +1,7 @@
 use Rattle.std.proofs.Common.{◌≡◌, ◌==◌, true, take}
 use Rattle.std.specs.List.{list_any}
 use Rattle.np_conns.specs.Conns.{same_proto}
-use Rattle.np_conns.specs.declared.port_spot.PortSpot.{PortSpot}
+use Rattle.np_rules.specs.Types.{PortSpot}
 use Rattle.np_rules.specs.model.PortEntries.{is_named}
 use Rattle.np_rules.proofs.port_sets.numbers_named.Given as goal
 

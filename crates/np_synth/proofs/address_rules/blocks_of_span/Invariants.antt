@@ -1,5 +1,5 @@
 use Rattle.std.proofs.Common.{◌≡◌, [], map}
-use Rattle.np_model.specs.declared.network_policy.NetPeer.TheVariants.{Block}
+use Rattle.np_synth.specs.Types.{Block}
 use Rattle.np_synth.proofs.address_rules.blocks_of_span.Given as goal
 
 -- the blocks so far

@@ -1,6 +1,6 @@
 use Rattle.std.proofs.Common.{List, ℕ, [], ◌∷◌, ◌-◌, ◌^◌, sym, ap, ◌∙◌}
 use Rattle.np_addr.specs.Blocks.{AddressRanges}
-use Rattle.np_base.specs.declared.range.Range.{Range}
+use Rattle.np_synth.specs.Types.{Range}
 use Rattle.np_synth.proofs.ReceiverFacts.{no-ranges}
 use Rattle.np_synth.proofs.address_rules.set_of_span.Goals as goal
 use Rattle.np_synth.specs.Flat.{ranges_of_span}

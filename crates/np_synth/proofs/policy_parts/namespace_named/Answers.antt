@@ -1,7 +1,6 @@
 use Rattle.std.proofs.Common.{List, ℕ, [], ◌∷◌, ◌++◌, ap, ◌∙◌}
 use Rattle.np_labels.specs.Selectors.{label_requirement}
-use Rattle.np_labels.specs.declared.requirement.Requirement.{Requirement}
-use Rattle.np_labels.specs.declared.selector.Selector.{Selector}
+use Rattle.np_synth.specs.Types.{Requirement, Selector}
 use Rattle.np_synth.proofs.policy_parts.namespace_named.Goals as goal
 
 pub returns : goal.returns

@@ -2,7 +2,7 @@ use Rattle.std.proofs.Common.{List, ℕ, [], ap, ◌∙◌}
 use Rattle.std.proofs.lemmas.Result.{IfOk-weaker}
 use Rattle.np_labels.specs.Labels.{value_of}
 use Rattle.np_labels.specs.Selectors.{requirement_of}
-use Rattle.np_labels.specs.declared.op.Op.TheVariants.{Absent}
+use Rattle.np_synth.specs.Types.{Absent}
 use Rattle.np_synth.proofs.policy_parts.requirement_of.Goals as goal
 use Rattle.np_synth.specs.Selecting.{requirement_at}
 

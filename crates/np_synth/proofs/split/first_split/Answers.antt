@@ -1,6 +1,6 @@
 use Rattle.std.proofs.Common.{◌≡◌, length, arith, sym, ap, ◌∙◌}
 use Rattle.np_model.specs.Families.{families_of}
-use Rattle.np_model.specs.declared.lists.EstateLists.{EstateLists}
+use Rattle.np_synth.specs.Types.{EstateLists}
 use Rattle.np_synth.proofs.SplitLemmas.{found-first, none-left, none_split, rows-first}
 use Rattle.np_synth.proofs.split.first_split.Goals as goal
 use Rattle.np_synth.specs.steps.SplitRows.{first_split_of}

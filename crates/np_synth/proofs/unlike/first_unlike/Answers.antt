@@ -1,7 +1,7 @@
 use Rattle.std.proofs.Common.{◌+◌, ℕ, List, Option, take, slice_index, sym, ap, subst, ◌∙◌, arith}
 use Rattle.std.proofs.lemmas.List.{take_more, take_all}
 use Rattle.np_model.specs.Lawful.{IsLawful}
-use Rattle.np_model.specs.declared.lists.EstateLists.{EstateLists}
+use Rattle.np_synth.specs.Types.{EstateLists}
 use Rattle.np_fold.specs.Workloads.{Folding, folding_of}
 use Rattle.np_synth.proofs.KindGroups.{unlike-first}
 use Rattle.np_synth.proofs.LeastSteps.{least-more}

@@ -1,8 +1,7 @@
 use Rattle.std.proofs.Common.{◌++◌, List, None, Some, sym, ap, ◌∙◌}
-use Rattle.np_addr.specs.declared.address.Family.TheVariants.{Four, Six}
+use Rattle.np_table.specs.Types.{Four, Row, Six}
 use Rattle.np_table.proofs.SetLemmas.{rows_of_both-apart, rows_of_both-same}
 use Rattle.np_table.specs.Rows.{row_if}
-use Rattle.np_table.specs.declared.rows.Row.{Row}
 use Rattle.np_table.proofs.rows_of_pairs.rows_of_both.Goals as goal
 
 pub returns-then-same : goal.returns-then-same

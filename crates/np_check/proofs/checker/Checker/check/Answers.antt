@@ -1,14 +1,11 @@
 use Rattle.std.proofs.Common.{◌≡◌, ℕ, Option, List, sym, ap, ◌∙◌}
 use Rattle.std.specs.Option.{option_or}
 use Rattle.std.proofs.lemmas.Result.{IfOk-weaker}
-use Rattle.np_addr.specs.declared.address.Address.{Address}
+use Rattle.np_check.specs.Types.{Address, At, Counterexample, EstateLists, Work}
 use Rattle.np_check.proofs.PairLemmas.{none_or, some_or}
 use Rattle.np_check.proofs.WholeLemmas.{of-question}
 use Rattle.np_check.specs.Counters.{addresses_of, counter_between, counter_from, counter_of}
 use Rattle.np_check.specs.Firsts.{first_of}
-use Rattle.np_check.specs.declared.counterexample.Counterexample.{Counterexample}
-use Rattle.np_check.specs.declared.counterexample.PlaceEnd.TheVariants.{At, Work}
-use Rattle.np_model.specs.declared.lists.EstateLists.{EstateLists}
 use Rattle.np_check.proofs.checker.Checker.check.Goals as goal
 
 pub returns-then-is_some-clause-counter : goal.returns-then-is_some-clause-counter

@@ -1,7 +1,7 @@
 use Rattle.std.proofs.Common.{◌≡◌, ◌||◌, take}
 use Rattle.std.specs.List.{list_any}
 use Rattle.np_conns.specs.Conns.{has_spot}
-use Rattle.np_conns.specs.declared.port_spot.PortSpot.{PortSpot}
+use Rattle.np_exposure.specs.Types.{PortSpot}
 use Rattle.np_rules.specs.model.Ends.{pod, stranger_end}
 use Rattle.np_rules.specs.StrangerRules.{kept_matches}
 use Rattle.np_exposure.proofs.open_rules.OpenRules.permitted.Given as goal

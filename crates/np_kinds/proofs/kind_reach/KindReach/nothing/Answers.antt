@@ -1,4 +1,4 @@
-use Rattle.np_model.specs.declared.direction.Direction.TheVariants.{Egress, Ingress}
+use Rattle.np_kinds.specs.Types.{Egress, Ingress}
 use Rattle.np_kinds.proofs.ReachLemmas.{reach-nothing}
 use Rattle.np_kinds.proofs.kind_reach.KindReach.nothing.Goals as goal
 

@@ -1,6 +1,5 @@
 use Rattle.std.proofs.Common.{List, map, ap, ◌∙◌}
-use Rattle.np_model.specs.declared.lists.EstateLists.{EstateLists}
-use Rattle.np_model.specs.declared.direction.Direction.TheVariants.{Egress, Ingress}
+use Rattle.np_kinds.specs.Types.{Egress, EstateLists, Ingress}
 use Rattle.np_reach.specs.Reach.{reach_of}
 use Rattle.np_rules.specs.model.Ends.{PodEnd, pod_end}
 use Rattle.np_kinds.proofs.ReachLemmas.{reach-right}

@@ -2,7 +2,7 @@ use Rattle.std.proofs.Common.{refl}
 use Rattle.std.proofs.lemmas.Result.{IfOk-weaker}
 use Rattle.np_lint.proofs.KnownLemmas.{isolated_noted, open_noted}
 use Rattle.np_lint.proofs.used_rules.UsedRules.note_layer.Goals as goal
-use Rattle.np_lint.specs.declared.used_rules.UsedRules.{UsedRules}
+use Rattle.np_lint.specs.Types.{UsedRules}
 
 pub returns-then-isolated : goal.returns-then-isolated
 returns-then-isolated g c =

@@ -1,7 +1,7 @@
 use Rattle.std.proofs.Common.{◌≡◌, Bor, List, flat_map, map, arith, subst, sym, ap, ◌∙◌}
 use Rattle.std.proofs.lemmas.List.{take_all}
 use Rattle.std.proofs.lemmas.List.Elements.{All-get_or}
-use Rattle.np_model.specs.declared.pod.Pod.{Pod}
+use Rattle.np_reach.specs.Types.{Pod}
 use Rattle.np_reach.proofs.MarkLemmas.{rows_more, seen_rows}
 use Rattle.np_reach.proofs.reach.Reach.of.Goals as goal
 use Rattle.np_reach.specs.Reach.{may_reach}

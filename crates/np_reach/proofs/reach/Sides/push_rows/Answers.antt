@@ -1,6 +1,6 @@
 use Rattle.std.proofs.Common.{Bor, length, map, refl, subst, sym, ap, ◌∙◌}
 use Rattle.std.proofs.lemmas.List.Elements.{All-get_or}
-use Rattle.np_model.specs.declared.pod.Pod.{Pod}
+use Rattle.np_reach.specs.Types.{Pod}
 use Rattle.np_reach.proofs.MarkLemmas.{item_behind, marked_by, row_right}
 use Rattle.np_reach.proofs.SpokenLemmas.{all_within}
 use Rattle.np_reach.proofs.reach.Sides.push_rows.Goals as goal

@@ -2,10 +2,9 @@ use Rattle.std.proofs.Common.{ℕ, List, [], Bor, Option, Vec, ap, ◌∙◌}
 use Rattle.std.specs.List.{list_any}
 use Rattle.std.specs.Option.{option_map_or}
 use Rattle.std.specs.declared.alloc.Global.{Global}
-use Rattle.np_model.specs.declared.lists.EstateLists.{EstateLists}
+use Rattle.np_routes.specs.Types.{EstateLists, ServiceTargets}
 use Rattle.np_routes.proofs.backends.Backends.near.Goals as goal
 use Rattle.np_routes.specs.Routes.{leads_to, routes_in}
-use Rattle.np_routes.specs.declared.service_targets.ServiceTargets.{ServiceTargets}
 use Rattle.np_routes.specs.steps.TargetsByNamespace.{target_leads, targets_in}
 use Rattle.np_rules.specs.model.Ends.{pod_end}
 

@@ -1,7 +1,7 @@
 use Rattle.std.proofs.Common.{◌≡◌, ◌&&◌, true, false, arith}
 use Rattle.np_base.proofs.Lists.{list_any-next}
 use Rattle.np_conns.specs.Conns.{same_proto}
-use Rattle.np_conns.specs.declared.proto.Proto.TheVariants.{Tcp}
+use Rattle.np_routes.specs.Types.{Tcp}
 use Rattle.np_routes.proofs.PortSetLemmas.{at_pod-none}
 use Rattle.np_routes.proofs.TargetLemmas.{port-asked, port-other}
 use Rattle.np_routes.proofs.service_targets.ServiceTargets.of.Goals as goal

@@ -1,5 +1,5 @@
 use Rattle.std.proofs.Common.{◌≡◌, ℕ, List, Option, subst, sym, ◌∙◌}
-use Rattle.np_model.specs.declared.service.ServiceItem.{ServiceItem}
+use Rattle.np_routes.specs.Types.{ServiceItem}
 use Rattle.np_routes.proofs.services.Services.place.Goals as goal
 use Rattle.np_routes.specs.Services.{service_named}
 use Rattle.np_routes.specs.steps.ServicesByName.{IsPlaceOf, place_at}

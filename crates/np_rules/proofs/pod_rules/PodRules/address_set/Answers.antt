@@ -1,7 +1,6 @@
 use Rattle.std.proofs.Common.{ℕ, List, map, refl, ap, ◌∙◌, arith}
-use Rattle.np_base.specs.declared.beside.Beside.{Beside}
+use Rattle.np_rules.specs.Types.{Beside, Layer, Piece}
 use Rattle.np_conns.specs.Conns.{Conns}
-use Rattle.np_pieces.specs.declared.piece.Piece.{Piece}
 use Rattle.np_rules.specs.model.Ends.{PodEnd, pod}
 use Rattle.np_rules.specs.EveryAddress.{address_contact, address_of, has_place, is_place}
 use Rattle.np_rules.specs.PodSides.{PodSide, near_pod, with_addresses}
@@ -10,7 +9,6 @@ use Rattle.np_rules.specs.Views.{pod_view}
 use Rattle.np_rules.proofs.KeptLemmas.{walk_of_kept}
 use Rattle.np_rules.proofs.PodSideLemmas.{kept_count}
 use Rattle.np_rules.proofs.pod_rules.PodRules.address_set.Goals as goal
-use Rattle.np_tiers.specs.declared.layer.Layer.{Layer}
 
 pub returns-clause-members : goal.returns-clause-members
 returns-clause-members g c = λ place within.

@@ -1,6 +1,6 @@
 use Rattle.std.proofs.Common.{IfOk, ap, ◌∙◌, subst}
 use Rattle.np_conns.specs.Conns.{is_spot, has_spot}
-use Rattle.np_conns.specs.declared.port_spot.PortSpot.{PortSpot}
+use Rattle.np_rules.specs.Types.{PortSpot}
 use Rattle.np_rules.specs.model.Ends.{Contact, pod}
 use Rattle.np_rules.specs.PodSides.{IsSideLayer, SaysVerdicts, with_pod}
 use Rattle.np_rules.specs.model.Verdict.{pod_at}

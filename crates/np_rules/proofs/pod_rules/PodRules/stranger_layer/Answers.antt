@@ -1,7 +1,6 @@
 use Rattle.std.proofs.Common.{IfOk, ap, ◌∙◌, subst}
-use Rattle.np_addr.specs.declared.address.Family.TheVariants.{Four}
+use Rattle.np_rules.specs.Types.{Four, PortSpot}
 use Rattle.np_conns.specs.Conns.{is_spot, has_spot}
-use Rattle.np_conns.specs.declared.port_spot.PortSpot.{PortSpot}
 use Rattle.np_rules.specs.model.Ends.{Contact, pod, stranger_end}
 use Rattle.np_rules.specs.PodSides.{IsSideLayer, SaysVerdicts, with_stranger}
 use Rattle.np_rules.specs.model.Verdict.{pod_at}

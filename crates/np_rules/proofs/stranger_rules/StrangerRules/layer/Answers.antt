@@ -1,5 +1,5 @@
 use Rattle.std.proofs.Common.{List, ◌∷◌, ◌++◌, [], ap, map, refl, subst, sym, ◌∙◌}
-use Rattle.np_addr.specs.declared.address.Family.TheVariants.{Four}
+use Rattle.np_rules.specs.Types.{Four, Layer}
 use Rattle.np_conns.specs.Conns.{Conns, has_spot, is_spot}
 use Rattle.np_rules.specs.model.Ends.{pod, stranger_end}
 use Rattle.np_rules.specs.OneEnd.{one_contact}
@@ -8,7 +8,6 @@ use Rattle.np_rules.specs.StrangerRules.{ArePermitted, rule_of}
 use Rattle.np_rules.proofs.OneEndLemmas.{same_contacts}
 use Rattle.np_rules.proofs.StrangerLemmas.{says_of_stranger}
 use Rattle.np_rules.proofs.stranger_rules.StrangerRules.layer.Goals as goal
-use Rattle.np_tiers.specs.declared.layer.Layer.{Layer}
 
 pub returns-clause-verdict : goal.returns-clause-verdict
 returns-clause-verdict g c =

@@ -1,6 +1,5 @@
 use Rattle.std.proofs.Common.{[], ◌∷◌, ◌++◌, List, sym, ap, ◌∙◌}
-use Rattle.np_model.specs.declared.network_policy.NetPeer.{NetPeer}
-use Rattle.np_model.specs.declared.network_policy.NetRule.{NetRule}
+use Rattle.np_synth.specs.Types.{NetPeer, NetRule}
 use Rattle.np_rules.specs.model.Ends.{pod_end}
 use Rattle.np_synth.proofs.PolicyFacts.{on_ok, rule-is}
 use Rattle.np_synth.proofs.flat.Flat.add_rule_from.Goals as goal

@@ -1,6 +1,6 @@
 use Rattle.std.proofs.Common.{◌≡◌, ◌<◌, ◌-◌, ◌+◌, ◌==◌, ℕ, inl, inr, arith, sym, ap, ◌∙◌, eq-eqb}
 use Rattle.std.proofs.lemmas.Bool.{cases_eq, ne_eqb}
-use Rattle.np_model.specs.declared.lists.EstateLists.{EstateLists}
+use Rattle.np_synth.specs.Types.{EstateLists}
 use Rattle.np_synth.proofs.FindFacts.{range-none, range-some}
 use Rattle.np_synth.proofs.UnlikeFacts.{number-is, numbers-count}
 use Rattle.np_synth.proofs.flat.Flat.next_like.Goals as goal

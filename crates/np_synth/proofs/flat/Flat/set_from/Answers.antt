@@ -1,6 +1,6 @@
 use Rattle.std.proofs.Common.{ℕ, Some, sym, ap, ◌∙◌}
 use Rattle.np_conns.specs.Conns.{Conns}
-use Rattle.np_model.specs.declared.lists.EstateLists.{EstateLists}
+use Rattle.np_synth.specs.Types.{EstateLists}
 use Rattle.np_synth.proofs.ReceiverFacts.{firsts-apart, set-cross}
 use Rattle.np_synth.proofs.flat.Flat.set_from.Goals as goal
 use Rattle.np_synth.specs.Faults.{set_of}

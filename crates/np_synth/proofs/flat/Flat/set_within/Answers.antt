@@ -1,6 +1,6 @@
 use Rattle.std.proofs.Common.{◌<◌, None, Some, if◌then◌else◌, arith, sym, ap, subst, ◌∙◌}
 use Rattle.np_conns.specs.Conns.{Conns}
-use Rattle.np_model.specs.declared.lists.EstateLists.{EstateLists}
+use Rattle.np_synth.specs.Types.{EstateLists}
 use Rattle.np_fold.specs.Workloads.{folding_of}
 use Rattle.np_synth.proofs.ReceiverFacts.{alone-from, next-in, next-is, own-is}
 use Rattle.np_synth.proofs.flat.Flat.set_within.Goals as goal

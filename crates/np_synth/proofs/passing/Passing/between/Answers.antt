@@ -1,6 +1,6 @@
 use Rattle.std.proofs.Common.{ap, ◌∙◌}
 use Rattle.std.proofs.lemmas.Result.{IfOk-weaker}
-use Rattle.np_model.specs.declared.lists.EstateLists.{EstateLists}
+use Rattle.np_synth.specs.Types.{EstateLists}
 use Rattle.np_synth.proofs.PassingFacts.{sides-set, silent-set}
 use Rattle.np_synth.proofs.passing.Passing.between.Goals as goal
 use Rattle.np_synth.specs.Faults.{family_of_list, set_of}

@@ -1,7 +1,6 @@
 use Rattle.std.proofs.Common.{None, Some, ap, ◌∙◌, if◌then◌else◌}
 use Rattle.std.proofs.lemmas.Result.{IfOk-weaker}
-use Rattle.np_addr.specs.declared.address.Family.{Family}
-use Rattle.np_model.specs.declared.lists.EstateLists.{EstateLists}
+use Rattle.np_synth.specs.Types.{EstateLists, Family}
 use Rattle.np_fold.specs.Workloads.{folding_of}
 use Rattle.np_synth.proofs.passing.Passing.within.Goals as goal
 use Rattle.np_synth.specs.Faults.{family_of_list, set_in}

@@ -2,7 +2,7 @@ use Rattle.std.proofs.Common.{◌<◌, List, Option, length, arith, subst}
 use Rattle.np_table.proofs.KeptLemmas.{kept_count-more}
 use Rattle.np_table.proofs.row_cache.RowCache.keep.Goals as goal
 use Rattle.np_table.specs.RowCache.{KeepsTheSame}
-use Rattle.np_table.specs.declared.row_cache.CachedConns.{CachedConns}
+use Rattle.np_table.specs.Types.{CachedConns}
 
 pub returns-clause-count : goal.returns-clause-count
 returns-clause-count c none =

@@ -1,0 +1,21 @@
+-- The types and variants of structs and enums that this crate's definitions and proofs speak of, its own and those of the crates below.
+pub use Rattle.np_addr.specs.declared.address.Address.{Address}
+pub use Rattle.np_addr.specs.declared.cidr.Cidr.{Cidr}
+pub use Rattle.np_labels.specs.declared.pair.Pair.{Pair}
+pub use Rattle.np_labels.specs.declared.selector.Selector.{Selector}
+pub use Rattle.np_names.specs.declared.named.Named.{Named}
+pub use Rattle.np_model.specs.declared.admin_policy.AdminPeer.{AdminPeer}
+pub use Rattle.np_model.specs.declared.admin_policy.AdminPolicy.{AdminPolicy}
+pub use Rattle.np_model.specs.declared.admin_policy.AdminRule.{AdminRule}
+pub use Rattle.np_model.specs.declared.admin_policy.BasePolicy.{BasePolicy}
+pub use Rattle.np_model.specs.declared.admin_policy.Subject.{Subject}
+pub use Rattle.np_model.specs.declared.lists.EstateLists.{EstateLists}
+pub use Rattle.np_model.specs.declared.named_port.NamedPort.{NamedPort}
+pub use Rattle.np_model.specs.declared.network_policy.NetPeer.{NetPeer}
+pub use Rattle.np_model.specs.declared.network_policy.NetPolicy.{NetPolicy}
+pub use Rattle.np_model.specs.declared.network_policy.NetRule.{NetRule}
+pub use Rattle.np_model.specs.declared.owner.Owner.{Owner}
+pub use Rattle.np_model.specs.declared.pod.Pod.{Pod}
+pub use Rattle.np_model.specs.declared.service.ServiceItem.{ServiceItem}
+pub use Rattle.np_fold.specs.declared.traits.Label.{Label}
+pub use Rattle.np_fold.specs.declared.traits.Traits.{Traits}

@@ -1,0 +1,26 @@
+-- The types and variants of structs and enums that this crate's definitions and proofs speak of, its own and those of the crates below.
+pub use Rattle.np_base.specs.declared.range.Range.{Range}
+pub use Rattle.np_conns.specs.declared.port_spot.PortSpot.{PortSpot}
+pub use Rattle.np_conns.specs.declared.proto.Proto.TheVariants.{Sctp, Tcp, Udp}
+pub use Rattle.np_addr.specs.declared.address.Address.{Address}
+pub use Rattle.np_addr.specs.declared.address.Address.TheVariants.{Four, Six}
+pub use Rattle.np_addr.specs.declared.address.Family.{Family}
+pub use Rattle.np_addr.specs.declared.cidr.Cidr.{Cidr}
+pub use Rattle.np_model.specs.declared.lists.EstateLists.{EstateLists}
+pub use Rattle.np_model.specs.declared.pod.Pod.{Pod}
+pub use Rattle.np_check.specs.declared.counterexample.Counterexample.{Counterexample}
+pub use Rattle.np_check.specs.declared.counterexample.PlaceEnd.{PlaceEnd}
+pub use Rattle.np_check.specs.declared.counterexample.PlaceEnd.TheVariants.{At}
+pub use Rattle.np_check.specs.declared.question.Ends.{Ends}
+pub use Rattle.np_check.specs.declared.question.Question.{Question}
+pub use Rattle.np_check.specs.declared.question.Wanted.{Wanted}
+pub use Rattle.np_check.specs.declared.question.Wanted.TheVariants.{Allow, Deny}
+pub use Rattle.np_statements.specs.declared.all_pods.CheckedKinds.{CheckedKinds}
+pub use Rattle.np_statements.specs.declared.asked_line.AskedLine.{AskedLine}
+pub use Rattle.np_statements.specs.declared.broken.Broken.{Broken}
+pub use Rattle.np_statements.specs.declared.end_fault.EndFault.{EndFault}
+pub use Rattle.np_statements.specs.declared.file_fault.FileFault.{FileFault}
+pub use Rattle.np_statements.specs.declared.statement_line.StatementLine.{StatementLine}
+pub use Rattle.np_statements.specs.declared.statement_text.EndForm.{EndForm}
+pub use Rattle.np_statements.specs.declared.statement_text.EndForm.TheVariants.{Addresses, Block, Namespace, Pods, Work}
+pub use Rattle.np_statements.specs.declared.statement_text.StatementText.{StatementText}

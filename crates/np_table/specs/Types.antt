@@ -1,0 +1,19 @@
+-- The types and variants of structs and enums that this crate's definitions and proofs speak of, its own and those of the crates below.
+pub use Rattle.np_base.specs.declared.range.Range.{Range}
+pub use Rattle.np_conns.specs.declared.port_spot.PortSpot.{PortSpot}
+pub use Rattle.np_conns.specs.declared.proto.Proto.{Proto}
+pub use Rattle.np_conns.specs.declared.proto.Proto.TheVariants.{Sctp, Tcp, Udp}
+pub use Rattle.np_pieces.specs.declared.piece.Piece.{Piece}
+pub use Rattle.np_addr.specs.declared.address.Family.{Family}
+pub use Rattle.np_addr.specs.declared.address.Family.TheVariants.{Four, Six}
+pub use Rattle.np_model.specs.declared.direction.Direction.{Direction}
+pub use Rattle.np_model.specs.declared.direction.Direction.TheVariants.{Egress, Ingress}
+pub use Rattle.np_model.specs.declared.lists.EstateLists.{EstateLists}
+pub use Rattle.np_table.specs.declared.pair_sets.PairEnds.{PairEnds}
+pub use Rattle.np_table.specs.declared.row_cache.CachedConns.{CachedConns}
+pub use Rattle.np_table.specs.declared.rows.AddressRow.{AddressRow}
+pub use Rattle.np_table.specs.declared.rows.AddressSpan.{AddressSpan}
+pub use Rattle.np_table.specs.declared.rows.Row.{Row}
+pub use Rattle.np_table.specs.declared.rows.RowEnd.{RowEnd}
+pub use Rattle.np_table.specs.declared.rows.RowEnd.TheVariants.{Controller, Span, Work}
+pub use Rattle.np_table.specs.declared.rows.RowKey.{RowKey}
