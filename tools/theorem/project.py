@@ -68,6 +68,12 @@ class Project:
             return self.find(*home.names.items[name])
         raise SystemExit(f"theorem_text: the module {module} has no {name}")
 
+    def origin(self, module, name):
+        """The module that a name comes from, where a crate's Types passes it on, and its name there."""
+        while module.endswith(".specs.Types"):
+            module, name = self.home(module).names.items[name]
+        return module, name
+
     @staticmethod
     def spelled(names, word, known):
         """A word, an operator or a path as the names of a file have it: the known name, and what is left of a path."""
@@ -83,7 +89,7 @@ class Project:
         if name in known:
             return known[name]
         if name in names.items:
-            module, source = names.items[name]
+            module, source = self.origin(*names.items[name])
             if name != source:
                 item.renamed[name] = (module, source)
             return self.find(module, source) or (module, source)
@@ -105,7 +111,7 @@ class Project:
             return name in home.by_name[name].constructors
         if rest is not None and name in home.names.modules:
             return True
-        module, source = home.names.items.get(name, ("", ""))
+        module, source = self.origin(*home.names.items.get(name, ("", "")))
         if self.is_of_the_kit(module or "?"):
             return bool(module) and ("TheVariants" in module or module.endswith(".Data") or source in SMALL_CONSTRUCTORS
                                      or "◌" in source or source[0].isupper())
