@@ -69,9 +69,12 @@ class Project:
         raise SystemExit(f"theorem_text: the module {module} has no {name}")
 
     def origin(self, module, name):
-        """The module that a name comes from, where a crate's Types passes it on, and its name there."""
-        while module.endswith(".specs.Types"):
-            module, name = self.home(module).names.items[name]
+        """The module that a name comes from, where others pass it on (a crate's Types, or its Prelude), and its name there."""
+        while "declared" not in module and module and not self.is_of_the_kit(module):
+            home = self.home(module)
+            if name in home.by_name or name not in home.names.items:
+                break
+            module, name = home.names.items[name]
         return module, name
 
     @staticmethod

@@ -56,7 +56,7 @@ class Home:
 def header_of(line):
     """The kind and the name that a line begins to define, or None."""
     found = HEADER.match(line)
-    if not found or line.startswith(("use ", "pub use ", "infix", "--", " ", "(", "}", ")")):
+    if not found or line.startswith(("use ", "pub use ", "pub mod ", "infix", "--", " ", "(", "}", ")")):
         return None
     opened, public, shape, name, rest = found.groups()
     if shape:
@@ -71,7 +71,7 @@ def read_file(crate, path, text):
     home = Home(crate, path, text)
     comment, fixity, section, item, at_head = [], [], None, None, True
     for line in text.split("\n"):
-        if line.startswith(("use ", "pub use ")):
+        if line.startswith(("use ", "pub use ", "pub mod ")):
             at_head = False
         elif not line.strip():
             if comment and comment[0].startswith("-- ----"):
