@@ -34,7 +34,7 @@ EXCEPTIONS = {
 
 SIGNATURE = re.compile(r"(?:(?:abbrev|unfoldable|pub) )*([^\s(){}:]+) : ")
 DECLARATION = re.compile(r"(?:pub )?(?:data|record) ([^\s(){}]+) (?:.* )?: ")
-IMPORT = re.compile(r"^ *(?:pub )?use (\S+?)(?:\.\{([^}]*)\}| as (\S+))$", re.MULTILINE)
+IMPORT = re.compile(r"^ *(?:(?:unfoldable )?pub )?use (\S+?)(?:\.\{([^}]*)\}| as (\S+))$", re.MULTILINE)
 COMMENT = re.compile(r'^((?:[^"]|"(?:[^"\\]|\\.)*")*?)(?:^|(?<=\s))--(?:\s.*)?$')
 TOKEN = re.compile(r'"(?:[^"\\]|\\.)*"|[^\s(){}\[\].,;"]+|[(){}\[\].,;]')
 # Several variables of one type: `(x y : T)`.

@@ -4,7 +4,7 @@ import re
 from theorem import scopes
 
 HEADER = re.compile(r"^(?:(abbrev|unfoldable) )?(pub )?(?:(record|data) )?(\S+)(?: |$)(.*)$")
-IMPORT = re.compile(r"^\s*(?:ghost )?(?:pub )?use ([\w.]+?)(?:\.\{([^}]*)\}| as (\w+))?;?\s*$", re.MULTILINE)
+IMPORT = re.compile(r"^\s*(?:ghost )?(?:(?:unfoldable )?pub )?use ([\w.]+?)(?:\.\{([^}]*)\}| as (\w+))?;?\s*$", re.MULTILINE)
 
 
 class Item:
@@ -56,7 +56,7 @@ class Home:
 def header_of(line):
     """The kind and the name that a line begins to define, or None."""
     found = HEADER.match(line)
-    if not found or line.startswith(("use ", "pub use ", "pub mod ", "infix", "--", " ", "(", "}", ")")):
+    if not found or line.startswith(("use ", "pub use ", "unfoldable pub use ", "pub mod ", "infix", "--", " ", "(", "}", ")")):
         return None
     opened, public, shape, name, rest = found.groups()
     if shape:
@@ -71,7 +71,7 @@ def read_file(crate, path, text):
     home = Home(crate, path, text)
     comment, fixity, section, item, at_head = [], [], None, None, True
     for line in text.split("\n"):
-        if line.startswith(("use ", "pub use ", "pub mod ")):
+        if line.startswith(("use ", "pub use ", "unfoldable pub use ", "pub mod ")):
             at_head = False
         elif not line.strip():
             if comment and comment[0].startswith("-- ----"):
