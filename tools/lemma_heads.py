@@ -6,7 +6,8 @@ tools/lemma_heads.py --check    says nothing where each head says it; else names
 
 A lemma file is a file of a crate's proofs/ that answers no goals of one function itself. Its head, the comment before its first line of
 proof, ends with a sentence `For A, B and C.`: the functions of its crate whose proofs import it, or, where none does, the lemma files that
-import it, and then the other crates that do. Of more than three it names two, and says how many more there are.
+import it, and `crates above` where other crates do, whichever: so no file changes because one far above it does. Of more than three it
+names two, and says how many more there are.
 """
 from __future__ import annotations
 
@@ -20,7 +21,8 @@ TOP = Path(__file__).resolve().parent.parent
 CRATES = TOP / "crates"
 WIDTH = 140
 IMPORT = re.compile(r"^(?:pub )?use Rattle\.(\w+)\.proofs\.([^\s{}]+?)(?:\.\{.*| as .*)?$", re.MULTILINE)
-SENTENCE = re.compile(r"(?:^| )For (?:`[^`]+`|\w+)(?:(?:, (?:`[^`]+`|\w+))* and (?:`[^`]+`|\w+|\d+ more))?\.$")
+ONE = r"(?:`[^`]+`|crates above|\w+)"
+SENTENCE = re.compile(rf"(?:^| )For {ONE}(?:(?:, {ONE})* and (?:{ONE}|\d+ more))?\.$")
 
 
 class Proof(NamedTuple):
@@ -58,10 +60,10 @@ def importers(proofs: Dict[Proof, Path]) -> Dict[Proof, Set[Proof]]:
 
 
 def users(proof: Proof, by: Set[Proof]) -> List[str]:
-    """Who a lemma file is for: functions, or else lemma files, of its own crate, and other crates."""
+    """Who a lemma file is for: functions, or else lemma files, of its own crate, and crates above."""
     own = [one for one in sorted(by) if one.crate == proof.crate]
     functions = sorted({f"`{one.function()}`" for one in own if not one.is_lemmas()})
-    return (functions or [one.place for one in own]) + sorted({one.crate for one in by if one.crate != proof.crate})
+    return (functions or [one.place for one in own]) + ["crates above"] * (len(own) < len(by))
 
 
 def sentence(words: List[str]) -> str:
