@@ -3,3 +3,4 @@ pub mod Faults
 pub mod Memory
 pub mod Source
 pub mod Taken
+pub mod Told

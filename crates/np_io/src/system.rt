@@ -1,0 +1,37 @@
+//! What is behind a source over the system: opening and reading.
+ghost use Rattle.std.specs.Prelude.{◌≡◌, ℕ, ◌≤◌, List, Bool, true, Option, length, codes, IfOk, OnErr};
+ghost use Rattle.std.specs.Io.KnownBytes.{ReadConsumes};
+ghost use Rattle.np_io.specs.Told.{IsOf};
+
+use std::io;
+
+/// What opens names and reads what it opened. Contracts see of a system the bytes that each name holds, where it tells them, and whether a
+/// call of it may fail. No call changes these.
+pub trait System {
+    /// What was opened, with the bytes that are left of it.
+    type Stream: Drop;
+
+    /// The bytes that each name holds; those of `-` are standard input. `None`: untold.
+    ghost names: { Self → Option (List ℕ → List ℕ) };
+
+    /// The bytes that are left of a stream. `None`: untold.
+    ghost left: { Self.Stream → Option (List ℕ) };
+
+    /// Whether a call may fail.
+    ghost may_fail: { Self → Bool };
+
+    /// Standard input.
+    fn standard_input(&self) -> Self::Stream
+        ensures opened { IsOf (names self.now) (codes "-") (left result) };
+
+    /// The file of this name.
+    fn file(&self, name: &str) -> io::Result<Self::Stream>
+        ensures opened { IfOk result (λ stream. IsOf (names self.now) name.now (left stream)) }
+        ensures failed { OnErr result (may_fail self.now ≡ true) };
+
+    /// Hands out the next bytes of a stream, as `std::io::Read` has it.
+    fn read(&self, stream: &mut Self::Stream, into: &mut [u8]) -> io::Result<usize>
+        ensures bound { IfOk result (λ n. n ≤ length into.new) }
+        ensures next { ReadConsumes (left stream.old) (left stream.new) result into.new }
+        ensures failed { OnErr result (may_fail self.now ≡ true) };
+}
