@@ -9,7 +9,9 @@ mod mem_inputs;
 mod mem_sink;
 mod real_inputs;
 mod real_sink;
+mod real_system;
 mod sink;
+mod system;
 mod whole;
 
 pub use buffered_sink::BufferedSink;
@@ -18,5 +20,7 @@ pub use mem_inputs::MemInputs;
 pub use mem_sink::MemSink;
 pub use real_inputs::RealInputs;
 pub use real_sink::RealSink;
+pub use real_system::Opened;
 pub use sink::{Sink, SinkFailed};
+pub use system::System;
 pub use whole::{WholeFault, read_whole, write_whole};

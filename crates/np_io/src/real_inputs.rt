@@ -1,22 +1,23 @@
 //! A source over the system.
-ghost use Rattle.std.specs.Prelude.{◌≡◌, ◌<◌, ℕ, List, is_some, true};
-ghost use Rattle.np_io.specs.Told.{held, left_over};
+ghost use Rattle.std.specs.Prelude.{◌≡◌, ◌<◌, ℕ, List, [], is_some, true, IfOk, OnErr};
+ghost use Rattle.std.specs.Option.{option_map};
+ghost use Rattle.np_io.specs.Told.{held, HasAll, left_begun};
 
 use crate::counts::count;
 use crate::inputs::{InputFailed, Inputs};
 use crate::system::System;
 use std::io;
 
-/// A source over the system, whose name `-` is standard input; any other name is that of a file. Where `-` is begun again, it goes on where
-/// it stopped, and a file is read from its front. The source tells what its names hold, and what is left, where the system tells what they
-/// hold; it does not tell which name is begun or which were. It counts the failures of the system, and that number is its count for every
+/// A source over a system, whose name `-` is standard input; any other name is that of a file. A file is read from its front; where `-` is
+/// begun again, the real system goes on where it stopped. The source tells what names hold and what is left where the system tells what
+/// they hold, and never which name is begun or which were. It counts the failures of the system, and that number is its count for every
 /// name.
 pub struct RealInputs<S: System + Drop> {
     system: S,
     begun: Option<S::Stream>,
     faults: u64,
     handed: u64,
-    ghost told: { is_some (left_over (S.names system) S.left begun) ≡ is_some (S.names system) },
+    ghost told: { is_some (left_begun (S.names system) S.left begun) ≡ is_some (S.names system) },
     ghost failed: { 0 < faults → S.may_fail system ≡ true },
 }
 
@@ -33,10 +34,10 @@ impl<S: System + Drop> Drop for RealInputs<S> {
 }
 
 impl<S: System + Drop> RealInputs<S> {
-    /// A source over a system. No name is begun, and no call failed yet.
+    /// A source over this system. No name is begun, and no call failed yet.
     pub fn new(system: S) -> RealInputs<S>
-        ensures holds { (name : List ℕ) → ⟦<RealInputs<S> as Inputs>⟧.holds result name ≡ held (S.names system) name }
-        ensures left { ⟦<RealInputs<S> as Inputs>⟧.left result ≡ held (S.names system) .. }
+        ensures holds { ⟦<RealInputs<S> as Inputs>⟧.holds result ≡ held (S.names system) }
+        ensures left { ⟦<RealInputs<S> as Inputs>⟧.left result ≡ option_map (λ names. []) (S.names system) }
         ensures faults { (name : List ℕ) → ⟦<RealInputs<S> as Inputs>⟧.faults result name ≡ 0 }
         ensures handed { ⟦<RealInputs<S> as Inputs>⟧.handed result ≡ 0 }
     {
@@ -45,6 +46,66 @@ impl<S: System + Drop> RealInputs<S> {
             begun: None,
             faults: 0,
             handed: 0,
+        }
+    }
+
+    // What stands behind a name.
+    fn opened(&self, name: &str) -> io::Result<S::Stream>
+        ensures opened { IfOk result (λ stream. HasAll (S.names self.now.system) name.now (S.left stream)) }
+        ensures failed { OnErr result (S.may_fail self.now.system ≡ true) }
+    {
+        if name == "-" {
+            return Ok(self.system.standard_input());
+        }
+        self.system.file(name)
+    }
+}
+
+impl<S: System + Drop> Inputs for RealInputs<S> {
+    ghost use Rattle.std.specs.Prelude.{None};
+    ghost use Rattle.np_io.specs.Told.{held, left_begun, none_told, untold};
+
+    ghost holds = { λ s. held (S.names s.system) };
+
+    ghost begun = { λ s. untold };
+
+    ghost began = { λ s. None };
+
+    ghost left = { λ s. left_begun (S.names s.system) S.left s.begun };
+
+    ghost faults = { λ s name. s.faults };
+
+    ghost handed = { λ s. s.handed };
+
+    ghost none_left = { λ s none. none_told _ none };
+
+    fn begin(&mut self, name: &str) -> Result<(), InputFailed> {
+        self.begun = None;
+        let Ok(begun) = self.opened(name) else {
+            count(&mut self.faults);
+            return Err(InputFailed);
+        };
+        self.begun = Some(begun);
+        Ok(())
+    }
+
+    fn read(&mut self, into: &mut [u8]) -> Result<usize, InputFailed> {
+        let handed = self.handed;
+        let Some(begun) = &mut self.begun else {
+            return Ok(0);
+        };
+        if into.is_empty() {
+            return Ok(0);
+        }
+        match self.system.read(begun, into) {
+            Ok(n) => {
+                self.handed = handed.saturating_add(n as u64);
+                Ok(n)
+            }
+            Err(_) => {
+                count(&mut self.faults);
+                Err(InputFailed)
+            }
         }
     }
 }
