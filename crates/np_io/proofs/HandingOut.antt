@@ -3,7 +3,7 @@ use Rattle.std.proofs.Common.{◌≡◌, ℕ, ◌+◌, List, [], ◌++◌, Optio
 use Rattle.std.specs.Option.{option_map_or}
 use Rattle.std.proofs.lemmas.List.{take-append-drop, drop-drop}
 use Rattle.np_io.specs.declared.mem_inputs.Begun.{Begun}
-use Rattle.np_io.specs.declared.mem_inputs.Held.{Held}
+use Rattle.np_io.specs.declared.held.Held.{Held}
 use Rattle.np_io.specs.Memory.{bytes_at}
 
 -- what was left is what was handed out, and then what is left behind it

@@ -5,7 +5,7 @@ use Rattle.std.proofs.lemmas.Iterator.Adapters.{position_from-zero}
 use Rattle.std.proofs.lemmas.List.Quantifiers.{position-Some}
 use Rattle.std.proofs.lemmas.Option.{slice_get-get_or}
 use Rattle.std.proofs.lemmas.Slice.Eq.{bytes_eq-Decides}
-use Rattle.np_io.specs.declared.mem_inputs.Held.{Held}
+use Rattle.np_io.specs.declared.held.Held.{Held}
 use Rattle.np_io.specs.Memory.{is_named, place_of, name_at}
 
 -- a search that goes on from its first element as another one does

@@ -5,7 +5,7 @@ use Rattle.std.specs.List.{position_from}
 use Rattle.std.specs.Str.{bytes_eq}
 use Rattle.std.proofs.Common.{refl}
 use Rattle.np_io.specs.declared.mem_inputs.Begun.{Begun}
-use Rattle.np_io.specs.declared.mem_inputs.Held.{Held}
+use Rattle.np_io.specs.declared.held.Held.{Held}
 
 -- a sink in memory
 pub record SinkState : Type 0 where
@@ -83,8 +83,8 @@ abbrev pub bytes_at : List Held → ℕ → List ℕ
 bytes_at held place = option_map_or (λ h. h.bytes) (slice_get held place) []
 
 -- the bytes of a name, none where it is not held
-abbrev pub bytes_of : SourceState → List ℕ → List ℕ
-bytes_of source name = option_map_or (bytes_at source.held) (place_of source.held name) []
+abbrev pub bytes_of : List Held → List ℕ → List ℕ
+bytes_of held name = option_map_or (bytes_at held) (place_of held name) []
 
 -- the count of faults of a name
 abbrev pub faults_of : SourceState → List ℕ → ℕ

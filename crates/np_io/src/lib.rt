@@ -4,6 +4,8 @@
 
 mod buffered_sink;
 mod counts;
+mod given_system;
+mod held;
 mod inputs;
 mod mem_inputs;
 mod mem_sink;
@@ -15,6 +17,8 @@ mod system;
 mod whole;
 
 pub use buffered_sink::BufferedSink;
+pub use given_system::GivenSystem;
+pub use held::Held;
 pub use inputs::{InputFailed, Inputs};
 pub use mem_inputs::MemInputs;
 pub use mem_sink::MemSink;

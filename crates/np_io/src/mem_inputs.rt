@@ -5,17 +5,11 @@ ghost use Rattle.np_io.specs.Memory.{empty_source, place_of, bytes_at, IsBegunAt
 ghost use Rattle.np_io.specs.Source.{BeganNext};
 
 use crate::counts::{count, is_due};
+use crate::held::{Held, place_of};
 use crate::inputs::{InputFailed, Inputs};
 use np_base::{NoMemory, Seq, Text};
 use std::alloc::Global;
 use std::marker::Model;
-
-// A name and its bytes.
-#[derive(Debug, Drop)]
-struct Held {
-    name: Text,
-    bytes: Seq<u8>,
-}
 
 // The place of the begun name among those that are held, and how many of its bytes were handed out.
 #[derive(Clone, Copy, Debug)]
@@ -142,14 +136,6 @@ impl MemInputs {
     }
 }
 
-// The place of a name, where it is held.
-fn place_of(held: &[Held], name: &str) -> Option<usize>
-    ensures place { result ≡ place_of held.now name.now }
-    ensures placed { IfSome result (λ place. place < length held.now) }
-{
-    held.iter().position(|h| h.name.as_str() == name)
-}
-
 // Notes that a name was begun. Where the memory for that is refused, it is untold from then on which names were.
 fn note_begun(began: &mut Option<Seq<Text>>, name: &str)
     ensures { BeganNext began.old began.new (name.now ∷ []) }
@@ -192,7 +178,7 @@ impl Inputs for MemInputs {
     ghost use Rattle.std.specs.Prelude.{Some};
     ghost use Rattle.np_io.specs.Memory.{bytes_of, faults_of, begun_name, bytes_left, none_left};
 
-    ghost holds = { λ s name. Some (bytes_of s name) };
+    ghost holds = { λ s name. Some (bytes_of s.held name) };
 
     ghost begun = { λ s. Some (begun_name s) };
 

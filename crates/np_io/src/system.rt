@@ -1,5 +1,5 @@
 //! What is behind a source over the system: what opens, and reads.
-ghost use Rattle.std.specs.Prelude.{◌≡◌, ℕ, ◌≤◌, List, Bool, true, Option, length, codes, IfOk, OnErr};
+ghost use Rattle.std.specs.Prelude.{◌≡◌, ◌≢◌, ℕ, ◌≤◌, List, Bool, true, Option, length, codes, IfOk, OnErr};
 ghost use Rattle.std.specs.Io.KnownBytes.{ReadConsumes};
 ghost use Rattle.np_io.specs.Told.{HasAll};
 
@@ -24,8 +24,9 @@ pub trait System {
     fn standard_input(&self) -> Self::Stream
         ensures opened { HasAll (names self.now) (codes "-") (left result) };
 
-    /// Opens the file of this name.
+    /// Opens the file of this name, which is not `-`.
     fn file(&self, name: &str) -> io::Result<Self::Stream>
+        requires named { name.now ≢ codes "-" }
         ensures opened { IfOk result (λ stream. HasAll (names self.now) name.now (left stream)) }
         ensures failed { OnErr result (may_fail self.now ≡ true) };
 
