@@ -1,7 +1,9 @@
 //! Sources and sinks in memory, by example.
 
+use np_base::{Seq, Text};
 use np_io::{
-    InputFailed, Inputs, MemInputs, MemSink, Sink, SinkFailed, WholeFault, read_whole, write_whole,
+    GivenSystem, Held, InputFailed, Inputs, MemInputs, MemSink, RealInputs, RealSink, Sink,
+    SinkFailed, WholeFault, read_whole, write_whole,
 };
 use std::alloc::Global;
 use std::process::Abort;
@@ -56,7 +58,7 @@ fn source_of_forty(rt: &impl Abort, alloc: Global) -> MemInputs {
 fn expect_whole(
     rt: &impl Abort,
     alloc: Global,
-    inputs: &mut MemInputs,
+    inputs: &mut impl Inputs,
     name: &str,
     room: u64,
     wanted: &[u8],
@@ -111,4 +113,34 @@ fn a_write_fails(rt: HostRuntime) {
         "three bytes do not fit"
     );
     assert!(rt; out.write(b"ab") == Ok(2));
+}
+
+// A name with bytes.
+fn held(rt: &impl Abort, alloc: Global, name: &str, bytes: &[u8]) -> Held {
+    Held {
+        name: Text::of(alloc, name).expect(rt, "a name"),
+        bytes: Seq::from_vec(Vec::from_slice(alloc, bytes).expect(rt, "bytes")),
+    }
+}
+
+// The source of the program, over a system that is given the bytes of names. A name that it is not given has none.
+#[test]
+fn given_bytes_are_read(rt: HostRuntime) {
+    let alloc = rt.alloc();
+    let given = [
+        held(&rt, alloc, "a", b"those of a"),
+        held(&rt, alloc, "-", b"standard input"),
+    ];
+    let mut inputs = RealInputs::new(GivenSystem { held: &given });
+    expect_whole(&rt, alloc, &mut inputs, "-", 14, b"standard input");
+    expect_whole(&rt, alloc, &mut inputs, "a", 10, b"those of a");
+    expect_whole(&rt, alloc, &mut inputs, "other", 0, b"");
+}
+
+// The sink of the program, over a writer in memory.
+#[test]
+fn a_writer_is_written(rt: HostRuntime) {
+    let mut out = RealSink::new(Vec::new(rt.alloc()));
+    assert!(rt; write_whole(&mut out, b"twenty bytes of text") == Ok(()));
+    assert!(rt; out.into_writer().as_slice() == b"twenty bytes of text");
 }
