@@ -25,22 +25,24 @@ fn bytes_of<'a>(held: &'a [Held], name: &str) -> &'a [u8]
 }
 
 impl<'a> System for GivenSystem<'a> {
-    ghost use Rattle.std.specs.Prelude.{Some, false};
+    ghost use Rattle.std.specs.Prelude.{Some, None, false};
     ghost use Rattle.np_io.specs.Memory.{bytes_of};
 
     type Stream = &'a [u8];
 
     ghost names = { λ s. Some (bytes_of s.held.now) };
 
-    ghost left = { λ stream. Some stream.now };
+    ghost opened = { λ s. None };
 
     ghost may_fail = { λ s. false };
 
-    fn standard_input(&self) -> &'a [u8] {
+    ghost left = { λ stream. Some stream.now };
+
+    fn standard_input(&mut self) -> &'a [u8] {
         bytes_of(self.held, "-")
     }
 
-    fn file(&self, name: &str) -> io::Result<&'a [u8]> {
+    fn file(&mut self, name: &str) -> io::Result<&'a [u8]> {
         Ok(bytes_of(self.held, name))
     }
 

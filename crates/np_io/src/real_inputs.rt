@@ -1,24 +1,25 @@
 //! A source over the system.
-ghost use Rattle.std.specs.Prelude.{◌≡◌, ◌<◌, ℕ, List, [], is_some, true, IfOk, OnErr};
+ghost use Rattle.std.specs.Prelude.{◌≡◌, ◌<◌, ℕ, List, [], is_some, true};
 ghost use Rattle.std.specs.Option.{option_map};
-ghost use Rattle.np_io.specs.Told.{held, HasAll, left_begun};
+ghost use Rattle.np_io.specs.Told.{held, left_begun};
 
 use crate::counts::count;
 use crate::inputs::{InputFailed, Inputs};
 use crate::system::System;
-use std::io;
 
 /// A source over a system, whose name `-` is standard input; any other name is that of a file. A file is read from its front; where `-` is
-/// begun again, the real system goes on where it stopped. The source tells what names hold and what is left where the system tells what
-/// they hold, and never which name is begun or which were. It counts the failures of the system, and that number is its count for every
-/// name.
+/// begun again, the real system goes on where it stopped. The source tells what names hold, and what is left, where the system tells what
+/// names hold; it tells which names were begun where the system tells which it opened, and never which one is. It counts the failures of
+/// the system, and that number is its count for every name.
 pub struct RealInputs<S: System + Drop> {
     system: S,
     begun: Option<S::Stream>,
     faults: u64,
     handed: u64,
+    // What is left is told at all times or never.
     ghost told: { is_some (left_begun (S.names system) S.left begun) ≡ is_some (S.names system) },
-    ghost failed: { 0 < faults → S.may_fail system ≡ true },
+    // Only a call of the system fails.
+    pub ghost failed: { 0 < faults → S.may_fail system ≡ true },
 }
 
 // Written out, so that letting one go is one call.
@@ -38,6 +39,7 @@ impl<S: System + Drop> RealInputs<S> {
     pub fn new(system: S) -> RealInputs<S>
         ensures holds { ⟦<RealInputs<S> as Inputs>⟧.holds result ≡ held (S.names system) }
         ensures left { ⟦<RealInputs<S> as Inputs>⟧.left result ≡ option_map (λ names. []) (S.names system) }
+        ensures began { ⟦<RealInputs<S> as Inputs>⟧.began result ≡ S.opened system }
         ensures faults { (name : List ℕ) → ⟦<RealInputs<S> as Inputs>⟧.faults result name ≡ 0 }
         ensures handed { ⟦<RealInputs<S> as Inputs>⟧.handed result ≡ 0 }
     {
@@ -47,17 +49,6 @@ impl<S: System + Drop> RealInputs<S> {
             faults: 0,
             handed: 0,
         }
-    }
-
-    // What stands behind a name.
-    fn opened(&self, name: &str) -> io::Result<S::Stream>
-        ensures opened { IfOk result (λ stream. HasAll (S.names self.now.system) name.now (S.left stream)) }
-        ensures failed { OnErr result (S.may_fail self.now.system ≡ true) }
-    {
-        if name == "-" {
-            return Ok(self.system.standard_input());
-        }
-        self.system.file(name)
     }
 }
 
@@ -69,7 +60,7 @@ impl<S: System + Drop> Inputs for RealInputs<S> {
 
     ghost begun = { λ s. untold };
 
-    ghost began = { λ s. None };
+    ghost began = { λ s. S.opened s.system };
 
     ghost left = { λ s. left_begun (S.names s.system) S.left s.begun };
 
@@ -81,11 +72,15 @@ impl<S: System + Drop> Inputs for RealInputs<S> {
 
     fn begin(&mut self, name: &str) -> Result<(), InputFailed> {
         self.begun = None;
-        let Ok(begun) = self.opened(name) else {
+        if name == "-" {
+            self.begun = Some(self.system.standard_input());
+            return Ok(());
+        }
+        let Ok(file) = self.system.file(name) else {
             count(&mut self.faults);
             return Err(InputFailed);
         };
-        self.begun = Some(begun);
+        self.begun = Some(file);
         Ok(())
     }
 

@@ -5,14 +5,17 @@ use std::io;
 use std::io::Read;
 use std::rt::Files;
 
-/// What is read: standard input, or a file.
+/// What was opened of a runtime.
 #[derive(Drop)]
 pub enum Opened<R: Input + Files> {
+    /// Standard input.
     Standard(R::Reader),
+    /// A file.
     File(R::File),
 }
 
-/// It tells nothing of its names, since no clause says what a runtime opens. That a read loses nothing of what its reader tells is proved.
+// The kit does not say what a runtime opens, what is in it, or when a call fails. Where a reader tells what is left of it, `read` is proved
+// to hand out just that.
 impl<R: Input + Files> System for R {
     ghost use Rattle.std.specs.Prelude.{None, true};
     ghost use Rattle.np_io.specs.declared.real_system.Opened.TheVariants.{Standard, File};
@@ -21,15 +24,17 @@ impl<R: Input + Files> System for R {
 
     ghost names = { λ s. None };
 
-    ghost left = { elim [ Standard reader ↦ R.Reader.remaining reader | File file ↦ R.File.remaining file ] };
+    ghost opened = { λ s. None };
 
     ghost may_fail = { λ s. true };
 
-    fn standard_input(&self) -> Opened<R> {
+    ghost left = { elim [ Standard reader ↦ R.Reader.remaining reader | File file ↦ R.File.remaining file ] };
+
+    fn standard_input(&mut self) -> Opened<R> {
         Opened::Standard(self.reader())
     }
 
-    fn file(&self, name: &str) -> io::Result<Opened<R>> {
+    fn file(&mut self, name: &str) -> io::Result<Opened<R>> {
         Ok(Opened::File(File::open(self, name)?))
     }
 
