@@ -142,5 +142,5 @@ fn given_bytes_are_read(rt: HostRuntime) {
 fn a_writer_is_written(rt: HostRuntime) {
     let mut out = RealSink::new(Vec::new(rt.alloc()));
     assert!(rt; write_whole(&mut out, b"twenty bytes of text") == Ok(()));
-    assert!(rt; out.into_writer().as_slice() == b"twenty bytes of text");
+    assert!(rt; out.into_writer().as_slice() == b"twenty bytes of text".as_slice());
 }
