@@ -13,7 +13,7 @@ ghost use Rattle.np_command.specs.declared.status.Status.{Status as SpecStatus};
 ghost use Rattle.np_args.specs.CommandLines.{asked_by};
 
 use np_cli::{Status, np_main};
-use np_io::{Inputs, RealInputs, RealSink, Sink};
+use np_io::{Inputs, RealInputs, RealSink, RealSystem, Sink};
 use np_steps::Steps;
 use std::alloc::Global;
 use std::io::{Stderr, Stdout};
@@ -37,8 +37,8 @@ fn run_on_system(rt: HostRuntime, words: &[String]) -> u8 {
     let alloc = rt.alloc();
     let mut out = RealSink::new(rt.stdout());
     let mut err = RealSink::new(rt.stderr());
-    let mut inputs = RealInputs::new(rt);
-    run_counted::<RealInputs<HostRuntime>, RealSink<Stdout>, RealSink<Stderr>, Brand>(
+    let mut inputs = RealInputs::new(RealSystem(rt));
+    run_counted::<RealInputs<RealSystem<HostRuntime>>, RealSink<Stdout>, RealSink<Stderr>, Brand>(
         alloc,
         words,
         &mut inputs,

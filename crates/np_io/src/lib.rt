@@ -24,7 +24,7 @@ pub use mem_inputs::MemInputs;
 pub use mem_sink::MemSink;
 pub use real_inputs::RealInputs;
 pub use real_sink::RealSink;
-pub use real_system::Opened;
+pub use real_system::{Opened, RealSystem};
 pub use sink::{Sink, SinkFailed};
 pub use system::System;
 pub use whole::{WholeFault, read_whole, write_whole};

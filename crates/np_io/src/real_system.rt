@@ -14,9 +14,13 @@ pub enum Opened<R: Input + Files> {
     File(R::File),
 }
 
+/// The system that a runtime stands for.
+#[derive(Drop)]
+pub struct RealSystem<R>(pub R);
+
 // The kit does not say what a runtime opens, what is in it, or when a call fails. Where a reader tells what is left of it, `read` is proved
 // to hand out just that.
-impl<R: Input + Files> System for R {
+impl<R: Input + Files> System for RealSystem<R> {
     ghost use Rattle.std.specs.Prelude.{None, true};
     ghost use Rattle.np_io.specs.declared.real_system.Opened.TheVariants.{Standard, File};
 
@@ -31,11 +35,11 @@ impl<R: Input + Files> System for R {
     ghost left = { elim [ Standard reader ↦ R.Reader.remaining reader | File file ↦ R.File.remaining file ] };
 
     fn standard_input(&mut self) -> Opened<R> {
-        Opened::Standard(self.reader())
+        Opened::Standard(self.0.reader())
     }
 
     fn file(&mut self, name: &str) -> io::Result<Opened<R>> {
-        Ok(Opened::File(File::open(self, name)?))
+        Ok(Opened::File(File::open(&self.0, name)?))
     }
 
     fn read(&self, stream: &mut Opened<R>, into: &mut [u8]) -> io::Result<usize> {
