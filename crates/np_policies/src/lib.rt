@@ -7,7 +7,6 @@ mod admin_port_shape;
 mod admin_rule_shape;
 mod expression_shape;
 mod ip_block_shape;
-pub mod laws;
 mod net_peer_shape;
 mod net_policy_shape;
 mod net_port_shape;
