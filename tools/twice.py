@@ -23,7 +23,7 @@ from typing import Dict, Iterator, List, NamedTuple, Set
 TOP = Path(__file__).resolve().parent.parent
 
 # Crates whose items nobody has looked at yet: they are compared with nothing.
-NOT_YET = ["np_args", "np_check", "np_command_check", "np_lint", "np_statements", "np_synth", "np_table"]
+NOT_YET = ["np_check", "np_lint", "np_statements", "np_synth", "np_table"]
 
 # What stands twice on purpose, since sharing it would cost more: its places, in the order of their names, and why.
 EXCEPTIONS = {

@@ -1,5 +1,5 @@
 -- Every estate that is read is lawful. For `flat_policies_are_read_again` and crates above.
-use Rattle.std.proofs.Common.{◌≡◌, ℕ, suc, ◌+◌, ◌≤◌, List, [], ◌∷◌, length, Option, Some, None, Result, Ok, Err, inl, inr, refl, ap, subst, leb-true}
+use Rattle.std.proofs.Common.{◌≡◌, ℕ, suc, ◌+◌, ◌≤◌, List, [], ◌∷◌, length, Option, Some, None, Ok, Err, inl, inr, refl, ap, subst, leb-true}
 use Rattle.std.proofs.lemmas.Bool.{cases_Bool}
 use Rattle.std.proofs.lemmas.List.Elements.{All-from_recursion}
 use Rattle.std.specs.List.{AllByRecursion}
@@ -16,41 +16,32 @@ use Rattle.np_items.specs.Readings.{Reading}
 use Rattle.np_items.specs.WellFormed.{IsWellItem}
 use Rattle.np_items.specs.declared.fault.ItemsFault.TheVariants.{TooManyItems}
 use Rattle.np_items.specs.declared.item.Item.TheVariants as item
-use Rattle.np_json.specs.Shapes.{Read, ◌>>=◌, ◌>>◌}
+use Rattle.np_json.specs.Shapes.{Read, ◌>>◌}
 use Rattle.np_objects.proofs.WellLemmas.{object_of-well}
 use Rattle.np_objects.specs.Objects.{object_of}
+use Rattle.np_policies.proofs.ReadLemmas.{bind-output, then-output}
 use Rattle.np_policies.proofs.WellPolicies.{policy-well}
 use Rattle.np_policies.specs.Policies.{policy_of}
 use Rattle.np_policies.specs.declared.policy.Policy.{Policy}
 
--- ---- steps that gave a value
-
-first-gives : {A B E : Type 0} (reading : Result A E) (next : A → Result B E) (y : B) → (reading >>= next) ≡ Ok y → (x : A) × (reading ≡ Ok x) × (next x ≡ Ok y)
-first-gives (Ok x) next y is = (x, refl, is)
-first-gives (Err fault) next y is = cc
-
-then-gives : {A B E : Type 0} (reading : Result A E) (next : Result B E) (y : B) → (reading >> next) ≡ Ok y → next ≡ Ok y
-then-gives (Ok x) next y is = is
-then-gives (Err fault) next y is = cc
+-- ---- items
 
 numbered-gives : {A : Type 0} (number : ℕ) (read : Read A) (x : A) → numbered number read ≡ Ok x → read ≡ Ok x
 numbered-gives number (Ok output) x is = let same : output ≡ x = cc in ap Ok same
 numbered-gives number (Err flaw) x is = cc
 
--- ---- items
-
 object-well : (number : ℕ) (value : Data) (one : Item) → policy_or_object number value None ≡ Ok one → IsWellItem one
 object-well number value one is =
-    let read = first-gives (numbered number (object_of value)) (λ found. Ok (item.Object found)) one is in
-    let made = read.2 in
-    let same : item.Object read.0 ≡ one = cc in
-    subst IsWellItem same ((object_of-well value).output read.0 (numbered-gives number (object_of value) read.0 read.1))
+    let read = bind-output (numbered number (object_of value)) (λ found. Ok (item.Object found)) one is in
+    let made = read.after in
+    let same : item.Object read.first ≡ one = cc in
+    subst IsWellItem same ((object_of-well value).output read.first (numbered-gives number (object_of value) read.first read.here))
 
 item-well : (number : ℕ) (value : Data) (one : Item) → item_of number value ≡ Ok one → IsWellItem one
 unfolding item_of
 item-well number value one is =
-    let read = first-gives (numbered number (policy_of value)) (policy_or_object number value) one (then-gives (must_be_no_list number value) _ one is) in
-    by read.0 (numbered-gives number (policy_of value) read.0 read.1) read.2
+    let read = bind-output (numbered number (policy_of value)) (policy_or_object number value) one (then-output (must_be_no_list number value) _ one is) in
+    by read.first (numbered-gives number (policy_of value) read.first read.here) read.after
   where
     by : (found : Option Policy) → policy_of value ≡ Ok found → policy_or_object number value found ≡ Ok one → IsWellItem one
     by None reads made = object-well number value one made
@@ -59,12 +50,12 @@ item-well number value one is =
 each-well : (number : ℕ) (values : List Data) (items : List Item) → each_item number values ≡ Ok items → AllByRecursion IsWellItem items × (length items ≡ length values)
 each-well number [] items is = let same : [] ≡ items = cc in subst (λ (all : List Item). AllByRecursion IsWellItem all × (length all ≡ 0)) same (tt, refl)
 each-well number (value ∷ values) items is =
-    let here = first-gives (item_of number value) _ items is in
-    let rest = first-gives (each_item (number + 1) values) (λ more. Ok (here.0 ∷ more)) items here.2 in
-    let well = each-well (number + 1) values rest.0 rest.1 in
-    let made = rest.2 in
-    let same : here.0 ∷ rest.0 ≡ items = cc in
-    subst (λ (all : List Item). AllByRecursion IsWellItem all × (length all ≡ length (value ∷ values))) same ((item-well number value here.0 here.1, well.0), ap suc well.1)
+    let here = bind-output (item_of number value) _ items is in
+    let rest = bind-output (each_item (number + 1) values) (λ more. Ok (here.first ∷ more)) items here.after in
+    let well = each-well (number + 1) values rest.first rest.here in
+    let made = rest.after in
+    let same : here.first ∷ rest.first ≡ items = cc in
+    subst (λ (all : List Item). AllByRecursion IsWellItem all × (length all ≡ length (value ∷ values))) same ((item-well number value here.first here.here, well.0), ap suc well.1)
 
 few-values : (count : ℕ) (next : Reading (List Item)) (items : List Item) → (must_be_few count >> next) ≡ Ok items → count ≤ 20000
 unfolding must_be_few
@@ -77,9 +68,9 @@ few-values count next items is =
 items-well : (texts : List (List ℕ)) (items : List Item) → items_of texts ≡ Ok items → AllByRecursion IsWellItem items × (length items ≤ 20000)
 unfolding items_of
 items-well texts items is =
-    let values = first-gives (all_values texts) _ items is in
-    let each = each-well 1 values.0 items (then-gives (must_be_few (length values.0)) (each_item 1 values.0) items values.2) in
-    (each.0, rw each.1 (few-values (length values.0) (each_item 1 values.0) items values.2))
+    let values = bind-output (all_values texts) _ items is in
+    let each = each-well 1 values.first items (then-output (must_be_few (length values.first)) (each_item 1 values.first) items values.after) in
+    (each.0, rw each.1 (few-values (length values.first) (each_item 1 values.first) items values.after))
 
 -- ---- the estate
 
@@ -90,9 +81,9 @@ accepted (Err fault) items is = cc
 pub estate-lawful : (texts : List (List ℕ)) (lists : EstateLists) → estate_of texts ≡ Ok lists → IsLawful lists
 unfolding estate_of
 estate-lawful texts lists is =
-    let read = first-gives (or_refused (items_of texts)) _ lists is in
-    let items = read.0 in
-    let accepted_items = accepted (items_of texts) items read.1 in
+    let read = bind-output (or_refused (items_of texts)) _ lists is in
+    let items = read.first in
+    let accepted_items = accepted (items_of texts) items read.here in
     let well = items-well texts items accepted_items in
     let passed = estate_of-passed texts items lists accepted_items is in
     subst IsLawful passed.2 (estate_of_items-lawful items well.1 (All-from_recursion IsWellItem items well.0) passed.0)

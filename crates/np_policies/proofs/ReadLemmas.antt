@@ -1,5 +1,5 @@
 -- What follows from a shape having read an output. For WellAdmin, WellLemmas and 3 more.
-use Rattle.std.proofs.Common.{◌≡◌, ℕ, ◌+◌, List, [], ◌∷◌, Bool, Option, Some, None, option_and_then, unwrap_or, Ok, Err, refl, ap, ◌∙◌}
+use Rattle.std.proofs.Common.{◌≡◌, ℕ, ◌+◌, List, [], ◌∷◌, Bool, Option, Some, None, option_and_then, unwrap_or, Result, Ok, Err, refl, ap, ◌∙◌}
 use Rattle.std.specs.List.{list_all}
 use Rattle.serde_json.specs.Data.{Data, Items, no_items, item}
 use Rattle.serde_json.specs.Find.{as_array}
@@ -10,16 +10,16 @@ use Rattle.np_json.proofs.ReadLemmas.{under-output}
 use Rattle.np_policies.specs.Items.{all_items, items_at}
 
 -- what a line gave, and that the lines after it gave the output
-pub record IsRead {A B : Type 0} (read : Read A) (rest : A → Read B) (output : B) : Type 0 where
+pub record IsRead {A B E : Type 0} (read : Result A E) (rest : A → Result B E) (output : B) : Type 0 where
   pub first : A
   pub here : read ≡ Ok first
   pub after : rest first ≡ Ok output
 
-pub bind-output : {A B : Type 0} (read : Read A) (rest : A → Read B) (output : B) → (read >>= rest) ≡ Ok output → IsRead read rest output
+pub bind-output : {A B E : Type 0} (read : Result A E) (rest : A → Result B E) (output : B) → (read >>= rest) ≡ Ok output → IsRead read rest output
 bind-output (Ok first) rest output is = record { first = first; here = refl; after = is }
 bind-output (Err flaw) rest output is = cc
 
-pub then-output : {A B : Type 0} (read : Read A) (rest : Read B) (output : B) → (read >> rest) ≡ Ok output → rest ≡ Ok output
+pub then-output : {A B E : Type 0} (read : Result A E) (rest : Result B E) (output : B) → (read >> rest) ≡ Ok output → rest ≡ Ok output
 then-output (Ok first) rest output is = is
 then-output (Err flaw) rest output is = cc
 
