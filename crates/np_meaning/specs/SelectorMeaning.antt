@@ -1,4 +1,5 @@
 -- What a label selector in JSON asks of labels (Kubernetes documentation, "Labels and Selectors").
+use Rattle.np_meaning.specs.Types.{Pair}
 use Rattle.np_meaning.specs.MemberMeaning.{entries_at, text_at}
 use Rattle.std.specs.Prelude.{ℕ, List, Bool, true, false, not, ◌&&◌, ◌||◌, if◌then◌else◌, is_some, is_none, Option, Some, None, codes}
 use Rattle.std.specs.Str.{bytes_eq}
