@@ -9,7 +9,7 @@ use Rattle.np_json.specs.Shapes.{Read, ◌>>◌, must_be_object, optional, refus
 use Rattle.np_model.specs.Words.{is_word}
 use Rattle.np_policies.proofs.ReadLemmas.{bind-output, then-output, optional-output, IsOptional}
 use Rattle.np_meaning.proofs.PodMeant.{protocol-meant}
-use Rattle.np_meaning.proofs.MemberReads.{port-whole}
+use Rattle.np_meaning.proofs.MemberReads.{port-whole, port_number-whole}
 use Rattle.np_meaning.specs.MemberMeaning.{number_at, protocol_of}
 use Rattle.np_policies.specs.Ports.{end_port, may_end, net_port, net_port_by, number_of, port_name, port_value, port_value_by, protocol}
 use Rattle.np_model.specs.declared.network_policy.NetPort.TheVariants.{Span, Named}
@@ -59,7 +59,9 @@ port_value-number value n read number is =
     let named : port_value_by (Some (pos n)) value ≡ Ok read = subst (λ (found : Option ℤ). port_value_by found value ≡ Ok read) number is in
     let one = bind-output (port_number (pos n)) (λ number. Ok (Number number)) read named in
     let made : Number one.first ≡ read = let after = one.after in cc in
-    sym made ∙ ap Number (port_number-output n one.first one.here)
+    let same : pos n ≡ pos one.first = port_number-whole (pos n) one.first one.here in
+    let first : one.first ≡ n = cc in
+    sym made ∙ ap Number first
 
 port_value-name : (name : List ℕ) (read : PortValue) → port_value (string name) ≡ Ok read → read ≡ Name name
 unfolding port_value port_name

@@ -47,7 +47,7 @@ impl Shape for PolicyShape {
 
 /// The kinds of objects that are told apart.
 #[derive(Clone, Copy)]
-pub(crate) enum PolicyKind {
+pub enum PolicyKind {
     Net,
     Admin,
     Base,
