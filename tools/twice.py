@@ -23,11 +23,10 @@ from typing import Dict, Iterator, List, NamedTuple, Set
 TOP = Path(__file__).resolve().parent.parent
 
 # Crates whose items nobody has looked at yet: they are compared with nothing.
-NOT_YET = ["np_args", "np_check", "np_command_check", "np_lint", "np_statements", "np_synth", "np_table"]
+NOT_YET = ["np_check", "np_lint", "np_statements", "np_synth", "np_table"]
 
 # What stands twice on purpose, since sharing it would cost more: its places, in the order of their names, and why.
 EXCEPTIONS = {
-    "np_manifests/proofs/ReadableLemmas.antt whole, np_sample/proofs/PlainLemmas.antt whole": "no crate below both names the kit's json",
     "np_command_unused/proofs/PromiseLemmas.antt unused_rules_of, np_test_commands/proofs/unused/unused_text/Answers.antt unused_rules_of":
         "the crate below both, np_lint, is to have it",
 }

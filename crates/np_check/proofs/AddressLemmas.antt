@@ -5,6 +5,7 @@ use Rattle.std.proofs.lemmas.List.{take_more}
 use Rattle.np_addr.specs.Addresses.{family_of}
 use Rattle.np_addr.specs.Blocks.{AddressRanges}
 use Rattle.np_check.specs.Types.{Address, At, Broken, Counterexample, Egress, EstateLists, Family, Ingress, PlaceEnd, PortSpot, Wanted, Work}
+use Rattle.np_check.proofs.BrokenLemmas.{broken_by}
 use Rattle.np_check.proofs.FirstLemmas.{first_of-append, first_of-none, first_of-one, first_of-option_map, first_of-same, from_either}
 use Rattle.np_check.proofs.MergeLemmas.{addresses-ascend, merge}
 use Rattle.np_check.specs.Counters.{addresses_of, breaks, counter_at, counter_between, counter_in, families_between, number_of_address}
@@ -34,9 +35,6 @@ counter_to work broken = counter_at (At broken.address) (Work work) (family_of b
 
 abbrev pub counter_by : ℕ → Broken → Counterexample
 counter_by work broken = counter_at (Work work) (At broken.address) (family_of broken.address) broken.spot
-
-abbrev broken_by : Address → PortSpot → Broken
-broken_by address spot = record { address = address; spot = spot }
 
 between_to : (lists : EstateLists) (wanted : Wanted) (conns : Conns) (work : ℕ) (address : Address) →
     counter_between lists wanted conns (At address) (Work work) ≡ option_map (counter_to work) (broken_at wanted conns (address_allows lists (folding_of lists) work Ingress) address)

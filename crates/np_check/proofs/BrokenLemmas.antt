@@ -68,7 +68,7 @@ addresses_upto set address gives count =
 abbrev broken_with : (ℕ → Address) → List (Range ℕ) → Option PortSpot → ℕ → Option Broken
 broken_with address ranges spot n = if holds (λ a. a) ranges n then option_map (λ s. record { address = address n; spot = s }) spot else None
 
-abbrev broken_by : Address → PortSpot → Broken
+abbrev pub broken_by : Address → PortSpot → Broken
 broken_by address spot = record { address = address; spot = spot }
 
 none_with : (address : ℕ → Address) (n : ℕ) (here : Bool) → (if here then option_map (λ (s : PortSpot). broken_by (address n) s) None else None) ≡ None

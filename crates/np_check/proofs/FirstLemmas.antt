@@ -6,22 +6,19 @@ use Rattle.std.specs.Option.{option_or}
 use Rattle.std.proofs.lemmas.Bool.{cases_Bool, cases_eq}
 use Rattle.std.proofs.lemmas.Option.{none-some, same_Some}
 use Rattle.std.proofs.lemmas.List.Elements.{All-cons, All-head, All-nil, All-tail}
+use Rattle.np_base.proofs.Options.{option_or-none}
 use Rattle.np_check.specs.Firsts.{first_of}
 
 or_or : {Y : Type 0} (a b c : Option Y) → option_or a (option_or b c) ≡ option_or (option_or a b) c
 or_or None b c = refl
 or_or (Some y) b c = refl
 
-pub or_none : {Y : Type 0} (a : Option Y) → option_or a None ≡ a
-or_none None = refl
-or_none (Some y) = refl
-
 pub first_of-append : {X Y : Type 0} (gives : X → Option Y) (xs ys : List X) → first_of gives (xs ++ ys) ≡ option_or (first_of gives xs) (first_of gives ys)
 first_of-append gives [] ys = refl
 first_of-append gives (x ∷ xs) ys = ap (λ rest. option_or (gives x) rest) (first_of-append gives xs ys) ∙ or_or (gives x) (first_of gives xs) (first_of gives ys)
 
 pub first_of-one : {X Y : Type 0} (gives : X → Option Y) (x : X) → first_of gives (x ∷ []) ≡ gives x
-first_of-one gives x = or_none (gives x)
+first_of-one gives x = option_or-none (gives x)
 
 pub first_of-map : {W X Y : Type 0} (gives : X → Option Y) (to : W → X) (ws : List W) → first_of gives (map to ws) ≡ first_of (λ w. gives (to w)) ws
 first_of-map gives to [] = refl

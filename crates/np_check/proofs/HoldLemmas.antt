@@ -104,9 +104,6 @@ holds lists question lawful none =
 
 -- ---- two pods that stand for two workloads
 
-more_than_one : (n : ℕ) → 0 < n → (n == 1) ≡ false → 1 < n
-more_than_one n some other = grind arith
-
 first_second : (numbers : List ℕ) (low : ℕ) → ascends_from low numbers ≡ true → 1 < length numbers → slice_index numbers 0 ≢ slice_index numbers 1
 first_second [] low ascends two = absurd (omega arith)
 first_second (n ∷ []) low ascends two = absurd (omega arith)
@@ -141,7 +138,7 @@ stand_apart lists a b a_in b_in apart same =
       | inl one ↦
           let eq : (a == b) ≡ true = eq-eqb a b one in
           let single : (length (members_of folding a) == 1) ≡ false = sym (ap (λ (first : Bool). first && length (members_of folding a) == 1) eq) ∙ apart in
-          let many : 1 < length (members_of folding a) = more_than_one (length (members_of folding a)) some single in
+          let many : 1 < length (members_of folding a) = grind arith in
           let second : destination_pod folding a b ≡ slice_index (members_of folding a) 1 = ap (λ (first : Bool). slice_index (members_of folding b) (if first then 1 else 0)) eq ∙ ap
           (λ (n : ℕ). slice_index (members_of folding n) 1) (sym one) in
           first_second (members_of folding a) 0 (members_ascend lists a) many (same ∙ second)

@@ -1,17 +1,15 @@
 -- What lists contain.
-use Rattle.std.proofs.Common.{◌≡◌, ℕ, zero, suc, ◌+◌, ◌-◌, ◌<◌, ◌≤◌, List, [], ◌∷◌, ◌⊎◌, Bool, true, Contains, map, refl, sym, ap, ◌∙◌, inl, inr, arith}
+use Rattle.std.proofs.Common.{◌≡◌, ℕ, zero, suc, ◌+◌, ◌-◌, ◌<◌, ◌≤◌, List, [], ◌∷◌, ◌⊎◌, Bool, true, Contains, map, sym, ap, ◌∙◌, inl, inr, arith}
 use Rattle.std.specs.Prelude.{filter}
 use Rattle.std.specs.List.{range_with_len}
 use Rattle.std.proofs.lemmas.Bool.{cases_Bool}
 use Rattle.std.proofs.lemmas.List.{get_or-map, length-map}
 use Rattle.std.proofs.lemmas.List.Elements.{All-contains, All-contains_itself, All-filter}
 use Rattle.std.proofs.lemmas.List.FromFn.{get_or-range_with_len, length-range_with_len}
+use Rattle.np_addr.proofs.SameLists.{Contains-first}
 
 pub nothing : {X : Type 0} (x : X) → Contains [] x → ⊥
 nothing x has = omega (arith, has.1)
-
-pub at_first : {X : Type 0} (x : X) (xs : List X) → Contains (x ∷ xs) x
-at_first x xs = (0, omega arith, refl)
 
 pub further_on : {X : Type 0} (y : X) (ys : List X) (x : X) → Contains ys x → Contains (y ∷ ys) x
 further_on y ys x has = (suc has.0, omega (arith, has.1), has.2)
@@ -29,7 +27,7 @@ pub from_map : {X Y : Type 0} (to : X → Y) (xs : List X) (y : Y) → Contains 
 from_map to [] y has = absurd (nothing y has)
 from_map to (x ∷ xs) y has =
     elim (first_or_later (to x) (map to xs) y has) [
-      | inl same ↦ (x, same, at_first x xs)
+      | inl same ↦ (x, same, Contains-first x xs)
       | inr later ↦ let (z, is, one) = from_map to xs y later in (z, is, further_on x xs z one)
     ]
 

@@ -8,7 +8,8 @@ use Rattle.np_addr.specs.Blocks.{AddressRanges, set_has}
 use Rattle.np_check.specs.Types.{Address, Four, PortSpot, Proto, Sctp, Six, Tcp, Udp, Wanted}
 use Rattle.np_check.proofs.BrokenLemmas.{addresses_upto, upto-below, upto-each}
 use Rattle.np_check.proofs.FirstLemmas.{find-none, first_of-append, none-found, none_both, none_each}
-use Rattle.np_check.proofs.MemberLemmas.{at_first, further_on}
+use Rattle.np_check.proofs.MemberLemmas.{further_on}
+use Rattle.np_addr.proofs.SameLists.{Contains-first}
 use Rattle.np_check.specs.Counters.{addresses_in, addresses_of, breaks, complies}
 use Rattle.np_check.specs.Firsts.{first_of, first_of_ports, first_of_proto, first_spot}
 use Rattle.np_conns.specs.Conns.{Conns, has_spot, is_spot}
@@ -24,7 +25,7 @@ both_none first rest no_first no_rest = ap (λ one. option_or one rest) no_first
 pub none_all : {X Y : Type 0} (gives : X → Option Y) (xs : List X) → ((x : X) → Contains xs x → gives x ≡ None) → first_of gives xs ≡ None
 none_all gives [] never = refl
 none_all gives (x ∷ xs) never =
-    both_none (gives x) (first_of gives xs) (never x (at_first x xs)) (none_all gives xs (λ y has. never y (further_on x xs y has)))
+    both_none (gives x) (first_of gives xs) (never x (Contains-first x xs)) (none_all gives xs (λ y has. never y (further_on x xs y has)))
 
 -- ---- of protocols and ports
 

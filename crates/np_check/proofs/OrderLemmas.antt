@@ -10,7 +10,8 @@ use Rattle.np_addr.specs.Addresses.{IsAddress}
 use Rattle.np_addr.specs.Blocks.{AddressRanges, set_has}
 use Rattle.np_check.specs.Types.{Address, At, Ends, EstateLists, Family, Four, PlaceEnd, Proto, Sctp, Six, Tcp, Udp, Work}
 use Rattle.np_addr.specs.declared.address.Family.TheVariants as family
-use Rattle.np_check.proofs.MemberLemmas.{at_first, first_or_later, from_filter, from_map, from_range, further_on, in_filter, in_map, in_range}
+use Rattle.np_addr.proofs.SameLists.{Contains-first}
+use Rattle.np_check.proofs.MemberLemmas.{first_or_later, from_filter, from_map, from_range, further_on, in_filter, in_map, in_range}
 use Rattle.np_check.proofs.MergeLemmas.{addresses-ascend}
 use Rattle.np_check.proofs.SortedLemmas.{IsStrict, SortedBy, each_map, sorted_append, sorted_map, works_sorted}
 use Rattle.np_check.specs.Counters.{addresses_in, addresses_of, families_between, places_of}
@@ -37,7 +38,7 @@ at_head : {X Y : Type 0} (before : X → X → Bool) (gives : X → Option Y) (x
     option_or own (first_of gives xs) ≡ Some y → (first_of gives xs ≡ Some y → IsFoundOf before gives xs y) → IsFoundOf before gives (x ∷ xs) y
 at_head before gives x xs y (Some z) strict sorted is found rest = record {
   item = x;
-  one = at_first x xs;
+  one = Contains-first x xs;
   found = is ∙ found;
   none = λ other one earlier. elim (first_or_later x xs other one) [
     | inl same ↦ absurd (true≢false (sym earlier ∙ ap (λ o. before o x) same ∙ strict.itself x))

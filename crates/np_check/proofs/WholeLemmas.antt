@@ -2,7 +2,8 @@
 use Rattle.std.proofs.Common.{◌≡◌, ℕ, Option, None, map, refl, ap, ◌∙◌}
 use Rattle.std.specs.Option.{option_or}
 use Rattle.np_check.specs.Types.{Address, At, Counterexample, Ends, EstateLists, Question, Wanted, Work}
-use Rattle.np_check.proofs.FirstLemmas.{first_of-append, first_of-map, first_of-none, first_of-same, or_none}
+use Rattle.np_check.proofs.FirstLemmas.{first_of-append, first_of-map, first_of-none, first_of-same}
+use Rattle.np_base.proofs.Options.{option_or-none}
 use Rattle.np_check.specs.Counters.{addresses_of, counter_between, counter_from, counter_of}
 use Rattle.np_check.specs.Firsts.{first_of}
 use Rattle.np_conns.specs.Conns.{Conns}
@@ -20,7 +21,7 @@ from-address lists wanted conns ends address =
     first_of-append gives (map Work ends.works) (map At (addresses_of ends.block))
     ∙ ap (λ (rest : Option Counterexample). option_or (first_of gives (map Work ends.works)) rest)
     (first_of-map gives At (addresses_of ends.block) ∙ first_of-none (λ (other : Address). gives (At other)) (addresses_of ends.block) (between_addresses lists wanted conns address))
-    ∙ or_none (first_of gives (map Work ends.works))
+    ∙ option_or-none (first_of gives (map Work ends.works))
     ∙ first_of-map gives Work ends.works
 
 pub of-question : (lists : EstateLists) (question : Question) →

@@ -17,7 +17,7 @@ use Rattle.np_command.proofs.InputLemmas.{read-small}
 use Rattle.np_command.specs.Inputs.{lists_of}
 use Rattle.np_command.specs.Prints.{fault_in, text_in}
 use Rattle.np_command.specs.Sinks.{SinkTrace}
-use Rattle.np_manifests.proofs.LawfulReads.{estate-lawful}
+use Rattle.np_command_flatten.proofs.LawfulReads.{estate-lawful}
 use Rattle.np_model.specs.Lawful.{IsLawful}
 use Rattle.np_reading.specs.Reading.{estate_of}
 

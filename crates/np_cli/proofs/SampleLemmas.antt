@@ -15,8 +15,8 @@ use Rattle.np_frame.specs.Words.{names_asked, objects_of}
 use Rattle.np_command_sample.specs.Report.{HasFewRows}
 use Rattle.np_cli.specs.Types.{CannotRead, CannotWrite, Done, Ending, EstateLists, Failure, Job, NoMemory, Refused, Sample as SampleJob, Status, TooLarge, Usage, Violated}
 use Rattle.np_command.specs.declared.status.Status.TheVariants as status
-use Rattle.np_sample.proofs.RowCountLemmas.{length-rows-sample}
-use Rattle.np_sample.specs.Estate.{sample_estate}
+use Rattle.np_command_sample.proofs.RowCountLemmas.{length-rows-sample}
+use Rattle.np_command_sample.specs.Estate.{sample_estate}
 use Rattle.np_sample.specs.Sample.{sample_text}
 use Rattle.np_args.specs.Jobs.{IsWell}
 use Rattle.np_args.specs.declared.job.Job.TheVariants as jobs

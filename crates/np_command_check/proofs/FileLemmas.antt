@@ -1,5 +1,5 @@
 -- The statements that are read of a file are those of its lines.
-use Rattle.std.proofs.Common.{◌≡◌, ◌≢◌, ◌⊎◌, ℕ, zero, suc, ◌+◌, ◌<◌, ◌≤◌, ◌==◌, List, [], ◌∷◌, ◌++◌, Bool, true, false, Option, Some, None, Result, Ok, Err, if◌then◌else◌, option_to_list, arith, refl, sym, ap, subst}
+use Rattle.std.proofs.Common.{◌≡◌, ◌≢◌, ◌⊎◌, ℕ, zero, suc, ◌+◌, ◌<◌, ◌≤◌, List, [], ◌∷◌, ◌++◌, Bool, true, false, Option, Some, None, Result, Ok, Err, option_to_list, arith, refl, sym, ap, subst}
 use Rattle.std.proofs.Common.{◌∙◌, inl, inr}
 use Rattle.std.specs.Prelude.{All, AllPairs, Contains}
 use Rattle.std.specs.List.{onto_first, slice_get, slice_split}
@@ -12,7 +12,7 @@ use Rattle.std.proofs.lemmas.Option.{none-some, same_Some}
 use Rattle.std.proofs.lemmas.Str.{IsUtf8-from_is_utf8, is_utf8-from_IsUtf8}
 use Rattle.np_command_check.specs.Types.{StatementLine, StatementText}
 use Rattle.np_command_check.specs.FileLines.{AreLinesOf, IsFirstBad, IsTextOf, StandsInFile}
-use Rattle.np_statements.proofs.CountedLemmas.{counted_read, counted_refused, feeds-end}
+use Rattle.np_statements.proofs.CountedLemmas.{counted_read, counted_refused, feeds-end, is_feed}
 use Rattle.np_statements.proofs.CutLemmas.{if_some}
 use Rattle.np_statements.proofs.GrammarLemmas.{read-is, read-text}
 use Rattle.np_statements.proofs.StepLemmas.{same_ok, then-ok}
@@ -34,9 +34,6 @@ unfolding statement_of
 of-text text statement is = rw (is_utf8-from_IsUtf8 text is.0) (read-text text statement is.1)
 
 -- ---- the lines of a file are its parts
-
-abbrev is_feed : ℕ → Bool
-is_feed byte = byte == 10
 
 onto_first-first : (byte : ℕ) (parts : List (List ℕ)) (line : List ℕ) → slice_get parts 0 ≡ Some line → slice_get (onto_first byte parts) 0 ≡ Some (byte ∷ line)
 onto_first-first byte [] line is = absurd (none-some line is)
@@ -118,7 +115,7 @@ IsAtLine n line = line.line ≡ n
 abbrev IsFrom : ℕ → StatementLine → Type 0
 IsFrom n line = n ≤ line.line
 
-abbrev IsAbove : StatementLine → StatementLine → Type 0
+abbrev pub IsAbove : StatementLine → StatementLine → Type 0
 IsAbove one other = one.line < other.line
 
 -- a line that is not empty gives a statement at its number

@@ -1,5 +1,5 @@
 -- A file has one list of statements.
-use Rattle.std.proofs.Common.{◌≡◌, ◌≢◌, ◌<◌, ℕ, List, [], ◌++◌, Contains, sym, ap, subst, ◌∙◌, arith}
+use Rattle.std.proofs.Common.{◌≡◌, ◌≢◌, ℕ, List, [], ◌++◌, Contains, sym, ap, subst, ◌∙◌, arith}
 use Rattle.std.specs.List.{slice_get}
 use Rattle.std.proofs.lemmas.List.Elements.{All-contains}
 use Rattle.std.proofs.lemmas.Option.{same_Some}
@@ -8,7 +8,7 @@ use Rattle.np_statements.proofs.OneStatement.{one_statement}
 use Rattle.np_statements.specs.StatementGrammar.{IsStatementText, wanted_text}
 use Rattle.np_check.specs.declared.question.Wanted.{Wanted}
 use Rattle.np_check.specs.declared.question.Wanted.TheVariants.{Allow, Deny}
-use Rattle.np_command_check.proofs.FileLemmas.{part-of}
+use Rattle.np_command_check.proofs.FileLemmas.{part-of, IsAbove}
 use Rattle.np_command_check.specs.FileLines.{AreLinesOf, StandsInFile}
 use Rattle.np_statements.specs.CountedLines.{IsLineOf}
 use Rattle.np_statements.specs.Lines.{lines_of}
@@ -16,11 +16,8 @@ use Rattle.np_command_check.specs.Types.{StatementLine}
 
 -- ---- the order of statements
 
-abbrev StandsAbove : StatementLine → StatementLine → Type 0
-StandsAbove one other = one.line < other.line
-
 -- of two statements one alone stands above the other
-one-way : (one other : StatementLine) → StandsAbove one other → StandsAbove other one → ⊥
+one-way : (one other : StatementLine) → IsAbove one other → IsAbove other one → ⊥
 one-way one other above below = omega (arith, above, below)
 
 -- ---- the statements of a file
@@ -54,4 +51,4 @@ among bytes lines others are are' line has =
 
 pub one-list : (bytes : List ℕ) (lines others : List StatementLine) → AreLinesOf bytes lines → AreLinesOf bytes others → lines ≡ others
 one-list bytes lines others are are' =
-    same_elements_same_lists StandsAbove one-way lines others are.order are'.order (among bytes lines others are are') (among bytes others lines are' are)
+    same_elements_same_lists IsAbove one-way lines others are.order are'.order (among bytes lines others are are') (among bytes others lines are' are)

@@ -1,4 +1,4 @@
--- Flat policies, as they are written one after another.
+-- Flat policies, as they are written one after another. For `flatten_in` and `write_policies`.
 use Rattle.std.proofs.Common.{◌≡◌, ℕ, zero, suc, ◌+◌, ◌-◌, ◌<◌, ◌≤◌, List, [], ◌∷◌, ◌++◌, flat_map, map, Bool, true, false, Option, None, Some, arith, codes, inl, inr, refl, ap, sym, subst, ◌∙◌, append_assoc}
 use Rattle.std.specs.List.{find, join_by, range_with_len}
 use Rattle.std.specs.Prelude.{◌⊎◌, All}
@@ -6,7 +6,7 @@ use Rattle.std.proofs.lemmas.Bool.{ne_eqb}
 use Rattle.std.proofs.lemmas.List.Elements.{All-append, All-cons, All-head, All-nil, All-tail}
 use Rattle.np_command_flatten.specs.Report.{AreWorkloads, flatten_text, item_text}
 use Rattle.np_command_flatten.specs.Types.{Alike, EstateLists, FlatFault, NoMemory, Split}
-use Rattle.np_manifests.proofs.ListLemmas.{list_text-joined}
+use Rattle.np_command_flatten.proofs.ListLemmas.{list_text-joined}
 use Rattle.np_manifests.specs.Lists.{policy_text}
 use Rattle.np_synth.specs.Faults.{fault_by, flat_fault, is_split, is_unlike}
 use Rattle.np_synth.specs.Flat.{flat_policies, flat_policy}

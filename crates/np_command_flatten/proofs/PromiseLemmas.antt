@@ -1,4 +1,4 @@
--- What follows of a whole report of `flatten`, and of what is refused.
+-- What follows of a whole report of `flatten`, and of what is refused. For crates above.
 use Rattle.std.proofs.Common.{◌≡◌, ℕ, List, [], ◌∷◌, Option, None, Some, Ok, refl, subst, ◌∙◌}
 use Rattle.std.specs.Prelude.{IsPermutation}
 use Rattle.std.proofs.lemmas.Option.{none-some, same_Some}
@@ -11,11 +11,11 @@ use Rattle.np_command_flatten.proofs.RefusedLemmas.{tells-alike, tells-split}
 use Rattle.np_command_flatten.proofs.VerdictLemmas.{address-same, between-same}
 use Rattle.np_command_flatten.specs.Promise.{FlattensAll, RefusesFlatten}
 use Rattle.np_command_flatten.specs.Report.{flatten_reply, flatten_text, policies_unless}
-use Rattle.np_manifests.proofs.EstateLemmas.{policies-once}
-use Rattle.np_manifests.proofs.FlatLemmas.{estate_of-flat, policies-apart, policies-printable}
-use Rattle.np_manifests.proofs.LawfulReads.{estate-lawful}
-use Rattle.np_manifests.proofs.ListLemmas.{json_of-list_line}
-use Rattle.np_manifests.specs.Estates.{estate_with}
+use Rattle.np_command_flatten.proofs.EstateLemmas.{policies-once}
+use Rattle.np_command_flatten.proofs.FlatLemmas.{estate_of-flat, policies-apart, policies-printable}
+use Rattle.np_command_flatten.proofs.LawfulReads.{estate-lawful}
+use Rattle.np_command_flatten.proofs.ListLemmas.{json_of-list_line}
+use Rattle.np_command_flatten.specs.Estates.{estate_with}
 use Rattle.np_manifests.specs.Lists.{list_line}
 use Rattle.np_model.specs.Lawful.{IsLawful}
 use Rattle.np_reading.specs.Reading.{estate_of}

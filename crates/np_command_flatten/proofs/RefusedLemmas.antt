@@ -1,4 +1,4 @@
--- What `flatten` refuses, pod by pod.
+-- What `flatten` refuses, pod by pod. For PromiseLemmas.
 use Rattle.std.proofs.Common.{◌≡◌, ◌≢◌, ◌⊎◌, ◌==◌, ℕ, ◌<◌, ◌-◌, ◌^◌, ◌++◌, List, [], ◌∷◌, Bool, true, false, Contains, Option, Some, not, map, length, get_or, eq-eqb, ne_eqb, lit≤, arith, refl, sym, ap, subst, ◌∙◌, inl, inr}
 use Rattle.std.specs.List.{list_any}
 use Rattle.std.specs.List.Sorted.{IsStrictlySortedBy}

@@ -1,4 +1,4 @@
--- Verdicts by NetworkPolicies alone are the same in whatever order these stand.
+-- Verdicts by NetworkPolicies alone are the same in whatever order these stand. For PromiseLemmas.
 use Rattle.std.proofs.Common.{◌≡◌, ℕ, List, [], Bool, true, ◌&&◌, if◌then◌else◌, refl, sym, ap, ◌∙◌}
 use Rattle.std.specs.Prelude.{IsPermutation}
 use Rattle.std.specs.List.{list_any}

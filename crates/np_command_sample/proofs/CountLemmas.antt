@@ -1,4 +1,4 @@
--- The rows of a table, as they are counted.
+-- The rows of a table, as they are counted. For `summary` and `tally_of`.
 use Rattle.std.proofs.Common.{◌≡◌, ℕ, ◌+◌, ◌≤◌, List, [], ◌∷◌, ◌++◌, codes, length, arith, refl, ap, sym, ◌∙◌}
 use Rattle.np_command_sample.specs.Report.{count_line, count_lines, counted}
 use Rattle.np_report.specs.Tallied.{Counts, row_count, with_ends, with_row}

@@ -1,12 +1,12 @@
--- What a report of `sample` says.
+-- What a report of `sample` says. For crates above.
 use Rattle.std.proofs.Common.{◌≡◌, ℕ, ◌≤◌, [], ◌∷◌, true, Result, Ok, arith, refl, subst}
 use Rattle.std.specs.Prelude.{nat_le}
 use Rattle.std.proofs.lemmas.Bool.{le-leb}
 use Rattle.np_command.specs.Inputs.{lists_of, small_estate}
 use Rattle.np_command.specs.declared.fault.Fault.{Fault}
-use Rattle.np_sample.proofs.SampleLemmas.{estate_of-sample}
-use Rattle.np_sample.proofs.WorkloadLemmas.{workload_count-sample}
-use Rattle.np_sample.specs.Estate.{sample_estate}
+use Rattle.np_command_sample.proofs.SampleLemmas.{estate_of-sample}
+use Rattle.np_command_sample.proofs.WorkloadLemmas.{workload_count-sample}
+use Rattle.np_command_sample.specs.Estate.{sample_estate}
 use Rattle.np_sample.specs.Sample.{sample_text}
 use Rattle.np_model.specs.declared.lists.EstateLists.{EstateLists}
 use Rattle.np_fold.specs.Workloads.{workload_count}

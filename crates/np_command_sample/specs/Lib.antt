@@ -1,2 +1,4 @@
+pub mod Estate
 pub mod Promise
 pub mod Report
+pub mod Types

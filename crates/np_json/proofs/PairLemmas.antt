@@ -1,4 +1,4 @@
--- Pairs of texts, entry by entry of a map.
+-- Pairs of texts, entry by entry of a map. For `pairs_of_members`.
 use Rattle.std.proofs.Common.{◌≡◌, ℕ, List, [], ◌∷◌, ◌++◌, Option, Some, None, option_map, String, Global, string_bytes, map, nat_cmp, Less, refl, sym, ap, ◌∙◌, subst, append_assoc}
 use Rattle.std.proofs.lemmas.List.{append-nil}
 use Rattle.std.specs.Cmp.Lexicographic.{slice_cmp}

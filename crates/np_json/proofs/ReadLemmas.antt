@@ -1,16 +1,10 @@
--- What a reader answered, and what that says of the value.
-use Rattle.std.proofs.Common.{ℕ, List, ◌++◌, Bool, true, false, IsUtf8, refl, ◌≡◌, Ok, Err, ◌^◌, ◌≤◌, arith, le-leb, lt-ltb, ◌&&◌}
-use Rattle.serde_json.specs.Written.{comma_if}
+-- What a reader answered, and what that says of the value. For crates above.
+use Rattle.std.proofs.Common.{ℕ, List, Bool, true, refl, ◌≡◌, Ok, Err, ◌^◌, ◌≤◌, arith, le-leb, lt-ltb, ◌&&◌}
 use Rattle.serde_json.specs.Data.{string, number, unsigned}
 use Rattle.np_model.specs.Words.{is_name}
 use Rattle.np_json.specs.Shapes.{Read, under, refuse_if}
 use Rattle.np_json.specs.Types.{NamespacedName, Step}
 use Rattle.np_json.specs.Scalars.{name, port}
-use Rattle.np_base.proofs.Texts.{IsUtf8-byte}
-
-pub IsUtf8-comma : (later : Bool) (s : List ℕ) → IsUtf8 s → IsUtf8 (comma_if later ++ s)
-IsUtf8-comma true s utf8 = IsUtf8-byte 44 refl s utf8
-IsUtf8-comma false s utf8 = utf8
 
 -- what is read under a step was read
 pub under-output : {A : Type 0} (step : Step) (read : Read A) (output : A) → under step read ≡ Ok output → read ≡ Ok output

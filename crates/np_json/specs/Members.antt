@@ -2,7 +2,6 @@
 use Rattle.std.specs.Prelude.{ℤ, ℕ, List, [], ◌∷◌, Bool, if◌then◌else◌, is_some, Option, Some, None, option_map, option_and_then}
 use Rattle.serde_json.specs.Data.{Data, null, boolean, number, string, array, object, Items, Members, no_members, member}
 use Rattle.serde_json.specs.Find.{get, as_i64, as_null, as_number, as_str, as_bool, as_array, as_object}
-use Rattle.serde_json.specs.View.{items_of}
 use Rattle.np_json.specs.declared.field.Field.{Field}
 use Rattle.np_json.specs.declared.field.Field.TheVariants.{Missing, Wrong, Given}
 use Rattle.np_json.specs.declared.field.NumberOrText.{NumberOrText}
@@ -92,18 +91,3 @@ scalar_of name value = field_by as_scalar (member_of name value)
 
 abbrev pub pairs_of : List ℕ → Data → Field (List (List ℕ × List ℕ))
 pairs_of name value = field_by as_pairs (member_of name value)
-
--- ---- values in short
-
--- members of these names and values
-abbrev pub members_with : List (List ℕ × Data) → Members
-members_with [] = no_members
-members_with (entry ∷ entries) = member entry.0 entry.1 (members_with entries)
-
--- an object of these members
-abbrev pub object_with : List (List ℕ × Data) → Data
-object_with entries = object (members_with entries)
-
--- a list of these values
-abbrev pub list_with : List Data → Data
-list_with values = array (items_of values)

@@ -1,10 +1,10 @@
--- No number of a policy is a float.
+-- No number of a policy is a float. For `print_policy`.
 use Rattle.std.proofs.Common.{◌≡◌, ℕ, List, [], ◌∷◌, ◌++◌, ◌==◌, Bool, true, false, map, Option, Some, None, codes, if◌then◌else◌, is_some, option_map, refl}
 use Rattle.std.proofs.lemmas.Bool.{or_parts}
 use Rattle.serde_json.specs.Data.{Data, number, string, unsigned}
 use Rattle.serde_json.specs.View.{items_of}
 use Rattle.serde_json.specs.Written.{has_float, items_have_float, members_have_float}
-use Rattle.np_json.specs.Members.{members_with, list_with}
+use Rattle.np_written.specs.Values.{members_with, list_with}
 use Rattle.np_manifests.specs.Types.{Block, Direction, Egress, Ingress, Named, NetPeer, NetPolicy, NetPort, NetRule, Pods, Requirement, Selector, Span}
 use Rattle.np_manifests.specs.Manifests as manifests
 use Rattle.np_manifests.specs.Members.{if_given, if_some}

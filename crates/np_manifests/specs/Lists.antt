@@ -2,7 +2,7 @@
 use Rattle.std.specs.Prelude.{ℕ, List, [], ◌∷◌, ◌++◌, codes, map}
 use Rattle.serde_json.specs.Data.{Data, string}
 use Rattle.serde_json.specs.Written.{compact_text}
-use Rattle.np_json.specs.Members.{object_with, list_with}
+use Rattle.np_written.specs.Values.{object_with, list_with}
 use Rattle.np_manifests.specs.Types.{NetPolicy}
 use Rattle.np_manifests.specs.Manifests.{policy}
 

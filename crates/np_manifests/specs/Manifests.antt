@@ -2,7 +2,7 @@
 -- their names.
 use Rattle.std.specs.Prelude.{ℕ, List, [], ◌∷◌, ◌++◌, map, Bool, ◌==◌, if◌then◌else◌, is_some, Option, option_map, codes}
 use Rattle.serde_json.specs.Data.{Data, number, string, unsigned}
-use Rattle.np_json.specs.Members.{object_with, list_with}
+use Rattle.np_written.specs.Values.{object_with, list_with}
 use Rattle.np_addr.specs.AddressText.{cidr_text}
 use Rattle.np_manifests.specs.Types.{Absent, Block, Cidr, Direction, Egress, Ingress, Named, NetPeer, NetPolicy, NetPort, NetRule, NoneOf, OneOf, Op, Pods, Present, Proto, Requirement, Selector, Span}
 use Rattle.np_conns.specs.ConnsText.{proto_name}

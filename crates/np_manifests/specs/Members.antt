@@ -1,7 +1,7 @@
 -- JSON in short: objects by their members, some of which may be left out, and lists.
 use Rattle.std.specs.Prelude.{ℕ, List, [], ◌∷◌, Option, Some, None, fold}
 use Rattle.serde_json.specs.Data.{Data, Members, put}
-use Rattle.np_json.specs.Members.{list_with}
+use Rattle.np_written.specs.Values.{list_with}
 
 -- a member, where there is a value for it
 abbrev pub if_given : List ℕ → Option Data → List (List ℕ × Data)

@@ -1,7 +1,6 @@
-//! NetworkPolicies as JSON: the text of each, and of a list of them, which are read as these very policies.
+//! NetworkPolicies as JSON: the text of each, and of a list of them.
 #![tactic(auto)]
 
-mod laws;
 mod list;
 mod manifest;
 mod members;
@@ -11,8 +10,5 @@ mod port;
 mod rule;
 mod selector;
 
-pub use laws::{
-    flat_policies_are_read_again, lists_are_their_policies_joined, policies_are_read_again,
-};
 pub use list::{LIST_END, LIST_FRONT, LIST_SEPARATOR};
 pub use policy::print_policy;

@@ -1,4 +1,4 @@
--- Bytes that stand in no text of an address or of a block.
+-- Bytes that stand in no text of an address or of a block. For EndTexts and SpanTexts.
 use Rattle.std.proofs.Common.{◌≡◌, ℕ, ◌≤◌, ◌==◌, Bool, true, false, List, [], ◌∷◌, All, codes, decimal, inl, inr, ◌∙◌, append_assoc, arith}
 use Rattle.std.proofs.lemmas.Fmt.{decimal_is_IsNumeral}
 use Rattle.std.proofs.lemmas.List.Elements.{All-append, All-cons, All-nil}

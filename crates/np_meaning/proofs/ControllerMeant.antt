@@ -1,4 +1,4 @@
--- What a controller that was read has of its members.
+-- What a controller that was read has of its members. For `controllers_mean_their_members`.
 use Rattle.std.proofs.Common.{◌≡◌, ℕ, zero, suc, ℤ, pos, negsuc, List, [], Bool, false, ◌&&◌, Option, Some, None, unwrap_or, Ok, refl, sym, ap, subst, ◌∙◌, arith}
 use Rattle.std.proofs.lemmas.Bool.{ne_eqb}
 use Rattle.std.specs.Prelude.{IfOk, codes}
@@ -12,15 +12,15 @@ use Rattle.np_meaning.proofs.MetaMeant.{IsOwn, labels-meant, namespaced_name-mea
 use Rattle.np_meaning.proofs.Outputs.{OutputOf, IsOptional, optional-output}
 use Rattle.np_meaning.proofs.PodMeant.{pod_spec-meant}
 use Rattle.np_meaning.specs.ControllerMeaning.{has_replicas, is_nought, template_in, IsControllerOf, IsTemplateIn, IsTemplateOf}
-use Rattle.np_meaning.specs.ObjectMeaning.{metadata_of, number_at, AreLabelsOf}
+use Rattle.np_meaning.specs.ObjectMeaning.{metadata_of, AreLabelsOf}
 use Rattle.np_objects.specs.Controllers.{controller, controller_metadata, controller_spec, cron_job_spec, is_zero, job_template, no_spec, replicated_spec, template_spec}
 use Rattle.np_objects.specs.Labels.{label_map}
 use Rattle.np_objects.specs.Owners.{owner_reference}
 use Rattle.np_objects.specs.PodSpecs.{pod_spec}
 use Rattle.np_objects.specs.Templates.{template, template_metadata}
-use Rattle.np_policies.proofs.ReadLemmas.{bind-output, then-output, of_type-output}
-use Rattle.np_policies.specs.PolicyMeaning.{object_at, spec_of}
-use Rattle.np_policies.proofs.MemberReads.{object_at-output}
+use Rattle.np_policies.proofs.ReadLemmas.{bind-output, then-output}
+use Rattle.np_meaning.proofs.MemberReads.{of_type-output, object_at-output}
+use Rattle.np_meaning.specs.MemberMeaning.{number_at, object_at, spec_of}
 
 -- what the metadata and the spec of a controller are read as
 abbrev Metadata : Type 0

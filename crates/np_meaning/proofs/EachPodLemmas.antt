@@ -1,4 +1,4 @@
--- The pods of an estate are those of the items that were read.
+-- The pods of an estate are those of the items that were read. For `each_pod_stands_once`.
 use Rattle.std.proofs.Common.{◌≡◌, ◌≢◌, ℕ, zero, suc, ◌+◌, ◌≤◌, List, [], ◌∷◌, ◌++◌, length, reverse, get_or, nat_lt, Bool, true, false, cond, not, ◌&&◌, ◌||◌, is_some, Option, Some, None, Ok, refl}
 use Rattle.std.proofs.Common.{sym, ap, subst, ◌∙◌, arith, add-zero, zero-add}
 use Rattle.std.specs.Prelude.{codes, filter, find, option_to_list}

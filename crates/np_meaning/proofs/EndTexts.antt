@@ -1,4 +1,4 @@
--- Ends of rows are told apart by their texts.
+-- Ends of rows are told apart by their texts. For `one_text_has_one_end`.
 use Rattle.std.proofs.Common.{◌≡◌, ℕ, ◌<◌, ◌==◌, Bool, true, false, cond, List, [], ◌∷◌, ◌++◌, length, All, codes, refl, sym, ap, subst, ◌∙◌, append-nil, append_assoc, eq-eqb, lit≤}
 use Rattle.std.specs.List.{join_by, list_any}
 use Rattle.std.proofs.lemmas.Bool.{or_parts, true≢false}

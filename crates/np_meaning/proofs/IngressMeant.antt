@@ -1,4 +1,4 @@
--- An ingress that was read is what its members say.
+-- An ingress that was read is what its members say. For `ingresses_mean_their_members`.
 use Rattle.std.proofs.Common.{◌≡◌, List, [], ◌∷◌, ◌++◌, map, Bool, true, false, not, Option, Some, None, unwrap_or, codes, Ok, refl, subst}
 use Rattle.std.specs.Prelude.{option_to_list}
 use Rattle.std.specs.List.{flat_map}
@@ -9,14 +9,14 @@ use Rattle.np_json.specs.Scalars.{port, text}
 use Rattle.np_json.specs.Shapes.{has_one_of, listed, must_be_object, optional, refuse_if, required}
 use Rattle.np_meaning.specs.Types.{Backend, BadField, IngressItem, Named, Number, PortName, Resource, Service}
 use Rattle.np_meaning.proofs.MetaMeant.{namespaced_name-meant}
-use Rattle.np_meaning.proofs.Outputs.{optional-output, each-output, number_at-required, text_at-required, IsOptional, text-output}
+use Rattle.np_meaning.proofs.Outputs.{optional-output, each-output, number_at-required, IsOptional, text-output}
+use Rattle.np_meaning.proofs.MemberReads.{text_at-output, object_at-output}
 use Rattle.np_policies.proofs.ReadLemmas.{bind-output, then-output}
 use Rattle.np_meaning.proofs.PodMeant.{AreEach-append, AreEach-flat_map}
 use Rattle.np_objects.specs.Ingresses.{backend, backend_port, backend_service, http, ingress, ingress_item, ingress_spec, is_named, is_numbered, is_one, number_or_name, path, rule}
 use Rattle.np_meaning.specs.EachPod.{AreEach}
-use Rattle.np_meaning.specs.ObjectMeaning.{backends_in, list_at, text_at, IsBackend, IsBackendPort, IsIngressOf}
-use Rattle.np_policies.specs.PolicyMeaning.{object_at}
-use Rattle.np_policies.proofs.MemberReads.{object_at-output}
+use Rattle.np_meaning.specs.ObjectMeaning.{backends_in, list_at, IsBackend, IsBackendPort, IsIngressOf}
+use Rattle.np_meaning.specs.MemberMeaning.{text_at, object_at}
 
 -- ---- backends
 
@@ -36,7 +36,7 @@ backend_port-meant value read is =
     by false found =
         let name = bind-output (required (codes "name") text value) (λ name. Ok (Named name)) read found in
         let made : Named name.first ≡ read = let after = name.after in cc in
-        subst (IsBackendPort value) made (text_at-required text text-output (codes "name") value name.first name.here)
+        subst (IsBackendPort value) made (text_at-output text text-output (codes "name") value name.first name.here)
 
 -- a service as a backend
 abbrev IsServiceBackend : Data → Backend → Type 0
@@ -51,7 +51,7 @@ backend_service-meant value read is =
     let port = bind-output (required (codes "port") backend_port value) (λ port. Ok (Service name.first port)) read name.after in
     let made : Service name.first port.first ≡ read = let after = port.after in cc in
     subst (IsServiceBackend value) made (
-      text_at-required text text-output (codes "name") value name.first name.here,
+      text_at-output text text-output (codes "name") value name.first name.here,
       backend_port-meant (object_at (codes "port") value) port.first
           (object_at-output backend_port (codes "port") value port.first port.here),
     )

@@ -1,4 +1,4 @@
--- An object that was read is of the version and the kind that it names.
+-- An object that was read is of the version and the kind that it names. For `objects_are_of_their_kinds`.
 use Rattle.std.proofs.Common.{◌≡◌, ℕ, List, [], Bool, true, false, cond, None, Ok, refl, sym, subst, ◌∙◌}
 use Rattle.std.specs.Prelude.{IfOk, codes}
 use Rattle.std.specs.Cmp.Lexicographic.{bytes_decides}
@@ -10,8 +10,10 @@ use Rattle.np_json.specs.Scalars.{text}
 use Rattle.np_json.specs.Shapes.{Read, ◌>>=◌, must_be_object, required}
 use Rattle.np_json.specs.declared.meta.TypeMeta.{TypeMeta}
 use Rattle.np_meaning.proofs.ControllerMeant.{controller-meant}
-use Rattle.np_meaning.proofs.Outputs.{text_at-required, text-output}
-use Rattle.np_meaning.specs.KindMeaning.{version_of, IsOfItsKind, Names}
+use Rattle.np_meaning.proofs.Outputs.{text-output}
+use Rattle.np_meaning.proofs.MemberReads.{text_at-output}
+use Rattle.np_meaning.specs.KindMeaning.{version_of, IsOfItsKind}
+use Rattle.np_meaning.specs.MemberMeaning.{IsOfKind}
 use Rattle.np_objects.specs.ControllerKinds.{kind_name}
 use Rattle.np_objects.specs.Controllers.{controller}
 use Rattle.np_objects.specs.Ingresses.{ingress}
@@ -24,25 +26,25 @@ use Rattle.np_objects.specs.declared.object.Object.TheVariants as object
 use Rattle.np_policies.proofs.ReadLemmas.{bind-output, then-output}
 
 -- the type of an object is what its members say
-type-meant : (value : Data) (meta : TypeMeta) → type_meta value ≡ Ok meta → Names meta.api_version meta.kind value
+type-meant : (value : Data) (meta : TypeMeta) → type_meta value ≡ Ok meta → IsOfKind meta.api_version meta.kind value
 unfolding type_meta
 type-meant value meta is =
     let past = then-output (must_be_object value) _ meta is in
     let version = bind-output (required (codes "apiVersion") text value) _ meta past in
     let kind = bind-output (required (codes "kind") text value) _ meta version.after in
-    subst (λ read. IfOk read (λ (meta : TypeMeta). Names meta.api_version meta.kind value)) kind.after
-    (text_at-required text text-output (codes "apiVersion") value version.first version.here, text_at-required text text-output (codes "kind") value kind.first kind.here)
+    subst (λ read. IfOk read (λ (meta : TypeMeta). IsOfKind meta.api_version meta.kind value)) kind.after
+    (text_at-output text text-output (codes "apiVersion") value version.first version.here, text_at-output text text-output (codes "kind") value kind.first kind.here)
 
 -- what the members say where their texts are these
-called : (version kind one other : List ℕ) (value : Data) → Names version kind value → bytes_eq version one ≡ true → bytes_eq kind other ≡ true → Names one other value
+called : (version kind one other : List ℕ) (value : Data) → IsOfKind version kind value → bytes_eq version one ≡ true → bytes_eq kind other ≡ true → IsOfKind one other value
 called version kind one other value names first second = (names.0 ∙ (bytes_decides version one).0 first, names.1 ∙ (bytes_decides kind other).0 second)
 
 -- a controller that was read is of the kind by which it was read
-controlled : (kind : ControllerKind) (item : ControllerItem) (value : Data) → Names (version_of kind) (kind_name kind) value → controller kind value ≡ Ok item →
+controlled : (kind : ControllerKind) (item : ControllerItem) (value : Data) → IsOfKind (version_of kind) (kind_name kind) value → controller kind value ≡ Ok item →
     IsOfItsKind value (object.Controller item)
 controlled kind item value names is =
     let same = (controller-meant kind value item is).kind in
-    subst (λ (kind : ControllerKind). Names (version_of kind) (kind_name kind) value × (controller kind value ≡ Ok item)) (sym same) (names, is)
+    subst (λ (kind : ControllerKind). IsOfKind (version_of kind) (kind_name kind) value × (controller kind value ≡ Ok item)) (sym same) (names, is)
 
 -- what was read by the definition of a kind is so of the object
 taken : {A : Type 0} (value : Data) (one : Read A) (make : A → Object) (read : Object) → ((item : A) → one ≡ Ok item → IsOfItsKind value (make item)) → (one >>= λ item. Ok (make item)) ≡ Ok read →
@@ -61,7 +63,7 @@ listed test false false true networking one two three four = refl
 listed test false false false true one two three four = refl
 listed test false false false false one two three four = refl
 
-module _ (value : Data) (meta : TypeMeta) (names : Names meta.api_version meta.kind value) (read : Object)
+module _ (value : Data) (meta : TypeMeta) (names : IsOfKind meta.api_version meta.kind value) (read : Object)
     (is : object_by (cond (bytes_eq meta.api_version (codes "v1")) (lookup (bytes_eq meta.kind) (kinds_of (codes "v1")))
     (cond (bytes_eq meta.api_version (codes "apps/v1")) (lookup (bytes_eq meta.kind) (kinds_of (codes "apps/v1")))
     (cond (bytes_eq meta.api_version (codes "batch/v1")) (lookup (bytes_eq meta.kind) (kinds_of (codes "batch/v1")))

@@ -1,4 +1,4 @@
--- Names and labels that were read are what the metadata says.
+-- Names and labels that were read are what the metadata says. For ControllerMeant, IngressMeant and 3 more.
 use Rattle.std.proofs.Common.{◌≡◌, ℕ, List, [], ◌∷◌, ◌++◌, length, map, reverse, Bool, true, false, cond, not, ◌==◌, is_some, Option, Some, None, option_and_then, option_map, unwrap_or, codes, Ok, refl, sym, ap, subst, ◌∙◌, arith}
 use Rattle.std.specs.List.{list_all}
 use Rattle.std.specs.Str.{bytes_eq}
@@ -15,12 +15,12 @@ use Rattle.np_meaning.specs.Types.{BadField, BadName, Pair}
 use Rattle.np_json.specs.declared.meta.NamespacedName.{NamespacedName}
 use Rattle.np_labels.proofs.PairLists.{value_of-labels_of}
 use Rattle.np_labels.specs.Labels.{labels_of, value_of, pair_of}
-use Rattle.np_meaning.proofs.Outputs.{optional-output, text_at-required, IsOptional, text-output}
-use Rattle.np_policies.proofs.ReadLemmas.{bind-output, then-output, of_type-output}
+use Rattle.np_meaning.proofs.Outputs.{optional-output, IsOptional, text-output}
+use Rattle.np_meaning.proofs.MemberReads.{text_at-output, of_type-output, name-output}
+use Rattle.np_policies.proofs.ReadLemmas.{bind-output, then-output}
 use Rattle.np_objects.specs.Labels.{label_map}
-use Rattle.np_meaning.specs.ObjectMeaning.{last_text, text_at, AreLabelsOf}
-use Rattle.np_policies.proofs.MemberReads.{name-output}
-use Rattle.np_policies.specs.PolicyMeaning.{named_or_default}
+use Rattle.np_meaning.specs.ObjectMeaning.{last_text, AreLabelsOf}
+use Rattle.np_meaning.specs.MemberMeaning.{text_at, named_or_default}
 
 -- ---- names
 
@@ -59,7 +59,7 @@ namespaced_name-meant value own is =
     let made : record { namespace = unwrap_or space.first (codes "default"); name = called.first } ≡ own = let after = space.after in cc in
     subst (IsOwn value) made (record {
       namespace = namespace-meant (member_of (codes "namespace") value) space.first (optional-output meta.namespace (codes "namespace") value space.first space.here);
-      name = text_at-required name name-output (codes "name") value called.first called.here;
+      name = text_at-output name name-output (codes "name") value called.first called.here;
     })
 
 -- ---- labels

@@ -1,4 +1,4 @@
--- The names of workloads: no two are equal, and each has the name of a pod's owner in it.
+-- The names of workloads: no two are equal, and each has the name of a pod's owner in it. For EndTexts and RowTexts.
 use Rattle.std.proofs.Common.{◌≡◌, ℕ, ◌<◌, ◌≤◌, List, [], ◌++◌, length, get_or, slice_get, All, Some, Less, sym, ap, subst, inl, inr, arith}
 use Rattle.std.specs.Cmp.Lexicographic.{slice_cmp}
 use Rattle.std.specs.List.Sorted.{IsStrictlySortedBy}

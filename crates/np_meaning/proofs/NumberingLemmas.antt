@@ -1,4 +1,4 @@
--- Namesakes are numbered in the order of their places.
+-- Namesakes are numbered in the order of their places. For `numbers_follow_places`.
 use Rattle.std.proofs.Common.{◌≡◌, ℕ, zero, suc, ◌+◌, ◌<◌, ◌≤◌, List, ◌∷◌, ◌++◌, length, filter, cond, nat_lt, Bool, true, false, refl, sym, ap, subst, ◌∙◌, arith}
 use Rattle.std.specs.Prelude.{codes, decimal, ◌==◌}
 use Rattle.std.specs.List.{range_with_len}

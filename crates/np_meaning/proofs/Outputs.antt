@@ -1,4 +1,4 @@
--- What follows from a shape having read an output.
+-- What follows from a shape having read an output. For ControllerMeant, IngressMeant and 4 more.
 use Rattle.std.proofs.Common.{◌≡◌, ℕ, pos, ◌+◌, List, [], ◌∷◌, Bool, false, Option, Some, None, unwrap_or, Ok, Err, refl, ap, subst}
 use Rattle.serde_json.specs.Data.{Data, object, Items, no_items, item, no_members}
 use Rattle.serde_json.specs.Find.{as_array, as_bool, as_str}
@@ -8,12 +8,11 @@ use Rattle.np_json.specs.Scalars.{flag, name, port, text}
 use Rattle.np_json.specs.Shapes.{Read, ◌>>=◌, each_item, given, list_by, listed, optional, read_member, required, under}
 use Rattle.np_json.specs.declared.path.Step.TheVariants.{Field, Item}
 use Rattle.np_json.proofs.ReadLemmas.{under-output}
-use Rattle.np_policies.proofs.ReadLemmas.{bind-output, of_type-output}
+use Rattle.np_policies.proofs.ReadLemmas.{bind-output}
+use Rattle.np_meaning.proofs.MemberReads.{of_type-output, object_at-output, port-whole}
 use Rattle.np_meaning.specs.EachPod.{AreEach}
-use Rattle.np_meaning.specs.ObjectMeaning.{is_true_at, list_at, number_at, text_at}
-use Rattle.np_policies.specs.PolicyMeaning.{object_at}
-use Rattle.np_policies.proofs.MemberReads.{object_at-output}
-use Rattle.np_policies.proofs.AdminMeant.{port-whole}
+use Rattle.np_meaning.specs.ObjectMeaning.{is_true_at, list_at}
+use Rattle.np_meaning.specs.MemberMeaning.{number_at, text_at, object_at}
 
 -- what a definition of a reading gives
 abbrev pub OutputOf : {A : Type 0} → (Data → Read A) → Type 0
@@ -91,11 +90,6 @@ each-output shape Has so name value outputs is = AreEach-weaker (λ d output. sh
 
 pub text-output : (value : Data) (s : List ℕ) → text value ≡ Ok s → as_str value ≡ Some s
 text-output value s is = of_type-output (as_str value) s is
-
--- the text of a required member
-pub text_at-required : (shape : Data → Read (List ℕ)) → ((value : Data) (s : List ℕ) → shape value ≡ Ok s → as_str value ≡ Some s) → (name : List ℕ) (value : Data) (s : List ℕ) →
-    required name shape value ≡ Ok s → text_at name value ≡ s
-text_at-required shape reads name value s is = rw (reads (object_at name value) s (object_at-output shape name value s is)) refl
 
 -- the number of a required member
 pub number_at-required : (name : List ℕ) (value : Data) (n : ℕ) → required name port value ≡ Ok n → number_at name value ≡ Some (pos n)

@@ -1,5 +1,5 @@
 -- Who owns an item: what stands over its place is the controller that its reference names, and the chains of places are chains
--- of controllers, each of which owns what is below it.
+-- of controllers, each of which owns what is below it. For TemplatePodLemmas.
 use Rattle.std.proofs.Common.{◌≡◌, ℕ, zero, suc, ◌+◌, ◌<◌, List, [], ◌∷◌, ◌++◌, length, get_or, Bool, true, false, cond, ◌||◌, nat_eq, Option, Some, None, refl, sym, ap, subst, ◌∙◌, arith, eq-eqb, lt-ltb, append-nil, zero-add}
 use Rattle.std.specs.Prelude.{codes}
 use Rattle.std.specs.List.{AllByRecursion, Contains, list_any, position_or_len, slice_get}

@@ -1,4 +1,4 @@
--- A pod and a namespace that were read are what their members say.
+-- A pod and a namespace that were read are what their members say. For `namespaces_mean_their_members` and `pods_mean_their_members`.
 use Rattle.std.proofs.Common.{◌≡◌, ℕ, pos, List, [], ◌∷◌, ◌++◌, length, Bool, true, false, cond, ◌||◌, ◌==◌, fold, Option, Some, None, option_map, unwrap_or, codes, Ok, refl, sym, ap, subst, ◌∙◌, arith}
 use Rattle.std.specs.Prelude.{IfOk, filter}
 use Rattle.std.specs.List.{filter_map, flat_map, list_any}
@@ -16,20 +16,20 @@ use Rattle.np_json.specs.Meta.{namespaced_name}
 use Rattle.np_json.specs.Scalars.{flag, name, port, protocol_name, text, word}
 use Rattle.np_json.specs.Shapes.{given, listed, must_be_object, optional, or_refuse, required}
 use Rattle.np_meaning.proofs.MetaMeant.{labels-meant, namespaced_name-meant, IsOwn}
-use Rattle.np_meaning.proofs.Outputs.{OutputOf, optional-output, each-output, number_at-required, is_true_at-optional, text_at-optional, text_at-required, IsOptional, text-output}
-use Rattle.np_policies.proofs.ReadLemmas.{bind-output, then-output, word-output}
+use Rattle.np_meaning.proofs.Outputs.{OutputOf, optional-output, each-output, number_at-required, is_true_at-optional, text_at-optional, IsOptional, text-output}
+use Rattle.np_meaning.proofs.MemberReads.{text_at-output, word-output, object_at-output, name-output}
+use Rattle.np_policies.proofs.ReadLemmas.{bind-output, then-output}
 use Rattle.np_objects.specs.Labels.{label_map}
 use Rattle.np_objects.specs.Lists.{unless_empty}
 use Rattle.np_objects.specs.Namespaces.{namespace, namespace_metadata}
 use Rattle.np_meaning.specs.EachPod.{AreEach}
-use Rattle.np_meaning.specs.ObjectMeaning.{has_name, is_address, is_final, is_text_empty, list_at, is_true_at, named_ports, number_at, protocol_of, says_address, text_at, AreLabelsOf, IsContainerPort, IsNamespaceOf, IsPodOf}
+use Rattle.np_meaning.specs.ObjectMeaning.{has_name, is_address, is_final, is_text_empty, list_at, is_true_at, named_ports, says_address, AreLabelsOf, IsContainerPort, IsNamespaceOf, IsPodOf}
 use Rattle.np_objects.specs.Owners.{owner_reference}
 use Rattle.np_objects.specs.PodSpecs.{container, pod_spec}
 use Rattle.np_objects.specs.Pods.{pod, pod_item, pod_metadata}
 use Rattle.np_objects.specs.Ports.{container_port, if_named, port_name}
 use Rattle.np_objects.specs.Statuses.{address, address_by, distinct, has_address, is_finished, is_same, kept_with, no_status, pod_ip, pod_status}
-use Rattle.np_policies.specs.PolicyMeaning.{object_at}
-use Rattle.np_policies.proofs.MemberReads.{object_at-output, name-output}
+use Rattle.np_meaning.specs.MemberMeaning.{number_at, protocol_of, text_at, object_at}
 
 -- what the members of a pod are read as, each for itself
 abbrev PodMetadata : Type 0
@@ -316,7 +316,7 @@ namespace_metadata-meant value read is =
     let labels = bind-output (optional (codes "labels") label_map value) (λ labels. Ok (record { name = called.first; labels = unwrap_or labels [] })) read called.after in
     let made : record { name = called.first; labels = unwrap_or labels.first [] } ≡ read = let after = labels.after in cc in
     subst (λ (one : NamespaceItem). (text_at (codes "name") value ≡ one.name) × AreLabelsOf value one.labels) made
-    (text_at-required name name-output (codes "name") value called.first called.here, labels-meant value labels.first labels.here)
+    (text_at-output name name-output (codes "name") value called.first called.here, labels-meant value labels.first labels.here)
 
 pub namespace-meant : (value : Data) (read : NamespaceItem) → namespace value ≡ Ok read → IsNamespaceOf value read
 unfolding namespace

@@ -1,4 +1,4 @@
--- Rows are told apart by their texts. No end has a space in its text, and marks of families begin with one.
+-- Rows are told apart by their texts. No end has a space in its text, and marks of families begin with one. For `one_text_has_one_row`.
 use Rattle.std.proofs.Common.{◌≡◌, ℕ, ◌+◌, ◌^◌, ◌<◌, ◌≤◌, ◌==◌, Bool, true, false, cond, List, [], ◌∷◌, ◌++◌, length, get_or, slice_get, All, codes, decimal, Option, Some, None, refl, sym, ap, subst, ◌∙◌, append-nil, arith, lit≤}
 use Rattle.std.specs.List.{list_all}
 use Rattle.std.proofs.lemmas.Bool.{and_parts, eqb-true, false_from_ne_true, true≢false}

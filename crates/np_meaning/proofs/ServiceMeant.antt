@@ -1,4 +1,4 @@
--- A service that was read is what its members say.
+-- A service that was read is what its members say. For `services_mean_their_members`.
 use Rattle.std.proofs.Common.{◌≡◌, ℕ, ℤ, pos, negsuc, zero, suc, List, [], ◌∷◌, map, false, Option, Some, None, option_map, unwrap_or, codes, Ok, refl, sym, ap, subst, ◌∙◌, arith}
 use Rattle.std.specs.List.{list_all}
 use Rattle.std.specs.Option.{option_flatten}
@@ -21,12 +21,11 @@ use Rattle.np_policies.proofs.ReadLemmas.{bind-output, then-output}
 use Rattle.np_meaning.proofs.PodMeant.{port_name-meant, port_name-output, protocol-meant, IsTextOr}
 use Rattle.np_objects.specs.Controllers.{is_zero}
 use Rattle.np_meaning.specs.EachPod.{AreEach}
-use Rattle.np_meaning.specs.ObjectMeaning.{entries_at, have_entries, is_text_of, list_at, number_at, target_at, text_at, IsServiceOf, IsServicePort, IsServiceSelector}
+use Rattle.np_meaning.specs.ObjectMeaning.{have_entries, is_text_of, list_at, target_at, IsServiceOf, IsServicePort, IsServiceSelector}
 use Rattle.np_objects.specs.Ports.{port_name}
 use Rattle.np_objects.specs.Services.{by_name, by_number, is_text, selector_of, service, service_item, service_port, service_spec, target_by, target_port}
-use Rattle.np_policies.specs.PolicyMeaning.{object_at}
-use Rattle.np_policies.proofs.MemberReads.{object_at-output}
-use Rattle.np_policies.proofs.AdminMeant.{port_number-whole}
+use Rattle.np_meaning.specs.MemberMeaning.{entries_at, number_at, text_at, object_at}
+use Rattle.np_meaning.proofs.MemberReads.{object_at-output, port_number-whole}
 
 -- what the spec of a service is read as
 abbrev ServiceSpec : Type 0

@@ -1,4 +1,4 @@
--- Ranges of addresses are told apart by their texts.
+-- Ranges of addresses are told apart by their texts. For `one_text_has_one_span`.
 use Rattle.std.proofs.Common.{◌≡◌, ℕ, ◌≤◌, ◌==◌, ◌&&◌, ◌||◌, nat_le, Bool, true, false, cond, List, [], ◌∷◌, ◌++◌, get_or, map, All, codes, refl, sym, ap, subst, ◌∙◌, append-nil, append_assoc, arith, lit≤}
 use Rattle.std.specs.List.{join_by}
 use Rattle.std.proofs.lemmas.Bool.{and_from, or_left, eqb-true, false≢true, le-leb, leb-true}

@@ -1,4 +1,4 @@
--- The rows of the table have ends of the estate, and connections of which no two ranges touch.
+-- The rows of the table have ends of the estate, and connections of which no two ranges touch. For `rows_of_the_table_are_of_the_estate`.
 use Rattle.std.proofs.Common.{ℕ, ◌+◌, ◌-◌, ◌^◌, ◌≤◌, List, [], ◌∷◌, ◌++◌, map, length, Bool, true, false, cond, All, Option, Some, None, subst, arith}
 use Rattle.std.specs.List.{flat_map, range_with_len}
 use Rattle.std.proofs.lemmas.List.Elements.{All-append, All-cons, All-map, All-nil, All-weaker}

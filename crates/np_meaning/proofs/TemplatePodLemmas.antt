@@ -1,4 +1,4 @@
--- Which controllers stand for a pod.
+-- Which controllers stand for a pod. For `controllers_without_pods_have_template_pods`.
 use Rattle.std.proofs.Common.{◌≡◌, ◌↔◌, ℕ, zero, suc, ◌+◌, ◌<◌, ◌≤◌, List, [], ◌∷◌, length, map, Bool, true, false, cond, not, ◌&&◌, ◌||◌, is_some, is_none, nat_eq, nat_le}
 use Rattle.std.proofs.Common.{Option, Some, None, Result, Ok, Err, refl, sym, ap, ◌∙◌, zero-add}
 use Rattle.std.specs.Prelude.{⊤}

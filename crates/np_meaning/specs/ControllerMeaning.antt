@@ -4,9 +4,9 @@ use Rattle.std.specs.Prelude.{◌≡◌, ℤ, pos, negsuc, zero, suc, Bool, true
 use Rattle.serde_json.specs.Data.{Data}
 use Rattle.np_json.specs.Members.{member_of}
 use Rattle.np_meaning.specs.EachPod.{AreEach}
-use Rattle.np_meaning.specs.ObjectMeaning.{metadata_of, named_ports, number_at, is_true_at, AreLabelsOf, IsContainerPort, IsNamed}
+use Rattle.np_meaning.specs.ObjectMeaning.{metadata_of, named_ports, is_true_at, AreLabelsOf, IsContainerPort, IsNamed}
 use Rattle.np_meaning.specs.Types.{ControllerItem, ControllerKind, CronJob, DaemonSet, Deployment, Job, ReplicaSet, ReplicationController, StatefulSet, Template}
-use Rattle.np_policies.specs.PolicyMeaning.{object_at, spec_of}
+use Rattle.np_meaning.specs.MemberMeaning.{number_at, object_at, spec_of}
 
 -- where the spec of a controller of a kind has the template of its pods: a CronJob in the template of its jobs
 abbrev pub template_in : ControllerKind → Data → Option Data

@@ -1,7 +1,7 @@
 -- Which version and kind make an object what it is read as.
 use Rattle.std.specs.Prelude.{◌≡◌, ℕ, List, codes, Ok, ⊤}
 use Rattle.serde_json.specs.Data.{Data}
-use Rattle.np_meaning.specs.ObjectMeaning.{text_at}
+use Rattle.np_meaning.specs.MemberMeaning.{IsOfKind}
 use Rattle.np_objects.specs.ControllerKinds.{kind_name}
 use Rattle.np_objects.specs.Controllers.{controller}
 use Rattle.np_objects.specs.Ingresses.{ingress}
@@ -21,15 +21,11 @@ version_of DaemonSet = codes "apps/v1"
 version_of Job = codes "batch/v1"
 version_of CronJob = codes "batch/v1"
 
--- the version and the kind that an object names
-abbrev pub Names : List ℕ → List ℕ → Data → Type 0
-Names version kind value = (text_at (codes "apiVersion") value ≡ version) × (text_at (codes "kind") value ≡ kind)
-
 -- what is read as an object of a kind names that kind, in the version that is read
 abbrev pub IsOfItsKind : Data → Object → Type 0
-IsOfItsKind value (object.Pod read) = Names (codes "v1") (codes "Pod") value × (pod value ≡ Ok read)
-IsOfItsKind value (object.Namespace read) = Names (codes "v1") (codes "Namespace") value × (namespace value ≡ Ok read)
-IsOfItsKind value (object.Controller read) = Names (version_of read.kind) (kind_name read.kind) value × (controller read.kind value ≡ Ok read)
-IsOfItsKind value (object.Service read) = Names (codes "v1") (codes "Service") value × (service value ≡ Ok read)
-IsOfItsKind value (object.Ingress read) = Names (codes "networking.k8s.io/v1") (codes "Ingress") value × (ingress value ≡ Ok read)
+IsOfItsKind value (object.Pod read) = IsOfKind (codes "v1") (codes "Pod") value × (pod value ≡ Ok read)
+IsOfItsKind value (object.Namespace read) = IsOfKind (codes "v1") (codes "Namespace") value × (namespace value ≡ Ok read)
+IsOfItsKind value (object.Controller read) = IsOfKind (version_of read.kind) (kind_name read.kind) value × (controller read.kind value ≡ Ok read)
+IsOfItsKind value (object.Service read) = IsOfKind (codes "v1") (codes "Service") value × (service value ≡ Ok read)
+IsOfItsKind value (object.Ingress read) = IsOfKind (codes "networking.k8s.io/v1") (codes "Ingress") value × (ingress value ≡ Ok read)
 IsOfItsKind value object.Other = ⊤

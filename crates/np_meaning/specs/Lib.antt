@@ -1,8 +1,12 @@
+pub mod AdminMeaning
 pub mod ControllerMeaning
 pub mod EachPod
 pub mod EstateRows
 pub mod KindMeaning
+pub mod MemberMeaning
 pub mod Numbering
 pub mod ObjectMeaning
+pub mod PolicyMeaning
+pub mod SelectorMeaning
 pub mod TemplatePods
 pub mod Types

@@ -4,40 +4,27 @@ use Rattle.std.specs.Prelude.{◌≡◌, ℕ, ℤ, pos, negsuc, zero, suc, List,
 use Rattle.std.specs.List.{flat_map, list_any}
 use Rattle.std.specs.Str.{bytes_eq}
 use Rattle.serde_json.specs.Data.{Data, no_items, Members, no_members, member}
-use Rattle.serde_json.specs.Find.{as_str, as_bool, as_array, as_object}
+use Rattle.serde_json.specs.Find.{as_str, as_bool, as_array}
 use Rattle.np_items.specs.Inputs.{values}
 use Rattle.np_addr.specs.AddressGrammar.{address_of}
-use Rattle.np_meaning.specs.Types.{Address, Backend, IngressItem, Named, NamedPort, NamespaceItem, Number, Pair, PodItem, PortName, Proto, Resource, Service, ServiceItem, ServicePort, Tcp}
-use Rattle.np_conns.specs.ConnsText.{proto_named}
-use Rattle.np_json.specs.Members.{as_whole, member_of}
+use Rattle.np_meaning.specs.Types.{Address, Backend, IngressItem, Named, NamedPort, NamespaceItem, Number, Pair, PodItem, PortName, Resource, Service, ServiceItem, ServicePort}
+use Rattle.np_json.specs.Members.{member_of}
 use Rattle.np_labels.specs.Labels.{value_of}
 use Rattle.np_labels.specs.Selectors.{meets_selector}
 use Rattle.np_labels.specs.declared.selector.Selector.{Selector}
 use Rattle.np_objects.specs.Statuses.{has_address, is_same}
 use Rattle.np_meaning.specs.EachPod.{AreEach}
-use Rattle.np_policies.specs.PolicyMeaning.{object_at, spec_of, named_or_default}
+use Rattle.np_meaning.specs.MemberMeaning.{entries_at, named_or_default, number_at, object_at, protocol_of, spec_of, text_at}
 
 -- ---- members
-
--- the text of a member, and the empty text where there is none
-abbrev pub text_at : List ℕ → Data → List ℕ
-text_at name value = unwrap_or (as_str (object_at name value)) []
 
 -- whether a member is `true`
 abbrev pub is_true_at : List ℕ → Data → Bool
 is_true_at name value = unwrap_or (as_bool (object_at name value)) false
 
--- the whole number of a member, if it is one
-abbrev pub number_at : List ℕ → Data → Option ℤ
-number_at name value = as_whole (object_at name value)
-
 -- the items of a member, and none where it is missing
 abbrev pub list_at : List ℕ → Data → List Data
 list_at name value = values (unwrap_or (as_array (object_at name value)) no_items)
-
--- the entries of a member, and none where it is missing
-abbrev pub entries_at : List ℕ → Data → Members
-entries_at name value = unwrap_or (as_object (object_at name value)) no_members
 
 abbrev pub metadata_of : Data → Data
 metadata_of value = object_at (codes "metadata") value
@@ -61,10 +48,6 @@ abbrev pub AreLabelsOf : Data → List Pair → Type 0
 AreLabelsOf metadata labels = (key : List ℕ) → value_of labels key ≡ last_text (entries_at (codes "labels") metadata) key
 
 -- ---- ports of containers
-
--- the protocol that `protocol` names, and TCP where it is missing
-abbrev pub protocol_of : Data → Proto
-protocol_of entry = unwrap_or (proto_named (text_at (codes "protocol") entry)) Tcp
 
 abbrev pub is_text_empty : List ℕ → Bool
 is_text_empty [] = true

@@ -1,10 +1,11 @@
-//! What is read, said again: what the members of each object mean, which pods an estate has, and how workloads of one name
+//! What is read, said again: what the members of each object and policy mean, which pods an estate has, and how workloads of one name
 //! are numbered. And what is printed: a text of a row tells what it stands for. The laws are about the definitions of the
 //! crates below, in the words of the Kubernetes API, so that a slip in a definition is refused here. Nothing stands on this
 //! crate.
 #![tactic(auto)]
 
 mod laws;
+mod policy_laws;
 mod text_laws;
 
 pub use laws::{
@@ -12,6 +13,12 @@ pub use laws::{
     each_pod_stands_once, ingresses_mean_their_members, namespaces_mean_their_members,
     numbers_follow_places, objects_are_of_their_kinds, pods_mean_their_members,
     services_mean_their_members,
+};
+pub use policy_laws::{
+    admin_policies_mean_their_members, baseline_policies_mean_their_members, empty_selector_is_met,
+    network_policies_mean_their_members, other_kinds_are_no_policy, peers_mean_their_members,
+    policies_are_well_formed, policy_types_mean_their_members, port_entries_mean_their_members,
+    selectors_mean_their_members, well_blocks_are_tested,
 };
 pub use text_laws::{
     one_text_has_one_end, one_text_has_one_row, one_text_has_one_span,

@@ -1,4 +1,4 @@
--- Blocks that are read are well formed.
+-- Blocks that are read are well formed. For WellLemmas.
 use Rattle.std.proofs.Common.{◌≡◌, ℕ, ◌≤◌, List, Option, Some, None, Ok, refl, sym, subst}
 use Rattle.serde_json.specs.Data.{Data}
 use Rattle.serde_json.specs.Find.{as_str}
@@ -10,8 +10,7 @@ use Rattle.np_addr.specs.declared.address.Address.{Address}
 use Rattle.np_addr.specs.declared.address.Address.TheVariants.{Four, Six}
 use Rattle.np_policies.specs.Types.{BadCidr, Cidr}
 use Rattle.np_json.specs.Scalars.{of_type}
-use Rattle.np_json.specs.Shapes.{◌>>=◌, or_refuse, required}
-use Rattle.np_policies.proofs.ReadLemmas.{required-output}
+use Rattle.np_json.specs.Shapes.{◌>>=◌, or_refuse}
 use Rattle.np_policies.specs.Blocks.{cidr}
 
 block_of-well : (address : Address) (len : ℕ) → len ≤ width_of (family_of address) → IsCidr (block_of address len)
@@ -36,9 +35,3 @@ cidr-well value block is = by (as_str value) is
     by : (read : Option (List ℕ)) → (of_type read >>= λ s. or_refuse BadCidr (cidr_of s)) ≡ Ok block → IsCidr block
     by None is = cc
     by (Some text) is = by_block (cidr_of text) text refl is
-
--- a required block is well formed
-pub required-cidr_well : (name : List ℕ) (value : Data) (block : Cidr) → required name cidr value ≡ Ok block → IsCidr block
-required-cidr_well name value block is =
-    let read = required-output cidr name value block is in
-    cidr-well read.found block read.read

@@ -1,14 +1,5 @@
-pub mod AdminMeant
 pub mod BlockLemmas
-pub mod KindLemmas
-pub mod KindReads
-pub mod MemberReads
-pub mod NetworkMeant
-pub mod PeersMeaning
-pub mod PortsMeaning
 pub mod ReadLemmas
-pub mod SelectorLemmas
-pub mod TypesMeaning
 pub mod WellAdmin
 pub mod WellLemmas
 pub mod WellNetwork

@@ -1,27 +1,25 @@
--- What follows from a shape having read an output.
-use Rattle.std.proofs.Common.{◌≡◌, ℕ, ◌+◌, List, [], ◌∷◌, Bool, not, Option, Some, None, option_and_then, unwrap_or, Ok, Err, refl, ap, ◌∙◌}
-use Rattle.std.specs.List.{list_all, list_any}
+-- What follows from a shape having read an output. For WellAdmin, WellLemmas and 3 more.
+use Rattle.std.proofs.Common.{◌≡◌, ℕ, ◌+◌, List, [], ◌∷◌, Bool, Option, Some, None, option_and_then, unwrap_or, Result, Ok, Err, refl, ap, ◌∙◌}
+use Rattle.std.specs.List.{list_all}
 use Rattle.serde_json.specs.Data.{Data, Items, no_items, item}
-use Rattle.serde_json.specs.Find.{as_array, as_str}
+use Rattle.serde_json.specs.Find.{as_array}
 use Rattle.np_json.specs.Members.{member_of}
-use Rattle.np_json.specs.Scalars.{of_type, text, word}
-use Rattle.np_json.specs.Shapes.{Read, ◌>>=◌, ◌>>◌, each_item, given, list_by, listed, optional, or_refuse, read_member, refuse, refuse_if, required, under}
-use Rattle.np_model.specs.Words.{is_word}
+use Rattle.np_json.specs.Shapes.{Read, ◌>>=◌, ◌>>◌, each_item, given, list_by, listed, optional, or_refuse, read_member, refuse, required, under}
 use Rattle.np_policies.specs.Types.{BadField, FaultKind, Field, Item}
 use Rattle.np_json.proofs.ReadLemmas.{under-output}
-use Rattle.np_policies.specs.SelectorMeaning.{all_items, any_item, items_at, text_at}
+use Rattle.np_policies.specs.Items.{all_items, items_at}
 
 -- what a line gave, and that the lines after it gave the output
-pub record IsRead {A B : Type 0} (read : Read A) (rest : A → Read B) (output : B) : Type 0 where
+pub record IsRead {A B E : Type 0} (read : Result A E) (rest : A → Result B E) (output : B) : Type 0 where
   pub first : A
   pub here : read ≡ Ok first
   pub after : rest first ≡ Ok output
 
-pub bind-output : {A B : Type 0} (read : Read A) (rest : A → Read B) (output : B) → (read >>= rest) ≡ Ok output → IsRead read rest output
+pub bind-output : {A B E : Type 0} (read : Result A E) (rest : A → Result B E) (output : B) → (read >>= rest) ≡ Ok output → IsRead read rest output
 bind-output (Ok first) rest output is = record { first = first; here = refl; after = is }
 bind-output (Err flaw) rest output is = cc
 
-pub then-output : {A B : Type 0} (read : Read A) (rest : Read B) (output : B) → (read >> rest) ≡ Ok output → rest ≡ Ok output
+pub then-output : {A B E : Type 0} (read : Result A E) (rest : Result B E) (output : B) → (read >> rest) ≡ Ok output → rest ≡ Ok output
 then-output (Ok first) rest output is = is
 then-output (Err flaw) rest output is = cc
 
@@ -106,36 +104,7 @@ module _ {A : Type 0} (shape : Data → Read A) (on_output : A → Bool) (on_ite
       let others = list_all-each_item (place + 1) items each.more each.others in
       rw (each.are, first, others) refl
 
-  pub list_any-each_item : (place : ℕ) (items : Items) (outputs : List A) → each_item shape place items ≡ Ok outputs → list_any on_output outputs ≡ any_item on_item items
-  list_any-each_item place no_items [] is = refl
-  list_any-each_item place no_items (output ∷ outputs) is = cc
-  list_any-each_item place (item value items) outputs is =
-      let each = each_item-output shape place value items outputs is in
-      let first = alike value each.output each.here in
-      let others = list_any-each_item (place + 1) items each.more each.others in
-      rw (each.are, first, others) refl
-
 -- what stands for something
 pub or_refuse-output : {A : Type 0} (kind : FaultKind) (found : Option A) (output : A) → or_refuse kind found ≡ Ok output → found ≡ Some output
 or_refuse-output kind None output is = cc
 or_refuse-output kind (Some other) output is = cc
-
--- a value of its type
-pub of_type-output : {A : Type 0} (found : Option A) (output : A) → of_type found ≡ Ok output → found ≡ Some output
-of_type-output found output is = or_refuse-output BadField found output is
-
--- a word is a text
-pub word-output : (value : Data) (s : List ℕ) → word value ≡ Ok s → as_str value ≡ Some s
-unfolding word
-word-output value s is =
-    let read = bind-output (text value) (λ s. refuse_if (not (is_word s)) BadField >> Ok s) s is in
-    let same : Ok read.first ≡ Ok s = then-output (refuse_if (not (is_word read.first)) BadField) (Ok read.first) s read.after in
-    let first : read.first ≡ s = cc in
-    of_type-output (as_str value) read.first read.here ∙ ap Some first
-
--- a required text is the text of its member
-pub text_at-output : (shape : Data → Read (List ℕ)) → ((value : Data) (s : List ℕ) → shape value ≡ Ok s → as_str value ≡ Some s) → (name : List ℕ) (value : Data) (s : List ℕ) →
-    required name shape value ≡ Ok s → text_at name value ≡ s
-text_at-output shape reads name value s is =
-    let member = required-output shape name value s is in
-    rw (member.there, reads member.found s member.read) refl

@@ -1,4 +1,4 @@
--- What is read by the shapes of admin policies is well formed.
+-- What is read by the shapes of admin policies is well formed. For WellPolicies.
 use Rattle.std.proofs.Common.{◌≡◌, ℕ, ℤ, pos, negsuc, List, [], ◌∷◌, length, Bool, true, false, not, cond, ◌&&◌, ◌==◌, nat_le, Some, None, codes, Ok, refl}
 use Rattle.std.specs.List.{list_all}
 use Rattle.std.specs.Str.{bytes_eq}

@@ -1,5 +1,5 @@
--- What is read by the shapes of selectors, blocks and ports is well formed.
-use Rattle.std.proofs.Common.{◌≡◌, ◌↔◌, ℕ, ℤ, ◌-◌, ◌%◌, ◌^◌, List, [], ◌∷◌, ◌++◌, length, map, Bool, true, false, not, cond, ◌&&◌, ◌==◌, nat_le, nat_lt, is_none, Option, Some, None, unwrap_or, codes, Ok, refl, ◌∙◌, arith}
+-- What is read by the shapes of selectors, blocks and ports is well formed. For WellAdmin, WellNetwork and crates above.
+use Rattle.std.proofs.Common.{◌≡◌, ℕ, ℤ, List, [], ◌∷◌, ◌++◌, length, map, Bool, true, false, not, cond, ◌&&◌, ◌==◌, nat_le, nat_lt, is_none, Option, Some, None, unwrap_or, codes, Ok, refl, ◌∙◌, arith}
 use Rattle.std.proofs.lemmas.Bool.Decides.{nat_tests}
 use Rattle.std.proofs.lemmas.List.Folds.{list_all-append}
 use Rattle.std.specs.List.{list_all}
@@ -22,7 +22,7 @@ use Rattle.np_policies.proofs.BlockLemmas.{cidr-well}
 use Rattle.np_policies.proofs.ReadLemmas.{bind-output, then-output, required-output, optional-output, listed-output, list_all-each_item}
 use Rattle.np_policies.specs.Blocks.{cidr, ip_block, refuse_except}
 use Rattle.np_policies.specs.Ports.{admin_port, admin_port_member, end_port, may_end, named_port, net_port, net_port_by, number_of, one_port, port_name, port_range, port_value, port_value_by, protocol}
-use Rattle.np_policies.specs.SelectorMeaning.{all_items, items_at}
+use Rattle.np_policies.specs.Items.{all_items, items_at}
 use Rattle.np_policies.specs.Selectors.{expression, fitting, has_other, key, op_named, selector}
 use Rattle.np_model.specs.WellPolicies.{is_well_admin_port, is_well_block, is_well_cidr, is_well_net_port, is_well_selector, is_worded}
 use Rattle.np_model.specs.declared.admin_policy.AdminPort.TheVariants as admin
@@ -165,23 +165,10 @@ selector-well value read is =
 
 -- ---- blocks
 
-cidr_test : (block : Cidr) → IsCidr block → is_well_cidr block ≡ true
+-- a block that is well formed passes the test
+pub cidr_test : (block : Cidr) → IsCidr block → is_well_cidr block ≡ true
 cidr_test (Four base len) is = grind (arith, nat_tests)
 cidr_test (Six base len) is = grind (arith, nat_tests)
-
-from_test : (block : Cidr) → is_well_cidr block ≡ true → IsCidr block
-from_test (Four base len) is =
-    let left = left_of (nat_le len 32) (base % 2 ^ (32 - len) == 0) is in
-    let right = right_of (nat_le len 32) (base % 2 ^ (32 - len) == 0) is in
-    (grind (arith, nat_tests), grind (arith, nat_tests))
-from_test (Six base len) is =
-    let left = left_of (nat_le len 128) (base % 2 ^ (128 - len) == 0) is in
-    let right = right_of (nat_le len 128) (base % 2 ^ (128 - len) == 0) is in
-    (grind (arith, nat_tests), grind (arith, nat_tests))
-
--- the test of a block decides whether it is well formed
-pub cidr_test-iff : (block : Cidr) → (is_well_cidr block ≡ true) ↔ IsCidr block
-cidr_test-iff block = (from_test block, cidr_test block)
 
 pub cidr_text-well : (value : Data) (block : Cidr) → cidr value ≡ Ok block → is_well_cidr block ≡ true
 cidr_text-well value block is = cidr_test block (cidr-well value block is)

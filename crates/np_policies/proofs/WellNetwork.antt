@@ -1,4 +1,4 @@
--- What is read by the shapes of NetworkPolicies is well formed.
+-- What is read by the shapes of NetworkPolicies is well formed. For WellAdmin and WellPolicies.
 use Rattle.std.proofs.Common.{◌≡◌, ℕ, List, Bool, true, false, not, ◌&&◌, Option, Some, None, unwrap_or, codes, Ok, refl}
 use Rattle.std.specs.List.{list_all}
 use Rattle.std.proofs.lemmas.Bool.{not-false, and_from}

@@ -1,4 +1,4 @@
--- What is read of any policy is well formed.
+-- What is read of any policy is well formed. For `read_policy` and crates above.
 use Rattle.std.proofs.Common.{◌≡◌, ℕ, true, Option, Some, None, codes, Result, Ok, Err, IfOk, refl}
 use Rattle.serde_json.specs.Data.{Data}
 use Rattle.np_model.specs.WellObjects.{option_all}

@@ -1,11 +1,9 @@
-pub mod AdminMeaning
 pub mod AdminPolicies
 pub mod Blocks
+pub mod Items
 pub mod NetworkPolicies
 pub mod Policies
-pub mod PolicyMeaning
 pub mod Ports
-pub mod SelectorMeaning
 pub mod Selectors
 pub mod Types
 pub mod WellFormed

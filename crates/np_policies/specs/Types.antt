@@ -4,7 +4,6 @@ pub use Rattle.np_conns.specs.declared.proto.Proto.TheVariants.{Tcp}
 pub use Rattle.np_addr.specs.declared.cidr.Cidr.{Cidr}
 pub use Rattle.np_labels.specs.declared.op.Op.{Op}
 pub use Rattle.np_labels.specs.declared.op.Op.TheVariants.{Absent, NoneOf, OneOf, Present}
-pub use Rattle.np_labels.specs.declared.pair.Pair.{Pair}
 pub use Rattle.np_labels.specs.declared.requirement.Requirement.{Requirement}
 pub use Rattle.np_labels.specs.declared.selector.Selector.{Selector}
 pub use Rattle.np_model.specs.declared.admin_policy.Action.{Action}
@@ -13,7 +12,6 @@ pub use Rattle.np_model.specs.declared.admin_policy.AdminPeer.{AdminPeer}
 pub use Rattle.np_model.specs.declared.admin_policy.AdminPeer.TheVariants.{Networks, Pods}
 pub use Rattle.np_model.specs.declared.admin_policy.AdminPolicy.{AdminPolicy}
 pub use Rattle.np_model.specs.declared.admin_policy.AdminPort.{AdminPort}
-pub use Rattle.np_model.specs.declared.admin_policy.AdminPort.TheVariants.{Named, Span}
 pub use Rattle.np_model.specs.declared.admin_policy.AdminRule.{AdminRule}
 pub use Rattle.np_model.specs.declared.admin_policy.BasePolicy.{BasePolicy}
 pub use Rattle.np_model.specs.declared.admin_policy.Subject.{Subject}
@@ -25,7 +23,7 @@ pub use Rattle.np_model.specs.declared.network_policy.NetPolicy.{NetPolicy}
 pub use Rattle.np_model.specs.declared.network_policy.NetPort.{NetPort}
 pub use Rattle.np_model.specs.declared.network_policy.NetRule.{NetRule}
 pub use Rattle.np_json.specs.declared.fault.FaultKind.{FaultKind}
-pub use Rattle.np_json.specs.declared.fault.FaultKind.TheVariants.{BadAction, BadCidr, BadExcept, BadField, BadName, BadPort, BadPriority, BadProtocol, BadSelector, BaselineName, DomainPeer, EmptyPeers, ForeignPolicy, NodePeer, PeerShape}
+pub use Rattle.np_json.specs.declared.fault.FaultKind.TheVariants.{BadAction, BadCidr, BadExcept, BadField, BadName, BadPort, BadPriority, BadSelector, BaselineName, DomainPeer, EmptyPeers, ForeignPolicy, NodePeer, PeerShape}
 pub use Rattle.np_json.specs.declared.meta.NamespacedName.{NamespacedName}
 pub use Rattle.np_json.specs.declared.meta.TypeMeta.{TypeMeta}
 pub use Rattle.np_json.specs.declared.path.Step.TheVariants.{Field, Item}

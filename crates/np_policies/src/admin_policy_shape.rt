@@ -89,11 +89,11 @@ impl Shape for BaseName {
 
 /// The members of `spec` of an AdminNetworkPolicy.
 #[derive(Drop)]
-pub(crate) struct AdminSpec {
-    priority: u16,
-    subject: Subject,
-    ingress: Seq<AdminRule>,
-    egress: Seq<AdminRule>,
+pub struct AdminSpec {
+    pub priority: u16,
+    pub subject: Subject,
+    pub ingress: Seq<AdminRule>,
+    pub egress: Seq<AdminRule>,
 }
 
 // The shape of `spec` of an AdminNetworkPolicy (network-policy-api reference, AdminNetworkPolicySpec): `priority` and

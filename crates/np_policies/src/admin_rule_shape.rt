@@ -16,7 +16,7 @@ use std::alloc::Global;
 
 /// The two kinds of policies whose rules have actions.
 #[derive(Clone, Copy)]
-pub(crate) enum Tier {
+pub enum Tier {
     Admin,
     Baseline,
 }

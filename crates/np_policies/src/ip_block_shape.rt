@@ -29,7 +29,7 @@ impl Shape for CidrText {
 
 /// The addresses of a block that are in none of its exceptions.
 #[derive(Drop)]
-pub(crate) struct IpBlock {
+pub struct IpBlock {
     pub cidr: Cidr,
     pub excepts: Seq<Cidr>,
 }

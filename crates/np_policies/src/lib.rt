@@ -7,7 +7,6 @@ mod admin_port_shape;
 mod admin_rule_shape;
 mod expression_shape;
 mod ip_block_shape;
-pub mod laws;
 mod net_peer_shape;
 mod net_policy_shape;
 mod net_port_shape;
@@ -20,3 +19,11 @@ mod subject_shape;
 
 pub use policy::Policy;
 pub use policy_shape::read_policy;
+
+// What the definitions of the shapes speak of.
+pub use admin_policy_shape::AdminSpec;
+pub use admin_rule_shape::Tier;
+pub use ip_block_shape::IpBlock;
+pub use net_policy_shape::NetSpec;
+pub use net_port_shape::PortValue;
+pub use policy_shape::PolicyKind;

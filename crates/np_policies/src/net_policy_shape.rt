@@ -35,11 +35,11 @@ impl Shape for NetPolicyShape {
 
 /// The members of `spec` of a NetworkPolicy.
 #[derive(Drop)]
-pub(crate) struct NetSpec {
-    subject: Selector,
-    types: Seq<Direction>,
-    ingress: Seq<NetRule>,
-    egress: Seq<NetRule>,
+pub struct NetSpec {
+    pub subject: Selector,
+    pub types: Seq<Direction>,
+    pub ingress: Seq<NetRule>,
+    pub egress: Seq<NetRule>,
 }
 
 // The shape of `spec` (Kubernetes API reference, NetworkPolicySpec): `podSelector`, `policyTypes`, `ingress` and

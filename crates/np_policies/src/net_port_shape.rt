@@ -33,7 +33,7 @@ impl Shape for NetPortShape {
 
 /// A port by its number or its name.
 #[derive(Drop)]
-pub(crate) enum PortValue {
+pub enum PortValue {
     Number(PortNum),
     Name(Text),
 }

@@ -19,8 +19,8 @@ use std::alloc::Global;
 /// The policy that an item of a list of objects is: a NetworkPolicy of `networking.k8s.io/v1`, or an
 /// AdminNetworkPolicy or BaselineAdminNetworkPolicy of `policy.networking.k8s.io/v1alpha1`. `None` where the item is
 /// an object whose `kind` does not end in `NetworkPolicy`. A fault is the first one of the item, by the order of the
-/// members in its shape. A policy that is read is well formed, as
-/// [`laws::policies_are_well_formed`](crate::laws::policies_are_well_formed) tells.
+/// members in its shape. A policy that is read is well formed: names are names, keys of selectors are words that are not
+/// empty, and so on (`policies_are_well_formed` of np_meaning tells all of it).
 pub fn read_policy(alloc: Global, item: u64, value: &Value) -> Result<Option<Policy>, ReadFault>
     ensures shape { GivesItem item result (policy_of (view value.now)) }
     ensures well { IfOk result (λ read. option_all is_well_policy read ≡ true) }
@@ -47,7 +47,7 @@ impl Shape for PolicyShape {
 
 /// The kinds of objects that are told apart.
 #[derive(Clone, Copy)]
-pub(crate) enum PolicyKind {
+pub enum PolicyKind {
     Net,
     Admin,
     Base,

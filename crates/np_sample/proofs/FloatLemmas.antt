@@ -1,4 +1,4 @@
--- No number of the sample is a float.
+-- No number of the sample is a float. For `sample`.
 use Rattle.std.proofs.Common.{◌≡◌, ℕ, List, [], ◌∷◌, false, refl}
 use Rattle.std.specs.List.{AllByRecursion}
 use Rattle.serde_json.specs.Data.{Data}

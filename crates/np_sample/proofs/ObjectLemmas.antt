@@ -1,4 +1,4 @@
--- What holds of each object of the sample.
+-- What holds of each object of the sample. For FloatLemmas and crates above.
 use Rattle.std.proofs.Common.{ℕ, ◌<◌}
 use Rattle.std.specs.List.{AllByRecursion}
 use Rattle.serde_json.specs.Data.{Data}

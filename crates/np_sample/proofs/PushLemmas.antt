@@ -1,4 +1,4 @@
--- Objects that are pushed one after another.
+-- Objects that are pushed one after another. For `add_namespaces`, `add_net_policies` and `add_pods`.
 use Rattle.std.proofs.Common.{◌≡◌, ℕ, ◌+◌, List, [], ◌∷◌, ◌++◌, map, sym, ap, ap₂, ◌∙◌, append_assoc, arith}
 use Rattle.std.proofs.lemmas.List.{map-append}
 use Rattle.std.proofs.lemmas.List.FromFn.{map-range_with_len_more}

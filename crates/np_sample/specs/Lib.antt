@@ -1,4 +1,2 @@
-pub mod Estate
 pub mod Objects
 pub mod Sample
-pub mod Types

@@ -1,7 +1,7 @@
 -- The objects of the sample cluster, as JSON. The members of each stand in the order of their names.
 use Rattle.std.specs.Prelude.{ℕ, ◌+◌, ◌%◌, List, [], ◌∷◌, ◌++◌, codes, decimal}
 use Rattle.serde_json.specs.Data.{Data, number, string, unsigned}
-use Rattle.np_json.specs.Members.{object_with, list_with}
+use Rattle.np_written.specs.Values.{object_with, list_with}
 
 -- ---- JSON in short
 

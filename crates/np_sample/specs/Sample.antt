@@ -3,7 +3,7 @@ use Rattle.std.specs.Prelude.{ℕ, List, [], ◌∷◌, ◌++◌, codes, map}
 use Rattle.std.specs.List.{range_with_len}
 use Rattle.serde_json.specs.Data.{Data, string}
 use Rattle.serde_json.specs.Written.{compact_text}
-use Rattle.np_json.specs.Members.{object_with, list_with}
+use Rattle.np_written.specs.Values.{object_with, list_with}
 use Rattle.np_sample.specs.Objects.{admin_policy, namespace, namespace_count, net_policy, pod}
 
 -- the objects of the sample cluster, where it has n pods

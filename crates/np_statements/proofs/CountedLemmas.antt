@@ -11,7 +11,7 @@ use Rattle.np_statements.specs.CountedLines.{IsLineOf, line_feeds}
 use Rattle.np_statements.specs.Lines.{at_line, line_read, lines_of, lines_read, statement_of, statements_of}
 use Rattle.np_statements.specs.Steps.{◌>>=◌}
 
-abbrev is_feed : ℕ → Bool
+abbrev pub is_feed : ℕ → Bool
 is_feed byte = byte == 10
 
 -- a line feed at the end is one more

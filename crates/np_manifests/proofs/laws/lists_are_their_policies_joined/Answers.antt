@@ -1,5 +1,0 @@
-use Rattle.np_manifests.proofs.ListLemmas.{list_text-joined}
-use Rattle.np_manifests.proofs.laws.lists_are_their_policies_joined.Goals as goal
-
-pub returns : goal.returns
-returns c = list_text-joined

@@ -1,5 +1,0 @@
-use Rattle.np_policies.proofs.AdminMeant.{base_policy-meant}
-use Rattle.np_policies.proofs.laws.baseline_policies_mean_their_members.Goals as goal
-
-pub returns : goal.returns
-returns c = base_policy-meant

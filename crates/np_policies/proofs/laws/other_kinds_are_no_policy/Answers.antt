@@ -1,5 +1,0 @@
-use Rattle.np_policies.proofs.KindLemmas.{no_policy, other_kind}
-use Rattle.np_policies.proofs.laws.other_kinds_are_no_policy.Goals as goal
-
-pub returns : goal.returns
-returns c = λ value. (other_kind value, λ is. no_policy value is.0 is.1 is.2)

@@ -1,5 +1,0 @@
-use Rattle.np_sample.proofs.SizeLemmas.{length-sample_text}
-use Rattle.np_sample.proofs.laws.samples_have_few_bytes.Goals as goal
-
-pub returns : goal.returns
-returns c = length-sample_text
