@@ -31,7 +31,10 @@ PROMISES = "np_cli/specs/Promises.antt"
 # Stands where the contents are to stand.
 CONTENTS = "CONTENTS"
 
-FRONT = (Path(__file__).resolve().parent / "front.txt").read_text()
+
+def prose(name):
+    """The lines of a text that stands beside this file, written by hand."""
+    return (Path(__file__).resolve().parent / name).read_text().rstrip("\n").split("\n")
 
 
 class Document:
@@ -201,7 +204,7 @@ class Document:
     def front(self):
         main = code.function_item(self.project.file("np", "src/main.rt"), "main", with_body=True)
         counted = code.function_item(self.project.file("np", "src/main.rt"), "run_counted", with_body=True)
-        lines = [*FRONT.rstrip("\n").split("\n"), "", "HOW MUCH THERE IS TO READ", "", *self.table(), ""]
+        lines = [*prose("front.txt"), "", "HOW MUCH THERE IS TO READ", "", *self.table(), ""]
         lines += ["Lines are counted without comments and empty lines; those of types as they stand in this document.",
                   "With comments, headings and empty lines the document has LINES lines, the appendix among them.", "", CONTENTS, ""]
         lines += ["", title_line("THE CONTRACT"), "", f"━━━ {self.main.home.title()}", "", *self.main.comment, *self.main.lines, ""]
@@ -218,6 +221,7 @@ class Document:
         for number, (title, part) in enumerate(zip(self.titles, self.parts), 1):
             lines += ["", title_line(f"PART {number}. {title}"), *self.part_lines(part), "", f"(Part {number}: {self.size_of(part)}.)", ""]
         names = {name for item in self.all for name in item.kit}
+        lines += ["", title_line("THE KIT IN WORDS"), "", *prose("kit.txt"), ""]
         lines += ["", title_line("APPENDIX. Names of the kit"), "",
                   "What the definitions use of the kit (Rattle) and its logic, by the modules from which they import it. A line is what",
                   "the kit's own sources say of the name, or its equations or its type there.", *kit.appendix(names, self.kit_line)]
