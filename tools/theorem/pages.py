@@ -117,23 +117,30 @@ class Document:
         for item in items:
             for name, (module, source) in item.renamed.items():
                 found[name if source else f"{name}.x"] = ("" if source else "x of ") + self.meant(module, source)
-            for need in item.needs:
-                known = need.name in item.home.names.items and need.name not in item.renamed and ">>" not in need.name
-                if known and need not in own and len(self.spelled[need.name]) > 1:
-                    files.setdefault(need.home.title(), set()).add(f"`{need.name}`")
+            for name, need in item.named.items():
+                if need not in own and self.is_told_apart(name, need):
+                    file = f"the kit's {need[0]}" if isinstance(need, tuple) else need.home.title()
+                    files.setdefault(file, set()).add(name)
+        told = [name for names in [found, *files.values()] for name in names]
+        if len(set(told)) < len(told):
+            raise SystemExit(f"theorem_text: {items[0].home.title()}: a name would be said to be two things: {told}")
         said = [f"`{name}` is {what}" for name, what in sorted(found.items())]
-        return said + [f"{', '.join(sorted(names))} {'is that' if len(names) == 1 else 'are those'} of {file}"
+        return said + [f"{', '.join(f'`{name}`' for name in sorted(names))} {'is that' if len(names) == 1 else 'are those'} of {file}"
                        for file, names in sorted(files.items())]
 
-    @staticmethod
-    def meant(module, source):
-        """What a renamed name is, as `List` of np_args Job."""
+    def is_told_apart(self, name, need):
+        """Whether something else that stands here has the name, too."""
+        return ">>" not in name and any(item is not need for item in self.spelled.get(name, []))
+
+    def meant(self, module, source):
+        """What a renamed name is, as `Job.List` of np_args."""
         crate, *place = module.removeprefix("Rattle.").split(".")
         if "declared" in place:
             place = place[place.index("declared") + 1:]
             variants = place[-1] == "TheVariants"
             place = place[:-1] if variants else place
-            return f"`{place[-1]}{f'.{source}' if source and variants else ''}` of {crate}"
+            file = f"/src/{'/'.join(place[:-1])}.rt" if len(self.spelled.get(place[-1], [])) > 1 else ""
+            return f"`{place[-1]}{f'.{source}' if source and variants else ''}` of {crate}{file}"
         path = f"{crate}/{'/'.join(place)}.antt" if (project.CRATES / crate).is_dir() else f"the kit's {module}"
         return f"`{source}` of {path}" if source else path
 
@@ -224,7 +231,7 @@ class Document:
         lines += ["", title_line("THE KIT IN WORDS"), "", *prose("kit.txt"), ""]
         lines += ["", title_line("APPENDIX. Names of the kit"), "",
                   "What the definitions use of the kit (Rattle) and its logic, by the modules from which they import it. A line is what",
-                  "the kit's own sources say of the name, or its equations or its type there.", *kit.appendix(names, self.kit_line)]
+                  "the kit's own sources say of the name, or its equations or its type there; for some it is written by hand.", *kit.appendix(names, self.kit_line)]
         return with_contents(lines)
 
 
