@@ -34,12 +34,21 @@ NOT_FIRST, LAST_FIRST = {"np_frame/specs/Sources.antt", "np_command/specs/Sinks.
 CONTENTS = "CONTENTS"
 
 # What is written by hand.
-BY_HAND = ["front.txt", "kit.txt", "parts.txt"]
+BY_HAND = ["front.txt", "kit.txt", "parts.txt", "estates.txt"]
+# Has the lists of the estates that are worked out by hand.
+ESTATES = project.TOP / "transcripts" / "worked-estates.txt"
 
 
 def prose(name):
     """The lines of a text that stands beside this file, written by hand."""
     return (Path(__file__).resolve().parent / name).read_text().rstrip("\n").split("\n")
+
+
+def estates():
+    """What is written by hand of two estates; for a line `@ ..` stand the lines of standard input under that comment of their transcript."""
+    blocks = [block.split("\n") for block in ESTATES.read_text().split("\n\n")]
+    lists = {block[0].removeprefix("# "): [f"  {line[2:]}" for line in block if line.startswith("< ")] for block in blocks}
+    return [line for entry in prose("estates.txt") for line in (lists[entry[2:]] if entry.startswith("@ ") else [entry])]
 
 
 def said_of_parts(titles):
@@ -238,8 +247,7 @@ class Document:
                     needs.setdefault(part, set()).add(need.home.crate)
         order = project.crate_order()
         said = "; ".join(f"part {part} ({', '.join(sorted(needs[part], key=order.index))})" for part in sorted(needs))
-        text = f"Its promise stands first: {', '.join(f'`{name}`' for name in names)}. Behind it stands what it names, the lower crates first. " \
-            f"It needs {said or 'no other part'}."
+        text = f"Its promise stands first: {', '.join(f'`{name}`' for name in names)}. It needs {said or 'no other part'}."
         return ["", *textwrap.wrap(text, WIDTH, break_on_hyphens=False), "", *self.said[self.titles[number - 1]]]
 
     def crate_lines(self, crate):
@@ -282,6 +290,7 @@ class Document:
             lines += ["", title_line(f"PART {number}. {title}"), *self.part_lines(number, promise, others), ""]
             lines += [f"(Part {number}: {self.size_of([*promise, *others])}.)", ""]
         names = {name for item in self.all for name in item.kit}
+        lines += ["", title_line("TWO WORKED ESTATES"), "", *estates(), ""]
         lines += ["", title_line("THE KIT IN WORDS"), "", *prose("kit.txt"), ""]
         lines += ["", title_line("APPENDIX. Names of the kit"), "",
                   "What the definitions use of the kit (Rattle) and its logic, by the modules from which they import it. A line is what",
