@@ -45,7 +45,7 @@ def prose(name):
 
 
 def estates():
-    """What is written by hand of two estates; for a line `@ ..` stand the lines of standard input under that comment of their transcript."""
+    """What is written by hand of two estates. For a line `@ ..` stands the input under that comment of their transcript."""
     blocks = [block.split("\n") for block in ESTATES.read_text().split("\n\n")]
     lists = {block[0].removeprefix("# "): [f"  {line[2:]}" for line in block if line.startswith("< ")] for block in blocks}
     return [line for entry in prose("estates.txt") for line in (lists[entry[2:]] if entry.startswith("@ ") else [entry])]
