@@ -26,7 +26,7 @@ def main(words):
     kept, sources = kit.kept_lines(present), kit.root() if words == ["--write"] else None
 
     def kit_line(module, name):
-        return kit.look_up(sources, module, name) if sources else kept.get((module, name), "")
+        return kit.look_up(sources, module, name) if sources else kit.kept_line(kept, module, name)
 
     document = pages.Document(kit_line)
     if not words:

@@ -25,7 +25,8 @@ repository, and nothing else.
 
 A line `=- ..` has no end, and so with `<-`, `>-` and `!-`: `=-` alone makes the file empty. A line `<5 ..` stands for five lines, one for
 each place from 0 on. In its text `#` stands for the place, `%n` for the next one and `%k` for a number of four digits; `%-` and `%+` for
-the place and the next one from the other end; `%h` and `%l` for the place as two digits of 256; and `%;` for the end of a line.
+the place and the next one from the other end; `%h` and `%l` for the place as two digits of 256; `%;` for the end of a line; and `%xef` for
+the byte of these two digits of 16. A word `''` of a run is empty.
 """
 import difflib
 import os
@@ -63,7 +64,8 @@ def filled(text, place, count):
     """The line for one of so many places."""
     numbers = {"#": place, "%n": place + 1, "%k": place + 1000, "%-": count - place - 1, "%+": count - place,
                "%h": place // 256, "%l": place % 256, "%;": "\n"}
-    return re.sub("#|%[nk+hl;-]", lambda word: str(numbers[word.group()]), text) + "\n"
+    text = re.sub("#|%[nk+hl;-]", lambda word: str(numbers[word.group()]), text) + "\n"
+    return re.sub("%x([0-9a-f]{2})", lambda byte: bytes.fromhex(byte.group(1)).decode(errors="surrogateescape"), text)
 
 
 def text_of(count, text):
@@ -118,7 +120,7 @@ def runs_of(path):
         kept = {**kept, **texts}
         files = {mark[1:] or "statements": text for mark, text in kept.items() if mark != "<"}
         for place, mark, words in runs:
-            words = words.split()
+            words = ["" if word == "''" else word for word in words.split()]
             if mark == "*":
                 yield Run(place, [*words, "--report", "1"], 0, kept["<"], files, out, err)
                 yield Run(place, words, 0, kept["<"], files, in_cidrs(out), err)
@@ -130,10 +132,10 @@ def outcome_of(program, run, room):
     """The status and both outputs of a run in a folder. What cannot be read as standard input is the folder itself."""
     Path(room, "examples").symlink_to(TOP / "examples")
     for name, text in run.files.items():
-        Path(room, name).write_bytes(text.encode())
+        Path(room, name).write_bytes(text.encode(errors="surrogateescape"))
     command = [program, *run.words]
     if run.input:
-        made = subprocess.run(command, cwd=room, input=run.input.encode(), capture_output=True)
+        made = subprocess.run(command, cwd=room, input=run.input.encode(errors="surrogateescape"), capture_output=True)
     else:
         folder = os.open(room, os.O_RDONLY)
         made = subprocess.run(command, cwd=room, stdin=folder, capture_output=True)

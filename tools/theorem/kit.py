@@ -12,6 +12,31 @@ from theorem.specs import IMPORT
 
 WIDTH = 200
 
+# What names are of which the kit's sources say it for who knows it already, or not at all.
+PLAIN = {
+    "std": {
+        "◌+◌": "the sum", "◌-◌": "the difference, and 0 where that is negative", "◌*◌": "the product", "◌^◌": "the power",
+        "◌/◌": "the quotient, rounded down", "◌%◌": "what a division leaves", "max": "the greater one", "min": "the smaller one",
+        "◌<◌": "a is less than b", "◌≤◌": "a is at most b", "◌≡◌": "a and b are equal", "nat_eq": "whether they are equal",
+        "nat_le": "whether m is at most n", "nat_lt": "whether m is less than n", "ℕ": "the natural numbers, from 0 on", "zero": "0",
+        "suc": "suc n is n + 1", "ℤ": "the integers: pos n, and negsuc n", "pos": "pos n is n, as an integer",
+        "negsuc": "negsuc n is -(n + 1)", "Bool": "true and false", "true": "as in Haskell", "false": "as in Haskell",
+        "if◌then◌else◌": "as in Haskell", "Ordering": "Less, Equal or Greater", "Less": "the first is less",
+        "Equal": "they are equal", "Global": "the allocator", "w32": "a word of 32 bits, which has four bytes",
+        "◌∷◌": "x ∷ xs is the list of x and then xs (infixr 67)", "replicate": "replicate n x: the list of n times x",
+        "option_map_or": "option_map_or f None d = d; option_map_or f (Some x) d = f x",
+        "option_and_then": "option_and_then f None = None; option_and_then f (Some x) = f x",
+        "flat_map": "flat_map f xs: what f gives of each item, one list after another", "string_bytes": "the bytes of a String",
+        "is_digit": "is_digit c radix: whether c is a digit of the radix, of either case",
+        "digits": "digits base upper n: the digits of n in the base, those from 10 on as letters, small ones unless `upper`",
+    },
+    "clap": {
+        "all_of": "all_of id rows: the values that were found for the argument of this name, where there are any",
+        "first_of": "first_of id rows: the first of these", "Rule": "an argument, as a parse reads it",
+        "new_rule": "new_rule id: an argument of this name, without a long name, a default and a need to be given",
+        "new_shape": "new_shape name: a command of this name without arguments",
+    },
+}
 
 def root():
     """The folder of the kit's sources, or None."""
@@ -97,6 +122,9 @@ def fixity(lines, name):
 
 def look_up(kit, module, name, depth=0):
     """The line of a name, or an empty one."""
+    library = module.split(".")[1] if module.startswith("Rattle.") else "std"
+    if name in PLAIN.get(library, {}):
+        return PLAIN[library][name]
     if depth > 6:
         return ""
     for path in candidates(kit, module):
@@ -135,10 +163,25 @@ def kept_lines(document):
     return found
 
 
+def kept_line(kept, module, name):
+    """The line that a document has for a name, though it be under another module that passes it on."""
+    line = kept.get((module, name))
+    return next((line for (_, other), line in kept.items() if other == name), "") if line is None else line
+
+
+def once(names, said):
+    """The names, each under one module of those that pass it on, the Prelude before others. `said` gives the line of a name: what two
+    modules say otherwise they have otherwise."""
+    found = {}
+    for module, name in sorted(names, key=lambda entry: (not entry[0].endswith(".Prelude"), entry)):
+        found.setdefault((name, said(module, name)), (module, name))
+    return found.values()
+
+
 def appendix(names, said):
     """The lines of the appendix, by module; `said` gives the line of a name."""
     lines, modules = [], {}
-    for module, name in names:
+    for module, name in once(names, said):
         modules.setdefault(module, set()).add(name)
     for module in sorted(modules):
         lines += ["", module]

@@ -28,10 +28,41 @@ CLAUSES = [
     ("What it costs", "np_cli/specs/Counts.antt", "Counted"),
 ]
 PROMISES = "np_cli/specs/Promises.antt"
+# The files at the top of a part that do not stand first in it, and that which does in the last part of the promises.
+NOT_FIRST, LAST_FIRST = {"np_frame/specs/Sources.antt", "np_command/specs/Sinks.antt"}, "np_cli/specs/Outcomes.antt"
 # Stands where the contents are to stand.
 CONTENTS = "CONTENTS"
 
-FRONT = (Path(__file__).resolve().parent / "front.txt").read_text()
+# What is written by hand.
+BY_HAND = ["front.txt", "kit.txt", "parts.txt", "estates.txt"]
+# Has the lists of the estates that are worked out by hand.
+ESTATES = project.TOP / "transcripts" / "worked-estates.txt"
+
+
+def prose(name):
+    """The lines of a text that stands beside this file, written by hand."""
+    return (Path(__file__).resolve().parent / name).read_text().rstrip("\n").split("\n")
+
+
+def estates():
+    """What is written by hand of two estates. For a line `@ ..` stands the input under that comment of their transcript."""
+    blocks = [block.split("\n") for block in ESTATES.read_text().split("\n\n")]
+    lists = {block[0].removeprefix("# "): [f"  {line[2:]}" for line in block if line.startswith("< ")] for block in blocks}
+    return [line for entry in prose("estates.txt") for line in (lists[entry[2:]] if entry.startswith("@ ") else [entry])]
+
+
+def said_of_parts(titles):
+    """What is written by hand of each part, by its title."""
+    found, title = {}, ""
+    for line in prose("parts.txt"):
+        if line.startswith("== "):
+            title = line.removeprefix("== ")
+            found[title] = []
+        else:
+            found[title].append(line)
+    if list(found) != titles:
+        raise SystemExit("theorem_text: parts.txt does not have the titles of the parts, in their order")
+    return {title: "\n".join(lines).rstrip("\n").split("\n") for title, lines in found.items()}
 
 
 class Document:
@@ -45,6 +76,8 @@ class Document:
         self.promises = [item for item in self.promised if item.home.title() == PROMISES]
         self.titles = [title for title, *_ in [*PARTS, *CLAUSES]]
         self.parts = self.in_parts()
+        self.part_of = {item: number for number, part in enumerate(self.parts, 1) for items in part for item in items}
+        self.said = said_of_parts(self.titles)
         for trait in [item for item in self.all if item.kind == "trait"]:
             trait.lines += [line for item in self.all if item.kind == "model" for line in code.ghosts_of_impl(trait, item)]
         self.spelled = {}
@@ -54,26 +87,36 @@ class Document:
         self.check()
 
     def in_parts(self):
-        """The items of each part, in order."""
+        """The items of each part: those of its promise, and behind them the others, each in order."""
         tops = [[item for item in self.promised if item.home.title() in files] for _, files in PARTS[:-1]]
+        first = [*({*files} - NOT_FIRST for _, files in PARTS[:-1]), {LAST_FIRST}, *({path} for _, path, _ in CLAUSES)]
         done, parts = {*self.promises, self.main}, []
-        for roots in [*tops, self.promised, *([clause] for clause in self.clauses)]:
+        for roots, files in zip([*tops, self.promised, *([clause] for clause in self.clauses)], first):
             new = [item for item in self.project.reached(roots) if item not in done]
-            parts.append(project.in_order(new))
+            ordered = project.in_order(new)
+            promise = [item for item in ordered if "/".join(project.shelf(item)) in files]
+            parts.append((promise, [item for item in ordered if item not in promise]))
             done.update(new)
         return parts
 
     def check(self):
-        """Refuses where an item stands before one that it needs, or where one is in no part."""
+        """Refuses where an item stands before one that it needs, but for those of a part's promise, or where one is in no part."""
         seen = {*self.promises, self.main}
-        for item in [item for part in self.parts for item in part]:
-            for need in item.needs:
-                if need not in seen and need is not item:
-                    raise SystemExit(f"theorem_text: {item.home.title()}: {item.name} stands before {need.name}")
-            seen.add(item)
+        for promise, others in self.parts:
+            seen.update(promise)
+            for item in others:
+                for need in item.needs:
+                    if need not in seen and need is not item:
+                        raise SystemExit(f"theorem_text: {item.home.title()}: {item.name} stands before {need.name}")
+                seen.add(item)
         for item in self.all:
             if item not in seen:
                 raise SystemExit(f"theorem_text: {item.home.title()}: {item.name} is in no part")
+        known = {word for item in self.all for line in item.lines for word in re.findall(r"\w+", line)}
+        for file in BY_HAND:
+            for name in re.findall(r"`([A-Za-z]\w*[A-Z_]\w*)(?: : )?`", "\n".join(prose(file))):
+                if name not in known:
+                    raise SystemExit(f"theorem_text: {file} speaks of {name}, which stands nowhere")
 
     # ---- counts
 
@@ -90,7 +133,8 @@ class Document:
         """How much there is to read, part by part: for the promises, and in all."""
         def together(rows):
             return tuple(map(sum, zip(*(numbers for _, numbers in rows))))
-        parts = [(f"{number}. {title}", self.counts(part)) for number, (title, part) in enumerate(zip(self.titles, self.parts), 1)]
+        parts = [(f"{number}. {title}", self.counts([*promise, *others]))
+                 for number, (title, (promise, others)) in enumerate(zip(self.titles, self.parts), 1)]
         promised = [("The contract and its promises", self.counts([self.main, *self.promises])), *parts[:len(PARTS)]]
         rows = [*promised, ("All that is promised", together(promised)), *parts[len(PARTS):]]
         rows.append(("All of it", together([*promised, *parts[len(PARTS):]])))
@@ -114,23 +158,30 @@ class Document:
         for item in items:
             for name, (module, source) in item.renamed.items():
                 found[name if source else f"{name}.x"] = ("" if source else "x of ") + self.meant(module, source)
-            for need in item.needs:
-                known = need.name in item.home.names.items and need.name not in item.renamed and ">>" not in need.name
-                if known and need not in own and len(self.spelled[need.name]) > 1:
-                    files.setdefault(need.home.title(), set()).add(f"`{need.name}`")
+            for name, need in item.named.items():
+                if need not in own and self.is_told_apart(name, need):
+                    file = f"the kit's {need[0]}" if isinstance(need, tuple) else need.home.title()
+                    files.setdefault(file, set()).add(name)
+        told = [name for names in [found, *files.values()] for name in names]
+        if len(set(told)) < len(told):
+            raise SystemExit(f"theorem_text: {items[0].home.title()}: a name would be said to be two things: {told}")
         said = [f"`{name}` is {what}" for name, what in sorted(found.items())]
-        return said + [f"{', '.join(sorted(names))} {'is that' if len(names) == 1 else 'are those'} of {file}"
+        return said + [f"{', '.join(f'`{name}`' for name in sorted(names))} {'is that' if len(names) == 1 else 'are those'} of {file}"
                        for file, names in sorted(files.items())]
 
-    @staticmethod
-    def meant(module, source):
-        """What a renamed name is, as `List` of np_args Job."""
+    def is_told_apart(self, name, need):
+        """Whether something else that stands here has the name, too."""
+        return ">>" not in name and any(item is not need for item in self.spelled.get(name, []))
+
+    def meant(self, module, source):
+        """What a renamed name is, as `Job.List` of np_args."""
         crate, *place = module.removeprefix("Rattle.").split(".")
         if "declared" in place:
             place = place[place.index("declared") + 1:]
             variants = place[-1] == "TheVariants"
             place = place[:-1] if variants else place
-            return f"`{place[-1]}{f'.{source}' if source and variants else ''}` of {crate}"
+            file = f"/src/{'/'.join(place[:-1])}.rt" if len(self.spelled.get(place[-1], [])) > 1 else ""
+            return f"`{place[-1]}{f'.{source}' if source and variants else ''}` of {crate}{file}"
         path = f"{crate}/{'/'.join(place)}.antt" if (project.CRATES / crate).is_dir() else f"the kit's {module}"
         return f"`{source}` of {path}" if source else path
 
@@ -163,20 +214,41 @@ class Document:
             lines += self.lines_of(item)
         return lines
 
-    def part_lines(self, items):
-        lines, crate = [], None
-        shelves = []
+    @staticmethod
+    def shelves(items):
+        """The items that stand together, of those in this order."""
+        found = []
         for item in items:
-            if shelves and project.shelf(shelves[-1][0]) == project.shelf(item):
-                shelves[-1].append(item)
+            if found and project.shelf(found[-1][0]) == project.shelf(item):
+                found[-1].append(item)
             else:
-                shelves.append([item])
-        for shelf in shelves:
+                found.append([item])
+        return found
+
+    def part_lines(self, number, promise, others):
+        lines, crate = self.head_lines(number, promise, others), None
+        for shelf in self.shelves(promise):
+            lines += ["", *self.shelf_lines(shelf)]
+        for shelf in self.shelves(others):
             if shelf[0].home.crate != crate:
                 crate = shelf[0].home.crate
                 lines += ["", "", *self.crate_lines(crate)]
             lines += ["", *self.shelf_lines(shelf)]
         return lines
+
+    def head_lines(self, number, promise, others):
+        """What is said at the head of a part: with what it begins, what it needs of others, and what is written of it by hand."""
+        names = [item.name for item in promise if not any(item in other.needs for other in promise)]
+        needs = {}
+        for item in [*promise, *others]:
+            for need in item.needs:
+                part = self.part_of.get(need, number)
+                if part != number:
+                    needs.setdefault(part, set()).add(need.home.crate)
+        order = project.crate_order()
+        said = "; ".join(f"part {part} ({', '.join(sorted(needs[part], key=order.index))})" for part in sorted(needs))
+        text = f"Its promise stands first: {', '.join(f'`{name}`' for name in names)}. It needs {said or 'no other part'}."
+        return ["", *textwrap.wrap(text, WIDTH, break_on_hyphens=False), "", *self.said[self.titles[number - 1]]]
 
     def crate_lines(self, crate):
         """The name of a crate, with what its code says of it."""
@@ -189,19 +261,18 @@ class Document:
 
     def where_defined(self):
         """Where the definitions stand that the promises name."""
-        part_of = {item: number for number, part in enumerate(self.parts, 1) for item in part}
         found = {}
         for item in [self.main, *self.promises]:
             for need in item.needs:
-                if need in part_of:
-                    found.setdefault(part_of[need], set()).add(need.name)
+                if need in self.part_of:
+                    found.setdefault(self.part_of[need], set()).add(need.name)
         return [line for number in sorted(found) for line in
                 textwrap.wrap(f"Part {number}: {', '.join(sorted(found[number]))}.", WIDTH, initial_indent="  ", subsequent_indent="    ")]
 
     def front(self):
         main = code.function_item(self.project.file("np", "src/main.rt"), "main", with_body=True)
         counted = code.function_item(self.project.file("np", "src/main.rt"), "run_counted", with_body=True)
-        lines = [*FRONT.rstrip("\n").split("\n"), "", "HOW MUCH THERE IS TO READ", "", *self.table(), ""]
+        lines = [*prose("front.txt"), "", "HOW MUCH THERE IS TO READ", "", *self.table(), ""]
         lines += ["Lines are counted without comments and empty lines; those of types as they stand in this document.",
                   "With comments, headings and empty lines the document has LINES lines, the appendix among them.", "", CONTENTS, ""]
         lines += ["", title_line("THE CONTRACT"), "", f"━━━ {self.main.home.title()}", "", *self.main.comment, *self.main.lines, ""]
@@ -215,12 +286,16 @@ class Document:
 
     def lines(self):
         lines = self.front()
-        for number, (title, part) in enumerate(zip(self.titles, self.parts), 1):
-            lines += ["", title_line(f"PART {number}. {title}"), *self.part_lines(part), "", f"(Part {number}: {self.size_of(part)}.)", ""]
+        for number, (title, (promise, others)) in enumerate(zip(self.titles, self.parts), 1):
+            lines += ["", title_line(f"PART {number}. {title}"), *self.part_lines(number, promise, others), ""]
+            lines += [f"(Part {number}: {self.size_of([*promise, *others])}.)", ""]
         names = {name for item in self.all for name in item.kit}
+        lines += ["", title_line("TWO WORKED ESTATES"), "", *estates(), ""]
+        lines += ["", title_line("THE KIT IN WORDS"), "", *prose("kit.txt"), ""]
         lines += ["", title_line("APPENDIX. Names of the kit"), "",
                   "What the definitions use of the kit (Rattle) and its logic, by the modules from which they import it. A line is what",
-                  "the kit's own sources say of the name, or its equations or its type there.", *kit.appendix(names, self.kit_line)]
+                  "the kit's own sources say of the name, or its equations or its type there; for some it is written by hand.",
+                  *kit.appendix(names, self.kit_line)]
         return with_contents(lines)
 
 

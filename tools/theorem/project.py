@@ -93,9 +93,12 @@ class Project:
             return known[name]
         if name in names.items:
             module, source = self.origin(*names.items[name])
-            if name != source:
+            found = self.find(module, source) or (module, source)
+            if name == source:
+                item.named[name] = found
+            else:
                 item.renamed[name] = (module, source)
-            return self.find(module, source) or (module, source)
+            return found
         if name in names.modules:
             module, member = names.modules[name], rest.split(".")[0] if rest else name
             if module.split(".")[-1] != name:

@@ -19,6 +19,7 @@ class Item:
         self.needs = []         # the items that it names
         self.kit = []           # what it names of the kit, as (module, name)
         self.renamed = {}       # the names that an import changed, as the text has them, with what they are
+        self.named = {}         # the items that it names by the name that they have, by these names
 
     def code_lines(self):
         """How many lines it has without comments."""
