@@ -1,0 +1,299 @@
+"""How the policies of a cluster are read (np_policies)."""
+from functools import partial
+from typing import Dict, Optional, Tuple, Union
+
+from . import values
+from .addresses import Cidr, cidr_of, is_strict_part
+from .model import (EGRESS, EVERYTHING, INGRESS, TCP, AdminPolicy, NetPolicy, Peer, PortEntry, Requirement, Rule, Selector, Subject, is_word,
+                    label_requirement)
+from .values import Data, Flaw, listed, member, must_be_object, optional, optional_or, refuse_if, refuse_member_if, required, under
+
+PEERS = {INGRESS: "from", EGRESS: "to"}
+ACTIONS: Dict[str, Tuple[str, ...]] = {"Admin": ("Allow", "Deny", "Pass"), "Baseline": ("Allow", "Deny")}
+ADMIN_VERSION = "policy.networking.k8s.io/v1alpha1"
+
+
+# ---- selectors
+
+def key(value: Data) -> str:
+    """The key of an expression: a word that is not empty, else BadField."""
+    refuse_if(values.word(value) == "", "BadField")
+    return value
+
+
+def expression(value: Data) -> Requirement:
+    """An entry of `matchExpressions`."""
+    must_be_object(value)
+    label = required("key", key, value)
+    op = required("operator", values.text, value)
+    listed_values = listed("values", values.word, value)
+    refuse_if(op not in ("In", "NotIn", "Exists", "DoesNotExist"), "BadSelector")
+    refuse_if((op in ("In", "NotIn")) != (len(listed_values) > 0), "BadSelector")
+    return Requirement(label, op, tuple(sorted(set(listed_values))))
+
+
+def selector(value: Data) -> Selector:
+    """A selector. A member that a selector does not have is refused, unless it is null."""
+    must_be_object(value)
+    others = [name for name in value if name not in ("matchLabels", "matchExpressions") and value[name] is not None]
+    refuse_if(len(others) > 0, "BadSelector")
+    pairs = optional_or({}, "matchLabels", values.labels, value)
+    return tuple(label_requirement(*pair) for pair in pairs.items()) + listed("matchExpressions", expression, value)
+
+
+# ---- blocks
+
+def cidr(value: Data) -> Cidr:
+    """A text that writes a block of addresses, else BadCidr."""
+    found = cidr_of(values.text(value))
+    if found is None:
+        raise Flaw("BadCidr")
+    return found
+
+
+def ip_block(value: Data) -> Peer:
+    """`ipBlock` of a peer: each except is a strict part of `cidr`."""
+    must_be_object(value)
+    block = required("cidr", cidr, value)
+    excepts = listed("except", cidr, value)
+    for place, part in enumerate(excepts):
+        if not is_strict_part(block, part):
+            under("except", lambda: refuse_member_if(place, True, "BadExcept"))  # type: ignore[arg-type]
+    return Peer(None, None, (block,), excepts)
+
+
+# ---- ports
+
+def protocol(value: Data) -> int:
+    """The member `protocol`, which is TCP where it is missing."""
+    return optional_or(TCP, "protocol", values.protocol_name, value)
+
+
+def port_name(value: Data) -> str:
+    """The name of a container port: the empty text is BadPort, another that is no word BadField."""
+    refuse_if(values.text(value) == "", "BadPort")
+    refuse_if(not is_word(value), "BadField")
+    return value
+
+
+def port_value(value: Data) -> Union[int, str]:
+    """`port` of a NetworkPolicy: a port's number or name."""
+    return values.port_number(value) if values.is_whole(value) else port_name(value)
+
+
+def end_port(first: Union[None, int, str], value: Data) -> int:
+    """`endPort`, behind a `port` that is a number and not above it."""
+    last = values.port(value)
+    refuse_if(not (isinstance(first, int) and first <= last), "BadPort")
+    return last
+
+
+def net_port(value: Data) -> PortEntry:
+    """An entry of `ports` of a NetworkPolicy: one port, the ports up to another, a named port, or all ports."""
+    must_be_object(value)
+    proto = protocol(value)
+    first = optional("port", port_value, value)
+    last = optional("endPort", partial(end_port, first), value)
+    if first is None:
+        return PortEntry(proto, 1, 65535)
+    if isinstance(first, str):
+        return PortEntry(proto, 0, 0, first)
+    return PortEntry(proto, first, first if last is None else last)
+
+
+def one_port(value: Data) -> PortEntry:
+    """`portNumber` of an admin policy."""
+    must_be_object(value)
+    proto = protocol(value)
+    number = required("port", values.port, value)
+    return PortEntry(proto, number, number)
+
+
+def port_range(value: Data) -> PortEntry:
+    """`portRange` of an admin policy."""
+    must_be_object(value)
+    proto = protocol(value)
+    first = required("start", values.port, value)
+    last = required("end", values.port, value)
+    refuse_member_if("end", last < first, "BadPort")
+    return PortEntry(proto, first, last)
+
+
+def named_port(value: Data) -> PortEntry:
+    """`namedPort` of an admin policy: of whatever protocol the port has at the destination."""
+    return PortEntry(None, 0, 0, port_name(value))
+
+
+ADMIN_PORTS = {"portNumber": one_port, "portRange": port_range, "namedPort": named_port}
+
+
+def admin_port(value: Data) -> PortEntry:
+    """An entry of `ports` of an admin policy: exactly one of its three members."""
+    must_be_object(value)
+    refuse_if(not values.has_one_of(tuple(ADMIN_PORTS), value), "BadPort")
+    name = next(one for one in ADMIN_PORTS if member(one, value) is not None)
+    return required(name, ADMIN_PORTS[name], value)
+
+
+# ---- NetworkPolicies
+
+def net_peer(value: Data) -> Peer:
+    """An entry of `from` or `to`: selectors, or a block alone."""
+    must_be_object(value)
+    has_selector = member("podSelector", value) is not None or member("namespaceSelector", value) is not None
+    refuse_if((member("ipBlock", value) is not None) == has_selector, "PeerShape")
+    pods = optional("podSelector", selector, value)
+    namespaces = optional("namespaceSelector", selector, value)
+    return optional_or(Peer(namespaces, pods), "ipBlock", ip_block, value)
+
+
+def net_rule(direction: str, value: Data) -> Rule:
+    """An entry of `ingress` or `egress`."""
+    must_be_object(value)
+    peers = listed(PEERS[direction], net_peer, value)
+    return Rule("Allow", peers, listed("ports", net_port, value))
+
+
+def policy_type(value: Data) -> str:
+    """An entry of `policyTypes`, else BadField."""
+    refuse_if(values.text(value) not in ("Ingress", "Egress"), "BadField")
+    return value.lower()
+
+
+NetSpec = Tuple[Selector, Dict[str, Optional[Tuple[Rule, ...]]]]
+
+
+def net_spec(value: Data) -> NetSpec:
+    """`spec` of a NetworkPolicy: its subject, and its rules in the directions among its types."""
+    must_be_object(value)
+    subject = optional_or(EVERYTHING, "podSelector", selector, value)
+    types = listed("policyTypes", policy_type, value)
+    ingress = listed(INGRESS, partial(net_rule, INGRESS), value)
+    egress = listed(EGRESS, partial(net_rule, EGRESS), value)
+    has = types or ((INGRESS, EGRESS) if egress else (INGRESS,))
+    return subject, {INGRESS: ingress if INGRESS in has else None, EGRESS: egress if EGRESS in has else None}
+
+
+def net_policy(value: Data) -> NetPolicy:
+    """A NetworkPolicy."""
+    own = required("metadata", values.namespaced_name, value)
+    no_spec: NetSpec = (EVERYTHING, {INGRESS: (), EGRESS: None})
+    return NetPolicy(*own, *optional_or(no_spec, "spec", net_spec, value))
+
+
+# ---- admin policies
+
+def all_pods(value: Data) -> Subject:
+    """`namespaces` of a subject or peer: all pods of the namespaces that it selects."""
+    return Subject(selector(value), EVERYTHING)
+
+
+def some_pods(value: Data) -> Subject:
+    """`pods` of a subject or peer."""
+    must_be_object(value)
+    namespaces = required("namespaceSelector", selector, value)
+    return Subject(namespaces, required("podSelector", selector, value))
+
+
+def pods_member(value: Data) -> Subject:
+    """The one member of `namespaces` and `pods` that is there."""
+    if member("namespaces", value) is not None:
+        return required("namespaces", all_pods, value)
+    return required("pods", some_pods, value)
+
+
+def subject_of(value: Data) -> Subject:
+    """`subject`: exactly one of its two members."""
+    must_be_object(value)
+    refuse_if(not values.has_one_of(("namespaces", "pods"), value), "PeerShape")
+    return pods_member(value)
+
+
+def ingress_peer(value: Data) -> Peer:
+    """An entry of `from` of an admin rule."""
+    return Peer(*subject_of(value))
+
+
+def networks(value: Data) -> Peer:
+    """`networks` of a peer: at least one block."""
+    cidrs = listed("networks", cidr, value)
+    refuse_member_if("networks", len(cidrs) == 0, "EmptyPeers")
+    return Peer(None, None, cidrs)
+
+
+def egress_peer(value: Data) -> Peer:
+    """An entry of `to` of an admin rule."""
+    must_be_object(value)
+    refuse_member_if("nodes", member("nodes", value) is not None, "NodePeer")
+    refuse_member_if("domainNames", member("domainNames", value) is not None, "DomainPeer")
+    refuse_if(not values.has_one_of(("namespaces", "pods", "networks"), value), "PeerShape")
+    return networks(value) if member("networks", value) is not None else Peer(*pods_member(value))
+
+
+def action(tier: str, value: Data) -> str:
+    """`action` of a rule: one that the policy may have, else BadAction."""
+    refuse_if(values.text(value) not in ACTIONS[tier], "BadAction")
+    return value
+
+
+def admin_rule(tier: str, direction: str, value: Data) -> Rule:
+    """An entry of `ingress` or `egress` of an admin policy: it has at least one peer."""
+    must_be_object(value)
+    effect = required("action", partial(action, tier), value)
+    peers = listed(PEERS[direction], ingress_peer if direction == INGRESS else egress_peer, value)
+    refuse_member_if(PEERS[direction], len(peers) == 0, "EmptyPeers")
+    return Rule(effect, peers, listed("ports", admin_port, value))
+
+
+def priority(value: Data) -> int:
+    """A priority from 0 to 1000, else BadPriority."""
+    refuse_if(not 0 <= values.whole(value) <= 1000, "BadPriority")
+    return value
+
+
+def object_name(value: Data) -> str:
+    """`metadata` of an object in no namespace."""
+    must_be_object(value)
+    return required("name", values.name, value)
+
+
+def base_name(value: Data) -> str:
+    """`metadata` of a BaselineAdminNetworkPolicy, which is named `default`."""
+    refuse_member_if("name", object_name(value) != "default", "BaselineName")
+    return "default"
+
+
+def admin_spec(tier: str, value: Data) -> Tuple[int, Subject, Dict[str, Tuple[Rule, ...]]]:
+    """`spec` of an admin policy or a baseline, which has no priority."""
+    must_be_object(value)
+    rank = required("priority", priority, value) if tier == "Admin" else 0
+    selected = required("subject", subject_of, value)
+    return rank, selected, {way: listed(way, partial(admin_rule, tier, way), value) for way in (INGRESS, EGRESS)}
+
+
+def admin_policy(tier: str, value: Data) -> AdminPolicy:
+    """An AdminNetworkPolicy, or a BaselineAdminNetworkPolicy."""
+    name = required("metadata", object_name if tier == "Admin" else base_name, value)
+    return AdminPolicy(name, *required("spec", partial(admin_spec, tier), value))
+
+
+# ---- any of them
+
+class BasePolicy(AdminPolicy):
+    """A BaselineAdminNetworkPolicy."""
+
+
+Policy = Union[NetPolicy, AdminPolicy]
+
+
+def policy_of(version: str, kind: str, value: Data) -> Optional[Policy]:
+    """The policy of an API version and a kind, if it is one; a foreign one is refused."""
+    if (version, kind) == ("networking.k8s.io/v1", "NetworkPolicy"):
+        return net_policy(value)
+    if (version, kind) == (ADMIN_VERSION, "AdminNetworkPolicy"):
+        return admin_policy("Admin", value)
+    if (version, kind) == (ADMIN_VERSION, "BaselineAdminNetworkPolicy"):
+        return BasePolicy(*admin_policy("Baseline", value))
+    if kind.endswith("NetworkPolicy"):
+        refuse_member_if("kind", True, "ForeignPolicy")
+    return None

@@ -1,0 +1,246 @@
+"""JSON values, their members, and the shapes that read them, or refuse them with the flaw that stands first (np_json)."""
+import json
+import re
+from typing import Any, Callable, Dict, List, NoReturn, Optional, Tuple, TypeVar, Union
+
+from .model import PROTOCOLS, is_name, is_word
+
+# A JSON value as Python has it. A number that is no whole one of 64 bits is a float.
+Data = Any
+A = TypeVar("A")
+Shape = Callable[[Data], A]
+Step = Union[str, int]
+
+MOST_DEPTH = 127
+SURROGATE = re.compile("[\ud800-\udfff]")
+STRING = re.compile(r'"(?:[^"\\]|\\.)*"', re.DOTALL)
+BRACKET = re.compile(r"[\[\]{}]")
+
+
+class NotJson(Exception):
+    """The bytes are no JSON text in UTF-8, or nest too deep."""
+
+
+class Flaw(Exception):
+    """What is wrong in a value, and where in it: the steps to the place, the outermost first."""
+
+    def __init__(self, kind: str) -> None:
+        super().__init__(kind)
+        self.kind = kind
+        self.path: List[Step] = []
+
+    def path_text(self) -> str:
+        """`spec.ingress[0].from[0]`; the path of no step is `(whole)`."""
+        if not self.path:
+            return "(whole)"
+        parts = ["[%d]" % step if isinstance(step, int) else "." + step for step in self.path]
+        return "".join(parts)[0 if isinstance(self.path[0], int) else 1:]
+
+
+# ---- JSON texts
+
+def real(text: str) -> float:
+    """A number with a fraction or an exponent, or one that is too large for 64 bits."""
+    number = float(text)
+    if number in (float("inf"), float("-inf")):
+        raise NotJson()
+    return number
+
+
+def whole_number(text: str) -> Union[int, float]:
+    """A number of digits alone: whole where it fits 64 bits with a sign, but for -0."""
+    if len(text) > 20 or text == "-0":
+        return real(text)
+    number = int(text)
+    return number if -2 ** 63 <= number < 2 ** 63 else real(text)
+
+
+def no_constant(text: str) -> NoReturn:
+    """NaN and Infinity are no JSON."""
+    raise NotJson()
+
+
+def strings_in(value: Data) -> List[str]:
+    """All strings and names of members of a value."""
+    if isinstance(value, str):
+        return [value]
+    if isinstance(value, dict):
+        return [s for name, part in value.items() for s in [name] + strings_in(part)]
+    return [s for part in value for s in strings_in(part)] if isinstance(value, list) else []
+
+
+def is_deep(text: str) -> bool:
+    """Whether a JSON text nests deeper than is read."""
+    if text.count("[") + text.count("{") <= MOST_DEPTH:
+        return False
+    depth = deepest = 0
+    for bracket in BRACKET.findall(STRING.sub("", text)):
+        depth += 1 if bracket in "[{" else -1
+        deepest = max(deepest, depth)
+    return deepest > MOST_DEPTH
+
+
+def json_of(data: bytes) -> Data:
+    """The JSON value of a text in UTF-8. Where an object has a member twice, the last one counts."""
+    try:
+        text = data.decode("utf-8")
+        if is_deep(text):
+            raise NotJson()
+        value = json.loads(text, parse_int=whole_number, parse_float=real, parse_constant=no_constant)
+    except (ValueError, RecursionError):
+        raise NotJson() from None
+    if "\\u" in text and any(SURROGATE.search(one) for one in strings_in(value)):
+        raise NotJson()
+    return value
+
+
+# ---- members
+
+def member(name: str, value: Data) -> Data:
+    """The member of that name, and None where it is absent or null; a value that is no object has none."""
+    return value.get(name) if isinstance(value, dict) else None
+
+
+def is_whole(value: Data) -> bool:
+    """Whether a value is a number without a fraction and an exponent that fits 64 bits."""
+    return type(value) is int
+
+
+def refuse_if(broken: bool, kind: str) -> None:
+    """A rule: the flaw of the whole value where it is broken."""
+    if broken:
+        raise Flaw(kind)
+
+
+def under(step: Step, shape: Callable[[], A]) -> A:
+    """What is read of the part of a value at one step."""
+    try:
+        return shape()
+    except Flaw as flaw:
+        flaw.path.insert(0, step)
+        raise
+
+
+def refuse_member_if(name: str, broken: bool, kind: str) -> None:
+    """A rule on a member: the member's flaw where it is broken."""
+    under(name, lambda: refuse_if(broken, kind))
+
+
+def must_be_object(value: Data) -> None:
+    """The rule that a value is an object."""
+    refuse_if(not isinstance(value, dict), "BadField")
+
+
+def has_one_of(names: Tuple[str, ...], value: Data) -> bool:
+    """Whether exactly one of the members of those names is there."""
+    return sum(member(name, value) is not None for name in names) == 1
+
+
+def required(name: str, shape: Shape[A], value: Data) -> A:
+    """A member that must be there."""
+    found = member(name, value)
+    if found is None:
+        refuse_member_if(name, True, "BadField")
+    return under(name, lambda: shape(found))
+
+
+def optional(name: str, shape: Shape[A], value: Data) -> Optional[A]:
+    """A member that may be missing."""
+    found = member(name, value)
+    return None if found is None else under(name, lambda: shape(found))
+
+
+def optional_or(missing: A, name: str, shape: Shape[A], value: Data) -> A:
+    """A member that stands for this value where it is missing."""
+    found = optional(name, shape, value)
+    return missing if found is None else found
+
+
+def items_of(shape: Shape[A], value: Data) -> Tuple[A, ...]:
+    """The items of a list by the shape, each under its place."""
+    refuse_if(not isinstance(value, list), "BadField")
+    return tuple([under(place, lambda: shape(item)) for place, item in enumerate(value)])
+
+
+def listed(name: str, shape: Shape[A], value: Data) -> Tuple[A, ...]:
+    """A member that is a list, and empty where it is missing."""
+    return optional_or((), name, lambda found: items_of(shape, found), value)
+
+
+# ---- single values
+
+def text(value: Data) -> str:
+    """A text, else BadField."""
+    refuse_if(not isinstance(value, str), "BadField")
+    return value
+
+
+def whole(value: Data) -> int:
+    """A whole number, else BadField."""
+    refuse_if(not is_whole(value), "BadField")
+    return value
+
+
+def flag(value: Data) -> bool:
+    """True or false, else BadField."""
+    refuse_if(not isinstance(value, bool), "BadField")
+    return value
+
+
+def name(value: Data) -> str:
+    """A text that is a name, else BadName."""
+    refuse_if(not is_name(text(value)), "BadName")
+    return value
+
+
+def word(value: Data) -> str:
+    """A text that is a word, else BadField."""
+    refuse_if(not is_word(text(value)), "BadField")
+    return value
+
+
+def port_number(number: int) -> int:
+    """The number of a port, if it is from 1 to 65535."""
+    refuse_if(not 1 <= number <= 65535, "BadPort")
+    return number
+
+
+def port(value: Data) -> int:
+    """A whole number from 1 to 65535, else BadPort."""
+    return port_number(whole(value))
+
+
+def protocol_name(value: Data) -> int:
+    """A text that names a protocol, else BadProtocol."""
+    refuse_if(text(value) not in PROTOCOLS, "BadProtocol")
+    return PROTOCOLS[value]
+
+
+def labels(value: Data) -> Dict[str, str]:
+    """An object from texts to texts that are labels, in the order of their keys, else BadField."""
+    must_be_object(value)
+    refuse_if(not all(isinstance(one, str) for one in value.values()), "BadField")
+    refuse_if(not all(key and is_word(key) and is_word(one) for key, one in value.items()), "BadField")
+    return dict(sorted(value.items()))
+
+
+# ---- what every object says of itself
+
+def type_meta(value: Data) -> Tuple[str, str]:
+    """The API version and the kind of an object."""
+    must_be_object(value)
+    return required("apiVersion", text, value), required("kind", text, value)
+
+
+def namespace(value: Data) -> str:
+    """A text that is empty, which stands for `default`, or a name."""
+    found = text(value) or "default"
+    refuse_if(not is_name(found), "BadName")
+    return found
+
+
+def namespaced_name(value: Data) -> Tuple[str, str]:
+    """The namespace and the name of an object, of which the name is read first."""
+    must_be_object(value)
+    called = required("name", name, value)
+    return optional_or("default", "namespace", namespace, value), called
