@@ -21,8 +21,7 @@ class Workload(NamedTuple):
 def selectors_of(estate: Estate) -> List[Selector]:
     """All selectors of policies and services."""
     found = [policy.subject for policy in estate.net_policies]
-    found += [one for policy in policies_of(estate) for one in policy.subject]
-    peers = [peer for rule in rules_of(estate) for peer in rule.peers]
+    peers = [policy.subject for policy in policies_of(estate)] + [peer for rule in rules_of(estate) for peer in rule.peers]
     found += [one for peer in peers for one in (peer.namespaces, peer.pods) if one is not None]
     return found + [service.selector for service in estate.services if service.selector is not None]
 

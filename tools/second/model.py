@@ -1,6 +1,6 @@
 """What a cluster is to the program: typed values, as np_model and np_objects have them in the text."""
 import re
-from typing import Dict, List, NamedTuple, Optional, Tuple
+from typing import Dict, List, NamedTuple, Optional, Tuple, Union
 
 from .addresses import Address, Cidr
 
@@ -105,17 +105,11 @@ class NetPolicy(NamedTuple):
     rules: Dict[str, Optional[Tuple[Rule, ...]]]
 
 
-class Subject(NamedTuple):
-    """The pods that an admin policy is about: those that meet both selectors."""
-    namespaces: Selector
-    pods: Selector
-
-
 class AdminPolicy(NamedTuple):
-    """An AdminNetworkPolicy, or the baseline, which is named `default` and whose priority says nothing."""
+    """An AdminNetworkPolicy, or the baseline, which is named `default` and whose priority says nothing. Its subject is one of pods."""
     name: str
     priority: int
-    subject: Subject
+    subject: Peer
     rules: Dict[str, Tuple[Rule, ...]]
 
 
@@ -154,10 +148,8 @@ class ControllerItem(NamedTuple):
     template: Optional[Template]
 
 
-class PortName(NamedTuple):
-    """A port by its number or by its name."""
-    number: Optional[int]
-    name: Optional[str]
+# A port by its number or by its name.
+PortName = Union[int, str]
 
 
 class ServicePort(NamedTuple):
@@ -179,16 +171,16 @@ class ServiceItem(NamedTuple):
 
 
 class Backend(NamedTuple):
-    """What an ingress sends requests to: a port of a service. Where both are missing it is another resource."""
-    service: Optional[str]
-    port: Optional[PortName]
+    """What an ingress sends requests to: a port of a service. In place of another resource None stands."""
+    service: str
+    port: PortName
 
 
 class IngressItem(NamedTuple):
     """An ingress as it is listed."""
     namespace: str
     name: str
-    backends: Tuple[Backend, ...]
+    backends: Tuple[Optional[Backend], ...]
 
 
 class Pod(NamedTuple):

@@ -4,9 +4,9 @@ from typing import Dict, Optional, Tuple, Union
 
 from . import values
 from .addresses import Cidr, cidr_of, is_strict_part
-from .model import (EGRESS, EVERYTHING, INGRESS, TCP, AdminPolicy, NetPolicy, Peer, PortEntry, Requirement, Rule, Selector, Subject, is_word,
+from .model import (EGRESS, EVERYTHING, INGRESS, TCP, AdminPolicy, NetPolicy, Peer, PortEntry, Requirement, Rule, Selector, is_word,
                     label_requirement)
-from .values import Data, Flaw, listed, member, must_be_object, optional, optional_or, refuse_if, refuse_member_if, required, under
+from .values import Data, Flaw, listed, member, optional, optional_or, refuse_if, refuse_member_if, required, under
 
 PEERS = {INGRESS: "from", EGRESS: "to"}
 ACTIONS: Dict[str, Tuple[str, ...]] = {"Admin": ("Allow", "Deny", "Pass"), "Baseline": ("Allow", "Deny")}
@@ -23,7 +23,6 @@ def key(value: Data) -> str:
 
 def expression(value: Data) -> Requirement:
     """An entry of `matchExpressions`."""
-    must_be_object(value)
     label = required("key", key, value)
     op = required("operator", values.text, value)
     listed_values = listed("values", values.word, value)
@@ -34,7 +33,7 @@ def expression(value: Data) -> Requirement:
 
 def selector(value: Data) -> Selector:
     """A selector. A member that a selector does not have is refused, unless it is null."""
-    must_be_object(value)
+    refuse_if(not isinstance(value, dict), "BadField")
     others = [name for name in value if name not in ("matchLabels", "matchExpressions") and value[name] is not None]
     refuse_if(len(others) > 0, "BadSelector")
     pairs = optional_or({}, "matchLabels", values.labels, value)
@@ -53,20 +52,16 @@ def cidr(value: Data) -> Cidr:
 
 def ip_block(value: Data) -> Peer:
     """`ipBlock` of a peer: each except is a strict part of `cidr`."""
-    must_be_object(value)
     block = required("cidr", cidr, value)
     excepts = listed("except", cidr, value)
-    for place, part in enumerate(excepts):
-        if not is_strict_part(block, part):
-            under("except", lambda: refuse_member_if(place, True, "BadExcept"))  # type: ignore[arg-type]
+    under("except", partial(values.items_of, lambda part: refuse_if(not is_strict_part(block, part), "BadExcept")), list(excepts))
     return Peer(None, None, (block,), excepts)
 
 
 # ---- ports
 
-def protocol(value: Data) -> int:
-    """The member `protocol`, which is TCP where it is missing."""
-    return optional_or(TCP, "protocol", values.protocol_name, value)
+# The member `protocol`, which is TCP where it is missing.
+protocol = partial(optional_or, TCP, "protocol", values.protocol_name)
 
 
 def port_name(value: Data) -> str:
@@ -90,7 +85,6 @@ def end_port(first: Union[None, int, str], value: Data) -> int:
 
 def net_port(value: Data) -> PortEntry:
     """An entry of `ports` of a NetworkPolicy: one port, the ports up to another, a named port, or all ports."""
-    must_be_object(value)
     proto = protocol(value)
     first = optional("port", port_value, value)
     last = optional("endPort", partial(end_port, first), value)
@@ -101,21 +95,12 @@ def net_port(value: Data) -> PortEntry:
     return PortEntry(proto, first, first if last is None else last)
 
 
-def one_port(value: Data) -> PortEntry:
-    """`portNumber` of an admin policy."""
-    must_be_object(value)
+def port_range(first_member: str, last_member: str, value: Data) -> PortEntry:
+    """`portRange` of an admin policy, and `portNumber`, which is a range of one port."""
     proto = protocol(value)
-    number = required("port", values.port, value)
-    return PortEntry(proto, number, number)
-
-
-def port_range(value: Data) -> PortEntry:
-    """`portRange` of an admin policy."""
-    must_be_object(value)
-    proto = protocol(value)
-    first = required("start", values.port, value)
-    last = required("end", values.port, value)
-    refuse_member_if("end", last < first, "BadPort")
+    first = required(first_member, values.port, value)
+    last = required(last_member, values.port, value)
+    refuse_member_if(last_member, last < first, "BadPort")
     return PortEntry(proto, first, last)
 
 
@@ -124,22 +109,20 @@ def named_port(value: Data) -> PortEntry:
     return PortEntry(None, 0, 0, port_name(value))
 
 
-ADMIN_PORTS = {"portNumber": one_port, "portRange": port_range, "namedPort": named_port}
+ADMIN_PORTS = {"portNumber": partial(port_range, "port", "port"), "portRange": partial(port_range, "start", "end"), "namedPort": named_port}
 
 
 def admin_port(value: Data) -> PortEntry:
     """An entry of `ports` of an admin policy: exactly one of its three members."""
-    must_be_object(value)
-    refuse_if(not values.has_one_of(tuple(ADMIN_PORTS), value), "BadPort")
-    name = next(one for one in ADMIN_PORTS if member(one, value) is not None)
-    return required(name, ADMIN_PORTS[name], value)
+    there = [one for one in ADMIN_PORTS if member(one, value) is not None]
+    refuse_if(len(there) != 1, "BadPort")
+    return required(there[0], ADMIN_PORTS[there[0]], value)
 
 
 # ---- NetworkPolicies
 
 def net_peer(value: Data) -> Peer:
     """An entry of `from` or `to`: selectors, or a block alone."""
-    must_be_object(value)
     has_selector = member("podSelector", value) is not None or member("namespaceSelector", value) is not None
     refuse_if((member("ipBlock", value) is not None) == has_selector, "PeerShape")
     pods = optional("podSelector", selector, value)
@@ -149,7 +132,6 @@ def net_peer(value: Data) -> Peer:
 
 def net_rule(direction: str, value: Data) -> Rule:
     """An entry of `ingress` or `egress`."""
-    must_be_object(value)
     peers = listed(PEERS[direction], net_peer, value)
     return Rule("Allow", peers, listed("ports", net_port, value))
 
@@ -165,7 +147,6 @@ NetSpec = Tuple[Selector, Dict[str, Optional[Tuple[Rule, ...]]]]
 
 def net_spec(value: Data) -> NetSpec:
     """`spec` of a NetworkPolicy: its subject, and its rules in the directions among its types."""
-    must_be_object(value)
     subject = optional_or(EVERYTHING, "podSelector", selector, value)
     types = listed("policyTypes", policy_type, value)
     ingress = listed(INGRESS, partial(net_rule, INGRESS), value)
@@ -183,35 +164,22 @@ def net_policy(value: Data) -> NetPolicy:
 
 # ---- admin policies
 
-def all_pods(value: Data) -> Subject:
-    """`namespaces` of a subject or peer: all pods of the namespaces that it selects."""
-    return Subject(selector(value), EVERYTHING)
-
-
-def some_pods(value: Data) -> Subject:
+def some_pods(value: Data) -> Peer:
     """`pods` of a subject or peer."""
-    must_be_object(value)
-    namespaces = required("namespaceSelector", selector, value)
-    return Subject(namespaces, required("podSelector", selector, value))
+    return Peer(required("namespaceSelector", selector, value), required("podSelector", selector, value))
 
 
-def pods_member(value: Data) -> Subject:
-    """The one member of `namespaces` and `pods` that is there."""
+def pods_member(value: Data) -> Peer:
+    """The one member of `namespaces`, which are all pods of the namespaces that it selects, and `pods` that is there."""
     if member("namespaces", value) is not None:
-        return required("namespaces", all_pods, value)
+        return Peer(required("namespaces", selector, value), EVERYTHING)
     return required("pods", some_pods, value)
 
 
-def subject_of(value: Data) -> Subject:
-    """`subject`: exactly one of its two members."""
-    must_be_object(value)
+def subject_of(value: Data) -> Peer:
+    """`subject`, and an entry of `from` of an admin rule: exactly one of its two members."""
     refuse_if(not values.has_one_of(("namespaces", "pods"), value), "PeerShape")
     return pods_member(value)
-
-
-def ingress_peer(value: Data) -> Peer:
-    """An entry of `from` of an admin rule."""
-    return Peer(*subject_of(value))
 
 
 def networks(value: Data) -> Peer:
@@ -223,11 +191,10 @@ def networks(value: Data) -> Peer:
 
 def egress_peer(value: Data) -> Peer:
     """An entry of `to` of an admin rule."""
-    must_be_object(value)
     refuse_member_if("nodes", member("nodes", value) is not None, "NodePeer")
     refuse_member_if("domainNames", member("domainNames", value) is not None, "DomainPeer")
     refuse_if(not values.has_one_of(("namespaces", "pods", "networks"), value), "PeerShape")
-    return networks(value) if member("networks", value) is not None else Peer(*pods_member(value))
+    return networks(value) if member("networks", value) is not None else pods_member(value)
 
 
 def action(tier: str, value: Data) -> str:
@@ -238,9 +205,8 @@ def action(tier: str, value: Data) -> str:
 
 def admin_rule(tier: str, direction: str, value: Data) -> Rule:
     """An entry of `ingress` or `egress` of an admin policy: it has at least one peer."""
-    must_be_object(value)
     effect = required("action", partial(action, tier), value)
-    peers = listed(PEERS[direction], ingress_peer if direction == INGRESS else egress_peer, value)
+    peers = listed(PEERS[direction], subject_of if direction == INGRESS else egress_peer, value)
     refuse_member_if(PEERS[direction], len(peers) == 0, "EmptyPeers")
     return Rule(effect, peers, listed("ports", admin_port, value))
 
@@ -251,10 +217,8 @@ def priority(value: Data) -> int:
     return value
 
 
-def object_name(value: Data) -> str:
-    """`metadata` of an object in no namespace."""
-    must_be_object(value)
-    return required("name", values.name, value)
+# `metadata` of an object in no namespace.
+object_name = partial(required, "name", values.name)
 
 
 def base_name(value: Data) -> str:
@@ -263,9 +227,8 @@ def base_name(value: Data) -> str:
     return "default"
 
 
-def admin_spec(tier: str, value: Data) -> Tuple[int, Subject, Dict[str, Tuple[Rule, ...]]]:
+def admin_spec(tier: str, value: Data) -> Tuple[int, Peer, Dict[str, Tuple[Rule, ...]]]:
     """`spec` of an admin policy or a baseline, which has no priority."""
-    must_be_object(value)
     rank = required("priority", priority, value) if tier == "Admin" else 0
     selected = required("subject", subject_of, value)
     return rank, selected, {way: listed(way, partial(admin_rule, tier, way), value) for way in (INGRESS, EGRESS)}

@@ -5,7 +5,7 @@ from . import values
 from .model import NAME_KEY, AdminPolicy, ControllerItem, Estate, IngressItem, Labels, NamespaceItem, NetPolicy, Notes, Owner, Pod, PodItem, ServiceItem
 from .objects import CONTROLLERS, Object, Other, object_of
 from .policies import BasePolicy, Policy, policy_of
-from .values import Data, Flaw, NotJson, json_of, member, type_meta
+from .values import Data, Flaw, NotJson, json_of, listed, refuse_if, type_meta
 
 MOST_ITEMS = 20000
 Item = Union[Object, Policy]
@@ -32,19 +32,14 @@ def values_in(number: int, data: bytes) -> List[Data]:
     """What the input of that number lists: a `v1` List its items, and another object itself, unless it is another list."""
     try:
         value = json_of(data)
+        version, kind = type_meta(value)
+        is_list = (version, kind) == ("v1", "List")
+        refuse_if(kind.endswith("List") and not is_list, "NotAList")
+        return list(listed("items", lambda item: item, value)) if is_list else [value]
     except NotJson:
         raise Refused("input %d: NotJson" % number) from None
-    version, kind = member("apiVersion", value), member("kind", value)
-    items = member("items", value)
-    if not isinstance(version, str) or not isinstance(kind, str):
-        raise Refused("input %d: NotAList" % number)
-    if (version, kind) != ("v1", "List"):
-        if kind.endswith("List"):
-            raise Refused("input %d: NotAList" % number)
-        return [value]
-    if not isinstance(items, list) and items is not None:
-        raise Refused("input %d: NotAList" % number)
-    return items or []
+    except Flaw:
+        raise Refused("input %d: NotAList" % number) from None
 
 
 def item_of(number: int, value: Data) -> Item:

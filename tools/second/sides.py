@@ -53,7 +53,7 @@ def net_selects(policy: NetPolicy, p: PodEnd) -> bool:
 
 def admin_selects(policy: AdminPolicy, p: PodEnd) -> bool:
     """An admin policy selects the pods whose namespace's labels and whose own labels meet its subject."""
-    return meets(policy.subject.namespaces, p.namespace_labels) and meets(policy.subject.pods, p.labels)
+    return admin_peer_matches(policy.subject, p, 0)
 
 
 def pods_match(namespace: str, namespaces: Optional[Selector], pods: Optional[Selector], p: PodEnd) -> bool:

@@ -108,7 +108,7 @@ def spans_of(estate: Estate) -> List[Span]:
     found += [Span(port.proto, port.number, port.number) for pod in estate.pods for port in pod.ports]
     ports = [port for service in estate.services for port in service.ports]
     found += [Span(TCP, port.port, port.port) for port in ports]
-    return found + [Span(TCP, port.target.number, port.target.number) for port in ports if port.target.number is not None]
+    return found + [Span(TCP, port.target, port.target) for port in ports if isinstance(port.target, int)]
 
 
 # ---- addresses

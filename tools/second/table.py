@@ -85,16 +85,14 @@ def all_rows(cluster: Cluster, controller: Optional[int]) -> Iterator[Row]:
 
 # ---- ingresses
 
-def service_named(estate: Estate, namespace: str, name: Optional[str]) -> Optional[ServiceItem]:
+def service_named(estate: Estate, namespace: str, name: str) -> Optional[ServiceItem]:
     """The listed service of a namespace and a name."""
     return next((one for one in estate.services if (one.namespace, one.name) == (namespace, name)), None)
 
 
-def is_backend_port(named: Optional[PortName], port: ServicePort) -> bool:
+def is_backend_port(named: PortName, port: ServicePort) -> bool:
     """Whether a port of a service is a TCP port of a number or name."""
-    assert named is not None
-    own = port.port == named.number if named.number is not None else port.name == named.name
-    return port.proto == TCP and own
+    return port.proto == TCP and named == (port.port if isinstance(named, int) else port.name)
 
 
 class Routes:
@@ -110,17 +108,17 @@ class Routes:
         space = self.cluster.space
         if service.headless:
             return space.span(TCP, port.port, port.port)
-        if port.target.number is not None:
-            return space.span(TCP, port.target.number, port.target.number)
+        if isinstance(port.target, int):
+            return space.span(TCP, port.target, port.target)
         spots = 0
         for own in p.ports:
-            spots |= space.span(TCP, own.number, own.number) if own.proto == TCP and own.name == port.target.name else 0
+            spots |= space.span(TCP, own.number, own.number) if own.proto == TCP and own.name == port.target else 0
         return spots
 
-    def backend_spots(self, namespace: str, backend: Backend, p: PodEnd) -> int:
-        """The ports of a pod that a backend of an ingress of a namespace leads to."""
-        service = service_named(self.cluster.estate, namespace, backend.service) if backend.port is not None else None
-        if service is None or service.external or service.selector is None or service.namespace != p.namespace:
+    def backend_spots(self, backend: Backend, p: PodEnd) -> int:
+        """The ports of a pod that a backend of an ingress of its namespace leads to."""
+        service = service_named(self.cluster.estate, p.namespace, backend.service)
+        if service is None or service.external or service.selector is None:
             return 0
         spots = 0
         for port in service.ports if meets(service.selector, p.labels) else ():
@@ -130,9 +128,9 @@ class Routes:
     def routed(self, p: PodEnd) -> int:
         """The ports of a pod that some ingress of its namespace leads to."""
         spots = 0
-        for _, ingress in self.cluster.estate.ingresses:
-            for backend in ingress.backends if ingress.namespace == p.namespace else ():
-                spots |= self.backend_spots(ingress.namespace, backend, p)
+        own = [ingress for _, ingress in self.cluster.estate.ingresses if ingress.namespace == p.namespace]
+        for backend in [backend for ingress in own for backend in ingress.backends if backend is not None]:
+            spots |= self.backend_spots(backend, p)
         return spots
 
     def may_send(self, receiver: PodEnd) -> int:
@@ -154,9 +152,9 @@ class Routes:
         return spots & self.may_send(receiver) if spots else 0
 
 
-def flaw_of(estate: Estate, namespace: str, backend: Backend) -> Optional[str]:
+def flaw_of(estate: Estate, namespace: str, backend: Optional[Backend]) -> Optional[str]:
     """The first flaw of a backend of an ingress of a namespace."""
-    if backend.port is None:
+    if backend is None:
         return "Resource"
     service = service_named(estate, namespace, backend.service)
     if service is None:

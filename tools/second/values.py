@@ -1,6 +1,7 @@
 """JSON values, their members, and the shapes that read them, or refuse them with the flaw that stands first (np_json)."""
 import json
 import re
+from functools import partial
 from typing import Any, Callable, Dict, List, NoReturn, Optional, Tuple, TypeVar, Union
 
 from .model import PROTOCOLS, is_name, is_word
@@ -97,8 +98,10 @@ def json_of(data: bytes) -> Data:
 # ---- members
 
 def member(name: str, value: Data) -> Data:
-    """The member of that name, and None where it is absent or null; a value that is no object has none."""
-    return value.get(name) if isinstance(value, dict) else None
+    """The member of that name of what must be an object, and None where it is absent or null."""
+    if not isinstance(value, dict):
+        raise Flaw("BadField")
+    return value.get(name)
 
 
 def is_whole(value: Data) -> bool:
@@ -112,10 +115,10 @@ def refuse_if(broken: bool, kind: str) -> None:
         raise Flaw(kind)
 
 
-def under(step: Step, shape: Callable[[], A]) -> A:
-    """What is read of the part of a value at one step."""
+def under(step: Step, shape: Shape[A], value: Data) -> A:
+    """What a shape reads of the part of a value at one step."""
     try:
-        return shape()
+        return shape(value)
     except Flaw as flaw:
         flaw.path.insert(0, step)
         raise
@@ -123,12 +126,7 @@ def under(step: Step, shape: Callable[[], A]) -> A:
 
 def refuse_member_if(name: str, broken: bool, kind: str) -> None:
     """A rule on a member: the member's flaw where it is broken."""
-    under(name, lambda: refuse_if(broken, kind))
-
-
-def must_be_object(value: Data) -> None:
-    """The rule that a value is an object."""
-    refuse_if(not isinstance(value, dict), "BadField")
+    under(name, lambda value: refuse_if(broken, kind), None)
 
 
 def has_one_of(names: Tuple[str, ...], value: Data) -> bool:
@@ -136,35 +134,38 @@ def has_one_of(names: Tuple[str, ...], value: Data) -> bool:
     return sum(member(name, value) is not None for name in names) == 1
 
 
+def absent(value: Data) -> NoReturn:
+    """The shape of a member that must be there and is not."""
+    raise Flaw("BadField")
+
+
 def required(name: str, shape: Shape[A], value: Data) -> A:
     """A member that must be there."""
     found = member(name, value)
-    if found is None:
-        refuse_member_if(name, True, "BadField")
-    return under(name, lambda: shape(found))
+    return under(name, absent if found is None else shape, found)
 
 
 def optional(name: str, shape: Shape[A], value: Data) -> Optional[A]:
     """A member that may be missing."""
     found = member(name, value)
-    return None if found is None else under(name, lambda: shape(found))
+    return None if found is None else under(name, shape, found)
 
 
 def optional_or(missing: A, name: str, shape: Shape[A], value: Data) -> A:
     """A member that stands for this value where it is missing."""
-    found = optional(name, shape, value)
-    return missing if found is None else found
+    found = member(name, value)
+    return missing if found is None else under(name, shape, found)
 
 
 def items_of(shape: Shape[A], value: Data) -> Tuple[A, ...]:
     """The items of a list by the shape, each under its place."""
     refuse_if(not isinstance(value, list), "BadField")
-    return tuple([under(place, lambda: shape(item)) for place, item in enumerate(value)])
+    return tuple([under(place, shape, item) for place, item in enumerate(value)])
 
 
 def listed(name: str, shape: Shape[A], value: Data) -> Tuple[A, ...]:
     """A member that is a list, and empty where it is missing."""
-    return optional_or((), name, lambda found: items_of(shape, found), value)
+    return optional_or((), name, partial(items_of, shape), value)
 
 
 # ---- single values
@@ -218,8 +219,7 @@ def protocol_name(value: Data) -> int:
 
 def labels(value: Data) -> Dict[str, str]:
     """An object from texts to texts that are labels, in the order of their keys, else BadField."""
-    must_be_object(value)
-    refuse_if(not all(isinstance(one, str) for one in value.values()), "BadField")
+    refuse_if(not isinstance(value, dict) or not all(isinstance(one, str) for one in value.values()), "BadField")
     refuse_if(not all(key and is_word(key) and is_word(one) for key, one in value.items()), "BadField")
     return dict(sorted(value.items()))
 
@@ -228,7 +228,6 @@ def labels(value: Data) -> Dict[str, str]:
 
 def type_meta(value: Data) -> Tuple[str, str]:
     """The API version and the kind of an object."""
-    must_be_object(value)
     return required("apiVersion", text, value), required("kind", text, value)
 
 
@@ -241,6 +240,5 @@ def namespace(value: Data) -> str:
 
 def namespaced_name(value: Data) -> Tuple[str, str]:
     """The namespace and the name of an object, of which the name is read first."""
-    must_be_object(value)
     called = required("name", name, value)
     return optional_or("default", "namespace", namespace, value), called
