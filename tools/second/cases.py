@@ -76,6 +76,15 @@ def places_in(value: Any, own: Place = ()) -> Iterator[Place]:
         yield from places_in(part, own + (step,))
 
 
+def mixed(rng: Rng, value: Any) -> Any:
+    """A value with the members of all objects in another order."""
+    if isinstance(value, list):
+        return [mixed(rng, part) for part in value]
+    if not isinstance(value, dict):
+        return value
+    return {name: mixed(rng, value[name]) for name in rng.sample(list(value), len(value))}
+
+
 def at(value: Any, place: Place) -> Any:
     """The part of a value at a place."""
     for step in place:
@@ -125,7 +134,7 @@ def options(rng: Rng, command: str, names: Tuple[List[str], List[str]]) -> List[
     """Random options of a command."""
     words: List[str] = []
     chances: Dict[str, List[Tuple[str, float, Callable[[], str]]]] = {
-        "list": [("format", 0.3, lambda: rng.choice(["text", "csv", "json"])), ("report", 0.3, lambda: rng.choice("12")), ("controller", 0.2, lambda: end(rng, names[0])),
+        "list": [("format", 0.3, lambda: rng.choice(["text", "csv", "json"])), ("report", 0.3, lambda: rng.choice("12")), ("controller", 0.35, lambda: end(rng, names[0])),
                  ("focus", 0.2, lambda: end(rng, names[0])), ("side", 0.3, lambda: rng.choice(["either", "from", "to"]))],
         "explain": [("from", 1, lambda: end(rng, names[0])), ("to", 1, lambda: end(rng, names[0]))],
         "exposure": [("workload", 0.4, lambda: end(rng, names[0])), ("format", 0.3, lambda: rng.choice(["text", "csv", "json"]))],
@@ -168,7 +177,9 @@ def conns(rng: Rng) -> str:
     """The connections of a statement."""
     runs = ["53", "80", "80-90", "1-65535", "443", "8080", "50-60,80", "53,80,8080", "1-52,54-65535"]
     parts = [name + " " + rng.choice(runs) for name in ("TCP", "UDP", "SCTP") if rng.random() < 0.5]
-    return rng.choice(["All Connections", "TCP 1-65535; UDP 1-65535; SCTP 1-65535", "No Connections", "; ".join(parts) or "TCP 80", "; ".join(parts) or "UDP 53"])
+    if rng.random() < 0.03:
+        return "TCP 1-65535; UDP 1-65535; SCTP 1-65535"
+    return rng.choice(["All Connections", "No Connections", "; ".join(parts) or "TCP 80", "; ".join(parts) or "UDP 53"])
 
 
 def statement(rng: Rng, names: List[str]) -> str:

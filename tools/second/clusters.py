@@ -61,7 +61,7 @@ def owned_pods(rng: Rng) -> List[Item]:
         found.append(set_item)
         if rng.random() < 0.5 and top != "Widget":
             found.append(controller(rng, top, "top"))
-            found[-1]["metadata"].update(namespace=space, **maybe(rng, 0.1, ownerReferences=[owner(kind, "set")]))
+            found[-1]["metadata"].update(namespace=space, **maybe(rng, 0.5, ownerReferences=[rng.choice([owner(kind, "set"), owner("CronJob", "boss"), owner("CronJob", "boss")])]))
     return found
 
 
@@ -75,7 +75,7 @@ def service(rng: Rng, name: str) -> Item:
     """A Service."""
     ports = [{"port": rng.choice([80, 443]), **maybe(rng, 0.6, name=rng.choice(["http", "web"])), **maybe(rng, 0.7, targetPort=rng.choice([80, 8080, "http", "web", "dns", 0, ""])),
               **maybe(rng, 0.3, protocol=rng.choice(["TCP", "UDP"]))} for _ in range(rng.randrange(1, 3))]
-    spec = {"ports": ports, **maybe(rng, 0.85, selector=lists.labels(rng)), **maybe(rng, 0.2, clusterIP=rng.choice(["None", "10.9.0.1", ""])),
+    spec = {"ports": ports, **maybe(rng, 0.85, selector=rng.choice([lists.labels(rng), {"app": rng.choice("xy")}])), **maybe(rng, 0.2, clusterIP=rng.choice(["None", "10.9.0.1", ""])),
             **maybe(rng, 0.2, type=rng.choice(["ExternalName", "ClusterIP"]))}
     return {"apiVersion": "v1", "kind": "Service", "metadata": metadata(rng, name), "spec": spec}
 
@@ -96,8 +96,12 @@ def ingress(rng: Rng, name: str) -> Item:
 
 
 def routes(rng: Rng) -> List[Item]:
-    """Services, and Ingresses that lead to them."""
-    return [service(rng, "s%d" % n) for n in range(2)] + [ingress(rng, "i%d" % n) for n in range(rng.randrange(1, 3))]
+    """Services, and Ingresses that lead to them, mostly in one namespace."""
+    found = [service(rng, "s%d" % n) for n in range(2)] + [ingress(rng, "i%d" % n) for n in range(rng.randrange(1, 3))]
+    space = rng.choice(lists.SPACES)
+    for item in found:
+        item["metadata"].update(maybe(rng, 0.8, namespace=space))
+    return found
 
 
 def admin_port(rng: Rng) -> Item:
@@ -110,6 +114,8 @@ def admin_port(rng: Rng) -> Item:
 
 def richer_admin(rng: Rng, policy: Item) -> None:
     """An admin policy with named ports, more networks and subjects of pods."""
+    if "priority" in policy["spec"] and rng.random() < 0.05:
+        policy["spec"]["priority"] = 3
     if rng.random() < 0.4:
         policy["spec"]["subject"] = {"pods": {"namespaceSelector": lists.space_selector(rng), "podSelector": lists.selector(rng)}}
     for rule in policy["spec"].get("ingress", []) + policy["spec"].get("egress", []):
@@ -141,14 +147,30 @@ def others(rng: Rng) -> List[Item]:
 EXTRAS: List[Callable[[Rng], List[Item]]] = [owned_pods, templates, routes, others]
 
 
+def richer_pod(rng: Rng, pod: Item) -> None:
+    """A pod that may be on the network of its node, or have ended, with more ports, and an address that stands first."""
+    if rng.random() < 0.3:
+        pod["spec"] = pod_spec(rng)
+    pod["status"].update(maybe(rng, 0.15, phase=rng.choice(["Running", "Succeeded", "Failed"])), **maybe(rng, 0.2, podIP=rng.choice(["10.0.0.1", "fd00::1", ""])))
+
+
+def richer_space(rng: Rng, space: Item) -> None:
+    """A namespace of which a label may say another name."""
+    space["metadata"]["labels"].update(maybe(rng, 0.2, **{lists.NAME_KEY: rng.choice(lists.SPACES)}))
+
+
+RICHER: Dict[str, Callable[[Rng, Item], None]] = {
+    "NetworkPolicy": richer_net, "AdminNetworkPolicy": richer_admin, "BaselineAdminNetworkPolicy": richer_admin, "Pod": richer_pod, "Namespace": richer_space}
+
+
 def random_items(rng: Rng) -> List[Item]:
     """The items of a random list."""
     items = lists.random_items(rng)
     for extra in EXTRAS:
-        items += extra(rng) if rng.random() < 0.35 else []
+        items += extra(rng) if rng.random() < (0.5 if extra is routes else 0.35) else []
     for item in items:
-        if item["kind"].endswith("NetworkPolicy"):
-            (richer_net if item["kind"] == "NetworkPolicy" else richer_admin)(rng, item)
+        if item["kind"] in RICHER:
+            RICHER[item["kind"]](rng, item)
     if rng.random() < 0.5:
         rng.shuffle(items)
     return items

@@ -7,7 +7,7 @@ The second program was written from docs/proof/THEOREM.txt alone. Of each KIND o
 compares status, report and what is said on standard error. It prints how many cases of each kind it compared. It ends with status 1 at the
 first case in which both differ, which it prints, with a folder that has the files to repeat it.
 
-lists       random clusters, with a few changes in one of six: two questions about each
+lists       random clusters, with a few changes in one of six
 faults      a value of another type or spelling, or none, at each member of each kind of object in its turn
 spellings   numbers, texts, addresses and blocks in random clusters, spelled otherwise
 words       words of the command line that are out of place
@@ -21,6 +21,7 @@ import argparse
 import os
 import random
 import shlex
+import shutil
 import subprocess
 import sys
 import tempfile
@@ -96,7 +97,7 @@ def difference(words: List[str], np: Found, second: Found) -> Optional[str]:
         return None
     folder = tempfile.mkdtemp(prefix="second-")
     for name in os.listdir("."):
-        os.rename(name, os.path.join(folder, name))
+        shutil.move(name, os.path.join(folder, name))
     lines = ["cd %s && np %s < stdin" % (folder, shlex.join(words))]
     for what, one, other in zip(("status", "report", "standard error"), np, second):
         if one != other:
@@ -124,6 +125,8 @@ def compare(np: str, lists: int, others: int, seed: int, names: List[str]) -> in
             if told is not None:
                 print("they differ at case %d: %s, number %d, seed %d\n%s" % (sum(done.values()), kind, number, seed, told))
                 return 1
+        if sum(done.values()) % 20000 == 0:
+            print("so far: " + ", ".join("%s %d" % entry for entry in done.items()), file=sys.stderr, flush=True)
     print("\n".join("%s: %d cases, no difference" % entry for entry in done.items()))
     return 0
 

@@ -4,7 +4,7 @@ import json
 from typing import Any, Callable, Dict, List
 
 import clusters
-from cases import (ADDRESSES, CIDRS, COMMANDS, GONE, KNOWN, NUMBERS, OTHERS, POOL, TEXTS, Case, Place, Raw, Rng, asked, at, end, list_of, names_in, options, places_in, put, spoil,
+from cases import (ADDRESSES, CIDRS, COMMANDS, GONE, KNOWN, NUMBERS, OTHERS, POOL, TEXTS, Case, Place, Raw, Rng, asked, at, end, list_of, mixed, names_in, options, places_in, put, spoil,
                    spoilt_line, statement, statements, text_of)
 
 
@@ -19,13 +19,12 @@ def cut(rng: Rng, items: List[Any]) -> List[bytes]:
 
 
 def lists(rng: Rng, number: int) -> List[Case]:
-    """A random list, which in one case of six has a few changes, and two questions about it."""
+    """A random list, which in one case of six has a few changes, and a question about it."""
     items = clusters.random_items(rng)
     for _ in range(rng.randrange(1, 4) if rng.random() < 0.17 else 0):
         if items:
             spoil(rng, items)
-    texts = cut(rng, items)
-    return [asked(rng, texts), asked(rng, texts)]
+    return [asked(rng, cut(rng, mixed(rng, items) if rng.random() < 0.3 else items))]
 
 
 FULL = clusters.full_items()
@@ -76,7 +75,8 @@ def spellings(rng: Rng, number: int) -> List[Case]:
 ODD_WORDS = ["--", "-", "-x", "--help", "-h", "--version", "help", "", "=", "--=", "--format", "--format=", "--format=csv", "--format=json=", "--report=1", "--report", "3", "csv", "TEXT", "--from", "--to", "--from=10.0.0.1",
              "--to=nsone/p0", "--to=", "--focus=", "--focus=nsone/p0[Pod]", "--side=to", "--side", "both", "--port=80", "--port=080", "--port=+80", "--port=0", "--port=65536", "--protocol=TCP", "--protocol=tcp",
              "--workload", "--workload=a/b", "--statement=statements", "--statement=-", "--statement", "0.json", "none.json", ".", "statements", "--controller=--format", "--controller", "-1", "--forma=csv", "--FORMAT=csv",
-             "10.0.0.1", "list", "1", "1000", "7", "01", "5\u0661", "./0.json", "\u00e9", "--\u00e9", "a b", "--from=::1", "--from=010.0.0.1", "--port", "80", "--protocol", "UDP", "nsone/p1", "nsone/p0[Pod]"]
+             "10.0.0.1", "list", "1", "1000", "7", "01", "5\u0661", "./0.json", "\u00e9", "--\u00e9", "a b", "--from=::1", "--from=010.0.0.1", "--port", "80", "--protocol", "UDP", "nsone/p1", "nsone/p0[Pod]", "\udcff",
+             "a\udcc3/b"]
 
 
 def words(rng: Rng, number: int) -> List[Case]:
@@ -101,7 +101,7 @@ def statement_files(rng: Rng, number: int) -> List[Case]:
     text = text_of(list_of(clusters.random_items(rng)))
     names = names_in((text,))[0] + (["no/such"] if rng.random() < 0.1 else [])
     lines = [statement(rng, names).encode() for _ in range(rng.randrange(1, 4))]
-    for _ in range(rng.choice([0, 1, 1, 2])):
+    for _ in range(rng.choice([0, 0, 0, 1, 1, 2])):
         place = rng.randrange(len(lines))
         lines[place] = spoilt_line(rng, lines[place].decode("utf-8", "replace"))
     return [Case(["check", "--statement", "statements"], {"statements": b"\n".join(lines) + b"\n"}, text)]

@@ -6,7 +6,7 @@ from . import values
 from .addresses import Address, address_of
 from .model import (TCP, Backend, ControllerItem, IngressItem, Labels, NamedPort, NamespaceItem, Owner, PodItem, PortName, Selector, ServiceItem,
                     ServicePort, Template, label_requirement)
-from .values import Data, Flaw, listed, member, optional, optional_or, refuse_if, required
+from .values import Data, listed, member, optional, optional_or, refuse_if, required
 
 CONTROLLERS = ("Deployment", "ReplicaSet", "StatefulSet", "DaemonSet", "ReplicationController", "Job", "CronJob")
 KINDS: Dict[str, Tuple[str, ...]] = {
@@ -48,9 +48,7 @@ def pod_spec(value: Data) -> Tuple[Tuple[NamedPort, ...], bool]:
 
 def address(value: Data) -> Optional[Address]:
     """A text that is empty or an address."""
-    found = address_of(values.text(value))
-    refuse_if(found is None and value != "", "BadAddress")
-    return found
+    return None if value == "" else values.written(address_of, "BadAddress")(value)
 
 
 def pod_status(value: Data) -> Tuple[bool, Tuple[Address, ...]]:
@@ -133,7 +131,7 @@ def controller(kind: str, value: Data) -> ControllerItem:
 def target_port(value: Data) -> Optional[PortName]:
     """A port of the pods behind a service; the number 0 and the empty text count as missing."""
     if values.is_whole(value):
-        return None if value == 0 else values.port_number(value)
+        return None if value == 0 else values.port(value)
     return port_name(value)
 
 

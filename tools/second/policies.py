@@ -6,7 +6,7 @@ from . import values
 from .addresses import Cidr, cidr_of, is_strict_part
 from .model import (EGRESS, EVERYTHING, INGRESS, TCP, AdminPolicy, NetPolicy, Peer, PortEntry, Requirement, Rule, Selector, is_word,
                     label_requirement)
-from .values import Data, Flaw, listed, member, optional, optional_or, refuse_if, refuse_member_if, required, under
+from .values import Data, items_of, listed, member, optional, optional_or, passing, refuse_if, refuse_member_if, required, under
 
 PEERS = {INGRESS: "from", EGRESS: "to"}
 ACTIONS: Dict[str, Tuple[str, ...]] = {"Admin": ("Allow", "Deny", "Pass"), "Baseline": ("Allow", "Deny")}
@@ -15,10 +15,8 @@ ADMIN_VERSION = "policy.networking.k8s.io/v1alpha1"
 
 # ---- selectors
 
-def key(value: Data) -> str:
-    """The key of an expression: a word that is not empty, else BadField."""
-    refuse_if(values.word(value) == "", "BadField")
-    return value
+# The key of an expression: a word that is not empty, else BadField.
+key = passing(bool, "BadField", values.word)
 
 
 def expression(value: Data) -> Requirement:
@@ -42,19 +40,15 @@ def selector(value: Data) -> Selector:
 
 # ---- blocks
 
-def cidr(value: Data) -> Cidr:
-    """A text that writes a block of addresses, else BadCidr."""
-    found = cidr_of(values.text(value))
-    if found is None:
-        raise Flaw("BadCidr")
-    return found
+# A text that writes a block of addresses, else BadCidr.
+cidr = values.written(cidr_of, "BadCidr")
 
 
 def ip_block(value: Data) -> Peer:
     """`ipBlock` of a peer: each except is a strict part of `cidr`."""
     block = required("cidr", cidr, value)
     excepts = listed("except", cidr, value)
-    under("except", partial(values.items_of, lambda part: refuse_if(not is_strict_part(block, part), "BadExcept")), list(excepts))
+    under("except", partial(items_of, passing(partial(is_strict_part, block), "BadExcept", lambda part: part)), list(excepts))
     return Peer(None, None, (block,), excepts)
 
 
@@ -64,30 +58,20 @@ def ip_block(value: Data) -> Peer:
 protocol = partial(optional_or, TCP, "protocol", values.protocol_name)
 
 
-def port_name(value: Data) -> str:
-    """The name of a container port: the empty text is BadPort, another that is no word BadField."""
-    refuse_if(values.text(value) == "", "BadPort")
-    refuse_if(not is_word(value), "BadField")
-    return value
+# The name of a container port: the empty text is BadPort, another that is no word BadField.
+port_name = passing(is_word, "BadField", passing(bool, "BadPort", values.text))
 
 
 def port_value(value: Data) -> Union[int, str]:
     """`port` of a NetworkPolicy: a port's number or name."""
-    return values.port_number(value) if values.is_whole(value) else port_name(value)
-
-
-def end_port(first: Union[None, int, str], value: Data) -> int:
-    """`endPort`, behind a `port` that is a number and not above it."""
-    last = values.port(value)
-    refuse_if(not (isinstance(first, int) and first <= last), "BadPort")
-    return last
+    return values.port(value) if values.is_whole(value) else port_name(value)
 
 
 def net_port(value: Data) -> PortEntry:
     """An entry of `ports` of a NetworkPolicy: one port, the ports up to another, a named port, or all ports."""
     proto = protocol(value)
     first = optional("port", port_value, value)
-    last = optional("endPort", partial(end_port, first), value)
+    last = optional("endPort", passing(lambda end: isinstance(first, int) and first <= end, "BadPort", values.port), value)
     if first is None:
         return PortEntry(proto, 1, 65535)
     if isinstance(first, str):
@@ -136,12 +120,8 @@ def net_rule(direction: str, value: Data) -> Rule:
     return Rule("Allow", peers, listed("ports", net_port, value))
 
 
-def policy_type(value: Data) -> str:
-    """An entry of `policyTypes`, else BadField."""
-    refuse_if(values.text(value) not in ("Ingress", "Egress"), "BadField")
-    return value.lower()
-
-
+# An entry of `policyTypes`, else BadField.
+policy_type = values.written({"Ingress": INGRESS, "Egress": EGRESS}.get, "BadField")
 NetSpec = Tuple[Selector, Dict[str, Optional[Tuple[Rule, ...]]]]
 
 
@@ -182,11 +162,8 @@ def subject_of(value: Data) -> Peer:
     return pods_member(value)
 
 
-def networks(value: Data) -> Peer:
-    """`networks` of a peer: at least one block."""
-    cidrs = listed("networks", cidr, value)
-    refuse_member_if("networks", len(cidrs) == 0, "EmptyPeers")
-    return Peer(None, None, cidrs)
+# `networks` of a peer: at least one block.
+networks = passing(bool, "EmptyPeers", partial(items_of, cidr))
 
 
 def egress_peer(value: Data) -> Peer:
@@ -194,37 +171,23 @@ def egress_peer(value: Data) -> Peer:
     refuse_member_if("nodes", member("nodes", value) is not None, "NodePeer")
     refuse_member_if("domainNames", member("domainNames", value) is not None, "DomainPeer")
     refuse_if(not values.has_one_of(("namespaces", "pods", "networks"), value), "PeerShape")
-    return networks(value) if member("networks", value) is not None else pods_member(value)
-
-
-def action(tier: str, value: Data) -> str:
-    """`action` of a rule: one that the policy may have, else BadAction."""
-    refuse_if(values.text(value) not in ACTIONS[tier], "BadAction")
-    return value
+    return pods_member(value) if member("networks", value) is None else Peer(None, None, required("networks", networks, value))
 
 
 def admin_rule(tier: str, direction: str, value: Data) -> Rule:
     """An entry of `ingress` or `egress` of an admin policy: it has at least one peer."""
-    effect = required("action", partial(action, tier), value)
+    effect = required("action", passing(ACTIONS[tier].__contains__, "BadAction", values.text), value)
     peers = listed(PEERS[direction], subject_of if direction == INGRESS else egress_peer, value)
     refuse_member_if(PEERS[direction], len(peers) == 0, "EmptyPeers")
     return Rule(effect, peers, listed("ports", admin_port, value))
 
 
-def priority(value: Data) -> int:
-    """A priority from 0 to 1000, else BadPriority."""
-    refuse_if(not 0 <= values.whole(value) <= 1000, "BadPriority")
-    return value
-
-
+# A priority from 0 to 1000, else BadPriority.
+priority = passing(lambda number: 0 <= number <= 1000, "BadPriority", values.whole)
 # `metadata` of an object in no namespace.
 object_name = partial(required, "name", values.name)
-
-
-def base_name(value: Data) -> str:
-    """`metadata` of a BaselineAdminNetworkPolicy, which is named `default`."""
-    refuse_member_if("name", object_name(value) != "default", "BaselineName")
-    return "default"
+# `metadata` of a BaselineAdminNetworkPolicy, which is named `default`.
+base_name = partial(required, "name", passing("default".__eq__, "BaselineName", values.name))
 
 
 def admin_spec(tier: str, value: Data) -> Tuple[int, Peer, Dict[str, Tuple[Rule, ...]]]:

@@ -22,6 +22,7 @@ from second.model import PROTOCOLS, Estate
 from second.reading import Refused, estate_of
 from second.spots import Span
 from second.table import list_reply, route_notes, sample_reply, sample_text
+from second.values import SURROGATE
 from second.words import USAGE, Job, job_of
 
 SIZE_LIMIT = 33554432
@@ -117,7 +118,9 @@ def answer(job: Job, source: Source) -> Answer:
 
 
 def run(words: Sequence[str], source: Source) -> Answer:
-    """The answer of the words of a command line."""
+    """The answer of the words of a command line. Where one is no text, nothing is said of that."""
+    if SURROGATE.search("".join(words)):
+        return Answer(WRONG_USE, b"", b"")
     job = job_of(words)
     if job is None:
         return Answer(WRONG_USE, b"", USAGE.encode())

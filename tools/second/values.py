@@ -170,51 +170,35 @@ def listed(name: str, shape: Shape[A], value: Data) -> Tuple[A, ...]:
 
 # ---- single values
 
-def text(value: Data) -> str:
-    """A text, else BadField."""
-    refuse_if(not isinstance(value, str), "BadField")
-    return value
+def passing(passes: Callable[[Any], object], kind: str, shape: Shape[A]) -> Shape[A]:
+    """The shape of what another one reads, where it passes a test, else a flaw of the whole value."""
+    def read(value: Data) -> A:
+        found = shape(value)
+        refuse_if(not passes(found), kind)
+        return found
+    return read
 
 
-def whole(value: Data) -> int:
-    """A whole number, else BadField."""
-    refuse_if(not is_whole(value), "BadField")
-    return value
+def written(reads: Callable[[str], Optional[A]], kind: str) -> Shape[A]:
+    """The shape of a text that stands for something, else a flaw of the whole value."""
+    def read(value: Data) -> A:
+        found = reads(text(value))
+        if found is None:
+            raise Flaw(kind)
+        return found
+    return read
 
 
-def flag(value: Data) -> bool:
-    """True or false, else BadField."""
-    refuse_if(not isinstance(value, bool), "BadField")
-    return value
-
-
-def name(value: Data) -> str:
-    """A text that is a name, else BadName."""
-    refuse_if(not is_name(text(value)), "BadName")
-    return value
-
-
-def word(value: Data) -> str:
-    """A text that is a word, else BadField."""
-    refuse_if(not is_word(text(value)), "BadField")
-    return value
-
-
-def port_number(number: int) -> int:
-    """The number of a port, if it is from 1 to 65535."""
-    refuse_if(not 1 <= number <= 65535, "BadPort")
-    return number
-
-
-def port(value: Data) -> int:
-    """A whole number from 1 to 65535, else BadPort."""
-    return port_number(whole(value))
-
-
-def protocol_name(value: Data) -> int:
-    """A text that names a protocol, else BadProtocol."""
-    refuse_if(text(value) not in PROTOCOLS, "BadProtocol")
-    return PROTOCOLS[value]
+# Values of one type, else BadField; names, else BadName; words, else BadField; ports, else BadPort; protocols, else BadProtocol.
+text: Shape[str] = passing(lambda value: isinstance(value, str), "BadField", lambda value: value)
+whole: Shape[int] = passing(is_whole, "BadField", lambda value: value)
+flag: Shape[bool] = passing(lambda value: isinstance(value, bool), "BadField", lambda value: value)
+name = passing(is_name, "BadName", text)
+word = passing(is_word, "BadField", text)
+port = passing(lambda number: 1 <= number <= 65535, "BadPort", whole)
+protocol_name = written(PROTOCOLS.get, "BadProtocol")
+# A namespace: a text that is empty, which stands for `default`, or a name.
+namespace = passing(is_name, "BadName", lambda value: text(value) or "default")
 
 
 def labels(value: Data) -> Dict[str, str]:
@@ -229,13 +213,6 @@ def labels(value: Data) -> Dict[str, str]:
 def type_meta(value: Data) -> Tuple[str, str]:
     """The API version and the kind of an object."""
     return required("apiVersion", text, value), required("kind", text, value)
-
-
-def namespace(value: Data) -> str:
-    """A text that is empty, which stands for `default`, or a name."""
-    found = text(value) or "default"
-    refuse_if(not is_name(found), "BadName")
-    return found
 
 
 def namespaced_name(value: Data) -> Tuple[str, str]:
