@@ -23,21 +23,30 @@ class Raw(NamedTuple):
     text: str
 
 
-NUMBERS = [0, 1, -1, 80, 443, 65535, 65536, 1000, 1001, 2 ** 63 - 1, 2 ** 63, -2 ** 63, -2 ** 63 - 1, 2 ** 64, Raw("80.0"), Raw("8e1"), Raw("-0"), Raw("0.0"),
-           Raw("1e400"), Raw("-1E+400"), Raw("0e999"), Raw("1e-999"), Raw("1" + "0" * 400), Raw("080"), Raw("+80"), Raw(".5"), Raw("5."), Raw("NaN"), Raw("-"), Raw("0x10")]
-TEXTS = ["", "a", "A.b-c_d", "a/b", "a b", "a:b", "\u00e9", "\n", "\"", "a\u0000", "\U0001f600", "None", "-", "_", ".", "80", "http", "default", "List", "x" * 300, Raw('"\\u0061"'),
-         Raw('"\\ud83d\\ude00"'), Raw('"\\ud83d"'), Raw('"\\ude00"'), Raw('"\\ud83dx"'), Raw('"a\tb"'), Raw('"\\/"'), Raw('"\\x"'), Raw("'a'"), Raw('"\x7f"')]
-ADDRESSES = ["10.0.0.1", "010.000.000.001", "10.0.0", "10.0.0.256", "10.0.0.1.", "1e1.0.0.1", "::", "::1", "1::", "fd00::0:1", "FD00::1", "1:2:3:4:5:6:7:8", "1:2:3:4:5:6:7", "1::2::3",
-             ":1::2", "::ffff:10.0.0.1", "1:2:3:4:5:6:10.0.0.1", "10.0.0.1::", "1:2:3:4:5:6:7::", "::2:3:4:5:6:7:8", "1::3:4:5:6:7:8", "1:2:3:4::5:6:7:8", "00001::", "fe80::1%eth0",
-             " 10.0.0.1", "10.0.0.1 ", "\u0661.0.0.1", "10.0.0.-1", "10.0.0.+1", "0x0a.0.0.1", ":::", "1:::2", "::1.2.3.4.5", "::1.2.3", "1.2.3.4:5::"]
-CIDRS = [one + "/" + length for one in ("10.0.0.1", "10.0.0.0", "0.0.0.0", "fd00::1", "::", "fd00::10.0.0.1") for length in ("0", "8", "08", "00", "31", "32", "33", "64", "128", "129", "", "-1", "+8", "8 ", "1e1", "256", "0032")]
-OTHERS = [None, True, False, [], {}, [[]], [{}], {"a": None}, {"": "x"}, {"app": "x"}, {"a b": "x"}, {"app": "a b"}, {"app": 1}, {"app": None}, ["x", "x"], [1], ["a b"], [None]]
-KNOWN = ["In", "NotIn", "Exists", "DoesNotExist", "in", "TCP", "UDP", "SCTP", "tcp", "Ingress", "Egress", "ingress", "Allow", "Deny", "Pass", "pass", "v1", "apps/v1", "batch/v1", "networking.k8s.io/v1",
-         "policy.networking.k8s.io/v1alpha1", "policy.networking.k8s.io/v1alpha2", "Pod", "Node", "Deployment", "PodList", "NetworkPolicy", "CiliumNetworkPolicy", "AdminNetworkPolicy", "Succeeded", "Failed", "ExternalName"]
+NUMBERS = [0, 1, -1, 80, 443, 65535, 65536, 1000, 1001, 2 ** 63 - 1, 2 ** 63, -2 ** 63, -2 ** 63 - 1, 2 ** 64, Raw("80.0"), Raw("8e1"),
+           Raw("-0"), Raw("0.0"), Raw("1e400"), Raw("-1E+400"), Raw("0e999"), Raw("1e-999"), Raw("1" + "0" * 400), Raw("080"), Raw("+80"),
+           Raw(".5"), Raw("5."), Raw("NaN"), Raw("-"), Raw("0x10")]
+TEXTS = ["", "a", "A.b-c_d", "a/b", "a b", "a:b", "\u00e9", "\n", "\"", "a\u0000", "\U0001f600", "None", "-", "_", ".", "80", "http",
+         "default", "List", "x" * 300, Raw('"\\u0061"'), Raw('"\\ud83d\\ude00"'), Raw('"\\ud83d"'), Raw('"\\ude00"'), Raw('"\\ud83dx"'),
+         Raw('"a\tb"'), Raw('"\\/"'), Raw('"\\x"'), Raw("'a'"), Raw('"\x7f"')]
+ADDRESSES = ["10.0.0.1", "010.000.000.001", "10.0.0", "10.0.0.256", "10.0.0.1.", "1e1.0.0.1", "::", "::1", "1::", "fd00::0:1", "FD00::1",
+             "1:2:3:4:5:6:7:8", "1:2:3:4:5:6:7", "1::2::3", ":1::2", "::ffff:10.0.0.1", "1:2:3:4:5:6:10.0.0.1", "10.0.0.1::",
+             "1:2:3:4:5:6:7::", "::2:3:4:5:6:7:8", "1::3:4:5:6:7:8", "1:2:3:4::5:6:7:8", "00001::", "fe80::1%eth0", " 10.0.0.1",
+             "10.0.0.1 ", "\u0661.0.0.1", "10.0.0.-1", "10.0.0.+1", "0x0a.0.0.1", ":::", "1:::2", "::1.2.3.4.5", "::1.2.3", "1.2.3.4:5::"]
+BASES = ["10.0.0.1", "10.0.0.0", "0.0.0.0", "fd00::1", "::", "fd00::10.0.0.1"]
+LENGTHS = ["0", "8", "08", "00", "31", "32", "33", "64", "128", "129", "", "-1", "+8", "8 ", "1e1", "256", "0032"]
+CIDRS = [base + "/" + length for base in BASES for length in LENGTHS]
+OTHERS = [None, True, False, [], {}, [[]], [{}], {"a": None}, {"": "x"}, {"app": "x"}, {"a b": "x"}, {"app": "a b"}, {"app": 1},
+          {"app": None}, ["x", "x"], [1], ["a b"], [None]]
+KNOWN = ["In", "NotIn", "Exists", "DoesNotExist", "in", "TCP", "UDP", "SCTP", "tcp", "Ingress", "Egress", "ingress", "Allow", "Deny",
+         "Pass", "pass", "v1", "apps/v1", "batch/v1", "networking.k8s.io/v1", "policy.networking.k8s.io/v1alpha1",
+         "policy.networking.k8s.io/v1alpha2", "Pod", "Node", "Deployment", "PodList", "NetworkPolicy", "CiliumNetworkPolicy",
+         "AdminNetworkPolicy", "Succeeded", "Failed", "ExternalName"]
 GONE = object()
 POOL: Sequence[Any] = [GONE, *NUMBERS, *TEXTS, *ADDRESSES, *CIDRS, *OTHERS, *KNOWN]
-MEMBERS = ["nodes", "domainNames", "matchFields", "ipBlock", "podSelector", "namespaceSelector", "namespaces", "pods", "networks", "portNumber", "portRange", "namedPort", "endPort", "port", "number",
-           "name", "resource", "service", "except", "values", "except", "items", "metadata", "spec", "namespace", "labels", "hostNetwork", "replicas", "controller"]
+MEMBERS = ["nodes", "domainNames", "matchFields", "ipBlock", "podSelector", "namespaceSelector", "namespaces", "pods", "networks",
+           "portNumber", "portRange", "namedPort", "endPort", "port", "number", "name", "resource", "service", "except", "values", "except",
+           "items", "metadata", "spec", "namespace", "labels", "hostNetwork", "replicas", "controller"]
 
 
 # ---- JSON texts
@@ -127,27 +136,32 @@ def names_in(texts: Tuple[bytes, ...]) -> Tuple[List[str], List[str]]:
 def end(rng: Rng, names: List[str]) -> str:
     """An end as words name it, mostly one that is there."""
     kind = rng.random()
-    return rng.choice(names) if kind < 0.7 else rng.choice(["10.0.0.1", "10.1.0.2", "fd00::2", "255.255.255.255", "::1"]) if kind < 0.95 else rng.choice(["no/such", "a/", *ADDRESSES])
+    if kind < 0.7:
+        return rng.choice(names)
+    return rng.choice(["10.0.0.1", "10.1.0.2", "fd00::2", "255.255.255.255", "::1"] if kind < 0.95 else ["no/such", "a/", *ADDRESSES])
 
 
 def options(rng: Rng, command: str, names: Tuple[List[str], List[str]]) -> List[str]:
     """Random options of a command."""
-    words: List[str] = []
+    workloads, pods = names
+    formats, ports = ["text", "csv", "json"], ["53", "80", "8080", "81", "1", "65535"]
     chances: Dict[str, List[Tuple[str, float, Callable[[], str]]]] = {
-        "list": [("format", 0.3, lambda: rng.choice(["text", "csv", "json"])), ("report", 0.3, lambda: rng.choice("12")), ("controller", 0.35, lambda: end(rng, names[0])),
-                 ("focus", 0.2, lambda: end(rng, names[0])), ("side", 0.3, lambda: rng.choice(["either", "from", "to"]))],
-        "explain": [("from", 1, lambda: end(rng, names[0])), ("to", 1, lambda: end(rng, names[0]))],
-        "exposure": [("workload", 0.4, lambda: end(rng, names[0])), ("format", 0.3, lambda: rng.choice(["text", "csv", "json"]))],
-        "evaluate": [("from", 1, lambda: end(rng, names[1])), ("to", 1, lambda: end(rng, names[1])), ("protocol", 1, lambda: rng.choice(["TCP", "TCP", "UDP", "SCTP"])),
-                     ("port", 1, lambda: rng.choice(["53", "80", "8080", "81", "1", "65535"]))],
+        "list": [("format", 0.3, lambda: rng.choice(formats)), ("report", 0.3, lambda: rng.choice("12")),
+                 ("controller", 0.35, lambda: end(rng, workloads)), ("focus", 0.2, lambda: end(rng, workloads)),
+                 ("side", 0.3, lambda: rng.choice(["either", "from", "to"]))],
+        "explain": [("from", 1, lambda: end(rng, workloads)), ("to", 1, lambda: end(rng, workloads))],
+        "exposure": [("workload", 0.4, lambda: end(rng, workloads)), ("format", 0.3, lambda: rng.choice(formats))],
+        "evaluate": [("from", 1, lambda: end(rng, pods)), ("to", 1, lambda: end(rng, pods)),
+                     ("protocol", 1, lambda: rng.choice(["TCP", "TCP", "UDP", "SCTP"])), ("port", 1, lambda: rng.choice(ports))],
     }
+    words: List[str] = []
     for name, chance, value in chances.get(command, []):
         if rng.random() < chance:
             words += ["--" + name, value()]
     return words
 
 
-COMMANDS = ["list", "list", "list", "explain", "explain", "evaluate", "exposure", "exposure", "unused", "flatten", "flatten", "check", "check"]
+COMMANDS = ["list"] * 3 + ["explain"] * 2 + ["evaluate"] + ["exposure"] * 2 + ["unused"] + ["flatten"] * 2 + ["check"] * 2
 
 
 def asked(rng: Rng, texts: List[bytes], command: str = "") -> Case:
@@ -185,7 +199,8 @@ def conns(rng: Rng) -> str:
 def statement(rng: Rng, names: List[str]) -> str:
     """The line of a statement."""
     addresses = rng.random() < 0.5
-    return "%s %s => %s : %s" % (rng.choice(["allow", "deny"]), form(rng, names, addresses), form(rng, names, not addresses or rng.random() < 0.05), conns(rng))
+    ends = form(rng, names, addresses), form(rng, names, not addresses or rng.random() < 0.05)
+    return "%s %s => %s : %s" % (rng.choice(["allow", "deny"]), *ends, conns(rng))
 
 
 def statements(rng: Rng, names: List[str]) -> bytes:
@@ -194,8 +209,9 @@ def statements(rng: Rng, names: List[str]) -> bytes:
     return ("\n".join(lines) + rng.choice(["", "\n", "\n\n"])).encode()
 
 
-PIECES = [" => ", " : ", " ", "  ", "workload ", "namespace ", "any pod", "any address", "allow ", "deny ", "TCP ", "UDP 53", "; ", ",", "-", "80", "080", "0", "65536", "53-53", "80,81", "80-79", "All Connections",
-          "No Connections", "/", "a/b => c/d", "\r", "\t", "#", "nsone", "NSONE", "10.0.0.0/8", "::/0", "\u00e9", "10.0.0.0/33", "65535", "1-65535", "99999999999999999999"]
+PIECES = [" => ", " : ", " ", "  ", "workload ", "namespace ", "any pod", "any address", "allow ", "deny ", "TCP ", "UDP 53", "; ", ",",
+          "-", "80", "080", "0", "65536", "53-53", "80,81", "80-79", "All Connections", "No Connections", "/", "a/b => c/d", "\r", "\t",
+          "#", "nsone", "NSONE", "10.0.0.0/8", "::/0", "\u00e9", "10.0.0.0/33", "65535", "1-65535", "99999999999999999999"]
 
 
 def spoilt_line(rng: Rng, line: str) -> bytes:

@@ -172,7 +172,8 @@ class Checker:
         """The line that says how a statement is broken, if it is: by the first packet that does not comply."""
         space = self.cluster.space
         conns = sum(space.span(*span) for span in spans_in([statement]))
-        triples = ((source, destination, family) for source in sources for destination in destinations for family in self.families(source, destination))
+        pairs = ((source, destination) for source in sources for destination in destinations)
+        triples = ((*pair, family) for pair in pairs for family in self.families(*pair))
         for source, destination, family in triples:
             allowed = self.allows(source, destination, family)
             wrong = conns & (~allowed if statement.wanted == "allow" else allowed)

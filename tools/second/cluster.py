@@ -122,7 +122,7 @@ class Cluster:
         return self.rules.allows(*ends, address.family)
 
     def address_rows(self, workload: int, direction: str) -> List[Tuple[Address, int, int]]:
-        """The fewest ranges of all addresses such that the same passes at each of one: its first address, its last number, and the spots."""
+        """The fewest ranges such that the same passes at each address of one: its first address, its last number, and the spots."""
         rows: List[Tuple[Address, int, int]] = []
         for address, last in self.stretches.all():
             spots = self.address_allows(workload, direction, address)
@@ -133,7 +133,7 @@ class Cluster:
         return rows
 
     def one_family(self, source: object, destination: object) -> Optional[int]:
-        """The one family in which packets are asked about: that of their address, the source's first, or else of the list, if it has one."""
+        """The one family in which packets are asked about: that of their address, the source's first, or of a list that has one."""
         for end in (source, destination):
             if isinstance(end, Address):
                 return end.family

@@ -25,8 +25,8 @@ def metadata(rng: Rng, name: str, **members: Any) -> Item:
 
 def pod_spec(rng: Rng) -> Item:
     """The spec of a pod."""
-    ports = [{"name": rng.choice(["http", "dns", "web"]), "containerPort": rng.choice([53, 80, 8080]), **maybe(rng, 0.7, protocol=rng.choice(["TCP", "UDP", "SCTP"]))}
-             for _ in range(rng.randrange(3))]
+    ports = [{"name": rng.choice(["http", "dns", "web"]), "containerPort": rng.choice([53, 80, 8080]),
+              **maybe(rng, 0.7, protocol=rng.choice(["TCP", "UDP", "SCTP"]))} for _ in range(rng.randrange(3))]
     return {"containers": [{"ports": ports}], **maybe(rng, 0.15, hostNetwork=rng.random() < 0.5)}
 
 
@@ -47,7 +47,8 @@ def controller(rng: Rng, kind: str, name: str) -> Item:
 
 def owned_pods(rng: Rng) -> List[Item]:
     """Pods of one controller, which another may own, and which may be listed or not."""
-    kind, top = rng.choice(REPLICATED + ["Job", "ReplicationController", "Rollout", "Node"]), rng.choice(["Deployment", "CronJob", "Widget"])
+    kind = rng.choice(REPLICATED + ["Job", "ReplicationController", "Rollout", "Node"])
+    top = rng.choice(["Deployment", "CronJob", "Widget"])
     space, found = rng.choice(lists.SPACES), []
     for number in range(rng.randrange(1, 4)):
         pod = lists.pod(space, "o%d-%d" % (rng.randrange(3), number), rng)
@@ -61,7 +62,8 @@ def owned_pods(rng: Rng) -> List[Item]:
         found.append(set_item)
         if rng.random() < 0.5 and top != "Widget":
             found.append(controller(rng, top, "top"))
-            found[-1]["metadata"].update(namespace=space, **maybe(rng, 0.5, ownerReferences=[rng.choice([owner(kind, "set"), owner("CronJob", "boss"), owner("CronJob", "boss")])]))
+            above = rng.choice([owner(kind, "set"), owner("CronJob", "boss"), owner("CronJob", "boss")])
+            found[-1]["metadata"].update(namespace=space, **maybe(rng, 0.5, ownerReferences=[above]))
     return found
 
 
@@ -73,9 +75,11 @@ def templates(rng: Rng) -> List[Item]:
 
 def service(rng: Rng, name: str) -> Item:
     """A Service."""
-    ports = [{"port": rng.choice([80, 443]), **maybe(rng, 0.6, name=rng.choice(["http", "web"])), **maybe(rng, 0.7, targetPort=rng.choice([80, 8080, "http", "web", "dns", 0, ""])),
+    ports = [{"port": rng.choice([80, 443]), **maybe(rng, 0.6, name=rng.choice(["http", "web"])),
+              **maybe(rng, 0.7, targetPort=rng.choice([80, 8080, "http", "web", "dns", 0, ""])),
               **maybe(rng, 0.3, protocol=rng.choice(["TCP", "UDP"]))} for _ in range(rng.randrange(1, 3))]
-    spec = {"ports": ports, **maybe(rng, 0.85, selector=rng.choice([lists.labels(rng), {"app": rng.choice("xy")}])), **maybe(rng, 0.2, clusterIP=rng.choice(["None", "10.9.0.1", ""])),
+    spec = {"ports": ports, **maybe(rng, 0.85, selector=rng.choice([lists.labels(rng), {"app": rng.choice("xy")}])),
+            **maybe(rng, 0.2, clusterIP=rng.choice(["None", "10.9.0.1", ""])),
             **maybe(rng, 0.2, type=rng.choice(["ExternalName", "ClusterIP"]))}
     return {"apiVersion": "v1", "kind": "Service", "metadata": metadata(rng, name), "spec": spec}
 
@@ -84,7 +88,8 @@ def backend(rng: Rng) -> Item:
     """What an Ingress sends to."""
     if rng.random() < 0.1:
         return {"resource": {"kind": "Bucket", "name": "b"}}
-    port = rng.choice([{"number": 80}, {"number": 443}, {"name": "http"}, {"name": "web"}, {"number": 0, "name": "http"}, {"number": 80, "name": ""}])
+    port = rng.choice([{"number": 80}, {"number": 443}, {"name": "http"}, {"name": "web"}, {"number": 0, "name": "http"},
+                       {"number": 80, "name": ""}])
     return {"service": {"name": rng.choice(["s0", "s1", "none"]), "port": port}}
 
 
@@ -133,15 +138,18 @@ def richer_net(rng: Rng, policy: Item) -> None:
         peers = rule.get("from", rule.get("to", []))
         if peers and rng.random() < 0.3:
             one, other = rng.sample(NETWORKS[:4] + ["10.0.0.1/32", "10.0.0.0/29"], 2)
-            peers.append({"ipBlock": rng.choice([{"cidr": one}, {"cidr": "10.0.0.0/8", "except": ["10.0.0.0/29", "10.0.0.4/30"]}, {"cidr": other}])})
+            peers.append({"ipBlock": rng.choice([{"cidr": one}, {"cidr": "10.0.0.0/8", "except": ["10.0.0.0/29", "10.0.0.4/30"]},
+                                                 {"cidr": other}])})
         if peers and rng.random() < 0.3:
-            wanted = [{"key": key, "operator": op, "values": list(rng.sample("wxyz", 2))} for key, op in zip(["tier", "app"], rng.sample(["In", "NotIn"], 2))]
+            asked = zip(["tier", "app"], rng.sample(["In", "NotIn"], 2))
+            wanted = [{"key": key, "operator": op, "values": list(rng.sample("wxyz", 2))} for key, op in asked]
             peers.append({"podSelector": {"matchLabels": lists.labels(rng), "matchExpressions": wanted[:rng.randrange(1, 3)]}})
 
 
 def others(rng: Rng) -> List[Item]:
     """Objects that are not read, or only here and there."""
-    return [{"apiVersion": rng.choice(["v1", "apps/v1beta1"]), "kind": rng.choice(["ConfigMap", "Deployment", "Ingress"]), "metadata": {"name": "m"}}]
+    return [{"apiVersion": rng.choice(["v1", "apps/v1beta1"]), "kind": rng.choice(["ConfigMap", "Deployment", "Ingress"]),
+             "metadata": {"name": "m"}}]
 
 
 EXTRAS: List[Callable[[Rng], List[Item]]] = [owned_pods, templates, routes, others]
@@ -151,7 +159,8 @@ def richer_pod(rng: Rng, pod: Item) -> None:
     """A pod that may be on the network of its node, or have ended, with more ports, and an address that stands first."""
     if rng.random() < 0.3:
         pod["spec"] = pod_spec(rng)
-    pod["status"].update(maybe(rng, 0.15, phase=rng.choice(["Running", "Succeeded", "Failed"])), **maybe(rng, 0.2, podIP=rng.choice(["10.0.0.1", "fd00::1", ""])))
+    pod["status"].update(maybe(rng, 0.15, phase=rng.choice(["Running", "Succeeded", "Failed"])),
+                         **maybe(rng, 0.2, podIP=rng.choice(["10.0.0.1", "fd00::1", ""])))
 
 
 def richer_space(rng: Rng, space: Item) -> None:
@@ -160,7 +169,9 @@ def richer_space(rng: Rng, space: Item) -> None:
 
 
 RICHER: Dict[str, Callable[[Rng, Item], None]] = {
-    "NetworkPolicy": richer_net, "AdminNetworkPolicy": richer_admin, "BaselineAdminNetworkPolicy": richer_admin, "Pod": richer_pod, "Namespace": richer_space}
+    "NetworkPolicy": richer_net, "AdminNetworkPolicy": richer_admin, "BaselineAdminNetworkPolicy": richer_admin,
+    "Pod": richer_pod, "Namespace": richer_space,
+}
 
 
 def random_items(rng: Rng) -> List[Item]:
@@ -179,27 +190,35 @@ def random_items(rng: Rng) -> List[Item]:
 def full_items() -> List[Item]:
     """One list with every kind of object that is read and every member of each."""
     rng = random.Random(0)
-    selector = {"matchLabels": {"app": "x"}, "matchExpressions": [{"key": "tier", "operator": "In", "values": ["x", "y"]}, {"key": "z", "operator": "Exists"}]}
+    selector = {"matchLabels": {"app": "x"},
+                "matchExpressions": [{"key": "tier", "operator": "In", "values": ["x", "y"]}, {"key": "z", "operator": "Exists"}]}
     pod = lists.pod("nsone", "p0", rng)
     pod["metadata"].update(ownerReferences=[owner("ReplicaSet", "set")], labels={"app": "x", "tier": "y"})
-    pod["spec"] = {"hostNetwork": False, "containers": [{"ports": [{"name": "http", "containerPort": 80, "protocol": "TCP"}, {"containerPort": 81}]}]}
+    pod["spec"] = {"hostNetwork": False,
+                   "containers": [{"ports": [{"name": "http", "containerPort": 80, "protocol": "TCP"}, {"containerPort": 81}]}]}
     pod["status"] = {"phase": "Running", "podIP": "10.0.0.1", "podIPs": [{"ip": "10.0.0.1"}, {"ip": "fd00::1"}]}
-    peers = [{"podSelector": selector}, {"namespaceSelector": selector, "podSelector": {}}, {"ipBlock": {"cidr": "10.0.0.0/8", "except": ["10.0.0.0/16", "10.1.0.0/16"]}}]
+    peers = [{"podSelector": selector}, {"namespaceSelector": selector, "podSelector": {}},
+             {"ipBlock": {"cidr": "10.0.0.0/8", "except": ["10.0.0.0/16", "10.1.0.0/16"]}}]
     ports = [{"protocol": "TCP", "port": 80, "endPort": 90}, {"protocol": "UDP", "port": "dns"}, {"protocol": "SCTP"}]
     net = lists.net_policy("nsone", "n0", rng)
-    net["spec"] = {"podSelector": selector, "policyTypes": ["Ingress", "Egress"], "ingress": [{"from": peers, "ports": ports}], "egress": [{"to": peers, "ports": ports}]}
+    net["spec"] = {"podSelector": selector, "policyTypes": ["Ingress", "Egress"], "ingress": [{"from": peers, "ports": ports}],
+                   "egress": [{"to": peers, "ports": ports}]}
     pods = {"pods": {"namespaceSelector": selector, "podSelector": selector}}
-    admin_ports = [{"portNumber": {"protocol": "TCP", "port": 80}}, {"portRange": {"protocol": "UDP", "start": 50, "end": 60}}, {"namedPort": "http"}]
+    admin_ports = [{"portNumber": {"protocol": "TCP", "port": 80}}, {"portRange": {"protocol": "UDP", "start": 50, "end": 60}},
+                   {"namedPort": "http"}]
     rule = {"name": "r", "action": "Deny", "ports": admin_ports}
-    spec = {"subject": pods, "ingress": [{**rule, "from": [pods, {"namespaces": selector}]}], "egress": [{**rule, "to": [pods, {"networks": ["10.0.0.0/8", "fd00::/64"]}]}]}
+    spec = {"subject": pods, "ingress": [{**rule, "from": [pods, {"namespaces": selector}]}],
+            "egress": [{**rule, "to": [pods, {"networks": ["10.0.0.0/8", "fd00::/64"]}]}]}
     policies = [{"apiVersion": lists.ADMIN, "kind": kind, "metadata": {"name": name}, "spec": {**spec, **more}} for kind, name, more in
                 [("AdminNetworkPolicy", "a0", {"priority": 5}), ("BaselineAdminNetworkPolicy", "default", {})]]
     made = [controller(random.Random(1), kind, "set") for kind in ("ReplicaSet", "DaemonSet", "CronJob", "Job", "ReplicationController")]
     for one in made:
         one["metadata"].update(namespace="nsone", ownerReferences=[owner("Deployment", "top")])
         one["spec"].update(replicas=2)
-    served = {"selector": {"app": "x"}, "type": "ClusterIP", "clusterIP": "10.9.0.1", "ports": [{"name": "http", "port": 80, "targetPort": "http", "protocol": "TCP"}, {"port": 81, "targetPort": 80}]}
-    to = [{"service": {"name": "s0", "port": port}} for port in ({"number": 80}, {"name": "http"})] + [{"resource": {"kind": "Bucket", "name": "b"}}]
+    served = {"selector": {"app": "x"}, "type": "ClusterIP", "clusterIP": "10.9.0.1",
+              "ports": [{"name": "http", "port": 80, "targetPort": "http", "protocol": "TCP"}, {"port": 81, "targetPort": 80}]}
+    to: List[Item] = [{"service": {"name": "s0", "port": port}} for port in ({"number": 80}, {"name": "http"})]
+    to.append({"resource": {"kind": "Bucket", "name": "b"}})
     routing = {"defaultBackend": to[0], "rules": [{"http": {"paths": [{"backend": one} for one in to]}}]}
     own = {"name": "s0", "namespace": "nsone"}
     return [lists.space("nsone", rng), pod, net, *policies, *made, {"apiVersion": "v1", "kind": "Service", "metadata": own, "spec": served},

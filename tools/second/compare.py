@@ -87,8 +87,8 @@ def both(np: str, program, case) -> Tuple[Found, Found]:  # type: ignore[no-unty
 def turns(kinds: List[str], lists: int, others: int) -> Iterator[Tuple[str, int]]:
     """The kinds of the cases, mixed evenly, each with its number from 0."""
     counts = {kind: lists if kind == "lists" else min(others, 40) if kind == "limits" else others for kind in kinds}
-    every = sorted(((number + 0.5) / counts[kind], place, kind, number) for place, kind in enumerate(kinds) for number in range(counts[kind]))
-    return ((kind, number) for _, _, kind, number in every)
+    every = [((number + 0.5) / counts[kind], place, kind, number) for place, kind in enumerate(kinds) for number in range(counts[kind])]
+    return ((kind, number) for _, _, kind, number in sorted(every))
 
 
 def difference(words: List[str], np: Found, second: Found) -> Optional[str]:
@@ -101,7 +101,8 @@ def difference(words: List[str], np: Found, second: Found) -> Optional[str]:
     lines = ["cd %s && np %s < stdin" % (folder, shlex.join(words))]
     for what, one, other in zip(("status", "report", "standard error"), np, second):
         if one != other:
-            lines += ["%s of np: %r" % (what, first_difference(one, other)), "%s of the second program: %r" % (what, first_difference(other, one))]
+            lines += ["%s of np: %r" % (what, first_difference(one, other)),
+                      "%s of the second program: %r" % (what, first_difference(other, one))]
     return "\n".join(lines)
 
 

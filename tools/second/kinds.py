@@ -4,8 +4,8 @@ import json
 from typing import Any, Callable, Dict, List
 
 import clusters
-from cases import (ADDRESSES, CIDRS, COMMANDS, GONE, KNOWN, NUMBERS, OTHERS, POOL, TEXTS, Case, Place, Raw, Rng, asked, at, end, list_of, mixed, names_in, options, places_in, put, spoil,
-                   spoilt_line, statement, statements, text_of)
+from cases import (ADDRESSES, CIDRS, COMMANDS, GONE, KNOWN, NUMBERS, OTHERS, POOL, TEXTS, Case, Place, Raw, Rng, asked, at, end, list_of,
+                   mixed, names_in, options, places_in, put, spoil, spoilt_line, statement, statements, text_of)
 
 
 def cut(rng: Rng, items: List[Any]) -> List[bytes]:
@@ -49,8 +49,10 @@ NUMBERED = ("port", "number", "containerPort", "endPort", "start", "end", "repli
 POOLS: Dict[str, List[Any]] = {name: NUMBERS + ["80", "http", True, None] for name in NUMBERED}
 POOLS.update({name: [*CIDRS, *ADDRESSES, *TEXTS] for name in ("cidr", "except", "networks")})
 POOLS.update({name: [*ADDRESSES, *TEXTS, *CIDRS[:6], None] for name in ("podIP", "ip")})
-POOLS.update({name: [*TEXTS, *KNOWN] for name in ("name", "namespace", "key", "kind", "app", "tier", "env", "values", "protocol", "operator", "action", "policyTypes", "apiVersion", "phase", "namedPort")})
-POOLS.update({name: [*OTHERS] for name in ("labels", "matchLabels", "matchExpressions", "selector", "podSelector", "namespaceSelector", "subject", "from", "to", "ports", "ingress", "egress", "spec", "metadata")})
+POOLS.update({name: [*TEXTS, *KNOWN] for name in ("name", "namespace", "key", "kind", "app", "tier", "env", "values", "protocol",
+                                                  "operator", "action", "policyTypes", "apiVersion", "phase", "namedPort")})
+POOLS.update({name: [*OTHERS] for name in ("labels", "matchLabels", "matchExpressions", "selector", "podSelector", "namespaceSelector",
+                                           "subject", "from", "to", "ports", "ingress", "egress", "spec", "metadata")})
 
 
 def pool_of(place: Place) -> List[Any]:
@@ -72,18 +74,21 @@ def spellings(rng: Rng, number: int) -> List[Case]:
     return [asked(rng, cut(rng, items))]
 
 
-ODD_WORDS = ["--", "-", "-x", "--help", "-h", "--version", "help", "", "=", "--=", "--format", "--format=", "--format=csv", "--format=json=", "--report=1", "--report", "3", "csv", "TEXT", "--from", "--to", "--from=10.0.0.1",
-             "--to=nsone/p0", "--to=", "--focus=", "--focus=nsone/p0[Pod]", "--side=to", "--side", "both", "--port=80", "--port=080", "--port=+80", "--port=0", "--port=65536", "--protocol=TCP", "--protocol=tcp",
-             "--workload", "--workload=a/b", "--statement=statements", "--statement=-", "--statement", "0.json", "none.json", ".", "statements", "--controller=--format", "--controller", "-1", "--forma=csv", "--FORMAT=csv",
-             "10.0.0.1", "list", "1", "1000", "7", "01", "5\u0661", "./0.json", "\u00e9", "--\u00e9", "a b", "--from=::1", "--from=010.0.0.1", "--port", "80", "--protocol", "UDP", "nsone/p1", "nsone/p0[Pod]", "\udcff",
-             "a\udcc3/b"]
+ODD_WORDS = ["--", "-", "-x", "--help", "-h", "--version", "help", "", "=", "--=", "--format", "--format=", "--format=csv",
+             "--format=json=", "--report=1", "--report", "3", "csv", "TEXT", "--from", "--to", "--from=10.0.0.1", "--to=nsone/p0", "--to=",
+             "--focus=", "--focus=nsone/p0[Pod]", "--side=to", "--side", "both", "--port=80", "--port=080", "--port=+80", "--port=0",
+             "--port=65536", "--protocol=TCP", "--protocol=tcp", "--workload", "--workload=a/b", "--statement=statements", "--statement=-",
+             "--statement", "0.json", "none.json", ".", "statements", "--controller=--format", "--controller", "-1", "--forma=csv",
+             "--FORMAT=csv", "10.0.0.1", "list", "1", "1000", "7", "01", "5\u0661", "./0.json", "\u00e9", "--\u00e9", "a b", "--from=::1",
+             "--from=010.0.0.1", "--port", "80", "--protocol", "UDP", "nsone/p1", "nsone/p0[Pod]", "\udcff", "a\udcc3/b"]
 
 
 def words(rng: Rng, number: int) -> List[Case]:
     """A random list, and words that are out of place here and there."""
     text = text_of(list_of(clusters.random_items(rng)))
     command = rng.choice(COMMANDS + ["sample", "sample"])
-    own = [command] + (options(rng, command, names_in((text,))) if rng.random() < 0.8 else []) + (["--statement", "statements"] if command == "check" else [])
+    own = [command] + (options(rng, command, names_in((text,))) if rng.random() < 0.8 else [])
+    own += ["--statement", "statements"] if command == "check" else []
     own += [str(rng.choice([1, 2, 5, 9, 30, 0, 1001]))] if command == "sample" else [] if rng.random() < 0.5 else ["0.json"]
     for _ in range(rng.choice([0, 1, 1, 2, 3])):
         place = rng.randrange(len(own) + 1)
@@ -107,8 +112,9 @@ def statement_files(rng: Rng, number: int) -> List[Case]:
     return [Case(["check", "--statement", "statements"], {"statements": b"\n".join(lines) + b"\n"}, text)]
 
 
-BYTES = [b"{", b"}", b"[", b"]", b",", b":", b'"', b"\\", b"\\u", b"\\ud800", b"0", b"-", b".", b"e", b"\xff", b"\xc3\xa9", b"\xed\xa0\x80", b"\xef\xbb\xbf", b"\x00", b"\x0b", b"\xa0", b" ", b"\n", b"\t", b"\r", b"null",
-         b"true", b"NaN", b"Infinity", b"//", b'"a":1,', b'"kind":"List",', b'"items":[],', b'"metadata":{},', b'"spec":null,', b"\xf4\x90\x80\x80", b"\xc0\x80", b"1E5", b"[[[[", b"{}"]
+BYTES = [b"{", b"}", b"[", b"]", b",", b":", b'"', b"\\", b"\\u", b"\\ud800", b"0", b"-", b".", b"e", b"\xff", b"\xc3\xa9", b"\xed\xa0\x80",
+         b"\xef\xbb\xbf", b"\x00", b"\x0b", b"\xa0", b" ", b"\n", b"\t", b"\r", b"null", b"true", b"NaN", b"Infinity", b"//", b'"a":1,',
+         b'"kind":"List",', b'"items":[],', b'"metadata":{},', b'"spec":null,', b"\xf4\x90\x80\x80", b"\xc0\x80", b"1E5", b"[[[[", b"{}"]
 
 
 def json_texts(rng: Rng, number: int) -> List[Case]:
@@ -151,8 +157,9 @@ def sized(size: int) -> bytes:
 
 
 HALF = 33554432 // 2
+DEPTHS = [(depth, opens) for depth in (2, 126, 127, 128, 129, 2000) for opens in ("[", '{"a":')]
 LIMITS: List[Callable[[], Case]] = [
-    *[lambda depth=depth, opens=opens: Case(["list"], {}, nested(depth, opens)) for depth in (2, 126, 127, 128, 129, 2000) for opens in ("[", '{"a":')],
+    *[lambda one=one: Case(["list"], {}, nested(*one)) for one in DEPTHS],
     *[lambda depth=depth: Case(["list"], {}, nested(depth, "[", '"]}[{\\""')) for depth in (127, 128)],
     lambda: Case(["list"], {}, b"[" * 100000),
     lambda: Case(["unused"], {}, many(20000)),
@@ -164,7 +171,7 @@ LIMITS: List[Callable[[], Case]] = [
     lambda: Case(["list", "a", "b"], {"a": sized(HALF), "b": sized(HALF + 1)}, b""),
     lambda: Case(["list", "a", "b", "none"], {"a": sized(HALF), "b": sized(HALF + 1)}, b""),
     lambda: Case(["list", "a", "none", "b"], {"a": sized(HALF), "b": sized(HALF + 1)}, b""),
-    *[lambda keys=keys, values=values: Case(["exposure"], {}, mentioned(keys, values)) for keys, values in ((4, 14), (4, 15), (16, 1), (100, 1), (3, 2), (6, 2))],
+    *[lambda one=one: Case(["exposure"], {}, mentioned(*one)) for one in ((4, 14), (4, 15), (16, 1), (100, 1), (3, 2), (6, 2))],
     lambda: Case(["sample", "1000"], {}, b""),
     lambda: Case(["sample", "999"], {}, b""),
     lambda: Case(["list"], {}, b""),
@@ -178,5 +185,6 @@ def limits(rng: Rng, number: int) -> List[Case]:
 
 
 KINDS: Dict[str, Callable[[Rng, int], List[Case]]] = {
-    "lists": lists, "faults": faults, "spellings": spellings, "words": words, "statements": statement_files, "texts": json_texts, "limits": limits,
+    "lists": lists, "faults": faults, "spellings": spellings, "words": words, "statements": statement_files, "texts": json_texts,
+    "limits": limits,
 }

@@ -4,8 +4,8 @@ from typing import Dict, Optional, Tuple, Union
 
 from . import values
 from .addresses import Address, address_of
-from .model import (TCP, Backend, ControllerItem, IngressItem, Labels, NamedPort, NamespaceItem, Owner, PodItem, PortName, Selector, ServiceItem,
-                    ServicePort, Template, label_requirement)
+from .model import (TCP, Backend, ControllerItem, IngressItem, Labels, NamedPort, NamespaceItem, Owner, PodItem, PortName, Selector,
+                    ServiceItem, ServicePort, Template, label_requirement)
 from .values import Data, listed, member, optional, optional_or, refuse_if, required
 
 CONTROLLERS = ("Deployment", "ReplicaSet", "StatefulSet", "DaemonSet", "ReplicationController", "Job", "CronJob")

@@ -2,7 +2,8 @@
 from typing import Dict, List, NamedTuple, Optional, Sequence, Set, Tuple, Union
 
 from . import values
-from .model import NAME_KEY, AdminPolicy, ControllerItem, Estate, IngressItem, Labels, NamespaceItem, NetPolicy, Notes, Owner, Pod, PodItem, ServiceItem
+from .model import (NAME_KEY, AdminPolicy, ControllerItem, Estate, IngressItem, Labels, NamespaceItem, NetPolicy, Notes, Owner, Pod,
+                    PodItem, ServiceItem)
 from .objects import CONTROLLERS, Object, Other, object_of
 from .policies import BasePolicy, Policy, policy_of
 from .values import Data, Flaw, NotJson, json_of, listed, refuse_if, type_meta

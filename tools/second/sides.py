@@ -9,7 +9,8 @@ from .spots import Space
 class PodEnd:
     """A pod, as rules see it. Two pods of which rules see the same are one of these."""
 
-    def __init__(self, namespace: str, namespace_labels: Labels, labels: Labels, ports: Tuple[NamedPort, ...], addresses: Tuple[Address, ...]) -> None:
+    def __init__(self, namespace: str, namespace_labels: Labels, labels: Labels, ports: Tuple[NamedPort, ...],
+                 addresses: Tuple[Address, ...]) -> None:
         self.namespace = namespace
         self.namespace_labels = namespace_labels
         self.labels = labels
@@ -180,7 +181,8 @@ class Rules:
         if side.isolating:
             net = [(one, self.net_spots(one, far, destination)) for one in side.net]
             found, rest = self.first_of(net, self.space.all)
-            return [(Decider("Net", one[0]), spots) for one, spots in found] + [(Decider("Isolated", allow=False, policies=side.isolating), rest)]
+            isolated = Decider("Isolated", allow=False, policies=side.isolating)
+            return [(Decider("Net", one[0]), spots) for one, spots in found] + [(isolated, rest)]
         base = [(one, self.admin_spots(one, far, destination, family)) for one in side.base]
         found, rest = self.first_of(base, self.space.all)
         return [(Decider("Base", one[0], one[1].action == "Allow"), spots) for one, spots in found] + [(Decider("Free"), rest)]
