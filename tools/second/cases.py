@@ -2,7 +2,7 @@
 import copy
 import json
 import random
-from typing import Any, Callable, Dict, Iterator, List, NamedTuple, Sequence, Tuple
+from typing import Any, Callable, Dict, List, NamedTuple, Sequence, Tuple
 
 import clusters
 from second.program import Refused, small_estate
@@ -18,9 +18,11 @@ class Case(NamedTuple):
     stdin: bytes
 
 
-class Raw(NamedTuple):
+class Raw:
     """A value that stands in the JSON text as it is spelled here."""
-    text: str
+
+    def __init__(self, text: str) -> None:
+        self.text = text
 
 
 NUMBERS = [0, 1, -1, 80, 443, 65535, 65536, 1000, 1001, 2 ** 63 - 1, 2 ** 63, -2 ** 63, -2 ** 63 - 1, 2 ** 64, Raw("80.0"), Raw("8e1"),
@@ -55,18 +57,11 @@ def text_of(value: Any, indent: Any = None) -> bytes:
     """The JSON text of a value, in which raw values stand as they are spelled."""
     raws: List[str] = []
 
-    def hole(raw: Any) -> str:
-        raws.append(raw[0])
+    def hole(raw: Raw) -> str:
+        raws.append(raw.text)
         return "@@%d@@" % (len(raws) - 1)
 
-    def without(part: Any) -> Any:
-        if isinstance(part, Raw):
-            return hole(part)
-        if isinstance(part, dict):
-            return {name: without(one) for name, one in part.items()}
-        return [without(one) for one in part] if isinstance(part, list) else part
-
-    text = json.dumps(without(value), indent=indent, ensure_ascii=False)
+    text = json.dumps(value, indent=indent, ensure_ascii=False, default=hole)
     for number, raw in enumerate(raws):
         text = text.replace('"@@%d@@"' % number, raw)
     return text.encode("utf-8", "surrogatepass")
@@ -77,12 +72,16 @@ def list_of(items: List[Any]) -> Any:
     return {"apiVersion": "v1", "kind": "List", "items": items}
 
 
-def places_in(value: Any, own: Place = ()) -> Iterator[Place]:
+def places_in(value: Any) -> List[Place]:
     """The places of all parts of a value."""
-    parts = value.items() if isinstance(value, dict) else enumerate(value) if isinstance(value, list) else ()
-    for step, part in parts:
-        yield own + (step,)
-        yield from places_in(part, own + (step,))
+    places: List[Place] = []
+    inside: List[Tuple[Place, Any]] = [((), value)]
+    while inside:
+        place, part = inside.pop()
+        steps = list(part) if isinstance(part, dict) else range(len(part)) if isinstance(part, list) else ()
+        inside += [(place + (step,), part[step]) for step in steps]
+        places += [place + (step,) for step in steps]
+    return places
 
 
 def mixed(rng: Rng, value: Any) -> Any:
@@ -112,14 +111,14 @@ def put(value: Any, place: Place, part: Any) -> None:
 
 def spoil(rng: Rng, items: List[Any]) -> None:
     """One change of some items at some place."""
-    place = rng.choice(list(places_in(items)))
+    place = rng.choice(places_in(items))
     kind = rng.random()
     if kind < 0.75:
         put(items, place, rng.choice(POOL))
     elif kind < 0.85 and isinstance(at(items, place), dict):
         at(items, place)[rng.choice(MEMBERS)] = copy.deepcopy(rng.choice(POOL[1:]))
     else:
-        put(items, place, copy.deepcopy(at(items, rng.choice(list(places_in(items))))))
+        put(items, place, copy.deepcopy(at(items, rng.choice(places_in(items)))))
 
 
 # ---- words

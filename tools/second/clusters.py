@@ -79,7 +79,7 @@ def service(rng: Rng, name: str) -> Item:
               **maybe(rng, 0.7, targetPort=rng.choice([80, 8080, "http", "web", "dns", 0, ""])),
               **maybe(rng, 0.3, protocol=rng.choice(["TCP", "UDP"]))} for _ in range(rng.randrange(1, 3))]
     spec = {"ports": ports, **maybe(rng, 0.85, selector=rng.choice([lists.labels(rng), {"app": rng.choice("xy")}])),
-            **maybe(rng, 0.2, clusterIP=rng.choice(["None", "10.9.0.1", ""])),
+            **maybe(rng, 0.4, clusterIP=rng.choice(["None", "None", "10.9.0.1", ""])),
             **maybe(rng, 0.2, type=rng.choice(["ExternalName", "ClusterIP"]))}
     return {"apiVersion": "v1", "kind": "Service", "metadata": metadata(rng, name), "spec": spec}
 
@@ -101,12 +101,17 @@ def ingress(rng: Rng, name: str) -> Item:
 
 
 def routes(rng: Rng) -> List[Item]:
-    """Services, and Ingresses that lead to them, mostly in one namespace."""
-    found = [service(rng, "s%d" % n) for n in range(2)] + [ingress(rng, "i%d" % n) for n in range(rng.randrange(1, 3))]
-    space = rng.choice(lists.SPACES)
-    for item in found:
-        item["metadata"].update(maybe(rng, 0.8, namespace=space))
-    return found
+    """Services, and Ingresses that may lead to them."""
+    return [service(rng, "s%d" % n) for n in range(2)] + [ingress(rng, "i%d" % n) for n in range(rng.randrange(1, 3))]
+
+
+def aim(rng: Rng, items: List[Item]) -> None:
+    """Has Services and Ingresses lead to a pod, mostly."""
+    pod = rng.choice(lists.kinds(items, "Pod"))
+    for item in lists.kinds(items, "Service", "Ingress"):
+        item["metadata"].update(maybe(rng, 0.8, namespace=pod["metadata"]["namespace"]))
+        if item["kind"] == "Service" and rng.random() < 0.6:
+            item["spec"]["selector"] = dict(pod["metadata"]["labels"])
 
 
 def admin_port(rng: Rng) -> Item:
@@ -182,6 +187,7 @@ def random_items(rng: Rng) -> List[Item]:
     for item in items:
         if item["kind"] in RICHER:
             RICHER[item["kind"]](rng, item)
+    aim(rng, items)
     if rng.random() < 0.5:
         rng.shuffle(items)
     return items

@@ -26,10 +26,13 @@ import subprocess
 import sys
 import tempfile
 import traceback
-from typing import Dict, Iterator, List, NamedTuple, Optional, Tuple
+from collections import deque
+from typing import Any, Deque, Dict, Iterable, Iterator, List, NamedTuple, Optional, Tuple
 
 HERE = os.path.dirname(os.path.abspath(__file__))
+# How many seconds np may take, and on how many cases it runs at once.
 TIMEOUT = 120
+AT_ONCE = 3
 
 
 class Found(NamedTuple):
@@ -39,22 +42,41 @@ class Found(NamedTuple):
     err: bytes
 
 
-def start(program: str, words: List[str]) -> "subprocess.Popen[bytes]":
-    """Starts np in the folder of this process, whose file `stdin` it reads."""
-    with open("stdin", "rb") as stdin:
-        return subprocess.Popen([program, *words], stdin=stdin, stdout=subprocess.PIPE, stderr=subprocess.PIPE, close_fds=False)
+class Running(NamedTuple):
+    """A case that np runs on in a folder, with what the second program answers."""
+    kind: str
+    number: int
+    case: Any
+    folder: str
+    process: "subprocess.Popen[bytes]"
+    second: Found
+
+    def found(self) -> Found:
+        """What np answers, once it has ended."""
+        try:
+            out, err = self.process.communicate(timeout=TIMEOUT)
+        except subprocess.TimeoutExpired:
+            self.process.kill()
+            out, err = self.process.communicate()
+        return Found(self.process.returncode, out, err)
 
 
-def write(files: Dict[str, bytes], stdin: bytes) -> None:
-    """Writes the files of a case into the folder of this process, and no others."""
-    for name in os.listdir("."):
-        os.unlink(name)
+def start(np: str, words: List[str], folder: str) -> "subprocess.Popen[bytes]":
+    """Starts np in a folder, whose file `stdin` it reads."""
+    with open(os.path.join(folder, "stdin"), "rb") as stdin:
+        return subprocess.Popen([np, *words], stdin=stdin, stdout=subprocess.PIPE, stderr=subprocess.PIPE, cwd=folder)
+
+
+def write(folder: str, files: Dict[str, bytes], stdin: bytes) -> None:
+    """Writes the files of a case into a folder, and no others."""
+    for name in os.listdir(folder):
+        os.unlink(os.path.join(folder, name))
     for name, data in [("stdin", stdin), *files.items()]:
-        with open(name, "wb") as file:
+        with open(os.path.join(folder, name), "wb") as file:
             file.write(data)
 
 
-def second_answer(program, case) -> Found:  # type: ignore[no-untyped-def]
+def second_answer(program: Any, case: Any) -> Found:
     """What the second program answers; where it breaks down, how."""
     held = {"./" + name: data for name, data in case.files.items()}
     held.update(case.files)
@@ -71,17 +93,17 @@ def second_answer(program, case) -> Found:  # type: ignore[no-untyped-def]
         return Found(-1, b"", traceback.format_exc().encode())
 
 
-def both(np: str, program, case) -> Tuple[Found, Found]:  # type: ignore[no-untyped-def]
-    """What np and the second program answer."""
-    write(case.files, case.stdin)
-    process = start(np, case.words)
-    second = second_answer(program, case)
-    try:
-        out, err = process.communicate(timeout=TIMEOUT)
-    except subprocess.TimeoutExpired:
-        process.kill()
-        out, err = process.communicate()
-    return Found(process.returncode, out, err), second
+def run_both(np: str, program: Any, cases: Iterable[Tuple[str, int, Any]], folders: List[str]) -> Iterator[Running]:
+    """Both programs on each case; np runs on so many at once as there are folders."""
+    running: Deque[Running] = deque()
+    for place, (kind, number, case) in enumerate(cases):
+        folder = folders[place % len(folders)]
+        if len(running) == len(folders):
+            yield running.popleft()
+        write(folder, case.files, case.stdin)
+        process = start(np, case.words, folder)
+        running.append(Running(kind, number, case, folder, process, second_answer(program, case)))
+    yield from running
 
 
 def turns(kinds: List[str], lists: int, others: int) -> Iterator[Tuple[str, int]]:
@@ -91,18 +113,19 @@ def turns(kinds: List[str], lists: int, others: int) -> Iterator[Tuple[str, int]
     return ((kind, number) for _, _, kind, number in sorted(every))
 
 
-def difference(words: List[str], np: Found, second: Found) -> Optional[str]:
+def difference(one: Running) -> Optional[str]:
     """What differs first between two answers, if anything does."""
+    np, second = one.found(), one.second
     if np == second:
         return None
     folder = tempfile.mkdtemp(prefix="second-")
-    for name in os.listdir("."):
-        shutil.move(name, os.path.join(folder, name))
-    lines = ["cd %s && np %s < stdin" % (folder, shlex.join(words))]
-    for what, one, other in zip(("status", "report", "standard error"), np, second):
-        if one != other:
-            lines += ["%s of np: %r" % (what, first_difference(one, other)),
-                      "%s of the second program: %r" % (what, first_difference(other, one))]
+    for name in os.listdir(one.folder):
+        shutil.move(os.path.join(one.folder, name), os.path.join(folder, name))
+    lines = ["cd %s && np %s < stdin" % (folder, shlex.join(one.case.words))]
+    for what, own, other in zip(("status", "report", "standard error"), np, second):
+        if own != other:
+            lines += ["%s of np: %r" % (what, first_difference(own, other)),
+                      "%s of the second program: %r" % (what, first_difference(other, own))]
     return "\n".join(lines)
 
 
@@ -114,19 +137,25 @@ def first_difference(one: object, other: object) -> object:
     return one[same:same + 2000]
 
 
-def compare(np: str, lists: int, others: int, seed: int, names: List[str]) -> int:
-    """Compares both programs on cases of these kinds, and answers the status."""
+def cases_of(names: List[str], lists: int, others: int, seed: int) -> Iterator[Tuple[str, int, Any]]:
+    """The cases of these kinds, each with its kind and its number."""
     import kinds  # pylint: disable=import-outside-toplevel
-    from second import program  # pylint: disable=import-outside-toplevel
-    done: Dict[str, int] = {name: 0 for name in names or kinds.KINDS}
-    for kind, number in turns(list(done), lists, others):
+    for kind, number in turns(names or list(kinds.KINDS), lists, others):
         for case in kinds.KINDS[kind](random.Random("%s %d %d" % (kind, seed, number)), number):
-            done[kind] += 1
-            told = difference(case.words, *both(np, program, case))
-            if told is not None:
-                print("they differ at case %d: %s, number %d, seed %d\n%s" % (sum(done.values()), kind, number, seed, told))
-                return 1
-        if sum(done.values()) % 20000 == 0:
+            yield kind, number, case
+
+
+def compare(np: str, cases: Iterable[Tuple[str, int, Any]], seed: int, folders: List[str]) -> int:
+    """Compares both programs on cases, and answers the status."""
+    from second import program  # pylint: disable=import-outside-toplevel
+    done: Dict[str, int] = {}
+    for total, one in enumerate(run_both(np, program, cases, folders), 1):
+        done[one.kind] = done.get(one.kind, 0) + 1
+        told = difference(one)
+        if told is not None:
+            print("they differ at case %d: %s, number %d, seed %d\n%s" % (total, one.kind, one.number, seed, told))
+            return 1
+        if total % 5000 == 0:
             print("so far: " + ", ".join("%s %d" % entry for entry in done.items()), file=sys.stderr, flush=True)
     print("\n".join("%s: %d cases, no difference" % entry for entry in done.items()))
     return 0
@@ -145,12 +174,12 @@ def main() -> int:
     np, second = os.path.abspath(given.program), os.path.abspath(given.second)
     sys.path[:1] = [HERE, os.path.dirname(second)]
     memory = "/dev/shm" if os.access("/dev/shm", os.W_OK) else None
+    others = given.lists // 10 if given.others is None else given.others
     with tempfile.TemporaryDirectory(dir=memory) as room:
-        os.chdir(room)
-        try:
-            return compare(np, given.lists, given.lists // 10 if given.others is None else given.others, given.seed, given.kinds)
-        finally:
-            os.chdir("/")
+        folders = [os.path.join(room, str(number)) for number in range(AT_ONCE)]
+        for folder in folders:
+            os.mkdir(folder)
+        return compare(np, cases_of(given.kinds, given.lists, others, given.seed), given.seed, folders)
 
 
 if __name__ == "__main__":

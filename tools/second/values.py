@@ -14,7 +14,7 @@ Step = Union[str, int]
 
 MOST_DEPTH = 127
 SURROGATE = re.compile("[\ud800-\udfff]")
-STRING = re.compile(r'"(?:[^"\\]|\\.)*"', re.DOTALL)
+STRING = re.compile(r'"[^"\\]*(?:\\.[^"\\]*)*"', re.DOTALL)
 BRACKET = re.compile(r"[\[\]{}]")
 
 
