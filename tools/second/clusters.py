@@ -2,7 +2,7 @@
 import os
 import random
 import sys
-from typing import Any, Callable, Dict, List
+from typing import Any, Callable, Dict, List, Tuple
 
 sys.path.insert(0, os.path.join(os.path.dirname(os.path.dirname(os.path.abspath(__file__))), "relations"))
 import lists  # noqa: E402
@@ -191,6 +191,27 @@ def random_items(rng: Rng) -> List[Item]:
     if rng.random() < 0.5:
         rng.shuffle(items)
     return items
+
+
+def name_of(item: Item) -> Tuple[str, str, str]:
+    """What tells an object from all others."""
+    own = item["metadata"]
+    return item["kind"], own.get("namespace", "default"), own["name"]
+
+
+def many_items(rng: Rng) -> List[Item]:
+    """The items of several random lists as one, some pods of which have one owner; of two of one name the first stays."""
+    items: Dict[Tuple[str, str, str], Item] = {}
+    for number in range(rng.randrange(3, 7)):
+        for item in random_items(rng):
+            if item["kind"] in ("Pod", "NetworkPolicy", "AdminNetworkPolicy"):
+                item["metadata"]["name"] += "-%d" % number
+            if item["kind"] == "AdminNetworkPolicy":
+                item["spec"]["priority"] += 10 * number
+            if item["kind"] == "Pod" and rng.random() < 0.5:
+                item["metadata"]["ownerReferences"] = [owner("Widget", "one")]
+            items.setdefault(name_of(item), item)
+    return list(items.values())
 
 
 def full_items() -> List[Item]:

@@ -13,6 +13,7 @@ spellings   numbers, texts, addresses and blocks in random clusters, spelled oth
 words       words of the command line that are out of place
 statements  files of statements with spoilt lines
 texts       JSON texts with a few bytes put in, left out or doubled
+large       clusters of a few dozen objects; a quarter as many
 limits      as large, as many and as deep as is read, and more
 
 --second DIR takes the second program from another folder, as misreadings.py does.
@@ -89,7 +90,7 @@ def second_answer(program: Any, case: Any) -> Found:
 
     try:
         return Found(*program.run(case.words, source))
-    except Exception:  # pylint: disable=broad-except
+    except Exception:
         return Found(-1, b"", traceback.format_exc().encode())
 
 
@@ -108,7 +109,7 @@ def run_both(np: str, program: Any, cases: Iterable[Tuple[str, int, Any]], folde
 
 def turns(kinds: List[str], lists: int, others: int) -> Iterator[Tuple[str, int]]:
     """The kinds of the cases, mixed evenly, each with its number from 0."""
-    counts = {kind: lists if kind == "lists" else min(others, 40) if kind == "limits" else others for kind in kinds}
+    counts = {kind: {"lists": lists, "large": others // 4, "limits": min(others, 40)}.get(kind, others) for kind in kinds}
     every = [((number + 0.5) / counts[kind], place, kind, number) for place, kind in enumerate(kinds) for number in range(counts[kind])]
     return ((kind, number) for _, _, kind, number in sorted(every))
 
@@ -139,7 +140,7 @@ def first_difference(one: object, other: object) -> object:
 
 def cases_of(names: List[str], lists: int, others: int, seed: int) -> Iterator[Tuple[str, int, Any]]:
     """The cases of these kinds, each with its kind and its number."""
-    import kinds  # pylint: disable=import-outside-toplevel
+    import kinds
     for kind, number in turns(names or list(kinds.KINDS), lists, others):
         for case in kinds.KINDS[kind](random.Random("%s %d %d" % (kind, seed, number)), number):
             yield kind, number, case
@@ -147,7 +148,7 @@ def cases_of(names: List[str], lists: int, others: int, seed: int) -> Iterator[T
 
 def compare(np: str, cases: Iterable[Tuple[str, int, Any]], seed: int, folders: List[str]) -> int:
     """Compares both programs on cases, and answers the status."""
-    from second import program  # pylint: disable=import-outside-toplevel
+    from second import program
     done: Dict[str, int] = {}
     for total, one in enumerate(run_both(np, program, cases, folders), 1):
         done[one.kind] = done.get(one.kind, 0) + 1

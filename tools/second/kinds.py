@@ -27,6 +27,11 @@ def lists(rng: Rng, number: int) -> List[Case]:
     return [asked(rng, cut(rng, mixed(rng, items) if rng.random() < 0.15 else items))]
 
 
+def large(rng: Rng, number: int) -> List[Case]:
+    """A list of a few dozen objects."""
+    return [asked(rng, cut(rng, clusters.many_items(rng)))]
+
+
 FULL = clusters.full_items()
 FULL_PLACES = places_in(FULL)
 
@@ -186,5 +191,5 @@ def limits(rng: Rng, number: int) -> List[Case]:
 
 KINDS: Dict[str, Callable[[Rng, int], List[Case]]] = {
     "lists": lists, "faults": faults, "spellings": spellings, "words": words, "statements": statement_files, "texts": json_texts,
-    "limits": limits,
+    "large": large, "limits": limits,
 }
