@@ -138,7 +138,7 @@ def richer_net(rng: Rng, policy: Item) -> None:
     """A NetworkPolicy without types, with other blocks, or with more requirements."""
     spec = policy["spec"]
     if rng.random() < 0.3:
-        del spec["policyTypes"]
+        spec.pop("policyTypes", None)
     for rule in spec.get("ingress", []) + spec.get("egress", []):
         peers = rule.get("from", rule.get("to", []))
         if peers and rng.random() < 0.3:
@@ -146,6 +146,8 @@ def richer_net(rng: Rng, policy: Item) -> None:
             peers.append({"ipBlock": rng.choice([{"cidr": one}, {"cidr": "10.0.0.0/8", "except": ["10.0.0.0/29", "10.0.0.4/30"]},
                                                  {"cidr": other}])})
         if peers and rng.random() < 0.3:
+            named = {"key": lists.NAME_KEY, "operator": rng.choice(["Exists", "DoesNotExist"])}
+            peers += [{"namespaceSelector": {"matchExpressions": [named]}}] if rng.random() < 0.3 else []
             asked = zip(["tier", "app"], rng.sample(["In", "NotIn"], 2))
             wanted = [{"key": key, "operator": op, "values": list(rng.sample("wxyz", 2))} for key, op in asked]
             peers.append({"podSelector": {"matchLabels": lists.labels(rng), "matchExpressions": wanted[:rng.randrange(1, 3)]}})
@@ -157,7 +159,20 @@ def others(rng: Rng) -> List[Item]:
              "metadata": {"name": "m"}}]
 
 
-EXTRAS: List[Callable[[Rng], List[Item]]] = [owned_pods, templates, routes, others]
+def twins(rng: Rng) -> List[Item]:
+    """Two pods of the same labels that call other ports `http`, and a policy that lets the one send to the other there."""
+    labels, found = {"app": "x", "tier": rng.choice("xy")}, []
+    for number in range(2):
+        pod = lists.pod("nsone", "t%d" % number, rng)
+        pod["metadata"]["labels"] = dict(labels)
+        pod["spec"] = {"containers": [{"ports": [{"name": "http", "containerPort": 80 + number * rng.randrange(2)}]}]}
+        found.append(pod)
+    spec = {"podSelector": {}, "ingress": [{"from": [{"podSelector": {"matchLabels": labels}}], "ports": [{"port": "http"}]}]}
+    policy = {"apiVersion": "networking.k8s.io/v1", "kind": "NetworkPolicy", "metadata": {"name": "t", "namespace": "nsone"}, "spec": spec}
+    return found + [policy]
+
+
+EXTRAS: Dict[Callable[[Rng], List[Item]], float] = {owned_pods: 0.35, templates: 0.35, routes: 0.5, others: 0.35, twins: 0.15}
 
 
 def richer_pod(rng: Rng, pod: Item) -> None:
@@ -182,8 +197,8 @@ RICHER: Dict[str, Callable[[Rng, Item], None]] = {
 def random_items(rng: Rng) -> List[Item]:
     """The items of a random list."""
     items = lists.random_items(rng)
-    for extra in EXTRAS:
-        items += extra(rng) if rng.random() < (0.5 if extra is routes else 0.35) else []
+    for extra, chance in EXTRAS.items():
+        items += extra(rng) if rng.random() < chance else []
     for item in items:
         if item["kind"] in RICHER:
             RICHER[item["kind"]](rng, item)
