@@ -1,0 +1,155 @@
+#!/usr/bin/env python3
+"""A second program for the commands of np: `program.py COMMAND ..` writes, to the byte, what `np COMMAND ..` writes.
+
+It is written from docs/proof/THEOREM.txt and examples/ alone, by one who has not seen the sources of np. What the text does not say
+is guessed; DIARY.md says where."""
+import os
+import sys
+from functools import lru_cache
+from typing import Callable, List, NamedTuple, Sequence, Tuple
+
+if __package__ in (None, ""):
+    sys.path.insert(0, os.path.dirname(os.path.dirname(os.path.abspath(__file__))))
+    __package__ = "second"
+
+from second.addresses import Cidr
+from second.check import check_reply, spans_in, statements_of
+from second.cluster import Cluster, Workload, small_workloads
+from second.explain import evaluate_reply, explain_reply, unused_reply
+from second.exposure import exposure_reply
+from second.flatten import flatten_reply
+from second.model import PROTOCOLS, Estate
+from second.reading import Refused, estate_of
+from second.spots import Span
+from second.table import list_reply, route_notes, sample_reply, sample_text
+from second.values import SURROGATE
+from second.words import USAGE, Job, job_of
+
+SIZE_LIMIT = 33554432
+DONE, REFUSED, WRONG_USE, DEVICE, VIOLATED = 0, 1, 2, 3, 5
+
+# The bytes of the input of a name; OSError where it cannot be read.
+Source = Callable[[str], bytes]
+
+
+class Answer(NamedTuple):
+    """What a run answers: its status, its report, and what is said of that."""
+    status: int
+    out: bytes
+    err: bytes
+
+
+class TooLarge(Exception):
+    """The inputs have more bytes than are read."""
+
+
+class CannotRead(Exception):
+    """The input of this name could not be read."""
+
+
+def texts_of(job: Job, source: Source) -> List[bytes]:
+    """The bytes of the inputs of a job, each read once, in their order."""
+    texts: List[bytes] = []
+    for name in job.files if job.command != "sample" else ():
+        try:
+            texts.append(source(name))
+        except OSError:
+            raise CannotRead(name) from None
+        if sum(len(data) for data in texts) > SIZE_LIMIT:
+            raise TooLarge()
+    return texts
+
+
+@lru_cache(maxsize=8)
+def small_estate(texts: Tuple[bytes, ...]) -> Tuple[Estate, List[Workload]]:
+    """What all inputs say together, and its workloads."""
+    estate = estate_of(texts)
+    return estate, small_workloads(estate)
+
+
+def check_job(estate: Estate, workloads: List[Workload], data: bytes) -> Tuple[str, bool]:
+    """What `check` finds of a statement file, and whether all its statements hold."""
+    statements = statements_of(data)
+    blocks: List[Cidr] = [form.block for one in statements for form in (one.source, one.destination) if form.block is not None]
+    return check_reply(Cluster(estate, workloads, spans_in(statements), blocks), statements)
+
+
+def evaluate_job(estate: Estate, workloads: List[Workload], job: Job) -> str:
+    """What `evaluate` says of its packet."""
+    proto, port = PROTOCOLS[job.options["protocol"]], int(job.options["port"])
+    return evaluate_reply(Cluster(estate, workloads, [Span(proto, port, port)]), job.end("from"), job.end("to"), proto, port)
+
+
+def reply(job: Job, texts: Sequence[bytes], estate: Estate, workloads: List[Workload]) -> Tuple[str, bool]:
+    """What a job prints, and whether all holds that it was to check."""
+    if job.command == "check":
+        return check_job(estate, workloads, texts[0])
+    if job.command == "evaluate":
+        return evaluate_job(estate, workloads, job), True
+    cluster = Cluster(estate, workloads)
+    replies: dict = {
+        "list": lambda: list_reply(cluster, job.options),
+        "explain": lambda: explain_reply(cluster, job.end("from"), job.end("to")),
+        "exposure": lambda: exposure_reply(cluster, job.options),
+        "unused": lambda: unused_reply(cluster),
+        "flatten": lambda: flatten_reply(cluster),
+        "sample": lambda: sample_reply(cluster),
+    }
+    return replies[job.command](), True
+
+
+def notes_text(job: Job, estate: Estate) -> str:
+    """What is said of a whole report: what was left out of it, and of `list` which backends lead nowhere; of `sample` nothing."""
+    if job.command == "sample":
+        return ""
+    said = ("host network pods left out", "finished pods left out", "objects of other kinds skipped",
+            "pods without an address, matched by no networks peer")
+    lines = "".join("note: %s: %d\n" % (what, count) for what, count in zip(said, estate.notes) if count)
+    return lines + (route_notes(estate) if job.command == "list" else "")
+
+
+def answer(job: Job, source: Source) -> Answer:
+    """The answer of a job."""
+    texts = texts_of(job, source)
+    objects = [sample_text(int(job.files[0]))] if job.command == "sample" else texts[job.command == "check":]
+    estate, workloads = small_estate(tuple(objects))
+    text, holds = reply(job, texts, estate, workloads)
+    return Answer(DONE if holds else VIOLATED, text.encode(), notes_text(job, estate).encode() if holds else b"")
+
+
+def run(words: Sequence[str], source: Source) -> Answer:
+    """The answer of the words of a command line. Where one is no text, nothing is said of that."""
+    if SURROGATE.search("".join(words)):
+        return Answer(WRONG_USE, b"", b"")
+    job = job_of(words)
+    if job is None:
+        return Answer(WRONG_USE, b"", USAGE.encode())
+    try:
+        return answer(job, source)
+    except Refused as refused:
+        return Answer(REFUSED, b"", ("error: %s\n" % refused).encode())
+    except TooLarge:
+        return Answer(REFUSED, b"", b"error: TooLarge\n")
+    except CannotRead as failed:
+        return Answer(DEVICE, b"", ("error: cannot read %s\n" % failed).encode())
+
+
+def read_system(name: str) -> bytes:
+    """The bytes of a file, or of standard input, of which `-` is the name."""
+    if name == "-":
+        return sys.stdin.buffer.read()
+    with open(name, "rb") as file:
+        return file.read()
+
+
+def main() -> int:
+    """Runs the program on the words after its name."""
+    found = run(sys.argv[1:], read_system)
+    sys.stdout.buffer.write(found.out)
+    sys.stdout.buffer.flush()
+    sys.stderr.buffer.write(found.err)
+    return found.status
+
+
+if __name__ == "__main__":
+    sys.exit(main())
